@@ -1,0 +1,11 @@
+pub mod Fronts
+pub mod Runs
+pub mod NameTokens
+pub mod NumberTokens
+pub mod Horner
+pub mod Decoding
+pub mod Hyphen
+pub mod Decoded
+pub mod Lists
+pub mod TokenFacts
+pub mod Scanning

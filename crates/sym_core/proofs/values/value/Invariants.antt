@@ -1,0 +1,6 @@
+use Rattle.std.proofs.Common.{◌≡◌, drop}
+use Rattle.sym_core.specs.Value.{value_onto, value_of}
+use Rattle.sym_core.proofs.values.value.Given as goal
+
+abbrev pub invariant-loop-byte : goal.invariant-loop-byte
+invariant-loop-byte l = value_onto l.kind l.value (drop l.byte-index l.digits) ≡ value_of l.kind l.digits

@@ -1,0 +1,7 @@
+use Rattle.std.proofs.Common.{◌≡◌, drop}
+use Rattle.sym_core.specs.Value.{value_onto, value_of}
+use Rattle.sym_core.specs.declared.NumberKind.TheVariants.{Hex}
+use Rattle.sym_core.proofs.values.value16.Given as goal
+
+abbrev pub invariant-loop-byte : goal.invariant-loop-byte
+invariant-loop-byte l = value_onto Hex l.value (drop l.byte-index l.digits) ≡ value_of Hex l.digits

@@ -1,0 +1,6 @@
+pub mod Fronts
+pub mod Number
+pub mod Value
+pub mod Token
+pub mod Scan
+pub mod Printed

@@ -1,0 +1,103 @@
+// Numbers: where they begin and end.
+#![tactic(auto)]
+
+ghost use Rattle.std.specs.Prelude.{◌≡◌, ◌-◌, ◌+◌, ◌<◌, ◌≤◌, length, drop, slice_range, IfOk, MatchResult, List, ℕ, ◌∷◌};
+ghost use Rattle.std.specs.Bool.{OnTrue, OnFalse};
+ghost use Rattle.sym_core.specs.Number.{FitsSymbol, is_digit_of, AreDigitsOf, IsNumberSpan, IsNumberBreak};
+ghost use Rattle.sym_core.specs.Scan.{is_marked, IsRun, IsLimit};
+
+use crate::{NumberKind, Span};
+
+/// Whether the byte is a digit of the kind.
+fn is_digit(kind: NumberKind, byte: u8) -> bool
+    ensures { result ≡ is_digit_of kind byte }
+{
+    let decimal = b'0' <= byte && byte <= b'9';
+    let upper = b'A' <= byte && byte <= b'Z';
+    let lower = b'a' <= byte && byte <= b'z';
+    match kind {
+        NumberKind::Length | NumberKind::Decimal | NumberKind::Digits => decimal,
+        NumberKind::Seq36 => decimal || upper,
+        NumberKind::Base62 => decimal || lower || upper,
+        NumberKind::Hex => decimal || (b'a' <= byte && byte <= b'f'),
+    }
+}
+
+/// Whether numbers of the kind end in an `_`.
+pub fn has_mark(kind: NumberKind) -> bool
+    ensures { result ≡ is_marked kind }
+{
+    !matches!(kind, NumberKind::Length | NumberKind::Digits)
+}
+
+/// How many digits may come at most; of kinds with no limit more than there are bytes.
+fn most_digits(s: &[u8], at: usize, kind: NumberKind) -> usize
+    requires fits { FitsSymbol s.now }
+    requires within { at ≤ length s.now }
+    ensures { IsLimit kind (drop at s.now) result }
+{
+    match kind {
+        NumberKind::Length => { if at < s.len() && s[at] == b'0' { 1 } else { 9 } }
+        NumberKind::Base62 => 11,
+        NumberKind::Decimal | NumberKind::Seq36 | NumberKind::Hex | NumberKind::Digits => s.len()
+            + 1,
+    }
+}
+
+/// The end of the digits at a place, of which there may be so many.
+fn digits_end(s: &[u8], at: usize, kind: NumberKind, most: usize) -> usize
+    requires { at ≤ length s.now }
+    ensures low { at ≤ result }
+    ensures high { result ≤ length s.now }
+    ensures run { IsRun kind (drop at s.now) most (result - at) }
+{
+    let mut end = at;
+    while end < s.len() && end - at < most && is_digit(kind, s[end]) {
+        end += 1;
+    }
+    end
+}
+
+/// Whether an `_` stands at a place.
+fn is_mark(s: &[u8], at: usize) -> bool
+    requires { at ≤ length s.now }
+    ensures yes { OnTrue result (drop at s.now ≡ 95 ∷ drop (at + 1) s.now) }
+    ensures no { OnFalse result ((r : List ℕ) → drop at s.now ≡ 95 ∷ r → ⊥) }
+{
+    if at == s.len() {
+        return false;
+    }
+    s[at] == b'_'
+}
+
+/// The span of the digits of the longest number that begins at `at`, without its ending `_`.
+///
+/// # Errors
+///
+/// Where no number begins there, the first bad place: the end of the longest front from `at` that begins one.
+/// It is `s.len()` where the bytes only end too soon.
+pub fn number(s: &[u8], at: usize, kind: NumberKind) -> Result<Span, usize>
+    requires fits { FitsSymbol s.now }
+    requires within { at ≤ length s.now }
+    ensures number { MatchResult result (IsNumberSpan kind s.now at) (IsNumberBreak kind s.now at) }
+    ensures digits { IfOk result (λ span. AreDigitsOf kind (slice_range s.now span.from span.to)) }
+    ensures within { MatchResult result (λ span. span.to ≤ length s.now) (λ bad. bad ≤ length s.now) }
+{
+    let most = most_digits(s, at, kind);
+    let end = digits_end(s, at, kind, most);
+    let digits = Span {
+        from: at as u32,
+        to: end as u32,
+    };
+    if has_mark(kind) {
+        if is_mark(s, end) {
+            Ok(digits)
+        } else {
+            Err(end)
+        }
+    } else if at < end {
+        Ok(digits)
+    } else {
+        Err(end)
+    }
+}

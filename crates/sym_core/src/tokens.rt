@@ -1,0 +1,151 @@
+// Tokens: names and numbers as they stand in a symbol.
+#![tactic(auto)]
+
+ghost use Rattle.std.specs.Prelude.{◌≡◌, ◌≤◌, ◌+◌, ◌↔◌, length, IsTrue};
+ghost use Rattle.sym_core.specs.Number.{FitsSymbol, ending_of, IsNumberSpan};
+ghost use Rattle.sym_core.specs.Scan.{IsSeparated, IsOwn, IsNameless};
+ghost use Rattle.sym_core.specs.Scan.{is_bare_digit as bare_digit};
+ghost use Rattle.sym_core.specs.Token.{IsName, IsNumberToken, FindsToken};
+ghost use Rattle.sym_core.specs.Token.{is_name_byte as name_byte};
+
+use crate::numbers::{has_mark, number};
+use crate::values::length_of;
+use crate::{NameClass, NumberKind, Span};
+
+/// Where a token was found: its own bytes, and the place behind it.
+#[derive(Clone, Copy, Debug, PartialEq, Eq)]
+pub struct TokenPlace {
+    /// The first byte of the name itself, or of the number's digits.
+    pub from: usize,
+    /// The place behind the own bytes.
+    pub to: usize,
+    /// The place behind the whole token: behind a number's `_` too.
+    pub end: usize,
+}
+
+/// The longest number at a place, or the place where it breaks off.
+pub fn find_number(bytes: &[u8], at: usize, kind: NumberKind) -> Result<TokenPlace, usize>
+    requires fits { FitsSymbol bytes.now }
+    requires within { at ≤ length bytes.now }
+    ensures { FindsToken (IsNumberToken kind) bytes.now at result }
+{
+    match number(bytes, at, kind) {
+        Ok(digits) => Ok(TokenPlace {
+            from: digits.from as usize,
+            to: digits.to as usize,
+            end: behind_number(digits.to, kind),
+        }),
+        Err(bad) => Err(bad),
+    }
+}
+
+/// The place behind a number whose digits end at a place.
+fn behind_number(to: u32, kind: NumberKind) -> usize
+    ensures { result ≡ to + length (ending_of kind) }
+{
+    to as usize + has_mark(kind) as usize
+}
+
+/// Whether the byte may stand in a name.
+fn is_name_byte(names: NameClass, byte: u8) -> bool
+    ensures { result ≡ name_byte names byte }
+{
+    let decimal = b'0' <= byte && byte <= b'9';
+    let upper = b'A' <= byte && byte <= b'Z';
+    let lower = b'a' <= byte && byte <= b'z';
+    match names {
+        NameClass::Cpp => 33 <= byte && byte != 127,
+        NameClass::Rust => decimal || upper || lower || byte == b'_',
+    }
+}
+
+/// Whether no name may have this length.
+fn is_nameless(most: usize, names: NameClass) -> bool
+    ensures { IsTrue result ↔ IsNameless names most }
+{
+    match names {
+        NameClass::Cpp => most == 0,
+        NameClass::Rust => false,
+    }
+}
+
+/// How many bytes of a separator stand in front of a name's own bytes.
+fn separator_len(tail: &[u8], names: NameClass) -> usize
+    ensures within { result ≤ length tail.now }
+    ensures separated { IsSeparated names tail.now result }
+{
+    match names {
+        NameClass::Cpp => 0,
+        NameClass::Rust => {
+            if !tail.is_empty() && tail[0] == b'_' {
+                1
+            } else {
+                0
+            }
+        }
+    }
+}
+
+/// How many of the bytes are a name's own, of which there may be so many.
+fn own_len(bytes: &[u8], most: usize, names: NameClass) -> usize
+    ensures within { result ≤ length bytes.now }
+    ensures own { IsOwn names bytes.now most result }
+{
+    let mut end = 0;
+    while end < bytes.len() && end < most && is_name_byte(names, bytes[end]) {
+        end += 1;
+    }
+    end
+}
+
+/// Whether a name of so many bytes would begin with a digit straight behind its length.
+fn is_bare_digit(own: &[u8], most: usize, skipped: usize) -> bool
+    ensures { result ≡ bare_digit most skipped own.now }
+{
+    match own {
+        [] => false,
+        [first, ..] => most > 0 && skipped == 0 && b'0' <= *first && *first <= b'9',
+    }
+}
+
+/// The longest name at a place, or the place where it breaks off.
+pub fn find_name(bytes: &[u8], at: usize, names: NameClass) -> Result<TokenPlace, usize>
+    requires fits { FitsSymbol bytes.now }
+    requires within { at ≤ length bytes.now }
+    ensures { FindsToken (IsName names) bytes.now at result }
+{
+    match number(bytes, at, NumberKind::Length) {
+        Ok(digits) => find_own(bytes, digits, names),
+        Err(bad) => Err(bad),
+    }
+}
+
+/// Finds a name's own bytes behind its length.
+fn find_own(bytes: &[u8], digits: Span, names: NameClass) -> Result<TokenPlace, usize>
+    requires fits { FitsSymbol bytes.now }
+    requires span { IsNumberSpan NumberKind.Length bytes.now digits.from digits }
+    requires within { digits.to ≤ length bytes.now }
+    ensures { FindsToken (IsName names) bytes.now digits.from result }
+{
+    let to = digits.to as usize;
+    let most = length_of(&bytes[digits.from as usize..to]) as usize;
+    if is_nameless(most, names) {
+        return Err(digits.from as usize);
+    }
+    let tail = &bytes[to..];
+    let skipped = separator_len(tail, names);
+    let own = &tail[skipped..];
+    let from = to + skipped;
+    if is_bare_digit(own, most, skipped) {
+        return Err(from);
+    }
+    let count = own_len(own, most, names);
+    if count < most {
+        return Err(from + count);
+    }
+    Ok(TokenPlace {
+        from,
+        to: from + count,
+        end: from + count,
+    })
+}

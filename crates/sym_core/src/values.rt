@@ -1,0 +1,115 @@
+// Numbers: what they stand for.
+#![tactic(auto)]
+
+ghost use Rattle.std.specs.Prelude.{◌≡◌, ◌<◌, ◌≤◌, ◌^◌, length, true, MatchOption};
+ghost use Rattle.sym_core.specs.Number.{is_digit_of, AreDigits, AreDigitsOf};
+ghost use Rattle.sym_core.specs.Value.{radix_of, digit_value, value_of, counted_value};
+
+use crate::NumberKind;
+
+/// How many digits the kind has.
+fn radix(kind: NumberKind) -> u64
+    ensures { result ≡ radix_of kind }
+{
+    match kind {
+        NumberKind::Length | NumberKind::Decimal | NumberKind::Digits => 10,
+        NumberKind::Seq36 => 36,
+        NumberKind::Base62 => 62,
+        NumberKind::Hex => 16,
+    }
+}
+
+/// What the digit counts.
+fn digit(kind: NumberKind, byte: u8) -> u8
+    requires { is_digit_of kind byte ≡ true }
+    ensures value { result ≡ digit_value kind byte }
+    ensures below { result < radix_of kind }
+{
+    if byte <= b'9' {
+        return byte - b'0';
+    }
+    match kind {
+        NumberKind::Seq36 => byte - b'A' + 10,
+        NumberKind::Base62 if byte >= b'a' => byte - b'a' + 10,
+        NumberKind::Base62 => byte - b'A' + 36,
+        NumberKind::Hex => byte - b'a' + 10,
+        NumberKind::Length | NumberKind::Decimal | NumberKind::Digits => unreachable!(),
+    }
+}
+
+/// The number that the digits stand for, or None past 64 bits.
+fn value(kind: NumberKind, digits: &[u8]) -> Option<u64>
+    requires { AreDigits kind digits.now }
+    ensures { MatchOption result (2 ^ 64 ≤ value_of kind digits.now) (λ v. v ≡ value_of kind digits.now) }
+{
+    let mut value: u64 = 0;
+    for byte in digits {
+        let shifted = value.checked_mul(radix(kind))?;
+        value = shifted.checked_add(u64::from(digit(kind, *byte)))?;
+    }
+    Some(value)
+}
+
+/// One more than the digits stand for, 0 where there are none, or None past 64 bits.
+fn counted(kind: NumberKind, digits: &[u8]) -> Option<u64>
+    requires { AreDigits kind digits.now }
+    ensures { MatchOption result (2 ^ 64 ≤ counted_value kind digits.now) (λ v. v ≡ counted_value kind digits.now) }
+{
+    if digits.is_empty() {
+        return Some(0);
+    }
+    value(kind, digits)?.checked_add(1)
+}
+
+/// The value of a Decimal number by its digits: 0 where there are none, else one more than they stand for.
+/// None past 64 bits.
+pub fn value10(digits: &[u8]) -> Option<u64>
+    requires { AreDigitsOf NumberKind.Decimal digits.now }
+    ensures { MatchOption result (2 ^ 64 ≤ counted_value NumberKind.Decimal digits.now) (λ v. v ≡ counted_value NumberKind.Decimal digits.now) }
+{
+    counted(NumberKind::Decimal, digits)
+}
+
+/// The value of a Seq36 number by its digits: 0 where there are none, else one more than they stand for.
+/// None past 64 bits.
+pub fn value36(digits: &[u8]) -> Option<u64>
+    requires { AreDigitsOf NumberKind.Seq36 digits.now }
+    ensures { MatchOption result (2 ^ 64 ≤ counted_value NumberKind.Seq36 digits.now) (λ v. v ≡ counted_value NumberKind.Seq36 digits.now) }
+{
+    counted(NumberKind::Seq36, digits)
+}
+
+/// The value of a Base62 number by its digits: 0 where there are none, else one more than they stand for.
+/// None past 64 bits.
+pub fn value62(digits: &[u8]) -> Option<u64>
+    requires { AreDigitsOf NumberKind.Base62 digits.now }
+    ensures { MatchOption result (2 ^ 64 ≤ counted_value NumberKind.Base62 digits.now) (λ v. v ≡ counted_value NumberKind.Base62 digits.now) }
+{
+    counted(NumberKind::Base62, digits)
+}
+
+/// The value of a Hex number by its digits, 0 where there are none. None past 128 bits.
+pub fn value16(digits: &[u8]) -> Option<u128>
+    requires { AreDigitsOf NumberKind.Hex digits.now }
+    ensures { MatchOption result (2 ^ 128 ≤ value_of NumberKind.Hex digits.now) (λ v. v ≡ value_of NumberKind.Hex digits.now) }
+{
+    let mut value: u128 = 0;
+    for byte in digits {
+        let shifted = value.checked_mul(16)?;
+        value = shifted.checked_add(u128::from(digit(NumberKind::Hex, *byte)))?;
+    }
+    Some(value)
+}
+
+/// The value of a Length by its digits, of which there are one to nine.
+pub fn length_of(digits: &[u8]) -> u32
+    requires count { (0 < length digits.now) × (length digits.now ≤ 9) }
+    requires digits { AreDigits NumberKind.Length digits.now }
+    ensures { result ≡ value_of NumberKind.Length digits.now }
+{
+    let mut value: u32 = 0;
+    for byte in digits {
+        value = value * 10 + u32::from(digit(NumberKind::Length, *byte));
+    }
+    value
+}
