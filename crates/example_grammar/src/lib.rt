@@ -1,0 +1,226 @@
+//! A small grammar in the manner of Rust's symbols, to show how one is written: paths, types with lifetimes, arrays, and
+//! lists of types.
+#![tactic(auto)]
+
+use sym_core::{NameClass, NumberKind};
+use sym_shape::{ByteRange, Choice, Grammar, Rule, Sym, choose};
+
+#[cfg(test)]
+mod tests;
+
+const SYMBOL: u16 = 0;
+
+const PATH: u16 = 1;
+
+const TYPE: u16 = 2;
+
+const TYPES: u16 = 3;
+
+const LIFE: u16 = 4;
+
+/// Fills the places of a rule's symbols that it doesn't have.
+const NO: Sym = Sym::Byte(0);
+
+/// Fills the places of ranges that a choice doesn't have.
+const NONE: ByteRange = ByteRange { from: 0, to: 0 };
+
+const UNDERSCORE: ByteRange = ByteRange {
+    from: b'_',
+    to: b'_',
+};
+
+const B: ByteRange = ByteRange {
+    from: b'B',
+    to: b'B',
+};
+
+const B_OR_C: ByteRange = ByteRange {
+    from: b'B',
+    to: b'C',
+};
+
+const C: ByteRange = ByteRange {
+    from: b'C',
+    to: b'C',
+};
+
+const E: ByteRange = ByteRange {
+    from: b'E',
+    to: b'E',
+};
+
+const H: ByteRange = ByteRange {
+    from: b'h',
+    to: b'h',
+};
+
+const I: ByteRange = ByteRange {
+    from: b'I',
+    to: b'I',
+};
+
+const L: ByteRange = ByteRange {
+    from: b'L',
+    to: b'L',
+};
+
+const R: ByteRange = ByteRange {
+    from: b'R',
+    to: b'R',
+};
+
+/// "_T" and a path.
+pub const SYMBOL_RULES: [Choice; 1] = [Choice {
+    ranges: 1,
+    bytes: [UNDERSCORE, NONE, NONE, NONE],
+    rule: Rule {
+        number: 0,
+        eats: true,
+        count: 2,
+        symbols: [Sym::Byte(b'T'), Sym::Kind(PATH), NO, NO, NO],
+    },
+}];
+
+/// "C" and a name, or "I", a path and a list of types.
+pub const PATH_RULES: [Choice; 2] = [
+    Choice {
+        ranges: 1,
+        bytes: [C, NONE, NONE, NONE],
+        rule: Rule {
+            number: 1,
+            eats: true,
+            count: 1,
+            symbols: [Sym::Name, NO, NO, NO, NO],
+        },
+    },
+    Choice {
+        ranges: 1,
+        bytes: [I, NONE, NONE, NONE],
+        rule: Rule {
+            number: 2,
+            eats: true,
+            count: 2,
+            symbols: [Sym::Kind(PATH), Sym::Kind(TYPES), NO, NO, NO],
+        },
+    },
+];
+
+/// A basic letter; "R", a lifetime or none, and a type; "B", a length, "_" and a type; or a path.
+pub const TYPE_RULES: [Choice; 4] = [
+    Choice {
+        ranges: 1,
+        bytes: [H, NONE, NONE, NONE],
+        rule: Rule {
+            number: 3,
+            eats: true,
+            count: 0,
+            symbols: [NO, NO, NO, NO, NO],
+        },
+    },
+    Choice {
+        ranges: 1,
+        bytes: [R, NONE, NONE, NONE],
+        rule: Rule {
+            number: 4,
+            eats: true,
+            count: 2,
+            symbols: [Sym::Kind(LIFE), Sym::Kind(TYPE), NO, NO, NO],
+        },
+    },
+    Choice {
+        ranges: 1,
+        bytes: [B, NONE, NONE, NONE],
+        rule: Rule {
+            number: 5,
+            eats: true,
+            count: 3,
+            symbols: [
+                Sym::Number(NumberKind::Digits),
+                Sym::Byte(b'_'),
+                Sym::Kind(TYPE),
+                NO,
+                NO,
+            ],
+        },
+    },
+    Choice {
+        ranges: 2,
+        bytes: [C, I, NONE, NONE],
+        rule: Rule {
+            number: 6,
+            eats: false,
+            count: 1,
+            symbols: [Sym::Kind(PATH), NO, NO, NO, NO],
+        },
+    },
+];
+
+/// An "E", or a type and more.
+pub const TYPES_RULES: [Choice; 2] = [
+    Choice {
+        ranges: 1,
+        bytes: [E, NONE, NONE, NONE],
+        rule: Rule {
+            number: 7,
+            eats: true,
+            count: 0,
+            symbols: [NO, NO, NO, NO, NO],
+        },
+    },
+    Choice {
+        ranges: 4,
+        bytes: [B_OR_C, I, R, H],
+        rule: Rule {
+            number: 8,
+            eats: false,
+            count: 2,
+            symbols: [Sym::Kind(TYPE), Sym::Kind(TYPES), NO, NO, NO],
+        },
+    },
+];
+
+/// "L" and a number, or nothing.
+pub const LIFE_RULES: [Choice; 1] = [Choice {
+    ranges: 1,
+    bytes: [L, NONE, NONE, NONE],
+    rule: Rule {
+        number: 9,
+        eats: true,
+        count: 1,
+        symbols: [Sym::Number(NumberKind::Base62), NO, NO, NO, NO],
+    },
+}];
+
+/// The grammar.
+pub struct Paths;
+
+impl Grammar for Paths {
+    ghost use Rattle.std.specs.Prelude.{refl};
+    ghost use Rattle.sym_core.specs.declared.NameClass.TheVariants.{Rust};
+    ghost use Rattle.sym_shape.specs.Sheet.{table_of};
+    ghost use Rattle.sym_shape.specs.SheetLaws.{lawful_sheet};
+    ghost use Rattle.example_grammar.specs.Paths.{blank, sheet};
+
+    ghost table = { table_of blank sheet Rust };
+
+    fn rule(&self, kind: u16, byte: u8) -> Option<Rule> {
+        match kind {
+            SYMBOL => choose(&SYMBOL_RULES, byte),
+            PATH => choose(&PATH_RULES, byte),
+            TYPE => choose(&TYPE_RULES, byte),
+            TYPES => choose(&TYPES_RULES, byte),
+            LIFE => choose(&LIFE_RULES, byte),
+            _ => None,
+        }
+    }
+
+    fn may_be_empty(&self, kind: u16) -> bool {
+        kind == LIFE
+    }
+
+    fn name_class(&self) -> NameClass {
+        NameClass::Rust
+    }
+
+    ghost lawful = { lawful_sheet blank sheet Rust refl };
+}

@@ -1,0 +1,210 @@
+-- A reader that is fed: more bytes, or the end, keep what holds between two steps.
+use Rattle.std.proofs.Common.{◌≡◌, ℕ, ◌+◌, ◌≤◌, Bool, true, false, inl, inr, Option, Some, None, Result, Ok, Err, List, [], ◌∷◌, ◌++◌, length, take, drop, refl, ap, sym, ◌∙◌, subst, arith, length-append}
+use Rattle.std.proofs.lemmas.List.{take-append-le, drop-append-le, append-nil}
+use Rattle.sym_shape.specs.declared.rule.Row.{Row}
+use Rattle.sym_shape.specs.Table.{Table}
+use Rattle.sym_shape.specs.Reading.{Agrees, IsReading, IsKnown}
+use Rattle.sym_core.specs.declared.refusal.Refusal.{Refusal}
+use Rattle.sym_shape.specs.declared.parse.Parse.{Parse}
+use Rattle.std.proofs.lemmas.Bool.{true≢false}
+use Rattle.sym_core.specs.declared.refusal.Refusal.TheVariants.{Malformed, BadReference, BadValue, TooLong, Memory}
+use Rattle.sym_core.specs.Number.{FitsSymbol}
+use Rattle.sym_shape.specs.declared.rule.Sym.TheVariants.{Kind}
+use Rattle.sym_shape.specs.Reading.{Entry, Symbol}
+use Rattle.sym_shape.specs.Law.{IsLawful}
+use Rattle.sym_shape.specs.Tree.{IsMalformed, BeginsWellShaped, AreRowsOf}
+use Rattle.sym_shape.specs.Fed.{Fed, IsFed, IsOver, IsReason, IsMalformedSoFar}
+use Rattle.sym_shape.specs.Reader.{to_do, IsParse, IsParsing, IsAdvance, IsRun, IsRead, AreSpent}
+use Rattle.sym_shape.proofs.Fronts.{front_begins}
+use Rattle.sym_shape.proofs.Runs.{few_now, few_stepped, run_rests}
+use Rattle.sym_shape.proofs.Steps.{both_not, same_start, whole_read}
+
+-- what goes on with the next byte of more goes on with that of less
+agrees_less : (q piece w : List ℕ) → Agrees false (q ++ piece) w → Agrees false q w
+agrees_less [] piece w h = λ told. cc
+agrees_less (b ∷ q) piece w h = h
+
+agrees_open : (q w : List ℕ) → Agrees true q w → Agrees false q w
+agrees_open [] w h = λ told. cc
+agrees_open (b ∷ q) w h = h
+
+fed_reading : (g : Table) (p q piece : List ℕ) (es : List Entry) (rows : List Row) → IsReading g false p q es rows → IsReading g false p (q ++ piece) es rows
+fed_reading g p q piece es rows r = record {
+  known = r.known;
+  followed = r.followed;
+  opened = r.opened;
+  sound = r.sound;
+  complete = λ w agrees whole. r.complete w (agrees_less q piece w agrees) whole;
+}
+
+told_reading : (g : Table) (p q : List ℕ) (es : List Entry) (rows : List Row) → IsReading g false p q es rows → IsReading g true p q es rows
+told_reading g p q es rows r = record {
+  known = r.known;
+  followed = r.followed;
+  opened = r.opened;
+  sound = r.sound;
+  complete = λ w agrees whole. r.complete w (agrees_open q w agrees) whole;
+}
+
+-- a piece is fed
+pub fed : (g : Table) (bytes piece : List ℕ) (steps at : ℕ) (stack : List Entry) (rows : List Row) → IsParse g false bytes steps at stack rows → IsParse g false (bytes ++ piece) steps at stack rows
+fed g bytes piece steps at stack rows h = record {
+  within = omega (arith, h.within, length-append bytes piece);
+  reading = subst (λ p. IsReading g false p (drop at (bytes ++ piece)) stack rows) (sym (take-append-le at bytes piece h.within))
+      (subst (λ q. IsReading g false (take at bytes) q stack rows) (sym (drop-append-le at bytes piece h.within)) (fed_reading g (take at bytes) (drop at bytes) piece stack rows h.reading));
+  counted = h.counted;
+}
+
+-- the end is told
+pub told : (g : Table) (bytes : List ℕ) (steps at : ℕ) (stack : List Entry) (rows : List Row) → IsParse g false bytes steps at stack rows → IsParse g true bytes steps at stack rows
+told g bytes steps at stack rows h = record {
+  within = h.within;
+  reading = told_reading g (take at bytes) (drop at bytes) stack rows h.reading;
+  counted = h.counted;
+}
+
+-- a refusal before the end holds for whatever comes behind
+pub so_far : (g : Table) (ended : Bool) (bytes : List ℕ) (at : ℕ) → IsMalformed g bytes at → IsKnown ended bytes at → IsMalformedSoFar g ended bytes at
+so_far g true bytes at h known = h
+so_far g false bytes at h (inr told) = absurd (true≢false (sym told))
+so_far g false bytes at h (inl lt) = λ more. record {
+  refused = λ whole. h.first.next lt (longer more (front_begins g (bytes ++ more) (at + 1) whole));
+  first = record {
+    within = omega (arith, length-append bytes more);
+    front = subst (λ u. BeginsWellShaped g u) (sym (take-append-le at bytes more (omega arith))) h.first.front;
+    next = λ _ begins. h.first.next lt (longer more begins);
+  };
+}
+  where
+    longer : (more : List ℕ) → BeginsWellShaped g (take (at + 1) (bytes ++ more)) → BeginsWellShaped g (take (at + 1) bytes)
+    longer more b = subst (λ u. BeginsWellShaped g u) (take-append-le (at + 1) bytes more (omega arith)) b
+
+pub step_reason : (g : Table) (ended : Bool) (bytes : List ℕ) (old new : Parse) (refusal : Refusal) → IsAdvance g ended bytes old new (Err refusal) → IsReason g ended bytes refusal × (new.steps ≡ old.steps + 1) × (length new.rows.items ≤ length old.rows.items + 1)
+step_reason g ended bytes old new (Malformed at) h = (so_far g ended bytes at h.0 h.1, h.2, h.3)
+step_reason g ended bytes old new Memory h = (tt, h.0, h.1)
+step_reason g ended bytes old new (BadReference at) h = absurd h
+step_reason g ended bytes old new (BadValue at) h = absurd h
+step_reason g ended bytes old new TooLong h = absurd h
+
+pub run_reason : (g : Table) (ended : Bool) (bytes : List ℕ) (old new : Parse) (refusal : Refusal) → IsRun g ended bytes old new (Err refusal) → IsReason g ended bytes refusal × AreSpent bytes old new
+run_reason g ended bytes old new (Malformed at) h = (so_far g ended bytes at h.0 h.1, h.2)
+run_reason g ended bytes old new Memory h = (tt, h)
+run_reason g ended bytes old new (BadReference at) h = absurd h
+run_reason g ended bytes old new (BadValue at) h = absurd h
+run_reason g ended bytes old new TooLong h = absurd h
+
+pub unrefused : (refused : Option Refusal) → ((r : Refusal) → refused ≡ Some r → ⊥) → refused ≡ None
+unrefused None h = refl
+unrefused (Some r) h = absurd (h r refl)
+
+-- what is known of a reader that hasn't refused
+pub open_parsing : (g : Table) (bytes : List ℕ) (ended ready : Bool) (refused : Option Refusal) (parse : Parse) → refused ≡ None → IsFed g bytes ended ready refused parse → IsOver g bytes ended ready None parse
+open_parsing g bytes ended ready refused parse going h = subst (λ r. IsOver g bytes ended ready r parse) going h.over
+
+not_ready : (g : Table) (bytes : List ℕ) (ended ready : Bool) (refused : Option Refusal) (parse : Parse) → ended ≡ false → IsFed g bytes ended ready refused parse → ready ≡ false
+not_ready g bytes ended false refused parse untold h = refl
+not_ready g bytes ended true None parse untold h = (let told = (h.over.1 refl).0 in cc)
+not_ready g bytes ended true (Some r) parse untold h = (let told = h.over.1 in cc)
+
+-- a reader that hasn't refused takes more bytes
+pub fed_more : (g : Table) (bytes piece new : List ℕ) (ended ready : Bool) (refused : Option Refusal) (parse : Parse) → refused ≡ None → ended ≡ false → new ≡ bytes ++ piece → length bytes + length piece ≤ 16777216 → IsFed g bytes ended ready refused parse → IsFed g new ended ready refused parse
+fed_more g bytes piece new ended ready refused parse going untold is room h =
+    let parsing = subst (λ e. IsParsing g e bytes parse) untold (open_parsing g bytes ended ready refused parse going h).0 in
+    let fed_on : IsParsing g false (bytes ++ piece) parse = fed g bytes piece parse.steps parse.at (to_do parse) parse.rows.items parsing in
+    let over : IsOver g (bytes ++ piece) ended ready None parse = (subst (λ e. IsParsing g e (bytes ++ piece) parse) (sym untold) fed_on, λ r. absurd (both_not ready r (not_ready g bytes ended ready refused parse untold h))) in
+    subst (λ u. IsFed g u ended ready refused parse) (sym is) (record {
+      fits = omega (arith, length-append bytes piece);
+      over = subst (λ r. IsOver g (bytes ++ piece) ended ready r parse) (sym going) over;
+      few = record { steps_few = omega (arith, h.few.steps_few, length-append bytes piece); rows_few = omega (arith, h.few.rows_few, length-append bytes piece); each = h.few.each };
+    })
+
+-- the end is told
+pub fed_end : (g : Table) (bytes : List ℕ) (ended ready : Bool) (refused : Option Refusal) (parse : Parse) → refused ≡ None → ended ≡ false → IsFed g bytes ended ready refused parse → IsFed g bytes true ready refused parse
+fed_end g bytes ended ready refused parse going untold h =
+    let parsing = subst (λ e. IsParsing g e bytes parse) untold (open_parsing g bytes ended ready refused parse going h).0 in
+    let over : IsOver g bytes true ready None parse = (told g bytes parse.steps parse.at (to_do parse) parse.rows.items parsing, λ r. absurd (both_not ready r (not_ready g bytes ended ready refused parse untold h))) in
+    record {
+      fits = h.fits;
+      over = subst (λ r. IsOver g bytes true ready r parse) (sym going) over;
+      few = h.few;
+    }
+
+-- a piece for which there is no memory
+pub fed_refused : (g : Table) (bytes : List ℕ) (ended ready : Bool) (refused : Option Refusal) (parse : Parse) → ended ≡ false → IsFed g bytes ended ready refused parse → IsFed g bytes ended ready (Some Memory) parse
+fed_refused g bytes ended ready refused parse untold h = record {
+  fits = h.fits;
+  over = (tt, not_ready g bytes ended ready refused parse untold h ∙ sym untold);
+  few = h.few;
+}
+
+-- a move
+pub fed_moves : (g : Table) (bytes : List ℕ) (ended ready : Bool) (refused : Option Refusal) (old new : Parse) → refused ≡ None → ready ≡ false → IsFed g bytes ended ready refused old → IsAdvance g ended bytes old new (Ok false) → IsFed g bytes ended ready refused new
+fed_moves g bytes ended ready refused old new going unready h step =
+    let over : IsOver g bytes ended ready None new = (step.0, λ r. absurd (both_not ready r unready)) in
+    record {
+      fits = h.fits;
+      over = subst (λ r. IsOver g bytes ended ready r new) (sym going) over;
+      few = few_stepped g ended bytes old new (open_parsing g bytes ended ready refused old going h).0 step.1 step.2;
+    }
+
+-- nothing is left to do with the bytes so far
+pub fed_reads : (g : Table) (bytes : List ℕ) (ended ready : Bool) (refused : Option Refusal) (old new : Parse) → refused ≡ None → IsFed g bytes ended ready refused old → IsRead g ended bytes old new → IsFed g bytes ended ended refused new
+fed_reads g bytes ended ready refused old new going h done =
+    let over : IsOver g bytes ended ended None new = (done.parsing, λ r. (r, (done.read r).0, (done.read r).1)) in
+    record {
+      fits = h.fits;
+      over = subst (λ r. IsOver g bytes ended ended r new) (sym going) over;
+      few = few_now g ended bytes new done.parsing;
+    }
+
+pub fed_rests : (g : Table) (bytes : List ℕ) (ended ready : Bool) (refused : Option Refusal) (old new : Parse) → refused ≡ None → IsFed g bytes ended ready refused old → IsAdvance g ended bytes old new (Ok true) → IsFed g bytes ended ended refused new
+fed_rests g bytes ended ready refused old new going h rest =
+    fed_reads g bytes ended ready refused old new going h (run_rests g ended bytes old old new (open_parsing g bytes ended ready refused old going h).0 (omega arith, omega arith) rest)
+
+-- a step that refuses
+pub fed_stops : (g : Table) (bytes : List ℕ) (ended ready : Bool) (refused : Option Refusal) (old new : Parse) (refusal : Refusal) → refused ≡ None → IsFed g bytes ended ready refused old → IsAdvance g ended bytes old new (Err refusal) → IsFed g bytes ended ended (Some refusal) new
+fed_stops g bytes ended ready refused old new refusal going h step =
+    let stop = step_reason g ended bytes old new refusal step in
+    record {
+      fits = h.fits;
+      over = (stop.0, refl);
+      few = few_stepped g ended bytes old new (open_parsing g bytes ended ready refused old going h).0 stop.1 stop.2;
+    }
+
+pub fed_run_stops : (g : Table) (bytes : List ℕ) (ended : Bool) (old new : Parse) (refusal : Refusal) → FitsSymbol bytes → IsRun g ended bytes old new (Err refusal) → IsFed g bytes ended ended (Some refusal) new
+fed_run_stops g bytes ended old new refusal fits run =
+    let stop = run_reason g ended bytes old new refusal run in
+    record { fits = fits; over = (stop.0, refl); few = stop.1.few }
+
+-- nothing is fed yet
+pub fed_start : (g : Table) (lawful : IsLawful g) (bytes : List ℕ) (parse : Parse) → bytes ≡ [] → parse.steps ≡ 0 → parse.at ≡ 0 → (to_do parse) ≡ Symbol (Kind 0) ∷ [] → parse.rows.items ≡ [] → IsFed g bytes false false None parse
+fed_start g lawful bytes parse none steps at stack rows = record {
+  fits = omega (arith, ap length none);
+  over = (same_start g lawful false bytes parse.steps parse.at (to_do parse) parse.rows.items steps at stack rows, λ r. absurd (true≢false (sym r)));
+  few = record { steps_few = omega (arith, steps); rows_few = omega (arith, ap length rows); each = omega (arith, ap length rows) };
+}
+
+abbrev fed_of : List ℕ → Bool → Bool → Option Refusal → ℕ → ℕ → Fed
+fed_of bytes ended ready refused steps rows = record { bytes = bytes; ended = ended; ready = ready; refused = refused; steps = steps; rows = rows }
+
+-- views that agree in each part
+pub same_fed : (a b : List ℕ) (c d e f : Bool) (m n : Option Refusal) (p q r s : ℕ) → a ≡ b → c ≡ d → e ≡ f → m ≡ n → p ≡ q → r ≡ s → fed_of a c e m p r ≡ fed_of b d f n q s
+same_fed a b c d e f m n p q r s i j k l o t = rw (i, j, k, l, o, t) refl
+
+pub made_fed : (v w : Fed) → v ≡ w → (let made : Fed → Result Fed Refusal = λ u. Ok u in made v ≡ made w)
+made_fed v w e = (let made : Fed → Result Fed Refusal = λ u. Ok u in ap made e)
+
+-- a reader that is ready and hasn't refused has read all
+pub fed_rows : (g : Table) (bytes : List ℕ) (ended ready : Bool) (refused : Option Refusal) (parse : Parse) → refused ≡ None → ready ≡ true → IsFed g bytes ended ready refused parse → AreRowsOf g bytes parse.rows.items
+fed_rows g bytes ended ready refused parse going done h =
+    let over = open_parsing g bytes ended ready refused parse going h in
+    let end = over.1 done in
+    whole_read g ended bytes parse.steps parse.at (to_do parse) parse.rows.items parse.rows.items over.0 end.1 end.2 refl
+
+pub fed_begins : (g : Table) (bytes : List ℕ) (ended ready : Bool) (refused : Option Refusal) (parse : Parse) → refused ≡ None → ready ≡ true → IsFed g bytes ended ready refused parse → BeginsWellShaped g bytes
+fed_begins g bytes ended ready refused parse going done h =
+    let rows = fed_rows g bytes ended ready refused parse going done h in
+    ([], (rows.0, rows.1, rows.2 ∙ sym (append-nil bytes)))
+
+pub same_rows : (g : Table) (s t : List ℕ) (rows made : List Row) → s ≡ t → made ≡ rows → AreRowsOf g s rows → AreRowsOf g t made
+same_rows g s t rows made p q h = (h.0, h.1, h.2 ∙ p, q ∙ h.3)

@@ -1,0 +1,139 @@
+-- The reader's steps over its frames.
+use Rattle.std.proofs.Common.{◌≡◌, ℕ, ◌+◌, ◌-◌, ◌<◌, ◌≤◌, Bool, true, false, inl, inr, List, [], ◌∷◌, ◌++◌, length, take, drop, get_or, reverse, refl, ap, ap₂, sym, ◌∙◌, subst, arith, length-append, Some}
+use Rattle.std.proofs.lemmas.List.{take_at, reverse-append}
+use Rattle.sym_core.specs.declared.TokenPlace.{TokenPlace}
+use Rattle.sym_shape.specs.declared.rule.Rule.{Rule}
+use Rattle.sym_shape.specs.declared.rule.Row.{Row}
+use Rattle.sym_shape.specs.declared.rule.Sym.{Sym}
+use Rattle.sym_shape.specs.declared.rule.Sym.TheVariants.{Kind, Byte}
+use Rattle.sym_shape.specs.declared.frame.Frame.{Frame}
+use Rattle.sym_shape.specs.Table.{Table, symbols_of}
+use Rattle.sym_shape.specs.Tree.{IsMalformed, BeginsWellShaped}
+use Rattle.sym_shape.specs.Law.{IsLawful}
+use Rattle.sym_shape.specs.Reading.{Entry, Symbol, Close, entries_of, closed, IsKnown, TakesNone, place_behind, rule_stack, open_row, place_row}
+use Rattle.sym_shape.specs.Frame.{left_of, passed, HasNext, HasLast, rule_frame, unfolded, IsTaken}
+use Rattle.sym_shape.specs.Reader.{IsParse, ReadsToken, BreaksToken}
+use Rattle.sym_shape.proofs.Moves.{closed_at}
+use Rattle.sym_shape.proofs.Steps.{step_close, step_byte, step_empty, step_rule, step_token, refuse_behind, refuse_byte, refuse_kind, refuse_token, found_waits, broken_waits}
+
+-- the parse with these frames
+abbrev pub IsFramed : Table → Bool → List ℕ → ℕ → ℕ → Frame → List Frame → List Row → Type 0
+IsFramed g ended bytes steps at top below rows = IsParse g ended bytes steps at (unfolded top (reverse below)) rows
+
+unfolded_next : (f : Frame) (fs : List Frame) (x : Sym) → HasNext f x → unfolded f fs ≡ Symbol x ∷ unfolded (passed f) fs
+unfolded_next f [] x h = ap entries_of h.left
+unfolded_next f (q ∷ fs) x h = ap (λ xs. entries_of xs ++ Close f.row ∷ unfolded q fs) h.left
+
+unfolded_end : (f q : Frame) (fs : List Frame) → left_of f ≡ [] → unfolded f (q ∷ fs) ≡ Close f.row ∷ unfolded q fs
+unfolded_end f q fs e = ap (λ xs. entries_of xs ++ Close f.row ∷ unfolded q fs) e
+
+reverse_last : {X : Type 0} (xs : List X) (x : X) → reverse (xs ++ x ∷ []) ≡ x ∷ reverse xs
+reverse_last xs x = reverse-append xs (x ∷ [])
+
+-- a list without its last
+without_last : {X : Type 0} (xs ys front : List X) (x : X) → xs ≡ front ++ x ∷ [] → ys ≡ take (length xs - 1) xs → ys ≡ front
+without_last xs ys front x e is = is ∙ ap₂ (λ n zs. take n zs) less e ∙ take_at front (x ∷ []) (length front) refl
+  where
+    less : length xs - 1 ≡ length front
+    less = omega (arith, ap length e, length-append front (x ∷ []))
+
+-- a frame asks for its next symbol
+pub asks : (g : Table) (ended : Bool) (bytes : List ℕ) (steps at : ℕ) (top : Frame) (below : List Frame) (rows : List Row) (x : Sym) → IsFramed g ended bytes steps at top below rows → HasNext top x → IsParse g ended bytes steps at (Symbol x ∷ unfolded (passed top) (reverse below)) rows
+asks g ended bytes steps at top below rows x h next = subst (λ es. IsParse g ended bytes steps at es rows) (unfolded_next top (reverse below) x next) h
+
+-- a frame whose symbols are read asks for its end
+asks_end : (g : Table) (ended : Bool) (bytes : List ℕ) (steps at : ℕ) (top q : Frame) (below : List Frame) (rows : List Row) (last : HasLast below q) → IsFramed g ended bytes steps at top below rows → left_of top ≡ [] → IsParse g ended bytes steps at (Close top.row ∷ unfolded q (reverse last.0)) rows
+asks_end g ended bytes steps at top q below rows last h bare =
+    subst (λ es. IsParse g ended bytes steps at es rows) (ap (λ fs. unfolded top (reverse fs)) last.1 ∙ ap (λ fs. unfolded top fs) (reverse_last last.0 q) ∙ unfolded_end top q (reverse last.0) bare) h
+
+-- the row that ends is there
+pub end_open : (g : Table) (ended : Bool) (bytes : List ℕ) (steps at : ℕ) (top q : Frame) (below : List Frame) (rows : List Row) → IsFramed g ended bytes steps at top below rows → left_of top ≡ [] → HasLast below q → top.row < length rows
+end_open g ended bytes steps at top q below rows h bare last = (asks_end g ended bytes steps at top q below rows last h bare).reading.opened.0
+
+pub frame_ends : (g : Table) (ended : Bool) (bytes : List ℕ) (steps at : ℕ) (top q : Frame) (below less : List Frame) (rows made : List Row) → IsFramed g ended bytes steps at top below rows → left_of top ≡ [] → HasLast below q → less ≡ take (length below - 1) below → made ≡ closed rows top.row at (length rows) → IsFramed g ended bytes (steps + 1) at q less made
+frame_ends g ended bytes steps at top q below less rows made h bare last is ends =
+    let closes = step_close g ended bytes steps at top.row (unfolded q (reverse last.0)) rows (asks_end g ended bytes steps at top q below rows last h bare) in
+    subst (λ fs. IsFramed g ended bytes (steps + 1) at q fs made) (sym (without_last below less last.0 q last.1 is)) (subst (λ rs. IsParse g ended bytes (steps + 1) at (unfolded q (reverse last.0)) rs) (sym ends) closes)
+
+-- the lowest frame is read
+pub all_done : (top : Frame) (below : List Frame) → left_of top ≡ [] → below ≡ [] → unfolded top (reverse below) ≡ []
+all_done top below bare none = ap (λ fs. unfolded top (reverse fs)) none ∙ ap entries_of bare
+
+pub frame_byte : (g : Table) (ended : Bool) (bytes : List ℕ) (steps at b : ℕ) (top : Frame) (below : List Frame) (rows : List Row) → IsFramed g ended bytes steps at top below rows → HasNext top (Byte b) → at < length bytes → get_or bytes at 0 ≡ b → IsFramed g ended bytes (steps + 1) (at + 1) (passed top) below rows
+frame_byte g ended bytes steps at b top below rows h next lt found =
+    step_byte g ended bytes steps at b (unfolded (passed top) (reverse below)) rows lt found (asks g ended bytes steps at top below rows (Byte b) h next)
+
+pub frame_empty : (g : Table) (lawful : IsLawful g) (ended : Bool) (bytes : List ℕ) (steps at k : ℕ) (top : Frame) (below : List Frame) (rows : List Row) → IsFramed g ended bytes steps at top below rows → HasNext top (Kind k) → g.may_be_empty k ≡ true → TakesNone g k ended (drop at bytes) → IsFramed g ended bytes (steps + 1) at (passed top) below rows
+frame_empty g lawful ended bytes steps at k top below rows h next bare none =
+    step_empty g lawful ended bytes steps at k (unfolded (passed top) (reverse below)) rows bare none (asks g ended bytes steps at top below rows (Kind k) h next)
+
+-- fewer steps are as well counted, if there are enough for the rows
+fewer_steps : (g : Table) (ended : Bool) (bytes : List ℕ) (steps less at : ℕ) (es : List Entry) (rows : List Row) → less ≤ steps → length rows ≤ less → IsParse g ended bytes steps at es rows → IsParse g ended bytes less at es rows
+fewer_steps g ended bytes steps less at es rows le enough h = record {
+  within = h.within;
+  reading = h.reading;
+  counted = record {
+    chains = h.counted.chains;
+    few = h.counted.few;
+    stands = h.counted.stands;
+    spent = omega (arith, h.counted.spent);
+    made = h.counted.made;
+    each = enough;
+  };
+}
+
+pub frame_rule : (g : Table) (lawful : IsLawful g) (ended : Bool) (bytes : List ℕ) (steps at k b : ℕ) (rule : Rule) (top frame : Frame) (below deeper : List Frame) (rows made : List Row) → IsFramed g ended bytes steps at top below rows → HasNext top (Kind k) → at < length bytes → get_or bytes at 0 ≡ b → b < 256 → g.rule k b ≡ Some rule → IsTaken rule (passed top) at below rows frame deeper made → IsFramed g ended bytes (steps + 1) (place_behind rule at) frame deeper made
+frame_rule g lawful ended bytes steps at k b rule top frame below deeper rows made h next lt found byte chosen (inl entered) =
+    let under = unfolded (passed top) (reverse below) in
+    let read = step_rule g lawful ended bytes steps at k b 0 rule under rows lt found byte chosen (asks g ended bytes steps at top below rows (Kind k) h next) in
+    let frames : unfolded frame (reverse deeper) ≡ rule_stack under (length rows) rule =
+    ap₂ (λ f fs. unfolded f (reverse fs)) entered.1 entered.0 ∙ ap (λ fs. unfolded (rule_frame rule (length rows)) fs) (reverse_last below (passed top)) in
+    subst (λ rs. IsFramed g ended bytes (steps + 1) (place_behind rule at) frame deeper rs) (sym entered.2) (subst (λ es. IsParse g ended bytes (steps + 1) (place_behind rule at) es (rows ++ open_row rule at at 0 ∷ [])) (sym frames) read)
+frame_rule g lawful ended bytes steps at k b rule top frame below deeper rows made h next lt found byte chosen (inr leaf) =
+    let under = unfolded (passed top) (reverse below) in
+    let place = place_behind rule at in
+    let opened = rows ++ open_row rule at at 0 ∷ [] in
+    let ended_row = rows ++ open_row rule at place (length rows + 1) ∷ [] in
+    let count : length opened ≡ length rows + 1 = length-append rows (open_row rule at at 0 ∷ []) in
+    let size : length ended_row ≡ length rows + 1 = length-append rows (open_row rule at place (length rows + 1) ∷ []) in
+    let read = step_rule g lawful ended bytes steps at k b 0 rule under rows lt found byte chosen (asks g ended bytes steps at top below rows (Kind k) h next) in
+    let none : symbols_of rule ≡ [] = ap (λ n. take n rule.symbols) leaf.0 in
+    let bare = subst (λ xs. IsParse g ended bytes (steps + 1) place (entries_of xs ++ Close (length rows) ∷ under) opened) none read in
+    let closes = step_close g ended bytes (steps + 1) place (length rows) under opened bare in
+    let row : closed opened (length rows) place (length opened) ≡ ended_row = closed_at rows (open_row rule at at 0) [] place (length opened) ∙ ap (λ n. rows ++ open_row rule at place n ∷ []) count in
+    let whole = fewer_steps g ended bytes (steps + 1 + 1) (steps + 1) place under ended_row (omega arith) (omega (arith, size, h.counted.each)) (subst (λ rs. IsParse g ended bytes (steps + 1 + 1) place under rs) row closes) in
+    subst (λ rs. IsFramed g ended bytes (steps + 1) place frame deeper rs) (sym leaf.3) (subst (λ f. IsFramed g ended bytes (steps + 1) place f deeper ended_row) (sym leaf.2) (subst (λ fs. IsFramed g ended bytes (steps + 1) place (passed top) fs ended_row) (sym leaf.1) whole))
+
+pub frame_token : (g : Table) (lawful : IsLawful g) (ended : Bool) (bytes : List ℕ) (steps at : ℕ) (x : Sym) (place : TokenPlace) (top : Frame) (below : List Frame) (rows made : List Row) → IsFramed g ended bytes steps at top below rows → HasNext top x → ReadsToken g.names x (drop at bytes) at place → IsKnown ended bytes place.end → made ≡ rows ++ place_row place (length rows) ∷ [] → IsFramed g ended bytes (steps + 1) place.end (passed top) below made
+frame_token g lawful ended bytes steps at x place top below rows made h next read known is =
+    subst (λ rs. IsFramed g ended bytes (steps + 1) place.end (passed top) below rs) (sym is) (step_token g lawful ended bytes steps at x place (unfolded (passed top) (reverse below)) rows read known (asks g ended bytes steps at top below rows x h next))
+
+-- refusals
+pub frame_behind : (g : Table) (lawful : IsLawful g) (ended : Bool) (bytes : List ℕ) (steps at : ℕ) (top : Frame) (below : List Frame) (rows : List Row) → IsFramed g ended bytes steps at top below rows → left_of top ≡ [] → below ≡ [] → at < length bytes → IsMalformed g bytes at
+frame_behind g lawful ended bytes steps at top below rows h bare none lt =
+    refuse_behind g lawful ended bytes steps at rows lt (subst (λ es. IsParse g ended bytes steps at es rows) (all_done top below bare none) h)
+
+pub frame_byte_refused : (g : Table) (lawful : IsLawful g) (ended : Bool) (bytes : List ℕ) (steps at b : ℕ) (top : Frame) (below : List Frame) (rows : List Row) → IsFramed g ended bytes steps at top below rows → HasNext top (Byte b) → IsKnown ended bytes at → (at < length bytes → get_or bytes at 0 ≡ b → ⊥) → IsMalformed g bytes at
+frame_byte_refused g lawful ended bytes steps at b top below rows h next known other =
+    refuse_byte g lawful ended bytes steps at b (unfolded (passed top) (reverse below)) rows known other (asks g ended bytes steps at top below rows (Byte b) h next)
+
+pub frame_kind_refused : (g : Table) (lawful : IsLawful g) (ended : Bool) (bytes : List ℕ) (steps at k : ℕ) (top : Frame) (below : List Frame) (rows : List Row) → IsFramed g ended bytes steps at top below rows → HasNext top (Kind k) → TakesNone g k ended (drop at bytes) → g.may_be_empty k ≡ false → IsMalformed g bytes at
+frame_kind_refused g lawful ended bytes steps at k top below rows h next none full =
+    refuse_kind g lawful ended bytes steps at k (unfolded (passed top) (reverse below)) rows none full (asks g ended bytes steps at top below rows (Kind k) h next)
+
+pub frame_token_refused : (g : Table) (lawful : IsLawful g) (ended : Bool) (bytes : List ℕ) (steps at bad : ℕ) (x : Sym) (top : Frame) (below : List Frame) (rows : List Row) → IsFramed g ended bytes steps at top below rows → HasNext top x → at ≤ bad → BreaksToken g.names x (drop at bytes) (bad - at) → IsKnown ended bytes bad → IsMalformed g bytes bad
+frame_token_refused g lawful ended bytes steps at bad x top below rows h next le breaks known =
+    refuse_token g lawful ended bytes steps at bad x (unfolded (passed top) (reverse below)) rows le breaks known (asks g ended bytes steps at top below rows x h next)
+
+-- bytes that begin a token
+pub frame_found : (g : Table) (lawful : IsLawful g) (ended : Bool) (bytes : List ℕ) (steps at : ℕ) (x : Sym) (place : TokenPlace) (top : Frame) (below : List Frame) (rows : List Row) → IsFramed g ended bytes steps at top below rows → HasNext top x → ReadsToken g.names x (drop at bytes) at place → length bytes ≤ place.end → BeginsWellShaped g bytes
+frame_found g lawful ended bytes steps at x place top below rows h next read le =
+    found_waits g lawful ended bytes steps at x place (unfolded (passed top) (reverse below)) rows (asks g ended bytes steps at top below rows x h next) read le
+
+pub frame_broken : (g : Table) (lawful : IsLawful g) (ended : Bool) (bytes : List ℕ) (steps at bad : ℕ) (x : Sym) (top : Frame) (below : List Frame) (rows : List Row) → IsFramed g ended bytes steps at top below rows → HasNext top x → at ≤ bad → BreaksToken g.names x (drop at bytes) (bad - at) → length bytes ≤ bad → BeginsWellShaped g bytes
+frame_broken g lawful ended bytes steps at bad x top below rows h next from breaks le =
+    broken_waits g lawful ended bytes steps at bad x (unfolded (passed top) (reverse below)) rows (asks g ended bytes steps at top below rows x h next) from breaks le
+
+-- the kind that is asked for is one of the grammar
+pub next_kind : (g : Table) (ended : Bool) (bytes : List ℕ) (steps at k : ℕ) (top : Frame) (below : List Frame) (rows : List Row) → IsFramed g ended bytes steps at top below rows → HasNext top (Kind k) → k < g.kinds
+next_kind g ended bytes steps at k top below rows h next = (asks g ended bytes steps at top below rows (Kind k) h next).reading.known.0

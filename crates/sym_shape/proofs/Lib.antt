@@ -1,0 +1,17 @@
+pub mod Forests
+pub mod Lists
+pub mod Tokens
+pub mod Firsts
+pub mod Follows
+pub mod Completions
+pub mod Fronts
+pub mod Feeding
+pub mod Uniqueness
+pub mod Moves
+pub mod Refusals
+pub mod Stacks
+pub mod Steps
+pub mod Runs
+pub mod Growth
+pub mod Frames
+pub mod Deciding

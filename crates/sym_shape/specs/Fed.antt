@@ -1,0 +1,69 @@
+-- A reader that is fed, as its users see it.
+use Rattle.std.specs.Prelude.{◌≡◌, ℕ, List, [], ◌∷◌, ◌++◌, length, Bool, true, false, Option, Some, None, Result, Ok, Err, ⊤}
+use Rattle.sym_core.specs.declared.refusal.Refusal.{Refusal}
+use Rattle.sym_core.specs.declared.refusal.Refusal.TheVariants.{Malformed, BadReference, BadValue, TooLong, Memory}
+use Rattle.sym_core.specs.Number.{FitsSymbol}
+use Rattle.sym_shape.specs.declared.parse.Parse.{Parse}
+use Rattle.sym_shape.specs.Table.{Table}
+use Rattle.sym_shape.specs.Tree.{IsMalformed}
+use Rattle.sym_shape.specs.Reader.{IsParsing, AreFew, to_do}
+
+-- the bytes fed so far, whether the end was told, whether an answer was given since then, the refusal if there
+-- was one, the steps taken, and how many rows they made
+pub record Fed : Type 0 where
+  pub bytes : List ℕ
+  pub ended : Bool
+  pub ready : Bool
+  pub refused : Option Refusal
+  pub steps : ℕ
+  pub rows : ℕ
+
+-- nothing is fed and nothing is read
+abbrev pub unfed : Fed
+unfed = record { bytes = []; ended = false; ready = false; refused = None; steps = 0; rows = 0 }
+
+-- the reader with a refusal
+abbrev pub refusing : Fed → Refusal → Fed
+refusing fed refusal = record fed { refused = Some refusal }
+
+-- a piece of no bytes tells the end
+abbrev pub tells_end : List ℕ → Bool
+tells_end [] = true
+tells_end (b ∷ piece) = false
+
+-- the reader with a piece more
+abbrev pub with_piece : Fed → List ℕ → Fed
+with_piece fed piece = record fed { bytes = fed.bytes ++ piece; ended = tells_end piece }
+
+-- the step needn't be followed by another one: it answered true or a refusal
+abbrev pub is_answer : Result Bool Refusal → Bool
+is_answer (Ok more) = more
+is_answer (Err refusal) = true
+
+-- the first bad byte is known: of these bytes once the end is told, before that whatever comes behind them
+abbrev pub IsMalformedSoFar : Table → Bool → List ℕ → ℕ → Type 0
+IsMalformedSoFar g true bytes at = IsMalformed g bytes at
+IsMalformedSoFar g false bytes at = (more : List ℕ) → IsMalformed g (bytes ++ more) at
+
+-- why a reader refuses
+abbrev pub IsReason : Table → Bool → List ℕ → Refusal → Type 0
+IsReason g ended bytes (Malformed at) = IsMalformedSoFar g ended bytes at
+IsReason g ended bytes Memory = ⊤
+IsReason g ended bytes (BadReference at) = ⊥
+IsReason g ended bytes (BadValue at) = ⊥
+IsReason g ended bytes TooLong = ⊥
+
+-- the steps and rows of a reader are few for the bytes fed so far
+abbrev pub IsWithinBounds : Fed → Type 0
+IsWithinBounds fed = AreFew fed.steps fed.rows (length fed.bytes)
+
+-- a reader that has refused is right to; one that hasn't may go on, and has read all where it is ready
+abbrev pub IsOver : Table → List ℕ → Bool → Bool → Option Refusal → Parse → Type 0
+IsOver g bytes ended ready None parse =
+    IsParsing g ended bytes parse × (ready ≡ true → (ended ≡ true) × (to_do parse ≡ []) × (parse.at ≡ length bytes))
+IsOver g bytes ended ready (Some refusal) parse = IsReason g ended bytes refusal × (ready ≡ ended)
+
+pub record IsFed (g : Table) (bytes : List ℕ) (ended ready : Bool) (refused : Option Refusal) (parse : Parse) : Type 0 where
+  pub fits : FitsSymbol bytes
+  pub over : IsOver g bytes ended ready refused parse
+  pub few : AreFew parse.steps (length parse.rows.items) (length bytes)

@@ -1,0 +1,12 @@
+pub mod Table
+pub mod Tree
+pub mod Law
+pub mod Reading
+pub mod Frame
+pub mod Reader
+pub mod Sheet
+pub mod SheetLaws
+pub mod Fed
+pub mod Shaped
+pub mod Grown
+pub mod Decided

@@ -1,0 +1,117 @@
+-- The reader's steps.
+use Rattle.std.specs.Prelude.{◌≡◌, ℕ, ◌+◌, ◌*◌, ◌≤◌, List, [], length, take, drop, reverse, Bool, true, false, Result, Ok, Err, ⊤}
+use Rattle.sym_core.specs.declared.refusal.Refusal.{Refusal}
+use Rattle.sym_core.specs.declared.refusal.Refusal.TheVariants.{Malformed, BadReference, BadValue, TooLong, Memory}
+use Rattle.sym_shape.specs.declared.rule.Row.{Row}
+use Rattle.sym_shape.specs.declared.rule.Sym.{Sym}
+use Rattle.sym_core.specs.declared.NameClass.{NameClass}
+use Rattle.sym_core.specs.declared.TokenPlace.{TokenPlace}
+use Rattle.sym_shape.specs.declared.parse.Parse.{Parse}
+use Rattle.sym_core.specs.Token.{HasToken, HasNoToken, FindsToken as Finds}
+use Rattle.sym_shape.specs.Table.{Table, IsToken}
+use Rattle.sym_shape.specs.Tree.{IsMalformed, BeginsWellShaped}
+use Rattle.sym_shape.specs.Reading.{Entry, IsReading, IsCounted, IsKnown}
+use Rattle.sym_shape.specs.Frame.{unfolded}
+
+-- the longest token of the symbol at the front of q, which begins at a place
+abbrev pub ReadsToken : NameClass → Sym → List ℕ → ℕ → TokenPlace → Type 0
+ReadsToken names x q at place = HasToken (IsToken names x) q at place
+
+-- no token of the symbol stands at the front of q, and this is the length of the longest front that begins one
+abbrev pub BreaksToken : NameClass → Sym → List ℕ → ℕ → Type 0
+BreaksToken names x q size = HasNoToken (IsToken names x) q size
+
+-- what was found of a token of the symbol
+abbrev pub FindsToken : NameClass → Sym → List ℕ → ℕ → Result TokenPlace ℕ → Type 0
+FindsToken names x bytes at found = Finds (IsToken names x) bytes at found
+
+-- `at` of the bytes are read, and this is still to be done
+pub record IsParse (g : Table) (ended : Bool) (bytes : List ℕ) (steps at : ℕ) (stack : List Entry) (rows : List Row) : Type 0 where
+  pub within : at ≤ length bytes
+  pub reading : IsReading g ended (take at bytes) (drop at bytes) stack rows
+  pub counted : IsCounted g steps at stack (length rows)
+
+-- what a parse still has to do
+abbrev pub to_do : Parse → List Entry
+to_do parse = unfolded parse.top (reverse parse.below.items)
+
+abbrev pub IsParsing : Table → Bool → List ℕ → Parse → Type 0
+IsParsing g ended bytes parse = IsParse g ended bytes parse.steps parse.at (to_do parse) parse.rows.items
+
+-- nothing is left to do with these bytes: they begin a well shaped symbol, and once the end is told all is read
+pub record IsAtRest (g : Table) (ended : Bool) (bytes : List ℕ) (old new : Parse) : Type 0 where
+  pub same : new ≡ old
+  pub begins : BeginsWellShaped g bytes
+  pub read : ended ≡ true → (to_do old ≡ []) × (old.at ≡ length bytes)
+
+-- a step makes at most one row
+abbrev pub MakesRow : Parse → Parse → Type 0
+MakesRow old new = length new.rows.items ≤ length old.rows.items + 1
+
+-- what a step comes to: a move, which is counted; it waits for bytes, or all is read; or a refusal
+abbrev pub IsStep : Table → Bool → List ℕ → Parse → Parse → Result Bool Refusal → Type 0
+IsStep g ended bytes old new (Ok false) = IsParse g ended bytes (old.steps + 1) new.at (to_do new) new.rows.items × (new.steps ≡ old.steps) × MakesRow old new
+IsStep g ended bytes old new (Ok true) = IsAtRest g ended bytes old new
+IsStep g ended bytes old new (Err (Malformed at)) = IsMalformed g bytes at × IsKnown ended bytes at × (new.steps ≡ old.steps) × MakesRow old new
+IsStep g ended bytes old new (Err Memory) = (new.steps ≡ old.steps) × MakesRow old new
+IsStep g ended bytes old new (Err (BadReference at)) = ⊥
+IsStep g ended bytes old new (Err (BadValue at)) = ⊥
+IsStep g ended bytes old new (Err TooLong) = ⊥
+
+-- the same with the step counted
+abbrev pub IsAdvance : Table → Bool → List ℕ → Parse → Parse → Result Bool Refusal → Type 0
+IsAdvance g ended bytes old new (Ok false) = IsParsing g ended bytes new × (new.steps ≡ old.steps + 1) × MakesRow old new
+IsAdvance g ended bytes old new (Ok true) = IsAtRest g ended bytes old new
+IsAdvance g ended bytes old new (Err (Malformed at)) = IsMalformed g bytes at × IsKnown ended bytes at × (new.steps ≡ old.steps + 1) × MakesRow old new
+IsAdvance g ended bytes old new (Err Memory) = (new.steps ≡ old.steps + 1) × MakesRow old new
+IsAdvance g ended bytes old new (Err (BadReference at)) = ⊥
+IsAdvance g ended bytes old new (Err (BadValue at)) = ⊥
+IsAdvance g ended bytes old new (Err TooLong) = ⊥
+
+-- the bytes aren't well shaped, and the place is that of the first bad one; or memory ran out
+abbrev pub IsMalformedOrMemory : Table → List ℕ → Refusal → Type 0
+IsMalformedOrMemory g bytes (Malformed at) = IsMalformed g bytes at
+IsMalformedOrMemory g bytes Memory = ⊤
+IsMalformedOrMemory g bytes (BadReference at) = ⊥
+IsMalformedOrMemory g bytes (BadValue at) = ⊥
+IsMalformedOrMemory g bytes TooLong = ⊥
+
+-- each step makes at most one row
+abbrev pub MakeRows : Parse → Parse → Type 0
+MakeRows old new = (old.steps ≤ new.steps) × (length new.rows.items + old.steps ≤ length old.rows.items + new.steps)
+
+-- steps and rows are few for so many bytes
+pub record AreFew (steps rows bytes : ℕ) : Type 0 where
+  pub steps_few : steps ≤ 18 * bytes + 14
+  pub rows_few : rows ≤ 4 * bytes + 4
+  pub each : rows ≤ steps
+
+-- what steps that end in a refusal leave
+pub record AreSpent (bytes : List ℕ) (old new : Parse) : Type 0 where
+  pub made : MakeRows old new
+  pub few : AreFew new.steps (length new.rows.items) (length bytes)
+
+-- some moves, or no memory for one
+abbrev pub IsHurried : Table → Bool → List ℕ → Parse → Parse → Result (Unit {0}) Refusal → Type 0
+IsHurried g ended bytes old new (Ok done) = IsParsing g ended bytes new × MakeRows old new
+IsHurried g ended bytes old new (Err Memory) = AreSpent bytes old new
+IsHurried g ended bytes old new (Err (Malformed at)) = ⊥
+IsHurried g ended bytes old new (Err (BadReference at)) = ⊥
+IsHurried g ended bytes old new (Err (BadValue at)) = ⊥
+IsHurried g ended bytes old new (Err TooLong) = ⊥
+
+-- steps until nothing is left to do with these bytes
+pub record IsRead (g : Table) (ended : Bool) (bytes : List ℕ) (old new : Parse) : Type 0 where
+  pub parsing : IsParsing g ended bytes new
+  pub made : MakeRows old new
+  pub begins : BeginsWellShaped g bytes
+  pub read : ended ≡ true → (to_do new ≡ []) × (new.at ≡ length bytes)
+
+-- steps until nothing is left to do, or until one refuses
+abbrev pub IsRun : Table → Bool → List ℕ → Parse → Parse → Result (Unit {0}) Refusal → Type 0
+IsRun g ended bytes old new (Ok done) = IsRead g ended bytes old new
+IsRun g ended bytes old new (Err (Malformed at)) = IsMalformed g bytes at × IsKnown ended bytes at × AreSpent bytes old new
+IsRun g ended bytes old new (Err Memory) = AreSpent bytes old new
+IsRun g ended bytes old new (Err (BadReference at)) = ⊥
+IsRun g ended bytes old new (Err (BadValue at)) = ⊥
+IsRun g ended bytes old new (Err TooLong) = ⊥

@@ -1,0 +1,24 @@
+// Rules that are being read.
+ghost use Rattle.std.specs.Prelude.{◌≡◌, [], ◌<◌, MatchOption};
+ghost use Rattle.sym_shape.specs.Frame.{left_of, HasNext};
+
+use crate::rule::{Rule, Sym};
+
+/// A rule whose symbols are being read: which of them is next, and the number of the rule's row.
+#[derive(Clone, Copy, Debug)]
+pub struct Frame {
+    pub rule: Rule,
+    pub next: u8,
+    pub row: u32,
+}
+
+/// The symbol that a frame asks for next, or none at its rule's end.
+pub fn upcoming(frame: &Frame) -> Option<Sym>
+    ensures { MatchOption result (left_of frame.now ≡ []) (λ symbol. HasNext frame.now symbol) }
+{
+    if frame.next < frame.rule.count {
+        frame.rule.symbols.get(frame.next as usize).copied()
+    } else {
+        None
+    }
+}

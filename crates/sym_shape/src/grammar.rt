@@ -1,0 +1,33 @@
+// What a grammar tells the reader.
+ghost use Rattle.std.specs.Prelude.{◌≡◌, ℕ, ◌<◌};
+ghost use Rattle.sym_shape.specs.Table.{Table};
+ghost use Rattle.sym_shape.specs.Law.{IsLawful};
+
+use crate::rule::Rule;
+use sym_core::NameClass;
+
+/// A grammar that one byte of look-ahead decides.
+///
+/// Kinds are the numbers below the table's `kinds`, and kind 0 is the start kind. What begins a kind are the bytes at
+/// which `rule` answers one. Which bytes may come after a kind, how many chains may stand on one another from it, and how
+/// high its lowest tree is are members of the table alone (`after`, `rank`, `height`): the laws speak of them, no code asks.
+pub trait Grammar {
+    /// The grammar, which depends on the type alone.
+    ghost table: { Table };
+
+    /// The rule that a kind takes at a byte.
+    fn rule(&self, kind: u16, byte: u8) -> Option<Rule>
+        requires { kind < table.kinds }
+        ensures { result ≡ table.rule kind byte };
+
+    /// Whether the kind may stand for no bytes.
+    fn may_be_empty(&self, kind: u16) -> bool
+        requires { kind < table.kinds }
+        ensures { result ≡ table.may_be_empty kind };
+
+    /// How the grammar's names are spelled.
+    fn name_class(&self) -> NameClass
+        ensures { result ≡ table.names };
+
+    ghost lawful: { IsLawful table };
+}

@@ -1,0 +1,446 @@
+// The moves of the reader.
+ghost use Rattle.std.specs.Prelude.{◌≡◌, ℕ, ◌+◌, ◌^◌, ◌∷◌, [], ◌++◌, ◌<◌, ◌≤◌, List, length, take, drop, false, ◌-◌, OnOk, IfOk, OnErr, MatchOption};
+ghost use Rattle.std.specs.Bool.{OnTrue, OnFalse};
+ghost use Rattle.sym_core.specs.Number.{FitsSymbol};
+ghost use Rattle.sym_shape.specs.Reading.{Entry, Symbol, closed, IsKnown, IsByteAt, TakesNone, place_behind, place_row};
+ghost use Rattle.sym_shape.specs.Frame.{left_of, HasNext, HasLast, IsTaken};
+ghost use Rattle.sym_shape.specs.Reader.{IsParsing, IsStep, IsAdvance, IsHurried, IsRun, FindsToken, to_do};
+
+use crate::frame::{Frame, upcoming};
+use crate::grammar::Grammar;
+use crate::rule::{Row, Rule, Sym, TOKEN};
+use std::alloc::Global;
+use sym_core::{Refusal, TokenPlace, find_name, find_number};
+
+/// How far the reader has come: the rules that are being read, the uppermost apart from those below it, and the rows so far.
+#[derive(Drop)]
+pub struct Parse {
+    pub top: Frame,
+    pub below: Vec<Frame>,
+    pub rows: Vec<Row>,
+    pub at: usize,
+    pub steps: u32,
+}
+
+/// A rule that asks for the start kind alone.
+const START: Rule = Rule {
+    number: 0,
+    eats: false,
+    count: 1,
+    symbols: [
+        Sym::Kind(0),
+        Sym::Kind(0),
+        Sym::Kind(0),
+        Sym::Kind(0),
+        Sym::Kind(0),
+    ],
+};
+
+/// The lowest frame.
+fn lowest() -> Frame
+    ensures { left_of result ≡ Sym.Kind 0 ∷ [] }
+{
+    Frame {
+        rule: START,
+        next: 0,
+        row: 0,
+    }
+}
+
+/// Ends the row of a rule.
+fn close_row(rows: &mut Vec<Row>, row: usize, at: u32)
+    requires open { row < length rows.old.items }
+    requires few { length rows.old.items < 2 ^ 32 }
+    ensures { rows.new.items ≡ closed rows.old.items row at (length rows.old.items) }
+{
+    let open = rows[row];
+    rows[row] = Row {
+        to: at,
+        end: rows.len() as u32,
+        ..open
+    };
+}
+
+/// The uppermost of the frames below the top.
+fn uppermost(below: &[Frame]) -> Option<Frame>
+    ensures { MatchOption result (below.now ≡ []) (λ frame. HasLast below.now frame) }
+{
+    below.last().copied()
+}
+
+/// Takes the uppermost frame off.
+fn drop_uppermost(below: &mut Vec<Frame>)
+    ensures { below.new.items ≡ take (length below.old.items - 1) below.old.items }
+{
+    let _frame = below.pop();
+}
+
+/// The place behind the byte that a rule takes, if it takes one.
+fn behind(rule: &Rule, at: usize) -> usize
+    requires { at + 1 < 2 ^ 32 }
+    ensures { result ≡ place_behind rule.now at }
+{
+    if rule.eats { at + 1 } else { at }
+}
+
+/// Takes a rule in the place of its kind, behind which the top frame goes on: the frame that is then on top.
+fn take_rule(
+    below: &mut Vec<Frame>,
+    rows: &mut Vec<Row>,
+    top: Frame,
+    rule: &Rule,
+    at: usize,
+) -> Result<Frame, Refusal>
+    requires few { length rows.old.items + 1 < 2 ^ 32 }
+    requires place { at + 1 < 2 ^ 32 }
+    ensures taken { IfOk result (λ frame. IsTaken rule.now top at below.old.items rows.old.items frame below.new.items rows.new.items) }
+    ensures one { length rows.new.items ≤ length rows.old.items + 1 }
+    ensures memory { OnErr result (result ≡ Err Refusal.Memory) }
+{
+    let number = rows.len() as u32;
+    let from = at as u32;
+    if rule.count == 0 {
+        rows.push(Row {
+            rule: rule.number,
+            from,
+            to: behind(rule, at) as u32,
+            end: number + 1,
+        })?;
+        return Ok(top);
+    }
+    rows.push(Row {
+        rule: rule.number,
+        from,
+        to: from,
+        end: 0,
+    })?;
+    below.push(top)?;
+    Ok(Frame {
+        rule: *rule,
+        next: 0,
+        row: number,
+    })
+}
+
+/// Puts a token's row behind the others.
+fn push_token(rows: &mut Vec<Row>, place: TokenPlace) -> Result<(), Refusal>
+    requires few { length rows.old.items + 1 < 2 ^ 32 }
+    requires own { place.from < 2 ^ 32 }
+    requires place { place.to < 2 ^ 32 }
+    ensures row { OnOk result (rows.new.items ≡ rows.old.items ++ place_row place (length rows.old.items) ∷ []) }
+    ensures one { length rows.new.items ≤ length rows.old.items + 1 }
+    ensures memory { OnErr result (result ≡ Err Refusal.Memory) }
+{
+    let end = rows.len() as u32 + 1;
+    rows.push(Row {
+        rule: TOKEN,
+        from: place.from as u32,
+        to: place.to as u32,
+        end,
+    })?;
+    Ok(())
+}
+
+/// The byte at a place, if it is known.
+fn next_byte(bytes: &[u8], at: usize) -> Option<u8>
+    ensures { MatchOption result (length bytes.now ≤ at) (λ byte. IsByteAt bytes.now at byte) }
+{
+    if at < bytes.len() {
+        Some(bytes[at])
+    } else {
+        None
+    }
+}
+
+/// Whether more bytes may come at a place.
+fn may_go_on(at: usize, bytes: &[u8], ended: bool) -> bool
+    ensures waits { OnTrue result (ended ≡ false) }
+    ensures all { OnTrue result (length bytes.now ≤ at) }
+    ensures known { OnFalse result (IsKnown ended bytes.now at) }
+{
+    !ended && at >= bytes.len()
+}
+
+impl Parse {
+    /// Before the first step: the start kind is to be read. It takes no memory.
+    pub fn new(alloc: Global) -> Parse
+        ensures todo { to_do result ≡ Symbol (Sym.Kind 0) ∷ [] }
+        ensures rows { result.rows.items ≡ [] }
+        ensures at { result.at ≡ 0 }
+        ensures steps { result.steps ≡ 0 }
+    {
+        Parse {
+            top: lowest(),
+            below: Vec::new(alloc),
+            rows: Vec::new(alloc),
+            at: 0,
+            steps: 0,
+        }
+    }
+
+    /// Begins another symbol with the lists that are there.
+    pub fn restart(&mut self)
+        ensures todo { to_do self.new ≡ Symbol (Sym.Kind 0) ∷ [] }
+        ensures rows { self.new.rows.items ≡ [] }
+        ensures at { self.new.at ≡ 0 }
+        ensures steps { self.new.steps ≡ 0 }
+    {
+        self.top = lowest();
+        self.below.clear();
+        self.rows.clear();
+        self.at = 0;
+        self.steps = 0;
+    }
+
+    /// Steps until nothing is left to do with these bytes, or until one refuses.
+    pub fn run<G: Grammar>(&mut self, grammar: &G, bytes: &[u8], ended: bool) -> Result<(), Refusal>
+        requires fits { FitsSymbol bytes.now }
+        requires parsing { IsParsing G.table ended bytes.now self.old }
+        ensures { IsRun G.table ended bytes.now self.old self.new result }
+    {
+        'steps: loop {
+            self.hurry(grammar, bytes, ended)?;
+            match self.advance(grammar, bytes, ended) {
+                Ok(true) => return Ok(()),
+                Ok(false) => {}
+                Err(refusal) => return Err(refusal),
+            }
+        }
+    }
+
+    /// Moves that need no more bytes and that nothing refuses but memory, one after another, with the state at hand.
+    fn hurry<G: Grammar>(&mut self, grammar: &G, bytes: &[u8], ended: bool) -> Result<(), Refusal>
+        requires fits { FitsSymbol bytes.now }
+        requires parsing { IsParsing G.table ended bytes.now self.old }
+        ensures { IsHurried G.table ended bytes.now self.old self.new result }
+    {
+        let mut top = self.top;
+        let mut at = self.at;
+        let mut steps = self.steps;
+        'moves: loop {
+            match upcoming(&top) {
+                None => match uppermost(&self.below) {
+                    None => break 'moves,
+                    Some(frame) => {
+                        close_row(&mut self.rows, top.row as usize, at as u32);
+                        drop_uppermost(&mut self.below);
+                        top = frame;
+                        steps += 1;
+                        continue 'moves;
+                    }
+                },
+                Some(Sym::Byte(byte)) => {
+                    if at >= bytes.len() || bytes[at] != byte {
+                        break 'moves;
+                    }
+                    at += 1;
+                    top.next += 1;
+                    steps += 1;
+                    continue 'moves;
+                }
+                Some(Sym::Kind(kind)) => {
+                    if at >= bytes.len() {
+                        break 'moves;
+                    }
+                    match grammar.rule(kind, bytes[at]) {
+                        Some(rule) => {
+                            top.next += 1;
+                            steps += 1;
+                            self.steps = steps;
+                            top = take_rule(&mut self.below, &mut self.rows, top, &rule, at)?;
+                            at = behind(&rule, at);
+                            continue 'moves;
+                        }
+                        None if grammar.may_be_empty(kind) => {
+                            top.next += 1;
+                            steps += 1;
+                            continue 'moves;
+                        }
+                        None => break 'moves,
+                    }
+                }
+                Some(_) => break 'moves,
+            }
+        }
+        self.top = top;
+        self.at = at;
+        self.steps = steps;
+        Ok(())
+    }
+
+    /// One step, counted unless it waits for bytes or all is read.
+    pub fn advance<G: Grammar>(
+        &mut self,
+        grammar: &G,
+        bytes: &[u8],
+        ended: bool,
+    ) -> Result<bool, Refusal>
+        requires fits { FitsSymbol bytes.now }
+        requires parsing { IsParsing G.table ended bytes.now self.old }
+        ensures { IsAdvance G.table ended bytes.now self.old self.new result }
+    {
+        let outcome = self.step(grammar, bytes, ended);
+        match outcome {
+            Ok(true) => Ok(true),
+            Ok(false) => {
+                self.steps += 1;
+                Ok(false)
+            }
+            Err(refusal) => {
+                self.steps += 1;
+                Err(refusal)
+            }
+        }
+    }
+
+    /// The move that the top frame asks for.
+    fn step<G: Grammar>(&mut self, grammar: &G, bytes: &[u8], ended: bool) -> Result<bool, Refusal>
+        requires fits { FitsSymbol bytes.now }
+        requires parsing { IsParsing G.table ended bytes.now self.old }
+        ensures { IsStep G.table ended bytes.now self.old self.new result }
+    {
+        match upcoming(&self.top) {
+            None => self.end_frame::<G>(bytes, ended),
+            Some(Sym::Byte(byte)) => self.read_byte::<G>(byte, bytes, ended),
+            Some(Sym::Kind(kind)) => self.read_kind(grammar, kind, bytes, ended),
+            Some(Sym::Name) => {
+                let found = find_name(bytes, self.at, grammar.name_class());
+                self.read_token::<G>(Sym::Name, found, bytes, ended)
+            }
+            Some(Sym::Number(kind)) => {
+                let found = find_number(bytes, self.at, kind);
+                self.read_token::<G>(Sym::Number(kind), found, bytes, ended)
+            }
+        }
+    }
+
+    /// All symbols of the top frame are read: its row ends; or all is read, or there are bytes behind.
+    fn end_frame<G: Grammar>(&mut self, bytes: &[u8], ended: bool) -> Result<bool, Refusal>
+        requires fits { FitsSymbol bytes.now }
+        requires parsing { IsParsing G.table ended bytes.now self.old }
+        requires bare { left_of self.old.top ≡ [] }
+        ensures { IsStep G.table ended bytes.now self.old self.new result }
+    {
+        match uppermost(&self.below) {
+            Some(frame) => {
+                close_row(&mut self.rows, self.top.row as usize, self.at as u32);
+                drop_uppermost(&mut self.below);
+                self.top = frame;
+                Ok(false)
+            }
+            None => {
+                if self.at == bytes.len() {
+                    return Ok(true);
+                }
+                Err(Refusal::Malformed { at: self.at as u32 })
+            }
+        }
+    }
+
+    /// Reads a fixed byte.
+    fn read_byte<G: Grammar>(
+        &mut self,
+        byte: u8,
+        bytes: &[u8],
+        ended: bool,
+    ) -> Result<bool, Refusal>
+        requires fits { FitsSymbol bytes.now }
+        requires parsing { IsParsing G.table ended bytes.now self.old }
+        requires next { HasNext self.old.top (Sym.Byte byte) }
+        ensures { IsStep G.table ended bytes.now self.old self.new result }
+    {
+        let at = self.at;
+        match next_byte(bytes, at) {
+            None if !ended => Ok(true),
+            None => Err(Refusal::Malformed { at: at as u32 }),
+            Some(next) if next == byte => {
+                self.top.next += 1;
+                self.at += 1;
+                Ok(false)
+            }
+            Some(_) => Err(Refusal::Malformed { at: at as u32 }),
+        }
+    }
+
+    /// Reads a kind: the rule that its next byte chooses, or nothing.
+    fn read_kind<G: Grammar>(
+        &mut self,
+        grammar: &G,
+        kind: u16,
+        bytes: &[u8],
+        ended: bool,
+    ) -> Result<bool, Refusal>
+        requires fits { FitsSymbol bytes.now }
+        requires parsing { IsParsing G.table ended bytes.now self.old }
+        requires next { HasNext self.old.top (Sym.Kind kind) }
+        ensures { IsStep G.table ended bytes.now self.old self.new result }
+    {
+        match next_byte(bytes, self.at) {
+            None if !ended => Ok(true),
+            None => self.leave_kind(grammar, kind, bytes, ended),
+            Some(next) => match grammar.rule(kind, next) {
+                Some(rule) => {
+                    self.top.next += 1;
+                    self.top = take_rule(
+                        &mut self.below,
+                        &mut self.rows,
+                        self.top,
+                        &rule,
+                        self.at,
+                    )?;
+                    self.at = behind(&rule, self.at);
+                    Ok(false)
+                }
+                None => self.leave_kind(grammar, kind, bytes, ended),
+            },
+        }
+    }
+
+    /// Leaves a kind of which no rule can be taken here.
+    fn leave_kind<G: Grammar>(
+        &mut self,
+        grammar: &G,
+        kind: u16,
+        bytes: &[u8],
+        ended: bool,
+    ) -> Result<bool, Refusal>
+        requires fits { FitsSymbol bytes.now }
+        requires parsing { IsParsing G.table ended bytes.now self.old }
+        requires next { HasNext self.old.top (Sym.Kind kind) }
+        requires none { TakesNone G.table kind ended (drop self.old.at bytes.now) }
+        ensures { IsStep G.table ended bytes.now self.old self.new result }
+    {
+        if grammar.may_be_empty(kind) {
+            self.top.next += 1;
+            return Ok(false);
+        }
+        Err(Refusal::Malformed { at: self.at as u32 })
+    }
+
+    /// Reads a token, or says where it breaks off. One that ends with the bytes may still go on.
+    fn read_token<G: Grammar>(
+        &mut self,
+        symbol: Sym,
+        found: Result<TokenPlace, usize>,
+        bytes: &[u8],
+        ended: bool,
+    ) -> Result<bool, Refusal>
+        requires fits { FitsSymbol bytes.now }
+        requires parsing { IsParsing G.table ended bytes.now self.old }
+        requires next { HasNext self.old.top symbol }
+        requires found { FindsToken G.table.names symbol bytes.now self.old.at found }
+        ensures { IsStep G.table ended bytes.now self.old self.new result }
+    {
+        match found {
+            Ok(place) if may_go_on(place.end, bytes, ended) => Ok(true),
+            Ok(place) => {
+                push_token(&mut self.rows, place)?;
+                self.top.next += 1;
+                self.at = place.end;
+                Ok(false)
+            }
+            Err(bad) if may_go_on(bad, bytes, ended) => Ok(true),
+            Err(bad) => Err(Refusal::Malformed { at: bad as u32 }),
+        }
+    }
+}
