@@ -1,0 +1,12 @@
+pub mod Steps
+pub mod Results
+pub mod Cases
+pub mod Lists
+pub mod Standing
+pub mod Opening
+pub mod Closing
+pub mod Following
+pub mod Taking
+pub mod Starting
+pub mod Driving
+pub mod Positions

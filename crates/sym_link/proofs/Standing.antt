@@ -1,0 +1,243 @@
+-- A rule stands in a symbol, and so do its parts.
+use Rattle.std.proofs.Common.{◌≡◌, refl, sym, ◌∙◌, ap, subst, arith, ℕ, ◌+◌, ◌<◌, ◌≤◌, List, [], ◌∷◌, ◌++◌, length, take, drop, append_assoc, append-nil, length-append, length-drop, add-zero}
+use Rattle.sym_shape.proofs.Firsts.{branch_filled}
+use Rattle.std.proofs.Math.Seq.{drop-append_seam, take-append_seam}
+use Rattle.std.proofs.lemmas.List.{drop-drop}
+use Rattle.sym_shape.specs.declared.rule.Rule.{Rule}
+use Rattle.sym_shape.specs.declared.rule.Sym.{Sym}
+use Rattle.sym_shape.specs.declared.rule.Sym.TheVariants.{Kind, Name, Number, Byte}
+use Rattle.sym_shape.specs.Table.{Table, Token, symbols_of, bytes_of}
+use Rattle.sym_shape.specs.Law.{IsSymbol, AreSymbols, IsLawful}
+use Rattle.sym_shape.specs.Tree.{Tree, Forest, branch, empty, token, fixed, nothing, grown, spell, spell_all, TakesRule, IsTree, AreTrees, row_count, row_count_all, rows_of, rows_of_all}
+use Rattle.sym_link.specs.Reading.{Open}
+use Rattle.sym_link.specs.Unfold.{standing}
+use Rattle.sym_link.specs.Machine.{HasRowNext}
+use Rattle.sym_link.specs.Parts.{skipped, skipped_from, joined, values_in, Stands}
+
+-- ## Parts without a row that are skipped
+
+abbrev pub passed_by : Forest → Forest
+passed_by (grown empty rest) = grown empty (passed_by rest)
+passed_by (grown (fixed byte) rest) = grown (fixed byte) (passed_by rest)
+passed_by left = nothing
+
+pub skip_split : (left : Forest) → left ≡ joined (passed_by left) (skipped left)
+skip_split (grown empty rest) = ap (λ f. grown empty f) (skip_split rest)
+skip_split (grown (fixed byte) rest) = ap (λ f. grown (fixed byte) f) (skip_split rest)
+skip_split (grown (token t) rest) = refl
+skip_split (grown (branch rule taken parts) rest) = refl
+skip_split nothing = refl
+
+pub skip_from : (from : ℕ) (left : Forest) → skipped_from from left ≡ from + length (spell_all (passed_by left))
+skip_from from (grown empty rest) = skip_from from rest
+skip_from from (grown (fixed byte) rest) = omega (arith, skip_from (from + 1) rest)
+skip_from from (grown (token t) rest) = sym (add-zero from)
+skip_from from (grown (branch rule taken parts) rest) = sym (add-zero from)
+skip_from from nothing = sym (add-zero from)
+
+pub skip_rows : (left : Forest) (from number : ℕ) → rows_of_all (skipped left) (skipped_from from left) number ≡ rows_of_all left from number
+skip_rows (grown empty rest) from number = rw (add-zero, add-zero) (skip_rows rest from number)
+skip_rows (grown (fixed byte) rest) from number = rw add-zero (skip_rows rest (from + 1) number)
+skip_rows (grown (token t) rest) from number = refl
+skip_rows (grown (branch rule taken parts) rest) from number = refl
+skip_rows nothing from number = refl
+
+pub skip_count : (left : Forest) → row_count_all (skipped left) ≡ row_count_all left
+skip_count (grown empty rest) = omega (arith, skip_count rest)
+skip_count (grown (fixed byte) rest) = omega (arith, skip_count rest)
+skip_count (grown (token t) rest) = refl
+skip_count (grown (branch rule taken parts) rest) = refl
+skip_count nothing = refl
+
+pub skip_next : (left : Forest) → HasRowNext (skipped left)
+skip_next (grown empty rest) = skip_next rest
+skip_next (grown (fixed byte) rest) = skip_next rest
+skip_next (grown (token t) rest) = tt
+skip_next (grown (branch rule taken parts) rest) = tt
+skip_next nothing = tt
+
+-- ## Joined parts
+
+pub joined_assoc : (a b c : Forest) → joined (joined a b) c ≡ joined a (joined b c)
+joined_assoc nothing b c = refl
+joined_assoc (grown t a) b c = ap (λ f. grown t f) (joined_assoc a b c)
+
+pub joined_spell : (a b : Forest) → spell_all (joined a b) ≡ spell_all a ++ spell_all b
+joined_spell nothing b = refl
+joined_spell (grown t a) b = ap (λ x. spell t ++ x) (joined_spell a b) ∙ sym (append_assoc (spell t) (spell_all a) (spell_all b))
+
+pub joined_values : (n : ℕ) (a b : Forest) → values_in n (joined a b) ≡ values_in n a + values_in n b
+joined_values n nothing b = omega arith
+joined_values n (grown empty a) b = omega (arith, joined_values n a b)
+joined_values n (grown (fixed byte) a) b = omega (arith, joined_values n a b)
+joined_values n (grown (token t) a) b = omega (arith, joined_values n a b)
+joined_values n (grown (branch rule taken parts) a) b = omega (arith, joined_values n a b)
+
+joined_length : (a b : Forest) → length (spell_all (joined a b)) ≡ length (spell_all a) + length (spell_all b)
+joined_length a b = ap (λ x. length x) (joined_spell a b) ∙ length-append (spell_all a) (spell_all b)
+
+-- the part behind others is a tree of one of the symbols
+tree_at : (g : Table) (xs : List Sym) (front : Forest) (first : Tree) (rest : Forest) → AreSymbols g xs → AreTrees g xs (joined front (grown first rest))
+    → (x : Sym) × IsSymbol g x × IsTree g x first
+tree_at g (x ∷ xs) nothing first rest symbols trees = (x, symbols.0, trees.0)
+tree_at g (x ∷ xs) (grown t front) first rest symbols trees = tree_at g xs front first rest symbols.1 trees.1
+tree_at g [] nothing first rest symbols trees = absurd trees
+tree_at g [] (grown t front) first rest symbols trees = absurd trees
+
+-- a branch is a tree of a kind
+branch_of : (g : Table) (x : Sym) (rule : Rule) (taken : List ℕ) (parts : Forest) → IsSymbol g x → IsTree g x (branch rule taken parts)
+    → (kind : ℕ) × (kind < g.kinds) × TakesRule g kind rule taken × AreTrees g (symbols_of rule) parts
+branch_of g (Kind k) rule taken parts symbol is = (k, symbol, is.0, is.1)
+branch_of g Name rule taken parts symbol is = absurd is
+branch_of g (Number kind) rule taken parts symbol is = absurd is
+branch_of g (Byte b) rule taken parts symbol is = absurd is
+
+filled : (xs : List ℕ) → (xs ≡ [] → ⊥) → 0 < length xs
+filled [] full = absurd (full refl)
+filled (x ∷ xs) full = omega arith
+
+-- ## How a rule stands while it passes its parts
+
+-- the parts that have no row are skipped
+pub stands_skip : {S C : Type 0} (g : Table) (s : List ℕ) (n : ℕ) (rule : Open S C) (held from : ℕ) (left : Forest) → Stands g s n rule held from left
+    → Stands g s n rule (held + values_in n (passed_by left)) (skipped_from from left) (skipped left)
+stands_skip g s n rule held from left st =
+    let same : joined st.passed left ≡ joined (joined st.passed (passed_by left)) (skipped left) =
+    ap (λ f. joined st.passed f) (skip_split left) ∙ sym (joined_assoc st.passed (passed_by left) (skipped left)) in
+    record {
+      kind = st.kind;
+      is_kind = st.is_kind;
+      takes = st.takes;
+      passed = joined st.passed (passed_by left);
+      trees = subst (λ f. AreTrees g (symbols_of rule.rule) f) same st.trees;
+      counted = omega (arith, st.counted, joined_values n st.passed (passed_by left));
+      starts = omega (arith, st.starts, skip_from from left, joined_length st.passed (passed_by left));
+      behind = st.behind;
+      spelled = subst (λ f. drop rule.place s ≡ rule.taken ++ (spell_all f ++ st.behind)) same st.spelled;
+    }
+
+-- one more part is passed, which has a value
+pub stands_take : {S C : Type 0} (g : Table) (s : List ℕ) (n : ℕ) (rule : Open S C) (held from : ℕ) (first : Tree) (rest : Forest)
+    → Stands g s n rule held from (grown first rest) → values_in n (grown first nothing) ≡ 1
+    → Stands g s n rule (held + 1) (from + length (spell first)) rest
+stands_take g s n rule held from first rest st one =
+    let same : joined st.passed (grown first rest) ≡ joined (joined st.passed (grown first nothing)) rest =
+    sym (joined_assoc st.passed (grown first nothing) rest) in
+    record {
+      kind = st.kind;
+      is_kind = st.is_kind;
+      takes = st.takes;
+      passed = joined st.passed (grown first nothing);
+      trees = subst (λ f. AreTrees g (symbols_of rule.rule) f) same st.trees;
+      counted = omega (arith, st.counted, one, joined_values n st.passed (grown first nothing));
+      starts = omega (arith, st.starts, joined_length st.passed (grown first nothing), ap (λ x. length x) (append-nil (spell first)));
+      behind = st.behind;
+      spelled = subst (λ f. drop rule.place s ≡ rule.taken ++ (spell_all f ++ st.behind)) same st.spelled;
+    }
+
+-- what stands where the parts that are left do
+pub stands_left : {S C : Type 0} (g : Table) (s : List ℕ) (n : ℕ) (rule : Open S C) (held from : ℕ) (left : Forest) (st : Stands g s n rule held from left)
+    → drop from s ≡ spell_all left ++ st.behind
+stands_left g s n rule held from left st =
+    let front = rule.taken ++ spell_all st.passed in
+    let whole : drop rule.place s ≡ front ++ (spell_all left ++ st.behind) =
+    st.spelled ∙ ap (λ x. rule.taken ++ (x ++ st.behind)) (joined_spell st.passed left)
+    ∙ ap (λ x. rule.taken ++ x) (append_assoc (spell_all st.passed) (spell_all left) st.behind)
+    ∙ sym (append_assoc rule.taken (spell_all st.passed) (spell_all left ++ st.behind)) in
+    let size : length front ≡ length rule.taken + length (spell_all st.passed) = length-append rule.taken (spell_all st.passed) in
+    ap (λ k. drop k s) (omega (arith, st.starts, size)) ∙ sym (drop-drop (length front) rule.place s) ∙ ap (λ x. drop (length front) x) whole
+    ∙ drop-append_seam front (spell_all left ++ st.behind)
+
+-- a rule that begins stands where it is the next part
+pub stands_inner : {S C : Type 0} (g : Table) (s : List ℕ) (n : ℕ) (rule : Open S C) (held from : ℕ) (inner_rule : Rule) (taken : List ℕ) (inner rest : Forest) (context : C) (state : S)
+    → IsLawful g → Stands g s n rule held from (grown (branch inner_rule taken inner) rest)
+    → Stands g s n (standing inner_rule taken from context state) 0 (from + length taken) inner
+stands_inner g s n rule held from inner_rule taken inner rest context state lawful st =
+    let symbols = (lawful.rule st.kind st.takes.byte rule.rule st.is_kind st.takes.is_byte st.takes.found).symbols in
+    let at = tree_at g (symbols_of rule.rule) st.passed (branch inner_rule taken inner) rest symbols st.trees in
+    let is = branch_of g at.0 inner_rule taken inner at.1 at.2 in
+    record {
+      kind = is.0;
+      is_kind = is.1;
+      takes = is.2;
+      passed = nothing;
+      trees = is.3;
+      counted = refl;
+      starts = omega arith;
+      behind = spell_all rest ++ st.behind;
+      spelled = stands_left g s n rule held from (grown (branch inner_rule taken inner) rest) st
+          ∙ append_assoc (taken ++ spell_all inner) (spell_all rest) st.behind ∙ append_assoc taken (spell_all inner) (spell_all rest ++ st.behind);
+    }
+
+-- a rule of the symbol begins at one of its bytes
+pub stands_within : {S C : Type 0} (g : Table) (s : List ℕ) (n : ℕ) (rule : Open S C) (held from : ℕ) (left : Forest) → IsLawful g → Stands g s n rule held from left
+    → rule.place < length s
+stands_within g s n rule held from left lawful st =
+    omega (
+      arith,
+      ap (λ x. length x) (st.spelled ∙ sym (append_assoc rule.taken (spell_all (joined st.passed left)) st.behind)),
+      length-drop rule.place s,
+      length-append (rule.taken ++ spell_all (joined st.passed left)) st.behind,
+      filled (rule.taken ++ spell_all (joined st.passed left))
+          (branch_filled g lawful st.kind rule.rule rule.taken (joined st.passed left) st.is_kind (st.takes, st.trees)),
+    )
+
+-- what a rule has left ends within the symbol
+pub stands_end : {S C : Type 0} (g : Table) (s : List ℕ) (n : ℕ) (rule : Open S C) (held from : ℕ) (left : Forest) → IsLawful g → Stands g s n rule held from left
+    → from + length (spell_all left) ≤ length s
+stands_end g s n rule held from left lawful st =
+    omega (
+      arith,
+      stands_within g s n rule held from left lawful st,
+      st.starts,
+      length-drop rule.place s,
+      ap (λ x. length x) st.spelled,
+      length-append rule.taken (spell_all (joined st.passed left) ++ st.behind),
+      length-append (spell_all (joined st.passed left)) st.behind,
+      joined_length st.passed left,
+    )
+
+-- the own bytes of a token that stands at a place
+pub token_own : (s : List ℕ) (place : ℕ) (t : Token) (more : List ℕ) → drop place s ≡ bytes_of t ++ more
+    → take (length t.own) (drop (place + length t.before) s) ≡ t.own
+token_own s place t more here =
+    let there : drop (place + length t.before) s ≡ t.own ++ (t.behind ++ more) =
+    sym (drop-drop (length t.before) place s) ∙ ap (λ x. drop (length t.before) x) (here ∙ append_assoc (t.before ++ t.own) t.behind more ∙ append_assoc t.before t.own (t.behind ++ more))
+    ∙ drop-append_seam t.before (t.own ++ (t.behind ++ more)) in
+    ap (λ x. take (length t.own) x) there ∙ take-append_seam t.own (t.behind ++ more)
+
+-- ## Rows
+
+mutual
+  pub rows_length : (t : Tree) (at number : ℕ) → length (rows_of t at number) ≡ row_count t
+  rows_length (branch rule taken parts) at number = omega (arith, rows_length_all parts (at + length taken) (number + 1))
+  rows_length empty at number = refl
+  rows_length (token t) at number = refl
+  rows_length (fixed byte) at number = refl
+
+  pub rows_length_all : (f : Forest) (at number : ℕ) → length (rows_of_all f at number) ≡ row_count_all f
+  rows_length_all nothing at number = refl
+  rows_length_all (grown t f) at number =
+      omega (arith, length-append (rows_of t at number) (rows_of_all f (at + length (spell t)) (number + row_count t)), rows_length t at number, rows_length_all f (at + length (spell t)) (number + row_count t))
+
+pub no_rows : (left : Forest) (from number : ℕ) → row_count_all left ≡ 0 → rows_of_all left from number ≡ []
+no_rows nothing from number none = refl
+no_rows (grown empty rest) from number none = no_rows rest (from + 0) (number + 0) (omega (arith, none))
+no_rows (grown (fixed byte) rest) from number none = no_rows rest (from + 1) (number + 0) (omega (arith, none))
+no_rows (grown (token t) rest) from number none = absurd (omega (arith, none))
+no_rows (grown (branch rule taken parts) rest) from number none = absurd (omega (arith, none))
+
+-- What stands next where some row is left: a rule or a token.
+pub data NextPart : Forest → Type 0 where
+  a_rule : {left : Forest} → (rule : Rule) (taken : List ℕ) (inner rest : Forest) → skipped left ≡ grown (branch rule taken inner) rest → NextPart left
+  a_token : {left : Forest} → (t : Token) (rest : Forest) → skipped left ≡ grown (token t) rest → NextPart left
+
+pub next_part : (left : Forest) → (row_count_all left ≡ 0 → ⊥) → NextPart left
+next_part left some = go left (skipped left) refl some
+  where
+    go : (left next : Forest) → skipped left ≡ next → (row_count_all left ≡ 0 → ⊥) → NextPart left
+    go left (grown (branch rule taken inner) rest) is some = a_rule rule taken inner rest is
+    go left (grown (token t) rest) is some = a_token t rest is
+    go left nothing is some = absurd (some (sym (skip_count left) ∙ ap row_count_all is))
+    go left (grown empty rest) is some = absurd (subst HasRowNext is (skip_next left))
+    go left (grown (fixed byte) rest) is some = absurd (subst HasRowNext is (skip_next left))

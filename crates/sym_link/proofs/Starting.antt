@@ -1,0 +1,263 @@
+-- A driver at the beginning of a symbol, and at its end.
+use Rattle.std.proofs.Common.{◌≡◌, refl, sym, ◌∙◌, ap, subst, arith, ℕ, ◌+◌, ◌*◌, ◌<◌, ◌≤◌, List, [], ◌∷◌, ◌++◌, length, drop, Ok, Err, inl, false, append-nil, length-append}
+use Rattle.std.specs.Prelude.{Result, Option, Some, None}
+use Rattle.std.specs.Result.{IfOk}
+use Rattle.std.proofs.lemmas.Bool.{false≢true}
+use Rattle.std.proofs.lemmas.Nat.{mul-le}
+use Rattle.sym_core.specs.Number.{FitsSymbol}
+use Rattle.sym_core.specs.declared.refusal.Refusal.{Refusal}
+use Rattle.sym_shape.specs.declared.rule.Row.{Row}
+use Rattle.sym_shape.specs.declared.rule.Rule.{Rule}
+use Rattle.sym_shape.specs.declared.rule.Sym.TheVariants.{Kind}
+use Rattle.sym_shape.specs.Table.{Table, symbols_of}
+use Rattle.sym_shape.specs.Tree.{Tree, Forest, branch, empty, token, fixed, nothing, spell, spell_all, TakesRule, IsTree, AreTrees, row_count_all, rows_of, rows_of_all}
+use Rattle.sym_link.specs.declared.language.Frame.{Frame}
+use Rattle.sym_link.specs.Reading.{Found, Reading, ◌>>=◌}
+use Rattle.sym_link.specs.Unfold.{found, alone, standing, unfold_tree, unfold_forest}
+use Rattle.sym_link.specs.Machine as machine
+use Rattle.sym_link.specs.Parts.{Stands}
+use Rattle.sym_link.specs.Driving.{AreAll, Fails}
+use Rattle.sym_link.specs.Linking.{View, IsLinking, HasRoom, at_most, Begun, begun, Begins}
+use Rattle.sym_link.specs.Following.{IsShape, meaning_of, HoldsAll, left_from, Follows, IsDone, IsDriving}
+use Rattle.sym_link.proofs.Lists.{no_last}
+use Rattle.sym_link.proofs.Results.{ok_any}
+use Rattle.sym_link.proofs.Opening.{root_outcome}
+use Rattle.sym_link.proofs.Standing.{stands_end}
+use Rattle.sym_link.proofs.Following.{Innermost, fails_carried}
+use Rattle.sym_link.proofs.Taking.{dropped_next, of_ok}
+
+-- ## The root
+
+-- A symbol's tree is a rule.
+pub record IsRoot (g : Table) (tree : Tree) : Type 0 where
+  pub rule : Rule
+  pub taken : List ℕ
+  pub inner : Forest
+  pub tree_is : tree ≡ branch rule taken inner
+  pub takes : TakesRule g 0 rule taken
+  pub trees : AreTrees g (symbols_of rule) inner
+
+pub root_of : (g : Table) (tree : Tree) → IsTree g (Kind 0) tree → g.may_be_empty 0 ≡ false → IsRoot g tree
+root_of g (branch rule taken inner) is full = record { rule = rule; taken = taken; inner = inner; tree_is = refl; takes = is.0; trees = is.1 }
+root_of g empty is full = absurd (false≢true (sym full ∙ is))
+root_of g (token t) is full = absurd is
+root_of g (fixed byte) is full = absurd is
+
+-- the first row
+pub root_row : (g : Table) (s : List ℕ) (shape : List Row) (tree : Tree) → IsShape g s shape tree → (r : IsRoot g tree)
+    → drop 0 shape ≡ record { rule = r.rule.number; from = 0; to = 0 + length (r.taken ++ spell_all r.inner); end = 0 + 1 + row_count_all r.inner }
+    ∷ (rows_of_all r.inner (0 + length r.taken) (0 + 1) ++ [])
+root_row g s shape tree is r =
+    is.rows_are ∙ ap (λ t. rows_of t 0 0) r.tree_is
+    ∙ ap (λ rs. record { rule = r.rule.number; from = 0; to = 0 + length (r.taken ++ spell_all r.inner); end = 0 + 1 + row_count_all r.inner } ∷ rs)
+    (sym (append-nil (rows_of_all r.inner (0 + length r.taken) (0 + 1))))
+
+-- the rule that begins, around which nothing is known
+abbrev BeginsRoot : {V S C : Type 0} → Rule → (taken : List ℕ) → Begun V S C → Type 0
+BeginsRoot {S = S} {C = C} rule taken b = (b.values ≡ []) × ((context : C) × (before : S) × (b.rule ≡ standing rule taken 0 context before))
+
+root_count : {V S C : Type 0} (reading : Reading V S C) (context : C) (state : S) (rule : Rule) (taken : List ℕ) (inner : Forest)
+    → IfOk (begun reading rule taken 0 inner (record { context = context; values = []; state = state })) (BeginsRoot rule taken)
+root_count reading context state rule taken inner =
+    ok_any (reading.begin (standing rule taken 0 context state) inner)
+    (λ st. Ok (record { rule = standing rule taken 0 context state; values = []; state = st })) (BeginsRoot rule taken) (λ st. (refl, (context, state, refl)))
+
+-- A driver in which the root begins is on its way.
+pub root_follows : {N P K V S C : Type 0} (view : View N P K V S C) (s : List ℕ) (shape : List Row) (tree : Tree)
+    (old new : N) (opened : Frame K) → IsLinking view → IsShape view.table s shape tree → (r : IsRoot view.table tree) → view.size old ≡ 0
+    → opened.rule ≡ r.rule.number → opened.place ≡ 0 → opened.end ≡ 0 + 1 + row_count_all r.inner → opened.base ≡ 0
+    → Begins view new [] [] (Ok opened.kept) (begun view.reading r.rule r.taken 0 r.inner (record { context = view.around; values = []; state = view.first }))
+    → view.size new ≤ view.size old + view.at_begin → view.IsPaid new 0
+    → Follows view s shape (meaning_of view tree) new (0 + 1) (opened ∷ []) []
+root_follows view s shape tree old new opened laws is r no_node number place end base (b, read, is_kept, holds, own, parts_are, are) added paid =
+    let n = length view.reading.rowless in
+    let count = of_ok (begun view.reading r.rule r.taken 0 r.inner (record { context = view.around; values = []; state = view.first })) b (BeginsRoot r.rule r.taken) read
+    (root_count view.reading view.around view.first r.rule r.taken r.inner) in
+    let row = dropped_next shape _ 0 _ (root_row view.table s shape tree is r) in
+    let bytes : r.taken ++ spell_all r.inner ≡ s = sym (ap spell r.tree_is) ∙ is.spelled in
+    record {
+      frames = machine.frame b.rule (0 + length r.taken) r.inner b.values ∷ [];
+      known = [];
+      state = b.state;
+      coming = rw read at (root_outcome view.reading view.around view.first r.rule r.taken r.inner)
+          ∙ ap (λ t. unfold_tree view.reading view.around 0 t view.first) (sym r.tree_is);
+      rows = row.0;
+      within = omega (arith, row.1);
+      holds = (
+        record {
+          lower = [];
+          code = opened;
+          below = [];
+          own = [];
+          codes_are = refl;
+          parts_are = refl;
+          number = number ∙ ap (λ o. o.rule.number) (sym count.1.2);
+          place = place ∙ ap (λ o. o.place) (sym count.1.2);
+          kept = is_kept;
+          end = end;
+          base = base;
+          are = tt;
+          stands = subst (λ o. Stands view.table s n o 0 (0 + length r.taken) r.inner) (sym count.1.2)
+              (record {
+                kind = 0;
+                is_kind = laws.lawful.start;
+                takes = r.takes;
+                passed = nothing;
+                trees = r.trees;
+                counted = refl;
+                starts = omega arith;
+                behind = [];
+                spelled = sym bytes ∙ ap (λ x. r.taken ++ x) (sym (append-nil (spell_all r.inner)));
+              });
+        },
+        (refl, subst (λ vs. AreAll (view.IsPart new) [] vs) (sym count.0) tt),
+      );
+      keeps = holds;
+      nests = (omega (arith, ap (λ x. length x) bytes, length-append r.taken (spell_all r.inner)), tt);
+      size = sizes_root (view.size old) (view.size new) view.at_begin view.at_close no_node added;
+      reached = 0;
+      before = omega arith;
+      early = λ none. omega arith;
+      paid = paid;
+    }
+  where
+    sizes_root : (size new a b : ℕ) → size ≡ 0 → new ≤ size + a → new + b * 1 ≤ (a + b) * (0 + 1)
+    sizes_root size new a b none added = omega (arith, none, added)
+
+pub root_fails : {N P K V S C : Type 0} (view : View N P K V S C) (tree : Tree) (r : IsRoot view.table tree) (e : Refusal)
+    → Fails e (begun view.reading r.rule r.taken 0 r.inner (record { context = view.around; values = []; state = view.first }))
+    → Fails e (meaning_of view tree)
+root_fails view tree r e fails =
+    fails_carried e (begun view.reading r.rule r.taken 0 r.inner (record { context = view.around; values = []; state = view.first }))
+    (λ b. machine.outcome_of view.reading (machine.frame b.rule (0 + length r.taken) r.inner b.values ∷ []) [] b.state) (meaning_of view tree) fails
+    (root_outcome view.reading view.around view.first r.rule r.taken r.inner ∙ ap (λ t. unfold_tree view.reading view.around 0 t view.first) (sym r.tree_is))
+
+-- ## Rooms
+
+sizes_room : (size more most m n : ℕ) → size + more ≤ most * m → m ≤ n → size + more ≤ most * n
+sizes_room size more most m n few less = omega (arith, few, mul-le most m most n (omega arith) less)
+
+-- the language may close the innermost rule
+pub room_close : {N P K V S C : Type 0} (view : View N P K V S C) (s : List ℕ) (shape : List Row) (whole : Result (Found (List V) S) Refusal)
+    (nodes : N) (next : ℕ) (lower : List (Frame K)) (code : Frame K) (parts : List P) → IsLinking view → FitsSymbol s → length shape ≤ 4 * length s + 4
+    → Innermost view s shape whole nodes next lower code parts → HasRoom view s nodes view.at_close
+room_close view s shape whole nodes next lower code parts laws fits few i = record {
+  fits = fits;
+  size = sizes_room (view.size nodes) view.at_close (at_most view) next (4 * length s + 4) (one_frame (view.size nodes) view.at_close (length lower) (at_most view * next) i.size) (omega (arith, i.within, few));
+  paid = laws.paid_more nodes i.reached (length s)
+      (omega (arith, i.before, stands_end view.table s (length view.reading.rowless) i.top.rule (length i.known) i.top.from i.top.left laws.lawful i.inside.stands)) i.paid;
+}
+  where
+    one_frame : (size b n most : ℕ) → size + b * (n + 1) ≤ most → size + b ≤ most
+    one_frame size b n most few = omega (arith, few)
+
+-- the language may take the next row
+pub room_take : {N P K V S C : Type 0} (view : View N P K V S C) (s : List ℕ) (shape : List Row) (whole : Result (Found (List V) S) Refusal)
+    (nodes : N) (next : ℕ) (lower : List (Frame K)) (code : Frame K) (parts : List P) → IsLinking view → FitsSymbol s → length shape ≤ 4 * length s + 4
+    → Innermost view s shape whole nodes next lower code parts → next < length shape → HasRoom view s nodes (at_most view)
+room_take view s shape whole nodes next lower code parts laws fits few i more = record {
+  fits = fits;
+  size = sizes_room (view.size nodes) (at_most view) (at_most view) (next + 1) (4 * length s + 4) (one_row (view.size nodes) view.at_close (length lower) (at_most view) next i.size) (omega (arith, more, few));
+  paid = laws.paid_more nodes i.reached (length s)
+      (omega (arith, i.before, stands_end view.table s (length view.reading.rowless) i.top.rule (length i.known) i.top.from i.top.left laws.lawful i.inside.stands)) i.paid;
+}
+  where
+    one_row : (size b n most next : ℕ) → size + b * (n + 1) ≤ most * next → size + most ≤ most * (next + 1)
+    one_row size b n most next few = omega (arith, few)
+
+pub room_less : {N P K V S C : Type 0} (view : View N P K V S C) (s : List ℕ) (nodes : N) (most : ℕ) → HasRoom view s nodes (at_most view) → most ≤ at_most view → HasRoom view s nodes most
+room_less view s nodes most room less = record { fits = room.fits; size = omega (arith, room.size, less); paid = room.paid }
+
+-- the language may begin
+pub room_root : {N P K V S C : Type 0} (view : View N P K V S C) (s : List ℕ) (nodes : N) → IsLinking view → FitsSymbol s
+    → view.size nodes ≡ 0 → view.IsPaid nodes 0 → HasRoom view s nodes view.at_begin
+room_root view s nodes laws fits none paid = record {
+  fits = fits;
+  size = few (view.size nodes) view.at_begin view.at_close (length s) none;
+  paid = laws.paid_more nodes 0 (length s) (omega arith) paid;
+}
+  where
+    few : (size a b n : ℕ) → size ≡ 0 → size + a ≤ (a + b) * (4 * n + 4)
+    few size a b n none = omega (arith, none)
+
+-- ## The end
+
+abbrev values_of : {V S : Type 0} → Result (Found (List V) S) Refusal → List V
+values_of (Ok f) = f.value
+values_of (Err e) = []
+
+one_of : {A B V S : Type 0} (b : Result A Refusal) (u : A → Result B Refusal) (c : B → Result (Found V S) Refusal) (known : List V) (state : S)
+    → (b >>= λ x. u x >>= λ y. c y >>= alone) ≡ Ok (found known state) → (v : V) × (known ≡ v ∷ [])
+one_of (Err e) u c known state h = cc
+one_of (Ok x) u c known state h = second (u x) c known state h
+  where
+    third : {V S : Type 0} (r : Result (Found V S) Refusal) (known : List V) (state : S) → (r >>= alone) ≡ Ok (found known state) → (v : V) × (known ≡ v ∷ [])
+    third (Err e) known state h = cc
+    third (Ok f) known state h = (f.value, sym (ap values_of h))
+
+    second : {B V S : Type 0} (m : Result B Refusal) (c : B → Result (Found V S) Refusal) (known : List V) (state : S)
+        → (m >>= λ y. c y >>= alone) ≡ Ok (found known state) → (v : V) × (known ≡ v ∷ [])
+    second (Err e) c known state h = cc
+    second (Ok y) c known state h = third (c y) known state h
+
+-- what a rule means is one value
+pub one_value : {V S C : Type 0} (reading : Reading V S C) (context : C) (first : S) (rule : Rule) (taken : List ℕ) (inner : Forest) (known : List V) (state : S)
+    → unfold_tree reading context 0 (branch rule taken inner) first ≡ Ok (found known state) → (v : V) × (known ≡ v ∷ [])
+one_value reading context first rule taken inner known state h =
+    one_of (reading.begin (standing rule taken 0 context first) inner)
+    (λ begun. unfold_forest reading (standing rule taken 0 context first) [] (0 + length taken) inner begun)
+    (λ inner. reading.close (standing rule taken 0 context first) inner.value inner.state) known state h
+
+-- one value is that of one part
+one_part : {P V : Type 0} (Is : P → V → Type 0) (parts : List P) (v : V) → AreAll Is parts (v ∷ []) → (p : P) × (parts ≡ p ∷ []) × Is p v
+one_part Is (p ∷ []) v are = (p, refl, are.0)
+one_part Is [] v are = absurd are
+one_part Is (p ∷ q ∷ ps) v are = absurd are.1
+
+done_on : {N P K V S C : Type 0} (view : View N P K V S C) (s : List ℕ) (shape : List Row) (tree : Tree) (nodes : N) (next : ℕ) (codes : List (Frame K)) (parts : List P)
+    → IsLinking view → IsRoot view.table tree → (frames : List (machine.Frame V S C)) (known : List V) (state : S) (reached : ℕ)
+    → machine.outcome_of view.reading frames known state ≡ meaning_of view tree → next ≤ length shape
+    → HoldsAll view s nodes frames known 0 next codes parts → view.Holds nodes state
+    → view.size nodes + view.at_close * length codes ≤ at_most view * next → reached ≤ left_from (length s) frames → view.IsPaid nodes reached
+    → codes ≡ [] → IsDone view s shape (meaning_of view tree) nodes parts
+done_on view s shape tree nodes next codes parts laws r [] known state reached coming within (none, are) keeps size before paid no_frame =
+    let one = one_value view.reading view.around view.first r.rule r.taken r.inner known state
+    (ap (λ t. unfold_tree view.reading view.around 0 t view.first) (sym r.tree_is) ∙ sym coming) in
+    let part = one_part (view.IsPart nodes) parts one.0 (subst (λ vs. AreAll (view.IsPart nodes) parts vs) one.1 are) in
+    record {
+      part = part.0;
+      value = one.0;
+      state = state;
+      parts_are = part.1;
+      means = sym coming ∙ ap (λ vs. Ok (found vs state)) one.1;
+      is_part = part.2;
+      holds = keeps;
+      size = omega (arith, size, mul-le (at_most view) next (at_most view) (length shape) (omega arith) within);
+      paid = laws.paid_more nodes reached (length s) before paid;
+    }
+done_on view s shape tree nodes next codes parts laws r (top ∷ frames) known state reached coming within (one, holds) keeps size before paid no_frame =
+    absurd (no_last one.lower one.code (sym no_frame ∙ one.codes_are))
+
+pub done : {N P K V S C : Type 0} (view : View N P K V S C) (s : List ℕ) (shape : List Row) (tree : Tree) (nodes : N) (next : ℕ) (codes : List (Frame K)) (parts : List P)
+    → IsLinking view → IsRoot view.table tree → Follows view s shape (meaning_of view tree) nodes next codes parts → codes ≡ []
+    → IsDone view s shape (meaning_of view tree) nodes parts
+done view s shape tree nodes next codes parts laws r f no_frame =
+    done_on view s shape tree nodes next codes parts laws r f.frames f.known f.state f.reached f.coming f.within f.holds f.keeps f.size f.before f.paid no_frame
+
+-- ## For a language's own linker
+
+-- a fresh driver is on its way to whatever the rows' tree means
+pub driving_starts : {N P K V S C : Type 0} (view : View N P K V S C) (s : List ℕ) (shape : List Row) (tree : Tree) (nodes : N)
+    → view.size nodes ≡ 0 → view.Holds nodes view.first → view.IsPaid nodes 0 → IsDriving view s shape tree nodes 0 None 0 [] []
+driving_starts view s shape tree nodes none holds paid = (
+  inl (record { next_is = refl; no_frame = refl; no_part = refl; no_node = none; holds = holds; paid = paid }),
+  omega arith,
+  omega arith,
+  omega arith,
+)
+
+-- at most two steps a row at every moment, refused or not
+pub driving_few : {N P K V S C : Type 0} (view : View N P K V S C) (s : List ℕ) (shape : List Row) (tree : Tree) (nodes : N) (steps : ℕ) (refused : Option Refusal) (next : ℕ)
+    (codes : List (Frame K)) (parts : List P) → IsDriving view s shape tree nodes steps refused next codes parts → steps ≤ 2 * length shape
+driving_few view s shape tree nodes steps None next codes parts driving = omega (arith, driving.1, driving.2)
+driving_few view s shape tree nodes steps (Some e) next codes parts driving = driving.1

@@ -1,0 +1,75 @@
+use Rattle.std.proofs.Common.{sym, ◌∙◌, ap, arith, length}
+use Rattle.std.proofs.lemmas.Result.{err_from_is_err_and}
+use Rattle.sym_link.specs.Following.{meaning_of}
+use Rattle.sym_link.proofs.Lists.{popped}
+use Rattle.sym_link.proofs.Driving.{begun_way, closing_way, done_way, fresh_way}
+use Rattle.sym_link.proofs.driver.advance.Goals as goal
+
+pub returns-then-next-gt0-clause-moves : goal.returns-then-next-gt0-clause-moves
+returns-then-next-gt0-clause-moves g c tree is way =
+    done_way (g.L.Linking.view c.args.symbol.now) c.args.symbol.now c.args.rows.now tree c.args.language.now c.args.next c.args.frames.now.items c.args.parts.now.items
+    (g.met.L.Linking.laws c.args.symbol.now) is way (sym c.deref.ensures.value ∙ c.in_default.ensures.none) (omega (arith, c.if-next-gt0.true))
+
+pub begin-requires : goal.begin-requires
+begin-requires g c =
+    record {
+      tree = c.requires.tree;
+      is_shape = c.requires.is_shape;
+      fresh = fresh_way (g.L.Linking.view c.args.symbol.now) c.args.symbol.now c.args.rows.now c.requires.tree c.args.language.now c.args.next c.args.frames.now.items c.args.parts.now.items
+          (g.met.L.Linking.laws c.args.symbol.now) c.requires.is_shape c.requires.on_way (sym c.deref.ensures.value ∙ c.in_default.ensures.none) (omega (arith, c.if-next-gt0.false));
+      fits = c.requires.fits;
+    }
+
+pub close-requires : goal.close-requires
+close-requires g c =
+    record {
+      whole = meaning_of (g.L.Linking.view c.args.symbol.now) c.requires.tree;
+      shape = c.args.rows.now;
+      lower = c.in-Some.ensures.some.0;
+      next = c.args.next;
+      follows = closing_way (g.L.Linking.view c.args.symbol.now) c.args.symbol.now c.args.rows.now c.requires.tree c.args.language.now c.args.next c.args.frames.now.items c.in-Some.frame c.args.parts.now.items
+          c.requires.on_way (c.in-Some.ensures.some.0, sym c.deref.ensures.value ∙ c.in-Some.ensures.some.1);
+      ends = c.if-frame-next.true;
+      fits = c.requires.fits;
+    }
+
+pub returns-in_err-close-clause-moves : goal.returns-in_err-close-clause-moves
+returns-in_err-close-clause-moves g c tree is way =
+    let p = err_from_is_err_and c.from_residual-in_err-close.result c.from_residual-in_err-close.ensures.1 in
+    rw (p.1, p.2)
+    (c.in_err-close.ensures (meaning_of (g.L.Linking.view c.args.symbol.now) tree) c.args.rows.now c.in-Some.ensures.some.0 c.args.next
+    (closing_way (g.L.Linking.view c.args.symbol.now) c.args.symbol.now c.args.rows.now tree c.args.language.now c.args.next c.args.frames.now.items c.in-Some.frame c.args.parts.now.items
+    way (c.in-Some.ensures.some.0, sym c.deref.ensures.value ∙ c.in-Some.ensures.some.1)) c.if-frame-next.true)
+
+pub returns-then-frame-next-clause-moves : goal.returns-then-frame-next-clause-moves
+returns-then-frame-next-clause-moves g c tree is way =
+    rw (
+      c.pop.ensures.rest,
+      popped c.args.frames.now.items c.in-Some.ensures.some.0 c.in-Some.frame _ (sym c.deref.ensures.value ∙ c.in-Some.ensures.some.1)
+          (sym c.deref.ensures.len ∙ ap length c.deref.ensures.value),
+    )
+    (c.in_ok-close.ensures (meaning_of (g.L.Linking.view c.args.symbol.now) tree) c.args.rows.now c.in-Some.ensures.some.0 c.args.next
+    (closing_way (g.L.Linking.view c.args.symbol.now) c.args.symbol.now c.args.rows.now tree c.args.language.now c.args.next c.args.frames.now.items c.in-Some.frame c.args.parts.now.items
+    way (c.in-Some.ensures.some.0, sym c.deref.ensures.value ∙ c.in-Some.ensures.some.1)) c.if-frame-next.true)
+
+pub take-requires : goal.take-requires
+take-requires g c =
+    record {
+      whole = meaning_of (g.L.Linking.view c.args.symbol.now) c.requires.tree;
+      follows = begun_way (g.L.Linking.view c.args.symbol.now) c.args.symbol.now c.args.rows.now c.requires.tree c.args.language.now c.args.next c.args.frames.now.items c.in-Some.frame c.args.parts.now.items c.requires.on_way (c.in-Some.ensures.some.0, sym c.deref.ensures.value ∙ c.in-Some.ensures.some.1);
+      last = (c.in-Some.ensures.some.0, sym c.deref.ensures.value ∙ c.in-Some.ensures.some.1);
+      open_still = c.if-frame-next.false;
+      fits = c.requires.fits;
+    }
+
+pub returns-in_err-take-clause-moves : goal.returns-in_err-take-clause-moves
+returns-in_err-take-clause-moves g c tree is way =
+    let p = err_from_is_err_and c.from_residual-in_err-take.result c.from_residual-in_err-take.ensures.1 in
+    rw (p.1, p.2)
+    (c.in_err-take.ensures.follows (meaning_of (g.L.Linking.view c.args.symbol.now) tree)
+    (begun_way (g.L.Linking.view c.args.symbol.now) c.args.symbol.now c.args.rows.now tree c.args.language.now c.args.next c.args.frames.now.items c.in-Some.frame c.args.parts.now.items way (c.in-Some.ensures.some.0, sym c.deref.ensures.value ∙ c.in-Some.ensures.some.1)))
+
+pub returns-clause-moves : goal.returns-clause-moves
+returns-clause-moves g c tree is way =
+    c.in_ok-take.ensures.follows (meaning_of (g.L.Linking.view c.args.symbol.now) tree)
+    (begun_way (g.L.Linking.view c.args.symbol.now) c.args.symbol.now c.args.rows.now tree c.args.language.now c.args.next c.args.frames.now.items c.in-Some.frame c.args.parts.now.items way (c.in-Some.ensures.some.0, sym c.deref.ensures.value ∙ c.in-Some.ensures.some.1))

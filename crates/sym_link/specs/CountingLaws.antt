@@ -1,0 +1,27 @@
+-- The small language keeps to what every language does.
+use Rattle.std.proofs.Common.{◌≡◌, refl, ◌∙◌, ap, arith, ℕ, List, ◌++◌, length, length-append}
+use Rattle.std.proofs.lemmas.List.{get_or_append_left}
+use Rattle.sym_core.specs.declared.NameClass.{NameClass}
+use Rattle.sym_shape.specs.SheetLaws.{lawful_sheet}
+use Rattle.sym_link.specs.declared.counting.Counts.{Counts}
+use Rattle.sym_link.specs.declared.counting.Part.{Part}
+use Rattle.sym_link.specs.declared.counting.Part.TheVariants as parts
+use Rattle.sym_link.specs.Linking.{IsLinking}
+use Rattle.sym_link.specs.Counting.{blank, sheet, IsNumber, counting}
+
+stays : (old new : Counts) (part : Part) (value : ℕ) → (more : List ℕ) × (new.counts.items ≡ old.counts.items ++ more) → IsNumber old part value → IsNumber new part value
+stays old new (parts.Token span) value grows is = is
+stays old new (parts.Node node) value grows is = (
+  omega (arith, is.0, ap (λ xs. length xs) grows.1, length-append old.counts.items grows.0),
+  rw grows.1 (get_or_append_left old.counts.items grows.0 0 node is.0 ∙ is.1),
+)
+
+pub counting_laws : (s : List ℕ) → IsLinking (counting s)
+counting_laws s = record {
+  lawful = lawful_sheet blank sheet NameClass.Rust refl;
+  starts = refl;
+  part_stays = stays;
+  kept_stays = λ old new kept rule grows is. is;
+  paid_more = λ nodes few more le paid. omega (arith, le, paid);
+  keeps_count = λ rule known state. refl;
+}

@@ -1,0 +1,10 @@
+pub mod Reading
+pub mod Unfold
+pub mod Machine
+pub mod Cases
+pub mod Driving
+pub mod Parts
+pub mod Linking
+pub mod Following
+pub mod Counting
+pub mod CountingLaws

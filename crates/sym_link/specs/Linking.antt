@@ -1,0 +1,166 @@
+-- How the nodes that a language makes are what its reading says.
+use Rattle.std.specs.Prelude.{◌≡◌, ℕ, ◌+◌, ◌-◌, ◌*◌, ◌≤◌, List, [], ◌∷◌, ◌++◌, length, take, drop, false, Result, Ok, Err}
+use Rattle.std.specs.Result.{IfOk}
+use Rattle.sym_core.specs.Number.{FitsSymbol}
+use Rattle.sym_core.specs.declared.refusal.Refusal.{Refusal}
+use Rattle.sym_shape.specs.declared.rule.Row.{Row}
+use Rattle.sym_shape.specs.declared.rule.Rule.{Rule}
+use Rattle.sym_shape.specs.Table.{Table, Token}
+use Rattle.sym_shape.specs.Law.{IsLawful}
+use Rattle.sym_shape.specs.Tree.{Forest, branch, token, grown, row_count_all, rows_of_all, spell_all}
+use Rattle.sym_link.specs.declared.language.Frame.{Frame}
+use Rattle.sym_link.specs.Reading.{Found, Open, Next, Reading, ◌>>=◌}
+use Rattle.sym_link.specs.Unfold.{found, standing}
+use Rattle.sym_link.specs.Machine.{passed, ended}
+use Rattle.sym_link.specs.Parts.{skipped, skipped_from, Stands}
+use Rattle.sym_link.specs.Driving.{AreAll, Fails}
+
+-- A language as its code has it. N are the nodes that it makes, P the parts and K what it keeps for an open rule in code;
+-- V are the values, S the states and C the contexts of its reading.
+pub record View (N P K V S C : Type 0) : Type 1 where
+  pub table : Table
+  pub reading : Reading V S C
+  -- the context around a whole symbol, and the state in front of it
+  pub around : C
+  pub first : S
+  -- for which value a part stands, to which open rule what is kept belongs, and which state the language has
+  pub IsPart : N → P → V → Type 0
+  pub IsKept : N → K → Open S C → Type 0
+  pub Holds : N → S → Type 0
+  -- the new nodes are the old ones and more
+  pub Grows : (old new : N) → Type 0
+  -- how many nodes there are, and how many a rule may add at most where it begins and where it closes
+  pub size : N → ℕ
+  pub at_begin : ℕ
+  pub at_close : ℕ
+  -- what the language has written beside the nodes is paid for by so many bytes of the symbol
+  pub IsPaid : N → (bytes : ℕ) → Type 0
+
+-- how many nodes a row may add
+abbrev pub at_most : {N P K V S C : Type 0} → View N P K V S C → ℕ
+at_most view = view.at_begin + view.at_close
+
+-- what every language keeps to
+pub record IsLinking {N P K V S C : Type 0} (view : View N P K V S C) : Type 0 where
+  pub lawful : IsLawful view.table
+  -- a symbol has a row
+  pub starts : view.table.may_be_empty 0 ≡ false
+  -- what stood for something stands for it still
+  pub part_stays : (old new : N) (part : P) (value : V) → view.Grows old new → view.IsPart old part value → view.IsPart new part value
+  pub kept_stays : (old new : N) (kept : K) (rule : Open S C) → view.Grows old new → view.IsKept old kept rule → view.IsKept new kept rule
+  -- what some bytes pay for, more bytes pay for
+  pub paid_more : (nodes : N) (few more : ℕ) → few ≤ more → view.IsPaid nodes few → view.IsPaid nodes more
+  -- as many values go into a part as were known
+  pub keeps_count : (rule : Open S C) (known : List V) (state : S)
+      → IfOk (view.reading.between rule known state) (λ next. length next.values ≡ length known)
+
+-- the symbol can be read, and the language may add so many nodes
+pub record HasRoom {N P K V S C : Type 0} (view : View N P K V S C) (s : List ℕ) (nodes : N) (more : ℕ) : Type 0 where
+  pub fits : FitsSymbol s
+  pub size : view.size nodes + more ≤ at_most view * (4 * length s + 4)
+  pub paid : view.IsPaid nodes (length s)
+
+-- The frame of code is that of an open rule of the symbol: so many values are known, and `left` are the parts that are left.
+pub record IsInside {N P K V S C : Type 0} (view : View N P K V S C) (s : List ℕ) (nodes : N) (frame : Frame K) (own : List P)
+    (rule : Open S C) (known : List V) (from : ℕ) (left : Forest) (state : S) : Type 0 where
+  pub number : frame.rule ≡ rule.rule.number
+  pub place : frame.place ≡ rule.place
+  pub kept : view.IsKept nodes frame.kept rule
+  pub parts : AreAll (view.IsPart nodes) own known
+  pub holds : view.Holds nodes state
+  pub stands : Stands view.table s (length view.reading.rowless) rule (length known) from left
+
+-- the row is that of a rule at a place, and the rows of its parts are behind it
+pub record IsRuleRow (rows : List Row) (row : Row) (rule : Rule) (taken : List ℕ) (parts : Forest) (place : ℕ) : Type 0 where
+  pub number : ℕ
+  pub more : List Row
+  pub rows_are : drop number rows ≡ row ∷ (rows_of_all parts (place + length taken) (number + 1) ++ more)
+  pub rule_is : row.rule ≡ rule.number
+  pub from : row.from ≡ place
+  pub to : row.to ≡ place + length (taken ++ spell_all parts)
+  pub end : row.end ≡ number + 1 + row_count_all parts
+
+-- the row is that of a token at a place
+pub record IsTokenRow (s : List ℕ) (row : Row) (t : Token) (place : ℕ) : Type 0 where
+  pub from : row.from ≡ place + length t.before
+  pub to : row.to ≡ row.from + length t.own
+  pub own : take (row.to - row.from) (drop row.from s) ≡ t.own
+
+-- what goes into the next part that has a row
+abbrev pub next_of : {V S C : Type 0} → Reading V S C → Open S C → (known : List V) → (from : ℕ) → (left : Forest) → S → Result (Next V S C) Refusal
+next_of reading rule known from left state = passed reading rule known from left state >>= λ p. reading.between rule p.known p.state
+
+-- a rule that has begun, the values of the rule around it, and the state in which its parts begin
+pub record Begun (V S C : Type 0) : Type 0 where
+  pub rule : Open S C
+  pub values : List V
+  pub state : S
+
+-- a rule begins, behind these values of the rule around it
+abbrev pub begun : {V S C : Type 0} → Reading V S C → Rule → (taken : List ℕ) → (place : ℕ) → (parts : Forest) → Next V S C → Result (Begun V S C) Refusal
+begun reading rule taken place parts next =
+    reading.begin (standing rule taken place next.context next.state) parts
+    >>= λ state. Ok (record { rule = standing rule taken place next.context next.state; values = next.values; state = state })
+
+-- a token behind these values
+abbrev pub taken_in : {V S C : Type 0} → Reading V S C → Token → (place : ℕ) → Next V S C → Result (Found (List V) S) Refusal
+taken_in reading t place next = reading.token place t next.state >>= λ one. Ok (found (next.values ++ one.value ∷ []) one.state)
+
+-- what is kept belongs to the rule that begins, and the parts behind the lower ones are those of the rule around it
+abbrev pub Begins : {N P K V S C : Type 0} → View N P K V S C → (nodes : N) → (lower parts : List P) → Result K Refusal → Result (Begun V S C) Refusal → Type 0
+Begins {P = P} {V = V} {S = S} {C = C} view nodes lower parts (Ok kept) read =
+    (begun : Begun V S C) × (read ≡ Ok begun) × view.IsKept nodes kept begun.rule × view.Holds nodes begun.state
+    × (own : List P) × (parts ≡ lower ++ own) × AreAll (view.IsPart nodes) own begun.values
+Begins view nodes lower parts (Err e) read = Fails e read
+
+-- the parts behind the lower ones stand for what is read
+abbrev pub Takes : {N P K V S C : Type 0} → View N P K V S C → (nodes : N) → (lower parts : List P) → Result (Unit {0}) Refusal → Result (Found (List V) S) Refusal → Type 0
+Takes {P = P} {V = V} {S = S} view nodes lower parts (Ok done) read =
+    (known : List V) × (state : S) × (read ≡ Ok (found known state)) × view.Holds nodes state
+    × (own : List P) × (parts ≡ lower ++ own) × AreAll (view.IsPart nodes) own known
+Takes view nodes lower parts (Err e) read = Fails e read
+
+-- the part stands for what is read
+abbrev pub Gives : {N P K V S C : Type 0} → View N P K V S C → (nodes : N) → Result P Refusal → Result (Found V S) Refusal → Type 0
+Gives {V = V} {S = S} view nodes (Ok part) read =
+    (value : V) × (state : S) × (read ≡ Ok (found value state)) × view.IsPart nodes part value × view.Holds nodes state
+Gives view nodes (Err e) read = Fails e read
+
+-- The rule of a whole symbol begins as the reading says.
+abbrev pub OpensRoot : {N P K V S C : Type 0} → View N P K V S C → (s : List ℕ) → (rows : List Row) → (old new : N) → Row → Result K Refusal → Type 0
+OpensRoot view s rows old new row result =
+    (rule : Rule) (taken : List ℕ) (parts : Forest) → IsRuleRow rows row rule taken parts 0 → view.Holds old view.first
+    → Begins view new [] [] result (begun view.reading rule taken 0 parts (record { context = view.around; values = []; state = view.first }))
+
+-- A rule begins in the rule of the frame, behind these parts, as the reading says.
+abbrev pub Opens : {N P K V S C : Type 0} → View N P K V S C → (s : List ℕ) → (rows : List Row) → (old new : N) → Frame K → (parts new_parts : List P) → Row → Result K Refusal → Type 0
+Opens {V = V} {S = S} {C = C} view s rows old new frame parts new_parts row result =
+    (around : Open S C) (known : List V) (from : ℕ) (left : Forest) (state : S) (rule : Rule) (taken : List ℕ) (inner rest : Forest)
+    → IsInside view s old frame (drop frame.base parts) around known from left state
+    → skipped left ≡ grown (branch rule taken inner) rest → IsRuleRow rows row rule taken inner (skipped_from from left)
+    → Begins view new (take frame.base parts) new_parts result
+    (next_of view.reading around known from left state >>= begun view.reading rule taken (skipped_from from left) inner)
+
+-- A token is taken in the rule of the frame, behind these parts, as the reading says.
+abbrev pub TakesToken : {N P K V S C : Type 0} → View N P K V S C → (s : List ℕ) → (old new : N) → Frame K → (parts new_parts : List P) → Row → Result (Unit {0}) Refusal → Type 0
+TakesToken {V = V} {S = S} {C = C} view s old new frame parts new_parts row result =
+    (around : Open S C) (known : List V) (from : ℕ) (left : Forest) (state : S) (t : Token) (rest : Forest)
+    → IsInside view s old frame (drop frame.base parts) around known from left state
+    → skipped left ≡ grown (token t) rest → IsTokenRow s row t (skipped_from from left)
+    → Takes view new (take frame.base parts) new_parts result
+    (next_of view.reading around known from left state >>= taken_in view.reading t (skipped_from from left))
+
+-- The rule of the frame closes over these parts as the reading says.
+abbrev pub ClosesRule : {N P K V S C : Type 0} → View N P K V S C → (s : List ℕ) → (old new : N) → Frame K → (own : List P) → Result P Refusal → Type 0
+ClosesRule {V = V} {S = S} {C = C} view s old new frame own result =
+    (rule : Open S C) (known : List V) (from : ℕ) (left : Forest) (state : S)
+    → IsInside view s old frame own rule known from left state → row_count_all left ≡ 0
+    → Gives view new result (ended view.reading rule known from left state)
+
+-- The nodes are the old ones and at most so many more.
+abbrev pub Adds : {N P K V S C : Type 0} → View N P K V S C → (old new : N) → (most : ℕ) → Type 0
+Adds view old new most = view.Grows old new × (view.size new ≤ view.size old + most)
+
+-- Where bytes up to a place have paid so far, bytes up to the new place pay now.
+abbrev pub Pays : {N P K V S C : Type 0} → View N P K V S C → (old new : N) → (at to : ℕ) → Type 0
+Pays view old new at to = view.IsPaid old at → view.IsPaid new to

@@ -1,0 +1,311 @@
+// A machine over the rows of a shape, for any language.
+
+ghost use Rattle.std.specs.Prelude.{◌≡◌, ◌≢◌, ℕ, ◌+◌, ◌*◌, ◌<◌, ◌≤◌, ◌++◌, ◌∷◌, [], List, length, Ok, Err, Some, None, true, Result, IfSome, IfNone, IfErr, OnOk};
+ghost use Rattle.sym_shape.specs.Tree.{Tree};
+ghost use Rattle.sym_link.specs.Reading.{Found};
+ghost use Rattle.sym_link.specs.Following.{IsShape, Follows, FollowsAfter, EndsWith, CanClose, CanSettle, CanTake, CanBegin, CanMove, IsOnWay, Moves, CountsMove, Fits, IsDriving, IsStepTo, IsDone, meaning_of};
+
+use crate::language::{Frame, Linking};
+use std::alloc::Global;
+use sym_core::Refusal;
+use sym_shape::rule::{Row, TOKEN};
+
+/// The frame of the rule that is open innermost.
+fn innermost<K: Copy>(frames: &[Frame<K>]) -> Option<Frame<K>>
+    ensures some { IfSome result (EndsWith frames.now) }
+    ensures none { IfNone result (frames.now ≡ []) }
+{
+    match frames {
+        [.., last] => Some(*last),
+        [] => None,
+    }
+}
+
+/// Closes the innermost rule, whose frame was taken off: what it means takes the place of its parts.
+fn close<L: Linking>(
+    language: &mut L,
+    symbol: &[u8],
+    frame: Frame<L::Kept>,
+    parts: &mut Vec<L::Part>,
+) -> Result<(), Refusal>
+    requires { CanClose (L.view symbol.now) symbol.now language.old frame parts.old.items }
+    ensures { (whole : Result (Found (List L.Value) L.State) Refusal) (shape : List Row) (lower : List (Frame L.Kept)) (next : ℕ)
+        → Follows (L.view symbol.now) symbol.now shape whole language.old next (lower ++ frame ∷ []) parts.old.items → frame.end ≡ next
+        → FollowsAfter (L.view symbol.now) symbol.now shape whole language.new next lower parts.new.items result }
+{
+    let part = language.close(symbol, frame, &parts[frame.base..])?;
+    parts.truncate(frame.base);
+    parts.push(part)?;
+    Ok(())
+}
+
+/// Puts the frame of a rule that has begun on the others, or closes the rule at once if it has no row left.
+fn settle<L: Linking>(
+    language: &mut L,
+    symbol: &[u8],
+    next: u32,
+    frames: &mut Vec<Frame<L::Kept>>,
+    parts: &mut Vec<L::Part>,
+    frame: Frame<L::Kept>,
+) -> Result<(), Refusal>
+    requires { CanSettle (L.view symbol.now) symbol.now language.old next frames.old.items frame parts.old.items }
+    ensures follows { (whole : Result (Found (List L.Value) L.State) Refusal) (shape : List Row)
+        → Follows (L.view symbol.now) symbol.now shape whole language.old next (frames.old.items ++ frame ∷ []) parts.old.items
+        → FollowsAfter (L.view symbol.now) symbol.now shape whole language.new next frames.new.items parts.new.items result }
+    ensures count { length frames.new.items ≤ length frames.old.items + 1 }
+{
+    if frame.end == next {
+        return close(language, symbol, frame, parts);
+    }
+    frames.push(frame)?;
+    Ok(())
+}
+
+/// Takes the row of a token or a rule, which stands in the innermost rule.
+fn take<L: Linking>(
+    language: &mut L,
+    symbol: &[u8],
+    rows: &[Row],
+    next: u32,
+    frames: &mut Vec<Frame<L::Kept>>,
+    parts: &mut Vec<L::Part>,
+    frame: Frame<L::Kept>,
+) -> Result<(), Refusal>
+    requires { CanTake (L.view symbol.now) symbol.now rows.now language.old next frames.old.items frame parts.old.items }
+    ensures follows { (whole : Result (Found (List L.Value) L.State) Refusal)
+        → Follows (L.view symbol.now) symbol.now rows.now whole language.old next frames.old.items parts.old.items
+        → FollowsAfter (L.view symbol.now) symbol.now rows.now whole language.new (next + 1) frames.new.items parts.new.items result }
+    ensures count { length frames.new.items ≤ length frames.old.items + 1 }
+    ensures more { next < length rows.now }
+{
+    let row = rows[next as usize];
+    if row.rule == TOKEN {
+        return language.token(symbol, frame, parts, row);
+    }
+    let kept = language.enter(symbol, rows, frame, parts, row)?;
+    let opened = Frame {
+        rule: row.rule,
+        place: row.from,
+        end: row.end,
+        base: parts.len(),
+        kept,
+    };
+    settle(language, symbol, next + 1, frames, parts, opened)
+}
+
+/// Takes the first row.
+fn begin<L: Linking>(
+    language: &mut L,
+    symbol: &[u8],
+    rows: &[Row],
+    frames: &mut Vec<Frame<L::Kept>>,
+    parts: &mut Vec<L::Part>,
+) -> Result<(), Refusal>
+    requires { CanBegin (L.view symbol.now) symbol.now rows.now language.old 0 frames.old.items parts.old.items }
+    ensures follows { (tree : Tree) → IsShape (L.view symbol.now).table symbol.now rows.now tree
+        → FollowsAfter (L.view symbol.now) symbol.now rows.now (meaning_of (L.view symbol.now) tree) language.new 1 frames.new.items parts.new.items result }
+    ensures count { length frames.new.items ≤ 1 }
+    ensures more { 0 < length rows.now }
+{
+    let row = rows[0];
+    let kept = language.root(symbol, rows, row)?;
+    let opened = Frame {
+        rule: row.rule,
+        place: row.from,
+        end: row.end,
+        base: 0,
+        kept,
+    };
+    settle(language, symbol, 1, frames, parts, opened)
+}
+
+/// Takes the next row, or closes the innermost rule behind its last row. It answers the number of the next row, or none
+/// where nothing is left to do.
+fn advance<L: Linking>(
+    language: &mut L,
+    symbol: &[u8],
+    rows: &[Row],
+    next: u32,
+    frames: &mut Vec<Frame<L::Kept>>,
+    parts: &mut Vec<L::Part>,
+) -> Result<Option<u32>, Refusal>
+    requires { CanMove (L.view symbol.now) symbol.now rows.now language.old next frames.old.items parts.old.items }
+    ensures moves { (tree : Tree) → IsShape (L.view symbol.now).table symbol.now rows.now tree
+        → IsOnWay (L.view symbol.now) symbol.now rows.now tree language.old next frames.old.items parts.old.items
+        → Moves (L.view symbol.now) symbol.now rows.now tree language.new frames.new.items parts.new.items result }
+    ensures counts { CountsMove (length rows.now) next (length frames.old.items) (length frames.new.items) result }
+    ensures language { result ≡ Ok None → language.new ≡ language.old }
+    ensures frames { result ≡ Ok None → frames.new.items ≡ frames.old.items }
+    ensures parts { result ≡ Ok None → parts.new.items ≡ parts.old.items }
+{
+    let Some(frame) = innermost(frames) else {
+        if next > 0 {
+            return Ok(None);
+        }
+        begin(language, symbol, rows, frames, parts)?;
+        return Ok(Some(1));
+    };
+    if frame.end == next {
+        frames.pop();
+        close(language, symbol, frame, parts)?;
+        return Ok(Some(next));
+    }
+    take(language, symbol, rows, next, frames, parts, frame)?;
+    Ok(Some(next + 1))
+}
+
+/// The open rules and the parts of a symbol that is being linked. Its lists can be kept from symbol to symbol.
+#[derive(Drop)]
+pub struct Driver<L: Linking> {
+    pub frames: Vec<Frame<L::Kept>>,
+    pub parts: Vec<L::Part>,
+    pub next: u32,
+    pub steps: u32,
+    pub refused: Option<Refusal>,
+}
+
+impl<L: Linking> Driver<L> {
+    /// A driver in front of the first row.
+    pub fn new(alloc: Global) -> Driver<L>
+        ensures frames { result.frames.items ≡ [] }
+        ensures parts { result.parts.items ≡ [] }
+        ensures next { result.next ≡ 0 }
+        ensures steps { result.steps ≡ 0 }
+        ensures refused { result.refused ≡ None }
+    {
+        Driver {
+            frames: Vec::new(alloc),
+            parts: Vec::new(alloc),
+            next: 0,
+            steps: 0,
+            refused: None,
+        }
+    }
+
+    /// Forgets the symbol, and keeps the lists for the next one.
+    pub fn reset(&mut self)
+        ensures frames { self.new.frames.items ≡ [] }
+        ensures parts { self.new.parts.items ≡ [] }
+        ensures next { self.new.next ≡ 0 }
+        ensures steps { self.new.steps ≡ 0 }
+        ensures refused { self.new.refused ≡ None }
+    {
+        self.frames.clear();
+        self.parts.clear();
+        self.next = 0;
+        self.steps = 0;
+        self.refused = None;
+    }
+
+    /// How many steps were taken.
+    pub fn steps(&self) -> u32
+        ensures { result ≡ self.now.steps }
+    {
+        self.steps
+    }
+
+    /// Keeps a refusal, and the count of steps with the one that was refused.
+    fn refuse(&mut self, steps: u32, refusal: Refusal)
+        ensures frames { self.new.frames.items ≡ self.old.frames.items }
+        ensures parts { self.new.parts.items ≡ self.old.parts.items }
+        ensures next { self.new.next ≡ self.old.next }
+        ensures steps { self.new.steps ≡ steps }
+        ensures refused { self.new.refused ≡ Some refusal }
+    {
+        self.steps = steps;
+        self.refused = Some(refusal);
+    }
+
+    /// Takes the next row or closes the innermost rule, which is counted. It answers whether nothing was left to do, and then does nothing and counts nothing.
+    /// A refusal is kept, and answered again.
+    pub fn step(&mut self, language: &mut L, symbol: &[u8], rows: &[Row]) -> Result<bool, Refusal>
+        requires fits { Fits symbol.now rows.now }
+        requires driving { (tree : Tree) × IsShape (L.view symbol.now).table symbol.now rows.now tree
+            × IsDriving (L.view symbol.now) symbol.now rows.now tree language.old self.old.steps self.old.refused self.old.next self.old.frames.items self.old.parts.items }
+        ensures driving { (tree : Tree) → IsShape (L.view symbol.now).table symbol.now rows.now tree
+            → IsDriving (L.view symbol.now) symbol.now rows.now tree language.old self.old.steps self.old.refused self.old.next self.old.frames.items self.old.parts.items
+            → IsDriving (L.view symbol.now) symbol.now rows.now tree language.new self.new.steps self.new.refused self.new.next self.new.frames.items self.new.parts.items }
+        ensures answers { (tree : Tree) → IsShape (L.view symbol.now).table symbol.now rows.now tree
+            → IsDriving (L.view symbol.now) symbol.now rows.now tree language.old self.old.steps self.old.refused self.old.next self.old.frames.items self.old.parts.items
+            → IsStepTo (L.view symbol.now) symbol.now rows.now tree language.new self.old.steps self.new.steps self.old.refused self.new.refused self.new.parts.items result }
+        ensures language { result ≡ Ok true → language.new ≡ language.old }
+        ensures frames { result ≡ Ok true → self.new.frames.items ≡ self.old.frames.items }
+        ensures parts { result ≡ Ok true → self.new.parts.items ≡ self.old.parts.items }
+        ensures next { result ≡ Ok true → self.new.next ≡ self.old.next }
+    {
+        if let Some(refusal) = self.refused {
+            return Err(refusal);
+        }
+        let counted = self.steps + 1;
+        let moved = advance(
+            language,
+            symbol,
+            rows,
+            self.next,
+            &mut self.frames,
+            &mut self.parts,
+        );
+        match moved {
+            Ok(behind) => match behind {
+                Some(next) => {
+                    self.next = next;
+                    self.steps = counted;
+                    Ok(false)
+                }
+                None => Ok(true),
+            },
+            Err(refusal) => {
+                self.refuse(counted, refusal);
+                Err(refusal)
+            }
+        }
+    }
+
+    /// Steps until nothing is left to do, with the same outcome and count as one step after the other.
+    pub fn run(&mut self, language: &mut L, symbol: &[u8], rows: &[Row]) -> Result<(), Refusal>
+        requires fits { Fits symbol.now rows.now }
+        requires driving { (tree : Tree) × IsShape (L.view symbol.now).table symbol.now rows.now tree
+            × IsDriving (L.view symbol.now) symbol.now rows.now tree language.old self.old.steps self.old.refused self.old.next self.old.frames.items self.old.parts.items }
+        ensures driving { (tree : Tree) → IsShape (L.view symbol.now).table symbol.now rows.now tree
+            → IsDriving (L.view symbol.now) symbol.now rows.now tree language.old self.old.steps self.old.refused self.old.next self.old.frames.items self.old.parts.items
+            → IsDriving (L.view symbol.now) symbol.now rows.now tree language.new self.new.steps self.new.refused self.new.next self.new.frames.items self.new.parts.items }
+        ensures done { (tree : Tree) → IsShape (L.view symbol.now).table symbol.now rows.now tree
+            → IsDriving (L.view symbol.now) symbol.now rows.now tree language.old self.old.steps self.old.refused self.old.next self.old.frames.items self.old.parts.items
+            → OnOk result (IsDone (L.view symbol.now) symbol.now rows.now (meaning_of (L.view symbol.now) tree) language.new self.new.parts.items) }
+        ensures open { OnOk result (self.new.refused ≡ None) }
+        ensures kept { IfErr result (λ refusal. self.new.refused ≡ Some refusal) }
+    {
+        if let Some(refusal) = self.refused {
+            return Err(refusal);
+        }
+        let mut next = self.next;
+        let mut steps = self.steps;
+        'moves: loop {
+            let moved = advance(
+                language,
+                symbol,
+                rows,
+                next,
+                &mut self.frames,
+                &mut self.parts,
+            );
+            match moved {
+                Ok(behind) => match behind {
+                    Some(place) => {
+                        next = place;
+                        steps += 1;
+                    }
+                    None => {
+                        self.next = next;
+                        self.steps = steps;
+                        return Ok(());
+                    }
+                },
+                Err(refusal) => {
+                    self.refuse(steps + 1, refusal);
+                    return Err(refusal);
+                }
+            }
+        }
+    }
+}

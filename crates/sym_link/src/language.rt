@@ -1,0 +1,113 @@
+// What a language tells the driver.
+//
+// A language has a reading (`specs/Reading.antt`), which says what a tree means with no word of rows, frames or nodes. The
+// driver goes over the rows, and the language makes nodes at four moments: the root begins, a rule begins in another
+// one, a token is taken, and a rule closes. An instance gives a `view` (`specs/Linking.antt`), and shows of each moment
+// (`opens`, `takes`, `closes`): if the frame, the parts behind `frame.base` and the nodes stand for an open rule of the
+// reading, for the values of its parts so far and for the state, then behind the call they stand for what the reading
+// says, or the refusal is the reading's. A refusal for want of memory says nothing.
+//
+// - The premises of a moment are one record, `IsInside`. A language that gives no value to parts without a row uses of it
+//   `kept`, `parts`, `holds` and `place` alone. Where the language is one by meaning (`specs/Cases.antt`), `plain_next` and
+//   `plain_ended` in `proofs/Cases.antt` bring the reading's side to what the next part goes into, and to what the rule means.
+//   `stands` says which rule of the grammar it is and which parts it has passed, for a language that wants to know.
+// - `adds`: the nodes are the old ones and at most so many more. `Grows` is what must be kept, so that parts and frames stand
+//   for what they stood for (the laws `part_stays`, `kept_stays`).
+// - `pays`: what the language writes beside its nodes is paid for by bytes of the symbol. Bytes up to `at` have paid so far,
+//   where `at` is a place that no row so far lies behind. A token pays with the bytes up to its end; as the first part with a
+//   row of its rule (then the frame has no parts, if parts without a row have no value) with those from the rule's place on.
+//   In front of each call the bytes of the whole symbol have paid (`room`), so `IsPaid` may hold other invariants, too.
+// - `laws`: see `IsLinking`.
+//
+// An impl writes the clauses of its methods out, with its own view in the place of `view`.
+
+ghost use Rattle.std.specs.Prelude.{◌≡◌, ℕ, ◌+◌, ◌<◌, ◌≤◌, [], List, length, take, drop, OnOk};
+ghost use Rattle.sym_link.specs.Linking.{View, IsLinking, HasRoom, OpensRoot, Opens, TakesToken, ClosesRule, Adds, Pays, at_most};
+
+use sym_core::Refusal;
+use sym_shape::rule::Row;
+
+/// A rule that is open: its number and place, the row behind it, where its parts begin, and what the language keeps for it.
+#[derive(Clone, Copy, Debug, PartialEq, Eq)]
+pub struct Frame<K> {
+    pub rule: u16,
+    pub place: u32,
+    pub end: u32,
+    pub base: usize,
+    pub kept: K,
+}
+
+/// A language over the nodes that it has made so far.
+pub trait Linking {
+    /// What a part of a symbol stands for, in terms of nodes.
+    type Part: Copy;
+
+    /// What the language keeps for an open rule.
+    type Kept: Copy;
+
+    ghost Value: { Type 0 };
+
+    ghost State: { Type 0 };
+
+    ghost Context: { Type 0 };
+
+    /// How the nodes are what the language's reading says, in a symbol.
+    ghost view: { List ℕ → View Self Self.Part Self.Kept Value State Context };
+
+    /// The rule of the whole symbol begins.
+    fn root(&mut self, symbol: &[u8], rows: &[Row], row: Row) -> Result<Self::Kept, Refusal>
+        requires room { HasRoom (view symbol.now) symbol.now self.old (view symbol.now).at_begin }
+        requires end { row.end ≤ length rows.now }
+        ensures opens { OpensRoot (view symbol.now) symbol.now rows.now self.old self.new row result }
+        ensures adds { OnOk result (Adds (view symbol.now) self.old self.new (view symbol.now).at_begin) }
+        ensures pays { OnOk result (Pays (view symbol.now) self.old self.new 0 0) };
+
+    /// A rule begins in the rule of the frame.
+    fn enter(
+        &mut self,
+        symbol: &[u8],
+        rows: &[Row],
+        frame: Frame<Self::Kept>,
+        parts: &mut Vec<Self::Part>,
+        row: Row,
+    ) -> Result<Self::Kept, Refusal>
+        requires room { HasRoom (view symbol.now) symbol.now self.old (view symbol.now).at_begin }
+        requires base { frame.base ≤ length parts.old.items }
+        requires place { row.from < length symbol.now }
+        requires end { row.end ≤ length rows.now }
+        ensures opens { Opens (view symbol.now) symbol.now rows.now self.old self.new frame parts.old.items parts.new.items row result }
+        ensures adds { OnOk result (Adds (view symbol.now) self.old self.new (view symbol.now).at_begin) }
+        ensures pays { OnOk result ((at : ℕ) → at ≤ row.from → Pays (view symbol.now) self.old self.new at row.from) };
+
+    /// A token is taken in the rule of the frame.
+    fn token(
+        &mut self,
+        symbol: &[u8],
+        frame: Frame<Self::Kept>,
+        parts: &mut Vec<Self::Part>,
+        row: Row,
+    ) -> Result<(), Refusal>
+        requires room { HasRoom (view symbol.now) symbol.now self.old (at_most (view symbol.now)) }
+        requires base { frame.base ≤ length parts.old.items }
+        requires from { row.from ≤ row.to }
+        requires to { row.to ≤ length symbol.now }
+        ensures takes { TakesToken (view symbol.now) symbol.now self.old self.new frame parts.old.items parts.new.items row result }
+        ensures adds { OnOk result (Adds (view symbol.now) self.old self.new (at_most (view symbol.now))) }
+        ensures pays { OnOk result ((at : ℕ) → at ≤ row.from → (length parts.old.items ≡ frame.base → at ≤ frame.place)
+            → Pays (view symbol.now) self.old self.new at row.to) };
+
+    /// What the rule of the frame means, whose parts are these.
+    fn close(
+        &mut self,
+        symbol: &[u8],
+        frame: Frame<Self::Kept>,
+        parts: &[Self::Part],
+    ) -> Result<Self::Part, Refusal>
+        requires room { HasRoom (view symbol.now) symbol.now self.old (view symbol.now).at_close }
+        requires place { frame.place < length symbol.now }
+        ensures closes { ClosesRule (view symbol.now) symbol.now self.old self.new frame parts.now result }
+        ensures adds { OnOk result (Adds (view symbol.now) self.old self.new (view symbol.now).at_close) }
+        ensures pays { OnOk result ((at : ℕ) → Pays (view symbol.now) self.old self.new at at) };
+
+    ghost laws: { (s : List ℕ) → IsLinking (view s) };
+}
