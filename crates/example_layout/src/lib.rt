@@ -1,0 +1,101 @@
+//! A table of nodes that share their parts, printed as the tree that it stands for.
+#![tactic(auto)]
+
+ghost use Rattle.std.specs.Prelude.{◌≡◌, ℕ, ◌+◌, ◌<◌, ◌≤◌, length, [], IfOk, IfErr};
+ghost use Rattle.std.specs.List.{All};
+ghost use Rattle.example_layout.specs.Dag.{IsLinked, doubled};
+ghost use Rattle.sym_core.specs.declared.Refusal.{Refusal};
+
+use arrayvec::ArrayVec;
+use std::alloc::Global;
+use sym_core::Refusal;
+use sym_print::{Item, Layout, Part};
+
+#[cfg(test)]
+mod tests;
+
+/// A leaf with its byte, or a pair of earlier nodes.
+#[derive(Clone, Copy)]
+pub enum Node {
+    Leaf(u8),
+    Pair(u32, u32),
+}
+
+/// A table of nodes, of which the last stands for the others. It can be printed where the parts of each stand before it.
+#[derive(Drop)]
+pub struct Dag {
+    pub nodes: Vec<Node>,
+}
+
+impl Dag {
+    /// A leaf, and so many pairs above it, each of the node before it twice.
+    ///
+    /// Errors: `Memory`.
+    pub fn doubling(alloc: Global, levels: u32) -> Result<Dag, Refusal>
+        requires { levels < 4294967295 }
+        ensures ok { IfOk result (λ dag. dag.nodes.items ≡ doubled levels) }
+        ensures linked { IfOk result (λ dag. IsLinked 0 dag.nodes.items) }
+        ensures len { IfOk result (λ dag. length dag.nodes.items ≡ levels + 1) }
+        ensures err { IfErr result (λ refusal. refusal ≡ Refusal.Memory) }
+    {
+        let mut nodes = Vec::new(alloc);
+        nodes.push(Node::Leaf(b'x'))?;
+        let mut below = 0;
+        while below < levels {
+            nodes.push(Node::Pair(below, below))?;
+            below += 1;
+        }
+        Ok(Dag { nodes })
+    }
+}
+
+impl Layout for Dag {
+    type Ctx = bool;
+
+    ghost use Rattle.std.proofs.Common.{lit≤};
+    ghost use Rattle.example_layout.specs.Dag.{MayCome, item_of, bytes_of, parts_of, rank};
+    ghost use Rattle.sym_print.specs.Unfold.{printed};
+    ghost use Rattle.sym_print.specs.Joined.{joined};
+
+    ghost may_come = { λ y part. IsLinked 0 y.nodes.items × MayCome y.nodes.items part };
+
+    ghost unshared = { λ y item. printed parts_of rank (item_of y.nodes.items item) };
+
+    ghost bytes_of = { λ _ part. bytes_of part };
+
+    fn fill(&self, item: Item<bool>, parts: &mut ArrayVec<Part<bool>, 8>)
+        requires may_come { IsLinked 0 self.now.nodes.items × MayCome self.now.nodes.items (Part.Sub item) }
+        requires empty { parts.old.items ≡ [] }
+        ensures parts { printed parts_of rank (item_of self.now.nodes.items item) ≡ joined (λ item. printed parts_of rank (item_of self.now.nodes.items item)) bytes_of parts.new.items }
+        ensures may_come { All (λ part. IsLinked 0 self.now.nodes.items × MayCome self.now.nodes.items part) parts.new.items }
+    {
+        match self.nodes[item.node as usize] {
+            Node::Leaf(byte) => parts.push(Part::Own([byte; 24], 1)),
+            Node::Pair(left, right) => {
+                parts.push(Part::Sub(Item {
+                    node: left,
+                    form: 0,
+                    at: 0,
+                    ctx: false,
+                }));
+                parts.push(Part::Fixed(if item.ctx { 1 } else { 0 }));
+                parts.push(Part::Sub(Item {
+                    node: right,
+                    form: 0,
+                    at: 0,
+                    ctx: true,
+                }));
+            }
+        }
+    }
+
+    fn bytes<'a>(&'a self, part: &'a Part<bool>) -> &'a [u8] {
+        match part {
+            Part::Own(bytes, count) => &bytes[..*count as usize],
+            Part::Fixed(0) => b",",
+            _ => b";",
+        }
+    }
+
+    ghost small_context = { (lit≤ tt, lit≤ tt) };
+}

@@ -1,0 +1,7 @@
+pub mod Answering
+pub mod Bounds
+pub mod Building
+pub mod Leading
+pub mod Room
+pub mod Stack
+pub mod Unfolding

@@ -1,0 +1,191 @@
+-- What the work stack prints and costs, before and after one step.
+use Rattle.std.proofs.Common.{◌≡◌, ℕ, suc, ◌+◌, ◌-◌, ◌<◌, ◌≤◌, List, [], ◌∷◌, ◌++◌, length, take, reverse, refl, sym, ap, ◌∙◌, subst, append_assoc, append-nil, arith, get_or}
+use Rattle.std.proofs.lemmas.List.{reverse-append, take_all}
+use Rattle.std.proofs.lemmas.Option.{slice_get_within, get_or_from_slice_get}
+use Rattle.std.proofs.Math.Seq.{take-suc}
+use Rattle.std.specs.List.{All}
+use Rattle.std.proofs.lemmas.List.Elements.{All-append, All-take, All-nil, All-head, All-tail, All-push}
+use Rattle.sym_print.specs.declared.layout.Item.{Item}
+use Rattle.sym_print.specs.declared.layout.Part.{Part}
+use Rattle.sym_print.specs.declared.layout.Part.TheVariants.{Sub}
+use Rattle.sym_print.specs.Unshared.{Unshared, text_of, cost_of_parts, steps_of_parts}
+use Rattle.sym_print.specs.Joined.{joined, IsNext, IsText, text_of_part, cost_of_part, steps_of_part, text_of_stack, cost_of_stack, steps_of_stack, spends}
+
+module _ {C : Type 0} where
+  -- the next entry stands last
+  pub next_is_last : (stack : List (Part C)) (next : Part C) → IsNext stack next → stack ≡ take (length stack - 1) stack ++ next ∷ []
+  next_is_last stack next h =
+      let within : length stack - 1 < length stack = slice_get_within stack (length stack - 1) next h in
+      let here : get_or stack (length stack - 1) next ≡ next = get_or_from_slice_get stack (length stack - 1) next next h in
+      let all : take (length stack) stack ≡ stack = take_all (length stack) stack (omega arith) in
+      let one : suc (length stack - 1) ≡ length stack = omega arith in
+      let split : take (suc (length stack - 1)) stack ≡ take (length stack - 1) stack ++ get_or stack (length stack - 1) next ∷ [] = take-suc stack (length stack - 1) next within in
+      sym all ∙ ap (λ n. take n stack) (sym one) ∙ split ∙ ap (λ p. take (length stack - 1) stack ++ p ∷ []) here
+
+  -- it may come where all may
+  pub next_may_come : (P : Part C → Type 0) (stack : List (Part C)) (next : Part C) → All P stack → IsNext stack next → P next
+  next_may_come P stack next all h =
+      subst P (get_or_from_slice_get stack (length stack - 1) next next h)
+      (all (length stack - 1) next (slice_get_within stack (length stack - 1) next h))
+
+  pub All-reverse : (P : Part C → Type 0) (parts : List (Part C)) → All P parts → All P (reverse parts)
+  All-reverse P [] all = All-nil P
+  All-reverse P (x ∷ xs) all =
+      subst (All P) (sym (reverse-append (x ∷ []) xs))
+      (All-push P (reverse xs) x (All-reverse P xs (All-tail P x xs all)) (All-head P x xs all))
+
+  -- all that stands on the stack may come, once an item's parts stand in its place
+  pub All-visit : (P : Part C → Type 0) (stack parts : List (Part C)) → All P stack → All P parts → All P (take (length stack - 1) stack ++ reverse parts)
+  All-visit P stack parts old new = All-append P (take (length stack - 1) stack) (reverse parts) (All-take P (length stack - 1) stack old) (All-reverse P parts new)
+
+-- a stack without its top, and then parts
+pub replaced : {X : Type 0} (old popped new parts : List X) → popped ≡ take (length old - 1) old → new ≡ popped ++ reverse parts → new ≡ take (length old - 1) old ++ reverse parts
+replaced old popped new parts top put = put ∙ ap (λ xs. xs ++ reverse parts) top
+
+module _ {C : Type 0} (unshared : Item C → Unshared) (bytes_of : Part C → List ℕ) where
+  shown : List (Part C) → List ℕ
+  shown = text_of_stack unshared bytes_of
+
+  one : Part C → List ℕ
+  one = text_of_part unshared bytes_of
+
+  price : List (Part C) → ℕ
+  price = cost_of_stack unshared bytes_of
+
+  count : List (Part C) → ℕ
+  count = steps_of_stack unshared bytes_of
+
+  -- what stands above is printed first
+  pub text_of_stack-append : (below above : List (Part C)) → text_of_stack unshared bytes_of (below ++ above) ≡ text_of_stack unshared bytes_of above ++ text_of_stack unshared bytes_of below
+  unfolding shown one
+  text_of_stack-append [] above = sym (append-nil (shown above))
+  text_of_stack-append (part ∷ below) above =
+      ap (λ t. t ++ one part) (text_of_stack-append below above)
+      ∙ append_assoc (shown above) (shown below) (one part)
+
+  pub cost_of_stack-append : (below above : List (Part C)) → cost_of_stack unshared bytes_of (below ++ above) ≡ cost_of_stack unshared bytes_of above + cost_of_stack unshared bytes_of below
+  cost_of_stack-append [] above = omega arith
+  cost_of_stack-append (part ∷ below) above = omega (arith, cost_of_stack-append below above)
+
+  pub steps_of_stack-append : (below above : List (Part C)) → steps_of_stack unshared bytes_of (below ++ above) ≡ steps_of_stack unshared bytes_of above + steps_of_stack unshared bytes_of below
+  steps_of_stack-append [] above = omega arith
+  steps_of_stack-append (part ∷ below) above = omega (arith, steps_of_stack-append below above)
+
+  -- parts in order, one at a time
+  text_of_joined : (next : Part C) (rest : List (Part C)) → text_of (joined unshared bytes_of (next ∷ rest)) ≡ text_of_part unshared bytes_of next ++ text_of (joined unshared bytes_of rest)
+  text_of_joined (Sub i) rest = refl
+  text_of_joined _ rest = refl
+
+  cost_of_joined : (next : Part C) (rest : List (Part C)) → cost_of_parts (joined unshared bytes_of (next ∷ rest)) ≡ cost_of_part unshared bytes_of next + cost_of_parts (joined unshared bytes_of rest)
+  cost_of_joined (Sub i) rest = refl
+  cost_of_joined _ rest = refl
+
+  steps_of_joined : (next : Part C) (rest : List (Part C)) → steps_of_parts (joined unshared bytes_of (next ∷ rest)) ≡ steps_of_part unshared bytes_of next + steps_of_parts (joined unshared bytes_of rest)
+  steps_of_joined (Sub i) rest = refl
+  steps_of_joined _ rest = refl
+
+  -- the parts of an item, put on the stack with the first on top, print what the item does
+  pub text_of_stack-reverse : (parts : List (Part C)) → text_of_stack unshared bytes_of (reverse parts) ≡ text_of (joined unshared bytes_of parts)
+  unfolding shown one
+  text_of_stack-reverse [] = refl
+  text_of_stack-reverse (next ∷ rest) =
+      ap shown (reverse-append (next ∷ []) rest)
+      ∙ text_of_stack-append (reverse rest) (next ∷ [])
+      ∙ ap (λ t. one next ++ t) (text_of_stack-reverse rest)
+      ∙ sym (text_of_joined next rest)
+
+  pub cost_of_stack-reverse : (parts : List (Part C)) → cost_of_stack unshared bytes_of (reverse parts) ≡ cost_of_parts (joined unshared bytes_of parts)
+  unfolding price
+  cost_of_stack-reverse [] = refl
+  cost_of_stack-reverse (next ∷ rest) =
+      omega (arith, ap price (reverse-append (next ∷ []) rest), cost_of_stack-append (reverse rest) (next ∷ []), cost_of_stack-reverse rest, cost_of_joined next rest)
+
+  pub steps_of_stack-reverse : (parts : List (Part C)) → steps_of_stack unshared bytes_of (reverse parts) ≡ steps_of_parts (joined unshared bytes_of parts)
+  unfolding count
+  steps_of_stack-reverse [] = refl
+  steps_of_stack-reverse (next ∷ rest) =
+      omega (arith, ap count (reverse-append (next ∷ []) rest), steps_of_stack-append (reverse rest) (next ∷ []), steps_of_stack-reverse rest, steps_of_joined next rest)
+
+  -- the stack without its next entry prints what is left behind it
+  pub text_of_next : (stack : List (Part C)) (next : Part C) → IsNext stack next
+      → text_of_stack unshared bytes_of stack ≡ text_of_part unshared bytes_of next ++ text_of_stack unshared bytes_of (take (length stack - 1) stack)
+  unfolding shown
+  text_of_next stack next h = ap shown (next_is_last stack next h) ∙ text_of_stack-append (take (length stack - 1) stack) (next ∷ [])
+
+  pub cost_of_next : (stack : List (Part C)) (next : Part C) → IsNext stack next
+      → cost_of_stack unshared bytes_of stack ≡ cost_of_part unshared bytes_of next + cost_of_stack unshared bytes_of (take (length stack - 1) stack)
+  unfolding price
+  cost_of_next stack next h = omega (arith, ap price (next_is_last stack next h), cost_of_stack-append (take (length stack - 1) stack) (next ∷ []))
+
+  pub steps_of_next : (stack : List (Part C)) (next : Part C) → IsNext stack next
+      → steps_of_stack unshared bytes_of stack ≡ steps_of_part unshared bytes_of next + steps_of_stack unshared bytes_of (take (length stack - 1) stack)
+  unfolding count
+  steps_of_next stack next h = omega (arith, ap count (next_is_last stack next h), steps_of_stack-append (take (length stack - 1) stack) (next ∷ []))
+
+  -- an item's parts in its place, of which the first may be written already, print what it does
+  pub text_of_visit : (stack parts left : List (Part C)) (i : Item C) (old new : List ℕ) → IsNext stack (Sub i) → unshared i ≡ joined unshared bytes_of parts
+      → new ++ text_of (joined unshared bytes_of left) ≡ old ++ text_of (joined unshared bytes_of parts)
+      → new ++ text_of_stack unshared bytes_of (take (length stack - 1) stack ++ reverse left) ≡ old ++ text_of_stack unshared bytes_of stack
+  unfolding shown
+  text_of_visit stack parts left i old new h e written =
+      let below = shown (take (length stack - 1) stack) in
+      ap (λ t. new ++ t) (text_of_stack-append (take (length stack - 1) stack) (reverse left) ∙ ap (λ t. t ++ below) (text_of_stack-reverse left))
+      ∙ sym (append_assoc new (text_of (joined unshared bytes_of left)) below)
+      ∙ ap (λ t. t ++ below) (written ∙ ap (λ u. old ++ text_of u) (sym e))
+      ∙ append_assoc old (text_of (unshared i)) below
+      ∙ ap (λ t. old ++ t) (sym (text_of_next stack (Sub i) h))
+
+  -- and they cost one less than it
+  pub cost_of_visit : (stack parts left : List (Part C)) (i : Item C) (old new : ℕ) → IsNext stack (Sub i) → unshared i ≡ joined unshared bytes_of parts
+      → new + cost_of_parts (joined unshared bytes_of left) ≡ (old + 1) + cost_of_parts (joined unshared bytes_of parts)
+      → new + cost_of_stack unshared bytes_of (take (length stack - 1) stack ++ reverse left) ≡ old + cost_of_stack unshared bytes_of stack
+  cost_of_visit stack parts left i old new h e paid =
+      omega (arith, paid, cost_of_stack-append (take (length stack - 1) stack) (reverse left), cost_of_stack-reverse left, ap cost_of_parts e, cost_of_next stack (Sub i) h)
+
+  -- and take one step less
+  pub steps_of_visit : (stack parts left : List (Part C)) (i : Item C) (old new : ℕ) → IsNext stack (Sub i) → unshared i ≡ joined unshared bytes_of parts
+      → new + steps_of_parts (joined unshared bytes_of left) ≡ (old + 1) + steps_of_parts (joined unshared bytes_of parts)
+      → new + steps_of_stack unshared bytes_of (take (length stack - 1) stack ++ reverse left) ≡ old + steps_of_stack unshared bytes_of stack
+  steps_of_visit stack parts left i old new h e paid =
+      omega (arith, paid, steps_of_stack-append (take (length stack - 1) stack) (reverse left), steps_of_stack-reverse left, ap steps_of_parts e, steps_of_next stack (Sub i) h)
+
+  -- a byte text prints and costs its bytes
+  pub text_of_text : (next : Part C) → IsText next → text_of_part unshared bytes_of next ≡ bytes_of next
+  text_of_text (Sub i) h = elim h [ ]
+  text_of_text _ h = refl
+
+  pub cost_of_text : (next : Part C) → IsText next → cost_of_part unshared bytes_of next ≡ length (bytes_of next)
+  cost_of_text (Sub i) h = elim h [ ]
+  cost_of_text _ h = refl
+
+  pub steps_of_text : (next : Part C) → IsText next → steps_of_part unshared bytes_of next ≡ 1
+  steps_of_text (Sub i) h = elim h [ ]
+  steps_of_text _ h = refl
+
+  -- no entry costs less than it spends
+  pub spends-le : (next : Part C) → spends unshared bytes_of next ≤ cost_of_part unshared bytes_of next
+  spends-le (Sub i) = omega arith
+  spends-le _ = omega arith
+
+  -- a byte text, once written, stands in the text and no more on the stack
+  pub text_of_write : (stack left : List (Part C)) (next : Part C) (text written own : List ℕ)
+      → IsNext stack next → IsText next → left ≡ take (length stack - 1) stack → own ≡ bytes_of next → written ≡ text ++ own
+      → written ++ text_of_stack unshared bytes_of left ≡ text ++ text_of_stack unshared bytes_of stack
+  unfolding shown one
+  text_of_write stack left next text written own h is_text e f k =
+      ap (λ t. t ++ shown left) k
+      ∙ append_assoc text own (shown left)
+      ∙ ap (λ t. text ++ t)
+      (ap (λ t. t ++ shown left) (f ∙ sym (text_of_text next is_text))
+      ∙ ap (λ t. one next ++ shown t) e
+      ∙ sym (text_of_next stack next h))
+
+  -- an entry that can't be paid for is part of a stack that can't
+  pub too_dear : (stack : List (Part C)) (next : Part C) (limit spent : ℕ) → IsNext stack next → limit < spent + spends unshared bytes_of next
+      → limit < spent + cost_of_stack unshared bytes_of stack
+  too_dear stack next limit spent h dear = omega (arith, cost_of_next stack next h, spends-le next)
+
+  -- an empty stack prints nothing
+  pub text_of_none : (stack : List (Part C)) → stack ≡ [] → text_of_stack unshared bytes_of stack ≡ []
+  unfolding shown
+  text_of_none stack e = ap shown e

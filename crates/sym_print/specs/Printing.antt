@@ -1,0 +1,50 @@
+-- What there is to say of a printer, without its fields.
+use Rattle.std.specs.Prelude.{◌≡◌, ℕ, ◌+◌, Option, None, List, [], ◌∷◌, vec_capacity}
+use Rattle.sym_core.specs.declared.Refusal.{Refusal}
+use Rattle.sym_print.specs.declared.layout.Item.{Item}
+use Rattle.sym_print.specs.declared.layout.Part.{Part}
+use Rattle.sym_print.specs.declared.layout.Part.TheVariants.{Sub}
+use Rattle.sym_print.specs.declared.printer.Printer.{Printer}
+use Rattle.sym_print.specs.Progress.{refusals}
+
+module _ {C : Type 0} where
+  -- what is still to print, the next entry last
+  abbrev pub entries : Printer C → List (Part C)
+  entries printer = printer.stack.items
+
+  -- the bytes printed so far
+  abbrev pub written : Printer C → List ℕ
+  written printer = printer.text.items
+
+  -- what the bytes and the items so far have cost
+  abbrev pub spent : Printer C → ℕ
+  spent printer = printer.meter.spent
+
+  -- the most that may be spent
+  abbrev pub may_spend : Printer C → ℕ
+  may_spend printer = printer.meter.limit
+
+  -- how many steps were taken; one that was refused counts
+  abbrev pub taken : Printer C → ℕ
+  taken printer = printer.meter.steps + refusals printer.refusal
+
+  -- the refusal that was answered, if any was
+  abbrev pub refused : Printer C → Option Refusal
+  refused printer = printer.refusal
+
+  -- how many entries fit without taking memory
+  abbrev pub entry_room : Printer C → ℕ
+  entry_room printer = vec_capacity printer.stack
+
+  -- how many bytes of text fit without taking memory
+  abbrev pub text_room : Printer C → ℕ
+  text_room printer = vec_capacity printer.text
+
+  -- all of the root is still to print, and nothing was spent or refused
+  pub record Begins (printer : Printer C) (root : Item C) (limit : ℕ) : Type 0 where
+    pub whole : entries printer ≡ Sub root ∷ []
+    pub no_text : written printer ≡ []
+    pub nothing_spent : spent printer ≡ 0
+    pub bounded : may_spend printer ≡ limit
+    pub no_step : taken printer ≡ 0
+    pub no_refusal : refused printer ≡ None

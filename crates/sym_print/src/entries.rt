@@ -1,0 +1,257 @@
+// The work stack: its entries are taken one at a time, and paid for.
+#![tactic(auto)]
+
+ghost use Rattle.std.specs.Prelude.{◌≡◌, ℕ, ◌+◌, ◌*◌, ◌-◌, ◌<◌, ◌≤◌, ◌++◌, length, take, drop, reverse, vec_len, vec_capacity, Some, None, [], ◌∷◌, IfOk, Err, IfErr, OnOk, OnErr, ◌⊎◌};
+ghost use Rattle.std.specs.List.{All};
+ghost use Rattle.sym_print.specs.Joined.{joined, text_of_stack, cost_of_stack, steps_of_stack, IsText, IsNext};
+ghost use Rattle.sym_print.specs.Unshared.{text_of, cost_of_parts, steps_of_parts};
+ghost use Rattle.sym_print.specs.declared.layout.Part.{Part};
+ghost use Rattle.sym_core.specs.declared.Refusal.{Refusal};
+
+use crate::layout::{Item, Layout, Part};
+use crate::meter::Meter;
+use arrayvec::ArrayVec;
+use sym_core::Refusal;
+
+/// Puts parts on a stack that has room for them, the first on top.
+fn push_reversed<C: Copy>(stack: &mut Vec<Part<C>>, parts: &[Part<C>])
+    requires { vec_len stack.old + length parts.now ≤ vec_capacity stack.old }
+    ensures items { stack.new.items ≡ stack.old.items ++ reverse parts.now }
+    ensures len { vec_len stack.new ≡ vec_len stack.old + length parts.now }
+    ensures capacity { vec_capacity stack.new ≡ vec_capacity stack.old }
+{
+    let mut left = parts.len();
+    while left > 0 {
+        left -= 1;
+        stack.push_reserved(parts[left]);
+    }
+}
+
+/// Writes a byte text where it can be paid for.
+fn write_text<Y: Layout>(
+    y: &Y,
+    part: &Part<Y::Ctx>,
+    text: &mut Vec<u8>,
+    meter: &mut Meter,
+) -> Result<(), Refusal>
+    requires may_come { Y.may_come y.now part.now }
+    requires is_text { IsText part.now }
+    requires paid { vec_len text.old ≤ meter.old.spent }
+    ensures paid { vec_len text.new ≤ meter.new.spent }
+    ensures ok { OnOk result (text.new.items ≡ text.old.items ++ Y.bytes_of y.now part.now) }
+    ensures spent { OnOk result (meter.new.spent ≡ meter.old.spent + length (Y.bytes_of y.now part.now)) }
+    ensures some { 0 < length (Y.bytes_of y.now part.now) }
+    ensures steps { OnOk result (meter.new.steps ≡ meter.old.steps + 1) }
+    ensures limit { meter.new.limit ≡ meter.old.limit }
+    ensures err { OnErr result ((text.new.items ≡ text.old.items) × (meter.new ≡ meter.old)) }
+    ensures room { vec_capacity text.old ≤ vec_capacity text.new }
+    ensures own { IfErr result (λ r. (r ≡ Refusal.TooLong) ⊎ (r ≡ Refusal.Memory)) }
+    ensures too_long { result ≡ Err Refusal.TooLong → meter.old.limit < meter.old.spent + length (Y.bytes_of y.now part.now) }
+    ensures memory { result ≡ Err Refusal.Memory → vec_capacity text.old < meter.old.limit }
+{
+    let bytes = y.bytes(part);
+    if !meter.affords(bytes.len()) {
+        return Err(Refusal::TooLong);
+    }
+    text.extend_from_slice(bytes)?;
+    meter.pay(bytes.len());
+    Ok(())
+}
+
+/// Writes the texts before the first item of `parts`. It answers how many it wrote, and the refusal where one stopped it.
+fn write_leading<Y: Layout>(
+    y: &Y,
+    parts: &[Part<Y::Ctx>],
+    text: &mut Vec<u8>,
+    meter: &mut Meter,
+) -> (usize, Result<(), Refusal>)
+    requires may_come { All (Y.may_come y.now) parts.now }
+    requires paid { vec_len text.old ≤ meter.old.spent }
+    ensures paid { vec_len text.new ≤ meter.new.spent }
+    ensures within { result.0 ≤ length parts.now }
+    ensures text { text.new.items ++ text_of (joined (Y.unshared y.now) (Y.bytes_of y.now) (drop result.0 parts.now)) ≡ text.old.items ++ text_of (joined (Y.unshared y.now) (Y.bytes_of y.now) parts.now) }
+    ensures cost { meter.new.spent + cost_of_parts (joined (Y.unshared y.now) (Y.bytes_of y.now) (drop result.0 parts.now)) ≡ meter.old.spent + cost_of_parts (joined (Y.unshared y.now) (Y.bytes_of y.now) parts.now) }
+    ensures steps { meter.new.steps + steps_of_parts (joined (Y.unshared y.now) (Y.bytes_of y.now) (drop result.0 parts.now)) ≡ meter.old.steps + steps_of_parts (joined (Y.unshared y.now) (Y.bytes_of y.now) parts.now) }
+    ensures limit { meter.new.limit ≡ meter.old.limit }
+    ensures spent { meter.old.spent ≤ meter.new.spent }
+    ensures room { vec_capacity text.old ≤ vec_capacity text.new }
+    ensures own { IfErr result.1 (λ r. (r ≡ Refusal.TooLong) ⊎ (r ≡ Refusal.Memory)) }
+    ensures too_long { result.1 ≡ Err Refusal.TooLong → meter.new.limit < meter.new.spent + cost_of_parts (joined (Y.unshared y.now) (Y.bytes_of y.now) (drop result.0 parts.now)) }
+    ensures memory { result.1 ≡ Err Refusal.Memory → vec_capacity text.old < meter.old.limit }
+{
+    let mut done = 0;
+    while done < parts.len() {
+        let part = &parts[done];
+        match part {
+            Part::Sub(_) => return (done, Ok(())),
+            _ => {
+                if let Err(refusal) = write_text(y, part, text, meter) {
+                    return (done, Err(refusal));
+                }
+            }
+        }
+        done += 1;
+    }
+    (done, Ok(()))
+}
+
+/// Takes the next entry, an item, from the stack, pays for it, and makes room for its parts.
+fn take_item<C: Copy>(stack: &mut Vec<Part<C>>, meter: &mut Meter) -> Result<(), Refusal>
+    requires some { 0 < vec_len stack.old }
+    ensures items { OnOk result (stack.new.items ≡ take (length stack.old.items - 1) stack.old.items) }
+    ensures len { OnOk result (vec_len stack.new + 1 ≡ vec_len stack.old) }
+    ensures parts_fit { OnOk result (vec_len stack.new + 8 ≤ vec_capacity stack.new) }
+    ensures spent { OnOk result (meter.new.spent ≡ meter.old.spent + 1) }
+    ensures steps { OnOk result (meter.new.steps ≡ meter.old.steps + 1) }
+    ensures limit { meter.new.limit ≡ meter.old.limit }
+    ensures err { OnErr result ((stack.new.items ≡ stack.old.items) × (meter.new ≡ meter.old)) }
+    ensures room { vec_capacity stack.old ≤ vec_capacity stack.new }
+    ensures own { IfErr result (λ r. (r ≡ Refusal.TooLong) ⊎ (r ≡ Refusal.Memory)) }
+    ensures too_long { result ≡ Err Refusal.TooLong → meter.old.limit < meter.old.spent + 1 }
+    ensures memory { result ≡ Err Refusal.Memory → vec_capacity stack.old < vec_len stack.old + 8 }
+    ensures affords { result ≡ Err Refusal.Memory → meter.old.spent < meter.old.limit }
+{
+    if !meter.affords(1) {
+        return Err(Refusal::TooLong);
+    }
+    stack.reserve(8)?;
+    stack.pop();
+    meter.pay(1);
+    Ok(())
+}
+
+/// Puts the parts of the next entry, an item, in its place.
+pub(crate) fn open_item<Y: Layout>(
+    y: &Y,
+    item: Item<Y::Ctx>,
+    stack: &mut Vec<Part<Y::Ctx>>,
+    meter: &mut Meter,
+) -> Result<(), Refusal>
+    requires next { IsNext stack.old.items (Part.Sub item) }
+    requires may_come { All (Y.may_come y.now) stack.old.items }
+    requires paid { vec_len stack.old ≤ 7 * meter.old.spent + 1 }
+    ensures paid { vec_len stack.new ≤ 7 * meter.new.spent + 1 }
+    ensures may_come { All (Y.may_come y.now) stack.new.items }
+    ensures text { text_of_stack (Y.unshared y.now) (Y.bytes_of y.now) stack.new.items ≡ text_of_stack (Y.unshared y.now) (Y.bytes_of y.now) stack.old.items }
+    ensures cost { meter.new.spent + cost_of_stack (Y.unshared y.now) (Y.bytes_of y.now) stack.new.items ≡ meter.old.spent + cost_of_stack (Y.unshared y.now) (Y.bytes_of y.now) stack.old.items }
+    ensures remaining { meter.new.steps + steps_of_stack (Y.unshared y.now) (Y.bytes_of y.now) stack.new.items ≡ meter.old.steps + steps_of_stack (Y.unshared y.now) (Y.bytes_of y.now) stack.old.items }
+    ensures limit { meter.new.limit ≡ meter.old.limit }
+    ensures spent { OnOk result (meter.new.spent ≡ meter.old.spent + 1) }
+    ensures steps { OnOk result (meter.new.steps ≡ meter.old.steps + 1) }
+    ensures err { OnErr result ((stack.new.items ≡ stack.old.items) × (meter.new ≡ meter.old)) }
+    ensures room { vec_capacity stack.old ≤ vec_capacity stack.new }
+    ensures own { IfErr result (λ r. (r ≡ Refusal.TooLong) ⊎ (r ≡ Refusal.Memory)) }
+    ensures too_long { result ≡ Err Refusal.TooLong → meter.old.limit < meter.old.spent + 1 }
+    ensures memory { result ≡ Err Refusal.Memory → vec_capacity stack.old < vec_len stack.old + 8 }
+{
+    take_item(stack, meter)?;
+    let parts = y.parts(item);
+    push_reversed(stack, parts.as_slice());
+    Ok(())
+}
+
+/// Puts the parts of the next entry, an item, in its place, but writes the texts before the first item at once.
+fn print_item<Y: Layout>(
+    y: &Y,
+    item: Item<Y::Ctx>,
+    parts: &mut ArrayVec<Part<Y::Ctx>, 8>,
+    stack: &mut Vec<Part<Y::Ctx>>,
+    text: &mut Vec<u8>,
+    meter: &mut Meter,
+) -> Result<(), Refusal>
+    requires next { IsNext stack.old.items (Part.Sub item) }
+    requires may_come { All (Y.may_come y.now) stack.old.items }
+    requires paid { vec_len text.old ≤ meter.old.spent }
+    requires stack_paid { vec_len stack.old ≤ 7 * meter.old.spent + 1 }
+    ensures paid { vec_len text.new ≤ meter.new.spent }
+    ensures stack_paid { vec_len stack.new ≤ 7 * meter.new.spent + 1 }
+    ensures may_come { All (Y.may_come y.now) stack.new.items }
+    ensures text { text.new.items ++ text_of_stack (Y.unshared y.now) (Y.bytes_of y.now) stack.new.items ≡ text.old.items ++ text_of_stack (Y.unshared y.now) (Y.bytes_of y.now) stack.old.items }
+    ensures cost { meter.new.spent + cost_of_stack (Y.unshared y.now) (Y.bytes_of y.now) stack.new.items ≡ meter.old.spent + cost_of_stack (Y.unshared y.now) (Y.bytes_of y.now) stack.old.items }
+    ensures steps { meter.new.steps + steps_of_stack (Y.unshared y.now) (Y.bytes_of y.now) stack.new.items ≡ meter.old.steps + steps_of_stack (Y.unshared y.now) (Y.bytes_of y.now) stack.old.items }
+    ensures limit { meter.new.limit ≡ meter.old.limit }
+    ensures entry_room { vec_capacity stack.old ≤ vec_capacity stack.new }
+    ensures own { IfErr result (λ r. (r ≡ Refusal.TooLong) ⊎ (r ≡ Refusal.Memory)) }
+    ensures text_room { vec_capacity text.old ≤ vec_capacity text.new }
+    ensures spends { OnOk result (meter.old.spent < meter.new.spent) }
+    ensures too_long { result ≡ Err Refusal.TooLong → meter.new.limit < meter.new.spent + cost_of_stack (Y.unshared y.now) (Y.bytes_of y.now) stack.new.items }
+    ensures memory { result ≡ Err Refusal.Memory → (vec_capacity stack.old < 8 * (meter.old.limit + 1)) ⊎ (vec_capacity text.old < meter.old.limit) }
+{
+    take_item(stack, meter)?;
+    parts.clear();
+    y.fill(item, parts);
+    let parts = parts.as_slice();
+    let (done, outcome) = write_leading(y, parts, text, meter);
+    push_reversed(stack, &parts[done..]);
+    outcome
+}
+
+/// Writes the next entry, a byte text, and takes it from the stack.
+pub(crate) fn print_text<Y: Layout>(
+    y: &Y,
+    next: &Part<Y::Ctx>,
+    stack: &mut Vec<Part<Y::Ctx>>,
+    text: &mut Vec<u8>,
+    meter: &mut Meter,
+) -> Result<(), Refusal>
+    requires next { IsNext stack.old.items next.now }
+    requires is_text { IsText next.now }
+    requires may_come { All (Y.may_come y.now) stack.old.items }
+    requires paid { vec_len text.old ≤ meter.old.spent }
+    requires stack_paid { vec_len stack.old ≤ 7 * meter.old.spent + 1 }
+    ensures paid { vec_len text.new ≤ meter.new.spent }
+    ensures stack_paid { vec_len stack.new ≤ 7 * meter.new.spent + 1 }
+    ensures may_come { All (Y.may_come y.now) stack.new.items }
+    ensures text { text.new.items ++ text_of_stack (Y.unshared y.now) (Y.bytes_of y.now) stack.new.items ≡ text.old.items ++ text_of_stack (Y.unshared y.now) (Y.bytes_of y.now) stack.old.items }
+    ensures cost { meter.new.spent + cost_of_stack (Y.unshared y.now) (Y.bytes_of y.now) stack.new.items ≡ meter.old.spent + cost_of_stack (Y.unshared y.now) (Y.bytes_of y.now) stack.old.items }
+    ensures remaining { meter.new.steps + steps_of_stack (Y.unshared y.now) (Y.bytes_of y.now) stack.new.items ≡ meter.old.steps + steps_of_stack (Y.unshared y.now) (Y.bytes_of y.now) stack.old.items }
+    ensures limit { meter.new.limit ≡ meter.old.limit }
+    ensures spent { OnOk result (meter.old.spent < meter.new.spent) }
+    ensures steps { OnOk result (meter.new.steps ≡ meter.old.steps + 1) }
+    ensures err { OnErr result (meter.new ≡ meter.old) }
+    ensures entry_room { vec_capacity stack.old ≤ vec_capacity stack.new }
+    ensures text_room { vec_capacity text.old ≤ vec_capacity text.new }
+    ensures own { IfErr result (λ r. (r ≡ Refusal.TooLong) ⊎ (r ≡ Refusal.Memory)) }
+    ensures too_long { result ≡ Err Refusal.TooLong → meter.old.limit < meter.old.spent + length (Y.bytes_of y.now next.now) }
+    ensures too_dear { result ≡ Err Refusal.TooLong → meter.new.limit < meter.new.spent + cost_of_stack (Y.unshared y.now) (Y.bytes_of y.now) stack.new.items }
+    ensures memory { result ≡ Err Refusal.Memory → vec_capacity text.old < meter.old.limit }
+{
+    write_text(y, next, text, meter)?;
+    stack.pop();
+    Ok(())
+}
+
+/// Takes entries until none is left.
+pub(crate) fn print_entries<Y: Layout>(
+    y: &Y,
+    stack: &mut Vec<Part<Y::Ctx>>,
+    text: &mut Vec<u8>,
+    meter: &mut Meter,
+) -> Result<(), Refusal>
+    requires may_come { All (Y.may_come y.now) stack.old.items }
+    requires paid { vec_len text.old ≤ meter.old.spent }
+    requires stack_paid { vec_len stack.old ≤ 7 * meter.old.spent + 1 }
+    ensures paid { vec_len text.new ≤ meter.new.spent }
+    ensures stack_paid { vec_len stack.new ≤ 7 * meter.new.spent + 1 }
+    ensures may_come { All (Y.may_come y.now) stack.new.items }
+    ensures text { text.new.items ++ text_of_stack (Y.unshared y.now) (Y.bytes_of y.now) stack.new.items ≡ text.old.items ++ text_of_stack (Y.unshared y.now) (Y.bytes_of y.now) stack.old.items }
+    ensures cost { meter.new.spent + cost_of_stack (Y.unshared y.now) (Y.bytes_of y.now) stack.new.items ≡ meter.old.spent + cost_of_stack (Y.unshared y.now) (Y.bytes_of y.now) stack.old.items }
+    ensures steps { meter.new.steps + steps_of_stack (Y.unshared y.now) (Y.bytes_of y.now) stack.new.items ≡ meter.old.steps + steps_of_stack (Y.unshared y.now) (Y.bytes_of y.now) stack.old.items }
+    ensures limit { meter.new.limit ≡ meter.old.limit }
+    ensures entry_room { vec_capacity stack.old ≤ vec_capacity stack.new }
+    ensures own { IfErr result (λ r. (r ≡ Refusal.TooLong) ⊎ (r ≡ Refusal.Memory)) }
+    ensures text_room { vec_capacity text.old ≤ vec_capacity text.new }
+    ensures done { OnOk result (stack.new.items ≡ []) }
+    ensures too_long { result ≡ Err Refusal.TooLong → meter.old.limit < meter.old.spent + cost_of_stack (Y.unshared y.now) (Y.bytes_of y.now) stack.old.items }
+    ensures memory { result ≡ Err Refusal.Memory → (vec_capacity stack.old < 8 * (meter.old.limit + 1)) ⊎ (vec_capacity text.old < meter.old.limit) }
+{
+    let mut parts = ArrayVec::new();
+    while let Some(next) = stack.last() {
+        let next = *next;
+        match next {
+            Part::Sub(item) => print_item(y, item, &mut parts, stack, text, meter)?,
+            _ => print_text(y, &next, stack, text, meter)?,
+        }
+    }
+    Ok(())
+}

@@ -1,0 +1,106 @@
+// What a printer can print: items, each with at most eight parts.
+#![tactic(auto)]
+
+ghost use Rattle.std.specs.Prelude.{◌≡◌, ℕ, ◌<◌, ◌≤◌, length, List, []};
+ghost use Rattle.std.specs.List.{All};
+
+use arrayvec::ArrayVec;
+use sym_core::Span;
+
+/// A node of a symbol, seen in a form and a context.
+///
+/// Nodes are shared: the same one may be printed at many places, in other forms and contexts.
+#[derive(Clone, Copy, Debug)]
+pub struct Item<C> {
+    /// The node's number in the symbol's table.
+    pub node: u32,
+    /// Which of its texts is meant, as the part of a declarator left of the name. The layout gives the numbers.
+    pub form: u32,
+    /// A place among the node's parts, for a form that prints the rest of a list.
+    pub at: u32,
+    /// What is handed down to it, as an index into a parameter pack or the number of lifetimes bound around it.
+    pub ctx: C,
+}
+
+/// One part of an item's text: another item, or bytes.
+#[derive(Clone, Copy, Debug)]
+pub enum Part<C> {
+    /// Another item.
+    Sub(Item<C>),
+    /// Bytes of the symbol.
+    Symbol(Span),
+    /// Bytes of the text list.
+    List(Span),
+    /// A fixed text, by its number.
+    Fixed(u16),
+    /// Bytes of its own, and how many of them count.
+    Own([u8; 24], u8),
+}
+
+impl<C> Default for Part<C> {
+    ghost use Rattle.sym_print.specs.declared.layout.Part.{Part};
+
+    /// What fills the unused places of a list of parts.
+    fn default() -> Self
+        ensures { result ≡ Part.Fixed 0 }
+    {
+        Part::Fixed(0)
+    }
+}
+
+/// A value that can be printed item by item.
+///
+/// It stands for trees in which nothing is shared: `unshared` says what an item prints, all the way down. An item's text is
+/// that of its parts in order, and its cost is 1, plus the lengths of its texts, plus the costs of the items among its parts.
+/// So these are defined over items whose parts have a smaller rank; `specs/Unfold.antt` makes such a tree of parts and a rank.
+/// The laws are clauses of the two methods: the parts that `fill` pushes are those of the tree, they may be asked about, there
+/// are at most eight, and no text is empty. Neither method takes memory.
+pub trait Layout {
+    /// What an item is told beside its node, as an index into a parameter pack.
+    type Ctx: Copy;
+
+    ghost use Rattle.sym_print.specs.declared.layout.Item.{Item};
+    ghost use Rattle.sym_print.specs.declared.layout.Part.{Part};
+    ghost use Rattle.sym_print.specs.Unshared.{Unshared};
+    ghost use Rattle.sym_print.specs.Joined.{joined, IsText};
+
+    // the parts that this value may be asked about: an item's parts, or a text's bytes
+    ghost may_come: { Self → Part Self.Ctx → Type 0 };
+
+    // what an item prints, with nothing shared
+    ghost unshared: { Self → Item Self.Ctx → Unshared };
+
+    // the bytes of a part that is no item
+    ghost bytes_of: { Self → Part Self.Ctx → List ℕ };
+
+    /// Pushes the parts of an item, in order, onto a list that is empty.
+    fn fill(&self, item: Item<Self::Ctx>, parts: &mut ArrayVec<Part<Self::Ctx>, 8>)
+        requires may_come { may_come self.now (Part.Sub item) }
+        requires empty { parts.old.items ≡ [] }
+        ensures parts { unshared self.now item ≡ joined (unshared self.now) (bytes_of self.now) parts.new.items }
+        ensures may_come { All (may_come self.now) parts.new.items };
+
+    /// The bytes of a part that is no item. There is at least one.
+    fn bytes<'a>(&'a self, part: &'a Part<Self::Ctx>) -> &'a [u8]
+        requires may_come { may_come self.now part.now }
+        requires is_text { IsText part.now }
+        ensures bytes { result.now ≡ bytes_of self.now part.now }
+        ensures not_empty { 0 < length result.now };
+
+    /// The parts of an item, in order.
+    final fn parts(&self, item: Item<Self::Ctx>) -> ArrayVec<Part<Self::Ctx>, 8>
+        requires { may_come self.now (Part.Sub item) }
+        ensures parts { unshared self.now item ≡ joined (unshared self.now) (bytes_of self.now) result.items }
+        ensures may_come { All (may_come self.now) result.items }
+    {
+        let mut parts = ArrayVec::new();
+        self.fill(item, &mut parts);
+        parts
+    }
+
+    ghost use Rattle.std.specs.Mem.{type_size};
+    ghost use Rattle.std.specs.Align.{type_align};
+
+    // a context is small, so that eight parts fit in memory
+    ghost small_context: { (type_size Self.Ctx.row ≤ 1024) × (type_align Self.Ctx.row ≤ 1024) };
+}

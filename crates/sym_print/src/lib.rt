@@ -1,0 +1,12 @@
+//! A counted printer over any layout: it prints an item's text where that costs at most a limit.
+#![tactic(auto)]
+
+mod detail;
+mod entries;
+mod layout;
+mod meter;
+mod printer;
+
+pub use detail::Detail;
+pub use layout::{Item, Layout, Part};
+pub use printer::{Printer, print};

@@ -1,0 +1,52 @@
+// What printing has cost, and what it may cost.
+#![tactic(auto)]
+
+ghost use Rattle.std.specs.Prelude.{◌≡◌, ℕ, ◌+◌, ◌-◌, ◌<◌, ◌≤◌, nat_le};
+
+/// What was spent of a limit, and in how many steps.
+#[derive(Clone, Copy)]
+pub(crate) struct Meter {
+    pub(crate) spent: u32,
+    pub(crate) limit: u32,
+    pub(crate) steps: u64,
+    ghost limit_fits: { limit ≤ 4294967295 },
+    ghost within_limit: { spent ≤ limit },
+    ghost steps_are_paid: { steps ≤ spent },
+}
+
+impl Meter {
+    /// Nothing spent of `limit`, and no step.
+    pub(crate) fn new(limit: u32) -> Meter
+        ensures spent { result.spent ≡ 0 }
+        ensures limit { result.limit ≡ limit }
+        ensures steps { result.steps ≡ 0 }
+    {
+        Meter {
+            spent: 0,
+            limit,
+            steps: 0,
+        }
+    }
+
+    /// Whether `cost` can still be spent.
+    pub(crate) fn affords(&self, cost: usize) -> bool
+        ensures { result ≡ nat_le (self.now.spent + cost) self.now.limit }
+    {
+        cost <= (self.limit - self.spent) as usize
+    }
+
+    /// Spends `cost` in one step.
+    pub(crate) fn pay(&mut self, cost: usize)
+        requires some { 0 < cost }
+        requires affords { self.old.spent + cost ≤ self.old.limit }
+        ensures spent { self.new.spent ≡ self.old.spent + cost }
+        ensures limit { self.new.limit ≡ self.old.limit }
+        ensures steps { self.new.steps ≡ self.old.steps + 1 }
+    {
+        *self = Meter {
+            spent: self.spent + cost as u32,
+            limit: self.limit,
+            steps: self.steps + 1,
+        };
+    }
+}
