@@ -1,0 +1,5 @@
+pub mod Trees
+pub mod Reading
+pub mod Lists
+pub mod Showing
+pub mod Hexadecimals

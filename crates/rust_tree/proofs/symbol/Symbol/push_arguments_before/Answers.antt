@@ -1,0 +1,11 @@
+use Rattle.std.proofs.Common.{rules}
+use Rattle.rust_tree.proofs.Showing.{changed, some-arguments, no-arguments}
+use Rattle.rust_tree.proofs.symbol.Symbol.push_arguments_before.Goals as goal
+
+pub returns-then-any_arguments-clause-shows : goal.returns-then-any_arguments-clause-shows
+returns-then-any_arguments-clause-shows c so_far shows deep =
+    changed c.args.self.now _ so_far _ _ (λ rest. some-arguments c.args.ctx.detail c.args.ctx.bound _ rest (search rules)) (c.push_text.ensures.shows _ (c.push_arguments.ensures.shows so_far shows deep))
+
+pub returns-else-any_arguments-clause-shows : goal.returns-else-any_arguments-clause-shows
+returns-else-any_arguments-clause-shows c so_far shows deep =
+    changed c.args.self.now _ so_far _ _ (λ rest. no-arguments c.args.ctx.detail c.args.ctx.bound _ rest (search rules)) shows

@@ -1,0 +1,14 @@
+use Rattle.std.proofs.Common.{ap, sym}
+use Rattle.std.proofs.lemmas.Bool.{le-leb, lt-leb}
+use Rattle.rust_tree.proofs.Showing.{changed}
+use Rattle.rust_tree.specs.Shown.{nested_name}
+use Rattle.rust_tree.specs.Nodes.{identifier_of}
+use Rattle.rust_tree.proofs.symbol.Symbol.push_nested.Goals as goal
+
+pub returns-then-namespace-ge97-clause-shows : goal.returns-then-namespace-ge97-clause-shows
+returns-then-namespace-ge97-clause-shows c so_far shows has =
+    changed c.args.self.now _ so_far _ _ (λ rest. ap (λ b. nested_name b c.args.namespace (identifier_of c.args.self.now.bytes c.args.name c.args.disambiguator) rest) (sym (le-leb 97 c.args.namespace c.if-namespace-ge97.true))) (c.push_name_behind.ensures.shows so_far shows has)
+
+pub returns-else-namespace-ge97-clause-shows : goal.returns-else-namespace-ge97-clause-shows
+returns-else-namespace-ge97-clause-shows c so_far shows has =
+    changed c.args.self.now _ so_far _ _ (λ rest. ap (λ b. nested_name b c.args.namespace (identifier_of c.args.self.now.bytes c.args.name c.args.disambiguator) rest) (sym (lt-leb 97 c.args.namespace c.if-namespace-ge97.false))) (c.push_special.ensures.shows so_far shows has)

@@ -1,0 +1,5 @@
+use Rattle.rust_tree.proofs.symbol.Symbol.push_plain_bound.Goals as goal
+
+pub returns-clause-shows : goal.returns-clause-shows
+returns-clause-shows c so_far shows is deep_path deep =
+    c.push_text-2.ensures.shows _ (c.push_bindings.ensures.shows _ (c.push_text.ensures.shows _ (c.push_path.ensures.shows so_far shows is deep_path)) deep)

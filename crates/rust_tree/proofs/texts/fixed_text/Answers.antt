@@ -1,0 +1,11 @@
+use Rattle.std.proofs.Common.{◌≡◌, ℕ, ◌≤◌, arith, ◌∙◌, refl}
+use Rattle.std.proofs.lemmas.Option.{slice_get_past}
+use Rattle.rust_tree.specs.Texts.{fixed_text, texts}
+use Rattle.rust_tree.specs.Shown.{basic_text}
+use Rattle.rust_tree.proofs.texts.fixed_text.Goals as goal
+
+past : (n : ℕ) → 40 ≤ n → basic_text n ≡ fixed_text n
+past n h = rw (slice_get_past texts n h) refl
+
+pub returns-in_default : goal.returns-in_default
+returns-in_default c = c.basic_text.ensures ∙ past c.args.number (omega (arith, c.in_default))

@@ -1,0 +1,11 @@
+pub mod Symbol
+pub mod Need
+pub mod Shown
+pub mod Tree
+pub mod Nodes
+pub mod Needs
+pub mod Forms
+pub mod Texts
+pub mod Layout
+pub mod Counts
+pub mod Hexadecimal

@@ -1,0 +1,10 @@
+// What an item is told beside its node.
+
+use sym_print::Detail;
+
+/// How many lifetimes are bound around an item, and how much of it is shown.
+#[derive(Clone, Copy, Debug)]
+pub struct Context {
+    pub bound: u64,
+    pub detail: Detail,
+}

@@ -1,0 +1,308 @@
+// The parts of items, sort by sort.
+#![tactic(auto)]
+
+ghost use Rattle.std.specs.Prelude.{◌≡◌, ℕ, ◌+◌, ◌-◌, ◌*◌, ◌<◌, ◌≤◌, ◌^◌, ◌++◌, ◌∷◌, [], List, length, take, slice_get, codes, nat_le, true, false, if◌then◌else◌};
+ghost use Rattle.arrayvec.specs.ArrayVec.{array_vec_len};
+ghost use Rattle.sym_print.specs.Unshared.{Unshared, done};
+ghost use Rattle.sym_print.specs.Building.{◌then◌, ◌also◌, ◌perhaps◌};
+ghost use Rattle.rust_tree.specs.Symbol as tree;
+ghost use Rattle.rust_tree.specs.Nodes.{IsPath, IsArguments, IsType, IsTypes, IsBounds, IsBindings, IsConstant, IsSymbol, HasName, HasAbi, HasTypeParts, name_of, identifier_of, abi_of, type_of, path_in, arguments_in, type_in, types_in, bounds_in, bindings_in, constant_in, symbol_in, bytes_at, IsWithin};
+ghost use Rattle.rust_tree.specs.Shown.{path_parts, type_parts, arguments_from, types_from, bounds_from, bindings_from, bound_parts, constant_parts, lifetime_parts, symbol_parts, suffix_parts, argument_list, nested_name, reference_opening, dyn_lifetime, for_binder, signature_opening, returned_parts, closing_tuple, is_unit, basic_text};
+ghost use Rattle.rust_tree.specs.Layout.{ReadSymbol, trees_of, HasDepth, Shows, Fills, parts_in, lifetime_in, binder_in, signature_in, names_in, bound_in};
+
+use crate::context::Context;
+use crate::form::Form;
+use crate::node::{Abi, Arguments, Bindings, Bounds, Constant, Name, Node, Path, Ty, Types};
+use crate::symbol::Symbol;
+use crate::texts;
+use arrayvec::ArrayVec;
+use sym_core::Span;
+use sym_print::{Detail, Part};
+
+impl Symbol {
+    /// Adds a name by its namespace.
+    pub(crate) fn push_nested(
+        &self,
+        parts: &mut ArrayVec<Part<Context>, 8>,
+        namespace: u8,
+        name: Name,
+        disambiguator: u64,
+    )
+        requires { array_vec_len parts.old + 7 ≤ 8 }
+        ensures shows { (so_far : Unshared → Unshared) → Shows self.now parts.old.items so_far → HasName self.now.bytes self.now.table.text name
+            → Shows self.now parts.new.items (λ rest. so_far (nested_name (nat_le 97 namespace) namespace (identifier_of self.now.bytes name disambiguator) rest)) }
+        ensures len { array_vec_len parts.new ≤ array_vec_len parts.old + 7 }
+    {
+        if namespace >= b'a' {
+            self.push_name_behind(parts, texts::COLONS, name);
+        } else {
+            self.push_special(parts, namespace, name, disambiguator);
+        }
+    }
+
+    /// Adds the implementation of a trait by a type.
+    pub(crate) fn push_as(
+        &self,
+        parts: &mut ArrayVec<Part<Context>, 8>,
+        self_type: u32,
+        implemented: u32,
+        ctx: Context,
+    )
+        requires { array_vec_len parts.old + 5 ≤ 8 }
+        ensures shows { (so_far : Unshared → Unshared) → Shows self.now parts.old.items so_far → ((t : tree.Ty) × IsType (trees_of self.now) self_type t) → HasDepth Form.PlainPath self_type ctx.bound → ((p : tree.Path) × IsPath (trees_of self.now) implemented p) → HasDepth Form.PlainPath implemented ctx.bound
+            → Shows self.now parts.new.items (λ rest. so_far (codes "<" then type_parts ctx.detail ctx.bound (type_in (slice_get (trees_of self.now) self_type)) also codes " as " then path_parts ctx.detail ctx.bound false (path_in (slice_get (trees_of self.now) implemented)) also codes ">" then rest)) }
+        ensures len { array_vec_len parts.new ≤ array_vec_len parts.old + 5 }
+    {
+        self.push_text(parts, texts::LESS);
+        self.push_item(parts, self_type, Form::Ty, 0, ctx);
+        self.push_text(parts, texts::AS);
+        self.push_path(parts, implemented, false, ctx);
+        self.push_text(parts, texts::GREATER);
+    }
+
+    /// Adds what stands before arguments.
+    pub(crate) fn push_less(&self, parts: &mut ArrayVec<Part<Context>, 8>, value: bool)
+        requires { array_vec_len parts.old + 1 ≤ 8 }
+        ensures shows { (so_far : Unshared → Unshared) → Shows self.now parts.old.items so_far
+            → Shows self.now parts.new.items (λ rest. so_far ((if value then codes "::<" else codes "<") then rest)) }
+        ensures len { array_vec_len parts.new ≤ array_vec_len parts.old + 1 }
+    {
+        if value {
+            self.push_text(parts, texts::COLONS_LESS);
+        } else {
+            self.push_text(parts, texts::LESS);
+        }
+    }
+
+    /// Adds arguments, unless it is in brief.
+    pub(crate) fn push_argument_list(
+        &self,
+        parts: &mut ArrayVec<Part<Context>, 8>,
+        arguments: u32,
+        value: bool,
+        ctx: Context,
+    )
+        requires room { array_vec_len parts.old + 3 ≤ 8 }
+        requires arguments { (a : tree.Arguments) × IsArguments (trees_of self.now) arguments a }
+        ensures shows { (so_far : Unshared → Unshared) → Shows self.now parts.old.items so_far → HasDepth Form.PlainPath arguments ctx.bound
+            → Shows self.now parts.new.items (λ rest. so_far (argument_list ctx.detail value (arguments_from ctx.detail ctx.bound [] (arguments_in (slice_get (trees_of self.now) arguments))) rest)) }
+        ensures len { array_vec_len parts.new ≤ array_vec_len parts.old + 3 }
+    {
+        match ctx.detail {
+            Detail::Full => {
+                self.push_less(parts, value);
+                self.push_arguments(parts, arguments, true, ctx);
+                self.push_text(parts, texts::GREATER);
+            }
+            Detail::Brief => {}
+        }
+    }
+
+    /// The parts of a path.
+    pub(crate) fn fill_path(
+        &self,
+        parts: &mut ArrayVec<Part<Context>, 8>,
+        node: u32,
+        value: bool,
+        ctx: Context,
+    )
+        requires path { (p : tree.Path) × IsPath (trees_of self.now) node p }
+        requires depth { HasDepth Form.PlainPath node ctx.bound }
+        requires empty { parts.old.items ≡ [] }
+        ensures { Fills self.now parts.new.items (path_parts ctx.detail ctx.bound value (path_in (slice_get (trees_of self.now) node))) }
+    {
+        match self.path(node) {
+            Path::Crate { name, .. } => self.push_name(parts, name),
+            Path::InherentImpl { self_type, .. } => {
+                self.push_text(parts, texts::LESS);
+                self.push_item(parts, self_type, Form::Ty, 0, ctx);
+                self.push_text(parts, texts::GREATER);
+            }
+            Path::TraitImpl {
+                self_type,
+                implemented,
+                ..
+            } => self.push_as(parts, self_type, implemented, ctx),
+            Path::TraitDefinition {
+                self_type,
+                implemented,
+            } => self.push_as(parts, self_type, implemented, ctx),
+            Path::Nested {
+                namespace,
+                parent,
+                name,
+                disambiguator,
+            } => {
+                self.push_path(parts, parent, value, ctx);
+                self.push_nested(parts, namespace, name, disambiguator);
+            }
+            Path::Generic { parent, arguments } => {
+                self.push_path(parts, parent, value, ctx);
+                self.push_argument_list(parts, arguments, value, ctx);
+            }
+        }
+    }
+
+    /// The parts of arguments from one on.
+    pub(crate) fn fill_arguments(
+        &self,
+        parts: &mut ArrayVec<Part<Context>, 8>,
+        node: u32,
+        first: bool,
+        ctx: Context,
+    )
+        requires arguments { (a : tree.Arguments) × IsArguments (trees_of self.now) node a }
+        requires depth { HasDepth Form.PlainPath node ctx.bound }
+        requires empty { parts.old.items ≡ [] }
+        ensures { Fills self.now parts.new.items (parts_in (arguments_from ctx.detail ctx.bound (if first then [] else codes ", ") (arguments_in (slice_get (trees_of self.now) node)))) }
+    {
+        match self.arguments(node) {
+            Arguments::None => {}
+            Arguments::Lifetime { rest, .. } => {
+                self.push_separator(parts, first, texts::COMMA);
+                self.push_item(parts, node, Form::Lifetime, 0, ctx);
+                self.push_arguments(parts, rest, false, ctx);
+            }
+            Arguments::Constant { constant, rest } => {
+                self.push_separator(parts, first, texts::COMMA);
+                self.push_item(parts, constant, Form::Constant, 0, ctx);
+                self.push_arguments(parts, rest, false, ctx);
+            }
+            Arguments::Ty { argument, rest } => {
+                self.push_separator(parts, first, texts::COMMA);
+                self.push_item(parts, argument, Form::Ty, 0, ctx);
+                self.push_arguments(parts, rest, false, ctx);
+            }
+        }
+    }
+
+    /// The parts of types from one on.
+    pub(crate) fn fill_types(
+        &self,
+        parts: &mut ArrayVec<Part<Context>, 8>,
+        node: u32,
+        first: bool,
+        ctx: Context,
+    )
+        requires types { (ts : tree.Tys) × IsTypes (trees_of self.now) node ts }
+        requires depth { HasDepth Form.PlainPath node ctx.bound }
+        requires empty { parts.old.items ≡ [] }
+        ensures { Fills self.now parts.new.items (parts_in (types_from ctx.detail ctx.bound (if first then [] else codes ", ") (types_in (slice_get (trees_of self.now) node)))) }
+    {
+        match self.types(node) {
+            Types::None => {}
+            Types::More { first: ty, rest } => {
+                self.push_separator(parts, first, texts::COMMA);
+                self.push_item(parts, ty, Form::Ty, 0, ctx);
+                self.push_types(parts, rest, false, ctx);
+            }
+        }
+    }
+
+    /// The parts of bounds from one on.
+    pub(crate) fn fill_bounds(
+        &self,
+        parts: &mut ArrayVec<Part<Context>, 8>,
+        node: u32,
+        first: bool,
+        ctx: Context,
+    )
+        requires bounds { (bs : tree.Bounds) × IsBounds (trees_of self.now) node bs }
+        requires depth { HasDepth Form.PlainPath node ctx.bound }
+        requires empty { parts.old.items ≡ [] }
+        ensures { Fills self.now parts.new.items (parts_in (bounds_from ctx.detail ctx.bound (if first then [] else codes " + ") (bounds_in (slice_get (trees_of self.now) node)))) }
+    {
+        match self.bounds(node) {
+            Bounds::None => {}
+            Bounds::More { rest, .. } => {
+                self.push_separator(parts, first, texts::PLUS);
+                self.push_item(parts, node, Form::Bound, 0, ctx);
+                self.push_bounds(parts, rest, false, ctx);
+            }
+        }
+    }
+
+    /// The parts of bindings from one on.
+    pub(crate) fn fill_bindings(
+        &self,
+        parts: &mut ArrayVec<Part<Context>, 8>,
+        node: u32,
+        first: bool,
+        ctx: Context,
+    )
+        requires bindings { (b : tree.Bindings) × IsBindings (trees_of self.now) node b }
+        requires depth { HasDepth Form.PlainPath node ctx.bound }
+        requires empty { parts.old.items ≡ [] }
+        ensures { Fills self.now parts.new.items (parts_in (bindings_from ctx.detail ctx.bound (if first then [] else codes ", ") (bindings_in (slice_get (trees_of self.now) node)))) }
+    {
+        match self.bindings(node) {
+            Bindings::None => {}
+            Bindings::More {
+                name,
+                bound_type,
+                rest,
+            } => {
+                self.push_separator(parts, first, texts::COMMA);
+                self.push_name(parts, name);
+                self.push_text(parts, texts::EQUALS);
+                self.push_item(parts, bound_type, Form::Ty, 0, ctx);
+                self.push_bindings(parts, rest, false, ctx);
+            }
+        }
+    }
+
+    /// The parts of a lifetime argument.
+    pub(crate) fn fill_lifetime(
+        &self,
+        parts: &mut ArrayVec<Part<Context>, 8>,
+        node: u32,
+        ctx: Context,
+    )
+        requires arguments { (a : tree.Arguments) × IsArguments (trees_of self.now) node a }
+        requires depth { HasDepth Form.PlainPath node ctx.bound }
+        requires empty { parts.old.items ≡ [] }
+        ensures { Fills self.now parts.new.items (lifetime_parts ctx.bound (lifetime_in (arguments_in (slice_get (trees_of self.now) node)))) }
+    {
+        match self.arguments(node) {
+            Arguments::Lifetime { lifetime, .. } => self.push_lifetime(parts, ctx.bound, lifetime),
+            Arguments::None => self.push_lifetime(parts, ctx.bound, 0),
+            Arguments::Constant { .. } => self.push_lifetime(parts, ctx.bound, 0),
+            Arguments::Ty { .. } => self.push_lifetime(parts, ctx.bound, 0),
+        }
+    }
+
+    /// Adds a suffix, if there is one.
+    pub(crate) fn push_suffix(&self, parts: &mut ArrayVec<Part<Context>, 8>, suffix: Span)
+        requires { array_vec_len parts.old + 3 ≤ 8 }
+        ensures shows { (so_far : Unshared → Unshared) → Shows self.now parts.old.items so_far → IsWithin suffix self.now.bytes
+            → Shows self.now parts.new.items (λ rest. so_far (suffix_parts (bytes_at self.now.bytes suffix) rest)) }
+        ensures len { array_vec_len parts.new ≤ array_vec_len parts.old + 3 }
+    {
+        if suffix.from < suffix.to {
+            self.push_text(parts, texts::BLANK_LEFT);
+            self.push_bytes(parts, suffix);
+            self.push_text(parts, texts::RIGHT);
+        }
+    }
+
+    /// The parts of a whole symbol.
+    pub(crate) fn fill_symbol(
+        &self,
+        parts: &mut ArrayVec<Part<Context>, 8>,
+        node: u32,
+        ctx: Context,
+    )
+        requires symbol { (w : tree.Symbol) × IsSymbol (trees_of self.now) node w }
+        requires depth { HasDepth Form.PlainPath node ctx.bound }
+        requires empty { parts.old.items ≡ [] }
+        ensures { Fills self.now parts.new.items (symbol_parts ctx.detail (symbol_in (slice_get (trees_of self.now) node))) }
+    {
+        let whole = self.whole(node);
+        let top = Context {
+            bound: 0,
+            detail: ctx.detail,
+        };
+        self.push_path(parts, whole.path, true, top);
+        self.push_suffix(parts, whole.suffix);
+    }
+}

@@ -1,0 +1,329 @@
+// The parts of items.
+#![tactic(auto)]
+
+ghost use Rattle.std.specs.Prelude.{◌≡◌, ℕ, ◌+◌, ◌-◌, ◌*◌, ◌<◌, ◌≤◌, ◌^◌, ◌++◌, ◌∷◌, [], List, length, slice_get, codes, nat_le, decimal, if◌then◌else◌};
+ghost use Rattle.arrayvec.specs.ArrayVec.{array_vec_len};
+ghost use Rattle.sym_print.specs.Unshared.{Unshared, done};
+ghost use Rattle.sym_print.specs.Building.{◌then◌, ◌also◌, ◌perhaps◌};
+ghost use Rattle.rust_tree.specs.Symbol as tree;
+ghost use Rattle.rust_tree.specs.Nodes.{IsPath, IsArguments, IsType, IsTypes, IsBounds, IsBindings, IsConstant, IsSymbol, HasName, name_of, identifier_of, path_in, arguments_in, type_in, types_in, bounds_in, bindings_in, constant_in, symbol_in, most_bound};
+ghost use Rattle.rust_tree.specs.Shown.{path_parts, type_parts, arguments_from, types_from, bounds_from, bindings_from, bound_parts, constant_parts, lifetime_parts, lifetime_text, numbered_lifetime, name_text, name_behind, namespace_text, special_name, generic_parts};
+ghost use Rattle.rust_tree.specs.Texts.{fixed_text};
+ghost use Rattle.rust_tree.specs.Layout.{ReadSymbol, trees_of, shown, HasForm, HasDepth, Shows, Fills, any_arguments, any_types, any_bounds, any_bindings, item_if, is_empty};
+
+use crate::context::Context;
+use crate::form::Form;
+use crate::node::{Abi, Arguments, Bindings, Bounds, Constant, Name, Node, Path, Ty, Types};
+use crate::symbol::Symbol;
+use crate::texts;
+use arrayvec::ArrayVec;
+use itoa::Buffer;
+use sym_print::{Detail, Part};
+
+impl Symbol {
+    /// Whether the list has something.
+    #[tactic(auto, unfolding(crate::specs::Nodes::arguments_of))]
+    pub(crate) fn any_arguments(&self, node: u32) -> bool
+        requires { (a : tree.Arguments) × IsArguments (trees_of self.now) node a }
+        ensures { result ≡ any_arguments (arguments_in (slice_get (trees_of self.now) node)) }
+    {
+        match self.arguments(node) {
+            Arguments::None => false,
+            Arguments::Lifetime { .. } => true,
+            Arguments::Constant { .. } => true,
+            Arguments::Ty { .. } => true,
+        }
+    }
+
+    /// Whether the list has something.
+    #[tactic(auto, unfolding(crate::specs::Nodes::types_of))]
+    pub(crate) fn any_types(&self, node: u32) -> bool
+        requires { (ts : tree.Tys) × IsTypes (trees_of self.now) node ts }
+        ensures { result ≡ any_types (types_in (slice_get (trees_of self.now) node)) }
+    {
+        match self.types(node) {
+            Types::None => false,
+            Types::More { .. } => true,
+        }
+    }
+
+    /// Whether the list has something.
+    #[tactic(auto, unfolding(crate::specs::Nodes::bounds_of))]
+    pub(crate) fn any_bounds(&self, node: u32) -> bool
+        requires { (bs : tree.Bounds) × IsBounds (trees_of self.now) node bs }
+        ensures { result ≡ any_bounds (bounds_in (slice_get (trees_of self.now) node)) }
+    {
+        match self.bounds(node) {
+            Bounds::None => false,
+            Bounds::More { .. } => true,
+        }
+    }
+
+    /// Whether the list has something.
+    #[tactic(auto, unfolding(crate::specs::Nodes::bindings_of))]
+    pub(crate) fn any_bindings(&self, node: u32) -> bool
+        requires { (b : tree.Bindings) × IsBindings (trees_of self.now) node b }
+        ensures { result ≡ any_bindings (bindings_in (slice_get (trees_of self.now) node)) }
+    {
+        match self.bindings(node) {
+            Bindings::None => false,
+            Bindings::More { .. } => true,
+        }
+    }
+
+    /// Adds an item, if it is to be added.
+    pub(crate) fn push_item_if(
+        &self,
+        any: bool,
+        parts: &mut ArrayVec<Part<Context>, 8>,
+        node: u32,
+        form: Form,
+        ctx: Context,
+    )
+        requires { array_vec_len parts.old + 1 ≤ 8 }
+        ensures shows { (so_far : Unshared → Unshared) → Shows self.now parts.old.items so_far → HasForm (trees_of self.now) node form → HasDepth form node ctx.bound
+            → Shows self.now parts.new.items (λ rest. so_far (item_if any (shown form (slice_get (trees_of self.now) node) 0 ctx) rest)) }
+        ensures len { array_vec_len parts.new ≤ array_vec_len parts.old + 1 }
+    {
+        if any {
+            self.push_item(parts, node, form, 0, ctx);
+        }
+    }
+
+    /// Adds a path in this style.
+    pub(crate) fn push_path(
+        &self,
+        parts: &mut ArrayVec<Part<Context>, 8>,
+        node: u32,
+        value: bool,
+        ctx: Context,
+    )
+        requires { array_vec_len parts.old + 1 ≤ 8 }
+        ensures shows { (so_far : Unshared → Unshared) → Shows self.now parts.old.items so_far → ((p : tree.Path) × IsPath (trees_of self.now) node p) → HasDepth Form.PlainPath node ctx.bound
+            → Shows self.now parts.new.items (λ rest. so_far (path_parts ctx.detail ctx.bound value (path_in (slice_get (trees_of self.now) node)) also rest)) }
+        ensures len { array_vec_len parts.new ≤ array_vec_len parts.old + 1 }
+    {
+        if value {
+            self.push_item(parts, node, Form::ValuePath, 0, ctx);
+        } else {
+            self.push_item(parts, node, Form::PlainPath, 0, ctx);
+        }
+    }
+
+    /// Adds the list's item, if the list has something.
+    pub(crate) fn push_arguments(
+        &self,
+        parts: &mut ArrayVec<Part<Context>, 8>,
+        node: u32,
+        first: bool,
+        ctx: Context,
+    )
+        requires room { array_vec_len parts.old + 1 ≤ 8 }
+        requires arguments { (a : tree.Arguments) × IsArguments (trees_of self.now) node a }
+        ensures shows { (so_far : Unshared → Unshared) → Shows self.now parts.old.items so_far → HasDepth Form.PlainPath node ctx.bound
+            → Shows self.now parts.new.items (λ rest. so_far (arguments_from ctx.detail ctx.bound (if first then [] else codes ", ") (arguments_in (slice_get (trees_of self.now) node)) perhaps rest)) }
+        ensures len { array_vec_len parts.new ≤ array_vec_len parts.old + 1 }
+    {
+        let any = self.any_arguments(node);
+        if first {
+            self.push_item_if(any, parts, node, Form::FirstArgument, ctx);
+        } else {
+            self.push_item_if(any, parts, node, Form::MoreArguments, ctx);
+        }
+    }
+
+    /// Adds the list's item, if the list has something.
+    pub(crate) fn push_types(
+        &self,
+        parts: &mut ArrayVec<Part<Context>, 8>,
+        node: u32,
+        first: bool,
+        ctx: Context,
+    )
+        requires room { array_vec_len parts.old + 1 ≤ 8 }
+        requires types { (ts : tree.Tys) × IsTypes (trees_of self.now) node ts }
+        ensures shows { (so_far : Unshared → Unshared) → Shows self.now parts.old.items so_far → HasDepth Form.PlainPath node ctx.bound
+            → Shows self.now parts.new.items (λ rest. so_far (types_from ctx.detail ctx.bound (if first then [] else codes ", ") (types_in (slice_get (trees_of self.now) node)) perhaps rest)) }
+        ensures len { array_vec_len parts.new ≤ array_vec_len parts.old + 1 }
+    {
+        let any = self.any_types(node);
+        if first {
+            self.push_item_if(any, parts, node, Form::FirstType, ctx);
+        } else {
+            self.push_item_if(any, parts, node, Form::MoreTypes, ctx);
+        }
+    }
+
+    /// Adds the list's item, if the list has something.
+    pub(crate) fn push_bounds(
+        &self,
+        parts: &mut ArrayVec<Part<Context>, 8>,
+        node: u32,
+        first: bool,
+        ctx: Context,
+    )
+        requires room { array_vec_len parts.old + 1 ≤ 8 }
+        requires bounds { (bs : tree.Bounds) × IsBounds (trees_of self.now) node bs }
+        ensures shows { (so_far : Unshared → Unshared) → Shows self.now parts.old.items so_far → HasDepth Form.PlainPath node ctx.bound
+            → Shows self.now parts.new.items (λ rest. so_far (bounds_from ctx.detail ctx.bound (if first then [] else codes " + ") (bounds_in (slice_get (trees_of self.now) node)) perhaps rest)) }
+        ensures len { array_vec_len parts.new ≤ array_vec_len parts.old + 1 }
+    {
+        let any = self.any_bounds(node);
+        if first {
+            self.push_item_if(any, parts, node, Form::FirstBound, ctx);
+        } else {
+            self.push_item_if(any, parts, node, Form::MoreBounds, ctx);
+        }
+    }
+
+    /// Adds the list's item, if the list has something.
+    pub(crate) fn push_bindings(
+        &self,
+        parts: &mut ArrayVec<Part<Context>, 8>,
+        node: u32,
+        first: bool,
+        ctx: Context,
+    )
+        requires room { array_vec_len parts.old + 1 ≤ 8 }
+        requires bindings { (b : tree.Bindings) × IsBindings (trees_of self.now) node b }
+        ensures shows { (so_far : Unshared → Unshared) → Shows self.now parts.old.items so_far → HasDepth Form.PlainPath node ctx.bound
+            → Shows self.now parts.new.items (λ rest. so_far (bindings_from ctx.detail ctx.bound (if first then [] else codes ", ") (bindings_in (slice_get (trees_of self.now) node)) perhaps rest)) }
+        ensures len { array_vec_len parts.new ≤ array_vec_len parts.old + 1 }
+    {
+        let any = self.any_bindings(node);
+        if first {
+            self.push_item_if(any, parts, node, Form::FirstBinding, ctx);
+        } else {
+            self.push_item_if(any, parts, node, Form::MoreBindings, ctx);
+        }
+    }
+
+    /// Adds a separator, unless it is the first of its list.
+    pub(crate) fn push_separator(
+        &self,
+        parts: &mut ArrayVec<Part<Context>, 8>,
+        first: bool,
+        number: u16,
+    )
+        requires room { array_vec_len parts.old + 1 ≤ 8 }
+        requires text { 0 < length (fixed_text number) }
+        ensures shows { (so_far : Unshared → Unshared) → Shows self.now parts.old.items so_far
+            → Shows self.now parts.new.items (λ rest. so_far ((if first then [] else fixed_text number) then rest)) }
+        ensures len { array_vec_len parts.new ≤ array_vec_len parts.old + 1 }
+    {
+        if !first {
+            self.push_text(parts, number);
+        }
+    }
+
+    /// Adds a decimal.
+    pub(crate) fn push_decimal(&self, parts: &mut ArrayVec<Part<Context>, 8>, number: u64)
+        requires { array_vec_len parts.old + 1 ≤ 8 }
+        ensures shows { (so_far : Unshared → Unshared) → Shows self.now parts.old.items so_far
+            → Shows self.now parts.new.items (λ rest. so_far (decimal number then rest)) }
+        ensures len { array_vec_len parts.new ≤ array_vec_len parts.old + 1 }
+    {
+        let mut buffer = Buffer::new();
+        let digits = buffer.format(number);
+        self.push_own(parts, b"", digits.as_bytes(), b"");
+    }
+
+    /// Adds the name of a lifetime, the outermost bound one being number 0.
+    pub(crate) fn push_numbered(&self, parts: &mut ArrayVec<Part<Context>, 8>, number: u64)
+        requires { array_vec_len parts.old + 1 ≤ 8 }
+        ensures shows { (so_far : Unshared → Unshared) → Shows self.now parts.old.items so_far
+            → Shows self.now parts.new.items (λ rest. so_far (numbered_lifetime number then rest)) }
+        ensures len { array_vec_len parts.new ≤ array_vec_len parts.old + 1 }
+    {
+        if number < 26 {
+            self.push_own(parts, b"'", &[b'a' + number as u8], b"");
+        } else {
+            let mut buffer = Buffer::new();
+            let digits = buffer.format(number);
+            self.push_own(parts, b"'_", digits.as_bytes(), b"");
+        }
+    }
+
+    /// Adds a lifetime where so many are bound.
+    pub(crate) fn push_lifetime(
+        &self,
+        parts: &mut ArrayVec<Part<Context>, 8>,
+        bound: u64,
+        lifetime: u64,
+    )
+        requires { array_vec_len parts.old + 1 ≤ 8 }
+        ensures shows { (so_far : Unshared → Unshared) → Shows self.now parts.old.items so_far
+            → Shows self.now parts.new.items (λ rest. so_far (lifetime_text bound lifetime then rest)) }
+        ensures len { array_vec_len parts.new ≤ array_vec_len parts.old + 1 }
+    {
+        match lifetime {
+            0 => self.push_own(parts, b"'_", b"", b""),
+            _ => self.push_numbered(parts, bound.saturating_sub(lifetime)),
+        }
+    }
+
+    /// Whether a name prints nothing.
+    fn prints_nothing(&self, name: Name) -> bool
+        ensures { HasName self.now.bytes self.now.table.text name → result ≡ is_empty (name_text (name_of self.now.bytes name)) }
+    {
+        let span = match name.decoded {
+            None => name.bytes,
+            Some(decoded) => decoded,
+        };
+        span.from >= span.to
+    }
+
+    /// Adds a text and a name behind it, unless the name prints nothing.
+    pub(crate) fn push_name_behind(
+        &self,
+        parts: &mut ArrayVec<Part<Context>, 8>,
+        number: u16,
+        name: Name,
+    )
+        requires room { array_vec_len parts.old + 2 ≤ 8 }
+        requires text { 0 < length (fixed_text number) }
+        ensures shows { (so_far : Unshared → Unshared) → Shows self.now parts.old.items so_far → HasName self.now.bytes self.now.table.text name
+            → Shows self.now parts.new.items (λ rest. so_far (name_behind (fixed_text number) (name_text (name_of self.now.bytes name)) rest)) }
+        ensures len { array_vec_len parts.new ≤ array_vec_len parts.old + 2 }
+    {
+        if !self.prints_nothing(name) {
+            self.push_text(parts, number);
+            self.push_name(parts, name);
+        }
+    }
+
+    /// Adds how a namespace is named.
+    pub(crate) fn push_namespace(&self, parts: &mut ArrayVec<Part<Context>, 8>, namespace: u8)
+        requires { array_vec_len parts.old + 1 ≤ 8 }
+        ensures shows { (so_far : Unshared → Unshared) → Shows self.now parts.old.items so_far
+            → Shows self.now parts.new.items (λ rest. so_far (namespace_text namespace then rest)) }
+        ensures len { array_vec_len parts.new ≤ array_vec_len parts.old + 1 }
+    {
+        match namespace {
+            b'C' => self.push_text(parts, texts::CLOSURE),
+            b'S' => self.push_text(parts, texts::SHIM),
+            _ => self.push_own(parts, &[namespace], b"", b""),
+        }
+    }
+
+    /// Adds a name in a namespace that is an upper-case letter.
+    pub(crate) fn push_special(
+        &self,
+        parts: &mut ArrayVec<Part<Context>, 8>,
+        namespace: u8,
+        name: Name,
+        disambiguator: u64,
+    )
+        requires { array_vec_len parts.old + 7 ≤ 8 }
+        ensures shows { (so_far : Unshared → Unshared) → Shows self.now parts.old.items so_far → HasName self.now.bytes self.now.table.text name
+            → Shows self.now parts.new.items (λ rest. so_far (special_name namespace (identifier_of self.now.bytes name disambiguator) rest)) }
+        ensures len { array_vec_len parts.new ≤ array_vec_len parts.old + 7 }
+    {
+        self.push_text(parts, texts::COLONS_BRACE);
+        self.push_namespace(parts, namespace);
+        self.push_name_behind(parts, texts::COLON, name);
+        self.push_text(parts, texts::NUMBER_SIGN);
+        self.push_decimal(parts, disambiguator);
+        self.push_text(parts, texts::RIGHT_BRACE);
+    }
+}

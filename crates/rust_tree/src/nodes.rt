@@ -1,0 +1,300 @@
+// A table of nodes, and the text list.
+#![tactic(auto)]
+
+ghost use Rattle.std.specs.Prelude.{◌≡◌, ℕ, ◌+◌, ◌*◌, ◌<◌, ◌≤◌, ◌^◌, ◌++◌, ◌∷◌, [], List, length, slice_get, Some, true, IfOk, IfErr, OnErr};
+ghost use Rattle.rust_tree.specs.Nodes.{Table, IsTable, Makes, Grows, trees, IsWithin, bytes_at};
+ghost use Rattle.rust_tree.specs.Needs.{need_at, path_needs, arguments_need, type_needs, types_need, bounds_need, bindings_need, symbol_needs, needs, need_at_other};
+ghost use Rattle.rust_tree.specs.Tree.{Tree, need_of_tree};
+ghost use Rattle.sym_core.specs.declared.Refusal.{Refusal};
+ghost use Rattle.sym_core.specs.declared.NameClass.{NameClass};
+ghost use Rattle.sym_core.specs.Token.{AreNameBytes};
+ghost use Rattle.sym_core.specs.Printed.{printed_name, signed_text};
+
+use crate::node::{Arguments, Bindings, Bounds, Entry, Node, Path, Ty, Types, Whole};
+use std::alloc::Global;
+use std::marker::Model;
+use sym_core::{Refusal, Span};
+
+/// The nodes of a symbol, each behind its parts, and the text list, in which decoded names and decimals are.
+#[derive(Drop)]
+pub struct Nodes {
+    entries: Vec<Entry>,
+    text: Vec<u8>,
+}
+
+impl Model for Nodes {
+    ghost use Rattle.rust_tree.specs.Nodes.{Table};
+
+    ghost Value = { Table };
+
+    ghost view = { λ t. record { nodes = t.entries.items; text = t.text.items } };
+}
+
+impl Nodes {
+    /// A table of no nodes.
+    pub fn new(alloc: Global) -> Nodes
+        ensures nodes { result.nodes ≡ [] }
+        ensures text { result.text ≡ [] }
+    {
+        Nodes {
+            entries: Vec::new(alloc),
+            text: Vec::new(alloc),
+        }
+    }
+
+    /// How many nodes there are.
+    pub fn len(&self) -> usize
+        ensures { result ≡ length self.now.nodes }
+    {
+        self.entries.len()
+    }
+
+    /// Bytes of the text list.
+    pub fn printed(&self, span: Span) -> &[u8]
+        requires { IsWithin span self.now.text }
+        ensures { result.now ≡ bytes_at self.now.text span }
+    {
+        &self.text[span.from as usize..span.to as usize]
+    }
+
+    /// The node of a number.
+    pub fn node(&self, number: u32) -> Node
+        requires { number < length self.now.nodes }
+        ensures { (need : ℕ) × (slice_get self.now.nodes number ≡ Some (record { node = result; need = need })) }
+    {
+        self.entries[number as usize].node
+    }
+
+    /// How many enclosing bound lifetimes close the tree of a node.
+    pub fn need(&self, node: u32) -> u64
+        ensures { (s : List ℕ) (t : Tree) → IsTable s self.now → slice_get (trees s self.now.nodes) node ≡ Some t → result ≡ need_of_tree t }
+    {
+        self.stored_need(node)
+    }
+
+    /// What is noted of the need of a node, 0 where there is none.
+    fn stored_need(&self, node: u32) -> u64
+        ensures { result ≡ need_at self.now.nodes node }
+    {
+        match self.entries.get(node as usize) {
+            Some(entry) => entry.need,
+            None => 0,
+        }
+    }
+
+    fn path_need(&self, path: Path) -> u64
+        ensures { result ≡ path_needs self.now.nodes path }
+    {
+        match path {
+            Path::Crate { .. } => 0,
+            Path::InherentImpl {
+                path,
+                self_type,
+                ..
+            } => self.stored_need(path).max(self.stored_need(self_type)),
+            Path::TraitImpl {
+                path,
+                self_type,
+                implemented,
+                ..
+            } => self
+                .stored_need(path)
+                .max(self.stored_need(self_type))
+                .max(self.stored_need(implemented)),
+            Path::TraitDefinition {
+                self_type,
+                implemented,
+            } => self
+                .stored_need(self_type)
+                .max(self.stored_need(implemented)),
+            Path::Nested { parent, .. } => self.stored_need(parent),
+            Path::Generic { parent, arguments } => self
+                .stored_need(parent)
+                .max(self.stored_need(arguments)),
+        }
+    }
+
+    fn arguments_need(&self, arguments: Arguments) -> u64
+        ensures { result ≡ arguments_need self.now.nodes arguments }
+    {
+        match arguments {
+            Arguments::None => 0,
+            Arguments::Lifetime { lifetime, rest } => lifetime.max(self.stored_need(rest)),
+            Arguments::Constant { rest, .. } => self.stored_need(rest),
+            Arguments::Ty { argument, rest } => self
+                .stored_need(argument)
+                .max(self.stored_need(rest)),
+        }
+    }
+
+    fn type_need(&self, ty: Ty) -> u64
+        ensures { result ≡ type_needs self.now.nodes ty }
+    {
+        match ty {
+            Ty::Basic(_) => 0,
+            Ty::Array { element, .. } => self.stored_need(element),
+            Ty::Slice(element) => self.stored_need(element),
+            Ty::Tuple(elements) => self.stored_need(elements),
+            Ty::SharedReference { lifetime, referent } => lifetime.max(self.stored_need(referent)),
+            Ty::MutableReference { lifetime, referent } => lifetime.max(self.stored_need(referent)),
+            Ty::ConstPointer(pointee) => self.stored_need(pointee),
+            Ty::MutPointer(pointee) => self.stored_need(pointee),
+            Ty::Function {
+                binder,
+                parameters,
+                returned,
+                ..
+            } => self
+                .stored_need(parameters)
+                .max(self.stored_need(returned))
+                .saturating_sub(binder as u64),
+            Ty::Dyn {
+                binder,
+                bounds,
+                lifetime,
+            } => self
+                .stored_need(bounds)
+                .saturating_sub(binder as u64)
+                .max(lifetime),
+        }
+    }
+
+    fn types_need(&self, types: Types) -> u64
+        ensures { result ≡ types_need self.now.nodes types }
+    {
+        match types {
+            Types::None => 0,
+            Types::More { first, rest } => self.stored_need(first).max(self.stored_need(rest)),
+        }
+    }
+
+    fn bounds_need(&self, bounds: Bounds) -> u64
+        ensures { result ≡ bounds_need self.now.nodes bounds }
+    {
+        match bounds {
+            Bounds::None => 0,
+            Bounds::More {
+                path,
+                bindings,
+                rest,
+            } => self
+                .stored_need(path)
+                .max(self.stored_need(bindings))
+                .max(self.stored_need(rest)),
+        }
+    }
+
+    fn bindings_need(&self, bindings: Bindings) -> u64
+        ensures { result ≡ bindings_need self.now.nodes bindings }
+    {
+        match bindings {
+            Bindings::None => 0,
+            Bindings::More {
+                bound_type,
+                rest,
+                ..
+            } => self.stored_need(bound_type).max(self.stored_need(rest)),
+        }
+    }
+
+    fn symbol_need(&self, whole: Whole) -> u64
+        ensures { result ≡ symbol_needs self.now.nodes whole }
+    {
+        let other = match whole.instantiating {
+            Some(path) => self.stored_need(path),
+            None => 0,
+        };
+        self.stored_need(whole.path).max(other)
+    }
+
+    fn node_need(&self, node: Node) -> u64
+        ensures { result ≡ needs self.now.nodes node }
+    {
+        match node {
+            Node::Path(path) => self.path_need(path),
+            Node::Arguments(arguments) => self.arguments_need(arguments),
+            Node::Ty(ty) => self.type_need(ty),
+            Node::Types(types) => self.types_need(types),
+            Node::Bounds(bounds) => self.bounds_need(bounds),
+            Node::Bindings(bindings) => self.bindings_need(bindings),
+            Node::Constant(_) => 0,
+            Node::Symbol(whole) => self.symbol_need(whole),
+        }
+    }
+
+    /// Adds a node behind its parts, and answers its number.
+    pub fn push(&mut self, node: Node) -> Result<u32, Refusal>
+        requires room { length self.old.nodes + 1 < 2 ^ 32 }
+        ensures number { IfOk result (λ number. number ≡ length self.old.nodes) }
+        ensures stands { IfOk result (λ number. (s : List ℕ) (t : Tree) → IsTable s self.old → Makes s self.old node t → IsTable s self.new × (slice_get (trees s self.new.nodes) number ≡ Some t)) }
+        ensures grows { Grows self.old self.new }
+        ensures one { length self.new.nodes ≤ length self.old.nodes + 1 }
+        ensures text { self.new.text ≡ self.old.text }
+        ensures same { OnErr result (self.new ≡ self.old) }
+        ensures memory { IfErr result (λ r. r ≡ Refusal.Memory) }
+    {
+        let number = self.entries.len() as u32;
+        let entry = Entry {
+            node,
+            need: self.node_need(node),
+        };
+        if self.entries.push(entry).is_err() {
+            return Err(Refusal::Memory);
+        }
+        Ok(number)
+    }
+
+    /// Adds to the text list what a name in Punycode prints, and answers its span.
+    ///
+    /// # Errors
+    ///
+    /// `Memory` where a list couldn't grow; the table is then as it was.
+    pub fn push_name(&mut self, alloc: Global, bytes: &[u8]) -> Result<Span, Refusal>
+        requires name { AreNameBytes NameClass.Rust bytes.now }
+        requires room { length self.old.text + 4 * length bytes.now + 10 < 2 ^ 32 }
+        ensures nodes { self.new.nodes ≡ self.old.nodes }
+        ensures within { IfOk result (λ span. IsWithin span self.new.text) }
+        ensures printed { IfOk result (λ span. bytes_at self.new.text span ≡ printed_name true bytes.now) }
+        ensures text { IfOk result (λ span. self.new.text ≡ self.old.text ++ printed_name true bytes.now) }
+        ensures span { IfOk result (λ span. (span.from ≡ length self.old.text) × (span.to ≡ length self.new.text)) }
+        ensures few { IfOk result (λ span. span.to ≤ span.from + 4 * length bytes.now + 8) }
+        ensures grows { Grows self.old self.new }
+        ensures stays { (s : List ℕ) → IsTable s self.old → IsTable s self.new }
+        ensures same { OnErr result (self.new ≡ self.old) }
+        ensures memory { IfErr result (λ r. r ≡ Refusal.Memory) }
+    {
+        let span = sym_core::push_name(alloc, bytes, true, &mut self.text)?;
+        Ok(span)
+    }
+
+    /// Adds to the text list a decimal, behind a minus where that is asked for, and answers its span.
+    ///
+    /// # Errors
+    ///
+    /// `Memory` where a list couldn't grow; the table is then as it was.
+    pub fn push_decimal(&mut self, alloc: Global, value: u128, minus: bool) -> Result<Span, Refusal>
+        requires room { length self.old.text + 40 < 2 ^ 32 }
+        ensures nodes { self.new.nodes ≡ self.old.nodes }
+        ensures within { IfOk result (λ span. IsWithin span self.new.text) }
+        ensures printed { IfOk result (λ span. bytes_at self.new.text span ≡ signed_text minus value) }
+        ensures text { IfOk result (λ span. self.new.text ≡ self.old.text ++ signed_text minus value) }
+        ensures span { IfOk result (λ span. (span.from ≡ length self.old.text) × (span.to ≡ length self.new.text)) }
+        ensures few { IfOk result (λ span. span.to ≤ span.from + 40) }
+        ensures grows { Grows self.old self.new }
+        ensures stays { (s : List ℕ) → IsTable s self.old → IsTable s self.new }
+        ensures same { OnErr result (self.new ≡ self.old) }
+        ensures memory { IfErr result (λ r. r ≡ Refusal.Memory) }
+    {
+        let span = sym_core::push_decimal(alloc, value, minus, &mut self.text)?;
+        Ok(span)
+    }
+
+    /// Takes all nodes and the text list away, and keeps their memory.
+    pub fn clear(&mut self)
+        ensures nodes { self.new.nodes ≡ [] }
+        ensures text { self.new.text ≡ [] }
+    {
+        self.entries.clear();
+        self.text.clear();
+    }
+}

@@ -1,0 +1,124 @@
+// A symbol as a layout, and its text.
+#![tactic(auto)]
+
+ghost use Rattle.std.specs.Prelude.{◌≡◌, ℕ, ◌+◌, ◌<◌, ◌≤◌, [], List, length, IfOk, IfErr, OnOk, OnErr, ◌⊎◌, Err};
+ghost use Rattle.std.specs.List.{All};
+ghost use Rattle.sym_core.specs.declared.Refusal.{Refusal};
+ghost use Rattle.sym_print.specs.declared.layout.Part.{Part};
+ghost use Rattle.sym_print.specs.declared.detail.Detail.{Detail};
+ghost use Rattle.sym_print.specs.Unshared.{text_of, cost_of};
+ghost use Rattle.sym_print.specs.Joined.{joined};
+ghost use Rattle.rust_tree.specs.Layout.{unshared_of, bytes_of_part, MayCome, shown_symbol};
+
+use crate::context::Context;
+use crate::form::Form;
+use crate::symbol::Symbol;
+use crate::texts;
+use arrayvec::ArrayVec;
+use sym_core::Refusal;
+use sym_print::{Detail, Item, Layout, Part, print};
+
+impl Layout for Symbol {
+    ghost use Rattle.std.proofs.Common.{lit≤};
+    ghost use Rattle.rust_tree.specs.Layout.{unshared_of, bytes_of_part, MayCome};
+
+    type Ctx = Context;
+
+    ghost may_come = { MayCome };
+
+    ghost unshared = { unshared_of };
+
+    ghost bytes_of = { bytes_of_part };
+
+    fn fill(&self, item: Item<Context>, parts: &mut ArrayVec<Part<Context>, 8>)
+        requires may_come { MayCome self.now (Part.Sub item) }
+        requires empty { parts.old.items ≡ [] }
+        ensures parts { unshared_of self.now item ≡ joined (unshared_of self.now) (bytes_of_part self.now) parts.new.items }
+        ensures may_come { All (MayCome self.now) parts.new.items }
+    {
+        let node = item.node;
+        let ctx = item.ctx;
+        match Form::of(item.form) {
+            Form::Root => self.fill_symbol(parts, node, ctx),
+            Form::ValuePath => self.fill_path(parts, node, true, ctx),
+            Form::PlainPath => self.fill_path(parts, node, false, ctx),
+            Form::Ty => self.fill_type(parts, node, ctx),
+            Form::Constant => self.fill_constant(parts, node),
+            Form::FirstArgument => self.fill_arguments(parts, node, true, ctx),
+            Form::MoreArguments => self.fill_arguments(parts, node, false, ctx),
+            Form::Lifetime => self.fill_lifetime(parts, node, ctx),
+            Form::FirstType => self.fill_types(parts, node, true, ctx),
+            Form::MoreTypes => self.fill_types(parts, node, false, ctx),
+            Form::Signature => self.fill_signature(parts, node, ctx),
+            Form::Names => self.fill_names(parts, node, item.at, ctx),
+            Form::FirstBound => self.fill_bounds(parts, node, true, ctx),
+            Form::MoreBounds => self.fill_bounds(parts, node, false, ctx),
+            Form::Bound => self.fill_bound(parts, node, ctx),
+            Form::FirstBinding => self.fill_bindings(parts, node, true, ctx),
+            Form::MoreBindings => self.fill_bindings(parts, node, false, ctx),
+        }
+    }
+
+    fn bytes<'a>(&'a self, part: &'a Part<Context>) -> &'a [u8] {
+        match part {
+            Part::Symbol(span) => self.symbol_bytes(*span),
+            Part::List(span) => self.printed_bytes(*span),
+            Part::Fixed(number) => texts::fixed_text(*number),
+            Part::Own(bytes, count) => &bytes[..*count as usize],
+            Part::Sub(_) => b"",
+        }
+    }
+
+    ghost small_context = { (lit≤ tt, lit≤ tt) };
+}
+
+impl Symbol {
+    /// The item of the whole symbol, in full.
+    pub fn root(&self) -> Item<Context>
+        ensures may_come { MayCome self.now (Part.Sub result) }
+        ensures shows { unshared_of self.now result ≡ shown_symbol Detail.Full self.now }
+    {
+        self.root_as(Detail::Full)
+    }
+
+    /// The item of the whole symbol in a detail.
+    pub fn root_as(&self, detail: Detail) -> Item<Context>
+        ensures may_come { MayCome self.now (Part.Sub result) }
+        ensures shows { unshared_of self.now result ≡ shown_symbol detail self.now }
+    {
+        Item {
+            node: self.root_node(),
+            form: Form::Root.number(),
+            at: 0,
+            ctx: Context { bound: 0, detail },
+        }
+    }
+
+    /// The text of the symbol, if it costs at most the limit.
+    ///
+    /// # Errors
+    ///
+    /// `TooLong` exactly where it costs more, `Memory` where a list couldn't grow.
+    pub fn text(&self, limit: u32) -> Result<Vec<u8>, Refusal>
+        ensures text { IfOk result (λ text. text.items ≡ text_of (shown_symbol Detail.Full self.now)) }
+        ensures within { OnOk result (cost_of (shown_symbol Detail.Full self.now) ≤ limit) }
+        ensures refusals { IfErr result (λ r. (r ≡ Refusal.TooLong) ⊎ (r ≡ Refusal.Memory)) }
+        ensures too_long { result ≡ Err Refusal.TooLong → limit < cost_of (shown_symbol Detail.Full self.now) }
+    {
+        self.text_as(limit, Detail::Full)
+    }
+
+    /// The text of the symbol in a detail, if it costs at most the limit.
+    ///
+    /// # Errors
+    ///
+    /// `TooLong` exactly where it costs more, `Memory` where a list couldn't grow.
+    pub fn text_as(&self, limit: u32, detail: Detail) -> Result<Vec<u8>, Refusal>
+        ensures text { IfOk result (λ text. text.items ≡ text_of (shown_symbol detail self.now)) }
+        ensures within { OnOk result (cost_of (shown_symbol detail self.now) ≤ limit) }
+        ensures refusals { IfErr result (λ r. (r ≡ Refusal.TooLong) ⊎ (r ≡ Refusal.Memory)) }
+        ensures too_long { result ≡ Err Refusal.TooLong → limit < cost_of (shown_symbol detail self.now) }
+    {
+        print(self.allocator(), self, self.root_as(detail), limit)
+    }
+}

@@ -1,0 +1,403 @@
+// The parts of types, bounds and constants.
+#![tactic(auto)]
+
+ghost use Rattle.std.specs.Prelude.{◌≡◌, ℕ, ◌+◌, ◌-◌, ◌*◌, ◌<◌, ◌≤◌, ◌^◌, ◌++◌, ◌∷◌, [], List, length, take, slice_get, codes, nat_le, true, false, if◌then◌else◌};
+ghost use Rattle.arrayvec.specs.ArrayVec.{array_vec_len};
+ghost use Rattle.sym_print.specs.Unshared.{Unshared, done};
+ghost use Rattle.sym_print.specs.Building.{◌then◌, ◌also◌, ◌perhaps◌};
+ghost use Rattle.rust_tree.specs.Symbol as tree;
+ghost use Rattle.rust_tree.specs.Nodes.{IsPath, IsArguments, IsType, IsTypes, IsBounds, IsBindings, IsConstant, IsSymbol, HasName, HasAbi, HasTypeParts, name_of, identifier_of, abi_of, type_of, path_in, arguments_in, type_in, types_in, bounds_in, bindings_in, constant_in, symbol_in, bytes_at, IsWithin};
+ghost use Rattle.rust_tree.specs.Shown.{path_parts, type_parts, arguments_from, types_from, bounds_from, bindings_from, bound_parts, constant_parts, lifetime_parts, symbol_parts, suffix_parts, argument_list, nested_name, reference_opening, dyn_lifetime, for_binder, signature_opening, returned_parts, closing_tuple, is_unit, basic_text};
+ghost use Rattle.rust_tree.specs.Texts.{fixed_text};
+ghost use Rattle.rust_tree.specs.Tree.{Tree, of_type};
+ghost use Rattle.rust_tree.specs.Layout.{ReadSymbol, trees_of, HasDepth, Shows, Fills, parts_in, lifetime_in, binder_in, signature_in, names_in, bound_in};
+
+use crate::context::Context;
+use crate::form::Form;
+use crate::node::{Abi, Arguments, Bindings, Bounds, Constant, Name, Node, Path, Ty, Types};
+use crate::symbol::Symbol;
+use crate::texts;
+use arrayvec::ArrayVec;
+use sym_core::Span;
+use sym_print::{Detail, Part};
+
+impl Symbol {
+    /// Adds the text of a basic type, if the letter is that of one.
+    fn push_basic(&self, parts: &mut ArrayVec<Part<Context>, 8>, letter: u8)
+        requires { array_vec_len parts.old + 1 ≤ 8 }
+        ensures shows { (so_far : Unshared → Unshared) → Shows self.now parts.old.items so_far
+            → Shows self.now parts.new.items (λ rest. so_far (basic_text letter then rest)) }
+        ensures len { array_vec_len parts.new ≤ array_vec_len parts.old + 1 }
+    {
+        if letter < b'a' {
+            return;
+        }
+        if !texts::basic_text(letter as u16).is_empty() {
+            self.push_text(parts, letter as u16);
+        }
+    }
+
+    /// Adds the beginning of a reference.
+    fn push_reference(
+        &self,
+        parts: &mut ArrayVec<Part<Context>, 8>,
+        lifetime: u64,
+        mutable: bool,
+        ctx: Context,
+    )
+        requires { array_vec_len parts.old + 3 ≤ 8 }
+        ensures shows { (so_far : Unshared → Unshared) → Shows self.now parts.old.items so_far
+            → Shows self.now parts.new.items (λ rest. so_far (reference_opening ctx.bound lifetime mutable rest)) }
+        ensures len { array_vec_len parts.new ≤ array_vec_len parts.old + 3 }
+    {
+        match lifetime {
+            0 => self.push_either(parts, mutable, texts::AND_MUT, texts::AND),
+            _ => {
+                self.push_text(parts, texts::AND);
+                self.push_lifetime(parts, ctx.bound, lifetime);
+                self.push_either(parts, mutable, texts::MUT, texts::BLANK);
+            }
+        }
+    }
+
+    /// Adds one of two texts.
+    pub(crate) fn push_either(
+        &self,
+        parts: &mut ArrayVec<Part<Context>, 8>,
+        first: bool,
+        one: u16,
+        other: u16,
+    )
+        requires room { array_vec_len parts.old + 1 ≤ 8 }
+        requires one { 0 < length (fixed_text one) }
+        requires other { 0 < length (fixed_text other) }
+        ensures shows { (so_far : Unshared → Unshared) → Shows self.now parts.old.items so_far
+            → Shows self.now parts.new.items (λ rest. so_far ((if first then fixed_text one else fixed_text other) then rest)) }
+        ensures len { array_vec_len parts.new ≤ array_vec_len parts.old + 1 }
+    {
+        if first {
+            self.push_text(parts, one);
+        } else {
+            self.push_text(parts, other);
+        }
+    }
+
+    /// Adds the lifetime behind a `dyn`'s bounds, unless it is erased.
+    fn push_dyn_lifetime(&self, parts: &mut ArrayVec<Part<Context>, 8>, lifetime: u64, ctx: Context)
+        requires { array_vec_len parts.old + 2 ≤ 8 }
+        ensures shows { (so_far : Unshared → Unshared) → Shows self.now parts.old.items so_far
+            → Shows self.now parts.new.items (λ rest. so_far (dyn_lifetime ctx.bound lifetime rest)) }
+        ensures len { array_vec_len parts.new ≤ array_vec_len parts.old + 2 }
+    {
+        match lifetime {
+            0 => {}
+            _ => {
+                self.push_text(parts, texts::PLUS);
+                self.push_lifetime(parts, ctx.bound, lifetime);
+            }
+        }
+    }
+
+    /// Adds a node's binder, if it binds something.
+    fn push_binder(
+        &self,
+        parts: &mut ArrayVec<Part<Context>, 8>,
+        node: u32,
+        binder: u16,
+        ctx: Context,
+    )
+        requires { array_vec_len parts.old + 3 ≤ 8 }
+        ensures shows { (so_far : Unshared → Unshared) → Shows self.now parts.old.items so_far → ((t : tree.Ty) × IsType (trees_of self.now) node t) → HasDepth Form.PlainPath node ctx.bound → binder_in (type_in (slice_get (trees_of self.now) node)) ≡ binder
+            → Shows self.now parts.new.items (λ rest. so_far (for_binder ctx.bound binder rest)) }
+        ensures len { array_vec_len parts.new ≤ array_vec_len parts.old + 3 }
+    {
+        match binder {
+            0 => {}
+            _ => {
+                self.push_text(parts, texts::FOR);
+                self.push_item(parts, node, Form::Names, 0, ctx);
+                self.push_text(parts, texts::GREATER_BLANK);
+            }
+        }
+    }
+
+    /// Adds the end of a tuple.
+    fn push_closing(&self, parts: &mut ArrayVec<Part<Context>, 8>, elements: u32)
+        requires room { array_vec_len parts.old + 1 ≤ 8 }
+        requires types { (ts : tree.Tys) × IsTypes (trees_of self.now) elements ts }
+        ensures shows { (so_far : Unshared → Unshared) → Shows self.now parts.old.items so_far
+            → Shows self.now parts.new.items (λ rest. so_far (closing_tuple (types_in (slice_get (trees_of self.now) elements)) then rest)) }
+        ensures len { array_vec_len parts.new ≤ array_vec_len parts.old + 1 }
+    {
+        match self.types(elements) {
+            Types::None => self.push_text(parts, texts::RIGHT),
+            Types::More { rest, .. } => {
+                self.push_either(
+                    parts,
+                    self.any_types(rest),
+                    texts::RIGHT,
+                    texts::COMMA_RIGHT,
+                );
+            }
+        }
+    }
+
+    /// The parts of a type that isn't a path.
+    fn fill_ty(&self, parts: &mut ArrayVec<Part<Context>, 8>, ty: Ty, node: u32, ctx: Context)
+        requires parts { HasTypeParts self.now.bytes self.now.table.text (take node (trees_of self.now)) ty }
+        requires tree { slice_get (trees_of self.now) node ≡ Some (of_type (type_of self.now.bytes (trees_of self.now) ty)) }
+        requires depth { HasDepth Form.PlainPath node ctx.bound }
+        requires empty { parts.old.items ≡ [] }
+        ensures { Fills self.now parts.new.items (type_parts ctx.detail ctx.bound (type_of self.now.bytes (trees_of self.now) ty)) }
+    {
+        match ty {
+            Ty::Basic(letter) => self.push_basic(parts, letter),
+            Ty::Array { element, size } => {
+                self.push_text(parts, texts::LEFT_BRACKET);
+                self.push_item(parts, element, Form::Ty, 0, ctx);
+                self.push_text(parts, texts::SEMICOLON);
+                self.push_item(parts, size, Form::Constant, 0, ctx);
+                self.push_text(parts, texts::RIGHT_BRACKET);
+            }
+            Ty::Slice(element) => {
+                self.push_text(parts, texts::LEFT_BRACKET);
+                self.push_item(parts, element, Form::Ty, 0, ctx);
+                self.push_text(parts, texts::RIGHT_BRACKET);
+            }
+            Ty::Tuple(elements) => {
+                self.push_text(parts, texts::LEFT);
+                self.push_types(parts, elements, true, ctx);
+                self.push_closing(parts, elements);
+            }
+            Ty::SharedReference { lifetime, referent } => {
+                self.push_reference(parts, lifetime, false, ctx);
+                self.push_item(parts, referent, Form::Ty, 0, ctx);
+            }
+            Ty::MutableReference { lifetime, referent } => {
+                self.push_reference(parts, lifetime, true, ctx);
+                self.push_item(parts, referent, Form::Ty, 0, ctx);
+            }
+            Ty::ConstPointer(pointee) => {
+                self.push_text(parts, texts::CONST_POINTER);
+                self.push_item(parts, pointee, Form::Ty, 0, ctx);
+            }
+            Ty::MutPointer(pointee) => {
+                self.push_text(parts, texts::MUT_POINTER);
+                self.push_item(parts, pointee, Form::Ty, 0, ctx);
+            }
+            Ty::Function { binder, .. } => {
+                self.push_binder(parts, node, binder, ctx);
+                let inner = Context {
+                    bound: ctx.bound + binder as u64,
+                    detail: ctx.detail,
+                };
+                self.push_item(parts, node, Form::Signature, 0, inner);
+            }
+            Ty::Dyn {
+                binder,
+                bounds,
+                lifetime,
+            } => {
+                self.push_text(parts, texts::DYN);
+                self.push_binder(parts, node, binder, ctx);
+                let inner = Context {
+                    bound: ctx.bound + binder as u64,
+                    detail: ctx.detail,
+                };
+                self.push_bounds(parts, bounds, true, inner);
+                self.push_dyn_lifetime(parts, lifetime, ctx);
+            }
+        }
+    }
+
+    /// The parts of a type, or of a path as one.
+    pub(crate) fn fill_type(&self, parts: &mut ArrayVec<Part<Context>, 8>, node: u32, ctx: Context)
+        requires ty { (t : tree.Ty) × IsType (trees_of self.now) node t }
+        requires depth { HasDepth Form.PlainPath node ctx.bound }
+        requires empty { parts.old.items ≡ [] }
+        ensures { Fills self.now parts.new.items (type_parts ctx.detail ctx.bound (type_in (slice_get (trees_of self.now) node))) }
+    {
+        match self.node(node) {
+            Node::Path(_) => self.fill_path(parts, node, false, ctx),
+            Node::Ty(ty) => self.fill_ty(parts, ty, node, ctx),
+            _ => unreachable!(),
+        }
+    }
+
+    /// Adds how a signature begins.
+    fn push_opening(&self, parts: &mut ArrayVec<Part<Context>, 8>, is_unsafe: bool, abi: Abi)
+        requires { array_vec_len parts.old + 3 ≤ 8 }
+        ensures shows { (so_far : Unshared → Unshared) → Shows self.now parts.old.items so_far → HasAbi self.now.bytes self.now.table.text abi
+            → Shows self.now parts.new.items (λ rest. so_far (signature_opening is_unsafe (abi_of self.now.bytes abi) rest)) }
+        ensures len { array_vec_len parts.new ≤ array_vec_len parts.old + 3 }
+    {
+        match abi {
+            Abi::Rust => self.push_either(parts, is_unsafe, texts::UNSAFE_FN, texts::FN),
+            Abi::C => {
+                self.push_either(parts, is_unsafe, texts::UNSAFE_EXTERN, texts::EXTERN);
+                self.push_text(parts, texts::C);
+                self.push_text(parts, texts::QUOTE_FN);
+            }
+            Abi::Named(name) => {
+                self.push_either(parts, is_unsafe, texts::UNSAFE_EXTERN, texts::EXTERN);
+                self.push_name(parts, name);
+                self.push_text(parts, texts::QUOTE_FN);
+            }
+        }
+    }
+
+    /// Whether a type is the unit type, by its letter.
+    fn is_unit(&self, node: u32) -> bool
+        requires { (t : tree.Ty) × IsType (trees_of self.now) node t }
+        ensures { result ≡ is_unit (type_in (slice_get (trees_of self.now) node)) }
+    {
+        match self.node(node) {
+            Node::Path(_) => false,
+            Node::Ty(ty) => is_unit(ty),
+            _ => unreachable!(),
+        }
+    }
+
+    /// Adds a signature's result, unless it is the unit type.
+    fn push_returned(&self, parts: &mut ArrayVec<Part<Context>, 8>, returned: u32, ctx: Context)
+        requires room { array_vec_len parts.old + 2 ≤ 8 }
+        requires ty { (t : tree.Ty) × IsType (trees_of self.now) returned t }
+        ensures shows { (so_far : Unshared → Unshared) → Shows self.now parts.old.items so_far → HasDepth Form.PlainPath returned ctx.bound
+            → Shows self.now parts.new.items (λ rest. so_far (returned_parts (is_unit (type_in (slice_get (trees_of self.now) returned))) (type_parts ctx.detail ctx.bound (type_in (slice_get (trees_of self.now) returned))) rest)) }
+        ensures len { array_vec_len parts.new ≤ array_vec_len parts.old + 2 }
+    {
+        if !self.is_unit(returned) {
+            self.push_text(parts, texts::ARROW);
+            self.push_item(parts, returned, Form::Ty, 0, ctx);
+        }
+    }
+
+    /// The parts of a function's type without its binder.
+    pub(crate) fn fill_signature(
+        &self,
+        parts: &mut ArrayVec<Part<Context>, 8>,
+        node: u32,
+        ctx: Context,
+    )
+        requires ty { (t : tree.Ty) × IsType (trees_of self.now) node t }
+        requires depth { HasDepth Form.Signature node ctx.bound }
+        requires empty { parts.old.items ≡ [] }
+        ensures { Fills self.now parts.new.items (signature_in ctx (type_in (slice_get (trees_of self.now) node))) }
+    {
+        match self.node(node) {
+            Node::Path(_) => {}
+            Node::Ty(ty) => self.fill_ty_signature(parts, ty, node, ctx),
+            _ => unreachable!(),
+        }
+    }
+
+    fn fill_ty_signature(
+        &self,
+        parts: &mut ArrayVec<Part<Context>, 8>,
+        ty: Ty,
+        node: u32,
+        ctx: Context,
+    )
+        requires parts { HasTypeParts self.now.bytes self.now.table.text (take node (trees_of self.now)) ty }
+        requires depth { HasDepth Form.Signature node ctx.bound }
+        requires empty { parts.old.items ≡ [] }
+        ensures { Fills self.now parts.new.items (signature_in ctx (type_of self.now.bytes (trees_of self.now) ty)) }
+    {
+        match ty {
+            Ty::Function {
+                is_unsafe,
+                abi,
+                parameters,
+                returned,
+                ..
+            } => {
+                self.push_opening(parts, is_unsafe, abi);
+                self.push_types(parts, parameters, true, ctx);
+                self.push_text(parts, texts::RIGHT);
+                self.push_returned(parts, returned, ctx);
+            }
+            Ty::Basic(_) => {}
+            Ty::Array { .. } => {}
+            Ty::Slice(_) => {}
+            Ty::Tuple(_) => {}
+            Ty::SharedReference { .. } => {}
+            Ty::MutableReference { .. } => {}
+            Ty::ConstPointer(_) => {}
+            Ty::MutPointer(_) => {}
+            Ty::Dyn { .. } => {}
+        }
+    }
+
+    /// How many lifetimes a type binds.
+    fn binder(&self, node: u32) -> u16
+        requires { (t : tree.Ty) × IsType (trees_of self.now) node t }
+        ensures { result ≡ binder_in (type_in (slice_get (trees_of self.now) node)) }
+    {
+        match self.node(node) {
+            Node::Path(_) => 0,
+            Node::Ty(ty) => ty_binder(ty),
+            _ => unreachable!(),
+        }
+    }
+
+    /// The names of a binder's lifetimes from one on.
+    pub(crate) fn fill_names(
+        &self,
+        parts: &mut ArrayVec<Part<Context>, 8>,
+        node: u32,
+        at: u32,
+        ctx: Context,
+    )
+        requires ty { (t : tree.Ty) × IsType (trees_of self.now) node t }
+        requires depth { HasDepth Form.PlainPath node ctx.bound }
+        requires empty { parts.old.items ≡ [] }
+        ensures { Fills self.now parts.new.items (names_in ctx.bound at (binder_in (type_in (slice_get (trees_of self.now) node)))) }
+    {
+        let binder = self.binder(node) as u32;
+        if at < binder {
+            self.push_separator(parts, at == 0, texts::COMMA);
+            self.push_numbered(parts, ctx.bound + at as u64);
+            if at + 1 < binder {
+                self.push_item(parts, node, Form::Names, at + 1, ctx);
+            }
+        }
+    }
+}
+
+/// How many lifetimes a type binds.
+#[tactic(auto, unfolding(crate::specs::Nodes::type_of))]
+fn ty_binder(ty: Ty) -> u16
+    ensures { (s : List ℕ) (all : List Tree) → result ≡ binder_in (type_of s all ty) }
+{
+    match ty {
+        Ty::Function { binder, .. } => binder,
+        Ty::Dyn { binder, .. } => binder,
+        Ty::Basic(_) => 0,
+        Ty::Array { .. } => 0,
+        Ty::Slice(_) => 0,
+        Ty::Tuple(_) => 0,
+        Ty::SharedReference { .. } => 0,
+        Ty::MutableReference { .. } => 0,
+        Ty::ConstPointer(_) => 0,
+        Ty::MutPointer(_) => 0,
+    }
+}
+
+/// Whether a type is the unit type, by its letter.
+#[tactic(auto, unfolding(crate::specs::Nodes::type_of))]
+fn is_unit(ty: Ty) -> bool
+    ensures { (s : List ℕ) (all : List Tree) → result ≡ is_unit (type_of s all ty) }
+{
+    match ty {
+        Ty::Basic(letter) => letter == b'u',
+        Ty::Function { .. } => false,
+        Ty::Dyn { .. } => false,
+        Ty::Array { .. } => false,
+        Ty::Slice(_) => false,
+        Ty::Tuple(_) => false,
+        Ty::SharedReference { .. } => false,
+        Ty::MutableReference { .. } => false,
+        Ty::ConstPointer(_) => false,
+        Ty::MutPointer(_) => false,
+    }
+}
