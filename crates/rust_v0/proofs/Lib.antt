@@ -1,0 +1,16 @@
+pub mod Adding
+pub mod Answering
+pub mod Beginning
+pub mod Entering
+pub mod Fronts
+pub mod Integers
+pub mod Makings
+pub mod Meanings
+pub mod Noted
+pub mod Places
+pub mod Reader
+pub mod Reading
+pub mod Referring
+pub mod Rows
+pub mod Standing
+pub mod Taking

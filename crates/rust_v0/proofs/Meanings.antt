@@ -1,0 +1,141 @@
+-- What a production makes of its parts is what it means.
+use Rattle.std.proofs.Common.{◌≡◌, ◌≤◌, ◌<◌, ◌+◌, refl, sym, arith, ℕ, List, length, drop, get_or, true, false, Option, Ok, Err}
+use Rattle.std.specs.Prelude.{◌^◌}
+use Rattle.std.proofs.lemmas.List.{length-drop}
+use Rattle.std.proofs.lemmas.Bool.{false≢true}
+use Rattle.std.proofs.Math.Seq.{take-length}
+use Rattle.std.specs.Prelude.{Result}
+use Rattle.sym_core.specs.declared.refusal.Refusal.{Refusal}
+use Rattle.sym_core.specs.declared.refusal.Refusal.TheVariants.{Malformed, BadReference, BadValue, TooLong, Memory}
+use Rattle.sym_link.specs.Driving.{AreAll, Fails}
+use Rattle.sym_link.specs.Linking.{Gives}
+use Rattle.sym_link.specs.Reading.{◌>>=◌}
+use Rattle.rust_tree.proofs.Trees.{grows-same}
+use Rattle.rust_v0.specs.declared.language.Linked.{Linked}
+use Rattle.rust_v0.specs.declared.make.Made.{Made}
+use Rattle.rust_v0.specs.Linked.{v0_view, Keeps, GoesOn, IsNoted, refers_by}
+use Rattle.rust_tree.specs.Symbol as tree
+use Rattle.rust_tree.specs.Tree.{of_type, of_types, of_constant}
+use Rattle.rust_tree.specs.Nodes.{Table, tree_of, type_of, types_of, constant_of, IsWithin, bytes_at, trees}
+use Rattle.rust_tree.specs.declared.node.Node.{Node}
+use Rattle.rust_tree.specs.declared.node.Ty.{Ty}
+use Rattle.rust_tree.specs.declared.node.Types.{Types}
+use Rattle.rust_tree.specs.declared.node.Constant.{Constant}
+use Rattle.rust_v0.specs.declared.production.Production.{Production}
+use Rattle.rust_v0.specs.declared.production.Production.TheVariants as rules
+use Rattle.rust_v0.specs.declared.part.Part.{Part}
+use Rattle.rust_v0.specs.Value.{Value, a_suffix, suffix_rest, letter, unsafe_mark, an_abi, minus_mark, a_truth}
+use Rattle.rust_v0.specs.Unfold.{At, Meaning, meaning, byte_at, number_part, referred}
+use Rattle.rust_v0.specs.declared.language.Ending.{Ending}
+use Rattle.rust_v0.specs.Front as front
+use Rattle.rust_v0.specs.Views.{IsPart, IsNumber, Agree}
+use Rattle.rust_v0.proofs.Fronts.{number_agrees}
+use Rattle.rust_v0.specs.Makings.{ground, HasLists, MadeGives}
+use Rattle.rust_v0.specs.Making.{is_reference}
+use Rattle.rust_v0.specs.Making as making
+use Rattle.rust_v0.proofs.Makings.{abi_gives, array_gives, binder_gives, binding_gives, bool_constant_gives, char_constant_gives, const_pointer_gives, constant_argument_gives, crate_root_gives, disambiguated_gives, disambiguator_gives, dyn_type_gives, function_gives, generic_gives, inherent_impl_gives, lifetime_argument_gives, lifetime_gives, more_bounds_gives, more_types_gives, mut_pointer_gives, mutable_reference_gives, nested_gives, plain_name_gives, punycode_name_gives, shared_reference_gives, signed_constant_gives, slice_gives, symbol_gives, trait_definition_gives, trait_impl_gives, tuple_gives, type_argument_gives, unsigned_constant_gives}
+
+to_end : (s : List ℕ) (place : ℕ) → place ≤ length s
+    → IsWithin (record { from = place; to = length s }) s × (bytes_at s (record { from = place; to = length s }) ≡ drop place s)
+to_end s place within = ((within, omega arith), rw (← length-drop place s) (take-length (drop place s)))
+
+basic_tree : (s : List ℕ) (table : Table) (c : ℕ) → tree_of s (ground s table).all (Node.Ty (Ty.Basic c)) ≡ of_type (tree.basic c)
+unfolding type_of
+basic_tree s table c = refl
+
+types_tree : (s : List ℕ) (table : Table) → tree_of s (ground s table).all (Node.Types Types.None) ≡ of_types tree.no_types
+unfolding types_of
+types_tree s table = refl
+
+placeholder_tree : (s : List ℕ) (table : Table) → tree_of s (ground s table).all (Node.Constant Constant.Placeholder) ≡ of_constant tree.placeholder
+unfolding constant_of
+placeholder_tree s table = refl
+
+pub made_gives : (table : Table) (at : At) (production : Production) (ps : List Part) (vs : List Value) → is_reference production ≡ false
+    → at.place < length at.symbol → at.bound < 2 ^ 64 → HasLists (ground at.symbol table) → AreAll (IsPart (ground at.symbol table)) ps vs
+    → MadeGives at.symbol table at (making.made production at.symbol at.place at.bound ps) (meaning production at vs)
+made_gives table at rules.Symbol ps vs other within fits lists are = symbol_gives at.symbol table at ps vs lists are
+made_gives table at rules.PathReference ps vs other within fits lists are = absurd (false≢true (sym other))
+made_gives table at rules.Crate ps vs other within fits lists are = crate_root_gives at.symbol table at ps vs lists are
+made_gives table at rules.InherentImpl ps vs other within fits lists are = inherent_impl_gives at.symbol table at ps vs lists are
+made_gives table at rules.TraitImpl ps vs other within fits lists are = trait_impl_gives at.symbol table at ps vs lists are
+made_gives table at rules.TraitDefinition ps vs other within fits lists are = trait_definition_gives at.symbol table at ps vs lists are
+made_gives table at rules.Nested ps vs other within fits lists are = nested_gives at.symbol table at ps vs lists are
+made_gives table at rules.Generic ps vs other within fits lists are = generic_gives at.symbol table at ps vs lists are
+made_gives table at rules.Suffix ps vs other within fits lists are = (a_suffix (drop at.place at.symbol), refl, (to_end at.symbol at.place (omega (arith, within))))
+made_gives table at rules.SuffixByte ps vs other within fits lists are = (suffix_rest, refl, tt)
+made_gives table at rules.Namespace ps vs other within fits lists are = (letter (byte_at at), refl, refl)
+made_gives table at rules.Disambiguator ps vs other within fits lists are = disambiguator_gives at.symbol table at ps vs lists are
+made_gives table at rules.DisambiguatedIdentifier ps vs other within fits lists are = disambiguated_gives at.symbol table at ps vs lists are
+made_gives table at rules.PunycodeName ps vs other within fits lists are = punycode_name_gives at.symbol table at ps vs lists are
+made_gives table at rules.PlainName ps vs other within fits lists are = plain_name_gives at.symbol table at ps vs lists are
+made_gives table at rules.LifetimeArgument ps vs other within fits lists are = lifetime_argument_gives at.symbol table at ps vs lists are
+made_gives table at rules.ConstantArgument ps vs other within fits lists are = constant_argument_gives at.symbol table at ps vs lists are
+made_gives table at rules.TypeArgument ps vs other within fits lists are = type_argument_gives at.symbol table at ps vs lists are
+made_gives table at rules.BasicType ps vs other within fits lists are = (of_type (tree.basic (byte_at at)), refl, record { parts = tt; tree = basic_tree at.symbol table (byte_at at) })
+made_gives table at rules.TypeReference ps vs other within fits lists are = absurd (false≢true (sym other))
+made_gives table at rules.Array ps vs other within fits lists are = array_gives at.symbol table at ps vs lists are
+made_gives table at rules.Slice ps vs other within fits lists are = slice_gives at.symbol table at ps vs lists are
+made_gives table at rules.Tuple ps vs other within fits lists are = tuple_gives at.symbol table at ps vs lists are
+made_gives table at rules.SharedReference ps vs other within fits lists are = shared_reference_gives at.symbol table at ps vs lists are
+made_gives table at rules.MutableReference ps vs other within fits lists are = mutable_reference_gives at.symbol table at ps vs lists are
+made_gives table at rules.ConstPointer ps vs other within fits lists are = const_pointer_gives at.symbol table at ps vs lists are
+made_gives table at rules.MutPointer ps vs other within fits lists are = mut_pointer_gives at.symbol table at ps vs lists are
+made_gives table at rules.Function ps vs other within fits lists are = function_gives at.symbol table at ps vs lists are
+made_gives table at rules.Dyn ps vs other within fits lists are = dyn_type_gives at.symbol table at ps vs lists are
+made_gives table at rules.TypesEnd ps vs other within fits lists are = (of_types tree.no_types, refl, record { parts = tt; tree = types_tree at.symbol table })
+made_gives table at rules.TypesMore ps vs other within fits lists are = more_types_gives at.symbol table at ps vs lists are
+made_gives table at rules.Lifetime ps vs other within fits lists are = lifetime_gives at.symbol table at ps vs lists fits are
+made_gives table at rules.Binder ps vs other within fits lists are = binder_gives at.symbol table at ps vs lists are
+made_gives table at rules.Unsafe ps vs other within fits lists are = (unsafe_mark, refl, tt)
+made_gives table at rules.Abi ps vs other within fits lists are = abi_gives at.symbol table at ps vs lists are
+made_gives table at rules.AbiC ps vs other within fits lists are = (an_abi tree.c_abi, refl, (tt, refl))
+made_gives table at rules.BoundsMore ps vs other within fits lists are = more_bounds_gives at.symbol table at ps vs lists are
+made_gives table at rules.Binding ps vs other within fits lists are = binding_gives at.symbol table at ps vs lists are
+made_gives table at rules.SignedConstant ps vs other within fits lists are = signed_constant_gives at.symbol table at ps vs lists are
+made_gives table at rules.UnsignedConstant ps vs other within fits lists are = unsigned_constant_gives at.symbol table at ps vs lists are
+made_gives table at rules.BoolConstant ps vs other within fits lists are = bool_constant_gives at.symbol table at ps vs lists are
+made_gives table at rules.CharConstant ps vs other within fits lists are = char_constant_gives at.symbol table at ps vs lists are
+made_gives table at rules.Placeholder ps vs other within fits lists are = (of_constant tree.placeholder, refl, record { parts = tt; tree = placeholder_tree at.symbol table })
+made_gives table at rules.ConstantReference ps vs other within fits lists are = absurd (false≢true (sym other))
+made_gives table at rules.Minus ps vs other within fits lists are = (minus_mark, refl, tt)
+made_gives table at rules.False ps vs other within fits lists are = (a_truth false, refl, refl)
+made_gives table at rules.True ps vs other within fits lists are = (a_truth true, refl, refl)
+
+pub reference_means : (at : At) (production : Production) (known : List Value) → is_reference production ≡ true
+    → meaning production at known ≡ (number_part known >>= λ n. refers_by production at (referred at n.0))
+reference_means at rules.PathReference known is = refl
+reference_means at rules.TypeReference known is = refl
+reference_means at rules.ConstantReference known is = refl
+reference_means at production known is = absurd (false≢true is)
+
+fails_same : {A : Type 0} (e : Refusal) (read : Result A Refusal) → read ≡ Err e → Fails e read
+fails_same Memory read is = tt
+fails_same (Malformed at) read is = is
+fails_same (BadReference at) read is = is
+fails_same (BadValue at) read is = is
+fails_same TooLong read is = is
+
+pub refused : (s : List ℕ) (linked : Linked) (e : Refusal) (read : Meaning) → read ≡ Err e → Gives (v0_view s) linked (Err e) read
+refused s linked e read is = fails_same e read is
+
+-- what was made, with the nodes as they were
+pub gives_made : (s : List ℕ) (linked : Linked) (at : At) (part : Part) (read : Meaning) → Keeps s linked at.ended
+    → MadeGives s linked.nodes at (Ok (Made.Part part)) read → Gives (v0_view s) linked (Ok part) read
+gives_made s linked at part read keeps (v, is, stands) = (v, _, is, stands, keeps)
+
+pub goes_on_same : (old new : Linked) → new.nodes ≡ old.nodes → length new.ended.items ≡ length old.ended.items → GoesOn old new
+goes_on_same old new nodes places = record { nodes = grows-same old.nodes new.nodes nodes; places = omega (arith, places) }
+
+pub reference_gives : (at : At) (linked new : Linked) (production : Production) (ps : List Part) (known : List Value) (found : Option ℕ) (rest : List Part) (ending : Ending)
+    (result : Result Part Refusal) → is_reference production ≡ true → front.number ps ≡ Ok (found, rest) → AreAll (IsPart (ground at.symbol linked.nodes)) ps known
+    → Keeps at.symbol linked at.ended → ((n : ℕ) → IsNumber found n → ending ≡ get_or linked.ended.items (n + 2) Ending.Nothing)
+    → ((value : Option Value) → IsNoted (trees at.symbol linked.nodes.nodes) ending value → Gives (v0_view at.symbol) new result (refers_by production at value))
+    → Gives (v0_view at.symbol) new result (meaning production at known)
+reference_gives at linked new production ps known found rest ending result is front_is are keeps ending_is give =
+    let agree : Agree {X = Option ℕ} {A = ℕ} (ground at.symbol linked.nodes) IsNumber (Ok (found, rest)) (number_part known) =
+    rw front_is at (number_agrees (ground at.symbol linked.nodes) ps known are) in
+    rw (reference_means at production known is, agree.2) (give (referred at agree.0) (rw (ending_is agree.0 agree.3) (keeps.noted (agree.0 + 2))))
+
+pub gives_refused : (s : List ℕ) (linked : Linked) (at : At) (e : Refusal) (read : Meaning) → MadeGives s linked.nodes at (Err e) read → Gives (v0_view s) linked (Err e) read
+gives_refused s linked at e read is = refused s linked e read is

@@ -1,0 +1,45 @@
+-- What is noted of places stays so, and what ends is noted.
+use Rattle.std.proofs.Common.{◌≡◌, ◌≢◌, sym, ◌∙◌, ℕ, ◌<◌, inl, inr, List, ◌∷◌, ◌++◌, length, replicate, false, Option, Some}
+use Rattle.std.specs.Prelude.{slice_set, ◌==◌}
+use Rattle.std.proofs.lemmas.List.{get_or-set_same, get_or-set_other}
+use Rattle.std.proofs.lemmas.Bool.{eqb-true, eq-eqb, cases_Bool, false≢true}
+use Rattle.rust_tree.specs.Tree.{Tree}
+use Rattle.rust_tree.specs.Nodes.{Grows, Table, trees}
+use Rattle.rust_tree.proofs.Trees.{tree-stays}
+use Rattle.rust_v0.specs.declared.language.Ending.{Ending}
+use Rattle.rust_v0.specs.Value.{Value, Ended}
+use Rattle.rust_v0.specs.Makings.{ground, HasLists}
+use Rattle.rust_v0.specs.Linked.{IsNoted, AreNoted}
+use Rattle.rust_v0.proofs.Places.{same_there}
+
+module _ (s : List ℕ) (old new : Table) (grows : Grows old new) where
+  pub stays_noted : (ending : Ending) (found : Option Value) → IsNoted (trees s old.nodes) ending found → IsNoted (trees s new.nodes) ending found
+  stays_noted Ending.Nothing found is = is
+  stays_noted (Ending.Path node) found (path, is, same) = (path, tree-stays s old new node _ grows is, same)
+  stays_noted (Ending.Type node) found (type, is, plain, same) = (type, tree-stays s old new node _ grows is, plain, same)
+  stays_noted (Ending.Constant node) found (constant, is, same) = (constant, tree-stays s old new node _ grows is, same)
+
+  pub lists_stay : HasLists (ground s old) → HasLists (ground s new)
+  lists_stay lists = record {
+    arguments = tree-stays s old new 0 _ grows lists.arguments;
+    bounds = tree-stays s old new 1 _ grows lists.bounds;
+    bindings = tree-stays s old new 2 _ grows lists.bindings;
+  }
+
+-- places behind those so far change nothing
+pub noted_further : (all : List Tree) (endings more : List Ending) (k : ℕ) (ended : List Ended) → more ≡ endings ++ replicate k Ending.Nothing
+    → AreNoted all endings ended → AreNoted all more ended
+noted_further all endings more k ended same noted place = rw (same, same_there endings k place Ending.Nothing) (noted place)
+
+-- what ends is noted at its place
+pub noted_added : (all : List Tree) (endings : List Ending) (ended : List Ended) (place : ℕ) (ending : Ending) (v : Value) → place < length endings
+    → AreNoted all endings ended → IsNoted all ending (Some v) → AreNoted all (slice_set endings place ending) (record { place = place; value = v } ∷ ended)
+noted_added all endings ended place ending v there noted is at = elim (cases_Bool (place == at)) [
+  | inl here ↦ (
+      let same : place ≡ at = eqb-true place at here in
+      rw (here, ← same, get_or-set_same endings place ending Ending.Nothing there) is)
+  | inr other ↦ rw (other, get_or-set_other endings place at ending Ending.Nothing (not_here other)) (noted at)
+]
+  where
+    not_here : (place == at) ≡ false → at ≢ place
+    not_here other same = false≢true (sym other ∙ eq-eqb place at (sym same))

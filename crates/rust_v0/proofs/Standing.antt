@@ -1,0 +1,279 @@
+-- What a linker has done is what the symbol's shape stands for.
+use Rattle.std.proofs.Common.{◌≡◌, refl, sym, ap, ◌∙◌, subst, inl, inr, ℕ, ◌+◌, ◌*◌, ◌≤◌, List, [], ◌∷◌, length, Bool, true, false, Option, Some, None, Ok, Err, arith, cond}
+use Rattle.std.specs.Prelude.{Result, slice_get, ◌⊎◌, ◌<◌, codes}
+use Rattle.std.specs.Result.{IfOk, IfErr, OnOk}
+use Rattle.std.proofs.lemmas.Bool.{cases_Bool, false≢true, le-leb, lt-leb}
+use Rattle.sym_core.specs.Number.{FitsSymbol}
+use Rattle.sym_core.specs.declared.refusal.Refusal.{Refusal}
+use Rattle.sym_core.specs.declared.refusal.Refusal.TheVariants as refusals
+use Rattle.sym_shape.specs.declared.rule.Row.{Row}
+use Rattle.sym_shape.specs.declared.rule.Rule.{Rule}
+use Rattle.sym_shape.specs.declared.rule.Sym.TheVariants.{Kind, Byte}
+use Rattle.sym_shape.specs.declared.sheet.Choice.{Choice}
+use Rattle.sym_shape.specs.Sheet.{choice_at, classes_of, in_ranges}
+use Rattle.sym_shape.specs.Tree.{Tree, Forest, branch, spell, IsTree, AreRowsOf}
+use Rattle.sym_shape.specs.Reader.{AreFew}
+use Rattle.sym_link.specs.Reading.{Found, ◌>>=◌}
+use Rattle.sym_link.specs.Unfold.{found, alone, standing, unfold_tree, unfold_forest}
+use Rattle.sym_link.specs.Driving.{Fails}
+use Rattle.sym_link.specs.declared.language.Frame.{Frame}
+use Rattle.sym_link.specs.Following.{IsShape, IsDone, IsDriving, IsStepTo, meaning_of}
+use Rattle.sym_link.proofs.Starting.{root_of, driving_starts, driving_few}
+use Rattle.rust_tree.specs.Symbol as tree
+use Rattle.rust_tree.specs.Counts.{IsRead}
+use Rattle.rust_tree.specs.Layout.{ReadSymbol}
+use Rattle.rust_tree.specs.Nodes.{Table, IsSymbol, IsTable, trees, symbol_in}
+use Rattle.rust_v0.specs.declared.language.Linked.{Linked}
+use Rattle.rust_v0.specs.declared.language.Kept.{Kept}
+use Rattle.rust_v0.specs.declared.part.Part.{Part}
+use Rattle.rust_v0.specs.declared.production.Production.{Production}
+use Rattle.rust_v0.specs.declared.production.Production.TheVariants as rules
+use Rattle.rust_v0.specs.declared.production.kind.TheConstants.{PATH, OTHER_PATH, SUFFIX}
+use Rattle.rust_v0.specs.Productions.{production_of}
+use Rattle.rust_v0.specs.Rules.{v0_table, takes, each}
+use Rattle.rust_v0.specs.Value as value
+use Rattle.rust_v0.specs.Value.{Value, State}
+use Rattle.rust_v0.specs.Unfold as defined
+use Rattle.rust_v0.specs.Unfold.{At, Meaning, v0, at_first, at_rule, meaning, symbol_of, unfolded, path_part, other_path_part, suffix_part}
+use Rattle.rust_v0.specs.Views.{Ground, IsPart}
+use Rattle.rust_v0.specs.Linked.{v0_view, first_nodes, Keeps, IsPaid}
+use Rattle.rust_v0.specs.Standing.{IsRefused, IsLinker, StandsFor, whole_of, IsReading, misshapen, well_shaped}
+use Rattle.rust_v0.specs.Answer.{IsAnswer, malformed, shaped, answer_of_symbol, text_within}
+use Rattle.rust_tree.specs.Shown.{symbol_parts}
+use Rattle.sym_print.specs.Unshared.{text_of, cost_of}
+use Rattle.sym_print.specs.declared.detail.Detail.{Detail}
+use Rattle.sym_shape.specs.Reader.{IsMalformedOrMemory}
+
+-- ## The root's rule makes a symbol
+
+abbrev pub IsWhole : Value → Type 0
+IsWhole v = (y : tree.Symbol) × (v ≡ value.a_symbol y)
+
+whole_behind : {A : Type 0} (r : Result A Refusal) (k : A → Meaning) → ((a : A) → IfOk (k a) (λ f. IsWhole f.value)) → IfOk (r >>= k) (λ f. IsWhole f.value)
+whole_behind (Ok a) k each = each a
+whole_behind (Err e) k each = tt
+
+symbol_whole : (at : At) (parts : List Value) → IfOk (meaning rules.Symbol at parts) (λ f. IsWhole f.value)
+symbol_whole at parts =
+    whole_behind (path_part parts) _ (λ path. whole_behind (other_path_part path.1) _ (λ other. whole_behind (suffix_part other.1) _ (λ suffix. (_, refl))))
+
+one_choice : (c : Choice) (byte : ℕ) (rule : Rule) → choice_at (c ∷ []) byte ≡ Some rule → c.rule ≡ rule
+one_choice c byte rule given = elim (cases_Bool (in_ranges (classes_of c) byte)) [
+  | inl here ↦ some_same (sym (ap (λ v. cond v (Some c.rule) None) here) ∙ given)
+  | inr other ↦ absurd (let e : None ≡ Some rule = sym (ap (λ v. cond v (Some c.rule) None) other) ∙ given in cc)
+]
+  where
+    some_same : {a b : Rule} → Some a ≡ Some b → a ≡ b
+    some_same e = cc
+
+root_production : (byte : ℕ) (rule : Rule) → v0_table.rule 0 byte ≡ Some rule → production_of rule.number ≡ Some rules.Symbol
+root_production byte rule is =
+    ap (λ r. production_of r.number) (sym (one_choice (takes (each (codes "_")) rules.Symbol (Byte 82 ∷ Kind PATH ∷ Kind OTHER_PATH ∷ Kind SUFFIX ∷ [])) byte rule is))
+
+abbrev first_value : List Value → Value
+first_value (v ∷ vs) = v
+first_value [] = value.unsafe_mark
+
+abbrev first_of : Result (Found (List Value) State) Refusal → Value
+first_of (Ok f) = first_value f.value
+first_of (Err e) = value.unsafe_mark
+
+closed_whole : (m : Meaning) (v : Value) (state : State) → IfOk m (λ f. IsWhole f.value) → (m >>= alone) ≡ Ok (found (v ∷ []) state) → IsWhole v
+closed_whole (Ok f) v state (y, is) same = (y, sym (ap first_of same) ∙ is)
+closed_whole (Err e) v state whole same = absurd (let no_ok : Err e ≡ Ok (found (v ∷ []) state) = same in cc)
+
+opened_whole : (r : Result (Found (List Value) State) Refusal) (at : Found (List Value) State → At) (v : Value) (state : State)
+    → (r >>= λ f. meaning rules.Symbol (at f) f.value >>= alone) ≡ Ok (found (v ∷ []) state) → IsWhole v
+opened_whole (Ok f) at v state same = closed_whole (meaning rules.Symbol (at f) f.value) v state (symbol_whole (at f) f.value) same
+opened_whole (Err e) at v state same = absurd (let no_ok : Err e ≡ Ok (found (v ∷ []) state) = same in cc)
+
+-- what a symbol's tree means is a symbol
+whole_is : (s : List ℕ) (shape : Tree) (v : Value) (state : State) → IsTree v0_table (Kind 0) shape → meaning_of (v0_view s) shape ≡ Ok (found (v ∷ []) state) → IsWhole v
+whole_is s shape v state is means =
+    let root = root_of v0_table shape is refl in
+    of_root root.rule root.taken root.inner (root_production root.takes.byte root.rule root.takes.found)
+    (ap (λ t. unfold_tree (v0 s) 0 0 t at_first) (sym root.tree_is) ∙ means)
+  where
+    of_root : (rule : Rule) (taken : List ℕ) (inner : Forest) → production_of rule.number ≡ Some rules.Symbol
+        → unfold_tree (v0 s) 0 0 (branch rule taken inner) at_first ≡ Ok (found (v ∷ []) state) → IsWhole v
+    of_root rule taken inner is same =
+        opened_whole (unfold_forest (v0 s) (standing rule taken 0 0 at_first) [] (0 + length taken) inner at_first)
+        (λ f. at_rule s (standing rule taken 0 0 at_first) f.state) v state
+        (subst (λ (o : Option Production). (unfold_forest (v0 s) (standing rule taken 0 0 at_first) [] (0 + length taken) inner at_first
+        >>= λ f. defined.meaning_of o (at_rule s (standing rule taken 0 0 at_first) f.state) f.value >>= alone) ≡ Ok (found (v ∷ []) state)) is same)
+
+-- ## What is done
+
+symbol_part : (g : Ground) (part : Part) (y : tree.Symbol) → IsPart g part (value.a_symbol y) → (node : ℕ) × (part ≡ Part.Symbol node) × IsSymbol g.all node y
+symbol_part g (Part.Symbol node) y is = (node, refl, is)
+symbol_part g part y is = absurd is
+
+-- what the whole means in its symbol
+unfolded_is : (s : List ℕ) (shape : Tree) → spell shape ≡ s → unfolded shape ≡ (meaning_of (v0_view s) shape >>= λ whole. symbol_of whole.value)
+unfolded_is s shape spelled = ap (λ u. unfold_tree (v0 u) 0 0 shape at_first >>= λ whole. symbol_of whole.value) spelled
+
+-- the one part is the node of a symbol, for which the shape stands
+pub record HasWhole (s : List ℕ) (shape : Tree) (linked : Linked) (parts : List Part) : Type 0 where
+  pub node : ℕ
+  pub whole : tree.Symbol
+  pub parts_are : parts ≡ Part.Symbol node ∷ []
+  pub is_whole : IsSymbol (trees s linked.nodes.nodes) node whole
+  pub stands : Ok whole ≡ unfolded shape
+  pub table : IsTable s linked.nodes
+  pub nodes : length linked.nodes.nodes ≤ 4 * length s + 8
+  pub text : length linked.nodes.text ≤ 4 * length s + 20
+
+pub has_whole : (s : List ℕ) (rows : List Row) (shape : Tree) (linked : Linked) (parts : List Part) → IsShape v0_table s rows shape → length rows ≤ 4 * length s + 4
+    → IsDone (v0_view s) s rows (meaning_of (v0_view s) shape) linked parts → HasWhole s shape linked parts
+has_whole s rows shape linked parts is few done =
+    let w = whole_is s shape done.value done.state is.is_tree done.means in
+    let p = symbol_part _ done.part w.0 (subst (λ v. IsPart _ done.part v) w.1 done.is_part) in
+    record {
+      node = p.0;
+      whole = w.0;
+      parts_are = done.parts_are ∙ ap (λ x. x ∷ []) p.1;
+      is_whole = p.2;
+      stands = sym (unfolded_is s shape is.spelled ∙ ap (λ m. m >>= λ whole. symbol_of whole.value) (done.means ∙ ap (λ v. Ok (found (v ∷ []) done.state)) w.1));
+      table = done.holds.table;
+      nodes = omega (arith, done.size, done.paid.begun, few);
+      text = done.paid.text;
+    }
+
+-- ## Refusals
+
+refused_is : (s : List ℕ) (rows : List Row) (shape : Tree) (e : Refusal) → IsShape v0_table s rows shape → meaning_of (v0_view s) shape ≡ Err e → IsRefused s e
+refused_is s rows shape e is fails =
+    inr (shape, is.is_tree, is.spelled, sym (unfolded_is s shape is.spelled ∙ ap (λ m. m >>= λ whole. symbol_of whole.value) fails))
+
+-- what the driver says of a refusal, of the symbol
+pub refused_so : (s : List ℕ) (rows : List Row) (shape : Tree) (e : Refusal) → IsShape v0_table s rows shape → Fails e (meaning_of (v0_view s) shape) → IsRefused s e
+refused_so s rows shape refusals.Memory is fails = inl refl
+refused_so s rows shape e is fails = refused_is s rows shape e is fails
+
+-- ## A linker on its way
+
+-- nothing is linked yet
+pub begins : (s : List ℕ) (rows : List Row) (read_steps : ℕ) (linked : Linked) (steps : ℕ) (refused : Option Refusal) (next : ℕ) (frames : List (Frame Kept)) (parts : List Part)
+    → FitsSymbol s → AreRowsOf v0_table s rows → AreFew read_steps (length rows) (length s)
+    → Keeps s linked [] → length linked.nodes.nodes ≡ first_nodes → IsPaid linked 0
+    → steps ≡ 0 → refused ≡ None → next ≡ 0 → frames ≡ [] → parts ≡ []
+    → IsLinker s rows read_steps linked steps refused next frames parts false
+begins s rows read_steps linked steps refused next frames parts fits (shape, is, spelled, rows_are) few keeps three paid e f g h i = rw (e, f, g, h, i) (
+    record {
+      shape = shape;
+      is_shape = record { is_tree = is; spelled = spelled; rows_are = rows_are };
+      fits = record { symbol = fits; rows = few.rows_few };
+      few = few;
+      driving = driving_starts (v0_view s) s rows shape linked (omega (arith, three)) keeps paid;
+      ended = λ is. absurd (false≢true is);
+    })
+
+-- one linker goes on to another one
+module _ (s : List ℕ) (rows : List Row) (read_steps : ℕ) (linked : Linked) (steps : ℕ) (refused : Option Refusal) (next : ℕ) (frames : List (Frame Kept)) (parts : List Part)
+    (done : Bool) (is : IsLinker s rows read_steps linked steps refused next frames parts done) where
+  -- behind a call of the driver
+  pub goes_on : (new : Linked) (new_steps : ℕ) (new_refused : Option Refusal) (new_next : ℕ) (new_frames : List (Frame Kept)) (new_parts : List Part) (new_done : Bool)
+      → ((tree : Tree) → IsShape v0_table s rows tree → IsDriving (v0_view s) s rows tree linked steps refused next frames parts
+      → IsDriving (v0_view s) s rows tree new new_steps new_refused new_next new_frames new_parts)
+      → ((tree : Tree) → IsShape v0_table s rows tree → IsDriving (v0_view s) s rows tree linked steps refused next frames parts
+      → new_done ≡ true → IsDone (v0_view s) s rows (meaning_of (v0_view s) tree) new new_parts)
+      → IsLinker s rows read_steps new new_steps new_refused new_next new_frames new_parts new_done
+  goes_on new new_steps new_refused new_next new_frames new_parts new_done driving ended = record {
+    shape = is.shape;
+    is_shape = is.is_shape;
+    fits = is.fits;
+    few = is.few;
+    driving = driving is.shape is.is_shape is.driving;
+    ended = ended is.shape is.is_shape is.driving;
+  }
+
+  -- the driver's requirement
+  pub may_drive : (tree : Tree) × IsShape v0_table s rows tree × IsDriving (v0_view s) s rows tree linked steps refused next frames parts
+  may_drive = (is.shape, is.is_shape, is.driving)
+
+  -- steps and rows are few
+  pub steps_few : read_steps + steps ≤ 32 * length s + 48
+  steps_few = omega (arith, driving_few (v0_view s) s rows is.shape linked steps refused next frames parts is.driving, is.few.steps_few, is.few.rows_few)
+
+  pub whole_done : done ≡ true → HasWhole s is.shape linked parts
+  whole_done all = has_whole s rows is.shape linked parts is.is_shape is.few.rows_few (is.ended all)
+
+-- a step that refuses has its reason, and is counted
+pub step_fails : (s : List ℕ) (rows : List Row) (shape : Tree) (new : Linked) (steps new_steps : ℕ) (refused new_refused : Option Refusal) (parts : List Part) (e : Refusal)
+    → IsStepTo (v0_view s) s rows shape new steps new_steps refused new_refused parts (Err e)
+    → Fails e (meaning_of (v0_view s) shape) × (new_refused ≡ Some e) × (refused ≡ None → new_steps ≡ steps + 1)
+step_fails s rows shape new steps new_steps None new_refused parts e (fails, counted, kept) = (fails, kept, λ _. counted)
+step_fails s rows shape new steps new_steps (Some old) new_refused parts e (fails, counted, same, kept) = (fails, kept ∙ ap (λ x. Some x) (sym same), λ open_still. absurd (let no : Some old ≡ None = open_still in cc))
+
+-- ## The end
+
+node_of : List Part → ℕ
+node_of (Part.Symbol node ∷ parts) = node
+node_of parts = 0
+
+-- the node of the one part is that of the whole
+same_node : (s : List ℕ) (shape : Tree) (linked : Linked) (parts : List Part) (w : HasWhole s shape linked parts) (node : ℕ) → parts ≡ Part.Symbol node ∷ [] → node ≡ w.node
+unfolding node_of
+same_node s shape linked parts w node is = ap node_of (sym is ∙ w.parts_are)
+
+pub reads : (s : List ℕ) (shape : Tree) (linked : Linked) (parts : List Part) (w : HasWhole s shape linked parts) (node rows steps : ℕ) → parts ≡ Part.Symbol node ∷ []
+    → FitsSymbol s → rows ≤ 4 * length s + 4 → rows ≤ steps → steps ≤ 32 * length s + 48
+    → IsRead (record { bytes = s; table = linked.nodes; root = node; rows = rows; steps = steps })
+reads s shape linked parts w node rows steps is fits few each all = record {
+  table = w.table;
+  root = (w.whole, subst (λ n. IsSymbol (trees s linked.nodes.nodes) n w.whole) (sym (same_node s shape linked parts w node is)) w.is_whole);
+  fits = fits;
+  rows = few;
+  nodes = w.nodes;
+  text = w.text;
+  steps = all;
+  counted = each;
+}
+
+pub stands_so : (s : List ℕ) (shape : Tree) (linked : Linked) (parts : List Part) (w : HasWhole s shape linked parts) (y : ReadSymbol) → parts ≡ Part.Symbol y.root ∷ []
+    → y.bytes ≡ s → y.table ≡ linked.nodes → IsTree v0_table (Kind 0) shape → spell shape ≡ s → StandsFor s (Ok (whole_of y))
+stands_so s shape linked parts w y is bytes table is_tree spelled =
+    let found_whole : symbol_in (slice_get (trees s linked.nodes.nodes) y.root) ≡ w.whole =
+    ap (λ n. symbol_in (slice_get (trees s linked.nodes.nodes) n)) (same_node s shape linked parts w y.root is) ∙ ap symbol_in w.is_whole in
+    let whole_same : whole_of y ≡ w.whole = ap (λ b. symbol_in (slice_get (trees b y.table.nodes) y.root)) bytes ∙ ap (λ (t : Table). symbol_in (slice_get (trees s t.nodes) y.root)) table ∙ found_whole in
+    (shape, is_tree, spelled, let oks : tree.Symbol → Result tree.Symbol Refusal = λ r. Ok r in ap oks whole_same ∙ w.stands)
+
+-- ## Answers
+
+-- why a symbol isn't read
+pub shape_refused : (s : List ℕ) (e : Refusal) → IsMalformedOrMemory v0_table s e → (e ≡ refusals.Memory) ⊎ IsReading s (Err e)
+shape_refused s (refusals.Malformed at) is = inr (misshapen at is refl)
+shape_refused s refusals.Memory is = inl refl
+shape_refused s e is = absurd is
+
+pub link_refused : (s : List ℕ) (e : Refusal) → IsRefused s e → (e ≡ refusals.Memory) ⊎ IsReading s (Err e)
+link_refused s e (inl memory) = inl memory
+link_refused s e (inr stands) = inr (well_shaped stands)
+
+pub answer_refused : (detail : Detail) (s : List ℕ) (limit : ℕ) (e : Refusal) → (e ≡ refusals.Memory) ⊎ IsReading s (Err e)
+    → (e ≡ refusals.Memory) ⊎ IsAnswer detail s limit (Err e)
+answer_refused detail s limit e (inl memory) = inl memory
+answer_refused detail s limit e (inr (misshapen at is same)) = inr (malformed at is (ap (λ (o : Result tree.Symbol Refusal). answer_of_symbol detail limit o) same))
+answer_refused detail s limit e (inr (well_shaped (shape, is, spelled, same))) = inr (shaped shape is spelled (ap (λ (o : Result tree.Symbol Refusal). answer_of_symbol detail limit o) same))
+
+-- the answer of a symbol that is read
+pub answer_read : (detail : Detail) (s : List ℕ) (limit : ℕ) (w : tree.Symbol) (result : Result (List ℕ) Refusal) → IsReading s (Ok w)
+    → result ≡ text_within limit (symbol_parts detail w) → IsAnswer detail s limit result
+answer_read detail s limit w result (misshapen at is same) given = absurd (let no : Ok w ≡ Err (refusals.Malformed at) = same in cc)
+answer_read detail s limit w result (well_shaped (shape, is, spelled, same)) given =
+    shaped shape is spelled (given ∙ ap (λ (o : Result tree.Symbol Refusal). answer_of_symbol detail limit o) same)
+
+pub answer_text : {A : Type 0} (bytes_of : A → List ℕ) (detail : Detail) (s : List ℕ) (limit : ℕ) (w : tree.Symbol) (result : Result A Refusal) → IsReading s (Ok w) → IfOk result (λ text. bytes_of text ≡ text_of (symbol_parts detail w))
+    → OnOk result (cost_of (symbol_parts detail w) ≤ limit) → IfOk result (λ text. IsAnswer detail s limit (Ok (bytes_of text)))
+answer_text bytes_of detail s limit w (Ok text) reading is within =
+    answer_read detail s limit w (Ok (bytes_of text)) reading (rw (is, le-leb _ _ within) refl)
+answer_text bytes_of detail s limit w (Err e) reading is within = tt
+
+pub answer_too_long : {A : Type 0} (detail : Detail) (s : List ℕ) (limit : ℕ) (w : tree.Symbol) (result : Result A Refusal) → IsReading s (Ok w)
+    → IfErr result (λ r. (r ≡ refusals.TooLong) ⊎ (r ≡ refusals.Memory)) → (result ≡ Err refusals.TooLong → limit < cost_of (symbol_parts detail w))
+    → IfErr result (λ e. (e ≡ refusals.Memory) ⊎ IsAnswer detail s limit (Err e))
+answer_too_long detail s limit w (Ok text) reading is long = tt
+answer_too_long detail s limit w (Err e) reading (inr memory) long = inl memory
+answer_too_long {A = A} detail s limit w (Err e) reading (inl same) long =
+    let errs : Refusal → Result A Refusal = λ r. Err r in
+    inr (answer_read detail s limit w (Err e) reading (rw (same, lt-leb _ _ (long (ap errs same))) refl))

@@ -1,0 +1,14 @@
+pub mod Productions
+pub mod Rules
+pub mod Value
+pub mod Tokens
+pub mod Unfold
+pub mod Answer
+pub mod Views
+pub mod Front
+pub mod Making
+pub mod Makings
+pub mod Linked
+pub mod LinkedLaws
+pub mod Answered
+pub mod Standing

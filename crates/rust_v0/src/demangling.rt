@@ -1,0 +1,61 @@
+// Reading a whole symbol, and its text.
+
+ghost use Rattle.std.specs.Prelude.{◌≡◌, ◌⊎◌, ℕ, List, Ok, Err, IfOk, IfErr};
+ghost use Rattle.sym_core.specs.Number.{FitsSymbol};
+ghost use Rattle.sym_core.specs.declared.refusal.Refusal.TheVariants as refusals;
+ghost use Rattle.sym_print.specs.declared.detail.Detail.{Detail};
+ghost use Rattle.rust_v0.specs.Answer.{IsAnswer};
+ghost use Rattle.rust_v0.specs.Standing.{IsReading, whole_of};
+
+use crate::grammar::V0;
+use crate::linker::Linker;
+use rust_tree::{Detail, Symbol};
+use std::alloc::Global;
+use sym_core::Refusal;
+
+/// Reads a symbol.
+///
+/// # Errors
+///
+/// `Malformed` at the first bad byte of a symbol that isn't well shaped, `BadReference` and `BadValue` at the first bad token of
+/// one that is, `Memory` where a list couldn't grow.
+pub fn read(alloc: Global, s: &[u8]) -> Result<Symbol, Refusal>
+    requires { FitsSymbol s.now }
+    ensures bytes { IfOk result (λ symbol. symbol.bytes ≡ s.now) }
+    ensures symbol { IfOk result (λ symbol. IsReading s.now (Ok (whole_of symbol))) }
+    ensures refused { IfErr result (λ e. (e ≡ refusals.Memory) ⊎ IsReading s.now (Err e)) }
+{
+    let shape = sym_shape::read(alloc, &V0, s)?;
+    let mut bytes = Vec::new(alloc);
+    bytes.extend_from_slice(s)?;
+    let mut linker = Linker::new(alloc, bytes, shape)?;
+    linker.run()?;
+    Ok(linker.finish())
+}
+
+/// The text of a symbol in full, if it costs at most the limit.
+///
+/// # Errors
+///
+/// Those of `read`, and `TooLong` exactly where the text costs more.
+pub fn demangle(alloc: Global, s: &[u8], limit: u32) -> Result<Vec<u8>, Refusal>
+    requires { FitsSymbol s.now }
+    ensures text { IfOk result (λ text. IsAnswer Detail.Full s.now limit (Ok text.items)) }
+    ensures refused { IfErr result (λ e. (e ≡ refusals.Memory) ⊎ IsAnswer Detail.Full s.now limit (Err e)) }
+{
+    demangle_as(alloc, s, limit, Detail::Full)
+}
+
+/// The text of a symbol in a detail, if it costs at most the limit.
+///
+/// # Errors
+///
+/// Those of `read`, and `TooLong` exactly where the text costs more.
+pub fn demangle_as(alloc: Global, s: &[u8], limit: u32, detail: Detail) -> Result<Vec<u8>, Refusal>
+    requires { FitsSymbol s.now }
+    ensures text { IfOk result (λ text. IsAnswer detail s.now limit (Ok text.items)) }
+    ensures refused { IfErr result (λ e. (e ≡ refusals.Memory) ⊎ IsAnswer detail s.now limit (Err e)) }
+{
+    let symbol = read(alloc, s)?;
+    symbol.text_as(limit, detail)
+}

@@ -1,0 +1,33 @@
+// The grammar of Rust v0 symbols, as the reader of shapes takes it.
+
+use crate::table;
+use sym_core::NameClass;
+use sym_shape::grammar::Grammar;
+use sym_shape::rule::Rule;
+
+/// The grammar of Rust v0 symbols.
+#[derive(Clone, Copy, Debug)]
+pub struct V0;
+
+impl Grammar for V0 {
+    ghost use Rattle.std.specs.Prelude.{refl};
+    ghost use Rattle.sym_core.specs.declared.NameClass.TheVariants.{Rust};
+    ghost use Rattle.sym_shape.specs.SheetLaws.{lawful_sheet};
+    ghost use Rattle.rust_v0.specs.Rules.{v0_table, kinds, no_kind};
+
+    ghost table = { v0_table };
+
+    fn rule(&self, kind: u16, byte: u8) -> Option<Rule> {
+        table::rule(kind, byte)
+    }
+
+    fn may_be_empty(&self, kind: u16) -> bool {
+        table::may_be_empty(kind)
+    }
+
+    fn name_class(&self) -> NameClass {
+        NameClass::Rust
+    }
+
+    ghost lawful = { lawful_sheet no_kind kinds Rust refl };
+}

@@ -1,0 +1,331 @@
+// Rust v0 symbols over shared nodes: what a rule's row, a token and the end of a rule do.
+
+ghost use Rattle.std.specs.Prelude.{◌≡◌, ℕ, ◌+◌, ◌<◌, ◌≤◌, ◌++◌, ◌^◌, List, [], length, drop, get_or, slice_get, slice_index, Some, true, Option, slice_set, replicate, Ok, IfOk, OnOk, OnErr, IfErr};
+ghost use Rattle.sym_core.specs.declared.refusal.Refusal.TheVariants as refusals;
+ghost use Rattle.rust_v0.specs.declared.language.Ending.TheVariants as endings;
+ghost use Rattle.rust_v0.specs.declared.make.Made.{Made};
+ghost use Rattle.rust_v0.specs.Views.{IsNumber, IsPart};
+ghost use Rattle.rust_v0.specs.Front as front;
+ghost use Rattle.rust_v0.specs.Productions.{production_of};
+ghost use Rattle.rust_v0.specs.Unfold.{At, Meaning, meaning, value16, refers_to_path, refers_to_type, refers_to_constant, as_path, as_type, as_constant};
+ghost use Rattle.rust_v0.specs.Value.{Value};
+ghost use Rattle.rust_tree.specs.Tree.{Tree, need_of_tree};
+ghost use Rattle.rust_v0.specs.Making as making;
+ghost use Rattle.rust_v0.specs.Makings.{MadeGives, ground};
+ghost use Rattle.rust_v0.specs.Linked.{v0_view, Keeps, GoesOn, IsNoted, IsPaid, first_nodes, refers_to, refers_by};
+ghost use Rattle.sym_link.specs.Linking.{Gives};
+ghost use Rattle.sym_link.specs.Driving.{AreAll};
+ghost use Rattle.sym_core.specs.Number.{FitsSymbol};
+ghost use Rattle.rust_tree.specs.Nodes.{HasNoZero, trees};
+
+use crate::front::number;
+use crate::make::{Made, Site, make_by};
+use crate::part::{Part, STRAY};
+use crate::production::{Production, numbered};
+use rust_tree::Nodes;
+use rust_tree::node::{Arguments, Bindings, Bounds, Node};
+use std::alloc::Global;
+use sym_core::Refusal;
+
+/// What began at a place of the symbol and has ended, by its node.
+#[derive(Clone, Copy)]
+pub enum Ending {
+    Nothing,
+    Path(u32),
+    Type(u32),
+    Constant(u32),
+}
+
+/// What is kept for an open rule: how many lifetimes are bound around it.
+#[derive(Clone, Copy)]
+pub struct Kept {
+    pub bound: u64,
+}
+
+/// The nodes of a symbol, and of each place of it what began there and has ended.
+#[derive(Drop)]
+pub struct Linked {
+    pub nodes: Nodes,
+    pub ended: Vec<Ending>,
+    pub alloc: Global,
+}
+
+/// Makes places for endings up to this one.
+pub fn reach(ended: &mut Vec<Ending>, place: usize) -> Result<(), Refusal>
+    requires { place < 2 ^ 32 }
+    ensures more { (k : ℕ) × (ended.new.items ≡ ended.old.items ++ replicate k endings.Nothing) }
+    ensures there { OnOk result (place < length ended.new.items) }
+    ensures memory { IfErr result (λ e. e ≡ refusals.Memory) }
+{
+    while ended.len() <= place {
+        ended.push(Ending::Nothing)?;
+    }
+    Ok(())
+}
+
+/// What ended that began at the place that a reference names, whose number counts the bytes behind `_R`.
+fn referred(ended: &[Ending], number: Option<u64>) -> Ending
+    ensures { (n : ℕ) → IsNumber number n → result ≡ get_or ended.now (n + 2) endings.Nothing }
+{
+    let Some(n) = number else {
+        return Ending::Nothing;
+    };
+    if n >= ended.len() as u64 {
+        return Ending::Nothing;
+    }
+    match ended.get(n as usize + 2) {
+        Some(ending) => *ending,
+        None => Ending::Nothing,
+    }
+}
+
+/// Notes what has ended that began at a place.
+fn note(ended: &mut Vec<Ending>, place: u32, ending: Ending)
+    ensures length { length ended.new.items ≡ length ended.old.items }
+    ensures noted { place < length ended.old.items → ended.new.items ≡ slice_set ended.old.items place ending }
+{
+    if (place as usize) < ended.len() {
+        ended[place as usize] = ending;
+    }
+}
+
+/// How many lifetimes are bound around the next part of a rule, whose earlier parts are these: a binder of a function's
+/// type holds for all behind it, one of a `dyn` type for its bounds alone.
+pub fn bound_behind(rule: u16, bound: u64, parts: &[Part]) -> u64
+    ensures { result ≡ front.bound_behind (production_of rule) bound parts.now }
+{
+    match numbered(rule) {
+        Some(Production::Function) => match parts {
+            [Part::Binder(lifetimes), ..] => bound.saturating_add(u64::from(*lifetimes)),
+            _ => bound,
+        },
+        Some(Production::Dyn) => match parts {
+            [Part::Binder(lifetimes)] => bound.saturating_add(u64::from(*lifetimes)),
+            _ => bound,
+        },
+        _ => bound,
+    }
+}
+
+/// The digits behind the zeros in front.
+pub fn without_zeros(digits: &[u8]) -> usize
+    ensures within { result ≤ length digits.now }
+    ensures value { value16 (drop result digits.now) ≡ value16 digits.now }
+    ensures no_zero { HasNoZero (drop result digits.now) }
+{
+    let mut zeros = 0;
+    while zeros < digits.len() && digits[zeros] == b'0' {
+        zeros += 1;
+    }
+    zeros
+}
+
+/// What a node is as a part, and how it has ended if references may name it.
+fn placed(node: Node, number: u32) -> (Part, Option<Ending>)
+    ensures { result ≡ making.placed node number }
+{
+    match node {
+        Node::Path(_) => (Part::Path(number), Some(Ending::Path(number))),
+        Node::Ty(_) => (Part::Type(number), Some(Ending::Type(number))),
+        Node::Constant(_) => (Part::Constant(number), Some(Ending::Constant(number))),
+        Node::Arguments(_) => (Part::Arguments(number), None),
+        Node::Types(_) => (Part::Types(number), None),
+        Node::Bounds(_) => (Part::Bounds(number), None),
+        Node::Bindings(_) => (Part::Bindings(number), None),
+        Node::Symbol(_) => (Part::Symbol(number), None),
+    }
+}
+
+impl Linked {
+    /// A table of the lists that have no items, and a text list with the decimal of zero alone.
+    ///
+    /// # Errors
+    ///
+    /// `Memory` where a list couldn't grow.
+    pub fn new(alloc: Global) -> Result<Linked, Refusal>
+        ensures keeps { IfOk result (λ linked. (s : List ℕ) → Keeps s linked []) }
+        ensures paid { IfOk result (λ linked. IsPaid linked 0) }
+        ensures first { IfOk result (λ linked. length linked.nodes.nodes ≡ first_nodes) }
+        ensures memory { IfErr result (λ e. e ≡ refusals.Memory) }
+    {
+        let mut nodes = Nodes::new(alloc);
+        nodes.push(Node::Arguments(Arguments::None))?;
+        nodes.push(Node::Bounds(Bounds::None))?;
+        nodes.push(Node::Bindings(Bindings::None))?;
+        nodes.push_decimal(alloc, 0, false)?;
+        Ok(Linked {
+            nodes,
+            ended: Vec::new(alloc),
+            alloc,
+        })
+    }
+
+    /// Adds a node that began at a place.
+    fn add(&mut self, place: u32, node: Node) -> Result<Part, Refusal>
+        requires room { length self.old.nodes.nodes + 1 < 2 ^ 32 }
+        ensures gives { (at : At) (read : Meaning) → at.place ≡ place → place < length self.old.ended.items → Keeps at.symbol self.old at.ended
+            → MadeGives at.symbol self.old.nodes at (Ok (Made.Node node)) read → Gives (v0_view at.symbol) self.new result read }
+        ensures grows { GoesOn self.old self.new }
+        ensures one { length self.new.nodes.nodes ≤ length self.old.nodes.nodes + 1 }
+        ensures text { self.new.nodes.text ≡ self.old.nodes.text }
+    {
+        let number = self.nodes.push(node)?;
+        let (part, ending) = placed(node, number);
+        if let Some(ending) = ending {
+            note(&mut self.ended, place, ending);
+        }
+        Ok(part)
+    }
+
+    /// A reference at a place stands for a node, if that needs no more lifetimes than are bound there.
+    fn refer(
+        &mut self,
+        place: u32,
+        bound: u64,
+        node: u32,
+        ending: Ending,
+        part: Part,
+    ) -> Result<Part, Refusal>
+        ensures gives { (at : At) (t : Tree) (v : Value) → at.place ≡ place → at.bound ≡ bound → place < length self.old.ended.items → Keeps at.symbol self.old at.ended
+            → slice_get (trees at.symbol self.old.nodes.nodes) node ≡ Some t → IsNoted (trees at.symbol self.old.nodes.nodes) ending (Some v)
+            → IsPart (ground at.symbol self.old.nodes) part v → Gives (v0_view at.symbol) self.new result (refers_to at v (need_of_tree t)) }
+        ensures nodes { self.new.nodes ≡ self.old.nodes }
+        ensures places { length self.new.ended.items ≡ length self.old.ended.items }
+    {
+        if self.nodes.need(node) > bound {
+            return Err(Refusal::BadReference { at: place });
+        }
+        note(&mut self.ended, place, ending);
+        Ok(part)
+    }
+
+    /// A path's reference.
+    fn refer_to_path(&mut self, place: u32, bound: u64, found: Ending) -> Result<Part, Refusal>
+        ensures gives { (at : At) (known : Option Value) → at.place ≡ place → at.bound ≡ bound → place < length self.old.ended.items → Keeps at.symbol self.old at.ended
+            → IsNoted (trees at.symbol self.old.nodes.nodes) found known → Gives (v0_view at.symbol) self.new result (refers_to_path at (as_path known)) }
+        ensures nodes { self.new.nodes ≡ self.old.nodes }
+        ensures places { length self.new.ended.items ≡ length self.old.ended.items }
+    {
+        match found {
+            Ending::Path(node) => self.refer(place, bound, node, found, Part::Path(node)),
+            Ending::Nothing | Ending::Type(_) | Ending::Constant(_) => {
+                Err(Refusal::BadReference { at: place })
+            }
+        }
+    }
+
+    /// A type's reference, which may name a path.
+    fn refer_to_type(&mut self, place: u32, bound: u64, found: Ending) -> Result<Part, Refusal>
+        ensures gives { (at : At) (known : Option Value) → at.place ≡ place → at.bound ≡ bound → place < length self.old.ended.items → Keeps at.symbol self.old at.ended
+            → IsNoted (trees at.symbol self.old.nodes.nodes) found known → Gives (v0_view at.symbol) self.new result (refers_to_type at (as_type known)) }
+        ensures nodes { self.new.nodes ≡ self.old.nodes }
+        ensures places { length self.new.ended.items ≡ length self.old.ended.items }
+    {
+        match found {
+            Ending::Path(node) => self.refer(place, bound, node, found, Part::Type(node)),
+            Ending::Type(node) => self.refer(place, bound, node, found, Part::Type(node)),
+            Ending::Nothing | Ending::Constant(_) => Err(Refusal::BadReference { at: place }),
+        }
+    }
+
+    /// A constant's reference.
+    fn refer_to_constant(&mut self, place: u32, bound: u64, found: Ending) -> Result<Part, Refusal>
+        ensures gives { (at : At) (known : Option Value) → at.place ≡ place → at.bound ≡ bound → place < length self.old.ended.items → Keeps at.symbol self.old at.ended
+            → IsNoted (trees at.symbol self.old.nodes.nodes) found known → Gives (v0_view at.symbol) self.new result (refers_to_constant at (as_constant known)) }
+        ensures nodes { self.new.nodes ≡ self.old.nodes }
+        ensures places { length self.new.ended.items ≡ length self.old.ended.items }
+    {
+        match found {
+            Ending::Constant(node) => self.refer(place, bound, node, found, Part::Constant(node)),
+            Ending::Nothing | Ending::Path(_) | Ending::Type(_) => {
+                Err(Refusal::BadReference { at: place })
+            }
+        }
+    }
+}
+
+/// The symbol's length.
+pub fn end_of(symbol: &[u8]) -> u32
+    requires { FitsSymbol symbol.now }
+    ensures { result ≡ length symbol.now }
+{
+    symbol.len() as u32
+}
+
+/// Whether the production is that of a reference.
+fn is_reference(production: Production) -> bool
+    ensures { result ≡ making.is_reference production }
+{
+    matches!(
+        production,
+        Production::PathReference | Production::TypeReference | Production::ConstantReference
+    )
+}
+
+impl Linked {
+    /// A reference at a place to what has ended.
+    fn refer_as(
+        &mut self,
+        production: Production,
+        place: u32,
+        bound: u64,
+        found: Ending,
+    ) -> Result<Part, Refusal>
+        ensures gives { (at : At) (known : Option Value) → making.is_reference production ≡ true → at.place ≡ place → at.bound ≡ bound → place < length self.old.ended.items
+            → Keeps at.symbol self.old at.ended → IsNoted (trees at.symbol self.old.nodes.nodes) found known → Gives (v0_view at.symbol) self.new result (refers_by production at known) }
+        ensures nodes { self.new.nodes ≡ self.old.nodes }
+        ensures places { length self.new.ended.items ≡ length self.old.ended.items }
+    {
+        match production {
+            Production::PathReference => self.refer_to_path(place, bound, found),
+            Production::TypeReference => self.refer_to_type(place, bound, found),
+            Production::ConstantReference => self.refer_to_constant(place, bound, found),
+            _ => Err(STRAY),
+        }
+    }
+
+    /// What a reference means, whose parts are these.
+    fn reference(
+        &mut self,
+        production: Production,
+        site: Site,
+        parts: &[Part],
+    ) -> Result<Part, Refusal>
+        ensures gives { (at : At) (known : List Value) → making.is_reference production ≡ true → at.place ≡ site.place → at.bound ≡ site.bound
+            → site.place < length self.old.ended.items → Keeps at.symbol self.old at.ended
+            → AreAll (IsPart (ground at.symbol self.old.nodes)) parts.now known
+            → Gives (v0_view at.symbol) self.new result (meaning production at known) }
+        ensures nodes { self.new.nodes ≡ self.old.nodes }
+        ensures places { length self.new.ended.items ≡ length self.old.ended.items }
+    {
+        let (found, _) = number(parts)?;
+        let ending = referred(&self.ended, found);
+        self.refer_as(production, site.place, site.bound, ending)
+    }
+
+    /// What a rule means, whose parts are these.
+    pub fn meant(
+        &mut self,
+        production: Production,
+        site: Site,
+        parts: &[Part],
+    ) -> Result<Part, Refusal>
+        requires room { length self.old.nodes.nodes + 1 < 2 ^ 32 }
+        ensures gives { (at : At) (known : List Value) → at.bound < 2 ^ 64 → at.place ≡ site.place → at.bound ≡ site.bound → site.byte ≡ slice_index at.symbol at.place
+            → site.end ≡ length at.symbol → at.place < length at.symbol → site.place < length self.old.ended.items → Keeps at.symbol self.old at.ended
+            → AreAll (IsPart (ground at.symbol self.old.nodes)) parts.now known
+            → Gives (v0_view at.symbol) self.new result (meaning production at known) }
+        ensures grows { GoesOn self.old self.new }
+        ensures one { length self.new.nodes.nodes ≤ length self.old.nodes.nodes + 1 }
+        ensures text { self.new.nodes.text ≡ self.old.nodes.text }
+    {
+        if is_reference(production) {
+            return self.reference(production, site, parts);
+        }
+        match make_by(production, site, parts) {
+            Ok(Made::Part(part)) => Ok(part),
+            Ok(Made::Node(node)) => self.add(site.place, node),
+            Err(refusal) => Err(refusal),
+        }
+    }
+}

@@ -1,0 +1,21 @@
+// The Rust v0 mangling (RFC 2603): from the bytes of a symbol to its text.
+#![tactic(auto)]
+
+mod demangling;
+mod front;
+mod grammar;
+mod language;
+mod laws;
+mod linker;
+mod linking;
+mod make;
+pub mod part;
+pub mod production;
+mod table;
+pub mod tokens;
+
+pub use demangling::{demangle, demangle_as, read};
+pub use grammar::V0;
+pub use laws::{each_has_an_answer, one_answer};
+pub use linker::Linker;
+pub use rust_tree::{Counts, Detail, Symbol};

@@ -1,0 +1,44 @@
+// What the parts of a rule stand for, in terms of nodes.
+
+use rust_tree::node::{Abi, Name};
+use sym_core::{Refusal, Span};
+
+/// An integer of at most 128 bits: its digits in the symbol, without leading zeros, and its decimal in the text list.
+#[derive(Clone, Copy)]
+pub struct Integer {
+    pub minus: bool,
+    pub digits: Span,
+    pub printed: Span,
+}
+
+/// What a part of a symbol stands for. Paths, types, constants and lists are their nodes.
+#[derive(Clone, Copy)]
+pub enum Part {
+    /// A number, or none where it is past 64 bits.
+    Number(Option<u64>),
+    /// An integer, or none where it is past 128 bits.
+    Integer(Option<Integer>),
+    Letter(u8),
+    Name(Name),
+    Identifier { name: Name, disambiguator: u64 },
+    Disambiguator(u64),
+    Binder(u16),
+    Lifetime(u64),
+    Unsafe,
+    Abi(Abi),
+    Truth(bool),
+    Minus,
+    Path(u32),
+    Type(u32),
+    Constant(u32),
+    Arguments(u32),
+    Types(u32),
+    Bounds(u32),
+    Bindings(u32),
+    Suffix(Span),
+    SuffixRest,
+    Symbol(u32),
+}
+
+/// No well shaped symbol has such parts.
+pub const STRAY: Refusal = Refusal::Malformed { at: 0 };
