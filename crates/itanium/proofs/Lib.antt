@@ -1,0 +1,13 @@
+pub mod Choosing
+pub mod Growing
+pub mod Reader
+pub mod Row
+pub mod ListedRows
+pub mod GeneratedRows
+pub mod ClosedValues
+pub mod ClosedStates
+pub mod ClosedParts
+pub mod ClosedTrees
+pub mod RanksFall
+pub mod FewParts
+pub mod Answering

@@ -1,0 +1,457 @@
+#!/usr/bin/env python3
+"""The C++ grammar as a table. `grammar.py laws` checks its laws; `grammar.py write FOLDER` writes the files of
+crate itanium that hold the table (FOLDER is the crate's); `grammar.py markdown` prints it as a table to read."""
+import sys
+LET = "abcdefghijklmnopqrstuvwxyzABCDEFGHIJKLMNOPQRSTUVWXYZ"
+DIG = "0123456789"
+WORD = LET + DIG + "_.$"
+NAME, DECIMAL, SEQ36, DIGITS = "Name", "Decimal", "Seq36", "Digits"
+TOKENS = {NAME: DIG, DECIMAL: DIG + "_", SEQ36: DIG + "ABCDEFGHIJKLMNOPQRSTUVWXYZ_", DIGITS: DIG}
+# productions: name -> (eats, symbols); a symbol is a kind's name, a token, or 'x' a fixed byte
+P = {}
+# kinds: name -> (may be empty, [(class, production)], chain production or list of chains)
+K = {}
+def prod(name, *symbols, chain=False):
+    v = (not chain, list(symbols))
+    assert name not in P or P[name] == v, (name, P.get(name), v)
+    P[name] = v
+    return name
+def kind(name, *rules, empty=False):
+    K[name] = (empty, list(rules))
+def eats(cls, name, *symbols): return (cls, prod(name, *symbols))
+def chain(name, *symbols): return (None, prod(name, *symbols, chain=True))
+
+OPS = [("n", "waget"), ("d", "laevV"), ("a", "wdnSNa"), ("p", "slLpmt"), ("c", "oml"), ("m", "ilILm"), ("r", "msMS"),
+       ("o", "rRo"), ("e", "oOq"), ("l", "sSte"), ("s", "s"), ("i", "x"), ("g", "te")]
+MARK = lambda cls: eats(cls, "Mark")
+L_NAME = eats("L", "InternalName", NAME, "MaybeArguments")
+U_NAME = eats("U", "LocalTypeName", "Anonymous", "MaybeArguments")
+S_NAME = chain("SourceName", NAME, "MaybeArguments")
+OP_NAME = chain("OperatorName", "Operator", "MaybeArguments")
+BARE = [eats("L", "InternalPiece", NAME), eats("U", "LocalTypePiece", "Anonymous"), chain("SourcePiece", NAME)]
+NESTED = eats("N", "NestedName", "MaybeRestrict", "MaybeVolatile", "MaybeConst", "MaybeRef", "Nest")
+
+def build(extended=True):
+    P.clear(); K.clear()
+    for r in (L_NAME, U_NAME, S_NAME, OP_NAME, *BARE, NESTED): pass
+    prod("Mark"); prod("InternalName", NAME, "MaybeArguments"); prod("LocalTypeName", "Anonymous", "MaybeArguments")
+    prod("SourceName", NAME, "MaybeArguments", chain=True); prod("OperatorName", "Operator", "MaybeArguments", chain=True)
+    prod("InternalPiece", NAME); prod("LocalTypePiece", "Anonymous"); prod("SourcePiece", NAME, chain=True)
+    prod("NestedName", "MaybeRestrict", "MaybeVolatile", "MaybeConst", "MaybeRef", "Nest")
+    kind("Symbol", eats("_", "Symbol", "'Z'", "Encoding", "MaybeSuffix"))
+    kind("MaybeSuffix", eats(".", "Suffix", "SuffixFirst"), empty=True)
+    kind("SuffixFirst", eats(WORD, "SuffixByte", "SuffixMore"))
+    kind("SuffixMore", eats(WORD, "SuffixByte", "SuffixMore"), empty=True)
+    kind("Encoding", eats("T", "Special", "Special"), eats("G", "Guard", "'V'", "CompleteName"), chain("Encoding", "CompleteName", "Items"))
+    kind("Special", eats("VTIS", "SpecialType", "Type"), eats("h", "NonVirtualThunk", "Integer", "'_'", "Encoding"),
+         eats("v", "VirtualThunk", "Integer", "'_'", "Integer", "'_'", "Encoding"), eats("c", "CovariantThunk", "CallOffset", "CallOffset", "Encoding"))
+    kind("CallOffset", eats("h", "NonVirtualOffset", "Integer", "'_'"), eats("v", "VirtualOffset", "Integer", "'_'", "Integer", "'_'"))
+    kind("Integer", eats("n", "Negative", DIGITS), chain("Positive", DIGITS))
+    kind("CompleteName", NESTED, eats("S", "NameWithS", "NameAfterS"), eats("Z", "LocalName", "Encoding", "'E'", "Entity", "MaybeDiscriminator"),
+         L_NAME, U_NAME, OP_NAME, S_NAME)
+    kind("MaybeRestrict", MARK("r"), empty=True)
+    kind("MaybeVolatile", MARK("V"), empty=True)
+    kind("MaybeConst", MARK("K"), empty=True)
+    kind("MaybeRef", MARK("RO"), empty=True)
+    kind("NameAfterS", eats("t", "StdName", "Unqualified", "MaybeArguments"), chain("AbbreviatedName", "Abbreviation", "Arguments"))
+    kind("Unqualified", *BARE, chain("OperatorPiece", "Operator"))
+    kind("Nest", eats("S", "NestWithS", "NestAfterS"), eats("T", "NestParameter", DECIMAL, "NestRest"), eats("L", "NestInternal", NAME, "NestRest"),
+         eats("U", "NestLocalType", "Anonymous", "NestRest"), chain("NestSource", NAME, "NestRest"))
+    kind("NestAfterS", eats("t", "NestStd", "Unqualified", "MaybeArguments", "NestTail"), chain("NestAbbreviated", "Abbreviation", "NestRest"))
+    kind("NestRest", eats("I", "NestArguments", "ArgumentList", "'E'", "Component", "NestTail"), chain("NestNext", "Component", "NestTail"))
+    kind("NestTail", eats("E", "NestEnd"), chain("NestNext", "Component", "NestTail"))
+    kind("Component", eats("C", "Constructor", "ConstructorDigit", "MaybeArguments"), eats("D", "Destructor", "DestructorDigit", "MaybeArguments"),
+         L_NAME, U_NAME, OP_NAME, S_NAME)
+    kind("ConstructorDigit", MARK("123"))
+    kind("DestructorDigit", MARK("012"))
+    kind("Abbreviation", eats("absiod", "Abbreviation"), chain("Substitution", SEQ36))
+    kind("Entity", eats("s", "StringLiteral"), NESTED, L_NAME, U_NAME, S_NAME)
+    kind("TypeEntity", eats("N", "NestedType", "Nest"), L_NAME, U_NAME, S_NAME)
+    kind("MaybeDiscriminator", eats("_", "Discriminator", "DiscriminatorRest"), empty=True)
+    kind("DiscriminatorRest", eats(DIG, "OneDigit"), eats("_", "ManyDigits", DIGITS, "'_'"))
+    kind("Anonymous", eats("l", "Lambda", "Item", "Items", "'E'", DECIMAL), eats("t", "Unnamed", DECIMAL))
+    QUALS = [eats("r", "RestrictType", "MaybeVolatile", "MaybeConst", "Plain"), eats("V", "VolatileType", "MaybeConst", "Plain"), eats("K", "ConstType", "Plain")]
+    REF = eats("RO", "ReferenceType", "Type")
+    OTHER = chain("PlainType", "Solid")
+    kind("Type", *QUALS, eats("D", "TypeWithD", "AfterD"), REF, OTHER)
+    kind("Plain", eats("D", "PlainWithD", "AfterD"), REF, chain("QualifiedPlain", "Solid"))
+    kind("Item", *QUALS, eats("D", "ItemWithD", "ItemAfterD"), REF, OTHER)
+    kind("ItemButRef", *QUALS, eats("D", "ItemWithD", "ItemAfterD"), OTHER)
+    kind("ItemAfterD", eats("p", "Expansion", "Type"), chain("ItemIsType", "AfterD"))
+    after_d = [eats("isuacn", "BuiltinWithD")]
+    if extended:
+        after_d += [eats("v", "Vector", DIGITS, "'_'", "Type"), eats("o", "NoexceptFunction", "'F'", "MaybeCLinkage", "Type", "FunctionRest")]
+    kind("AfterD", *after_d)
+    if extended:
+        P["ItemIsType"] = (False, ["AfterD"])
+    NAMED = [eats("P", "Pointer", "Type"), eats("M", "MemberPointer", "Type", "Type"), eats("T", "Parameter", DECIMAL, "MaybeArguments"),
+             eats("S", "TypeWithS", "TypeAfterS", "MaybeArguments"), eats("N", "NestedType", "Nest"),
+             eats("Z", "LocalType", "Encoding", "'E'", "TypeEntity", "MaybeDiscriminator"), U_NAME, S_NAME]
+    kind("Solid", eats("vwbcahstijlmxynofdegz", "Builtin"), eats("u", "Vendor", NAME), eats("A", "Array", DECIMAL, "Type"),
+         eats("F", "Function", "MaybeCLinkage", "Type", "FunctionRest"), *([eats("C", "Complex", "Type")] if extended else []), *NAMED)
+    kind("MaybeCLinkage", MARK("Y"), empty=True)
+    kind("TypeAfterS", eats("t", "StdType", "SourceOrLocal"), chain("AbbreviatedType", "Abbreviation"))
+    kind("SourceOrLocal", *BARE)
+    kind("FunctionRest", eats("E", "RestEnd"), eats("R", "RestLvalue", "AfterR"), eats("O", "RestRvalue", "AfterO"), chain("RestItem", "ItemButRef", "FunctionRest"))
+    kind("AfterR", eats("E", "RefEnd"), chain("LvalueItem", "Type", "FunctionRest"))
+    kind("AfterO", eats("E", "RefEnd"), chain("RvalueItem", "Type", "FunctionRest"))
+    kind("Items", chain("Items", "Item", "Items"), empty=True)
+    kind("MaybeArguments", eats("I", "Arguments", "ArgumentList", "'E'"), empty=True)
+    kind("Arguments", eats("I", "Arguments", "ArgumentList", "'E'"))
+    kind("ArgumentList", eats("J", "PackArgument", "PackList", "'E'", "ArgumentList"), eats("L", "LiteralArgument", "Literal", "'E'", "ArgumentList"),
+         eats("X", "AddressArgument", "'a'", "'d'", "Address", "ArgumentList"), chain("TypeArgument", "Item", "ArgumentList"), empty=True)
+    kind("PackList", eats("L", "LiteralElement", "Literal", "'E'", "PackList"),
+         eats("X", "AddressElement", "'a'", "'d'", "Address", "PackList"), chain("TypeElement", "Item", "PackList"), empty=True)
+    kind("Address", eats("L", "Address", "'_'", "'Z'", "Encoding", "'E'", "'E'"))
+    kind("Literal", eats("_", "EncodingLiteral", "'Z'", "Encoding"), eats("b", "BoolLiteral", "Bit"), eats("D", "LiteralWithD", "LiteralAfterD"),
+         chain("IntegerLiteral", "LiteralType", "Integer"))
+    kind("Bit", MARK("01"))
+    kind("LiteralAfterD", eats("n", "NullLiteral", "MaybeZero"), eats("isu", "CharLiteral", "Integer"))
+    kind("MaybeZero", MARK("0"), empty=True)
+    kind("LiteralType", eats("wcahstijlmxyno", "Builtin"), *NAMED)
+    kind("Operator", *[eats(a, "Operator" + a.upper(), "OperatorAfter" + a.upper()) for a, _ in OPS])
+    for a, second in OPS:
+        rules = [MARK(second)]
+        if a == "l": rules.append(eats("i", "LiteralOperator", NAME))
+        kind("OperatorAfter" + a.upper(), *rules)
+
+def is_kind(s): return s in KS
+def begins_symbol(s):
+    if s[0] == "'": return set(s[1])
+    if s in TOKENS and s not in KINDSET: return set(TOKENS[s])
+    return begins(s)
+KINDSET = set()
+def sym_class(s):
+    return "byte" if s[0] == "'" else ("token" if s in TOKENS and s not in KINDSET else "kind")
+memo = {}
+def begins(k):
+    if k in memo: return memo[k]
+    out = set()
+    for cls, p in K[k][1]:
+        out |= set(cls) if cls is not None else begins_symbol(P[p][1][0])
+    memo[k] = out
+    return out
+def empty(s): return sym_class(s) == "kind" and K[s][0]
+def laws():
+    KINDSET.clear(); KINDSET.update(K); memo.clear()
+    bad = []
+    for k, (e, rules) in K.items():
+        seen = {}
+        for cls, p in rules:
+            ate, syms = P[p]
+            assert ate == (cls is not None)
+            if ate and len(syms) > 5 or not ate and not 1 <= len(syms) <= 3: bad.append(f"{k}/{p}: too many symbols")
+            if not ate and empty(syms[0]): bad.append(f"{k}/{p}: chain begins with a kind that may be empty")
+            for s in syms:
+                if sym_class(s) == "kind" and s not in K: bad.append(f"{k}/{p}: no kind {s}")
+            for b in (cls if ate else begins_symbol(syms[0])):
+                if b in seen: bad.append(f"{k}: byte {b} in {seen[b]} and {p}")
+                seen[b] = p
+    # what may follow: bytes of each kind
+    after = {k: set() for k in K}
+    after_token = {}   # (production, index) -> bytes
+    changed = True
+    def first_after(syms, i, k):
+        out = set(); j = i + 1
+        while j < len(syms):
+            out |= begins_symbol(syms[j])
+            if not empty(syms[j]): return out
+            j += 1
+        return out | after[k]
+    while changed:
+        changed = False
+        for k, (e, rules) in K.items():
+            for cls, p in rules:
+                syms = P[p][1]
+                for i, s in enumerate(syms):
+                    f = first_after(syms, i, k)
+                    if sym_class(s) == "kind":
+                        if not f <= after[s]: after[s] |= f; changed = True
+                    else: after_token[(k, p, i)] = (s, f)
+    for k in K:
+        if K[k][0] and begins(k) & after[k]: bad.append(f"{k}: may be empty, and {sorted(begins(k) & after[k])} come after it")
+    for (k, p, i), (s, f) in after_token.items():
+        if s == DIGITS and f & set(DIG): bad.append(f"{k}/{p}: a digit after Digits")
+    # chains and ranks
+    depth = {}
+    def d(k):
+        if k in depth: return depth[k]
+        depth[k] = -99
+        m = 0
+        for cls, p in K[k][1]:
+            if cls is None:
+                s = P[p][1][0]
+                m = max(m, 1 + (d(s) if sym_class(s) == "kind" else 0))
+        depth[k] = m
+        return m
+    for k in K:
+        if not 0 <= d(k) <= 3: bad.append(f"{k}: {d(k)} chains at one place")
+    # completions: heights
+    height = {k: 0 for k in K if K[k][0]}
+    changed = True
+    while changed:
+        changed = False
+        for k, (e, rules) in K.items():
+            if k in height: continue
+            hs = []
+            for cls, p in rules:
+                syms = P[p][1]
+                if all(sym_class(s) != "kind" or s in height for s in syms):
+                    hs.append(1 + max([height[s] for s in syms if sym_class(s) == "kind"] or [0]))
+            if hs: height[k] = min(hs); changed = True
+    for k in K:
+        if k not in height: bad.append(f"{k}: no completion")
+    used = {p for _, r in K.values() for _, p in r}
+    for p in P:
+        if p not in used: bad.append(f"production {p} is unused")
+    return bad, after, depth, height
+
+def klass(cls, p):
+    return sorted(set(cls)) if cls is not None else sorted(begins_symbol(P[p][1][0]))
+
+def runs(chars):
+    """the ranges of at least three bytes among these, and the other bytes"""
+    codes = sorted(ord(c) for c in chars)
+    ranges, singles, i = [], "", 0
+    while i < len(codes):
+        j = i
+        while j + 1 < len(codes) and codes[j + 1] == codes[j] + 1: j += 1
+        if j - i >= 2: ranges.append((chr(codes[i]), chr(codes[j])))
+        else: singles += "".join(chr(c) for c in codes[i:j + 1])
+        i = j + 1
+    return ranges, singles
+
+def merged(chars):
+    """all of these bytes as ranges"""
+    codes = sorted(ord(c) for c in chars)
+    ranges, i = [], 0
+    while i < len(codes):
+        j = i
+        while j + 1 < len(codes) and codes[j + 1] == codes[j] + 1: j += 1
+        ranges.append(chr(codes[i]) + "-" + chr(codes[j]))
+        i = j + 1
+    return "".join(ranges)
+
+def on(chars, p):
+    ranges, singles = runs(chars)
+    if ranges: return f'on_ranges "{"".join(a + "-" + b for a, b in ranges)}" "{singles}" Production.{p}'
+    return f'on "{singles}" Production.{p}'
+
+def rust_class(chars):
+    ranges, singles = runs(chars)
+    return " | ".join([f"b'{a}'..=b'{b}'" for a, b in ranges] + [f"b'{c}'" for c in singles])
+
+def snake(name): return "".join(("_" if c.isupper() and i else "") + c.lower() for i, c in enumerate(name))
+
+def rust_symbol(s):
+    c = sym_class(s)
+    if c == "byte": return f"Sym::Byte(b{s})"
+    if c == "token": return "Sym::Name" if s == NAME else f"Sym::Number(NumberKind::{s})"
+    return f"Sym::Kind({list(K).index(s)})"
+
+def antt_symbol(s):
+    c = sym_class(s)
+    if c == "byte": return f"Byte {ord(s[1])}"
+    if c == "token": return "Name" if s == NAME else f"Number {s}"
+    return f"part Kind.{s}"
+
+def rust_kinds():
+    out = ["// The kinds of the grammar (ABI 5.1).", "ghost use Rattle.std.specs.Prelude.{◌≡◌, slice_get};",
+           "ghost use Rattle.itanium.specs.Grammar.{kinds};", "ghost use Rattle.itanium.specs.Grammar as grammar;", "",
+           "/// The kinds of the grammar: what is read as one of them is chosen by its first byte.",
+           "#[derive(Clone, Copy)]", "pub enum Kind {"]
+    out += [f"    {k}," for k in K] + ["}", ""]
+    out += ["/// The kind with a number.", "#[tactic(auto, unfolding(crate::specs::Grammar::kinds))]",
+            "pub fn kind_of(number: u16) -> Option<Kind>", "    ensures { result ≡ slice_get kinds number }", "{", "    match number {"]
+    out += [f"        {i} => Some(Kind::{k})," for i, k in enumerate(K)]
+    out += ["        _ => None,", "    }", "}", "", "/// Whether a kind may be empty.",
+            "#[tactic(auto, unfolding(crate::specs::Grammar::may_be_empty))]",
+            "pub fn may_be_empty(kind: Kind) -> bool", "    ensures { result ≡ grammar.may_be_empty kind }", "{", "    match kind {"]
+    out += [f"        Kind::{k} => true," for k, (e, rules) in K.items() if e]
+    out += ["        _ => false,", "    }", "}"]
+    return "\n".join(out) + "\n"
+
+def rust_productions():
+    out = ["// The productions of the grammar (ABI 5.1), and their rules.", "ghost use Rattle.std.specs.Prelude.{◌≡◌, true, false};",
+           "ghost use Rattle.itanium.specs.Table as table;", "", "use sym_core::NumberKind;", "use sym_shape::{Rule, Sym};", "",
+           "/// The productions of the grammar. A production has one meaning, and one rule, in whatever kind it stands.",
+           "#[derive(Clone, Copy)]", "pub enum Production {"]
+    out += [f"    {p}," for p in P] + ["}", ""]
+    out += ["/// In the place of a symbol that a rule doesn't have.", "const NONE: Sym = Sym::Byte(0);", ""]
+    for i, k in enumerate(K):
+        if any(k in syms for ate, syms in P.values()): out += [f"const {snake(k).upper()}: Sym = Sym::Kind({i});", ""]
+    for t in (NAME, DECIMAL, SEQ36, DIGITS): out += [f"const {t.upper()}: Sym = {rust_symbol(t)};", ""]
+    out += ["/// The rule of a production that takes a byte, and has so many symbols behind it.",
+            "fn taking(number: u16, count: u8, symbols: [Sym; 5]) -> Rule",
+            "    ensures { result ≡ record { number = number; eats = true; count = count; symbols = symbols } }", "{",
+            "    Rule { number, eats: true, count, symbols }", "}", "",
+            "/// The rule of a production that is a chain of so many symbols.",
+            "fn chain(number: u16, count: u8, symbols: [Sym; 5]) -> Rule",
+            "    ensures { result ≡ record { number = number; eats = false; count = count; symbols = symbols } }", "{",
+            "    Rule { number, eats: false, count, symbols }", "}", ""]
+    G, T = "crate::specs::Grammar::", "crate::specs::Table::"
+    out += ["/// The rule of a production.",
+            f"#[tactic(auto, unfolding({T}rule_of, {G}parts_of, {G}is_chain, {G}number_of, {G}number_of_kind, {T}padded))]",
+            "pub fn rule_of(production: Production) -> Rule", "    ensures { result ≡ table.rule_of production }", "{", "    match production {"]
+    for i, (p, (ate, syms)) in enumerate(P.items()):
+        cells = [f"Sym::Byte(b{x})" if sym_class(x) == "byte" else x.upper() if sym_class(x) == "token" else snake(x).upper() for x in syms] + ["NONE"] * (5 - len(syms))
+        out.append(f"        Production::{p} => {'taking' if ate else 'chain'}({i}, {len(syms)}, [{', '.join(cells)}]),")
+    out += ["    }", "}"]
+    return "\n".join(out) + "\n"
+
+def rust_table():
+    U = "crate::specs::Grammar::"
+    out = ["// What begins each kind: the production that is taken at a byte.",
+           f"#![tactic(auto, unfolding({U}choose, {U}alternatives, {U}pick, {U}is_in, {U}among, {U}in_ranges))]", "",
+           "ghost use Rattle.std.specs.Prelude.{◌≡◌};", "ghost use Rattle.itanium.specs.Grammar.{choose};", "",
+           "use crate::kind::Kind;", "use crate::production::Production;", ""]
+    for k, (e, rules) in K.items():
+        out.append(f"fn begin_{snake(k)}(byte: u8) -> Option<Production>\n    ensures {{ result ≡ choose Kind.{k} byte }}\n{{\n    match byte {{")
+        for c, p in rules: out.append(f"        {rust_class(klass(c, p))} => Some(Production::{p}),")
+        out.append("        _ => None,\n    }\n}\n")
+    out.append("/// The production that a kind takes at a byte.")
+    out.append("#[tactic(auto)]")
+    out.append("pub fn chosen(kind: Kind, byte: u8) -> Option<Production>\n    ensures { result ≡ choose kind byte }\n{\n    match kind {")
+    for k in K: out.append(f"        Kind::{k} => begin_{snake(k)}(byte),")
+    out.append("    }\n}")
+    return "\n".join(out) + "\n"
+
+GRAMMAR_HEAD = '''-- The grammar of C++ symbols (ABI 5.1) as a table: what begins each kind, and the parts of each production.
+use Rattle.std.specs.Prelude.{ℕ, List, [], ◌∷◌, Bool, true, false, cond, nat_eq, nat_le, ◌&&◌, ◌||◌, Option, Some, None, codes}
+use Prim.Native.String.{String}
+use Rattle.sym_core.specs.declared.NumberKind.TheVariants.{Decimal, Seq36, Digits}
+use Rattle.sym_shape.specs.declared.rule.Sym.{Sym}
+use Rattle.sym_shape.specs.declared.rule.Sym.TheVariants.{Kind as OfKind, Name, Number, Byte}
+use Rattle.itanium.specs.declared.kind.Kind.{Kind}
+use Rattle.itanium.specs.declared.production.Production.{Production}
+
+-- a production, and the bytes at which it is taken: ranges, and single bytes
+pub record Alternative : Type 0 where
+  pub ranges : List ℕ
+  pub singles : List ℕ
+  pub production : Production
+
+-- at one of these bytes
+abbrev on : String → Production → Alternative
+on singles production = record { ranges = []; singles = codes singles; production = production }
+
+-- at a byte of one of these ranges, each with a dash between its ends, or at one of the bytes behind them
+abbrev on_ranges : String → String → Production → Alternative
+on_ranges ranges singles production = record { ranges = codes ranges; singles = codes singles; production = production }
+
+-- the byte is in one of the ranges
+unfoldable pub in_ranges : List ℕ → ℕ → Bool
+in_ranges (low ∷ dash ∷ high ∷ rest) byte = (nat_le low byte && nat_le byte high) || in_ranges rest byte
+in_ranges _ byte = false
+
+unfoldable pub among : List ℕ → ℕ → Bool
+among [] byte = false
+among (c ∷ cs) byte = nat_eq byte c || among cs byte
+
+unfoldable pub is_in : Alternative → ℕ → Bool
+is_in a byte = in_ranges a.ranges byte || among a.singles byte
+
+-- the first alternative that is taken at the byte
+unfoldable pub pick : List Alternative → ℕ → Option Production
+pick [] byte = None
+pick (a ∷ rest) byte = cond (is_in a byte) (Some a.production) (pick rest byte)
+
+'''
+
+def antt_grammar():
+    out = [GRAMMAR_HEAD.rstrip("\n"), "", "-- the numbers of the kinds", "unfoldable pub number_of_kind : Kind → ℕ"]
+    out += [f"number_of_kind Kind.{k} = {i}" for i, k in enumerate(K)]
+    out += ["", "-- a kind as a symbol of a rule", "abbrev part : Kind → Sym", "part k = OfKind (number_of_kind k)", "",
+            "-- what a kind may begin with, and the production that is then taken", "unfoldable pub alternatives : Kind → List Alternative"]
+    for k, (e, rules) in K.items():
+        out.append(f"alternatives Kind.{k} = " + " ∷ ".join(on(klass(c, p), p) for c, p in rules) + " ∷ []")
+    out += ["", "-- the production that a kind takes at a byte", "unfoldable pub choose : Kind → ℕ → Option Production",
+            "choose kind byte = pick (alternatives kind) byte", "",
+            "-- the parts of a production, behind its own byte if it takes one", "unfoldable pub parts_of : Production → List Sym"]
+    for p, (ate, syms) in P.items(): out.append(f"parts_of Production.{p} = " + "".join(antt_symbol(s) + " ∷ " for s in syms) + "[]")
+    out += ["", "-- the productions that take no byte of their own", "unfoldable pub is_chain : Production → Bool"]
+    out += [f"is_chain Production.{p} = true" for p, (ate, syms) in P.items() if not ate]
+    out += ["is_chain _ = false", "", "-- the kinds that may be empty", "unfoldable pub may_be_empty : Kind → Bool"]
+    out += [f"may_be_empty Kind.{k} = true" for k, (e, rules) in K.items() if e]
+    out += ["may_be_empty _ = false", "", "-- the kinds in the order of their numbers", "unfoldable pub kinds : List Kind",
+            "kinds = " + " ∷ ".join("Kind." + k for k in K) + " ∷ []", "",
+            "-- the productions in the order of their numbers", "unfoldable pub productions : List Production",
+            "productions = " + " ∷ ".join("Production." + p for p in P) + " ∷ []", "",
+            "-- the numbers of the productions", "unfoldable pub number_of : Production → ℕ"]
+    out += [f"number_of Production.{p} = {i}" for i, p in enumerate(P)]
+    return "\n".join(out) + "\n"
+
+def antt_follow(after, depth, height):
+    out = ["-- What may come after each kind, and how its trees are bounded: what the laws of a grammar ask for.",
+           "use Rattle.std.specs.Prelude.{ℕ, List, codes}", "use Rattle.itanium.specs.declared.kind.Kind.{Kind}", "",
+           "-- the bytes that may come after a kind, as ranges", "unfoldable pub after_ranges : Kind → List ℕ"]
+    groups = {}
+    for k in K: out.append(f'after_ranges Kind.{k} = codes "{merged(after[k])}"')
+    out += ["", "-- how many chains may stand on one another at the beginning of a kind", "unfoldable pub rank : Kind → ℕ"]
+    out += [f"rank Kind.{k} = {depth[k]}" for k in K if depth[k]] + ["rank _ = 0"]
+    out += ["", "-- how high the lowest tree of a kind is", "unfoldable pub height : Kind → ℕ"]
+    out += [f"height Kind.{k} = {height[k]}" for k in K if height[k]] + ["height _ = 0"]
+    return "\n".join(out) + "\n"
+
+BEFORE_HEAD = '''-- The grammar before vector types, noexcept function types and complex types were added.
+use Rattle.std.specs.Prelude.{ℕ, List, [], ◌∷◌, Option, codes}
+use Prim.Native.String.{String}
+use Rattle.itanium.specs.declared.kind.Kind.{Kind}
+use Rattle.itanium.specs.declared.production.Production.{Production}
+use Rattle.itanium.specs.Grammar.{Alternative, alternatives, pick}
+
+abbrev on : String → Production → Alternative
+on singles production = record { ranges = []; singles = codes singles; production = production }
+
+abbrev on_ranges : String → String → Production → Alternative
+on_ranges ranges singles production = record { ranges = codes ranges; singles = codes singles; production = production }
+
+-- what a kind may begin with, and the production that was then taken
+unfoldable pub alternatives_before : Kind → List Alternative
+'''
+
+def antt_before():
+    build(True); laws()
+    later = {k: [on(klass(c, p), p) for c, p in r] for k, (e, r) in K.items()}
+    build(False); laws()
+    earlier = {k: [on(klass(c, p), p) for c, p in r] for k, (e, r) in K.items()}
+    out = [BEFORE_HEAD.rstrip("\n")]
+    out += [f"alternatives_before Kind.{k} = " + " ∷ ".join(earlier[k]) + " ∷ []" for k in later if earlier[k] != later[k]]
+    out += ["alternatives_before kind = alternatives kind", "", "-- the production that a kind took at a byte",
+            "unfoldable pub choose_before : Kind → ℕ → Option Production", "choose_before kind byte = pick (alternatives_before kind) byte"]
+    return "\n".join(out) + "\n"
+
+def write(folder):
+    def put(path, text):
+        with open(f"{folder}/{path}", "w") as f: f.write(text)
+    put("specs/Before.antt", antt_before())
+    build(True); bad, after, depth, height = laws()
+    assert not bad, bad
+    put("src/kind.rt", rust_kinds())
+    put("src/production.rt", rust_productions())
+    put("src/table.rt", rust_table())
+    put("specs/Grammar.antt", antt_grammar())
+    put("specs/Follow.antt", antt_follow(after, depth, height))
+
+def markdown():
+    build(True); laws()
+    print("| Kind | Empty | Rules |\n|---|---|---|")
+    for k, (e, rules) in K.items():
+        cells = []
+        for cls, p in rules:
+            symbols = " ".join(P[p][1])
+            cells.append((f"`{cls}` " if cls is not None else "chain ") + f"**{p}**" + (f" {symbols}" if symbols else ""))
+        print(f"| {k} | {'yes' if e else ''} | {'; '.join(cells)} |")
+
+def main():
+    what = sys.argv[1]
+    if what == "laws":
+        for extended in (False, True):
+            build(extended); bad, after, depth, height = laws()
+            print(f"{'with' if extended else 'without'} vector, noexcept and complex types: {len(K)} kinds, {len(P)} productions, {sum(len(r) for _, r in K.values())} rules; "
+                  f"most chains {max(depth.values())}, tallest completion {max(height.values())}")
+            for b in bad: print("  BAD", b)
+    elif what == "write": write(sys.argv[2])
+    elif what == "markdown": markdown()
+
+if __name__ == "__main__": main()
