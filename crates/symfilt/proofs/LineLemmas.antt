@@ -1,0 +1,91 @@
+-- The lines of words.
+use Rattle.std.proofs.Common.{◌≡◌, ℕ, ◌+◌, ◌-◌, ◌<◌, Bool, true, false, cond, ◌&&◌, List, [], ◌∷◌, ◌++◌, length, take, drop, get_or, map, sym, ap, ◌∙◌, append_assoc, refl, subst, Bor, Some, None, Err, Result}
+use Rattle.std.specs.Prelude.{is_some, unwrap_or}
+use Rattle.std.specs.List.{flat_map, list_all}
+use Rattle.std.proofs.lemmas.Grind.{flat_map-append}
+use Rattle.std.proofs.lemmas.List.{append-nil, map-append, take_more}
+use Rattle.std.proofs.lemmas.List.Folds.{list_all-append}
+use Rattle.std.proofs.Math.Bool.{and-true}
+use Rattle.sym_core.specs.declared.refusal.Refusal.{Refusal}
+use Rattle.symfilt.specs.declared.kinds.Kind.{Kind}
+use Rattle.symfilt.specs.Kinds.{kind_of, symbol_of}
+use Rattle.symfilt.specs.Runs.{Answering, text_for}
+use Rattle.sym_core.specs.declared.refusal.Refusal.TheVariants.{Malformed, BadReference, BadValue, TooLong, Memory}
+use Rattle.symfilt.specs.Lines.{answer_for, is_read, is_read_word, line_of, status_of, IsCountsLine, IsBehindLine, AreLines}
+use Rattle.symfilt.proofs.WordLemmas.{slice_from}
+
+pub answer_for-named : (answers : Answering) (word : List ℕ) (kind : Kind) (answer : Result (List ℕ) Refusal) → kind_of word ≡ Some kind → answers kind.lang (symbol_of kind word) ≡ answer → answer_for answers word ≡ Some answer
+unfolding answer_for
+answer_for-named answers word kind answer h is = rw (h, is) refl
+
+pub answer_for-unnamed : (answers : Answering) (word : List ℕ) → kind_of word ≡ None → answer_for answers word ≡ None
+unfolding answer_for
+answer_for-unnamed answers word h = rw h refl
+
+-- the symbol in a word's bytes
+pub symbol_in : (answers : Answering) (word bytes : List ℕ) (kind : Kind) (answer : Result (List ℕ) Refusal) → bytes ≡ word → answers kind.lang (take (length bytes - kind.skip) (drop kind.skip bytes)) ≡ answer → answers kind.lang (symbol_of kind word) ≡ answer
+symbol_in answers word bytes kind answer same is = ap (answers kind.lang) (ap (drop kind.skip) (sym same) ∙ sym (slice_from bytes kind.skip)) ∙ is
+
+-- the line of a word that has a text
+pub text-line : (answers : Answering) (word out mid new text : List ℕ) → text_for answers word ≡ Some text → mid ≡ out ++ text → new ≡ mid ++ 10 ∷ [] → new ≡ out ++ line_of answers word
+text-line answers word out mid new text has given pushed =
+    pushed ∙ ap (λ (t : List ℕ). t ++ 10 ∷ []) given ∙ append_assoc out text (10 ∷ []) ∙ ap (λ o. out ++ (unwrap_or o word ++ 10 ∷ [])) (sym has)
+
+-- the line of a word that has none
+pub word-line : (answers : Answering) (word bytes out mid new : List ℕ) → text_for answers word ≡ None → bytes ≡ word → mid ≡ out → new ≡ mid ++ bytes ++ 10 ∷ [] → new ≡ out ++ line_of answers word
+word-line answers word bytes out mid new none same given pushed =
+    pushed ∙ ap (λ (t : List ℕ). t ++ bytes ++ 10 ∷ []) given ∙ ap (λ (t : List ℕ). out ++ t ++ 10 ∷ []) same ∙ append_assoc out word (10 ∷ []) ∙ ap (λ o. out ++ (unwrap_or o word ++ 10 ∷ [])) (sym none)
+
+pub said-line : (err bytes said new : List ℕ) → bytes ≡ said → new ≡ err ++ bytes ++ 10 ∷ [] → new ≡ err ++ (said ++ 10 ∷ [])
+said-line err bytes said new same pushed = pushed ∙ append_assoc err bytes (10 ∷ []) ∙ ap (λ (t : List ℕ). err ++ (t ++ 10 ∷ [])) same
+
+-- the words so far, with the next
+pub words-more : (words : List (Bor (List ℕ))) (i : ℕ) (d : Bor (List ℕ)) → i < length words → map (λ word. word.now) (take (i + 1) words) ≡ map (λ word. word.now) (take i words) ++ (get_or words i d).now ∷ []
+words-more words i d h = ap (map (λ (word : Bor (List ℕ)). word.now)) (take_more words i d h) ∙ map-append (λ (word : Bor (List ℕ)). word.now) (take i words) (get_or words i d ∷ [])
+
+pub complaints-more : (f : List ℕ → List ℕ) (before out new : List ℕ) (done all : List (List ℕ)) (word : List ℕ) → all ≡ done ++ word ∷ [] → out ≡ before ++ flat_map f done → new ≡ out ++ f word → new ≡ before ++ flat_map f all
+complaints-more f before out new done all word e so_far pushed =
+    let more : flat_map f all ≡ flat_map f done ++ f word = ap (flat_map f) e ∙ flat_map-append f done (word ∷ []) ∙ ap (λ (t : List ℕ). flat_map f done ++ t) (append-nil (f word)) in
+    pushed ∙ ap (λ (t : List ℕ). t ++ f word) so_far ∙ append_assoc before (flat_map f done) (f word) ∙ ap (λ (t : List ℕ). before ++ t) (sym more)
+
+-- the lines of one word more
+pub AreLines-more : (answers : Answering) (stats : Bool) (words : List (List ℕ)) (word lines behind : List ℕ) → AreLines answers stats words lines → IsBehindLine (stats && is_read_word (answer_for answers word)) behind → AreLines answers stats (words ++ word ∷ []) (lines ++ (line_of answers word ++ behind))
+AreLines-more answers stats [] word lines behind none here = (behind, [], here, refl, ap (λ (t : List ℕ). t ++ (line_of answers word ++ behind)) none ∙ sym (append-nil (line_of answers word ++ behind)))
+AreLines-more answers stats (first ∷ words) word lines behind h here =
+    let rest = AreLines-more answers stats words word h.1 behind h.3 here in
+    let more = line_of answers word ++ behind in
+    (h.0, h.1 ++ more, h.2, rest, ap (λ (t : List ℕ). t ++ more) h.4 ∙ append_assoc (line_of answers first ++ h.0) h.1 more)
+
+pub lines-joined : (before out new lines line behind : List ℕ) → out ≡ before ++ lines → new ≡ out ++ line ++ behind → new ≡ before ++ (lines ++ (line ++ behind))
+lines-joined before out new lines line behind so_far pushed =
+    pushed ∙ append_assoc out line behind ∙ ap (λ (t : List ℕ). t ++ (line ++ behind)) so_far ∙ append_assoc before lines (line ++ behind)
+
+-- what stands behind a word's line
+pub nothing-behind : (answers : Answering) (stats : Bool) (word : List ℕ) → kind_of word ≡ None → IsBehindLine (stats && is_read_word (answer_for answers word)) []
+nothing-behind answers true word none = subst (λ (b : Bool). IsBehindLine b []) (sym (ap is_read_word (answer_for-unnamed answers word none))) refl
+nothing-behind answers false word none = refl
+
+pub counts-behind : (answers : Answering) (word line : List ℕ) (kind : Kind) → kind_of word ≡ Some kind → is_read (answers kind.lang (symbol_of kind word)) ≡ true → IsCountsLine line → IsBehindLine (is_read_word (answer_for answers word)) line
+counts-behind answers word line kind named read counted = subst (λ (b : Bool). IsBehindLine b line) (sym (ap is_read_word (answer_for-named answers word kind (answers kind.lang (symbol_of kind word)) named refl) ∙ read)) counted
+
+not-read : (refusal : Refusal) → (refusal ≡ TooLong → ⊥) → is_read (Err refusal) ≡ false
+not-read (Malformed at) h = refl
+not-read (BadReference at) h = refl
+not-read (BadValue at) h = refl
+not-read TooLong h = absurd (h refl)
+not-read Memory h = refl
+
+pub refused-behind : (answers : Answering) (word : List ℕ) (kind : Kind) (refusal : Refusal) → kind_of word ≡ Some kind → answers kind.lang (symbol_of kind word) ≡ Err refusal → (refusal ≡ TooLong → ⊥) → IsBehindLine (is_read_word (answer_for answers word)) []
+refused-behind answers word kind refusal named is other = subst (λ (b : Bool). IsBehindLine b []) (sym (ap is_read_word (answer_for-named answers word kind (Err refusal) named is) ∙ not-read refusal other)) refl
+
+status-step : (all word : Bool) (old new : ℕ) → old ≡ cond all 0 1 → new ≡ cond word old 1 → new ≡ cond (all && word) 0 1
+status-step true true old new h e = e ∙ h
+status-step true false old new h e = e
+status-step false true old new h e = e ∙ h
+status-step false false old new h e = e
+
+pub status-more : (answers : Answering) (done all : List (List ℕ)) (word : List ℕ) (old new : ℕ) (has_text : Bool) → all ≡ done ++ word ∷ [] → old ≡ status_of answers done → has_text ≡ is_some (text_for answers word) → new ≡ cond has_text old 1 → new ≡ status_of answers all
+status-more answers done all word old new has_text e so_far has chosen =
+    let test : List ℕ → Bool = λ w. is_some (text_for answers w) in
+    let whole : list_all test all ≡ (list_all test done && has_text) = ap (list_all test) e ∙ list_all-append test done (word ∷ []) ∙ ap (λ (b : Bool). list_all test done && b) (and-true (test word) ∙ sym has) in
+    status-step (list_all test done) has_text old new so_far chosen ∙ ap (λ (b : Bool). cond b 0 1) (sym whole)

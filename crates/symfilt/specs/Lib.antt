@@ -1,0 +1,10 @@
+pub mod Held
+pub mod Kinds
+pub mod Languages
+pub mod Lines
+pub mod Plain
+pub mod Runs
+pub mod Splits
+pub mod StandIn
+pub mod Streams
+pub mod Words

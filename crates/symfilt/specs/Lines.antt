@@ -1,0 +1,77 @@
+-- What the command says of its words.
+use Rattle.std.specs.Prelude.{◌≡◌, ℕ, List, [], ◌∷◌, ◌++◌, Bool, true, false, ◌&&◌, Option, Some, None, Result, Ok, Err, is_some, option_map, codes, if◌then◌else◌}
+use Rattle.std.specs.List.{list_all}
+use Rattle.std.specs.Fmt.{decimal}
+use Rattle.sym_core.specs.declared.refusal.Refusal.{Refusal}
+use Rattle.sym_core.specs.declared.refusal.Refusal.TheVariants.{Malformed, BadReference, BadValue, TooLong, Memory}
+use Rattle.symfilt.specs.Kinds.{kind_of, symbol_of}
+use Rattle.symfilt.specs.Runs.{Answering, text_for, word_or_text}
+
+-- a symbol is read: it has a text, or one that costs more than the limit
+abbrev pub is_read : Result (List ℕ) Refusal → Bool
+is_read (Ok text) = true
+is_read (Err TooLong) = true
+is_read (Err refusal) = false
+
+-- what is answered for a word's symbol, where it names one
+unfoldable pub answer_for : Answering → List ℕ → Option (Result (List ℕ) Refusal)
+answer_for answers word = option_map (λ kind. answers kind.lang (symbol_of kind word)) (kind_of word)
+
+-- whether a word's symbol is read
+abbrev pub is_read_word : Option (Result (List ℕ) Refusal) → Bool
+is_read_word None = false
+is_read_word (Some answer) = is_read answer
+
+-- the line of a word on standard output: its text, or the word where it has none
+abbrev pub line_of : Answering → List ℕ → List ℕ
+line_of answers word = word_or_text answers word ++ 10 ∷ []
+
+-- what is said of a symbol's counts
+abbrev pub counts_text : ℕ → ℕ → ℕ → List ℕ
+counts_text rows nodes steps =
+    codes "rows " ++ (decimal rows ++ (codes " nodes " ++ (decimal nodes ++ (codes " steps " ++ decimal steps))))
+
+-- the line of some counts
+pub record IsCountsLine (line : List ℕ) : Type 0 where
+  pub rows : ℕ
+  pub nodes : ℕ
+  pub steps : ℕ
+  pub is : line ≡ counts_text rows nodes steps ++ 10 ∷ []
+
+-- what stands behind a word's line: the line of counts where they are asked for and the symbol is read, else nothing
+abbrev pub IsBehindLine : Bool → List ℕ → Type 0
+IsBehindLine true line = IsCountsLine line
+IsBehindLine false line = line ≡ []
+
+-- the lines of words on standard output, in order
+abbrev pub AreLines : Answering → Bool → List (List ℕ) → List ℕ → Type 0
+AreLines answers stats [] lines = lines ≡ []
+AreLines answers stats (word ∷ words) lines = (behind rest : List ℕ)
+    × IsBehindLine (stats && is_read_word (answer_for answers word)) behind
+    × AreLines answers stats words rest
+    × (lines ≡ line_of answers word ++ behind ++ rest)
+
+-- why a symbol has no text
+abbrev pub reason_of : Refusal → List ℕ
+reason_of (Malformed at) = codes "malformed at " ++ decimal at
+reason_of (BadReference at) = codes "bad reference at " ++ decimal at
+reason_of (BadValue at) = codes "bad value at " ++ decimal at
+reason_of TooLong = codes "too long"
+reason_of Memory = []
+
+-- what is said of a word that has no text
+abbrev pub complaint_with : List ℕ → List ℕ → List ℕ
+complaint_with word reason = codes "symfilt: " ++ (word ++ (codes ": " ++ reason))
+
+-- the line on standard error that says of a word why it has no text, if it has none
+abbrev pub complaint_about : List ℕ → Option (Result (List ℕ) Refusal) → List ℕ
+complaint_about word None = complaint_with word (codes "not a symbol") ++ 10 ∷ []
+complaint_about word (Some (Ok text)) = []
+complaint_about word (Some (Err refusal)) = complaint_with word (reason_of refusal) ++ 10 ∷ []
+
+abbrev pub complaint_of : Answering → List ℕ → List ℕ
+complaint_of answers word = complaint_about word (answer_for answers word)
+
+-- the status: 0 where each word has a text, else 1
+abbrev pub status_of : Answering → List (List ℕ) → ℕ
+status_of answers words = if list_all (λ word. is_some (text_for answers word)) words then 0 else 1

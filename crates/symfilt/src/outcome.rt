@@ -1,0 +1,9 @@
+// What a command line asks of the program.
+use crate::detail::Detail;
+
+/// What the program is to do: end with a status, or filter standard input.
+#[derive(Clone, Copy, Debug, PartialEq, Eq)]
+pub enum Run {
+    Done(u8),
+    Filter { limit: u32, detail: Detail },
+}

@@ -1,0 +1,184 @@
+// The filter over streams in memory, and the command line.
+use crate::command::answer_words;
+use crate::detail::Detail;
+use crate::filtering::filter_with;
+use crate::outcome::Run;
+use crate::run;
+use crate::stand_in::StandIn;
+use crate::streams::FilterFault;
+use crate::told::{Call, ToldSink, ToldSource};
+use std::alloc::{AllocError, Global};
+use std::process::Abort;
+use std::test::Fail;
+
+const TEXT: &[u8] = b"x_R1fv _R1fv@plt __R1fv _Z1fQ_R... a_R._R (_R1..a.)";
+
+const FILTERED: &[u8] = b"x_R1fv 1fv@plt 1fv _Z1fQ_R... a_R._R (1..a.)";
+
+/// Filters a text in pieces of a length, and compares what went out and the tally.
+fn filters(
+    rt: &impl Abort,
+    alloc: Global,
+    text: &[u8],
+    piece: usize,
+    wanted: &[u8],
+    tally_wanted: (u64, u64, u64),
+) {
+    let calls = [Call::Moves(piece); 120];
+    let mut reader = ToldSource::new(text, &calls, 1000);
+    let mut writer = ToldSink::new(alloc, &calls);
+    let tally = filter_with(alloc, &mut reader, &mut writer, &StandIn);
+    assert!(rt; writer.bytes() == wanted);
+    if let Ok(tally) = tally {
+        assert!(rt; (tally.words, tally.replaced, tally.refused) == tally_wanted);
+    } else {
+        assert!(rt; false);
+    }
+}
+
+#[test]
+fn filters_however_cut(rt: HostRuntime) {
+    for piece in 1..=TEXT.len() {
+        filters(&rt, rt.alloc(), TEXT, piece, FILTERED, (4, 3, 1));
+    }
+    filters(&rt, rt.alloc(), b"", 1, b"", (0, 0, 0));
+    filters(&rt, rt.alloc(), b"_R1fv.a.", 1, b"1fv.a.", (1, 1, 0));
+    filters(&rt, rt.alloc(), b"..._R1 .", 1, b"..._R1 .", (0, 0, 0));
+}
+
+#[test]
+fn cuts_once_at_each_byte(rt: HostRuntime) {
+    for cut in 1..=TEXT.len() {
+        let calls = [Call::Moves(cut)];
+        let mut reader = ToldSource::new(TEXT, &calls, 100);
+        let mut writer = ToldSink::new(rt.alloc(), &calls);
+        let tally = filter_with(rt.alloc(), &mut reader, &mut writer, &StandIn);
+        assert!(rt; tally.is_ok() && writer.bytes() == FILTERED, "cut at {cut}");
+    }
+}
+
+/// A beginning, and behind it `i` up to a length.
+fn long(alloc: Global, begins: &[u8], length: usize) -> Result<Vec<u8>, AllocError> {
+    let mut text = Vec::from_slice(alloc, begins)?;
+    text.resize(length, b'i')?;
+    Ok(text)
+}
+
+#[test]
+fn reads_words_up_to_the_longest(rt: HostRuntime) -> Result<(), Fail> {
+    let word = long(rt.alloc(), b"_R", 65_536)?;
+    let text = long(rt.alloc(), b"", 65_534)?;
+    filters(&rt, rt.alloc(), &word, 65_536, &text, (1, 1, 0));
+    filters(&rt, rt.alloc(), &word, 40_000, &text, (1, 1, 0));
+    let too_long = long(rt.alloc(), b"_R", 65_537)?;
+    filters(&rt, rt.alloc(), &too_long, 40_000, &too_long, (0, 0, 0));
+    Ok(())
+}
+
+#[test]
+fn each_read_fails(rt: HostRuntime) {
+    for good in 0..40usize {
+        let mut calls = [Call::Moves(2); 40];
+        calls[good] = Call::Fails;
+        let mut reader = ToldSource::new(TEXT, &calls, 1000);
+        let mut writer = ToldSink::new(rt.alloc(), &[]);
+        let tally = filter_with(rt.alloc(), &mut reader, &mut writer, &StandIn);
+        if good <= TEXT.len() / 2 {
+            assert!(rt; tally == Err(FilterFault::Read), "after {good} reads");
+        }
+        assert!(rt; FILTERED.starts_with(writer.bytes()));
+    }
+}
+
+#[test]
+fn each_write_fails(rt: HostRuntime) {
+    for good in 0..40usize {
+        for failure in [Call::Fails, Call::Moves(0)] {
+            let mut calls = [Call::Moves(2); 40];
+            calls[good] = failure;
+            let mut reader = ToldSource::new(TEXT, &[Call::Moves(5); 40], 1000);
+            let mut writer = ToldSink::new(rt.alloc(), &calls);
+            let tally = filter_with(rt.alloc(), &mut reader, &mut writer, &StandIn);
+            if good < FILTERED.len() / 2 {
+                assert!(rt; tally == Err(FilterFault::Write), "after {good} writes");
+            }
+            assert!(rt; FILTERED.starts_with(writer.bytes()));
+        }
+    }
+}
+
+#[test]
+fn a_source_with_no_read_left_fails(rt: HostRuntime) {
+    let mut reader = ToldSource::new(TEXT, &[], 0);
+    let mut writer = ToldSink::new(rt.alloc(), &[]);
+    let tally = filter_with(rt.alloc(), &mut reader, &mut writer, &StandIn);
+    assert!(rt; tally == Err(FilterFault::Read) && writer.bytes().is_empty());
+}
+
+#[test]
+fn answers_words(rt: HostRuntime) -> Result<(), Fail> {
+    let alloc = rt.alloc();
+    let mut out = Vec::new(alloc);
+    let mut err = Vec::new(alloc);
+    let words = ["_Z1fQ", "__R1fv", "foo"];
+    let status = answer_words(alloc, &StandIn, true, &words, &mut out, &mut err)?;
+    assert_eq!(rt; status, 1);
+    assert!(rt; holds(&out, b"_Z1fQ\n1fv\nrows 1 nodes 2 steps 5\nfoo\n"));
+    assert!(rt;
+        holds(
+            &err,
+            b"symfilt: _Z1fQ: malformed at 4\nsymfilt: foo: not a symbol\n"
+        )
+    );
+    out.clear();
+    let status = answer_words(alloc, &StandIn, false, &["_R1fv"], &mut out, &mut err)?;
+    assert!(rt; status == 0 && holds(&out, b"1fv\n"));
+    Ok(())
+}
+
+fn holds(list: &[u8], wanted: &[u8]) -> bool {
+    list == wanted
+}
+
+/// Runs the command on words, and answers what it is to do, and whether it says something on standard error alone.
+fn runs(alloc: Global, words: &[&str]) -> (Run, bool) {
+    let mut out = Vec::new(alloc);
+    let mut err = Vec::new(alloc);
+    let outcome = run(alloc, words, &mut out, &mut err);
+    (outcome, out.is_empty() && !err.is_empty())
+}
+
+#[test]
+fn reads_command_lines(rt: HostRuntime) {
+    let alloc = rt.alloc();
+    let limit = 4_294_967_295;
+    let full = Detail::Full;
+    let brief = Detail::Brief;
+    let usual = Run::Filter {
+        limit: 1_000_000,
+        detail: full,
+    };
+    assert!(rt; runs(alloc, &["symfilt"]) == (usual, false));
+    let most = Run::Filter {
+        limit,
+        detail: brief,
+    };
+    assert!(rt; runs(alloc, &["symfilt", "--limit=4294967295", "--brief"]) == (most, false));
+    assert!(rt; runs(alloc, &["symfilt", "--limit", "4294967296"]) == (Run::Done(2), true));
+    assert!(rt; runs(alloc, &["symfilt", "--press", "_Z1fv"]) == (Run::Done(2), true));
+    assert!(rt; runs(alloc, &["symfilt", "--help"]) == (Run::Done(2), true));
+}
+
+#[test]
+fn says_why_there_is_no_text(rt: HostRuntime) {
+    let mut out = Vec::new(rt.alloc());
+    let mut err = Vec::new(rt.alloc());
+    let words = ["symfilt", "_Z1fQ"];
+    assert!(rt; run(rt.alloc(), &words, &mut out, &mut err) == Run::Done(1));
+    assert!(rt; holds(&out, b"_Z1fQ\n"));
+    assert!(rt; holds(&err, b"symfilt: _Z1fQ: malformed at 1\n"));
+    err.clear();
+    let words = ["symfilt", "--stats"];
+    assert!(rt; run(rt.alloc(), &words, &mut out, &mut err) == Run::Done(2));
+    assert!(rt; holds(&err, b"symfilt: --press and --stats need a symbol\n"));
+}

@@ -1,0 +1,55 @@
+#!/usr/bin/env python3
+"""Compares symfilt with another implementation, symbol by symbol and over a whole text.
+
+    tests/compare.py SYMFILT REFERENCE < SYMBOLS
+
+SYMFILT is the built program. REFERENCE is a program with the same command line behind the word `command`, and with the
+filter behind the word `filter`; one whose name ends in `.py` is run by this Python. SYMBOLS has one symbol a line.
+It prints each difference, and its status is 1 where there is one.
+"""
+
+import subprocess
+import sys
+
+BATCH = 100
+OPTIONS = ([], ["--limit", "60"], ["--brief"])
+
+
+def run(command, data=b""):
+    done = subprocess.run(command, input=data, stdout=subprocess.PIPE, stderr=subprocess.PIPE)
+    return done.returncode, done.stdout, done.stderr
+
+
+def compare_words(symfilt, reference, options, words):
+    """The number of differences; a batch that differs is compared word by word."""
+    own = run(symfilt + options + words)
+    other = run(reference + ["command"] + options + words)
+    if own == other:
+        return 0
+    if len(words) > 1:
+        return sum(compare_words(symfilt, reference, options, [word]) for word in words)
+    print(f"{options} {words[0]}\n  symfilt:   {own}\n  reference: {other}")
+    return 1
+
+
+def main():
+    if len(sys.argv) != 3:
+        sys.exit(__doc__)
+    symfilt = [sys.argv[1]]
+    reference = [sys.executable, sys.argv[2]] if sys.argv[2].endswith(".py") else [sys.argv[2]]
+    text = sys.stdin.buffer.read()
+    words = [line.decode() for line in text.split(b"\n") if line.isascii() and line and not line.startswith(b"-")]
+    differences = 0
+    for options in OPTIONS:
+        for first in range(0, len(words), BATCH):
+            differences += compare_words(symfilt, reference, options, words[first : first + BATCH])
+    own = run(symfilt, text)
+    other = run(reference + ["filter"], text)
+    if own[:2] != other[:2]:
+        differences += 1
+        print("the filtered texts differ")
+    print(f"{len(words)} symbols, {len(OPTIONS)} ways and filtered: {differences} differences")
+    sys.exit(1 if differences else 0)
+
+
+main()

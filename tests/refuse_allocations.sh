@@ -1,0 +1,55 @@
+#!/bin/bash
+# Refuses each allocation of symfilt in turn, over a command line and over a text that is filtered. Wherever one is
+# refused, the status has to be 3, the last line on standard error `symfilt: out of memory`, and standard output a
+# beginning of what it is with ample memory.
+#
+#   tests/refuse_allocations.sh SYMFILT
+set -u
+
+if [ $# -ne 1 ]; then
+    echo "usage: $0 SYMFILT" >&2
+    exit 2
+fi
+symfilt=$1
+here=$(dirname "$0")
+work=$(mktemp -d)
+trap 'rm -rf "$work"' EXIT
+
+"${CC:-cc}" -O1 -fPIC -shared -o "$work/refuse_malloc.so" "$here/refuse_malloc.c" -ldl || exit 1
+printf 'x _RNvC3foo3bar _Z1fv. (_RNvC3fo) _RNvNtC3foo3bar3baz end\n' >"$work/text"
+
+failed=0
+
+# refuse_each NAME WORD..: runs the program on the words until no allocation is left to refuse
+refuse_each() {
+    local name=$1 number=1 status
+    shift
+    "$symfilt" "$@" <"$work/text" >"$work/whole" 2>"$work/complaints"
+    local usual=$?
+    while :; do
+        rm -f "$work/mark"
+        REFUSE=$number REFUSE_MARK="$work/mark" LD_PRELOAD="$work/refuse_malloc.so" \
+            "$symfilt" "$@" <"$work/text" >"$work/out" 2>"$work/err"
+        status=$?
+        if [ ! -e "$work/mark" ]; then
+            break
+        fi
+        number=$((number + 1))
+        # a list that can't grow in place may grow elsewhere
+        if [ "$status" -eq "$usual" ] && cmp -s "$work/out" "$work/whole" && cmp -s "$work/err" "$work/complaints"; then
+            continue
+        fi
+        if [ "$status" -ne 3 ] || [ "$(tail -n 1 "$work/err")" != 'symfilt: out of memory' ] ||
+            ! cmp -s "$work/out" <(head -c "$(stat -c %s "$work/out")" "$work/whole"); then
+            echo "$name: allocation $((number - 1)) refused: status $status" >&2
+            cat "$work/err" >&2
+            failed=1
+        fi
+    done
+    echo "$name: $((number - 1)) allocations refused in turn"
+}
+
+refuse_each 'command line' _RNvC3foo3bar _RNvC3fo _Z1fv foo
+refuse_each 'counts' --stats _RNvC3foo3bar
+refuse_each 'filter'
+exit "$failed"
