@@ -1,10 +1,13 @@
 // Reading a whole symbol, and its text.
 
-ghost use Rattle.std.specs.Prelude.{◌≡◌, ◌⊎◌, ℕ, List, Ok, Err, IfOk, IfErr};
+ghost use Rattle.std.specs.Prelude.{◌≡◌, ◌⊎◌, ℕ, List, length, Ok, Err, IfOk, IfErr};
 ghost use Rattle.sym_core.specs.Number.{FitsSymbol};
 ghost use Rattle.sym_core.specs.declared.refusal.Refusal.TheVariants as refusals;
 ghost use Rattle.sym_print.specs.declared.detail.Detail.{Detail};
+ghost use Rattle.sym_shape.specs.Tree.{AreRowsOf};
+ghost use Rattle.sym_shape.specs.declared.rule.Row.{Row};
 ghost use Rattle.rust_v0.specs.Answer.{IsAnswer};
+ghost use Rattle.rust_v0.specs.Rules.{v0_table};
 ghost use Rattle.rust_v0.specs.Standing.{IsReading, whole_of};
 
 use crate::grammar::V0;
@@ -23,6 +26,8 @@ pub fn read(alloc: Global, s: &[u8]) -> Result<Symbol, Refusal>
     requires { FitsSymbol s.now }
     ensures bytes { IfOk result (λ symbol. symbol.bytes ≡ s.now) }
     ensures symbol { IfOk result (λ symbol. IsReading s.now (Ok (whole_of symbol))) }
+    // The rows that are counted are those of the symbol's one shape.
+    ensures rows { IfOk result (λ symbol. (rows : List Row) × AreRowsOf v0_table s.now rows × (symbol.rows ≡ length rows)) }
     ensures refused { IfErr result (λ e. (e ≡ refusals.Memory) ⊎ IsReading s.now (Err e)) }
 {
     let shape = sym_shape::read(alloc, &V0, s)?;

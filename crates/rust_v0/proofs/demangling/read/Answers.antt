@@ -14,3 +14,8 @@ returns-clause-symbol c =
     let linked = c.in_ok-linker.ensures.unlinked in
     let bytes : c.run.new.self.bytes ≡ c.args.s.now = c.run.ensures.bytes ∙ ap (λ (v : Progress). v.bytes) linked ∙ c.in_ok-extend_from_slice.ensures.items ∙ ap (λ xs. xs ++ c.args.s.now) c.new-bytes.ensures.items in
     well_shaped (subst (λ b. StandsFor b (Ok (whole_of c.finish.result))) bytes c.finish.ensures.stands)
+
+pub returns-clause-rows : goal.returns-clause-rows
+returns-clause-rows c =
+    let linked = c.in_ok-linker.ensures.unlinked in
+    (c.in_ok-shape.shape.rows, c.in_ok-shape.ensures.rows, c.finish.ensures.rows ∙ c.run.ensures.rows ∙ ap (λ (v : Progress). v.rows) linked)
