@@ -1,11 +1,11 @@
 -- The table with which a symbol begins.
-use Rattle.std.proofs.Common.{◌≡◌, refl, sym, ap, subst, ◌∙◌, ℕ, ◌+◌, ◌≤◌, List, [], ◌∷◌, ◌++◌, length, false, Some, None, arith}
+use Rattle.std.proofs.Common.{◌≡◌, refl, sym, ap, subst, ◌∙◌, ℕ, ◌+◌, ◌≤◌, List, [], ◌∷◌, length, false, Some, arith}
 use Rattle.std.specs.Prelude.{slice_get}
 use Rattle.std.specs.Fmt.{digits}
 use Rattle.sym_core.specs.Printed.{signed_text}
 use Rattle.rust_tree.specs.Symbol as tree
 use Rattle.rust_tree.specs.Tree.{Tree, of_arguments, of_bounds, of_bindings}
-use Rattle.rust_tree.specs.Nodes.{Table, IsTable, IsNode, Makes, trees, arguments_of, bounds_of, bindings_of}
+use Rattle.rust_tree.specs.Nodes.{Table, IsTable, Makes, trees, arguments_of, bounds_of, bindings_of}
 use Rattle.rust_tree.specs.declared.node.Entry.{Entry}
 use Rattle.rust_tree.specs.declared.node.Node.{Node}
 use Rattle.rust_tree.specs.declared.node.Arguments.{Arguments}

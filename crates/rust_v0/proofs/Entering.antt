@@ -1,14 +1,14 @@
 -- A rule that begins: how many lifetimes are bound around it, and where it stands.
-use Rattle.std.proofs.Common.{◌≡◌, refl, ap, sym, ◌∙◌, ℕ, ◌+◌, ◌*◌, ◌<◌, ◌≤◌, zero, suc, inl, inr, List, [], ◌∷◌, length, get_or, Bool, true, false, not, ◌&&◌, ◌||◌, Option, Some, None, Ok, Err, arith, cond}
-use Rattle.std.specs.Prelude.{min, ◌^◌, if◌then◌else◌}
-use Rattle.std.proofs.lemmas.Bool.{false≢true, and_parts, or_cases, cases_Bool, not-true}
+use Rattle.std.proofs.Common.{◌≡◌, refl, ap, sym, ◌∙◌, ℕ, ◌+◌, ◌*◌, ◌<◌, ◌≤◌, zero, suc, inl, inr, List, [], ◌∷◌, length, get_or, Bool, true, false, not, ◌&&◌, ◌||◌, Option, Some, Ok, Err, arith, cond}
+use Rattle.std.specs.Prelude.{min, ◌^◌}
+use Rattle.std.proofs.lemmas.Bool.{false≢true, and_parts, cases_Bool}
 use Rattle.sym_link.specs.Driving.{AreAll}
 use Rattle.sym_link.specs.Parts.{skipped_from, Stands}
 use Rattle.sym_link.specs.Reading.{Open}
 use Rattle.sym_shape.specs.declared.rule.Rule.{Rule}
 use Rattle.sym_shape.specs.declared.sheet.Choice.{Choice}
 use Rattle.sym_shape.specs.Sheet.{KindSheet, choice_at, classes_of, in_ranges}
-use Rattle.sym_shape.specs.Tree.{Forest, nothing, grown, empty, fixed, token, branch, spell_all}
+use Rattle.sym_shape.specs.Tree.{Forest, nothing, grown, empty, fixed, token, branch}
 use Rattle.rust_v0.specs.declared.production.Production.{Production}
 use Rattle.rust_v0.specs.declared.production.Production.TheVariants as rules
 use Rattle.rust_v0.specs.declared.part.Part.{Part}

@@ -1,5 +1,5 @@
 -- Which tokens the rules of the table take, and what these are as parts.
-use Rattle.std.proofs.Common.{◌≡◌, refl, ap, sym, ◌∙◌, ℕ, ◌+◌, ◌<◌, ◌≤◌, zero, suc, List, [], ◌∷◌, ◌++◌, length, length-append, Bool, true, false, ◌&&◌, Option, Some, None, Result, arith, subst}
+use Rattle.std.proofs.Common.{◌≡◌, refl, ap, sym, ◌∙◌, ℕ, ◌+◌, ◌≤◌, suc, List, [], ◌∷◌, length, length-append, Bool, true, false, ◌&&◌, Option, Some, None, Result, arith, subst}
 use Rattle.std.proofs.lemmas.Bool.{false≢true, and_parts}
 use Rattle.sym_core.specs.Number.{AreDigitsOf}
 use Rattle.sym_core.specs.Token.{AreNameBytes}
@@ -15,14 +15,14 @@ use Rattle.sym_link.specs.Parts.{skipped, skipped_from, Stands, joined, values_i
 use Rattle.sym_link.specs.Reading.{Open}
 use Rattle.sym_shape.specs.declared.rule.Rule.{Rule}
 use Rattle.sym_shape.specs.declared.rule.Sym.{Sym}
-use Rattle.sym_shape.specs.Table.{Table, Token, symbols_of, IsToken}
-use Rattle.sym_shape.specs.Tree.{Tree, Forest, nothing, grown, empty, fixed, token, branch, spell_all, AreTrees, IsTree}
+use Rattle.sym_shape.specs.Table.{Token, symbols_of}
+use Rattle.sym_shape.specs.Tree.{Forest, nothing, grown, empty, fixed, token, branch, spell_all, AreTrees, IsTree}
 use Rattle.rust_v0.specs.declared.part.Part.{Part}
 use Rattle.rust_v0.specs.declared.production.Production.{Production}
 use Rattle.rust_v0.specs.declared.production.Production.TheVariants as rules
 use Rattle.rust_v0.specs.declared.tokens.TokenSort.{TokenSort}
 use Rattle.rust_v0.specs.Productions.{production_of}
-use Rattle.rust_v0.specs.Rules.{v0_table, kinds, no_kind}
+use Rattle.rust_v0.specs.Rules.{v0_table, kinds}
 use Rattle.rust_v0.specs.Tokens.{sort_of, value_as, IsOwn, HasZero, minus_before}
 use Rattle.rust_v0.specs.Unfold.{token_of, is_minus}
 use Rattle.rust_v0.specs.Value as value

@@ -1,8 +1,6 @@
-use Rattle.std.proofs.Common.{refl, ◌≡◌, ◌∙◌, ◌<◌, ◌≤◌, ◌+◌, ◌-◌, ◌&&◌, sym, subst, ap, arith, length, take, drop}
-use Rattle.std.specs.Prelude.{◌^◌, nat_lt}
-use Rattle.sym_core.specs.Number.{AreDigits}
+use Rattle.std.proofs.Common.{refl, ◌≡◌, ◌∙◌, ◌-◌, ◌&&◌, sym, subst, ap, arith, length, take, drop}
+use Rattle.std.specs.Prelude.{nat_lt}
 use Rattle.sym_core.specs.Printed.{signed_text}
-use Rattle.sym_core.specs.declared.NumberKind.TheVariants.{Hex}
 use Rattle.sym_link.proofs.Lists.{span_length}
 use Rattle.rust_tree.specs.Nodes.{HasNoZero}
 use Rattle.rust_tree.proofs.Trees.{grows-same}

@@ -1,6 +1,6 @@
-use Rattle.std.proofs.Common.{◌≡◌, ap, sym, ◌∙◌, arith, true, length}
+use Rattle.std.proofs.Common.{ap, sym, ◌∙◌, arith, length}
 use Rattle.rust_v0.specs.Standing.{Progress}
-use Rattle.rust_v0.proofs.Standing.{whole_done, steps_few, reads, stands_so}
+use Rattle.rust_v0.proofs.Standing.{whole_done, steps_few, reads}
 use Rattle.rust_v0.proofs.linker.Linker.finish.Goals as goal
 
 pub overflow_add-steps : goal.overflow_add-steps

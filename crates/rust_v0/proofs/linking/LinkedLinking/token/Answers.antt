@@ -1,8 +1,8 @@
-use Rattle.std.proofs.Common.{◌≡◌, ◌∙◌, ◌≤◌, sym, subst, refl, ap, arith, take, drop, ◌-◌, length, length-drop, ℕ}
+use Rattle.std.proofs.Common.{◌∙◌, subst, refl, ap, arith, take, drop, ◌-◌, length, length-drop}
 use Rattle.std.proofs.lemmas.Result.{err_from_is_err_and}
 use Rattle.sym_link.proofs.Lists.{all_push, all_stay, pushed_behind, rest_all}
 use Rattle.rust_v0.specs.LinkedLaws.{v0_laws}
-use Rattle.rust_v0.specs.Linked.{GoesOn, v0_view}
+use Rattle.rust_v0.specs.Linked.{GoesOn}
 use Rattle.rust_v0.specs.Makings.{ground}
 use Rattle.rust_v0.specs.Productions.{production_of}
 use Rattle.rust_v0.specs.Tokens.{sort_of}
