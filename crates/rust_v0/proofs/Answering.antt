@@ -1,7 +1,8 @@
 -- Each symbol has one answer.
-use Rattle.std.proofs.Common.{◌≡◌, ℕ, inl, inr, List, Result, Err, ap, sym, ◌∙◌}
+use Rattle.std.proofs.Common.{◌≡◌, ℕ, inl, inr, List, Result, Ok, Err, ap, refl, subst, sym, ◌∙◌}
+use Rattle.std.specs.Prelude.{IfErr, nat_le, Bool, true, false, if◌then◌else◌}
 use Rattle.sym_core.specs.declared.refusal.Refusal.{Refusal}
-use Rattle.sym_core.specs.declared.refusal.Refusal.TheVariants.{Malformed}
+use Rattle.sym_core.specs.declared.refusal.Refusal.TheVariants.{Malformed, TooLong}
 use Rattle.sym_shape.specs.Decided.{AreBytes}
 use Rattle.sym_shape.specs.Tree.{Tree, IsTree, IsMalformed, spell}
 use Rattle.sym_shape.specs.declared.rule.Sym.TheVariants.{Kind}
@@ -9,7 +10,11 @@ use Rattle.sym_shape.proofs.Deciding.{decided, one_bad, outcome_shaped, outcome_
 use Rattle.sym_shape.proofs.Uniqueness.{one_tree}
 use Rattle.sym_print.specs.declared.detail.Detail.{Detail}
 use Rattle.rust_v0.specs.Rules.{v0_table}
-use Rattle.rust_v0.specs.Answer.{IsAnswer, malformed, shaped, answer_of_shape}
+use Rattle.sym_print.specs.Unshared.{Unshared, text_of, cost_of}
+use Rattle.rust_tree.specs.Symbol as tree
+use Rattle.rust_tree.specs.Shown.{symbol_parts}
+use Rattle.rust_v0.specs.Answer.{IsAnswer, malformed, shaped, answer_of_shape, answer_of_symbol, text_within}
+use Rattle.rust_v0.specs.Standing.{IsReading, misshapen, well_shaped}
 use Rattle.rust_v0.specs.Answered.{v0_lawful, answer}
 
 -- the answer to a well shaped symbol is that of its shape
@@ -42,3 +47,21 @@ one_answer detail s limit a b (malformed at bad e) (shaped shape is text f) = ab
 one_answer detail s limit a b (shaped shape is text e) (malformed at bad f) = absurd (bad.refused (shape, is, text))
 one_answer detail s limit a b (shaped shape is text e) (shaped other are same f) =
     e ∙ ap (λ t. answer_of_shape detail limit t) (one_tree v0_table v0_lawful shape other is are (text ∙ sym same)) ∙ sym f
+
+-- the answer is that of what is read
+pub reading_answered : (detail : Detail) (s : List ℕ) (limit : ℕ) (result : Result tree.Symbol Refusal) → AreBytes s → IsReading s result
+    → answer detail s limit ≡ answer_of_symbol detail limit result
+reading_answered detail s limit result bytes (misshapen at bad e) =
+    bad_answered detail s limit at bytes bad ∙ ap (λ (r : Result tree.Symbol Refusal). answer_of_symbol detail limit r) (sym e)
+reading_answered detail s limit result bytes (well_shaped (shape, is, text, e)) =
+    shape_answered detail s limit shape bytes is text ∙ ap (λ (r : Result tree.Symbol Refusal). answer_of_symbol detail limit r) (sym e)
+
+text_or_too_long : (test : Bool) (text : List ℕ) → IfErr (if test then Ok text else Err TooLong) (λ refusal. refusal ≡ TooLong)
+text_or_too_long true text = tt
+text_or_too_long false text = refl
+
+pub read_has_text : (detail : Detail) (s : List ℕ) (limit : ℕ) (symbol : tree.Symbol) → AreBytes s → IsReading s (Ok symbol)
+    → IfErr (answer detail s limit) (λ refusal. refusal ≡ TooLong)
+read_has_text detail s limit symbol bytes reading =
+    subst (λ (r : Result (List ℕ) Refusal). IfErr r (λ refusal. refusal ≡ TooLong)) (sym (reading_answered detail s limit (Ok symbol) bytes reading))
+    (text_or_too_long (nat_le (cost_of (symbol_parts detail symbol)) limit) (text_of (symbol_parts detail symbol)))

@@ -14,3 +14,4 @@ pub mod Referring
 pub mod Rows
 pub mod Standing
 pub mod Taking
+pub mod Refusals

@@ -12,3 +12,4 @@ pub mod Linked
 pub mod LinkedLaws
 pub mod Answered
 pub mod Standing
+pub mod Refusals

@@ -1,6 +1,6 @@
 // Reading a whole symbol, and its text.
 
-ghost use Rattle.std.specs.Prelude.{◌≡◌, ◌⊎◌, ℕ, List, length, Ok, Err, IfOk, IfErr};
+ghost use Rattle.std.specs.Prelude.{◌≡◌, ◌≢◌, ◌⊎◌, ℕ, List, length, Ok, Err, IfOk, IfErr};
 ghost use Rattle.sym_core.specs.Number.{FitsSymbol};
 ghost use Rattle.sym_core.specs.declared.refusal.Refusal.TheVariants as refusals;
 ghost use Rattle.sym_print.specs.declared.detail.Detail.{Detail};
@@ -29,6 +29,7 @@ pub fn read(alloc: Global, s: &[u8]) -> Result<Symbol, Refusal>
     // The rows that are counted are those of the symbol's one shape.
     ensures rows { IfOk result (λ symbol. (rows : List Row) × AreRowsOf v0_table s.now rows × (symbol.rows ≡ length rows)) }
     ensures refused { IfErr result (λ e. (e ≡ refusals.Memory) ⊎ IsReading s.now (Err e)) }
+    ensures never_too_long { IfErr result (λ e. e ≢ refusals.TooLong) }
 {
     let shape = sym_shape::read(alloc, &V0, s)?;
     let mut bytes = Vec::new(alloc);

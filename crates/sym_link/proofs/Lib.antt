@@ -10,3 +10,4 @@ pub mod Taking
 pub mod Starting
 pub mod Driving
 pub mod Positions
+pub mod Refusing

@@ -2,6 +2,7 @@ use Rattle.std.proofs.Common.{◌≡◌, ◌∙◌, ◌++◌, ap, subst, Ok}
 use Rattle.std.proofs.lemmas.Result.{err_from_is_err_and}
 use Rattle.rust_v0.specs.Standing.{Progress, StandsFor, well_shaped, whole_of}
 use Rattle.rust_v0.proofs.Standing.{shape_refused}
+use Rattle.rust_v0.proofs.Refusals.{link_not_too_long}
 use Rattle.rust_v0.proofs.demangling.read.Goals as goal
 
 pub returns-in_err-shape-clause-refused : goal.returns-in_err-shape-clause-refused
@@ -19,3 +20,8 @@ pub returns-clause-rows : goal.returns-clause-rows
 returns-clause-rows c =
     let linked = c.in_ok-linker.ensures.unlinked in
     (c.in_ok-shape.shape.rows, c.in_ok-shape.ensures.rows, c.finish.ensures.rows ∙ c.run.ensures.rows ∙ ap (λ (v : Progress). v.rows) linked)
+
+pub returns-in_err-run-clause-never_too_long : goal.returns-in_err-run-clause-never_too_long
+returns-in_err-run-clause-never_too_long c =
+    let p = err_from_is_err_and c.from_residual-in_err-run.result c.from_residual-in_err-run.ensures.1 in
+    rw (p.1, p.2) (link_not_too_long c.in_ok-linker.linker.bytes c.in_err-run.field-0.0 c.in_err-run.ensures.refused)
