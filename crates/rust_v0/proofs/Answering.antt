@@ -10,10 +10,10 @@ use Rattle.sym_shape.proofs.Deciding.{decided, one_bad, outcome_shaped, outcome_
 use Rattle.sym_shape.proofs.Uniqueness.{one_tree}
 use Rattle.sym_print.specs.declared.detail.Detail.{Detail}
 use Rattle.rust_v0.specs.Rules.{v0_table}
-use Rattle.sym_print.specs.Unshared.{Unshared, text_of, cost_of}
+use Rattle.sym_print.specs.Unshared.{text_of, cost_of}
 use Rattle.rust_tree.specs.Symbol as tree
 use Rattle.rust_tree.specs.Shown.{symbol_parts}
-use Rattle.rust_v0.specs.Answer.{IsAnswer, malformed, shaped, answer_of_shape, answer_of_symbol, text_within}
+use Rattle.rust_v0.specs.Answer.{IsAnswer, malformed, shaped, answer_of_shape, answer_of_symbol}
 use Rattle.rust_v0.specs.Standing.{IsReading, misshapen, well_shaped}
 use Rattle.rust_v0.specs.Answered.{v0_lawful, answer}
 

@@ -31,7 +31,7 @@ unfoldable pub all_kinds_pass : (Rule → Bool) → List KindSheet → Bool
 all_kinds_pass test [] = true
 all_kinds_pass test (k ∷ ks) = all_pass test k.choices && all_kinds_pass test ks
 
-chosen_passes : (test : Rule → Bool) (cs : List Choice) (byte : ℕ) (rule : Rule) → all_pass test cs ≡ true → choice_at cs byte ≡ Some rule → test rule ≡ true
+pub chosen_passes : (test : Rule → Bool) (cs : List Choice) (byte : ℕ) (rule : Rule) → all_pass test cs ≡ true → choice_at cs byte ≡ Some rule → test rule ≡ true
 unfolding all_pass
 chosen_passes test [] byte rule pass found = cc
 chosen_passes test (c ∷ cs) byte rule pass found = elim (cases_Bool (in_ranges (classes_of c) byte)) [

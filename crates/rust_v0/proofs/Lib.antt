@@ -15,3 +15,7 @@ pub mod Rows
 pub mod Standing
 pub mod Taking
 pub mod Refusals
+pub mod Sorts
+pub mod SortedParts
+pub mod SortedTrees
+pub mod Reasons

@@ -1,6 +1,6 @@
 -- What a symbol may be refused for when it is read.
-use Rattle.std.proofs.Common.{◌≡◌, refl, sym, ap, ◌∙◌, subst, inl, inr, ℕ, ◌+◌, List, [], ◌∷◌, Bool, true, false, Option, Some, None, Ok, Err}
-use Rattle.std.specs.Prelude.{Result, IfErr, ◌≢◌, ◌⊎◌, nat_le, if◌then◌else◌}
+use Rattle.std.proofs.Common.{◌≡◌, sym, ◌∙◌, subst, inl, inr, ℕ, ◌+◌, List, [], ◌∷◌, Bool, true, false, Option, Some, None, Ok, Err}
+use Rattle.std.specs.Prelude.{Result, IfErr, ◌≢◌, nat_le, if◌then◌else◌}
 use Rattle.sym_core.specs.declared.refusal.Refusal.{Refusal}
 use Rattle.sym_core.specs.declared.refusal.Refusal.TheVariants.{Malformed, BadReference, BadValue, TooLong, Memory}
 use Rattle.sym_shape.specs.Tree.{Tree, spell}
@@ -11,7 +11,7 @@ use Rattle.rust_tree.specs.Need.{need, need_of_type}
 use Rattle.rust_v0.specs.declared.production.Production.{Production}
 use Rattle.rust_v0.specs.declared.production.Production.TheVariants as rules
 use Rattle.rust_v0.specs.Productions.{production_of}
-use Rattle.rust_v0.specs.Value.{Value, State, Integer, number, an_integer, letter, a_name, an_identifier, a_disambiguator, a_binder, a_lifetime, unsafe_mark, an_abi, a_truth, minus_mark, a_path, a_type, a_constant, some_arguments, some_types, some_bounds, some_bindings, a_suffix, a_symbol}
+use Rattle.rust_v0.specs.Value.{Value, Integer, number, an_integer, letter, a_name, an_identifier, a_disambiguator, a_binder, a_lifetime, unsafe_mark, an_abi, a_truth, minus_mark, a_path, a_type, a_constant, some_arguments, some_types, some_bounds, some_bindings, a_suffix, a_symbol}
 use Rattle.rust_v0.specs.Unfold.{At, plain, ends_path, ends_type, ends_constant, meaning, meaning_of, at_rule, at_first, v0, symbol_of, unfolded, number_part, integer_part, letter_part, name_part, identifier_part, path_part, type_part, constant_part, lifetime_part, truth_part, abi_value_part, types_part, disambiguator_part, binder_part, some_lifetime_part, unsafe_part, minus_part, abi_part, arguments_part, bounds_part, bindings_part, suffix_part, other_path_part, refers_to_path, refers_to_type, refers_to_constant, lifetime_of, bounded, greatest_u64, greatest_u128, disambiguator_of, integer_of, character_of, is_scalar, as_path, as_type, as_constant, referred}
 use Rattle.rust_v0.specs.Standing.{IsRefused, IsReading, misshapen, well_shaped}
 use Rattle.rust_v0.specs.Refusals.{IsReadingRefusal}
@@ -103,15 +103,15 @@ abi_refused (an_abi abi ∷ rest) = tt
 abi_refused parts = tt
 
 arguments_refused : (parts : List Value) → IfErr (arguments_part parts) IsReadingRefusal
-arguments_refused (some_arguments arguments ∷ rest) = tt
+arguments_refused (some_arguments given ∷ rest) = tt
 arguments_refused parts = tt
 
 bounds_refused : (parts : List Value) → IfErr (bounds_part parts) IsReadingRefusal
-bounds_refused (some_bounds bounds ∷ rest) = tt
+bounds_refused (some_bounds given ∷ rest) = tt
 bounds_refused parts = tt
 
 bindings_refused : (parts : List Value) → IfErr (bindings_part parts) IsReadingRefusal
-bindings_refused (some_bindings bindings ∷ rest) = tt
+bindings_refused (some_bindings given ∷ rest) = tt
 bindings_refused parts = tt
 
 suffix_refused : (parts : List Value) → IfErr (suffix_part parts) IsReadingRefusal

@@ -16,6 +16,6 @@ pub mod tokens;
 
 pub use demangling::{demangle, demangle_as, read};
 pub use grammar::V0;
-pub use laws::{each_has_an_answer, one_answer, read_answers};
+pub use laws::{each_has_an_answer, each_refusal_has_a_reason, one_answer, read_answers};
 pub use linker::Linker;
 pub use rust_tree::{Counts, Detail, Symbol};
