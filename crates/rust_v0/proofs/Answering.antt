@@ -1,6 +1,6 @@
 -- Each symbol has one answer.
 use Rattle.std.proofs.Common.{◌≡◌, ℕ, inl, inr, List, Result, Ok, Err, ap, refl, subst, sym, ◌∙◌}
-use Rattle.std.specs.Prelude.{IfErr, nat_le, Bool, true, false, if◌then◌else◌}
+use Rattle.std.specs.Prelude.{IfErr, nat_le, Bool, true, false}
 use Rattle.sym_core.specs.declared.refusal.Refusal.{Refusal}
 use Rattle.sym_core.specs.declared.refusal.Refusal.TheVariants.{Malformed, TooLong}
 use Rattle.sym_shape.specs.Decided.{AreBytes}
@@ -56,7 +56,7 @@ reading_answered detail s limit result bytes (misshapen at bad e) =
 reading_answered detail s limit result bytes (well_shaped (shape, is, text, e)) =
     shape_answered detail s limit shape bytes is text ∙ ap (λ (r : Result tree.Symbol Refusal). answer_of_symbol detail limit r) (sym e)
 
-text_or_too_long : (test : Bool) (text : List ℕ) → IfErr (if test then Ok text else Err TooLong) (λ refusal. refusal ≡ TooLong)
+text_or_too_long : (test : Bool) (text : List ℕ) → IfErr (elim test [ true ↦ Ok text | false ↦ Err TooLong ]) (λ refusal. refusal ≡ TooLong)
 text_or_too_long true text = tt
 text_or_too_long false text = refl
 

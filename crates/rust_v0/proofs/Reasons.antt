@@ -1,6 +1,6 @@
 -- Each refusal has its reason in the symbol.
 use Rattle.std.proofs.Common.{sym, subst, ℕ, List, Bool, true, false, Ok, Err}
-use Rattle.std.specs.Prelude.{Result, IfErr, nat_le, if◌then◌else◌}
+use Rattle.std.specs.Prelude.{Result, IfErr, nat_le}
 use Rattle.sym_core.specs.declared.refusal.Refusal.{Refusal}
 use Rattle.sym_core.specs.declared.refusal.Refusal.TheVariants.{BadReference, BadValue, TooLong}
 use Rattle.sym_shape.specs.Tree.{IsWellShaped}
@@ -26,7 +26,7 @@ reading_reason s refusal (misshapen at bad same) = subst (λ (r : Result tree.Sy
 reading_reason s refusal (well_shaped (shape, is, spelled, same)) =
     token_reason s refusal (shape, is, spelled) (subst (λ (r : Result tree.Symbol Refusal). IfErr r IsBadToken) (sym same) (well_shaped_refused shape is))
 
-text_reason : (s text : List ℕ) (test : Bool) → IsWellShaped v0_table s → IfErr (if test then Ok text else Err TooLong) (HasReason s)
+text_reason : (s text : List ℕ) (test : Bool) → IsWellShaped v0_table s → IfErr (elim test [ true ↦ Ok text | false ↦ Err TooLong ]) (HasReason s)
 text_reason s text true whole = tt
 text_reason s text false whole = whole
 

@@ -2,7 +2,7 @@
 use Rattle.std.proofs.Common.{◌≡◌, refl, sym, ap, ◌∙◌, subst, inl, inr, ℕ, ◌+◌, ◌*◌, ◌≤◌, List, [], ◌∷◌, length, Bool, true, false, Option, Some, None, Ok, Err, arith, cond}
 use Rattle.std.specs.Prelude.{Result, slice_get, ◌⊎◌, ◌<◌, codes}
 use Rattle.std.specs.Result.{IfOk, IfErr, OnOk}
-use Rattle.std.proofs.lemmas.Bool.{cases_Bool, false≢true, le-leb, lt-leb}
+use Rattle.std.proofs.lemmas.Bool.{cases_Bool, false≢true}
 use Rattle.sym_core.specs.Number.{FitsSymbol}
 use Rattle.sym_core.specs.declared.refusal.Refusal.{Refusal}
 use Rattle.sym_core.specs.declared.refusal.Refusal.TheVariants as refusals
@@ -38,9 +38,11 @@ use Rattle.rust_v0.specs.Unfold.{At, Meaning, v0, at_first, at_rule, meaning, sy
 use Rattle.rust_v0.specs.Views.{Ground, IsPart}
 use Rattle.rust_v0.specs.Linked.{v0_view, first_nodes, Keeps, IsPaid}
 use Rattle.rust_v0.specs.Standing.{IsRefused, IsLinker, StandsFor, whole_of, IsReading, misshapen, well_shaped}
-use Rattle.rust_v0.specs.Answer.{IsAnswer, malformed, shaped, answer_of_symbol, text_within}
+use Rattle.rust_v0.specs.Answer.{IsAnswer, malformed, shaped, answer_of_symbol}
 use Rattle.rust_tree.specs.Shown.{symbol_parts}
+use Rattle.sym_print.specs.Answer.{text_within}
 use Rattle.sym_print.specs.Unshared.{text_of, cost_of}
+use Rattle.sym_print.proofs.Answering.{text_within-ok, text_within-too_long}
 use Rattle.sym_print.specs.declared.detail.Detail.{Detail}
 use Rattle.sym_shape.specs.Reader.{IsMalformedOrMemory}
 
@@ -266,7 +268,7 @@ answer_read detail s limit w result (well_shaped (shape, is, spelled, same)) giv
 pub answer_text : {A : Type 0} (bytes_of : A → List ℕ) (detail : Detail) (s : List ℕ) (limit : ℕ) (w : tree.Symbol) (result : Result A Refusal) → IsReading s (Ok w) → IfOk result (λ text. bytes_of text ≡ text_of (symbol_parts detail w))
     → OnOk result (cost_of (symbol_parts detail w) ≤ limit) → IfOk result (λ text. IsAnswer detail s limit (Ok (bytes_of text)))
 answer_text bytes_of detail s limit w (Ok text) reading is within =
-    answer_read detail s limit w (Ok (bytes_of text)) reading (rw (is, le-leb _ _ within) refl)
+    answer_read detail s limit w (Ok (bytes_of text)) reading (sym (text_within-ok limit (symbol_parts detail w) (bytes_of text) is within))
 answer_text bytes_of detail s limit w (Err e) reading is within = tt
 
 pub answer_too_long : {A : Type 0} (detail : Detail) (s : List ℕ) (limit : ℕ) (w : tree.Symbol) (result : Result A Refusal) → IsReading s (Ok w)
@@ -276,4 +278,5 @@ answer_too_long detail s limit w (Ok text) reading is long = tt
 answer_too_long detail s limit w (Err e) reading (inr memory) long = inl memory
 answer_too_long {A = A} detail s limit w (Err e) reading (inl same) long =
     let errs : Refusal → Result A Refusal = λ r. Err r in
-    inr (answer_read detail s limit w (Err e) reading (rw (same, lt-leb _ _ (long (ap errs same))) refl))
+    let refused : Refusal → Result (List ℕ) Refusal = λ r. Err r in
+    inr (answer_read detail s limit w (Err e) reading (ap refused same ∙ sym (text_within-too_long limit (symbol_parts detail w) (long (ap errs same)))))

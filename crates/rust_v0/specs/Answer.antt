@@ -1,19 +1,15 @@
 -- The answer to a symbol at a limit.
-use Rattle.std.specs.Prelude.{◌≡◌, ℕ, List, if◌then◌else◌, nat_le, Result, Ok, Err}
+use Rattle.std.specs.Prelude.{◌≡◌, ℕ, List, Result, Ok, Err}
 use Rattle.sym_core.specs.declared.refusal.Refusal.{Refusal}
-use Rattle.sym_core.specs.declared.refusal.Refusal.TheVariants.{Malformed, TooLong}
+use Rattle.sym_core.specs.declared.refusal.Refusal.TheVariants.{Malformed}
 use Rattle.sym_shape.specs.Tree.{Tree, IsTree, IsMalformed, spell}
 use Rattle.sym_shape.specs.declared.rule.Sym.TheVariants.{Kind}
-use Rattle.sym_print.specs.Unshared.{Unshared, text_of, cost_of}
+use Rattle.sym_print.specs.Answer.{text_within}
 use Rattle.rust_tree.specs.Symbol.{Symbol}
 use Rattle.rust_tree.specs.Shown.{symbol_parts}
 use Rattle.sym_print.specs.declared.detail.Detail.{Detail}
 use Rattle.rust_v0.specs.Rules.{v0_table}
 use Rattle.rust_v0.specs.Unfold.{unfolded}
-
--- the text, if it costs at most the limit
-abbrev pub text_within : ℕ → Unshared → Result (List ℕ) Refusal
-text_within limit root = if nat_le (cost_of root) limit then Ok (text_of root) else Err TooLong
 
 abbrev pub answer_of_symbol : Detail → ℕ → Result Symbol Refusal → Result (List ℕ) Refusal
 answer_of_symbol detail limit (Ok symbol) = text_within limit (symbol_parts detail symbol)
