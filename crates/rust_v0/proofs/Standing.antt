@@ -1,8 +1,8 @@
 -- What a linker has done is what the symbol's shape stands for.
-use Rattle.std.proofs.Common.{◌≡◌, refl, sym, ap, ◌∙◌, subst, inl, inr, ℕ, ◌+◌, ◌*◌, ◌≤◌, List, [], ◌∷◌, length, Bool, true, false, Option, Some, None, Ok, Err, arith, cond}
-use Rattle.std.specs.Prelude.{Result, slice_get, ◌⊎◌, ◌<◌, codes}
+use Rattle.std.proofs.Common.{◌≡◌, refl, sym, ap, ◌∙◌, subst, inl, inr, ℕ, ◌+◌, ◌*◌, ◌≤◌, List, [], ◌∷◌, length, Bool, true, Option, Some, None, Ok, Err, arith, cond}
+use Rattle.std.specs.Prelude.{Result, ◌⊎◌, ◌<◌, codes}
 use Rattle.std.specs.Result.{IfOk, IfErr, OnOk}
-use Rattle.std.proofs.lemmas.Bool.{cases_Bool, false≢true}
+use Rattle.std.proofs.lemmas.Bool.{cases_Bool}
 use Rattle.sym_core.specs.Number.{FitsSymbol}
 use Rattle.sym_core.specs.declared.refusal.Refusal.{Refusal}
 use Rattle.sym_core.specs.declared.refusal.Refusal.TheVariants as refusals
@@ -11,18 +11,15 @@ use Rattle.sym_shape.specs.declared.rule.Rule.{Rule}
 use Rattle.sym_shape.specs.declared.rule.Sym.TheVariants.{Kind, Byte}
 use Rattle.sym_shape.specs.declared.sheet.Choice.{Choice}
 use Rattle.sym_shape.specs.Sheet.{choice_at, classes_of, in_ranges}
-use Rattle.sym_shape.specs.Tree.{Tree, Forest, branch, spell, IsTree, AreRowsOf}
-use Rattle.sym_shape.specs.Reader.{AreFew}
+use Rattle.sym_shape.specs.Tree.{Tree, Forest, branch, spell, IsTree}
 use Rattle.sym_link.specs.Reading.{Found, ◌>>=◌}
 use Rattle.sym_link.specs.Unfold.{found, alone, standing, unfold_tree, unfold_forest}
-use Rattle.sym_link.specs.Driving.{Fails}
 use Rattle.sym_link.specs.declared.language.Frame.{Frame}
-use Rattle.sym_link.specs.Following.{IsShape, IsDone, IsDriving, IsStepTo, meaning_of}
-use Rattle.sym_link.proofs.Starting.{root_of, driving_starts, driving_few}
+use Rattle.sym_link.specs.Following.{IsShape, IsDone, meaning_of}
+use Rattle.sym_link.proofs.Starting.{root_of, driving_few}
 use Rattle.rust_tree.specs.Symbol as tree
 use Rattle.rust_tree.specs.Counts.{IsRead}
-use Rattle.rust_tree.specs.Layout.{ReadSymbol}
-use Rattle.rust_tree.specs.Nodes.{Table, IsSymbol, IsTable, trees, symbol_in}
+use Rattle.rust_tree.specs.Nodes.{IsSymbol, IsTable, trees}
 use Rattle.rust_v0.specs.declared.language.Linked.{Linked}
 use Rattle.rust_v0.specs.declared.language.Kept.{Kept}
 use Rattle.rust_v0.specs.declared.part.Part.{Part}
@@ -36,8 +33,8 @@ use Rattle.rust_v0.specs.Value.{Value, State}
 use Rattle.rust_v0.specs.Unfold as defined
 use Rattle.rust_v0.specs.Unfold.{At, Meaning, v0, at_first, at_rule, meaning, symbol_of, unfolded, path_part, other_path_part, suffix_part}
 use Rattle.rust_v0.specs.Views.{Ground, IsPart}
-use Rattle.rust_v0.specs.Linked.{v0_view, first_nodes, Keeps, IsPaid}
-use Rattle.rust_v0.specs.Standing.{IsRefused, IsLinker, StandsFor, whole_of, IsReading, misshapen, well_shaped}
+use Rattle.rust_v0.specs.Linked.{v0_view}
+use Rattle.rust_v0.specs.Standing.{IsLinker, IsReading, misshapen, well_shaped}
 use Rattle.rust_v0.specs.Answer.{IsAnswer, malformed, shaped, answer_of_symbol}
 use Rattle.rust_tree.specs.Shown.{symbol_parts}
 use Rattle.sym_print.specs.Answer.{text_within}
@@ -141,71 +138,16 @@ has_whole s rows shape linked parts is few done =
       text = done.paid.text;
     }
 
--- ## Refusals
-
-refused_is : (s : List ℕ) (rows : List Row) (shape : Tree) (e : Refusal) → IsShape v0_table s rows shape → meaning_of (v0_view s) shape ≡ Err e → IsRefused s e
-refused_is s rows shape e is fails =
-    inr (shape, is.is_tree, is.spelled, sym (unfolded_is s shape is.spelled ∙ ap (λ m. m >>= λ whole. symbol_of whole.value) fails))
-
--- what the driver says of a refusal, of the symbol
-pub refused_so : (s : List ℕ) (rows : List Row) (shape : Tree) (e : Refusal) → IsShape v0_table s rows shape → Fails e (meaning_of (v0_view s) shape) → IsRefused s e
-refused_so s rows shape refusals.Memory is fails = inl refl
-refused_so s rows shape e is fails = refused_is s rows shape e is fails
-
 -- ## A linker on its way
 
--- nothing is linked yet
-pub begins : (s : List ℕ) (rows : List Row) (read_steps : ℕ) (linked : Linked) (steps : ℕ) (refused : Option Refusal) (next : ℕ) (frames : List (Frame Kept)) (parts : List Part)
-    → FitsSymbol s → AreRowsOf v0_table s rows → AreFew read_steps (length rows) (length s)
-    → Keeps s linked [] → length linked.nodes.nodes ≡ first_nodes → IsPaid linked 0
-    → steps ≡ 0 → refused ≡ None → next ≡ 0 → frames ≡ [] → parts ≡ []
-    → IsLinker s rows read_steps linked steps refused next frames parts false
-begins s rows read_steps linked steps refused next frames parts fits (shape, is, spelled, rows_are) few keeps three paid e f g h i = rw (e, f, g, h, i) (
-    record {
-      shape = shape;
-      is_shape = record { is_tree = is; spelled = spelled; rows_are = rows_are };
-      fits = record { symbol = fits; rows = few.rows_few };
-      few = few;
-      driving = driving_starts (v0_view s) s rows shape linked (omega (arith, three)) keeps paid;
-      ended = λ is. absurd (false≢true is);
-    })
-
--- one linker goes on to another one
 module _ (s : List ℕ) (rows : List Row) (read_steps : ℕ) (linked : Linked) (steps : ℕ) (refused : Option Refusal) (next : ℕ) (frames : List (Frame Kept)) (parts : List Part)
     (done : Bool) (is : IsLinker s rows read_steps linked steps refused next frames parts done) where
-  -- behind a call of the driver
-  pub goes_on : (new : Linked) (new_steps : ℕ) (new_refused : Option Refusal) (new_next : ℕ) (new_frames : List (Frame Kept)) (new_parts : List Part) (new_done : Bool)
-      → ((tree : Tree) → IsShape v0_table s rows tree → IsDriving (v0_view s) s rows tree linked steps refused next frames parts
-      → IsDriving (v0_view s) s rows tree new new_steps new_refused new_next new_frames new_parts)
-      → ((tree : Tree) → IsShape v0_table s rows tree → IsDriving (v0_view s) s rows tree linked steps refused next frames parts
-      → new_done ≡ true → IsDone (v0_view s) s rows (meaning_of (v0_view s) tree) new new_parts)
-      → IsLinker s rows read_steps new new_steps new_refused new_next new_frames new_parts new_done
-  goes_on new new_steps new_refused new_next new_frames new_parts new_done driving ended = record {
-    shape = is.shape;
-    is_shape = is.is_shape;
-    fits = is.fits;
-    few = is.few;
-    driving = driving is.shape is.is_shape is.driving;
-    ended = ended is.shape is.is_shape is.driving;
-  }
-
-  -- the driver's requirement
-  pub may_drive : (tree : Tree) × IsShape v0_table s rows tree × IsDriving (v0_view s) s rows tree linked steps refused next frames parts
-  may_drive = (is.shape, is.is_shape, is.driving)
-
   -- steps and rows are few
   pub steps_few : read_steps + steps ≤ 32 * length s + 48
   steps_few = omega (arith, driving_few (v0_view s) s rows is.shape linked steps refused next frames parts is.driving, is.few.steps_few, is.few.rows_few)
 
   pub whole_done : done ≡ true → HasWhole s is.shape linked parts
   whole_done all = has_whole s rows is.shape linked parts is.is_shape is.few.rows_few (is.ended all)
-
--- a step that refuses has its reason, and is counted
-pub step_fails : (s : List ℕ) (rows : List Row) (shape : Tree) (new : Linked) (steps new_steps : ℕ) (refused new_refused : Option Refusal) (parts : List Part) (e : Refusal)
-    → IsStepTo (v0_view s) s rows shape new steps new_steps refused new_refused parts (Err e)
-    → Fails e (meaning_of (v0_view s) shape) × (new_refused ≡ Some e) × (refused ≡ None → new_steps ≡ steps + 1)
-step_fails s rows shape new steps new_steps None new_refused parts e (fails, counted, kept) = (fails, kept, λ _. counted)
-step_fails s rows shape new steps new_steps (Some old) new_refused parts e (fails, counted, same, kept) = (fails, kept ∙ ap (λ x. Some x) (sym same), λ open_still. absurd (let no : Some old ≡ None = open_still in cc))
 
 -- ## The end
 
@@ -232,14 +174,6 @@ reads s shape linked parts w node rows steps is fits few each all = record {
   counted = each;
 }
 
-pub stands_so : (s : List ℕ) (shape : Tree) (linked : Linked) (parts : List Part) (w : HasWhole s shape linked parts) (y : ReadSymbol) → parts ≡ Part.Symbol y.root ∷ []
-    → y.bytes ≡ s → y.table ≡ linked.nodes → IsTree v0_table (Kind 0) shape → spell shape ≡ s → StandsFor s (Ok (whole_of y))
-stands_so s shape linked parts w y is bytes table is_tree spelled =
-    let found_whole : symbol_in (slice_get (trees s linked.nodes.nodes) y.root) ≡ w.whole =
-    ap (λ n. symbol_in (slice_get (trees s linked.nodes.nodes) n)) (same_node s shape linked parts w y.root is) ∙ ap symbol_in w.is_whole in
-    let whole_same : whole_of y ≡ w.whole = ap (λ b. symbol_in (slice_get (trees b y.table.nodes) y.root)) bytes ∙ ap (λ (t : Table). symbol_in (slice_get (trees s t.nodes) y.root)) table ∙ found_whole in
-    (shape, is_tree, spelled, let oks : tree.Symbol → Result tree.Symbol Refusal = λ r. Ok r in ap oks whole_same ∙ w.stands)
-
 -- ## Answers
 
 -- why a symbol isn't read
@@ -247,10 +181,6 @@ pub shape_refused : (s : List ℕ) (e : Refusal) → IsMalformedOrMemory v0_tabl
 shape_refused s (refusals.Malformed at) is = inr (misshapen at is refl)
 shape_refused s refusals.Memory is = inl refl
 shape_refused s e is = absurd is
-
-pub link_refused : (s : List ℕ) (e : Refusal) → IsRefused s e → (e ≡ refusals.Memory) ⊎ IsReading s (Err e)
-link_refused s e (inl memory) = inl memory
-link_refused s e (inr stands) = inr (well_shaped stands)
 
 pub answer_refused : (detail : Detail) (s : List ℕ) (limit : ℕ) (e : Refusal) → (e ≡ refusals.Memory) ⊎ IsReading s (Err e)
     → (e ≡ refusals.Memory) ⊎ IsAnswer detail s limit (Err e)
