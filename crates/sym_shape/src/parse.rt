@@ -220,47 +220,30 @@ impl Parse {
         'moves: loop {
             match upcoming(&top) {
                 None => match uppermost(&self.below) {
-                    None => break 'moves,
                     Some(frame) => {
                         close_row(&mut self.rows, top.row as usize, at as u32);
                         drop_uppermost(&mut self.below);
                         top = frame;
-                        steps += 1;
-                        continue 'moves;
                     }
+                    None => break 'moves,
                 },
-                Some(Sym::Byte(byte)) => {
-                    if at >= bytes.len() || bytes[at] != byte {
-                        break 'moves;
-                    }
+                Some(Sym::Byte(byte)) if at < bytes.len() && bytes[at] == byte => {
                     at += 1;
                     top.next += 1;
-                    steps += 1;
-                    continue 'moves;
                 }
-                Some(Sym::Kind(kind)) => {
-                    if at >= bytes.len() {
-                        break 'moves;
+                Some(Sym::Kind(kind)) if at < bytes.len() => match grammar.rule(kind, bytes[at]) {
+                    Some(rule) => {
+                        top.next += 1;
+                        self.steps = steps + 1;
+                        top = take_rule(&mut self.below, &mut self.rows, top, &rule, at)?;
+                        at = behind(&rule, at);
                     }
-                    match grammar.rule(kind, bytes[at]) {
-                        Some(rule) => {
-                            top.next += 1;
-                            steps += 1;
-                            self.steps = steps;
-                            top = take_rule(&mut self.below, &mut self.rows, top, &rule, at)?;
-                            at = behind(&rule, at);
-                            continue 'moves;
-                        }
-                        None if grammar.may_be_empty(kind) => {
-                            top.next += 1;
-                            steps += 1;
-                            continue 'moves;
-                        }
-                        None => break 'moves,
-                    }
-                }
+                    None if grammar.may_be_empty(kind) => top.next += 1,
+                    None => break 'moves,
+                },
                 Some(_) => break 'moves,
             }
+            steps += 1;
         }
         self.top = top;
         self.at = at;
