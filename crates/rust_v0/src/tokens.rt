@@ -1,11 +1,11 @@
 // What a token is as a part of its rule.
 
 ghost use Rattle.std.specs.Prelude.{◌≡◌, ℕ, ◌+◌, ◌-◌, ◌*◌, ◌<◌, ◌≤◌, ◌^◌, ◌&&◌, Bool, List, length, true, IfOk, OnOk, OnErr, IfErr, nat_lt};
-ghost use Rattle.sym_core.specs.Number.{AreDigits, AreDigitsOf, FitsSymbol, is_digit_of};
+ghost use Rattle.sym_core.specs.Number.{AreDigitsOf, FitsSymbol};
 ghost use Rattle.sym_core.specs.Printed.{signed_text};
-ghost use Rattle.sym_core.specs.Token.{AreNameBytes, is_name_byte as name_byte};
-ghost use Rattle.sym_core.specs.declared.NameClass.{NameClass};
-ghost use Rattle.sym_core.specs.declared.NumberKind.{NumberKind};
+ghost use Rattle.sym_core.specs.Token.{AreNameBytes};
+ghost use Rattle.sym_core.specs.declared.NameClass.TheVariants.{Rust};
+ghost use Rattle.sym_core.specs.declared.NumberKind.TheVariants.{Base62, Hex};
 ghost use Rattle.sym_core.specs.declared.refusal.Refusal.TheVariants as refusals;
 ghost use Rattle.rust_tree.specs.Nodes.{IsTable, Grows, IsWithin, bytes_at};
 ghost use Rattle.rust_v0.specs.Productions.{production_of};
@@ -20,7 +20,9 @@ use crate::language::{Linked, without_zeros};
 use crate::part::{Integer, Part, STRAY};
 use crate::production::{Production, numbered};
 use rust_tree::node::Name;
-use sym_core::{Refusal, Span, value16, value62};
+use sym_core::{
+    NameClass, NumberKind, Refusal, Span, are_digits, are_name_bytes, value16, value62,
+};
 
 /// The sorts of tokens (RFC 2603, "Identifiers", "Constants" and "Base-62 numbers").
 #[derive(Clone, Copy)]
@@ -47,64 +49,14 @@ pub fn sort_of(rule: u16) -> TokenSort
     }
 }
 
-fn is_base62(byte: u8) -> bool
-    ensures { result ≡ is_digit_of NumberKind.Base62 byte }
-{
-    let decimal = b'0' <= byte && byte <= b'9';
-    let upper = b'A' <= byte && byte <= b'Z';
-    let lower = b'a' <= byte && byte <= b'z';
-    decimal || lower || upper
-}
-
-fn is_hex(byte: u8) -> bool
-    ensures { result ≡ is_digit_of NumberKind.Hex byte }
-{
-    let decimal = b'0' <= byte && byte <= b'9';
-    let letter = b'a' <= byte && byte <= b'f';
-    decimal || letter
-}
-
-fn is_name_byte(byte: u8) -> bool
-    ensures { result ≡ name_byte NameClass.Rust byte }
-{
-    let decimal = b'0' <= byte && byte <= b'9';
-    let upper = b'A' <= byte && byte <= b'Z';
-    let lower = b'a' <= byte && byte <= b'z';
-    decimal || upper || lower || byte == b'_'
-}
-
-/// Whether each byte is a digit in base 62.
-fn are_base62(digits: &[u8]) -> bool
-    ensures only { result ≡ true → AreDigits NumberKind.Base62 digits.now }
-    ensures all { AreDigits NumberKind.Base62 digits.now → result ≡ true }
-{
-    digits.iter().all(|byte| is_base62(*byte))
-}
-
-/// Whether each byte is a hexadecimal digit.
-fn are_hex(digits: &[u8]) -> bool
-    ensures only { result ≡ true → AreDigits NumberKind.Hex digits.now }
-    ensures all { AreDigits NumberKind.Hex digits.now → result ≡ true }
-{
-    digits.iter().all(|byte| is_hex(*byte))
-}
-
-/// Whether each byte may stand in a name.
-fn are_name_bytes(bytes: &[u8]) -> bool
-    ensures only { result ≡ true → AreNameBytes NameClass.Rust bytes.now }
-    ensures all { AreNameBytes NameClass.Rust bytes.now → result ≡ true }
-{
-    bytes.iter().all(|byte| is_name_byte(*byte))
-}
-
 /// The most digits of a number in base 62.
 const MOST_DIGITS: usize = 11;
 
 /// A number in base 62, none past 64 bits.
 fn counted_number(digits: &[u8]) -> Option<u64>
-    ensures { AreDigitsOf NumberKind.Base62 digits.now → IsNumber result (value_of_base62 digits.now) }
+    ensures { AreDigitsOf Base62 digits.now → IsNumber result (value_of_base62 digits.now) }
 {
-    if digits.len() > MOST_DIGITS || !are_base62(digits) {
+    if digits.len() > MOST_DIGITS || !are_digits(NumberKind::Base62, digits) {
         return None;
     }
     value62(digits)
@@ -112,9 +64,9 @@ fn counted_number(digits: &[u8]) -> Option<u64>
 
 /// The number of a character, none past 64 bits.
 fn character_code(digits: &[u8]) -> Option<u64>
-    ensures { AreDigitsOf NumberKind.Hex digits.now → IsNumber result (value_of_hex digits.now) }
+    ensures { AreDigitsOf Hex digits.now → IsNumber result (value_of_hex digits.now) }
 {
-    if !are_hex(digits) {
+    if !are_digits(NumberKind::Hex, digits) {
         return None;
     }
     match value16(digits) {
@@ -174,7 +126,7 @@ impl Linked {
         requires room { length self.old.nodes.text + 40 < 2 ^ 32 }
         requires zero { HasZero self.old.nodes.text }
         ensures part { IfOk result (λ part. IsPart (ground symbol.now self.new.nodes) part (an_integer_of minus (value_of_hex (bytes_at symbol.now own)))) }
-        ensures memory { AreDigitsOf NumberKind.Hex (bytes_at symbol.now own) → IfErr result (λ e. e ≡ refusals.Memory) }
+        ensures memory { AreDigitsOf Hex (bytes_at symbol.now own) → IfErr result (λ e. e ≡ refusals.Memory) }
         ensures nodes { self.new.nodes.nodes ≡ self.old.nodes.nodes }
         ensures ended { self.new.ended.items ≡ self.old.ended.items }
         ensures grows { Grows self.old.nodes self.new.nodes }
@@ -182,7 +134,7 @@ impl Linked {
         ensures few { OnOk result (length self.new.nodes.text ≤ length self.old.nodes.text + 4 * (own.to - own.from)) }
     {
         let bytes = &symbol[own.from as usize..own.to as usize];
-        if !are_hex(bytes) {
+        if !are_digits(NumberKind::Hex, bytes) {
             return Err(STRAY);
         }
         let zeros = without_zeros(bytes) as u32;
@@ -207,7 +159,7 @@ impl Linked {
         requires within { IsWithin own symbol.now }
         requires room { length self.old.nodes.text + 4 * length symbol.now + 10 < 2 ^ 32 }
         ensures part { IfOk result (λ part. IsPart (ground symbol.now self.new.nodes) part (a_name (record { punycode = true; bytes = bytes_at symbol.now own }))) }
-        ensures memory { AreNameBytes NameClass.Rust (bytes_at symbol.now own) → IfErr result (λ e. e ≡ refusals.Memory) }
+        ensures memory { AreNameBytes Rust (bytes_at symbol.now own) → IfErr result (λ e. e ≡ refusals.Memory) }
         ensures nodes { self.new.nodes.nodes ≡ self.old.nodes.nodes }
         ensures ended { self.new.ended.items ≡ self.old.ended.items }
         ensures grows { Grows self.old.nodes self.new.nodes }
@@ -215,7 +167,7 @@ impl Linked {
         ensures few { OnOk result (length self.new.nodes.text ≤ length self.old.nodes.text + 4 * (own.to - own.from) + 8) }
     {
         let bytes = &symbol[own.from as usize..own.to as usize];
-        if !are_name_bytes(bytes) {
+        if !are_name_bytes(NameClass::Rust, bytes) {
             return Err(STRAY);
         }
         let printed = self.nodes.push_name(self.alloc, bytes)?;

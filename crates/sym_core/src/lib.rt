@@ -13,9 +13,9 @@ mod tokens;
 mod values;
 
 pub use names::{push_decimal, push_name};
-pub use numbers::number;
+pub use numbers::{are_digits, number};
 pub use refusal::Refusal;
-pub use tokens::{TokenPlace, find_name, find_number};
+pub use tokens::{TokenPlace, are_name_bytes, find_name, find_number};
 pub use values::{length_of, value10, value16, value36, value62};
 
 /// The longest symbol, in bytes.

@@ -1,9 +1,9 @@
 // Numbers: where they begin and end.
 #![tactic(auto)]
 
-ghost use Rattle.std.specs.Prelude.{◌≡◌, ◌-◌, ◌+◌, ◌<◌, ◌≤◌, length, drop, slice_range, IfOk, MatchResult, List, ℕ, ◌∷◌};
+ghost use Rattle.std.specs.Prelude.{◌≡◌, ◌-◌, ◌+◌, ◌<◌, ◌≤◌, length, drop, slice_range, true, IfOk, MatchResult, List, ℕ, ◌∷◌};
 ghost use Rattle.std.specs.Bool.{OnTrue, OnFalse};
-ghost use Rattle.sym_core.specs.Number.{FitsSymbol, is_digit_of, AreDigitsOf, IsNumberSpan, IsNumberBreak};
+ghost use Rattle.sym_core.specs.Number.{FitsSymbol, is_digit_of, AreDigits, AreDigitsOf, IsNumberSpan, IsNumberBreak};
 ghost use Rattle.sym_core.specs.Scan.{is_marked, IsRun, IsLimit};
 
 use crate::{NumberKind, Span};
@@ -21,6 +21,14 @@ fn is_digit(kind: NumberKind, byte: u8) -> bool
         NumberKind::Base62 => decimal || lower || upper,
         NumberKind::Hex => decimal || (b'a' <= byte && byte <= b'f'),
     }
+}
+
+/// Whether each byte is a digit of the kind.
+pub fn are_digits(kind: NumberKind, digits: &[u8]) -> bool
+    ensures only { result ≡ true → AreDigits kind digits.now }
+    ensures all { AreDigits kind digits.now → result ≡ true }
+{
+    digits.iter().all(|byte| is_digit(kind, *byte))
 }
 
 /// Whether numbers of the kind end in an `_`.

@@ -5,8 +5,9 @@ ghost use Rattle.std.specs.Prelude.{◌≡◌, ◌+◌, ◌*◌, ◌<◌, ◌≤
 ghost use Rattle.sym_core.specs.Token.{AreNameBytes};
 
 use crate::{
-    NameClass, NumberKind, Refusal, Span, TokenPlace, find_name, find_number, fits, length_of,
-    number, push_decimal, push_name, value10, value16, value36, value62,
+    NameClass, NumberKind, Refusal, Span, TokenPlace, are_digits, are_name_bytes, find_name,
+    find_number, fits, length_of, number, push_decimal, push_name, value10, value16, value36,
+    value62,
 };
 use std::alloc::Global;
 use std::test::Fail;
@@ -83,6 +84,16 @@ fn values_are_counted_by_kind(rt: HostRuntime) {
         value_of_kind(b"999999999", NumberKind::Length),
         Some(999_999_999)
     );
+}
+
+#[test]
+fn bytes_are_of_a_kind(rt: HostRuntime) {
+    assert!(rt; are_digits(NumberKind::Hex, b"0af9"));
+    assert!(rt; !are_digits(NumberKind::Hex, b"0ag9"));
+    assert!(rt; are_digits(NumberKind::Base62, b"0zZ"));
+    assert!(rt; are_name_bytes(NameClass::Rust, b"a_1"));
+    assert!(rt; !are_name_bytes(NameClass::Rust, b"a.1"));
+    assert!(rt; are_name_bytes(NameClass::Cpp, b"a.1"));
 }
 
 #[test]

@@ -1,11 +1,11 @@
 // Tokens: names and numbers as they stand in a symbol.
 #![tactic(auto)]
 
-ghost use Rattle.std.specs.Prelude.{◌≡◌, ◌≤◌, ◌+◌, ◌↔◌, length, IsTrue};
+ghost use Rattle.std.specs.Prelude.{◌≡◌, ◌≤◌, ◌+◌, ◌↔◌, length, true, IsTrue};
 ghost use Rattle.sym_core.specs.Number.{FitsSymbol, ending_of, IsNumberSpan};
 ghost use Rattle.sym_core.specs.Scan.{IsSeparated, IsOwn, IsNameless};
 ghost use Rattle.sym_core.specs.Scan.{is_bare_digit as bare_digit};
-ghost use Rattle.sym_core.specs.Token.{IsName, IsNumberToken, FindsToken};
+ghost use Rattle.sym_core.specs.Token.{AreNameBytes, IsName, IsNumberToken, FindsToken};
 ghost use Rattle.sym_core.specs.Token.{is_name_byte as name_byte};
 
 use crate::numbers::{has_mark, number};
@@ -57,6 +57,14 @@ fn is_name_byte(names: NameClass, byte: u8) -> bool
         NameClass::Cpp => 33 <= byte && byte != 127,
         NameClass::Rust => decimal || upper || lower || byte == b'_',
     }
+}
+
+/// Whether each byte may stand in a name.
+pub fn are_name_bytes(names: NameClass, bytes: &[u8]) -> bool
+    ensures only { result ≡ true → AreNameBytes names bytes.now }
+    ensures all { AreNameBytes names bytes.now → result ≡ true }
+{
+    bytes.iter().all(|byte| is_name_byte(names, *byte))
 }
 
 /// Whether no name may have this length.

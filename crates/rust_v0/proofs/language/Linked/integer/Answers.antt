@@ -8,8 +8,8 @@ use Rattle.rust_v0.specs.Unfold.{value16}
 use Rattle.rust_v0.proofs.Integers.{digits_behind, digits_pay}
 use Rattle.rust_v0.proofs.language.Linked.integer.Goals as goal
 
-pub returns-then-not-are_hex-clause-grows : goal.returns-then-not-are_hex-clause-grows
-returns-then-not-are_hex-clause-grows c = grows-same c.args.self.now.nodes c.args.self.now.nodes refl
+pub returns-then-not-are_digits-clause-grows : goal.returns-then-not-are_digits-clause-grows
+returns-then-not-are_digits-clause-grows c = grows-same c.args.self.now.nodes c.args.self.now.nodes refl
 
 pub returns-in-None-clause-grows : goal.returns-in-None-clause-grows
 returns-in-None-clause-grows c = grows-same c.args.self.now.nodes c.args.self.now.nodes refl
@@ -36,5 +36,5 @@ returns-in_ok-printed-in-Some-clause-few c =
     let bytes = take (c.args.own.to - c.args.own.from) (drop c.args.own.from c.args.symbol.now) in
     let count : length bytes ≡ c.args.own.to - c.args.own.from = span_length c.args.own.from c.args.own.to c.args.symbol.now c.requires.within.0 c.requires.within.1 in
     digits_pay (length c.args.self.now.nodes.text) (length c.print_integer.new.self.nodes.text) c.in-Some.magnitude (c.args.own.to - c.args.own.from) c.args.minus bytes
-    (c.are_hex.ensures.only c.if-not-are_hex.false) c.in-Some.ensures (omega (arith, c.in-Some.ensures)) count
+    (c.are_digits.ensures.only c.if-not-are_digits.false) c.in-Some.ensures (omega (arith, c.in-Some.ensures)) count
     (λ none. ap (λ l. length l) (c.in_ok-printed-in-Some.ensures.none none)) c.in_ok-printed-in-Some.ensures.few
