@@ -1,5 +1,5 @@
 -- What a tree may be refused for is what its language may refuse.
-use Rattle.std.proofs.Common.{◌≡◌, ℕ, ◌+◌, List, [], ◌∷◌, ◌++◌, length, Ok, Err}
+use Rattle.std.proofs.Common.{ℕ, ◌+◌, List, [], ◌++◌, length, Ok, Err}
 use Rattle.std.specs.Prelude.{Result, IfErr}
 use Rattle.sym_core.specs.declared.refusal.Refusal.{Refusal}
 use Rattle.sym_shape.specs.Table.{Token}
