@@ -14,7 +14,6 @@ pub mod Referring
 pub mod Rows
 pub mod Standing
 pub mod Taking
-pub mod Refusals
 pub mod Sorts
 pub mod SortedParts
 pub mod SortedTrees

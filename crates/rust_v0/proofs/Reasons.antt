@@ -1,8 +1,8 @@
 -- Each refusal has its reason in the symbol.
-use Rattle.std.proofs.Common.{sym, subst, ℕ, List, Bool, true, false, Ok, Err}
-use Rattle.std.specs.Prelude.{Result, IfErr, nat_le}
+use Rattle.std.proofs.Common.{◌≡◌, sym, subst, inl, inr, ◌∙◌, ℕ, List, Bool, true, false, Ok, Err}
+use Rattle.std.specs.Prelude.{Result, ◌≢◌, IfErr, nat_le}
 use Rattle.sym_core.specs.declared.refusal.Refusal.{Refusal}
-use Rattle.sym_core.specs.declared.refusal.Refusal.TheVariants.{BadReference, BadValue, TooLong}
+use Rattle.sym_core.specs.declared.refusal.Refusal.TheVariants.{Malformed, BadReference, BadValue, TooLong, Memory}
 use Rattle.sym_shape.specs.Tree.{IsWellShaped}
 use Rattle.sym_print.specs.Unshared.{text_of, cost_of}
 use Rattle.sym_print.specs.declared.detail.Detail.{Detail}
@@ -12,7 +12,7 @@ use Rattle.rust_v0.specs.Rules.{v0_table}
 use Rattle.rust_v0.specs.Unfold.{unfolded}
 use Rattle.rust_v0.specs.Answer.{IsAnswer, malformed, shaped, answer_of_symbol}
 use Rattle.rust_v0.specs.Refusals.{HasReason}
-use Rattle.rust_v0.specs.Standing.{IsReading, misshapen, well_shaped}
+use Rattle.rust_v0.specs.Standing.{StandsFor, IsRefused, IsReading, misshapen, well_shaped}
 use Rattle.rust_v0.proofs.SortedParts.{IsBadToken}
 use Rattle.rust_v0.proofs.SortedTrees.{well_shaped_refused}
 
@@ -21,10 +21,31 @@ token_reason s (BadReference at) whole bad = whole
 token_reason s (BadValue at) whole bad = whole
 token_reason s refusal whole bad = absurd bad
 
+stands_for_bad : (s : List ℕ) (refusal : Refusal) → StandsFor s (Err refusal) → IsBadToken refusal
+stands_for_bad s refusal (shape, is, spelled, same) = subst (λ (r : Result tree.Symbol Refusal). IfErr r IsBadToken) (sym same) (well_shaped_refused shape is)
+
+-- ## What is read
+
 pub reading_reason : (s : List ℕ) (refusal : Refusal) → IsReading s (Err refusal) → HasReason s refusal
 reading_reason s refusal (misshapen at bad same) = subst (λ (r : Result tree.Symbol Refusal). IfErr r (HasReason s)) (sym same) bad
-reading_reason s refusal (well_shaped (shape, is, spelled, same)) =
-    token_reason s refusal (shape, is, spelled) (subst (λ (r : Result tree.Symbol Refusal). IfErr r IsBadToken) (sym same) (well_shaped_refused shape is))
+reading_reason s refusal (well_shaped stands) = token_reason s refusal (stands.0, stands.1, stands.2) (stands_for_bad s refusal stands)
+
+malformed_not_too_long : (at : ℕ) → Malformed at ≢ TooLong
+malformed_not_too_long at same = cc
+
+bad_not_too_long : (refusal : Refusal) → IsBadToken refusal → refusal ≢ TooLong
+bad_not_too_long refusal bad same = subst IsBadToken same bad
+
+pub reading_not_too_long : (s : List ℕ) (refusal : Refusal) → IsReading s (Err refusal) → refusal ≢ TooLong
+reading_not_too_long s refusal (misshapen at bad same) = subst (λ (r : Result tree.Symbol Refusal). IfErr r (λ e. e ≢ TooLong)) (sym same) (malformed_not_too_long at)
+reading_not_too_long s refusal (well_shaped stands) = bad_not_too_long refusal (stands_for_bad s refusal stands)
+
+-- what a linker refuses
+pub link_not_too_long : (s : List ℕ) (refusal : Refusal) → IsRefused s refusal → refusal ≢ TooLong
+link_not_too_long s refusal (inl memory) = λ long. absurd (let no : Memory ≡ TooLong = sym memory ∙ long in cc)
+link_not_too_long s refusal (inr stands) = bad_not_too_long refusal (stands_for_bad s refusal stands)
+
+-- ## What is answered
 
 text_reason : (s text : List ℕ) (test : Bool) → IsWellShaped v0_table s → IfErr (elim test [ true ↦ Ok text | false ↦ Err TooLong ]) (HasReason s)
 text_reason s text true whole = tt

@@ -1,18 +1,9 @@
--- What a symbol may be refused for when it is read, and why a symbol has no text.
-use Rattle.std.specs.Prelude.{ℕ, List, ⊤}
+-- Why a symbol has no text.
+use Rattle.std.specs.Prelude.{ℕ, List}
 use Rattle.sym_core.specs.declared.refusal.Refusal.{Refusal}
 use Rattle.sym_core.specs.declared.refusal.Refusal.TheVariants.{Malformed, BadReference, BadValue, TooLong, Memory}
 use Rattle.sym_shape.specs.Tree.{IsWellShaped, IsMalformed}
 use Rattle.rust_v0.specs.Rules.{v0_table}
-
--- The symbol isn't well shaped, or a token of it is bad. A symbol that is read has no text yet that could be too long, and
--- by its definition it needs no memory.
-abbrev pub IsReadingRefusal : Refusal → Type 0
-IsReadingRefusal (Malformed at) = ⊤
-IsReadingRefusal (BadReference at) = ⊤
-IsReadingRefusal (BadValue at) = ⊤
-IsReadingRefusal TooLong = ⊥
-IsReadingRefusal Memory = ⊥
 
 -- A refusal has its reason in the symbol: only what isn't well shaped is malformed, and only what is well shaped is refused for
 -- a bad token or for what its text costs. Want of memory is no fact of a symbol.

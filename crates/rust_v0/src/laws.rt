@@ -7,7 +7,7 @@ ghost use Rattle.sym_print.specs.declared.detail.Detail.{Detail};
 ghost use Rattle.rust_tree.specs.Symbol.{Symbol};
 ghost use Rattle.rust_v0.specs.Answer.{IsAnswer, answer_of_symbol};
 ghost use Rattle.rust_v0.specs.Answered.{answer};
-ghost use Rattle.rust_v0.specs.Refusals.{IsReadingRefusal, HasReason};
+ghost use Rattle.rust_v0.specs.Refusals.{HasReason};
 ghost use Rattle.rust_v0.specs.Standing.{IsReading};
 
 /// Each list of bytes has its answer.
@@ -27,7 +27,6 @@ pub fn read_answers()
     ensures answered { (detail : Detail) (s : List ℕ) (limit : ℕ) (result : Result Symbol Refusal) → AreBytes s → IsReading s result → answer detail s limit ≡ answer_of_symbol detail limit result }
     ensures read { (detail : Detail) (s : List ℕ) (limit : ℕ) (symbol : Symbol) → AreBytes s → IsReading s (Ok symbol) → IfErr (answer detail s limit) (λ refusal. refusal ≡ TooLong) }
     ensures refused { (detail : Detail) (s : List ℕ) (limit : ℕ) (refusal : Refusal) → AreBytes s → IsReading s (Err refusal) → (answer detail s limit ≡ Err refusal) × (refusal ≢ TooLong) }
-    ensures refusals { (s : List ℕ) (refusal : Refusal) → IsReading s (Err refusal) → IsReadingRefusal refusal }
 {}
 
 /// A refusal has its reason in the symbol, where it is read and where it is answered: what isn't well shaped is `Malformed` at its

@@ -10,4 +10,3 @@ pub mod Taking
 pub mod Starting
 pub mod Driving
 pub mod Positions
-pub mod Refusing

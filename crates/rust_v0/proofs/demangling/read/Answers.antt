@@ -2,7 +2,7 @@ use Rattle.std.proofs.Common.{◌≡◌, ◌∙◌, ◌++◌, ap, subst, Ok}
 use Rattle.std.proofs.lemmas.Result.{err_from_is_err_and}
 use Rattle.rust_v0.specs.Standing.{Progress, StandsFor, well_shaped, whole_of}
 use Rattle.rust_v0.proofs.Standing.{shape_refused}
-use Rattle.rust_v0.proofs.Refusals.{link_not_too_long}
+use Rattle.rust_v0.proofs.Reasons.{link_not_too_long}
 use Rattle.rust_v0.proofs.demangling.read.Goals as goal
 
 pub returns-in_err-shape-clause-refused : goal.returns-in_err-shape-clause-refused
