@@ -58,6 +58,15 @@ impl Symbol {
         }
     }
 
+    /// The lists of a symbol that is given up: its bytes, and its nodes with the text list. It takes no memory.
+    pub fn into_lists(self) -> (Vec<u8>, Nodes)
+        ensures bytes { result.0.items ≡ self.bytes }
+        ensures nodes { result.1 ≡ self.table }
+    {
+        let Symbol { bytes, nodes, .. } = self;
+        (bytes, nodes)
+    }
+
     /// The numbers of rows, nodes and steps that reading took.
     pub fn counts(&self) -> Counts
         ensures rows { result.rows ≡ self.now.rows }

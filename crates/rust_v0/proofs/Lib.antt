@@ -8,10 +8,10 @@ pub mod Makings
 pub mod Meanings
 pub mod Noted
 pub mod Places
-pub mod Reader
 pub mod Reading
 pub mod Referring
 pub mod Rows
+pub mod Shapes
 pub mod Standing
 pub mod Taking
 pub mod Sorts

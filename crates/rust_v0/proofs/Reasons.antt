@@ -60,3 +60,8 @@ pub answer_reason : (detail : Detail) (s : List ℕ) (limit : ℕ) (refusal : Re
 answer_reason detail s limit refusal (malformed at bad same) = subst (λ (r : Result (List ℕ) Refusal). IfErr r (HasReason s)) (sym same) bad
 answer_reason detail s limit refusal (shaped shape is spelled same) =
     subst (λ (r : Result (List ℕ) Refusal). IfErr r (HasReason s)) (sym same) (symbol_reason detail s limit (unfolded shape) (shape, is, spelled) (well_shaped_refused shape is))
+
+-- nor does a link that gives something else
+pub links_not_too_long : {T : Type 0} (s : List ℕ) (result : Result T Refusal) → IfErr result (IsRefused s) → IfErr result (λ e. e ≢ TooLong)
+links_not_too_long s (Ok found) is = is
+links_not_too_long s (Err refusal) is = link_not_too_long s refusal is

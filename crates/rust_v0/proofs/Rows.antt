@@ -16,7 +16,7 @@ use lib.Utf8.{encode}
 use Rattle.rust_tree.specs.Need.{need}
 use Rattle.rust_v0.specs.Unfold.{stray}
 use Rattle.rust_v0.specs.Answer.{answer_of_shape}
-use Rattle.rust_v0.proofs.Reader.{shape_of}
+use Rattle.rust_v0.proofs.Shapes.{shape_of}
 
 -- what the shape that was read is answered with; a symbol that isn't well shaped counts as a stray one
 abbrev pub answer_at : Detail → ℕ → Option Tree → Result (List ℕ) Refusal

@@ -1,9 +1,10 @@
 // Reading a whole symbol, and its text.
 
-ghost use Rattle.std.specs.Prelude.{◌≡◌, ◌≢◌, ◌⊎◌, ℕ, List, length, Ok, Err, IfOk, IfErr};
+ghost use Rattle.std.specs.Prelude.{◌≡◌, ◌≢◌, ◌⊎◌, ℕ, List, length, true, Ok, Err, IfOk, IfErr};
 ghost use Rattle.sym_core.specs.Number.{FitsSymbol};
 ghost use Rattle.sym_core.specs.declared.refusal.Refusal.TheVariants as refusals;
 ghost use Rattle.sym_print.specs.declared.detail.Detail.{Detail};
+ghost use Rattle.sym_shape.specs.Reader.{AreFew};
 ghost use Rattle.sym_shape.specs.Tree.{AreRowsOf};
 ghost use Rattle.sym_shape.specs.declared.rule.Row.{Row};
 ghost use Rattle.rust_v0.specs.Answer.{IsAnswer};
@@ -15,6 +16,23 @@ use crate::linker::Linker;
 use rust_tree::{Detail, Symbol};
 use std::alloc::Global;
 use sym_core::Refusal;
+use sym_shape::{Reader, Shape};
+
+/// The symbol of these bytes, whose shape was read.
+fn link(alloc: Global, bytes: Vec<u8>, shape: Shape) -> Result<Symbol, Refusal>
+    requires fits { FitsSymbol bytes.items }
+    requires rows { AreRowsOf v0_table bytes.items shape.rows }
+    requires few { AreFew shape.steps (length shape.rows) (length bytes.items) }
+    ensures bytes { IfOk result (λ symbol. symbol.bytes ≡ bytes.items) }
+    ensures symbol { IfOk result (λ symbol. IsReading bytes.items (Ok (whole_of symbol))) }
+    ensures rows { IfOk result (λ symbol. symbol.rows ≡ length shape.rows) }
+    ensures refused { IfErr result (λ e. (e ≡ refusals.Memory) ⊎ IsReading bytes.items (Err e)) }
+    ensures never_too_long { IfErr result (λ e. e ≢ refusals.TooLong) }
+{
+    let mut linker = Linker::new(alloc, bytes, shape)?;
+    linker.run()?;
+    Ok(linker.finish())
+}
 
 /// Reads a symbol.
 ///
@@ -34,9 +52,26 @@ pub fn read(alloc: Global, s: &[u8]) -> Result<Symbol, Refusal>
     let shape = sym_shape::read(alloc, &V0, s)?;
     let mut bytes = Vec::new(alloc);
     bytes.extend_from_slice(s)?;
-    let mut linker = Linker::new(alloc, bytes, shape)?;
-    linker.run()?;
-    Ok(linker.finish())
+    link(alloc, bytes, shape)
+}
+
+/// Reads the symbol that a reader was fed, whose end was told. Its bytes aren't copied.
+///
+/// # Errors
+///
+/// Those of `read`, for the bytes fed.
+pub fn read_fed(alloc: Global, mut reader: Reader<V0>) -> Result<Symbol, Refusal>
+    requires { reader.ended ≡ true }
+    ensures bytes { IfOk result (λ symbol. symbol.bytes ≡ reader.bytes) }
+    ensures symbol { IfOk result (λ symbol. IsReading reader.bytes (Ok (whole_of symbol))) }
+    // The rows that are counted are those of the symbol's one shape.
+    ensures rows { IfOk result (λ symbol. (rows : List Row) × AreRowsOf v0_table reader.bytes rows × (symbol.rows ≡ length rows)) }
+    ensures refused { IfErr result (λ e. (e ≡ refusals.Memory) ⊎ IsReading reader.bytes (Err e)) }
+    ensures never_too_long { IfErr result (λ e. e ≢ refusals.TooLong) }
+{
+    reader.run(&V0)?;
+    let (bytes, shape) = reader.finish()?;
+    link(alloc, bytes, shape)
 }
 
 /// The text of a symbol in full, if it costs at most the limit.

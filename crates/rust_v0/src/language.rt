@@ -137,6 +137,36 @@ fn placed(node: Node, number: u32) -> (Part, Option<Ending>)
 }
 
 impl Linked {
+    /// A table without nodes, which no symbol can be linked with before `restart`. It takes no memory.
+    pub fn idle(alloc: Global) -> Linked {
+        Linked {
+            nodes: Nodes::new(alloc),
+            ended: Vec::new(alloc),
+            alloc,
+        }
+    }
+
+    /// Forgets the symbol, and begins with the lists that have no items, and a text list with the decimal of zero alone.
+    /// The memory of the lists is kept.
+    ///
+    /// # Errors
+    ///
+    /// `Memory` where a list couldn't grow.
+    pub fn restart(&mut self) -> Result<(), Refusal>
+        ensures keeps { OnOk result ((s : List ℕ) → Keeps s self.new []) }
+        ensures paid { OnOk result (IsPaid self.new 0) }
+        ensures first { OnOk result (length self.new.nodes.nodes ≡ first_nodes) }
+        ensures memory { IfErr result (λ e. e ≡ refusals.Memory) }
+    {
+        self.nodes.clear();
+        self.ended.clear();
+        self.nodes.push(Node::Arguments(Arguments::None))?;
+        self.nodes.push(Node::Bounds(Bounds::None))?;
+        self.nodes.push(Node::Bindings(Bindings::None))?;
+        self.nodes.push_decimal(self.alloc, 0, false)?;
+        Ok(())
+    }
+
     /// A table of the lists that have no items, and a text list with the decimal of zero alone.
     ///
     /// # Errors
@@ -148,16 +178,9 @@ impl Linked {
         ensures first { IfOk result (λ linked. length linked.nodes.nodes ≡ first_nodes) }
         ensures memory { IfErr result (λ e. e ≡ refusals.Memory) }
     {
-        let mut nodes = Nodes::new(alloc);
-        nodes.push(Node::Arguments(Arguments::None))?;
-        nodes.push(Node::Bounds(Bounds::None))?;
-        nodes.push(Node::Bindings(Bindings::None))?;
-        nodes.push_decimal(alloc, 0, false)?;
-        Ok(Linked {
-            nodes,
-            ended: Vec::new(alloc),
-            alloc,
-        })
+        let mut linked = Linked::idle(alloc);
+        linked.restart()?;
+        Ok(linked)
     }
 
     /// Adds a node that began at a place.

@@ -13,9 +13,12 @@ pub mod part;
 pub mod production;
 mod table;
 pub mod tokens;
+mod workspace;
 
-pub use demangling::{demangle, demangle_as, read};
+pub use demangling::{demangle, demangle_as, read, read_fed};
 pub use grammar::V0;
 pub use laws::{each_has_an_answer, each_refusal_has_a_reason, one_answer, read_answers};
 pub use linker::Linker;
 pub use rust_tree::{Counts, Detail, Symbol};
+pub use sym_shape::Reader;
+pub use workspace::Workspace;

@@ -19,7 +19,7 @@ use sym_link::driver::Driver;
 use sym_shape::Shape;
 
 /// The node of a whole symbol, for which the one part stands.
-fn whole_node(parts: &[Part]) -> u32
+pub(crate) fn whole_node(parts: &[Part]) -> u32
     requires { (node : ℕ) × (parts.now ≡ part.Symbol node ∷ []) }
     ensures { parts.now ≡ part.Symbol result ∷ [] }
 {

@@ -1,5 +1,6 @@
 // A reader that is fed in pieces.
 ghost use Rattle.std.specs.Prelude.{◌≡◌, ◌+◌, ◌≤◌, ◌&&◌, [], ◌++◌, length, true, false, None, Some, Ok, Err, OnOk, OnErr, IfOk, IfErr, IfSome};
+ghost use Rattle.sym_core.specs.Number.{FitsSymbol};
 ghost use Rattle.sym_shape.specs.Tree.{AreRowsOf, BeginsWellShaped};
 ghost use Rattle.sym_shape.specs.Reader.{IsMalformedOrMemory};
 ghost use Rattle.sym_shape.specs.Fed.{Fed, unfed, refusing, with_piece, is_answer, IsReason, IsWithinBounds};
@@ -240,6 +241,7 @@ impl<G: Grammar> Reader<G> {
     pub fn finish(self) -> Result<(Vec<u8>, Shape), Refusal>
         requires { self.ready ≡ true }
         ensures bytes { IfOk result (λ read. read.0.items ≡ self.bytes) }
+        ensures fits { FitsSymbol self.bytes }
         ensures rows { IfOk result (λ read. AreRowsOf G.table self.bytes read.1.rows) }
         ensures row_count { IfOk result (λ read. length read.1.rows ≡ self.rows) }
         ensures step_count { IfOk result (λ read. read.1.steps ≡ self.steps) }

@@ -1,0 +1,12 @@
+use Rattle.std.proofs.lemmas.Result.{err_from_is_err_and}
+use Rattle.rust_v0.proofs.Standing.{shape_refused}
+use Rattle.rust_v0.proofs.Reasons.{links_not_too_long}
+use Rattle.rust_v0.proofs.workspace.Workspace.read.Goals as goal
+
+pub returns-in_err-read_into-clause-refused : goal.returns-in_err-read_into-clause-refused
+returns-in_err-read_into-clause-refused c =
+    let p = err_from_is_err_and c.from_residual.result c.from_residual.ensures.1 in
+    rw (p.1, p.2) (shape_refused c.args.s.now c.in_err-read_into.field-0.0 c.in_err-read_into.ensures.refused)
+
+pub returns-clause-never_too_long : goal.returns-clause-never_too_long
+returns-clause-never_too_long c = links_not_too_long _ c.link.result c.link.ensures.refused
