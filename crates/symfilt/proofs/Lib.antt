@@ -1,3 +1,4 @@
+pub mod LanguageLemmas
 pub mod LineLemmas
 pub mod PlainLemmas
 pub mod RunLemmas

@@ -5,6 +5,5 @@ pub mod Lines
 pub mod Plain
 pub mod Runs
 pub mod Splits
-pub mod StandIn
 pub mod Streams
 pub mod Words

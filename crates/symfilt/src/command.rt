@@ -7,7 +7,6 @@ ghost use Rattle.symfilt.specs.Lines.{answer_for, is_read_word, line_of, IsBehin
 ghost use Rattle.symfilt.specs.Streams.{BeginsWith};
 
 use crate::demangler::{Counts, Demangler};
-use crate::detail::Detail;
 use crate::kinds::{Kind, kind_of};
 use crate::languages::Languages;
 use crate::outcome::Run;
@@ -15,6 +14,7 @@ use clap::error::ErrorKind;
 use clap::{Arg, ArgAction, ArgMatches, Command, Error};
 use std::alloc::{AllocError, Global};
 use sym_core::Refusal;
+use sym_print::Detail;
 
 const ANSWERED: u8 = 0;
 

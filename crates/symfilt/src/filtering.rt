@@ -5,11 +5,11 @@ ghost use Rattle.symfilt.specs.Streams.{reader_faults, writer_faults, Puts, Puts
 ghost use Rattle.symfilt.specs.Words.{rest_after, tally_after, behind, Takes};
 
 use crate::demangler::Demangler;
-use crate::detail::Detail;
 use crate::languages::Languages;
 use crate::streams::{FilterFault, Sink, Source, write_all};
 use crate::words::{Taken, Tally, Words};
 use std::alloc::{AllocError, Global};
+use sym_print::Detail;
 
 /// How many bytes are read at a time, and from how many on they are written.
 const ROOM: usize = 65_536;

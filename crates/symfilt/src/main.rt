@@ -3,7 +3,6 @@
 
 mod command;
 pub mod demangler;
-pub mod detail;
 pub mod filtering;
 pub mod kinds;
 pub mod languages;
@@ -11,7 +10,7 @@ mod laws;
 mod outcome;
 mod program;
 #[cfg(test)]
-mod stand_in;
+mod rows;
 pub mod standard;
 pub mod streams;
 #[cfg(test)]

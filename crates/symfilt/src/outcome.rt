@@ -1,5 +1,5 @@
 // What a command line asks of the program.
-use crate::detail::Detail;
+use sym_print::Detail;
 
 /// What the program is to do: end with a status, or filter standard input.
 #[derive(Clone, Copy, Debug, PartialEq, Eq)]

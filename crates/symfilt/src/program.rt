@@ -1,6 +1,5 @@
 // The program: symbols on the command line, or standard input filtered to standard output.
 use crate::command::run;
-use crate::detail::Detail;
 use crate::filtering::filter_as;
 use crate::outcome::Run;
 use crate::standard::{ReaderSource, WriterSink};
@@ -8,6 +7,7 @@ use crate::streams::FilterFault;
 use std::alloc::AllocError;
 use std::rt::Env;
 use std::{env, io};
+use sym_print::Detail;
 
 const WRONG_USE: u8 = 2;
 

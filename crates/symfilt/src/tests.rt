@@ -1,19 +1,21 @@
 // The filter over streams in memory, and the command line.
 use crate::command::answer_words;
-use crate::detail::Detail;
-use crate::filtering::filter_with;
+use crate::filtering::filter;
+use crate::languages::Languages;
 use crate::outcome::Run;
 use crate::run;
-use crate::stand_in::StandIn;
 use crate::streams::FilterFault;
 use crate::told::{Call, ToldSink, ToldSource};
 use std::alloc::{AllocError, Global};
 use std::process::Abort;
 use std::test::Fail;
+use sym_print::Detail;
 
-const TEXT: &[u8] = b"x_R1fv _R1fv@plt __R1fv _Z1fQ_R... a_R._R (_R1..a.)";
+const LIMIT: u32 = 1_000_000;
 
-const FILTERED: &[u8] = b"x_R1fv 1fv@plt 1fv _Z1fQ_R... a_R._R (1..a.)";
+const TEXT: &[u8] = b"x_RNvC1a1b _RNvC1a1b@plt __RNvC1a1b _Z1fQ_R... a_R._R (_RNvC1a1b..a.)";
+
+const FILTERED: &[u8] = b"x_RNvC1a1b a::b@plt a::b _Z1fQ_R... a_R._R (a::b (..a).)";
 
 /// Filters a text in pieces of a length, and compares what went out and the tally.
 fn filters(
@@ -27,7 +29,7 @@ fn filters(
     let calls = [Call::Moves(piece); 120];
     let mut reader = ToldSource::new(text, &calls, 1000);
     let mut writer = ToldSink::new(alloc, &calls);
-    let tally = filter_with(alloc, &mut reader, &mut writer, &StandIn);
+    let tally = filter(alloc, &mut reader, &mut writer, LIMIT);
     assert!(rt; writer.bytes() == wanted);
     if let Ok(tally) = tally {
         assert!(rt; (tally.words, tally.replaced, tally.refused) == tally_wanted);
@@ -42,8 +44,9 @@ fn filters_however_cut(rt: HostRuntime) {
         filters(&rt, rt.alloc(), TEXT, piece, FILTERED, (4, 3, 1));
     }
     filters(&rt, rt.alloc(), b"", 1, b"", (0, 0, 0));
-    filters(&rt, rt.alloc(), b"_R1fv.a.", 1, b"1fv.a.", (1, 1, 0));
-    filters(&rt, rt.alloc(), b"..._R1 .", 1, b"..._R1 .", (0, 0, 0));
+    filters(&rt, rt.alloc(), b"_RC1a.a.", 1, b"a (.a).", (1, 1, 0));
+    filters(&rt, rt.alloc(), b"..._RC1a .", 1, b"..._RC1a .", (0, 0, 0));
+    filters(&rt, rt.alloc(), b"at _RC1a.\n", 1, b"at a.\n", (1, 1, 0));
 }
 
 #[test]
@@ -52,7 +55,7 @@ fn cuts_once_at_each_byte(rt: HostRuntime) {
         let calls = [Call::Moves(cut)];
         let mut reader = ToldSource::new(TEXT, &calls, 100);
         let mut writer = ToldSink::new(rt.alloc(), &calls);
-        let tally = filter_with(rt.alloc(), &mut reader, &mut writer, &StandIn);
+        let tally = filter(rt.alloc(), &mut reader, &mut writer, LIMIT);
         assert!(rt; tally.is_ok() && writer.bytes() == FILTERED, "cut at {cut}");
     }
 }
@@ -66,11 +69,11 @@ fn long(alloc: Global, begins: &[u8], length: usize) -> Result<Vec<u8>, AllocErr
 
 #[test]
 fn reads_words_up_to_the_longest(rt: HostRuntime) -> Result<(), Fail> {
-    let word = long(rt.alloc(), b"_R", 65_536)?;
-    let text = long(rt.alloc(), b"", 65_534)?;
+    let word = long(rt.alloc(), b"_RC65528", 65_536)?;
+    let text = long(rt.alloc(), b"", 65_528)?;
     filters(&rt, rt.alloc(), &word, 65_536, &text, (1, 1, 0));
     filters(&rt, rt.alloc(), &word, 40_000, &text, (1, 1, 0));
-    let too_long = long(rt.alloc(), b"_R", 65_537)?;
+    let too_long = long(rt.alloc(), b"_RC65529", 65_537)?;
     filters(&rt, rt.alloc(), &too_long, 40_000, &too_long, (0, 0, 0));
     Ok(())
 }
@@ -82,7 +85,7 @@ fn each_read_fails(rt: HostRuntime) {
         calls[good] = Call::Fails;
         let mut reader = ToldSource::new(TEXT, &calls, 1000);
         let mut writer = ToldSink::new(rt.alloc(), &[]);
-        let tally = filter_with(rt.alloc(), &mut reader, &mut writer, &StandIn);
+        let tally = filter(rt.alloc(), &mut reader, &mut writer, LIMIT);
         if good <= TEXT.len() / 2 {
             assert!(rt; tally == Err(FilterFault::Read), "after {good} reads");
         }
@@ -98,7 +101,7 @@ fn each_write_fails(rt: HostRuntime) {
             calls[good] = failure;
             let mut reader = ToldSource::new(TEXT, &[Call::Moves(5); 40], 1000);
             let mut writer = ToldSink::new(rt.alloc(), &calls);
-            let tally = filter_with(rt.alloc(), &mut reader, &mut writer, &StandIn);
+            let tally = filter(rt.alloc(), &mut reader, &mut writer, LIMIT);
             if good < FILTERED.len() / 2 {
                 assert!(rt; tally == Err(FilterFault::Write), "after {good} writes");
             }
@@ -111,7 +114,7 @@ fn each_write_fails(rt: HostRuntime) {
 fn a_source_with_no_read_left_fails(rt: HostRuntime) {
     let mut reader = ToldSource::new(TEXT, &[], 0);
     let mut writer = ToldSink::new(rt.alloc(), &[]);
-    let tally = filter_with(rt.alloc(), &mut reader, &mut writer, &StandIn);
+    let tally = filter(rt.alloc(), &mut reader, &mut writer, LIMIT);
     assert!(rt; tally == Err(FilterFault::Read) && writer.bytes().is_empty());
 }
 
@@ -120,19 +123,23 @@ fn answers_words(rt: HostRuntime) -> Result<(), Fail> {
     let alloc = rt.alloc();
     let mut out = Vec::new(alloc);
     let mut err = Vec::new(alloc);
-    let words = ["_Z1fQ", "__R1fv", "foo"];
-    let status = answer_words(alloc, &StandIn, true, &words, &mut out, &mut err)?;
+    let languages = Languages {
+        limit: LIMIT,
+        detail: Detail::Full,
+    };
+    let words = ["_Z1fQ", "__RC1a", "foo"];
+    let status = answer_words(alloc, &languages, true, &words, &mut out, &mut err)?;
     assert_eq!(rt; status, 1);
-    assert!(rt; holds(&out, b"_Z1fQ\n1fv\nrows 1 nodes 2 steps 5\nfoo\n"));
+    assert!(rt; holds(&out, b"_Z1fQ\na\nrows 4 nodes 5 steps 17\nfoo\n"));
     assert!(rt;
         holds(
             &err,
-            b"symfilt: _Z1fQ: malformed at 4\nsymfilt: foo: not a symbol\n"
+            b"symfilt: _Z1fQ: malformed at 1\nsymfilt: foo: not a symbol\n"
         )
     );
     out.clear();
-    let status = answer_words(alloc, &StandIn, false, &["_R1fv"], &mut out, &mut err)?;
-    assert!(rt; status == 0 && holds(&out, b"1fv\n"));
+    let status = answer_words(alloc, &languages, false, &["_RC1a"], &mut out, &mut err)?;
+    assert!(rt; status == 0 && holds(&out, b"a\n"));
     Ok(())
 }
 
