@@ -1,13 +1,16 @@
 -- What the languages answer, by their laws.
-use Rattle.std.proofs.Common.{◌≡◌, ◌≢◌, ◌⊎◌, inl, inr, ℕ, List, Result, Ok, Err, ap, sym, ◌∙◌}
+use Rattle.std.proofs.Common.{◌≡◌, ◌≢◌, ◌⊎◌, inl, inr, ℕ, true, List, Result, Ok, Err, refl, ap, sym, ◌∙◌}
+use Rattle.std.specs.Prelude.{IfErr}
 use Rattle.sym_core.specs.declared.refusal.Refusal.{Refusal}
-use Rattle.sym_core.specs.declared.refusal.Refusal.TheVariants.{Memory}
+use Rattle.sym_core.specs.declared.refusal.Refusal.TheVariants.{Memory, TooLong}
 use Rattle.sym_print.specs.declared.detail.Detail.{Detail}
 use Rattle.rust_v0.specs.Answer.{IsAnswer}
 use Rattle.rust_v0.specs.Answered.{answer}
+use Rattle.rust_v0.specs.Standing.{IsReading}
 use Rattle.symfilt.specs.declared.kinds.Lang.{Lang}
 use Rattle.symfilt.specs.declared.kinds.Lang.TheVariants.{Rust}
 use Rattle.symfilt.specs.Languages.{answer_of}
+use Rattle.symfilt.specs.Lines.{is_read}
 
 -- the law that an answer to a symbol is the definition's
 abbrev pub IsGiven : ℕ → Detail → List ℕ → Type 0
@@ -22,3 +25,20 @@ pub rust_refused : (limit : ℕ) (detail : Detail) (lang : Lang) (symbol : List 
     → IsGiven limit detail symbol → (refusal ≡ Memory) ⊎ IsAnswer detail symbol limit (Err refusal) → refusal ≢ Memory → answer_of limit detail lang symbol ≡ Err refusal
 rust_refused limit detail lang symbol refusal rust given (inl memory) other = absurd (other memory)
 rust_refused limit detail lang symbol refusal rust given (inr is) other = rust_answered limit detail lang symbol (Err refusal) rust given is
+
+pub reading_refused : (limit : ℕ) (detail : Detail) (lang : Lang) (symbol : List ℕ) (refusal : Refusal) → lang ≡ Rust
+    → (IsReading symbol (Err refusal) → (answer detail symbol limit ≡ Err refusal) × (refusal ≢ TooLong))
+    → (refusal ≡ Memory) ⊎ IsReading symbol (Err refusal) → refusal ≢ Memory → (answer_of limit detail lang symbol ≡ Err refusal) × (refusal ≢ TooLong)
+reading_refused limit detail lang symbol refusal rust law (inl memory) other = absurd (other memory)
+reading_refused limit detail lang symbol refusal rust law (inr is) other =
+    let refused = law is in
+    (ap (λ l. answer_of limit detail l symbol) rust ∙ refused.0, refused.1)
+
+read_or_too_long : (result : Result (List ℕ) Refusal) → IfErr result (λ refusal. refusal ≡ TooLong) → is_read result ≡ true
+read_or_too_long (Ok text) is = refl
+read_or_too_long (Err refusal) is = ap (λ r. is_read (Err r)) is
+
+pub reading_answered : (limit : ℕ) (detail : Detail) (lang : Lang) (symbol : List ℕ) → lang ≡ Rust
+    → IfErr (answer detail symbol limit) (λ refusal. refusal ≡ TooLong) → is_read (answer_of limit detail lang symbol) ≡ true
+reading_answered limit detail lang symbol rust is =
+    ap (λ l. is_read (answer_of limit detail l symbol)) rust ∙ read_or_too_long (answer detail symbol limit) is

@@ -3,7 +3,7 @@ ghost use Rattle.symfilt.specs.Languages.{answer_of};
 
 use crate::demangler::{Counts, Demangler};
 use crate::kinds::Lang;
-use rust_v0::one_answer;
+use rust_v0::{one_answer, read_answers};
 use std::alloc::{AllocError, Global};
 use sym_core::Refusal;
 use sym_print::Detail;
@@ -55,6 +55,7 @@ impl Demangler for Languages {
         match lang {
             Lang::Cpp => Err(UNREAD),
             Lang::Rust => {
+                read_answers();
                 let counts = rust_v0::read(lists.alloc, symbol)?.counts();
                 Ok(Counts {
                     rows: counts.rows,

@@ -10,13 +10,16 @@ returns-in_err-text-in-Rust-clause-refused c =
     let bytes : (i : ℕ) → get_or symbol i 0 < 256 = λ i. search (rules, c.type_inv.symbol i) in
     let p = err_from_is_err_and c.from_residual.result c.from_residual.ensures.1 in
     rw (p.1, p.2) (rust_refused languages.limit languages.detail c.args.lang symbol c.in_err-text-in-Rust.field-0.0 c.in-Rust.is
-        (λ result is. c.one_answer.ensures.given languages.detail symbol languages.limit result bytes is) c.in_err-text-in-Rust.ensures.refused)
+    (λ result is. c.one_answer.ensures.given languages.detail symbol languages.limit result bytes is) c.in_err-text-in-Rust.ensures.refused)
 
 pub returns-in_ok-extend_from_slice-in-Rust-clause-text : goal.returns-in_ok-extend_from_slice-in-Rust-clause-text
 returns-in_ok-extend_from_slice-in-Rust-clause-text c =
     let languages = c.args.self.now in
     let symbol = c.args.symbol.now in
     let text = c.in_ok-text-in-Rust.text.items in
-    let bytes : (i : ℕ) → get_or symbol i 0 < 256 = λ i. search (rules, c.type_inv.symbol i) in
-    (text, rust_answered languages.limit languages.detail c.args.lang symbol (Ok text) c.in-Rust.is
-        (λ result is. c.one_answer.ensures.given languages.detail symbol languages.limit result bytes is) c.in_ok-text-in-Rust.ensures.text, cc (c.in_ok-extend_from_slice-in-Rust.ensures.items, c.deref.ensures.value))
+    let bytes : (i : ℕ) → get_or symbol i 0 < 256 = λ i. search (rules, c.type_inv.symbol i) in (
+      text,
+      rust_answered languages.limit languages.detail c.args.lang symbol (Ok text) c.in-Rust.is
+          (λ result is. c.one_answer.ensures.given languages.detail symbol languages.limit result bytes is) c.in_ok-text-in-Rust.ensures.text,
+      cc (c.in_ok-extend_from_slice-in-Rust.ensures.items, c.deref.ensures.value),
+    )

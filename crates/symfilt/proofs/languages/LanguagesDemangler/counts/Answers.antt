@@ -1,0 +1,23 @@
+use Rattle.std.proofs.Common.{ℕ, ◌<◌, get_or, rules}
+use Rattle.std.proofs.lemmas.Result.{err_from_is_err_and}
+use Rattle.rust_v0.specs.Standing.{whole_of}
+use Rattle.symfilt.proofs.LanguageLemmas.{reading_refused, reading_answered}
+use Rattle.symfilt.proofs.languages.LanguagesDemangler.counts.Goals as goal
+
+pub returns-in_err-read-in-Rust-clause-refused : goal.returns-in_err-read-in-Rust-clause-refused
+returns-in_err-read-in-Rust-clause-refused c =
+    let languages = c.args.self.now in
+    let symbol = c.args.symbol.now in
+    let refusal = c.in_err-read-in-Rust.field-0.0 in
+    let bytes : (i : ℕ) → get_or symbol i 0 < 256 = λ i. search (rules, c.type_inv.symbol i) in
+    let p = err_from_is_err_and c.from_residual.result c.from_residual.ensures.1 in
+    rw (p.1, p.2) (reading_refused languages.limit languages.detail c.args.lang symbol refusal c.in-Rust.is
+    (λ is. c.read_answers.ensures.refused languages.detail symbol languages.limit refusal bytes is) c.in_err-read-in-Rust.ensures.refused)
+
+pub returns-in_ok-read-in-Rust-clause-read : goal.returns-in_ok-read-in-Rust-clause-read
+returns-in_ok-read-in-Rust-clause-read c =
+    let languages = c.args.self.now in
+    let symbol = c.args.symbol.now in
+    let bytes : (i : ℕ) → get_or symbol i 0 < 256 = λ i. search (rules, c.type_inv.symbol i) in
+    reading_answered languages.limit languages.detail c.args.lang symbol c.in-Rust.is
+    (c.read_answers.ensures.read languages.detail symbol languages.limit (whole_of c.in_ok-read-in-Rust.field-0) bytes c.in_ok-read-in-Rust.ensures.symbol)
