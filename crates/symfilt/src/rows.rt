@@ -97,34 +97,56 @@ static REFUSED: [(&str, &str); 11] = [
     ("_R", "malformed at 2"),
 ];
 
-/// Whether the command answers these words with a line on standard output, and with another on standard error or none.
-fn answers(alloc: Global, words: &[&str], line: &str, complaint: &str) -> Result<bool, AllocError> {
+/// Whether the command answers a symbol with a line on standard output, and with another on standard error or none.
+fn answers<'a>(
+    alloc: Global,
+    program: &'a str,
+    option: &'a str,
+    symbol: &'a str,
+    line: &str,
+    complaint: &str,
+) -> Result<bool, AllocError> {
     let mut out = Vec::new(alloc);
     let mut err = Vec::new(alloc);
-    let outcome = run(alloc, words, &mut out, &mut err);
-    let out_wanted = format!(in alloc; "{line}\n")?;
+    let outcome = run(alloc, &[program, option, symbol], &mut out, &mut err);
+    let line = format!(in alloc; "{line}\n")?;
     let status = if complaint.is_empty() { 0 } else { 1 };
     Ok(
         outcome == Run::Done(status)
-            && out_wanted.as_bytes() == out.as_slice()
+            && line.as_bytes() == out.as_slice()
             && complaint.as_bytes() == err.as_slice(),
+    )
+}
+
+/// Whether a symbol has a text at its cost and is too long one below.
+fn costs(
+    alloc: Global,
+    symbol: &str,
+    text: &str,
+    cost: u32,
+    below: u32,
+) -> Result<bool, AllocError> {
+    let limit = format!(in alloc; "--limit={cost}")?;
+    if !answers(alloc, "symfilt", limit.as_str(), symbol, text, "")? {
+        return Ok(false);
+    }
+    let limit = format!(in alloc; "--limit={below}")?;
+    let complaint = format!(in alloc; "symfilt: {symbol}: too long\n")?;
+    answers(
+        alloc,
+        "symfilt",
+        limit.as_str(),
+        symbol,
+        symbol,
+        complaint.as_str(),
     )
 }
 
 #[test]
 fn texts_at_their_costs(rt: HostRuntime) -> Result<(), Fail> {
-    let alloc = rt.alloc();
     for (symbol, text, cost) in &TEXTS {
-        let limit = format!(in alloc; "{cost}")?;
-        let words = ["symfilt", "--limit", limit.as_str(), *symbol];
-        assert!(rt; answers(alloc, &words, text, "")?, "{symbol}");
-        let below = format!(in alloc; "{}", *cost - 1)?;
-        let words = ["symfilt", "--limit", below.as_str(), *symbol];
-        let complaint = format!(in alloc; "symfilt: {symbol}: too long\n")?;
-        assert!(rt;
-            answers(alloc, &words, symbol, complaint.as_str())?,
-            "{symbol}"
-        );
+        let below = cost.saturating_sub(1);
+        assert!(rt; costs(rt.alloc(), symbol, text, *cost, below)?, "{symbol}");
     }
     Ok(())
 }
@@ -135,7 +157,14 @@ fn refusals_at_their_places(rt: HostRuntime) -> Result<(), Fail> {
     for (symbol, reason) in &REFUSED {
         let complaint = format!(in alloc; "symfilt: {symbol}: {reason}\n")?;
         assert!(rt;
-            answers(alloc, &["symfilt", *symbol], symbol, complaint.as_str())?,
+            answers(
+                alloc,
+                "symfilt",
+                "--limit=1000",
+                symbol,
+                symbol,
+                complaint.as_str()
+            )?,
             "{symbol}"
         );
     }
@@ -145,33 +174,31 @@ fn refusals_at_their_places(rt: HostRuntime) -> Result<(), Fail> {
 #[test]
 fn texts_in_brief(rt: HostRuntime) -> Result<(), Fail> {
     let alloc = rt.alloc();
-    let words = [
-        "symfilt",
-        "--brief",
-        "--limit=19",
-        "_RNvMC3fooINtB2_1AhE3baz",
-    ];
-    assert!(rt; answers(alloc, &words, "<foo::A>::baz", "")?);
+    let impl_of = "_RNvMC3fooINtB2_1AhE3baz";
+    assert!(rt; answers(alloc, "symfilt", "--brief", impl_of, "<foo::A>::baz", "")?);
     let boxed = TEXTS[TEXTS.len() - 1].0;
-    let words = ["symfilt", "--brief", "--limit=27", boxed];
-    assert!(rt; answers(alloc, &words, "alloc::alloc::box_free", "")?);
-    let words = ["symfilt", "--brief", "--limit=26", boxed];
-    let complaint = format!(in alloc; "symfilt: {boxed}: too long\n")?;
-    assert!(rt; answers(alloc, &words, boxed, complaint.as_str())?);
+    assert!(rt;
+        answers(
+            alloc,
+            "symfilt",
+            "--brief",
+            boxed,
+            "alloc::alloc::box_free",
+            ""
+        )?
+    );
     Ok(())
 }
 
 /// A thousand bound lifetimes, `'a` to `'z` and those with a number behind, at the cost of their text.
 #[test]
-fn as_many_lifetimes_as_a_binder_takes(rt: HostRuntime) -> Result<(), Fail> {
-    let alloc = rt.alloc();
+fn as_many_lifetimes_as_a_binder_takes(rt: HostRuntime) {
     let symbol = "_RINvC3foo3barFGg6_EuE";
-    let mut out = Vec::new(alloc);
-    let mut err = Vec::new(alloc);
+    let mut out = Vec::new(rt.alloc());
+    let mut err = Vec::new(rt.alloc());
     let words = ["symfilt", "--limit=7875", symbol];
-    assert!(rt; run(alloc, &words, &mut out, &mut err) == Run::Done(0));
+    assert!(rt; run(rt.alloc(), &words, &mut out, &mut err) == Run::Done(0));
     assert!(rt; out.len() == 6869 && out.starts_with(b"foo::bar::<for<'a, 'b, "));
     let words = ["symfilt", "--limit=7874", symbol];
-    assert!(rt; run(alloc, &words, &mut out, &mut err) == Run::Done(1));
-    Ok(())
+    assert!(rt; run(rt.alloc(), &words, &mut out, &mut err) == Run::Done(1));
 }
