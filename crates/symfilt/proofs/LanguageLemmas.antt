@@ -1,6 +1,6 @@
 -- What the languages answer, by their laws.
-use Rattle.std.proofs.Common.{◌≡◌, ◌≢◌, ◌⊎◌, inl, inr, ℕ, true, List, Result, Ok, Err, refl, ap, sym, ◌∙◌}
-use Rattle.std.specs.Prelude.{IfErr}
+use Rattle.std.proofs.Common.{◌≡◌, ◌≢◌, ◌⊎◌, inl, inr, ℕ, true, List, ◌++◌, Result, Ok, Err, refl, ap, sym, ◌∙◌}
+use Rattle.std.specs.Prelude.{OnOk, IfErr}
 use Rattle.sym_core.specs.declared.refusal.Refusal.{Refusal}
 use Rattle.sym_core.specs.declared.refusal.Refusal.TheVariants.{Memory, TooLong}
 use Rattle.sym_print.specs.declared.detail.Detail.{Detail}
@@ -16,15 +16,29 @@ use Rattle.symfilt.specs.Lines.{is_read}
 abbrev pub IsGiven : ℕ → Detail → List ℕ → Type 0
 IsGiven limit detail symbol = (result : Result (List ℕ) Refusal) → IsAnswer detail symbol limit result → result ≡ answer detail symbol limit
 
-pub rust_answered : (limit : ℕ) (detail : Detail) (lang : Lang) (symbol : List ℕ) (result : Result (List ℕ) Refusal) → lang ≡ Rust
+rust_answered : (limit : ℕ) (detail : Detail) (lang : Lang) (symbol : List ℕ) (result : Result (List ℕ) Refusal) → lang ≡ Rust
     → IsGiven limit detail symbol → IsAnswer detail symbol limit result → answer_of limit detail lang symbol ≡ result
 rust_answered limit detail lang symbol result rust given is =
     ap (λ l. answer_of limit detail l symbol) rust ∙ sym (given result is)
 
-pub rust_refused : (limit : ℕ) (detail : Detail) (lang : Lang) (symbol : List ℕ) (refusal : Refusal) → lang ≡ Rust
+rust_refused : (limit : ℕ) (detail : Detail) (lang : Lang) (symbol : List ℕ) (refusal : Refusal) → lang ≡ Rust
     → IsGiven limit detail symbol → (refusal ≡ Memory) ⊎ IsAnswer detail symbol limit (Err refusal) → refusal ≢ Memory → answer_of limit detail lang symbol ≡ Err refusal
 rust_refused limit detail lang symbol refusal rust given (inl memory) other = absurd (other memory)
 rust_refused limit detail lang symbol refusal rust given (inr is) other = rust_answered limit detail lang symbol (Err refusal) rust given is
+
+-- the same of a call's outcome
+pub rust_text : {A : Type 0} (limit : ℕ) (detail : Detail) (lang : Lang) (symbol old new : List ℕ) (result : Result A Refusal) → lang ≡ Rust
+    → IsGiven limit detail symbol → OnOk result ((text : List ℕ) × (new ≡ old ++ text) × IsAnswer detail symbol limit (Ok text))
+    → OnOk result ((text : List ℕ) × (answer_of limit detail lang symbol ≡ Ok text) × (new ≡ old ++ text))
+rust_text limit detail lang symbol old new (Ok done) rust given (text, appended, is) =
+    (text, rust_answered limit detail lang symbol (Ok text) rust given is, appended)
+rust_text limit detail lang symbol old new (Err refusal) rust given is = tt
+
+pub rust_refusal : {A : Type 0} (limit : ℕ) (detail : Detail) (lang : Lang) (symbol : List ℕ) (result : Result A Refusal) → lang ≡ Rust
+    → IsGiven limit detail symbol → IfErr result (λ refusal. (refusal ≡ Memory) ⊎ IsAnswer detail symbol limit (Err refusal))
+    → IfErr result (λ refusal. refusal ≢ Memory → answer_of limit detail lang symbol ≡ Err refusal)
+rust_refusal limit detail lang symbol (Ok done) rust given is = tt
+rust_refusal limit detail lang symbol (Err refusal) rust given is = rust_refused limit detail lang symbol refusal rust given is
 
 pub reading_refused : (limit : ℕ) (detail : Detail) (lang : Lang) (symbol : List ℕ) (refusal : Refusal) → lang ≡ Rust
     → (IsReading symbol (Err refusal) → (answer detail symbol limit ≡ Err refusal) × (refusal ≢ TooLong))

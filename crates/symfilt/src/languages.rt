@@ -3,7 +3,7 @@ ghost use Rattle.symfilt.specs.Languages.{answer_of};
 
 use crate::demangler::{Counts, Demangler};
 use crate::kinds::Lang;
-use rust_v0::{one_answer, read_answers};
+use rust_v0::{Workspace, one_answer, read_answers};
 use std::alloc::{AllocError, Global};
 use sym_core::Refusal;
 use sym_print::Detail;
@@ -18,10 +18,10 @@ pub struct Languages {
     pub detail: Detail,
 }
 
-/// The lists of the languages.
-#[derive(Clone, Copy, Drop)]
+/// The lists of both languages.
+#[derive(Drop)]
 pub struct Lists {
-    alloc: Global,
+    rust: Workspace,
 }
 
 impl Demangler for Languages {
@@ -30,7 +30,9 @@ impl Demangler for Languages {
     ghost answer = { λ languages lang symbol. answer_of languages.limit languages.detail lang symbol };
 
     fn lists(&self, alloc: Global) -> Result<Lists, AllocError> {
-        Ok(Lists { alloc })
+        Ok(Lists {
+            rust: Workspace::new(alloc),
+        })
     }
 
     fn demangle(
@@ -44,9 +46,9 @@ impl Demangler for Languages {
             Lang::Cpp => Err(UNREAD),
             Lang::Rust => {
                 one_answer();
-                let text = rust_v0::demangle_as(lists.alloc, symbol, self.limit, self.detail)?;
-                out.extend_from_slice(&text)?;
-                Ok(())
+                lists
+                    .rust
+                    .demangle_into(symbol, self.limit, self.detail, out)
             }
         }
     }
@@ -56,7 +58,9 @@ impl Demangler for Languages {
             Lang::Cpp => Err(UNREAD),
             Lang::Rust => {
                 read_answers();
-                let counts = rust_v0::read(lists.alloc, symbol)?.counts();
+                let read = lists.rust.read(symbol)?;
+                let counts = read.counts();
+                lists.rust.recycle(read);
                 Ok(Counts {
                     rows: counts.rows,
                     nodes: counts.nodes,

@@ -20,4 +20,4 @@ returns-in_ok-read-in-Rust-clause-read c =
     let symbol = c.args.symbol.now in
     let bytes : (i : ℕ) → get_or symbol i 0 < 256 = λ i. search (rules, c.type_inv.symbol i) in
     reading_answered languages.limit languages.detail c.args.lang symbol c.in-Rust.is
-    (c.read_answers.ensures.read languages.detail symbol languages.limit (whole_of c.in_ok-read-in-Rust.field-0) bytes c.in_ok-read-in-Rust.ensures.symbol)
+    (c.read_answers.ensures.read languages.detail symbol languages.limit (whole_of c.in_ok-read-in-Rust.read) bytes c.in_ok-read-in-Rust.ensures.symbol)
