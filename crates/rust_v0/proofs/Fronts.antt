@@ -194,14 +194,14 @@ arguments_agrees g e (Part.Arguments node ∷ ps) (v ∷ vs) h = absurd h.0
 arguments_agrees g e (p ∷ ps) (value.some_arguments a ∷ vs) h = absurd h.0
 arguments_agrees g e (p ∷ ps) (v ∷ vs) h = (tree.no_arguments, v ∷ vs, refl, e, h)
 
-pub bounds_agrees : (g : Ground) → IsBounds g.all 1 tree.no_bounds → (ps : List Part) (vs : List Value) → AreAll (IsPart g) ps vs → Agree {X = ℕ} {A = tree.Bounds} g (IsBounds g.all) (front.bounds ps) (of_values.bounds_part vs)
-bounds_agrees g e [] [] h = (tree.no_bounds, [], refl, e, tt)
-bounds_agrees g e [] (v ∷ vs) h = absurd h
-bounds_agrees g e (p ∷ ps) [] h = absurd h
-bounds_agrees g e (Part.Bounds node ∷ ps) (value.some_bounds b ∷ vs) h = (b, vs, refl, h.0, h.1)
-bounds_agrees g e (Part.Bounds node ∷ ps) (v ∷ vs) h = absurd h.0
-bounds_agrees g e (p ∷ ps) (value.some_bounds b ∷ vs) h = absurd h.0
-bounds_agrees g e (p ∷ ps) (v ∷ vs) h = (tree.no_bounds, v ∷ vs, refl, e, h)
+pub bounds_agrees : (g : Ground) → (ps : List Part) (vs : List Value) → AreAll (IsPart g) ps vs → Agree {X = ℕ} {A = tree.Bounds} g (IsBounds g.all) (front.bounds ps) (of_values.bounds_part vs)
+bounds_agrees g [] [] h = refl
+bounds_agrees g [] (v ∷ vs) h = absurd h
+bounds_agrees g (p ∷ ps) [] h = absurd h
+bounds_agrees g (Part.Bounds node ∷ ps) (value.some_bounds bs ∷ vs) h = (bs, vs, refl, h.0, h.1)
+bounds_agrees g (Part.Bounds node ∷ ps) (v ∷ vs) h = absurd h.0
+bounds_agrees g (p ∷ ps) (value.some_bounds bs ∷ vs) h = absurd h.0
+bounds_agrees g (p ∷ ps) (v ∷ vs) h = refl
 
 pub bindings_agrees : (g : Ground) → IsBindings g.all 2 tree.no_bindings → (ps : List Part) (vs : List Value) → AreAll (IsPart g) ps vs → Agree {X = ℕ} {A = tree.Bindings} g (IsBindings g.all) (front.bindings ps) (of_values.bindings_part vs)
 bindings_agrees g e [] [] h = (tree.no_bindings, [], refl, e, tt)

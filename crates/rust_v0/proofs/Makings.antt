@@ -224,7 +224,7 @@ unfolding path_of arguments_of type_of types_of bounds_of bindings_of constant_o
 dyn_type_gives s table at ps vs lists are =
     lift (ground s table) s table at _ _ _ (binder_agrees (ground s table) ps vs are) _ _
     (λ bound boundv bounds hbound bounda.
-    lift (ground s table) s table at _ _ _ (bounds_agrees (ground s table) lists.bounds bound.1 bounds bounda) _ _
+    lift (ground s table) s table at _ _ _ (bounds_agrees (ground s table) bound.1 bounds bounda) _ _
     (λ list listv lists hlist lista.
     lift (ground s table) s table at _ _ _ (lifetime_agrees (ground s table) list.1 lists lista) _ _
     (λ reach reachv reachs hreach reacha.
@@ -248,7 +248,7 @@ more_bounds_gives s table at ps vs lists are =
     (λ parent parentv parents hparent parenta.
     lift (ground s table) s table at _ _ _ (bindings_agrees (ground s table) lists.bindings parent.1 parents parenta) _ _
     (λ bound boundv bounds hbound bounda.
-    lift (ground s table) s table at _ _ _ (bounds_agrees (ground s table) lists.bounds bound.1 bounds bounda) _ _
+    lift (ground s table) s table at _ _ _ (bounds_agrees (ground s table) bound.1 bounds bounda) _ _
     (λ list listv lists hlist lista.
     (of_bounds (tree.more_bounds parentv boundv listv), refl, record { parts = ((parentv, hparent), (boundv, hbound), (listv, hlist)); tree = rw (hparent, hbound, hlist) refl }))))
 

@@ -24,7 +24,7 @@ use Rattle.rust_tree.specs.declared.node.Constant.{Constant}
 use Rattle.rust_v0.specs.declared.production.Production.{Production}
 use Rattle.rust_v0.specs.declared.production.Production.TheVariants as rules
 use Rattle.rust_v0.specs.declared.part.Part.{Part}
-use Rattle.rust_v0.specs.Value.{Value, a_suffix, suffix_rest, letter, unsafe_mark, an_abi, minus_mark, a_truth}
+use Rattle.rust_v0.specs.Value.{Value, a_suffix, some_bounds, suffix_rest, letter, unsafe_mark, an_abi, minus_mark, a_truth}
 use Rattle.rust_v0.specs.Unfold.{At, Meaning, meaning, byte_at, number_part, referred}
 use Rattle.rust_v0.specs.declared.language.Ending.{Ending}
 use Rattle.rust_v0.specs.Front as front
@@ -90,6 +90,7 @@ made_gives table at rules.Binder ps vs other within fits lists are = binder_give
 made_gives table at rules.Unsafe ps vs other within fits lists are = (unsafe_mark, refl, tt)
 made_gives table at rules.Abi ps vs other within fits lists are = abi_gives at.symbol table at ps vs lists are
 made_gives table at rules.AbiC ps vs other within fits lists are = (an_abi tree.c_abi, refl, (tt, refl))
+made_gives table at rules.BoundsEnd ps vs other within fits lists are = (some_bounds tree.no_bounds, refl, lists.bounds)
 made_gives table at rules.BoundsMore ps vs other within fits lists are = more_bounds_gives at.symbol table at ps vs lists are
 made_gives table at rules.Binding ps vs other within fits lists are = binding_gives at.symbol table at ps vs lists are
 made_gives table at rules.SignedConstant ps vs other within fits lists are = signed_constant_gives at.symbol table at ps vs lists are

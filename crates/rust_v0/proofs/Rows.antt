@@ -245,6 +245,14 @@ dyn_outside : answer Detail.Full many (codes "_RINvC3foo3barDG_NtB2_1AEL0_E") â‰
 unfolding digits basic_text numbered_lifetime lifetime_text character_text constant_parts lifetime_parts namespace_text names_from path_parts bound_parts symbol_parts hyphenated need
 dyn_outside = refl
 
+dyn_of_none_outside : answer Detail.Full many (codes "_RINvC3foo3barDG_EL0_E") â‰¡ Err (BadReference 18)
+unfolding digits basic_text numbered_lifetime lifetime_text character_text constant_parts lifetime_parts namespace_text names_from path_parts bound_parts symbol_parts hyphenated need
+dyn_of_none_outside = refl
+
+dyn_of_none_around : IsRow Detail.Full (codes "_RINvC3foo3barFG_DG_EL0_EuE") 52 (codes "foo::bar::<for<'a> fn(dyn for<'b>  + 'a)>")
+unfolding digits basic_text numbered_lifetime lifetime_text character_text constant_parts lifetime_parts namespace_text names_from path_parts bound_parts symbol_parts hyphenated need
+dyn_of_none_around = (refl, refl)
+
 dyn_bound_outside : IsRow Detail.Full (codes "_RINvC3foo3barFG_DNtB2_1AEL0_EuE") 53 (codes "foo::bar::<for<'a> fn(dyn foo::A + 'a)>")
 unfolding digits basic_text numbered_lifetime lifetime_text character_text constant_parts lifetime_parts namespace_text names_from path_parts bound_parts symbol_parts hyphenated need
 dyn_bound_outside = (refl, refl)

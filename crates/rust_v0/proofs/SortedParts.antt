@@ -138,10 +138,10 @@ arguments_then : (make : Sort) (slots : List Slot) (parts : List Value) (f : tre
 arguments_then make slots (some_arguments given ∷ rest) f fill each = each (given, rest) (record { is = fill.is })
 arguments_then make slots rest f fill each = each (tree.no_arguments, rest) (record { is = fill.is })
 
-bounds_then : (make : Sort) (slots : List Slot) (parts : List Value) (f : tree.Bounds × List Value → Meaning) → Fill (sorts.maybe sorts.bounds ∷ slots) parts
+bounds_then : (make : Sort) (slots : List Slot) (parts : List Value) (f : tree.Bounds × List Value → Meaning) → Fill (sorts.one sorts.bounds ∷ slots) parts
     → ((found : tree.Bounds × List Value) → Fill slots found.1 → Makes make (f found)) → Makes make (bounds_part parts >>= f)
 bounds_then make slots (some_bounds given ∷ rest) f fill each = each (given, rest) (record { is = fill.is })
-bounds_then make slots rest f fill each = each (tree.no_bounds, rest) (record { is = fill.is })
+bounds_then make slots parts f fill each = absurd (false≢true fill.is)
 
 bindings_then : (make : Sort) (slots : List Slot) (parts : List Value) (f : tree.Bindings × List Value → Meaning) → Fill (sorts.maybe sorts.bindings ∷ slots) parts
     → ((found : tree.Bindings × List Value) → Fill slots found.1 → Makes make (f found)) → Makes make (bindings_part parts >>= f)
@@ -285,6 +285,7 @@ made rules.Unsafe at parts fill = refl
 made rules.Abi at parts fill =
     abi_value_then sorts.abi _ parts _ fill (λ abi fill. refl)
 made rules.AbiC at parts fill = refl
+made rules.BoundsEnd at parts fill = refl
 made rules.BoundsMore at parts fill =
     path_then sorts.bounds _ parts _ fill (λ path fill.
     bindings_then sorts.bounds _ path.1 _ fill (λ bindings fill.

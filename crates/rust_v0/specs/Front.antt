@@ -98,7 +98,7 @@ arguments rest = Ok (0, rest)
 
 abbrev pub bounds : List Part → Front ℕ
 bounds (Part.Bounds node ∷ rest) = Ok (node, rest)
-bounds rest = Ok (1, rest)
+bounds _ = Err stray
 
 abbrev pub bindings : List Part → Front ℕ
 bindings (Part.Bindings node ∷ rest) = Ok (node, rest)

@@ -281,6 +281,7 @@ made rules.Binder s place bound parts = binder place parts
 made rules.Unsafe s place bound parts = Ok (Made.Part Part.Unsafe)
 made rules.Abi s place bound parts = abi parts
 made rules.AbiC s place bound parts = Ok (Made.Part (Part.Abi Abi.C))
+made rules.BoundsEnd s place bound parts = Ok (Made.Part (Part.Bounds 1))
 made rules.BoundsMore s place bound parts = more_bounds parts
 made rules.Binding s place bound parts = binding parts
 made rules.SignedConstant s place bound parts = signed_constant place (slice_index s place) parts

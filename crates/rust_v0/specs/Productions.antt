@@ -1,7 +1,7 @@
 -- The productions of the grammar by number.
 use Rattle.std.specs.Prelude.{ℕ, List, [], ◌∷◌, Option, slice_get}
 use Rattle.rust_v0.specs.declared.production.Production.{Production}
-use Rattle.rust_v0.specs.declared.production.Production.TheVariants.{Symbol, PathReference, Crate, InherentImpl, TraitImpl, TraitDefinition, Nested, Generic, Suffix, SuffixByte, Namespace, Disambiguator, DisambiguatedIdentifier, PunycodeName, PlainName, LifetimeArgument, ConstantArgument, TypeArgument, BasicType, TypeReference, Array, Slice, Tuple, SharedReference, MutableReference, ConstPointer, MutPointer, Function, Dyn, TypesEnd, TypesMore, Lifetime, Binder, Unsafe, Abi, AbiC, BoundsMore, Binding, SignedConstant, UnsignedConstant, BoolConstant, CharConstant, Placeholder, ConstantReference, Minus, False, True}
+use Rattle.rust_v0.specs.declared.production.Production.TheVariants.{Symbol, PathReference, Crate, InherentImpl, TraitImpl, TraitDefinition, Nested, Generic, Suffix, SuffixByte, Namespace, Disambiguator, DisambiguatedIdentifier, PunycodeName, PlainName, LifetimeArgument, ConstantArgument, TypeArgument, BasicType, TypeReference, Array, Slice, Tuple, SharedReference, MutableReference, ConstPointer, MutPointer, Function, Dyn, TypesEnd, TypesMore, Lifetime, Binder, Unsafe, Abi, AbiC, BoundsEnd, BoundsMore, Binding, SignedConstant, UnsignedConstant, BoolConstant, CharConstant, Placeholder, ConstantReference, Minus, False, True}
 
 abbrev pub productions : List Production
 productions =
@@ -11,7 +11,7 @@ productions =
     ∷ BasicType ∷ TypeReference ∷ Array ∷ Slice ∷ Tuple ∷ SharedReference
     ∷ MutableReference ∷ ConstPointer ∷ MutPointer ∷ Function ∷ Dyn ∷ TypesEnd
     ∷ TypesMore ∷ Lifetime ∷ Binder ∷ Unsafe ∷ Abi ∷ AbiC
-    ∷ BoundsMore ∷ Binding ∷ SignedConstant ∷ UnsignedConstant ∷ BoolConstant ∷ CharConstant
+    ∷ BoundsEnd ∷ BoundsMore ∷ Binding ∷ SignedConstant ∷ UnsignedConstant ∷ BoolConstant ∷ CharConstant
     ∷ Placeholder ∷ ConstantReference ∷ Minus ∷ False ∷ True ∷ []
 
 -- the production that a rule's number stands for
@@ -55,14 +55,15 @@ number_of Binder = 32
 number_of Unsafe = 33
 number_of Abi = 34
 number_of AbiC = 35
-number_of BoundsMore = 36
-number_of Binding = 37
-number_of SignedConstant = 38
-number_of UnsignedConstant = 39
-number_of BoolConstant = 40
-number_of CharConstant = 41
-number_of Placeholder = 42
-number_of ConstantReference = 43
-number_of Minus = 44
-number_of False = 45
-number_of True = 46
+number_of BoundsEnd = 36
+number_of BoundsMore = 37
+number_of Binding = 38
+number_of SignedConstant = 39
+number_of UnsignedConstant = 40
+number_of BoolConstant = 41
+number_of CharConstant = 42
+number_of Placeholder = 43
+number_of ConstantReference = 44
+number_of Minus = 45
+number_of False = 46
+number_of True = 47

@@ -132,7 +132,7 @@ type_rules =
     ∷ takes (each (codes "P")) rules.ConstPointer (Kind TYPE ∷ [])
     ∷ takes (each (codes "O")) rules.MutPointer (Kind TYPE ∷ [])
     ∷ takes (each (codes "F")) rules.Function (Kind BINDER ∷ Kind UNSAFE ∷ Kind ABI ∷ Kind TYPES ∷ Kind TYPE ∷ [])
-    ∷ takes (each (codes "D")) rules.Dyn (Kind BINDER ∷ Kind BOUNDS ∷ Byte 69 ∷ Kind LIFETIME ∷ []) ∷ []
+    ∷ takes (each (codes "D")) rules.Dyn (Kind BINDER ∷ Kind BOUNDS ∷ Kind LIFETIME ∷ []) ∷ []
 
 abbrev pub types_rules : List Choice
 types_rules =
@@ -167,7 +167,8 @@ abi_name_rules =
 
 abbrev pub bounds_rules : List Choice
 bounds_rules =
-    chains paths rules.BoundsMore (Kind PATH ∷ Kind BINDINGS ∷ Kind BOUNDS ∷ []) ∷ []
+    takes (each (codes "E")) rules.BoundsEnd []
+    ∷ chains paths rules.BoundsMore (Kind PATH ∷ Kind BINDINGS ∷ Kind BOUNDS ∷ []) ∷ []
 
 abbrev pub bindings_rules : List Choice
 bindings_rules =
@@ -226,7 +227,7 @@ kinds =
     ∷ optional unsafe_rules (types ++ each (codes "EK")) 0
     ∷ optional abi_rules (types ++ each (codes "E")) 0
     ∷ kind abi_name_rules (types ++ each (codes "E")) 1 1
-    ∷ optional bounds_rules (each (codes "E")) 1
+    ∷ kind bounds_rules (each (codes "L")) 1 1
     ∷ optional bindings_rules (paths ++ each (codes "E")) 0
     ∷ kind constant_rules behind_component 0 1
     ∷ optional minus_rules (digits ++ range 95 95 ∷ range 97 102 ∷ []) 0

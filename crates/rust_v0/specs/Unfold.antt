@@ -86,6 +86,10 @@ abbrev pub types_part : List Value → Part tree.Tys
 types_part (some_types types ∷ rest) = Ok (types, rest)
 types_part _ = Err stray
 
+abbrev pub bounds_part : List Value → Part tree.Bounds
+bounds_part (some_bounds bounds ∷ rest) = Ok (bounds, rest)
+bounds_part _ = Err stray
+
 -- parts that may be missing
 abbrev pub disambiguator_part : List Value → Part ℕ
 disambiguator_part (a_disambiguator count ∷ rest) = Ok (count, rest)
@@ -114,10 +118,6 @@ abi_part rest = Ok (tree.rust_abi, rest)
 abbrev pub arguments_part : List Value → Part tree.Arguments
 arguments_part (some_arguments arguments ∷ rest) = Ok (arguments, rest)
 arguments_part rest = Ok (tree.no_arguments, rest)
-
-abbrev pub bounds_part : List Value → Part tree.Bounds
-bounds_part (some_bounds bounds ∷ rest) = Ok (bounds, rest)
-bounds_part rest = Ok (tree.no_bounds, rest)
 
 abbrev pub bindings_part : List Value → Part tree.Bindings
 bindings_part (some_bindings bindings ∷ rest) = Ok (bindings, rest)
@@ -351,6 +351,7 @@ meaning rules.Abi at parts = do
   abi ← abi_value_part parts
   plain at (an_abi abi.0)
 meaning rules.AbiC at parts = plain at (an_abi tree.c_abi)
+meaning rules.BoundsEnd at parts = plain at (some_bounds tree.no_bounds)
 meaning rules.BoundsMore at parts = do
   path ← path_part parts
   bindings ← bindings_part path.1

@@ -10,7 +10,7 @@ use sym_core::{Refusal, Span};
 /// The node of a missing list of arguments.
 pub const NO_ARGUMENTS: u32 = 0;
 
-/// The node of a missing list of bounds.
+/// The node of a list of no bounds.
 pub const NO_BOUNDS: u32 = 1;
 
 /// The node of a missing list of bindings.
@@ -115,6 +115,16 @@ pub fn abi_value(parts: &[Part]) -> Result<(Abi, &[Part]), Refusal>
     }
 }
 
+/// The bounds at the front, and the parts behind it.
+pub fn bounds(parts: &[Part]) -> Result<(u32, &[Part]), Refusal>
+    ensures { MatchResult result (λ r. front.bounds parts.now ≡ Ok (r.0, r.1.now)) (λ e. front.bounds parts.now ≡ Err e) }
+{
+    match parts {
+        [Part::Bounds(node), rest @ ..] => Ok((*node, rest)),
+        _ => Err(STRAY),
+    }
+}
+
 /// The types at the front, and the parts behind it.
 pub fn types(parts: &[Part]) -> Result<(u32, &[Part]), Refusal>
     ensures { MatchResult result (λ r. front.types parts.now ≡ Ok (r.0, r.1.now)) (λ e. front.types parts.now ≡ Err e) }
@@ -212,16 +222,6 @@ pub fn arguments(parts: &[Part]) -> Result<(u32, &[Part]), Refusal>
     match parts {
         [Part::Arguments(node), rest @ ..] => Ok((*node, rest)),
         _ => Ok((NO_ARGUMENTS, parts)),
-    }
-}
-
-/// The bounds at the front, if there is one, and the parts behind it.
-pub fn bounds(parts: &[Part]) -> Result<(u32, &[Part]), Refusal>
-    ensures { MatchResult result (λ r. front.bounds parts.now ≡ Ok (r.0, r.1.now)) (λ e. front.bounds parts.now ≡ Err e) }
-{
-    match parts {
-        [Part::Bounds(node), rest @ ..] => Ok((*node, rest)),
-        _ => Ok((NO_BOUNDS, parts)),
     }
 }
 

@@ -5,9 +5,9 @@ ghost use Rattle.rust_v0.specs.Making as making;
 ghost use Rattle.rust_v0.specs.Unfold.{is_scalar as scalar};
 
 use crate::front::{
-    abi, abi_value, arguments, binder, bindings, bounds, constant, disambiguator, identifier,
-    integer, letter, lifetime, minus, name, number, other_path, path, some_lifetime, suffix, truth,
-    type_node, types, unsafe_mark,
+    NO_BOUNDS, abi, abi_value, arguments, binder, bindings, bounds, constant, disambiguator,
+    identifier, integer, letter, lifetime, minus, name, number, other_path, path, some_lifetime,
+    suffix, truth, type_node, types, unsafe_mark,
 };
 use crate::part::{Integer, Part, STRAY};
 use crate::production::Production;
@@ -466,6 +466,7 @@ pub fn make_by(production: Production, at: Site, parts: &[Part]) -> Result<Made,
         Production::Unsafe => Ok(Made::Part(Part::Unsafe)),
         Production::Abi => calling_convention(parts),
         Production::AbiC => Ok(Made::Part(Part::Abi(Abi::C))),
+        Production::BoundsEnd => Ok(Made::Part(Part::Bounds(NO_BOUNDS))),
         Production::BoundsMore => more_bounds(parts),
         Production::Binding => binding(parts),
         Production::SignedConstant => signed_constant(at.place, at.byte, parts),

@@ -153,6 +153,8 @@ pub enum Production {
     Abi,
     /// `C` as an ABI.
     AbiC,
+    /// The `E` behind bounds.
+    BoundsEnd,
     /// A bound of a `dyn` type with its bindings, and those behind it.
     BoundsMore,
     /// `p`, a name and a type, and the bindings behind it.
@@ -218,17 +220,18 @@ pub fn numbered(number: u16) -> Option<Production>
         33 => Some(Production::Unsafe),
         34 => Some(Production::Abi),
         35 => Some(Production::AbiC),
-        36 => Some(Production::BoundsMore),
-        37 => Some(Production::Binding),
-        38 => Some(Production::SignedConstant),
-        39 => Some(Production::UnsignedConstant),
-        40 => Some(Production::BoolConstant),
-        41 => Some(Production::CharConstant),
-        42 => Some(Production::Placeholder),
-        43 => Some(Production::ConstantReference),
-        44 => Some(Production::Minus),
-        45 => Some(Production::False),
-        46 => Some(Production::True),
+        36 => Some(Production::BoundsEnd),
+        37 => Some(Production::BoundsMore),
+        38 => Some(Production::Binding),
+        39 => Some(Production::SignedConstant),
+        40 => Some(Production::UnsignedConstant),
+        41 => Some(Production::BoolConstant),
+        42 => Some(Production::CharConstant),
+        43 => Some(Production::Placeholder),
+        44 => Some(Production::ConstantReference),
+        45 => Some(Production::Minus),
+        46 => Some(Production::False),
+        47 => Some(Production::True),
         _ => None,
     }
 }

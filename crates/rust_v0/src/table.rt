@@ -347,11 +347,10 @@ fn type_rule(byte: u8) -> Option<Rule>
             Sym::Kind(kind::TYPES),
             Sym::Kind(kind::TYPE),
         ),
-        b'D' => takes4(
+        b'D' => takes3(
             Production::Dyn,
             Sym::Kind(kind::BINDER),
             Sym::Kind(kind::BOUNDS),
-            Sym::Byte(b'E'),
             Sym::Kind(kind::LIFETIME),
         ),
         _ => None,
@@ -441,6 +440,7 @@ fn bounds_rule(byte: u8) -> Option<Rule>
     ensures { result ≡ choice_at bounds_rules byte }
 {
     match byte {
+        b'E' => takes0(Production::BoundsEnd),
         b'B' | b'C' | b'I' | b'M' | b'N' | b'X' | b'Y' => chains3(
             Production::BoundsMore,
             Sym::Kind(kind::PATH),
@@ -554,7 +554,6 @@ pub fn may_be_empty(kind: u16) -> bool
             | kind::BINDER
             | kind::UNSAFE
             | kind::ABI
-            | kind::BOUNDS
             | kind::BINDINGS
             | kind::MINUS
     )

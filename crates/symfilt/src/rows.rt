@@ -83,7 +83,7 @@ static TEXTS: [(&str, &str, u32); 26] = [
 ];
 
 /// Symbols that have no text, and why.
-static REFUSED: [(&str, &str); 11] = [
+static REFUSED: [(&str, &str); 12] = [
     ("_RNvC3fo", "malformed at 8"),
     ("_RNvC03foo3bar", "malformed at 10"),
     ("_RNvC3foo3ba", "malformed at 12"),
@@ -91,6 +91,7 @@ static REFUSED: [(&str, &str); 11] = [
     ("_RINvC3foo3barKb2_E", "malformed at 16"),
     ("_RNvB_3foo", "bad reference at 4"),
     ("_RINvC3foo3barRL0_hE", "bad reference at 15"),
+    ("_RINvC3foo3barDG_EL0_E", "bad reference at 18"),
     ("_RNvCszzzzzzzzzzz_3foo3bar", "bad value at 5"),
     ("_RINvC3foo3barKcd800_E", "bad value at 15"),
     ("_RINvC3foo3barFGg7_EuE", "bad value at 15"),

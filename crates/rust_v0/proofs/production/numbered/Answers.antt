@@ -3,7 +3,7 @@ use Rattle.std.proofs.lemmas.Option.{slice_get_past}
 use Rattle.rust_v0.specs.Productions.{productions}
 use Rattle.rust_v0.proofs.production.numbered.Goals as goal
 
--- there are 47 productions
+-- there are 48 productions
 pub returns-in_default : goal.returns-in_default
 returns-in_default c =
     let past : length productions ≤ c.args.number = omega arith in
