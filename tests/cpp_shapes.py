@@ -3,16 +3,11 @@
 usage: cpp_shapes.py REFERENCE GENERATOR [COUNT [SEED]]
 REFERENCE is a Python module with grammar("cpp", stage) and shape(grammar, symbol), which raises an error with a place `at`;
 GENERATOR is one with symbols(seed, count, lang, mode). The program read_shapes is run by `rt try` (or by the command in TRY)."""
-import importlib.util, os, shlex, subprocess, sys
+import os, shlex, subprocess, sys
 
 HERE = os.path.dirname(os.path.abspath(__file__))
-
-def load(path):
-    spec = importlib.util.spec_from_file_location(os.path.basename(path)[:-3], path)
-    module = importlib.util.module_from_spec(spec)
-    sys.modules[spec.name] = module
-    spec.loader.exec_module(module)
-    return module
+sys.path.insert(0, os.path.join(HERE, "..", "tools"))
+from loading import load
 
 def wanted(reference, table, symbol):
     try: reference.shape(table, symbol)

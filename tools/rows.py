@@ -3,18 +3,13 @@
 usage: rows.py REFERENCE GENERATOR FOLDER
 REFERENCE is a Python module with demangle(symbol, limit, brief) that answers (answer, at, text, cost); GENERATOR is one with
 symbols(seed, count, lang, mode, size=, wild=). FOLDER is the crate's. The listed symbols stand in cpp_symbols.txt."""
-import importlib.util, os, re, sys
+import os, re, sys
+
+from loading import load
 
 HERE = os.path.dirname(os.path.abspath(__file__))
 
 WORDS = ("prints", "briefly", "refers_badly", "counts_badly", "has_no_shape")
-
-def load(path):
-    spec = importlib.util.spec_from_file_location(os.path.basename(path)[:-3], path)
-    module = importlib.util.module_from_spec(spec)
-    sys.modules[spec.name] = module
-    spec.loader.exec_module(module)
-    return module
 
 def quoted(text):
     return '"' + text.decode("ascii").replace("\\", "\\\\").replace('"', '\\"') + '"'
