@@ -3,3 +3,7 @@ pub mod Reading
 pub mod Lists
 pub mod Showing
 pub mod Hexadecimals
+pub mod Numerals
+pub mod Rebuilding
+pub mod Viewing
+pub mod FieldRows

@@ -60,7 +60,7 @@ take-whole : {A : Type 0} (xs ys : List A) → take (length xs) (xs ++ ys) ≡ x
 take-whole [] ys = refl
 take-whole (x ∷ xs) ys = ap (λ r. x ∷ r) (take-whole xs ys)
 
-take-rest : {A : Type 0} (n : ℕ) (xs : List A) → take n xs ++ drop n xs ≡ xs
+pub take-rest : {A : Type 0} (n : ℕ) (xs : List A) → take n xs ++ drop n xs ≡ xs
 take-rest zero xs = refl
 take-rest (suc n) [] = refl
 take-rest (suc n) (x ∷ xs) = ap (λ r. x ∷ r) (take-rest n xs)
@@ -280,7 +280,7 @@ module _ (s text more_text : List ℕ) (all more : List Tree) where
 
   constant_parts-grown : (constant : Constant) → HasConstantParts s text constant → HasConstantParts s (text ++ more_text) constant
   constant_parts-grown (Constant.Integer letter minus digits printed) h =
-      (h.0, h.1, within-grown text more_text printed h.2, bytes-grown text more_text printed h.2 ∙ h.3)
+      (h.0, h.1, within-grown text more_text printed h.2, bytes-grown text more_text printed h.2 ∙ h.3, h.4)
   constant_parts-grown (Constant.Boolean truth) h = h
   constant_parts-grown (Constant.Character character) h = h
   constant_parts-grown Constant.Placeholder h = h

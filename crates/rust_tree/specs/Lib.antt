@@ -9,3 +9,5 @@ pub mod Texts
 pub mod Layout
 pub mod Counts
 pub mod Hexadecimal
+pub mod Fields
+pub mod Views

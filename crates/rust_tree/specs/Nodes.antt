@@ -1,6 +1,7 @@
 -- The trees that the nodes of a symbol stand for.
 use Rattle.std.specs.Prelude.{◌≡◌, ◌⊎◌, ℕ, ◌≤◌, List, [], ◌∷◌, ◌++◌, length, take, Bool, true, false, Option, Some, None, slice_get, slice_range}
 use Rattle.sym_core.specs.declared.Span.{Span}
+use Rattle.sym_core.specs.Number.{AreDigits}
 use Rattle.sym_core.specs.Printed.{printed_name, signed_text}
 use Rattle.sym_core.specs.Value.{value_of}
 use Rattle.sym_core.specs.declared.NumberKind.{NumberKind}
@@ -272,6 +273,7 @@ HasBindingsParts s text all (Bindings.More name bound_type rest) =
 abbrev pub HasConstantParts : List ℕ → (text : List ℕ) → Constant → Type 0
 HasConstantParts s text (Constant.Integer letter minus digits printed) =
     IsWithin digits s × HasNoZero (bytes_at s digits) × IsWithin printed text × (bytes_at text printed ≡ signed_text minus (value_of NumberKind.Hex (bytes_at s digits)))
+    × AreDigits NumberKind.Hex (bytes_at s digits)
 HasConstantParts s text _ = Unit {0}
 
 abbrev pub HasOther : List Tree → Option ℕ → Type 0

@@ -61,7 +61,7 @@ impl Layout for Symbol {
 
     fn bytes<'a>(&'a self, part: &'a Part<Context>) -> &'a [u8] {
         match part {
-            Part::Symbol(span) => self.symbol_bytes(*span),
+            Part::Symbol(span) => self.bytes_of(*span),
             Part::List(span) => self.printed_bytes(*span),
             Part::Fixed(number) => texts::fixed_text(*number),
             Part::Own(bytes, count) => &bytes[..*count as usize],

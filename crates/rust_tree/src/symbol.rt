@@ -7,6 +7,7 @@ ghost use Rattle.rust_tree.specs.Nodes.{tree_of, path_of, arguments_of, type_of,
 ghost use Rattle.rust_tree.specs.Tree.{of_path, of_arguments, of_type, of_types, of_bounds, of_bindings, of_constant, of_symbol};
 ghost use Rattle.rust_tree.specs.Layout.{trees_of};
 ghost use Rattle.rust_tree.specs.Counts.{IsRead};
+ghost use Rattle.rust_tree.specs.Views.{HasNoPathType};
 
 use crate::node::{Arguments, Bindings, Bounds, Constant, Node, Path, Ty, Types, Whole};
 use crate::nodes::Nodes;
@@ -100,8 +101,8 @@ impl Symbol {
         *self.bytes.allocator()
     }
 
-    /// Bytes of the symbol.
-    pub(crate) fn symbol_bytes(&self, span: Span) -> &[u8]
+    /// The bytes of a span within the symbol, as each text of a node's view is. It takes no memory.
+    pub fn bytes_of(&self, span: Span) -> &[u8]
         requires { IsWithin span self.now.bytes }
         ensures { result.now ≡ bytes_at self.now.bytes span }
     {
@@ -116,11 +117,12 @@ impl Symbol {
         self.nodes.printed(span)
     }
 
-    /// A node.
-    pub(crate) fn node(&self, node: u32) -> Node
+    /// A node as it is stored.
+    pub(crate) fn stored(&self, node: u32) -> Node
         requires { node < length self.now.table.nodes }
         ensures tree { slice_get (trees_of self.now) node ≡ Some (tree_of self.now.bytes (trees_of self.now) result) }
         ensures parts { HasParts self.now.bytes self.now.table.text (take node (trees_of self.now)) result }
+        ensures bare { HasNoPathType (trees_of self.now) }
     {
         self.nodes.node(node)
     }
@@ -130,7 +132,7 @@ impl Symbol {
         ensures tree { IsPath (trees_of self.now) node (path_of self.now.bytes (trees_of self.now) result) }
         ensures parts { HasPathParts self.now.bytes self.now.table.text (take node (trees_of self.now)) result }
     {
-        match self.node(node) {
+        match self.stored(node) {
             Node::Path(path) => path,
             _ => unreachable!(),
         }
@@ -141,7 +143,7 @@ impl Symbol {
         ensures tree { IsArguments (trees_of self.now) node (arguments_of (trees_of self.now) result) }
         ensures parts { HasArgumentsParts (take node (trees_of self.now)) result }
     {
-        match self.node(node) {
+        match self.stored(node) {
             Node::Arguments(found) => found,
             _ => unreachable!(),
         }
@@ -152,7 +154,7 @@ impl Symbol {
         ensures tree { IsTypes (trees_of self.now) node (types_of (trees_of self.now) result) }
         ensures parts { HasTypesParts (take node (trees_of self.now)) result }
     {
-        match self.node(node) {
+        match self.stored(node) {
             Node::Types(found) => found,
             _ => unreachable!(),
         }
@@ -163,7 +165,7 @@ impl Symbol {
         ensures tree { IsBounds (trees_of self.now) node (bounds_of (trees_of self.now) result) }
         ensures parts { HasBoundsParts (take node (trees_of self.now)) result }
     {
-        match self.node(node) {
+        match self.stored(node) {
             Node::Bounds(found) => found,
             _ => unreachable!(),
         }
@@ -174,7 +176,7 @@ impl Symbol {
         ensures tree { IsBindings (trees_of self.now) node (bindings_of self.now.bytes (trees_of self.now) result) }
         ensures parts { HasBindingsParts self.now.bytes self.now.table.text (take node (trees_of self.now)) result }
     {
-        match self.node(node) {
+        match self.stored(node) {
             Node::Bindings(found) => found,
             _ => unreachable!(),
         }
@@ -185,7 +187,7 @@ impl Symbol {
         ensures tree { IsConstant (trees_of self.now) node (constant_of self.now.bytes result) }
         ensures parts { HasConstantParts self.now.bytes self.now.table.text result }
     {
-        match self.node(node) {
+        match self.stored(node) {
             Node::Constant(found) => found,
             _ => unreachable!(),
         }
@@ -196,7 +198,7 @@ impl Symbol {
         ensures tree { IsSymbol (trees_of self.now) node (symbol_of self.now.bytes (trees_of self.now) result) }
         ensures parts { HasSymbolParts self.now.bytes (take node (trees_of self.now)) result }
     {
-        match self.node(node) {
+        match self.stored(node) {
             Node::Symbol(found) => found,
             _ => unreachable!(),
         }

@@ -217,7 +217,7 @@ impl Symbol {
         requires empty { parts.old.items ≡ [] }
         ensures { Fills self.now parts.new.items (type_parts ctx.detail ctx.bound (type_in (slice_get (trees_of self.now) node))) }
     {
-        match self.node(node) {
+        match self.stored(node) {
             Node::Path(_) => self.fill_path(parts, node, false, ctx),
             Node::Ty(ty) => self.fill_ty(parts, ty, node, ctx),
             _ => unreachable!(),
@@ -251,7 +251,7 @@ impl Symbol {
         requires { (t : tree.Ty) × IsType (trees_of self.now) node t }
         ensures { result ≡ is_unit (type_in (slice_get (trees_of self.now) node)) }
     {
-        match self.node(node) {
+        match self.stored(node) {
             Node::Path(_) => false,
             Node::Ty(ty) => is_unit(ty),
             _ => unreachable!(),
@@ -284,7 +284,7 @@ impl Symbol {
         requires empty { parts.old.items ≡ [] }
         ensures { Fills self.now parts.new.items (signature_in ctx (type_in (slice_get (trees_of self.now) node))) }
     {
-        match self.node(node) {
+        match self.stored(node) {
             Node::Path(_) => {}
             Node::Ty(ty) => self.fill_ty_signature(parts, ty, node, ctx),
             _ => unreachable!(),
@@ -333,7 +333,7 @@ impl Symbol {
         requires { (t : tree.Ty) × IsType (trees_of self.now) node t }
         ensures { result ≡ binder_in (type_in (slice_get (trees_of self.now) node)) }
     {
-        match self.node(node) {
+        match self.stored(node) {
             Node::Path(_) => 0,
             Node::Ty(ty) => ty_binder(ty),
             _ => unreachable!(),

@@ -18,6 +18,12 @@ digits_behind from to zeros s within =
     ∙ ap (λ l. take (to - (from + zeros)) l) (drop-drop zeros from s)
     )
 
+-- what is left of digits behind some of them
+pub digits_left : (n : ℕ) (ds : List ℕ) → AreDigits Hex ds → AreDigits Hex (drop n ds)
+digits_left zero ds are = are
+digits_left (suc n) [] are = are
+digits_left (suc n) (d ∷ ds) are = digits_left n ds are.1
+
 text_few : (minus : Bool) (ds : List ℕ) → AreDigits Hex ds → value_of Hex ds < 2 ^ 128 → 0 < value_of Hex ds
     → length (signed_text minus (value_of Hex ds)) ≤ 4 * length ds
 text_few minus [] are wide more = absurd (omega (arith, more))

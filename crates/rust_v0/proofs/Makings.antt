@@ -363,7 +363,7 @@ integer_made s table at (Some found) integer is =
       of_constant (tree.integer (byte_at at) integer.minus integer.magnitude),
       refl,
       record {
-        parts = (is.digits, is.no_zero, is.printed, rw (is.minus, is.magnitude) is.decimal);
+        parts = (is.digits, is.no_zero, is.printed, rw (is.minus, is.magnitude) is.decimal, is.hex);
         tree = rw (is.minus, is.magnitude) refl;
       },
     )

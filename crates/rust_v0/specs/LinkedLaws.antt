@@ -28,6 +28,7 @@ module _ (s : List ℕ) (old new : Linked) (grows : GoesOn old new) where
     few = is.few;
     digits = is.digits;
     no_zero = is.no_zero;
+    hex = is.hex;
     magnitude = is.magnitude;
     printed = rw grows.nodes.text (within-grown old.nodes.text grows.nodes.more_text found.printed is.printed);
     decimal = rw grows.nodes.text (bytes-grown old.nodes.text grows.nodes.more_text found.printed is.printed ∙ is.decimal);

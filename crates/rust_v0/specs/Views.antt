@@ -2,6 +2,8 @@
 use Rattle.std.specs.Prelude.{◌≡◌, ℕ, ◌≤◌, ◌<◌, ◌^◌, List, [], Option, Some, None, Result, Ok, Err}
 use Rattle.sym_core.specs.declared.Span.{Span}
 use Rattle.sym_core.specs.declared.refusal.Refusal.{Refusal}
+use Rattle.sym_core.specs.Number.{AreDigits}
+use Rattle.sym_core.specs.declared.NumberKind.TheVariants.{Hex}
 use Rattle.sym_core.specs.Printed.{signed_text}
 use Rattle.sym_link.specs.Driving.{AreAll}
 use Rattle.rust_tree.specs.Symbol as tree
@@ -31,6 +33,7 @@ pub record IsInteger (ground : Ground) (found : Integer) (integer : value.Intege
   pub few : integer.magnitude < 2 ^ 128
   pub digits : IsWithin found.digits ground.symbol
   pub no_zero : HasNoZero (bytes_at ground.symbol found.digits)
+  pub hex : AreDigits Hex (bytes_at ground.symbol found.digits)
   pub magnitude : value16 (bytes_at ground.symbol found.digits) ≡ integer.magnitude
   pub printed : IsWithin found.printed ground.text
   pub decimal : bytes_at ground.text found.printed ≡ signed_text integer.minus integer.magnitude

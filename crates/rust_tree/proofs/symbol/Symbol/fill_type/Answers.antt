@@ -4,9 +4,9 @@ use Rattle.rust_tree.specs.Shown.{type_parts}
 use Rattle.rust_tree.specs.Layout.{Fills}
 use Rattle.rust_tree.proofs.symbol.Symbol.fill_type.Goals as goal
 
-pub node-requires : goal.node-requires
+pub stored-requires : goal.stored-requires
 unfolding type_parts
-node-requires c =
+stored-requires c =
     type_within c.args.self.now c.args.node c.requires.ty.0 c.requires.ty.1
 
 pub returns-in-Path : goal.returns-in-Path

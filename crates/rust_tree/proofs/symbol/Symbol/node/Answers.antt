@@ -1,8 +1,5 @@
-use Rattle.rust_tree.proofs.Reading.{read_tree, read_parts}
+use Rattle.rust_tree.proofs.Viewing.{rebuilt}
 use Rattle.rust_tree.proofs.symbol.Symbol.node.Goals as goal
 
 pub returns-clause-tree : goal.returns-clause-tree
-returns-clause-tree c = read_tree _ c.args.self.now c.self.view_is c.self.invariant c.args.node c.node.result c.node.ensures
-
-pub returns-clause-parts : goal.returns-clause-parts
-returns-clause-parts c = read_parts _ c.args.self.now c.self.view_is c.self.invariant c.args.node c.node.result c.node.ensures
+returns-clause-tree c = rebuilt _ c.see_at.ensures.made.0 c.see_at.ensures.made.1

@@ -1,11 +1,13 @@
 use Rattle.std.proofs.Common.{refl, ◌≡◌, ◌∙◌, ◌-◌, ◌&&◌, sym, subst, ap, arith, length, take, drop}
 use Rattle.std.specs.Prelude.{nat_lt}
+use Rattle.sym_core.specs.Number.{AreDigits}
+use Rattle.sym_core.specs.declared.NumberKind.TheVariants.{Hex}
 use Rattle.sym_core.specs.Printed.{signed_text}
 use Rattle.sym_link.proofs.Lists.{span_length}
 use Rattle.rust_tree.specs.Nodes.{HasNoZero}
 use Rattle.rust_tree.proofs.Trees.{grows-same}
 use Rattle.rust_v0.specs.Unfold.{value16}
-use Rattle.rust_v0.proofs.Integers.{digits_behind, digits_pay}
+use Rattle.rust_v0.proofs.Integers.{digits_behind, digits_left, digits_pay}
 use Rattle.rust_v0.proofs.language.Linked.integer.Goals as goal
 
 pub returns-then-not-are_digits-clause-grows : goal.returns-then-not-are_digits-clause-grows
@@ -26,6 +28,7 @@ returns-in_ok-printed-in-Some-clause-part c =
       few = omega (arith, is);
       digits = (omega (arith, count, c.without_zeros-zeros.ensures.within, c.requires.within.0), c.requires.within.1);
       no_zero = subst (λ l. HasNoZero l) (sym behind) c.without_zeros-zeros.ensures.no_zero;
+      hex = subst (λ l. AreDigits Hex l) (sym behind) (digits_left zeros bytes (c.are_digits.ensures.only c.if-not-are_digits.false));
       magnitude = ap (λ l. value16 l) behind ∙ c.without_zeros-zeros.ensures.value;
       printed = c.in_ok-printed-in-Some.ensures.within;
       decimal = c.in_ok-printed-in-Some.ensures.printed ∙ ap (λ v. signed_text (c.args.minus && nat_lt 0 v) v) is;

@@ -1,0 +1,8 @@
+use Rattle.rust_tree.proofs.Viewing.{bounds-by}
+use Rattle.rust_tree.proofs.view.see_bounds.Goals as goal
+
+pub returns-in-None : goal.returns-in-None
+returns-in-None c s text all bare h = bounds-by s text all bare _ c.args.bounds _ c.in-None.is c.leaf.ensures h
+
+pub returns-in-More : goal.returns-in-More
+returns-in-More c s text all bare h = bounds-by s text all bare _ c.args.bounds _ c.in-More.is c.three.ensures h

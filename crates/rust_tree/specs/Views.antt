@@ -1,0 +1,54 @@
+-- The views of a symbol's nodes.
+use Rattle.std.specs.Prelude.{◌≡◌, ℕ, ◌<◌, ◌≤◌, List, [], ◌∷◌, length, map, take, Option, Some, None, slice_get}
+use Rattle.std.specs.List.{All}
+use Rattle.rust_tree.specs.Symbol as tree
+use Rattle.rust_tree.specs.Tree.{Tree, of_type}
+use Rattle.rust_tree.specs.Nodes.{bytes_at, IsWithin}
+use Rattle.rust_tree.specs.Layout.{ReadSymbol, trees_of}
+use Rattle.rust_tree.specs.Fields.{Fields, fields, fields_of}
+use Rattle.sym_core.specs.declared.Span.{Span}
+use Rattle.rust_tree.specs.declared.view.Node.{Node}
+use Rattle.rust_tree.specs.declared.view.Seen.{Seen}
+
+abbrev pub fields_in : Option Tree → Fields
+fields_in None = fields 0 0 0 [] []
+fields_in (Some made) = fields_of made
+
+-- the fields of the tree of a node
+abbrev pub fields_at : ReadSymbol → (node : ℕ) → Fields
+fields_at y node = fields_in (slice_get (trees_of y) node)
+
+-- The view has these fields: the bytes of its spans are the texts, and it counts the parts.
+pub record IsView (s : List ℕ) (view : Node) (given : Fields) : Type 0 where
+  pub production : view.production ≡ given.production
+  pub numbers : view.numbers ≡ given.numbers
+  pub texts : map (bytes_at s) view.texts ≡ given.texts
+  pub parts : view.parts ≡ length given.parts
+
+-- Two views have the same production and numbers, texts of the same bytes, and as many parts; the parts are equal in turn.
+pub record AreAlike (s t : List ℕ) (first second : Node) (one other : Tree) : Type 0 where
+  pub production : first.production ≡ second.production
+  pub numbers : first.numbers ≡ second.numbers
+  pub texts : map (bytes_at s) first.texts ≡ map (bytes_at t) second.texts
+  pub parts : first.parts ≡ second.parts
+  pub equal : (k : ℕ) → k < first.parts → slice_get (fields_of one).parts k ≡ slice_get (fields_of other).parts k
+
+-- the node of a path is used as a type, and no other node stands for the path as one
+abbrev pub HasNoPathType : List Tree → Type 0
+HasNoPathType all = (k : ℕ) (path : tree.Path) → slice_get all k ≡ Some (of_type (tree.path_type path)) → ⊥
+
+-- no bytes of any symbol
+abbrev pub no_text : Span
+no_text = record { from = 0; to = 0 }
+
+abbrev pub seen_of : (production : ℕ) → (numbers : List ℕ) → (text : Span) → (count : ℕ) → (parts : List ℕ) → Seen
+seen_of production numbers text count parts =
+    record { node = record { production = production; numbers = numbers; texts = text ∷ no_text ∷ []; parts = count }; parts = parts }
+
+-- What is seen of a node over the trees of the nodes before it: its view, whose texts are within the symbol, and its parts.
+pub record IsSeen (s : List ℕ) (before : List Tree) (seen : Seen) (given : Fields) : Type 0 where
+  pub view : IsView s seen.node given
+  pub within : All (λ text. IsWithin text s) seen.node.texts
+  pub few : seen.node.parts ≤ 3
+  pub long : length seen.parts ≡ 3
+  pub parts : map (slice_get before) (take seen.node.parts seen.parts) ≡ map Some given.parts
