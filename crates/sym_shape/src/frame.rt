@@ -8,7 +8,7 @@ use crate::rule::{Rule, Sym};
 #[derive(Clone, Copy, Debug)]
 pub struct Frame {
     pub rule: Rule,
-    pub next: u8,
+    pub next: u32,
     pub row: u32,
 }
 
@@ -16,7 +16,7 @@ pub struct Frame {
 pub fn upcoming(frame: &Frame) -> Option<Sym>
     ensures { MatchOption result (left_of frame.now ≡ []) (λ symbol. HasNext frame.now symbol) }
 {
-    if frame.next < frame.rule.count {
+    if frame.next < frame.rule.count as u32 {
         frame.rule.symbols.get(frame.next as usize).copied()
     } else {
         None

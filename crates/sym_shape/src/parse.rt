@@ -83,17 +83,19 @@ fn behind(rule: &Rule, at: usize) -> usize
     if rule.eats { at + 1 } else { at }
 }
 
-/// Takes a rule in the place of its kind, behind which the top frame goes on: the frame that is then on top.
+/// Takes a rule in the place of its kind, behind which the top frame goes on. The rule's frame is then on top, unless it is
+/// a leaf, whose row has ended.
+#[inline(always)]
 fn take_rule(
     below: &mut Vec<Frame>,
     rows: &mut Vec<Row>,
-    top: Frame,
+    top: &mut Frame,
     rule: &Rule,
     at: usize,
-) -> Result<Frame, Refusal>
+) -> Result<(), Refusal>
     requires few { length rows.old.items + 1 < 2 ^ 32 }
     requires place { at + 1 < 2 ^ 32 }
-    ensures taken { IfOk result (λ frame. IsTaken rule.now top at below.old.items rows.old.items frame below.new.items rows.new.items) }
+    ensures taken { OnOk result (IsTaken rule.now top.old at below.old.items rows.old.items top.new below.new.items rows.new.items) }
     ensures one { length rows.new.items ≤ length rows.old.items + 1 }
     ensures memory { OnErr result (result ≡ Err Refusal.Memory) }
 {
@@ -106,7 +108,7 @@ fn take_rule(
             to: behind(rule, at) as u32,
             end: number + 1,
         })?;
-        return Ok(top);
+        return Ok(());
     }
     rows.push(Row {
         rule: rule.number,
@@ -114,12 +116,12 @@ fn take_rule(
         to: from,
         end: 0,
     })?;
-    below.push(top)?;
-    Ok(Frame {
-        rule: *rule,
-        next: 0,
-        row: number,
-    })
+    below.reserve(1)?;
+    below.push_reserved(*top);
+    top.rule = *rule;
+    top.next = 0;
+    top.row = number;
+    Ok(())
 }
 
 /// Puts a token's row behind the others.
@@ -214,38 +216,37 @@ impl Parse {
         requires parsing { IsParsing G.table ended bytes.now self.old }
         ensures { IsHurried G.table ended bytes.now self.old self.new result }
     {
-        let mut top = self.top;
         let mut at = self.at;
         let mut steps = self.steps;
         'moves: loop {
-            match upcoming(&top) {
+            match upcoming(&self.top) {
                 None => match uppermost(&self.below) {
                     Some(frame) => {
-                        close_row(&mut self.rows, top.row as usize, at as u32);
+                        let row = self.top.row as usize;
+                        self.top = frame;
                         drop_uppermost(&mut self.below);
-                        top = frame;
+                        close_row(&mut self.rows, row, at as u32);
                     }
                     None => break 'moves,
                 },
                 Some(Sym::Byte(byte)) if at < bytes.len() && bytes[at] == byte => {
                     at += 1;
-                    top.next += 1;
+                    self.top.next += 1;
                 }
                 Some(Sym::Kind(kind)) if at < bytes.len() => match grammar.rule(kind, bytes[at]) {
                     Some(rule) => {
-                        top.next += 1;
+                        self.top.next += 1;
                         self.steps = steps + 1;
-                        top = take_rule(&mut self.below, &mut self.rows, top, &rule, at)?;
+                        take_rule(&mut self.below, &mut self.rows, &mut self.top, &rule, at)?;
                         at = behind(&rule, at);
                     }
-                    None if grammar.may_be_empty(kind) => top.next += 1,
+                    None if grammar.may_be_empty(kind) => self.top.next += 1,
                     None => break 'moves,
                 },
                 Some(_) => break 'moves,
             }
             steps += 1;
         }
-        self.top = top;
         self.at = at;
         self.steps = steps;
         Ok(())
@@ -364,10 +365,10 @@ impl Parse {
             Some(next) => match grammar.rule(kind, next) {
                 Some(rule) => {
                     self.top.next += 1;
-                    self.top = take_rule(
+                    take_rule(
                         &mut self.below,
                         &mut self.rows,
-                        self.top,
+                        &mut self.top,
                         &rule,
                         self.at,
                     )?;
