@@ -21,6 +21,7 @@ use sym_print::{Detail, Part};
 
 impl Symbol {
     /// Adds a name by its namespace.
+    #[inline(always)]
     pub(crate) fn push_nested(
         &self,
         parts: &mut ArrayVec<Part<Context>, 8>,
@@ -99,6 +100,7 @@ impl Symbol {
     }
 
     /// The parts of a path.
+    #[inline(always)]
     pub(crate) fn fill_path(
         &self,
         parts: &mut ArrayVec<Part<Context>, 8>,

@@ -274,6 +274,7 @@ impl Symbol {
     }
 
     /// Adds a text and a name behind it, unless the name prints nothing.
+    #[inline(always)]
     pub(crate) fn push_name_behind(
         &self,
         parts: &mut ArrayVec<Part<Context>, 8>,
@@ -307,6 +308,7 @@ impl Symbol {
     }
 
     /// Adds a name in a namespace that is an upper-case letter.
+    #[inline(never)]
     pub(crate) fn push_special(
         &self,
         parts: &mut ArrayVec<Part<Context>, 8>,

@@ -1,8 +1,9 @@
 // The work stack: its entries are taken one at a time, and paid for.
 #![tactic(auto)]
 
-ghost use Rattle.std.specs.Prelude.{◌≡◌, ℕ, ◌+◌, ◌*◌, ◌-◌, ◌<◌, ◌≤◌, ◌++◌, length, take, drop, reverse, vec_len, vec_capacity, Some, None, [], ◌∷◌, IfOk, Err, IfErr, OnOk, OnErr, ◌⊎◌};
+ghost use Rattle.std.specs.Prelude.{◌≡◌, ℕ, ◌+◌, ◌*◌, ◌-◌, ◌<◌, ◌≤◌, ◌++◌, length, take, drop, reverse, vec_len, vec_capacity, is_ok, if◌then◌else◌, Some, None, [], ◌∷◌, IfOk, Err, IfErr, OnOk, OnErr, ◌⊎◌};
 ghost use Rattle.std.specs.List.{All};
+ghost use Rattle.arrayvec.specs.ArrayVec.{array_vec_len};
 ghost use Rattle.sym_print.specs.Joined.{joined, text_of_stack, cost_of_stack, steps_of_stack, IsText, IsNext};
 ghost use Rattle.sym_print.specs.Unshared.{text_of, cost_of_parts, steps_of_parts};
 ghost use Rattle.sym_print.specs.declared.layout.Part.{Part};
@@ -11,6 +12,7 @@ ghost use Rattle.sym_core.specs.declared.Refusal.{Refusal};
 use crate::layout::{Item, Layout, Part};
 use crate::meter::Meter;
 use arrayvec::ArrayVec;
+use std::alloc::AllocError;
 use sym_core::Refusal;
 
 /// Puts parts on a stack that has room for them, the first on top.
@@ -27,7 +29,55 @@ fn push_reversed<C: Copy>(stack: &mut Vec<Part<C>>, parts: &[Part<C>])
     }
 }
 
+/// Moves the parts from a place on to a stack that has room for them, the first on top.
+fn move_reversed<C: Copy>(
+    stack: &mut Vec<Part<C>>,
+    parts: &mut ArrayVec<Part<C>, 8>,
+    from: usize,
+)
+    requires within { from ≤ length parts.old.items }
+    requires room { vec_len stack.old + array_vec_len parts.old ≤ vec_capacity stack.old }
+    ensures items { stack.new.items ≡ stack.old.items ++ reverse (drop from parts.old.items) }
+    ensures len { vec_len stack.new + from ≡ vec_len stack.old + array_vec_len parts.old }
+    ensures capacity { vec_capacity stack.new ≡ vec_capacity stack.old }
+{
+    while parts.len() > from {
+        if let Some(part) = parts.pop() {
+            stack.push_reserved(part);
+        }
+    }
+}
+
+/// Adds bytes to a text. Up to three are added one at a time, which is faster than a copy.
+#[inline(always)]
+fn append(text: &mut Vec<u8>, bytes: &[u8]) -> Result<(), AllocError>
+    ensures items { text.new.items ≡ (if is_ok result then text.old.items ++ bytes.now else text.old.items) }
+    ensures len { vec_len text.new ≡ (if is_ok result then vec_len text.old + length bytes.now else vec_len text.old) }
+    ensures capacity { vec_capacity text.old ≤ vec_capacity text.new }
+    ensures full { OnErr result (vec_capacity text.old < vec_len text.old + length bytes.now) }
+{
+    if bytes.len() > 3 {
+        return text.extend_from_slice(bytes);
+    }
+    text.reserve(bytes.len())?;
+    match bytes {
+        [first, second] => {
+            text.push_reserved(*first);
+            text.push_reserved(*second);
+        }
+        [first] => text.push_reserved(*first),
+        [first, second, third] => {
+            text.push_reserved(*first);
+            text.push_reserved(*second);
+            text.push_reserved(*third);
+        }
+        _ => {}
+    }
+    Ok(())
+}
+
 /// Writes a byte text where it can be paid for.
+#[inline(always)]
 fn write_text<Y: Layout>(
     y: &Y,
     part: &Part<Y::Ctx>,
@@ -53,7 +103,7 @@ fn write_text<Y: Layout>(
     if !meter.affords(bytes.len()) {
         return Err(Refusal::TooLong);
     }
-    text.extend_from_slice(bytes)?;
+    append(text, bytes)?;
     meter.pay(bytes.len());
     Ok(())
 }
@@ -180,9 +230,8 @@ fn print_item<Y: Layout>(
     take_item(stack, meter)?;
     parts.clear();
     y.fill(item, parts);
-    let parts = parts.as_slice();
-    let (done, outcome) = write_leading(y, parts, text, meter);
-    push_reversed(stack, &parts[done..]);
+    let (done, outcome) = write_leading(y, parts.as_slice(), text, meter);
+    move_reversed(stack, parts, done);
     outcome
 }
 
@@ -247,10 +296,12 @@ pub(crate) fn print_entries<Y: Layout>(
 {
     let mut parts = ArrayVec::new();
     while let Some(next) = stack.last() {
-        let next = *next;
         match next {
-            Part::Sub(item) => print_item(y, item, &mut parts, stack, text, meter)?,
-            _ => print_text(y, &next, stack, text, meter)?,
+            Part::Sub(item) => print_item(y, *item, &mut parts, stack, text, meter)?,
+            _ => {
+                write_text(y, next, text, meter)?;
+                stack.pop();
+            }
         }
     }
     Ok(())

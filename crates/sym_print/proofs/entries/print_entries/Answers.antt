@@ -1,0 +1,82 @@
+use Rattle.std.proofs.Common.{◌≡◌, ◌-◌, ◌++◌, Err, Result, length, take, refl, arith, ap, ◌∙◌, rules}
+use Rattle.std.proofs.lemmas.List.Elements.{All-same, All-take}
+use Rattle.std.proofs.lemmas.Result.{err_from_is_err_and}
+use Rattle.sym_core.specs.declared.Refusal.{Refusal}
+use Rattle.sym_core.specs.declared.Refusal.TheVariants.{TooLong}
+use Rattle.sym_print.specs.declared.meter.Meter.{Meter}
+use Rattle.sym_print.specs.Joined.{IsNext, IsText, text_of_stack, cost_of_stack, steps_of_stack}
+use Rattle.sym_print.proofs.Stack.{text_of_write, cost_of_next, cost_of_text, steps_of_next, steps_of_text}
+use Rattle.sym_print.proofs.entries.print_entries.Given as given
+use Rattle.sym_print.proofs.entries.print_entries.Goals as goal
+
+pub returns-in_err-write_text-in_default-next-clause-text : goal.returns-in_err-write_text-in_default-next-clause-text
+returns-in_err-write_text-in_default-next-clause-text g c =
+    let unshared = g.Y.Layout.unshared c.args.y.now in
+    let bytes_of = g.Y.Layout.bytes_of c.args.y.now in
+    ap (λ t. t ++ text_of_stack unshared bytes_of c.loop-next.stack.items) (c.in_err-write_text-in_default-next.ensures.err).0
+    ∙ c.loop-next.invariant.1
+
+pub returns-in_err-write_text-in_default-next-clause-cost : goal.returns-in_err-write_text-in_default-next-clause-cost
+returns-in_err-write_text-in_default-next-clause-cost g c =
+    omega (arith, ap (λ (m : Meter). m.spent) (c.in_err-write_text-in_default-next.ensures.err).1, c.loop-next.invariant.2)
+
+pub returns-in_err-write_text-in_default-next-clause-steps : goal.returns-in_err-write_text-in_default-next-clause-steps
+returns-in_err-write_text-in_default-next-clause-steps g c =
+    omega (arith, ap (λ (m : Meter). m.steps) (c.in_err-write_text-in_default-next.ensures.err).1, c.loop-next.invariant.3)
+
+pub returns-in_err-write_text-in_default-next-clause-too_long : goal.returns-in_err-write_text-in_default-next-clause-too_long
+returns-in_err-write_text-in_default-next-clause-too_long g c same =
+    let p = err_from_is_err_and c.from_residual-in_err-write_text-in_default-next.result c.from_residual-in_err-write_text-in_default-next.ensures.1 in
+    let was : c.in_err-write_text-in_default-next.field-0.0 ≡ TooLong = cc (p.1, p.2) in
+    let refused : Refusal → Result (Unit {0}) Refusal = λ r. Err r in
+    let unshared = g.Y.Layout.unshared c.args.y.now in
+    let bytes_of = g.Y.Layout.bytes_of c.args.y.now in
+    let is_text : IsText c.in-Some.next.now = search rules in
+    let next : IsNext c.loop-next.stack.items c.in-Some.next.now = search rules in
+    omega (
+      arith,
+      c.in_err-write_text-in_default-next.ensures.too_long (ap refused was),
+      cost_of_next unshared bytes_of c.loop-next.stack.items c.in-Some.next.now next,
+      cost_of_text unshared bytes_of c.in-Some.next.now is_text,
+      c.loop-next.invariant.2,
+      c.loop-next.invariant.6,
+    )
+
+-- what is left on the stack
+left : (g : given.Over) → (c : goal.After-pop g) → c.pop.new.self.items ≡ take (length c.loop-next.stack.items - 1) c.loop-next.stack.items
+left g c = rw c.loop-next.stack.ok.0 at c.pop.ensures.rest
+
+pub loop-next-preserved : goal.loop-next-preserved
+loop-next-preserved g c =
+    let unshared = g.Y.Layout.unshared c.args.y.now in
+    let bytes_of = g.Y.Layout.bytes_of c.args.y.now in
+    let part = c.in-Some.next.now in
+    let stack = c.loop-next.stack.items in
+    let is_text : IsText c.in-Some.next.now = search rules in
+    let next : IsNext c.loop-next.stack.items c.in-Some.next.now = search rules in
+    (
+      All-same (g.Y.Layout.may_come c.args.y.now) _ _ (left g c) (All-take (g.Y.Layout.may_come c.args.y.now) (length stack - 1) stack c.loop-next.invariant.0),
+      text_of_write unshared bytes_of stack c.pop.new.self.items part c.loop-next.text.items c.write_text.new.text.items (bytes_of part) next is_text (left g c) refl c.in_ok-write_text-in_default-next.ensures.ok
+      ∙ c.loop-next.invariant.1,
+      omega (
+        arith,
+        c.in_ok-write_text-in_default-next.ensures.spent,
+        cost_of_next unshared bytes_of stack part next,
+        cost_of_text unshared bytes_of part is_text,
+        ap (cost_of_stack unshared bytes_of) (left g c),
+        c.loop-next.invariant.2,
+      ),
+      omega (
+        arith,
+        c.in_ok-write_text-in_default-next.ensures.steps,
+        steps_of_next unshared bytes_of stack part next,
+        steps_of_text unshared bytes_of part is_text,
+        ap (steps_of_stack unshared bytes_of) (left g c),
+        c.loop-next.invariant.3,
+      ),
+      c.write_text.ensures.paid,
+      omega (arith, c.in_ok-write_text-in_default-next.ensures.spent, c.pop.ensures.len, c.loop-next.invariant.5),
+      omega (arith, c.write_text.ensures.limit, c.loop-next.invariant.6),
+      omega (arith, c.pop.ensures.capacity, c.loop-next.invariant.7),
+      omega (arith, c.write_text.ensures.room, c.loop-next.invariant.8),
+    )
