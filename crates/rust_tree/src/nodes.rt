@@ -82,8 +82,8 @@ impl Nodes {
         }
     }
 
-    fn path_need(&self, path: Path) -> u64
-        ensures { result ≡ path_needs self.now.nodes path }
+    fn path_need(&self, path: &Path) -> u64
+        ensures { result ≡ path_needs self.now.nodes path.now }
     {
         match path {
             Path::Crate { .. } => 0,
@@ -91,85 +91,89 @@ impl Nodes {
                 path,
                 self_type,
                 ..
-            } => self.stored_need(path).max(self.stored_need(self_type)),
+            } => self.stored_need(*path).max(self.stored_need(*self_type)),
             Path::TraitImpl {
                 path,
                 self_type,
                 implemented,
                 ..
             } => self
-                .stored_need(path)
-                .max(self.stored_need(self_type))
-                .max(self.stored_need(implemented)),
+                .stored_need(*path)
+                .max(self.stored_need(*self_type))
+                .max(self.stored_need(*implemented)),
             Path::TraitDefinition {
                 self_type,
                 implemented,
             } => self
-                .stored_need(self_type)
-                .max(self.stored_need(implemented)),
-            Path::Nested { parent, .. } => self.stored_need(parent),
+                .stored_need(*self_type)
+                .max(self.stored_need(*implemented)),
+            Path::Nested { parent, .. } => self.stored_need(*parent),
             Path::Generic { parent, arguments } => self
-                .stored_need(parent)
-                .max(self.stored_need(arguments)),
+                .stored_need(*parent)
+                .max(self.stored_need(*arguments)),
         }
     }
 
-    fn arguments_need(&self, arguments: Arguments) -> u64
-        ensures { result ≡ arguments_need self.now.nodes arguments }
+    fn arguments_need(&self, arguments: &Arguments) -> u64
+        ensures { result ≡ arguments_need self.now.nodes arguments.now }
     {
         match arguments {
             Arguments::None => 0,
-            Arguments::Lifetime { lifetime, rest } => lifetime.max(self.stored_need(rest)),
-            Arguments::Constant { rest, .. } => self.stored_need(rest),
+            Arguments::Lifetime { lifetime, rest } => (*lifetime).max(self.stored_need(*rest)),
+            Arguments::Constant { rest, .. } => self.stored_need(*rest),
             Arguments::Ty { argument, rest } => self
-                .stored_need(argument)
-                .max(self.stored_need(rest)),
+                .stored_need(*argument)
+                .max(self.stored_need(*rest)),
         }
     }
 
-    fn type_need(&self, ty: Ty) -> u64
-        ensures { result ≡ type_needs self.now.nodes ty }
+    fn type_need(&self, ty: &Ty) -> u64
+        ensures { result ≡ type_needs self.now.nodes ty.now }
     {
         match ty {
             Ty::Basic(_) => 0,
-            Ty::Array { element, .. } => self.stored_need(element),
-            Ty::Slice(element) => self.stored_need(element),
-            Ty::Tuple(elements) => self.stored_need(elements),
-            Ty::SharedReference { lifetime, referent } => lifetime.max(self.stored_need(referent)),
-            Ty::MutableReference { lifetime, referent } => lifetime.max(self.stored_need(referent)),
-            Ty::ConstPointer(pointee) => self.stored_need(pointee),
-            Ty::MutPointer(pointee) => self.stored_need(pointee),
+            Ty::Array { element, .. } => self.stored_need(*element),
+            Ty::Slice(element) => self.stored_need(*element),
+            Ty::Tuple(elements) => self.stored_need(*elements),
+            Ty::SharedReference { lifetime, referent } => (*lifetime).max(self.stored_need(
+                *referent,
+            )),
+            Ty::MutableReference { lifetime, referent } => (*lifetime).max(self.stored_need(
+                *referent,
+            )),
+            Ty::ConstPointer(pointee) => self.stored_need(*pointee),
+            Ty::MutPointer(pointee) => self.stored_need(*pointee),
             Ty::Function {
                 binder,
                 parameters,
                 returned,
                 ..
             } => self
-                .stored_need(parameters)
-                .max(self.stored_need(returned))
-                .saturating_sub(binder as u64),
+                .stored_need(*parameters)
+                .max(self.stored_need(*returned))
+                .saturating_sub(*binder as u64),
             Ty::Dyn {
                 binder,
                 bounds,
                 lifetime,
             } => self
-                .stored_need(bounds)
-                .saturating_sub(binder as u64)
-                .max(lifetime),
+                .stored_need(*bounds)
+                .saturating_sub(*binder as u64)
+                .max(*lifetime),
         }
     }
 
-    fn types_need(&self, types: Types) -> u64
-        ensures { result ≡ types_need self.now.nodes types }
+    fn types_need(&self, types: &Types) -> u64
+        ensures { result ≡ types_need self.now.nodes types.now }
     {
         match types {
             Types::None => 0,
-            Types::More { first, rest } => self.stored_need(first).max(self.stored_need(rest)),
+            Types::More { first, rest } => self.stored_need(*first).max(self.stored_need(*rest)),
         }
     }
 
-    fn bounds_need(&self, bounds: Bounds) -> u64
-        ensures { result ≡ bounds_need self.now.nodes bounds }
+    fn bounds_need(&self, bounds: &Bounds) -> u64
+        ensures { result ≡ bounds_need self.now.nodes bounds.now }
     {
         match bounds {
             Bounds::None => 0,
@@ -178,14 +182,14 @@ impl Nodes {
                 bindings,
                 rest,
             } => self
-                .stored_need(path)
-                .max(self.stored_need(bindings))
-                .max(self.stored_need(rest)),
+                .stored_need(*path)
+                .max(self.stored_need(*bindings))
+                .max(self.stored_need(*rest)),
         }
     }
 
-    fn bindings_need(&self, bindings: Bindings) -> u64
-        ensures { result ≡ bindings_need self.now.nodes bindings }
+    fn bindings_need(&self, bindings: &Bindings) -> u64
+        ensures { result ≡ bindings_need self.now.nodes bindings.now }
     {
         match bindings {
             Bindings::None => 0,
@@ -193,12 +197,12 @@ impl Nodes {
                 bound_type,
                 rest,
                 ..
-            } => self.stored_need(bound_type).max(self.stored_need(rest)),
+            } => self.stored_need(*bound_type).max(self.stored_need(*rest)),
         }
     }
 
-    fn symbol_need(&self, whole: Whole) -> u64
-        ensures { result ≡ symbol_needs self.now.nodes whole }
+    fn symbol_need(&self, whole: &Whole) -> u64
+        ensures { result ≡ symbol_needs self.now.nodes whole.now }
     {
         let other = match whole.instantiating {
             Some(path) => self.stored_need(path),
@@ -207,8 +211,9 @@ impl Nodes {
         self.stored_need(whole.path).max(other)
     }
 
-    fn node_need(&self, node: Node) -> u64
-        ensures { result ≡ needs self.now.nodes node }
+    #[inline(never)]
+    fn node_need(&self, node: &Node) -> u64
+        ensures { result ≡ needs self.now.nodes node.now }
     {
         match node {
             Node::Path(path) => self.path_need(path),
@@ -234,10 +239,8 @@ impl Nodes {
         ensures memory { IfErr result (λ r. r ≡ Refusal.Memory) }
     {
         let number = self.entries.len() as u32;
-        let entry = Entry {
-            node,
-            need: self.node_need(node),
-        };
+        let need = self.node_need(&node);
+        let entry = Entry { node, need };
         if self.entries.push(entry).is_err() {
             return Err(Refusal::Memory);
         }

@@ -13,7 +13,7 @@ use Rattle.rust_tree.specs.Tree.{Tree, of_path, of_arguments, of_type, of_types,
 use Rattle.rust_tree.specs.Nodes.{Table, IsType, type_in, tree_of, path_of, arguments_of, type_of, types_of, bounds_of, bindings_of, constant_of, symbol_of, IsWithin, bytes_at, HasOther, other_of}
 use Rattle.rust_v0.specs.declared.production.Production.TheVariants as rules
 use Rattle.rust_v0.specs.declared.part.Part.{Part}
-use Rattle.rust_v0.specs.declared.make.Made.{Made}
+use Rattle.rust_v0.specs.Made.{Made}
 use Rattle.rust_tree.specs.declared.node.Node.{Node}
 use Rattle.rust_tree.specs.declared.node.Constant.{Constant}
 use Rattle.rust_v0.specs.declared.part.Integer.{Integer}

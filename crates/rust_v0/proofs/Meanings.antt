@@ -12,7 +12,7 @@ use Rattle.sym_link.specs.Linking.{Gives}
 use Rattle.sym_link.specs.Reading.{◌>>=◌}
 use Rattle.rust_tree.proofs.Trees.{grows-same}
 use Rattle.rust_v0.specs.declared.language.Linked.{Linked}
-use Rattle.rust_v0.specs.declared.make.Made.{Made}
+use Rattle.rust_v0.specs.Made.{Made}
 use Rattle.rust_v0.specs.Linked.{v0_view, Keeps, GoesOn, IsNoted, refers_by}
 use Rattle.rust_tree.specs.Symbol as tree
 use Rattle.rust_tree.specs.Tree.{of_type, of_types, of_constant}
@@ -120,10 +120,14 @@ fails_same TooLong read is = is
 pub refused : (s : List ℕ) (linked : Linked) (e : Refusal) (read : Meaning) → read ≡ Err e → Gives (v0_view s) linked (Err e) read
 refused s linked e read is = fails_same e read is
 
--- what was made, with the nodes as they were
-pub gives_made : (s : List ℕ) (linked : Linked) (at : At) (part : Part) (read : Meaning) → Keeps s linked at.ended
-    → MadeGives s linked.nodes at (Ok (Made.Part part)) read → Gives (v0_view s) linked (Ok part) read
-gives_made s linked at part read keeps (v, is, stands) = (v, _, is, stands, keeps)
+-- a part that was made, with the nodes as they were, or the refusal
+pub gives_part : (s : List ℕ) (linked : Linked) (at : At) (result : Result Part Refusal) (made : making.Making) (read : Meaning) → Keeps s linked at.ended
+    → making.of_part result ≡ made → MadeGives s linked.nodes at made read → Gives (v0_view s) linked result read
+gives_part s linked at (Ok part) made read keeps is given = stands (rw (← is) at given)
+  where
+    stands : MadeGives s linked.nodes at (Ok (Made.Part part)) read → Gives (v0_view s) linked (Ok part) read
+    stands (v, is, stand) = (v, _, is, stand, keeps)
+gives_part s linked at (Err e) made read keeps is given = refused s linked e read (rw (← is) at given)
 
 pub goes_on_same : (old new : Linked) → new.nodes ≡ old.nodes → length new.ended.items ≡ length old.ended.items → GoesOn old new
 goes_on_same old new nodes places = record { nodes = grows-same old.nodes new.nodes nodes; places = omega (arith, places) }
@@ -137,6 +141,3 @@ reference_gives at linked new production ps known found rest ending result is fr
     let agree : Agree {X = Option ℕ} {A = ℕ} (ground at.symbol linked.nodes) IsNumber (Ok (found, rest)) (number_part known) =
     rw front_is at (number_agrees (ground at.symbol linked.nodes) ps known are) in
     rw (reference_means at production known is, agree.2) (give (referred at agree.0) (rw (ending_is agree.0 agree.3) (keeps.noted (agree.0 + 2))))
-
-pub gives_refused : (s : List ℕ) (linked : Linked) (at : At) (e : Refusal) (read : Meaning) → MadeGives s linked.nodes at (Err e) read → Gives (v0_view s) linked (Err e) read
-gives_refused s linked at e read is = refused s linked e read is

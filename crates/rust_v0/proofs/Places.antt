@@ -2,9 +2,9 @@
 use Rattle.std.proofs.Common.{◌≡◌, refl, ap, ◌∙◌, ℕ, zero, suc, ◌+◌, List, [], ◌∷◌, ◌++◌, replicate, get_or, append_assoc}
 use Rattle.std.proofs.lemmas.List.{replicate-append-replicate}
 
-pub one_more : {A : Type 0} (xs ys zs : List A) (k : ℕ) (x : A) → ys ≡ xs ++ replicate k x → zs ≡ ys ++ x ∷ [] → zs ≡ xs ++ replicate (k + 1) x
-one_more xs ys zs k x old new =
-    new ∙ ap (λ l. l ++ x ∷ []) old ∙ append_assoc xs (replicate k x) (x ∷ []) ∙ ap (λ l. xs ++ l) (replicate-append-replicate k 1 x)
+pub more : {A : Type 0} (xs ys zs : List A) (k n : ℕ) (x : A) → ys ≡ xs ++ replicate k x → zs ≡ ys ++ replicate n x → zs ≡ xs ++ replicate (k + n) x
+more xs ys zs k n x old new =
+    new ∙ ap (λ l. l ++ replicate n x) old ∙ append_assoc xs (replicate k x) (replicate n x) ∙ ap (λ l. xs ++ l) (replicate-append-replicate k n x)
 
 none_there : {A : Type 0} (k i : ℕ) (x : A) → get_or (replicate k x) i x ≡ x
 none_there zero i x = refl

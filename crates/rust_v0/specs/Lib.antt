@@ -6,6 +6,7 @@ pub mod Unfold
 pub mod Answer
 pub mod Views
 pub mod Front
+pub mod Made
 pub mod Making
 pub mod Makings
 pub mod Linked

@@ -20,10 +20,18 @@ use Rattle.rust_v0.specs.Unfold.{is_scalar, stray}
 use Rattle.rust_v0.specs.declared.language.Ending.{Ending}
 use Rattle.rust_v0.specs.declared.part.Part.{Part}
 use Rattle.rust_v0.specs.declared.part.Integer.{Integer}
-use Rattle.rust_v0.specs.declared.make.Made.{Made}
+use Rattle.rust_v0.specs.Made.{Made}
 
 abbrev pub Making : Type 0
 Making = Result Made Refusal
+
+abbrev pub of_part : Result Part Refusal → Making
+of_part (Ok part) = Ok (Made.Part part)
+of_part (Err e) = Err e
+
+abbrev pub of_node : Result Node Refusal → Making
+of_node (Ok node) = Ok (Made.Node node)
+of_node (Err e) = Err e
 
 abbrev pub crate_root : List Part → Making
 crate_root parts = do
@@ -311,3 +319,23 @@ is_reference rules.PathReference = true
 is_reference rules.TypeReference = true
 is_reference rules.ConstantReference = true
 is_reference _ = false
+
+-- the productions that make a part of their parts, and no node
+abbrev pub makes_part : Production → Bool
+makes_part rules.Suffix = true
+makes_part rules.SuffixByte = true
+makes_part rules.Namespace = true
+makes_part rules.Disambiguator = true
+makes_part rules.DisambiguatedIdentifier = true
+makes_part rules.PunycodeName = true
+makes_part rules.PlainName = true
+makes_part rules.Lifetime = true
+makes_part rules.Binder = true
+makes_part rules.Unsafe = true
+makes_part rules.Abi = true
+makes_part rules.AbiC = true
+makes_part rules.BoundsEnd = true
+makes_part rules.Minus = true
+makes_part rules.False = true
+makes_part rules.True = true
+makes_part _ = false

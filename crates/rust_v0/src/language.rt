@@ -1,9 +1,9 @@
 // Rust v0 symbols over shared nodes: what a rule's row, a token and the end of a rule do.
 
-ghost use Rattle.std.specs.Prelude.{◌≡◌, ℕ, ◌+◌, ◌<◌, ◌≤◌, ◌++◌, ◌^◌, List, [], length, drop, get_or, slice_get, slice_index, Some, true, Option, slice_set, replicate, Ok, IfOk, OnOk, OnErr, IfErr};
+ghost use Rattle.std.specs.Prelude.{◌≡◌, ℕ, ◌+◌, ◌<◌, ◌≤◌, ◌++◌, ◌^◌, List, [], length, drop, get_or, slice_get, slice_index, Some, Option, slice_set, replicate, true, false, Ok, IfOk, OnOk, OnErr, IfErr};
 ghost use Rattle.sym_core.specs.declared.refusal.Refusal.TheVariants as refusals;
 ghost use Rattle.rust_v0.specs.declared.language.Ending.TheVariants as endings;
-ghost use Rattle.rust_v0.specs.declared.make.Made.{Made};
+ghost use Rattle.rust_v0.specs.Made.{Made};
 ghost use Rattle.rust_v0.specs.Views.{IsNumber, IsPart};
 ghost use Rattle.rust_v0.specs.Front as front;
 ghost use Rattle.rust_v0.specs.Productions.{production_of};
@@ -11,6 +11,7 @@ ghost use Rattle.rust_v0.specs.Unfold.{At, Meaning, meaning, value16, refers_to_
 ghost use Rattle.rust_v0.specs.Value.{Value};
 ghost use Rattle.rust_tree.specs.Tree.{Tree, need_of_tree};
 ghost use Rattle.rust_v0.specs.Making as making;
+ghost use Rattle.rust_v0.specs.Making.{Making, of_node};
 ghost use Rattle.rust_v0.specs.Makings.{MadeGives, ground};
 ghost use Rattle.rust_v0.specs.Linked.{v0_view, Keeps, GoesOn, IsNoted, IsPaid, first_nodes, refers_to, refers_by};
 ghost use Rattle.sym_link.specs.Linking.{Gives};
@@ -19,11 +20,17 @@ ghost use Rattle.sym_core.specs.Number.{FitsSymbol};
 ghost use Rattle.rust_tree.specs.Nodes.{HasNoZero, trees};
 
 use crate::front::number;
-use crate::make::{Made, Site, make_by};
+use crate::make::{
+    Site, array, binding, bool_constant, char_constant, const_pointer, constant_argument,
+    crate_root, dyn_type, function, generic, inherent_impl, lifetime_argument, makes_part,
+    more_bounds, more_types, mut_pointer, mutable_reference, nested, part_by, shared_reference,
+    signed_constant, slice, symbol, trait_definition, trait_impl, tuple, type_argument,
+    unsigned_constant,
+};
 use crate::part::{Part, STRAY};
 use crate::production::{Production, numbered};
 use rust_tree::Nodes;
-use rust_tree::node::{Arguments, Bindings, Bounds, Node};
+use rust_tree::node::{Arguments, Bindings, Bounds, Constant, Node, Ty, Types};
 use std::alloc::Global;
 use sym_core::Refusal;
 
@@ -50,6 +57,9 @@ pub struct Linked {
     pub alloc: Global,
 }
 
+/// The endings of places at which nothing has ended, added at once.
+const NO_ENDINGS: [Ending; 16] = [Ending::Nothing; 16];
+
 /// Makes places for endings up to this one.
 pub fn reach(ended: &mut Vec<Ending>, place: usize) -> Result<(), Refusal>
     requires { place < 2 ^ 32 }
@@ -58,7 +68,7 @@ pub fn reach(ended: &mut Vec<Ending>, place: usize) -> Result<(), Refusal>
     ensures memory { IfErr result (λ e. e ≡ refusals.Memory) }
 {
     while ended.len() <= place {
-        ended.push(Ending::Nothing)?;
+        ended.extend_from_slice(&NO_ENDINGS)?;
     }
     Ok(())
 }
@@ -184,6 +194,7 @@ impl Linked {
     }
 
     /// Adds a node that began at a place.
+    #[inline(never)]
     fn add(&mut self, place: u32, node: Node) -> Result<Part, Refusal>
         requires room { length self.old.nodes.nodes + 1 < 2 ^ 32 }
         ensures gives { (at : At) (read : Meaning) → at.place ≡ place → place < length self.old.ended.items → Keeps at.symbol self.old at.ended
@@ -326,6 +337,78 @@ impl Linked {
         self.refer_as(production, site.place, site.bound, ending)
     }
 
+    /// Adds the node that a rule at a place has made, if it has made one.
+    #[inline(always)]
+    fn add_made(&mut self, place: u32, made: Result<Node, Refusal>) -> Result<Part, Refusal>
+        requires room { length self.old.nodes.nodes + 1 < 2 ^ 32 }
+        ensures gives { (at : At) (read : Meaning) (meant : Making) → of_node made ≡ meant → at.place ≡ place → place < length self.old.ended.items → Keeps at.symbol self.old at.ended
+            → MadeGives at.symbol self.old.nodes at meant read → Gives (v0_view at.symbol) self.new result read }
+        ensures grows { GoesOn self.old self.new }
+        ensures one { length self.new.nodes.nodes ≤ length self.old.nodes.nodes + 1 }
+        ensures text { self.new.nodes.text ≡ self.old.nodes.text }
+    {
+        match made {
+            Ok(node) => self.add(place, node),
+            Err(refusal) => Err(refusal),
+        }
+    }
+
+    /// Adds the node that a rule makes of these parts.
+    fn add_by(
+        &mut self,
+        production: Production,
+        site: Site,
+        parts: &[Part],
+    ) -> Result<Part, Refusal>
+        requires room { length self.old.nodes.nodes + 1 < 2 ^ 32 }
+        ensures gives { (at : At) (read : Meaning) → making.is_reference production ≡ false → making.makes_part production ≡ false
+            → at.place ≡ site.place → site.byte ≡ slice_index at.symbol at.place → site.place < length self.old.ended.items → Keeps at.symbol self.old at.ended
+            → MadeGives at.symbol self.old.nodes at (making.made production at.symbol at.place at.bound parts.now) read → Gives (v0_view at.symbol) self.new result read }
+        ensures grows { GoesOn self.old self.new }
+        ensures one { length self.new.nodes.nodes ≤ length self.old.nodes.nodes + 1 }
+        ensures text { self.new.nodes.text ≡ self.old.nodes.text }
+    {
+        let place = site.place;
+        match production {
+            Production::Symbol => self.add_made(place, symbol(parts)),
+            Production::Crate => self.add_made(place, crate_root(parts)),
+            Production::InherentImpl => self.add_made(place, inherent_impl(parts)),
+            Production::TraitImpl => self.add_made(place, trait_impl(parts)),
+            Production::TraitDefinition => self.add_made(place, trait_definition(parts)),
+            Production::Nested => self.add_made(place, nested(parts)),
+            Production::Generic => self.add_made(place, generic(parts)),
+            Production::LifetimeArgument => self.add_made(place, lifetime_argument(parts)),
+            Production::ConstantArgument => self.add_made(place, constant_argument(parts)),
+            Production::TypeArgument => self.add_made(place, type_argument(parts)),
+            Production::BasicType => self.add(place, Node::Ty(Ty::Basic(site.byte))),
+            Production::Array => self.add_made(place, array(parts)),
+            Production::Slice => self.add_made(place, slice(parts)),
+            Production::Tuple => self.add_made(place, tuple(parts)),
+            Production::SharedReference => self.add_made(place, shared_reference(parts)),
+            Production::MutableReference => self.add_made(place, mutable_reference(parts)),
+            Production::ConstPointer => self.add_made(place, const_pointer(parts)),
+            Production::MutPointer => self.add_made(place, mut_pointer(parts)),
+            Production::Function => self.add_made(place, function(parts)),
+            Production::Dyn => self.add_made(place, dyn_type(parts)),
+            Production::TypesEnd => self.add(place, Node::Types(Types::None)),
+            Production::TypesMore => self.add_made(place, more_types(parts)),
+            Production::BoundsMore => self.add_made(place, more_bounds(parts)),
+            Production::Binding => self.add_made(place, binding(parts)),
+            Production::SignedConstant => self.add_made(
+                place,
+                signed_constant(place, site.byte, parts),
+            ),
+            Production::UnsignedConstant => self.add_made(
+                place,
+                unsigned_constant(place, site.byte, parts),
+            ),
+            Production::BoolConstant => self.add_made(place, bool_constant(parts)),
+            Production::CharConstant => self.add_made(place, char_constant(place, parts)),
+            Production::Placeholder => self.add(place, Node::Constant(Constant::Placeholder)),
+            _ => Err(STRAY),
+        }
+    }
+
     /// What a rule means, whose parts are these.
     pub fn meant(
         &mut self,
@@ -345,10 +428,9 @@ impl Linked {
         if is_reference(production) {
             return self.reference(production, site, parts);
         }
-        match make_by(production, site, parts) {
-            Ok(Made::Part(part)) => Ok(part),
-            Ok(Made::Node(node)) => self.add(site.place, node),
-            Err(refusal) => Err(refusal),
+        if makes_part(production) {
+            return part_by(production, site, parts);
         }
+        self.add_by(production, site, parts)
     }
 }

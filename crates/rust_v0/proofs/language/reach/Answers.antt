@@ -1,7 +1,7 @@
-use Rattle.std.proofs.Common.{◌+◌}
-use Rattle.rust_v0.proofs.Places.{one_more}
+use Rattle.std.proofs.Common.{◌+◌, rules}
+use Rattle.rust_v0.proofs.Places.{more}
 use Rattle.rust_v0.proofs.language.reach.Goals as goal
 
 pub loop-ended-preserved : goal.loop-ended-preserved
 loop-ended-preserved c =
-    (c.loop-ended.invariant.0 + 1, one_more _ _ _ _ _ c.loop-ended.invariant.1 c.in_ok-push.ensures.items)
+    (c.loop-ended.invariant.0 + 16, more _ _ _ _ 16 _ c.loop-ended.invariant.1 (search rules))
