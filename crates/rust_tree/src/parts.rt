@@ -103,6 +103,7 @@ impl Symbol {
     }
 
     /// Adds what a name prints, if that is something.
+    #[inline(always)]
     pub(crate) fn push_name(&self, parts: &mut ArrayVec<Part<Context>, 8>, name: Name)
         requires { array_vec_len parts.old < 8 }
         ensures shows { (so_far : Unshared → Unshared) → Shows self.now parts.old.items so_far
