@@ -30,11 +30,7 @@ fn push_reversed<C: Copy>(stack: &mut Vec<Part<C>>, parts: &[Part<C>])
 }
 
 /// Moves the parts from a place on to a stack that has room for them, the first on top.
-fn move_reversed<C: Copy>(
-    stack: &mut Vec<Part<C>>,
-    parts: &mut ArrayVec<Part<C>, 8>,
-    from: usize,
-)
+fn move_reversed<C: Copy>(stack: &mut Vec<Part<C>>, parts: &mut ArrayVec<Part<C>, 8>, from: usize)
     requires within { from ≤ length parts.old.items }
     requires room { vec_len stack.old + array_vec_len parts.old ≤ vec_capacity stack.old }
     ensures items { stack.new.items ≡ stack.old.items ++ reverse (drop from parts.old.items) }

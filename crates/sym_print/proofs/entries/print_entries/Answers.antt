@@ -53,11 +53,10 @@ loop-next-preserved g c =
     let part = c.in-Some.next.now in
     let stack = c.loop-next.stack.items in
     let is_text : IsText c.in-Some.next.now = search rules in
-    let next : IsNext c.loop-next.stack.items c.in-Some.next.now = search rules in
-    (
+    let next : IsNext c.loop-next.stack.items c.in-Some.next.now = search rules in (
       All-same (g.Y.Layout.may_come c.args.y.now) _ _ (left g c) (All-take (g.Y.Layout.may_come c.args.y.now) (length stack - 1) stack c.loop-next.invariant.0),
       text_of_write unshared bytes_of stack c.pop.new.self.items part c.loop-next.text.items c.write_text.new.text.items (bytes_of part) next is_text (left g c) refl c.in_ok-write_text-in_default-next.ensures.ok
-      ∙ c.loop-next.invariant.1,
+          ∙ c.loop-next.invariant.1,
       omega (
         arith,
         c.in_ok-write_text-in_default-next.ensures.spent,
