@@ -1,5 +1,5 @@
 -- What the languages answer, by their laws.
-use Rattle.std.proofs.Common.{◌≡◌, ◌≢◌, ◌⊎◌, inl, inr, ℕ, true, List, ◌++◌, Result, Ok, Err, refl, ap, sym, ◌∙◌}
+use Rattle.std.proofs.Common.{◌≡◌, ◌≢◌, ◌⊎◌, inl, inr, ℕ, true, List, ◌++◌, Result, Ok, Err, refl, ap, sym, subst, ◌∙◌}
 use Rattle.std.specs.Prelude.{OnOk, IfErr}
 use Rattle.sym_core.specs.declared.refusal.Refusal.{Refusal}
 use Rattle.sym_core.specs.declared.refusal.Refusal.TheVariants.{Memory, TooLong}
@@ -9,7 +9,8 @@ use Rattle.rust_v0.specs.Answered.{answer}
 use Rattle.rust_v0.specs.Standing.{IsReading}
 use Rattle.symfilt.specs.declared.kinds.Lang.{Lang}
 use Rattle.symfilt.specs.declared.kinds.Lang.TheVariants.{Rust}
-use Rattle.symfilt.specs.Languages.{answer_of}
+use Rattle.symfilt.specs.declared.demangler.Counts.{Counts}
+use Rattle.symfilt.specs.Languages.{answer_of, AreCounts, AreCountsOf}
 use Rattle.symfilt.specs.Lines.{is_read}
 
 -- the law that an answer to a symbol is the definition's
@@ -56,3 +57,6 @@ pub reading_answered : (limit : ℕ) (detail : Detail) (lang : Lang) (symbol : L
     → IfErr (answer detail symbol limit) (λ refusal. refusal ≡ TooLong) → is_read (answer_of limit detail lang symbol) ≡ true
 reading_answered limit detail lang symbol rust is =
     ap (λ l. is_read (answer_of limit detail l symbol)) rust ∙ read_or_too_long (answer detail symbol limit) is
+
+pub rust_counts : (lang : Lang) (symbol : List ℕ) (counts : Counts) → lang ≡ Rust → AreCounts symbol counts → AreCountsOf lang symbol counts
+rust_counts lang symbol counts rust are = subst (λ l. AreCountsOf l symbol counts) (sym rust) are

@@ -11,7 +11,7 @@ use Rattle.symfilt.specs.declared.kinds.Kind.{Kind}
 use Rattle.symfilt.specs.Kinds.{kind_of, symbol_of}
 use Rattle.symfilt.specs.Runs.{Answering, text_for}
 use Rattle.sym_core.specs.declared.refusal.Refusal.TheVariants.{Malformed, BadReference, BadValue, TooLong, Memory}
-use Rattle.symfilt.specs.Lines.{answer_for, is_read, is_read_word, line_of, status_of, IsCountsLine, IsBehindLine, AreLines}
+use Rattle.symfilt.specs.Lines.{answer_for, is_read, is_read_word, line_of, status_of, Counting, AreCountsFor, IsCountsLine, IsBehindLine, AreLines}
 use Rattle.symfilt.proofs.WordLemmas.{slice_from}
 
 pub answer_for-named : (answers : Answering) (word : List ℕ) (kind : Kind) (answer : Result (List ℕ) Refusal) → kind_of word ≡ Some kind → answers kind.lang (symbol_of kind word) ≡ answer → answer_for answers word ≡ Some answer
@@ -49,10 +49,10 @@ complaints-more f before out new done all word e so_far pushed =
     pushed ∙ ap (λ (t : List ℕ). t ++ f word) so_far ∙ append_assoc before (flat_map f done) (f word) ∙ ap (λ (t : List ℕ). before ++ t) (sym more)
 
 -- the lines of one word more
-pub AreLines-more : (answers : Answering) (stats : Bool) (words : List (List ℕ)) (word lines behind : List ℕ) → AreLines answers stats words lines → IsBehindLine (stats && is_read_word (answer_for answers word)) behind → AreLines answers stats (words ++ word ∷ []) (lines ++ (line_of answers word ++ behind))
-AreLines-more answers stats [] word lines behind none here = (behind, [], here, refl, ap (λ (t : List ℕ). t ++ (line_of answers word ++ behind)) none ∙ sym (append-nil (line_of answers word ++ behind)))
-AreLines-more answers stats (first ∷ words) word lines behind h here =
-    let rest = AreLines-more answers stats words word h.1 behind h.3 here in
+pub AreLines-more : (answers : Answering) (counting : Counting) (stats : Bool) (words : List (List ℕ)) (word lines behind : List ℕ) → AreLines answers counting stats words lines → IsBehindLine (AreCountsFor counting word) (stats && is_read_word (answer_for answers word)) behind → AreLines answers counting stats (words ++ word ∷ []) (lines ++ (line_of answers word ++ behind))
+AreLines-more answers counting stats [] word lines behind none here = (behind, [], here, refl, ap (λ (t : List ℕ). t ++ (line_of answers word ++ behind)) none ∙ sym (append-nil (line_of answers word ++ behind)))
+AreLines-more answers counting stats (first ∷ words) word lines behind h here =
+    let rest = AreLines-more answers counting stats words word h.1 behind h.3 here in
     let more = line_of answers word ++ behind in
     (h.0, h.1 ++ more, h.2, rest, ap (λ (t : List ℕ). t ++ more) h.4 ∙ append_assoc (line_of answers first ++ h.0) h.1 more)
 
@@ -61,12 +61,12 @@ lines-joined before out new lines line behind so_far pushed =
     pushed ∙ append_assoc out line behind ∙ ap (λ (t : List ℕ). t ++ (line ++ behind)) so_far ∙ append_assoc before lines (line ++ behind)
 
 -- what stands behind a word's line
-pub nothing-behind : (answers : Answering) (stats : Bool) (word : List ℕ) → kind_of word ≡ None → IsBehindLine (stats && is_read_word (answer_for answers word)) []
-nothing-behind answers true word none = subst (λ (b : Bool). IsBehindLine b []) (sym (ap is_read_word (answer_for-unnamed answers word none))) refl
-nothing-behind answers false word none = refl
+pub nothing-behind : (answers : Answering) (counting : Counting) (stats : Bool) (word : List ℕ) → kind_of word ≡ None → IsBehindLine (AreCountsFor counting word) (stats && is_read_word (answer_for answers word)) []
+nothing-behind answers counting true word none = subst (λ (b : Bool). IsBehindLine (AreCountsFor counting word) b []) (sym (ap is_read_word (answer_for-unnamed answers word none))) refl
+nothing-behind answers counting false word none = refl
 
-pub counts-behind : (answers : Answering) (word line : List ℕ) (kind : Kind) → kind_of word ≡ Some kind → is_read (answers kind.lang (symbol_of kind word)) ≡ true → IsCountsLine line → IsBehindLine (is_read_word (answer_for answers word)) line
-counts-behind answers word line kind named read counted = subst (λ (b : Bool). IsBehindLine b line) (sym (ap is_read_word (answer_for-named answers word kind (answers kind.lang (symbol_of kind word)) named refl) ∙ read)) counted
+pub counts-behind : (answers : Answering) (counting : Counting) (word line : List ℕ) (kind : Kind) → kind_of word ≡ Some kind → is_read (answers kind.lang (symbol_of kind word)) ≡ true → IsCountsLine (AreCountsFor counting word) line → IsBehindLine (AreCountsFor counting word) (is_read_word (answer_for answers word)) line
+counts-behind answers counting word line kind named read counted = subst (λ (b : Bool). IsBehindLine (AreCountsFor counting word) b line) (sym (ap is_read_word (answer_for-named answers word kind (answers kind.lang (symbol_of kind word)) named refl) ∙ read)) counted
 
 not-read : (refusal : Refusal) → (refusal ≡ TooLong → ⊥) → is_read (Err refusal) ≡ false
 not-read (Malformed at) h = refl
@@ -75,8 +75,8 @@ not-read (BadValue at) h = refl
 not-read TooLong h = absurd (h refl)
 not-read Memory h = refl
 
-pub refused-behind : (answers : Answering) (word : List ℕ) (kind : Kind) (refusal : Refusal) → kind_of word ≡ Some kind → answers kind.lang (symbol_of kind word) ≡ Err refusal → (refusal ≡ TooLong → ⊥) → IsBehindLine (is_read_word (answer_for answers word)) []
-refused-behind answers word kind refusal named is other = subst (λ (b : Bool). IsBehindLine b []) (sym (ap is_read_word (answer_for-named answers word kind (Err refusal) named is) ∙ not-read refusal other)) refl
+pub refused-behind : (answers : Answering) (counting : Counting) (word : List ℕ) (kind : Kind) (refusal : Refusal) → kind_of word ≡ Some kind → answers kind.lang (symbol_of kind word) ≡ Err refusal → (refusal ≡ TooLong → ⊥) → IsBehindLine (AreCountsFor counting word) (is_read_word (answer_for answers word)) []
+refused-behind answers counting word kind refusal named is other = subst (λ (b : Bool). IsBehindLine (AreCountsFor counting word) b []) (sym (ap is_read_word (answer_for-named answers word kind (Err refusal) named is) ∙ not-read refusal other)) refl
 
 status-step : (all word : Bool) (old new : ℕ) → old ≡ cond all 0 1 → new ≡ cond word old 1 → new ≡ cond (all && word) 0 1
 status-step true true old new h e = e ∙ h

@@ -4,6 +4,9 @@ use Rattle.std.specs.List.{list_all}
 use Rattle.std.specs.Fmt.{decimal}
 use Rattle.sym_core.specs.declared.refusal.Refusal.{Refusal}
 use Rattle.sym_core.specs.declared.refusal.Refusal.TheVariants.{Malformed, BadReference, BadValue, TooLong, Memory}
+use Rattle.symfilt.specs.declared.demangler.Counts.{Counts}
+use Rattle.symfilt.specs.declared.kinds.Kind.{Kind}
+use Rattle.symfilt.specs.declared.kinds.Lang.{Lang}
 use Rattle.symfilt.specs.Kinds.{kind_of, symbol_of}
 use Rattle.symfilt.specs.Runs.{Answering, text_for, word_or_text}
 
@@ -31,24 +34,31 @@ abbrev pub counts_text : ℕ → ℕ → ℕ → List ℕ
 counts_text rows nodes steps =
     codes "rows " ++ (decimal rows ++ (codes " nodes " ++ (decimal nodes ++ (codes " steps " ++ decimal steps))))
 
--- the line of some counts
-pub record IsCountsLine (line : List ℕ) : Type 0 where
-  pub rows : ℕ
-  pub nodes : ℕ
-  pub steps : ℕ
-  pub is : line ≡ counts_text rows nodes steps ++ 10 ∷ []
+-- which counts are those of a symbol of a language
+abbrev pub Counting : Type 1
+Counting = Lang → List ℕ → Counts → Type 0
+
+-- the counts are those of the symbol that a word names
+abbrev pub AreCountsFor : Counting → List ℕ → Counts → Type 0
+AreCountsFor counting word counts = (kind : Kind) × (kind_of word ≡ Some kind) × counting kind.lang (symbol_of kind word) counts
+
+-- the line of such counts
+pub record IsCountsLine (are_counts : Counts → Type 0) (line : List ℕ) : Type 0 where
+  pub counts : Counts
+  pub are : are_counts counts
+  pub is : line ≡ counts_text counts.rows counts.nodes counts.steps ++ 10 ∷ []
 
 -- what stands behind a word's line: the line of counts where they are asked for and the symbol is read, else nothing
-abbrev pub IsBehindLine : Bool → List ℕ → Type 0
-IsBehindLine true line = IsCountsLine line
-IsBehindLine false line = line ≡ []
+abbrev pub IsBehindLine : (Counts → Type 0) → Bool → List ℕ → Type 0
+IsBehindLine are_counts true line = IsCountsLine are_counts line
+IsBehindLine are_counts false line = line ≡ []
 
 -- the lines of words on standard output, in order
-abbrev pub AreLines : Answering → Bool → List (List ℕ) → List ℕ → Type 0
-AreLines answers stats [] lines = lines ≡ []
-AreLines answers stats (word ∷ words) lines = (behind rest : List ℕ)
-    × IsBehindLine (stats && is_read_word (answer_for answers word)) behind
-    × AreLines answers stats words rest
+abbrev pub AreLines : Answering → Counting → Bool → List (List ℕ) → List ℕ → Type 0
+AreLines answers counting stats [] lines = lines ≡ []
+AreLines answers counting stats (word ∷ words) lines = (behind rest : List ℕ)
+    × IsBehindLine (AreCountsFor counting word) (stats && is_read_word (answer_for answers word)) behind
+    × AreLines answers counting stats words rest
     × (lines ≡ line_of answers word ++ behind ++ rest)
 
 -- why a symbol has no text

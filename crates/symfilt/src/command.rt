@@ -3,7 +3,7 @@ ghost use Rattle.std.specs.Prelude.{◌≡◌, ◌≢◌, List, ℕ, [], ◌∷�
 ghost use Rattle.symfilt.specs.Kinds.{kind_of};
 ghost use Rattle.symfilt.specs.Runs.{text_for};
 ghost use Rattle.std.specs.List.{flat_map};
-ghost use Rattle.symfilt.specs.Lines.{answer_for, is_read_word, line_of, IsBehindLine, reason_of, complaint_with, complaint_of, status_of, AreLines};
+ghost use Rattle.symfilt.specs.Lines.{answer_for, is_read_word, line_of, AreCountsFor, IsBehindLine, reason_of, complaint_with, complaint_of, status_of, AreLines};
 ghost use Rattle.symfilt.specs.Streams.{BeginsWith};
 
 use crate::demangler::{Counts, Demangler};
@@ -117,7 +117,7 @@ pub fn answer_words<D: Demangler>(
     err: &mut Vec<u8>,
 ) -> Result<u8, AllocError>
     ensures lines { OnOk result ((lines : List ℕ) × (out.new.items ≡ out.old.items ++ lines)
-        × AreLines (D.answer demangler.now) stats (map (λ word. word.now) words.now) lines) }
+        × AreLines (D.answer demangler.now) (D.are_counts demangler.now) stats (map (λ word. word.now) words.now) lines) }
     ensures complaints { OnOk result (err.new.items ≡ err.old.items
         ++ flat_map (complaint_of (D.answer demangler.now)) (map (λ word. word.now) words.now)) }
     ensures status { IfOk result (λ status. status
@@ -147,7 +147,7 @@ fn answer_word<D: Demangler>(
 ) -> Result<bool, AllocError>
     ensures line { OnOk result ((behind : List ℕ)
         × (out.new.items ≡ out.old.items ++ line_of (D.answer demangler.now) word.now ++ behind)
-        × IsBehindLine (stats && is_read_word (answer_for (D.answer demangler.now) word.now)) behind) }
+        × IsBehindLine (AreCountsFor (D.are_counts demangler.now) word.now) (stats && is_read_word (answer_for (D.answer demangler.now) word.now)) behind) }
     ensures complaint { OnOk result (err.new.items ≡ err.old.items ++ complaint_of (D.answer demangler.now) word.now) }
     ensures has_text { IfOk result (λ has_text. has_text
         ≡ is_some (text_for (D.answer demangler.now) word.now)) }
@@ -212,7 +212,7 @@ fn push_counts<D: Demangler>(
 ) -> Result<(), AllocError>
     requires { kind_of word.now ≡ Some kind }
     ensures line { OnOk result ((line : List ℕ) × (out.new.items ≡ out.old.items ++ line)
-        × IsBehindLine (is_read_word (answer_for (D.answer demangler.now) word.now)) line) }
+        × IsBehindLine (AreCountsFor (D.are_counts demangler.now) word.now) (is_read_word (answer_for (D.answer demangler.now) word.now)) line) }
     ensures out { BeginsWith out.new.items out.old.items }
 {
     let symbol = &word.as_bytes()[kind.skip as usize..];

@@ -1,6 +1,7 @@
 // What the filter and the command ask of the languages below them.
-ghost use Rattle.std.specs.Prelude.{◌≡◌, ◌≢◌, ◌≤◌, ◌++◌, ℕ, List, Ok, Err, Result, OnOk, IfErr, OnErr, length, true};
+ghost use Rattle.std.specs.Prelude.{◌≡◌, ◌≢◌, ◌≤◌, ◌++◌, ℕ, List, Ok, Err, Result, OnOk, IfOk, IfErr, OnErr, length, true};
 ghost use Rattle.symfilt.specs.Lines.{is_read};
+ghost use Rattle.symfilt.specs.declared.demangler.Counts.{Counts as Counts-type};
 ghost use Rattle.symfilt.specs.declared.kinds.Lang.{Lang as Lang-type};
 ghost use Rattle.sym_core.specs.declared.refusal.Refusal.{Refusal as Refusal-type};
 
@@ -23,6 +24,8 @@ pub trait Demangler {
 
     // what it answers for a symbol of a language: its text, or why it has none
     ghost answer: { Self → Lang-type → List ℕ → Result (List ℕ) Refusal-type };
+    // which counts are those of a symbol of a language that is read
+    ghost are_counts: { Self → Lang-type → List ℕ → Counts-type → Type 0 };
 
     /// Lists to work on.
     fn lists(&self, alloc: Global) -> Result<Self::Lists, AllocError>;
@@ -45,6 +48,7 @@ pub trait Demangler {
     /// The counts of a symbol that is read, whether its text keeps to the limit or not.
     fn counts(&self, lists: &mut Self::Lists, lang: Lang, symbol: &[u8]) -> Result<Counts, Refusal>
         requires { length symbol.now ≤ 65536 }
+        ensures counts { IfOk result (λ counts. are_counts self.now lang symbol.now counts) }
         ensures read { OnOk result (is_read (answer self.now lang symbol.now) ≡ true) }
         ensures refused { IfErr result (λ refusal. refusal ≢ Refusal.Memory
             → (answer self.now lang symbol.now ≡ Err refusal) × (refusal ≢ Refusal.TooLong)) };

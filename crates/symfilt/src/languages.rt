@@ -1,5 +1,5 @@
 // The demangler over both manglings.
-ghost use Rattle.symfilt.specs.Languages.{answer_of};
+ghost use Rattle.symfilt.specs.Languages.{answer_of, AreCountsOf};
 
 use crate::demangler::{Counts, Demangler};
 use crate::kinds::Lang;
@@ -28,6 +28,8 @@ impl Demangler for Languages {
     type Lists = Lists;
 
     ghost answer = { λ languages lang symbol. answer_of languages.limit languages.detail lang symbol };
+
+    ghost are_counts = { λ languages lang symbol counts. AreCountsOf lang symbol counts };
 
     fn lists(&self, alloc: Global) -> Result<Lists, AllocError> {
         Ok(Lists {

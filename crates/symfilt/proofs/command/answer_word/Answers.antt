@@ -13,7 +13,7 @@ returns-in_default-clause-line g c =
     let word = c.args.word.now in
     let out = c.args.out.now.items in
     let none : kind_of word ≡ None = sym (ap kind_of c.as_bytes.ensures.value) ∙ sym c.kind_of.ensures ∙ c.in_default.is in
-    ([], word-line answers word c.as_bytes-in_default.result.now out out c.push_line.new.lines.items (text_for-unnamed answers word none) c.as_bytes-in_default.ensures.value refl c.in_ok-push_line.ensures.ok ∙ sym (append-nil (out ++ line_of answers word)), nothing-behind answers c.args.stats word none)
+    ([], word-line answers word c.as_bytes-in_default.result.now out out c.push_line.new.lines.items (text_for-unnamed answers word none) c.as_bytes-in_default.ensures.value refl c.in_ok-push_line.ensures.ok ∙ sym (append-nil (out ++ line_of answers word)), nothing-behind answers (g.D.Demangler.are_counts c.args.demangler.now) c.args.stats word none)
 
 pub returns-in_default-clause-complaint : goal.returns-in_default-clause-complaint
 returns-in_default-clause-complaint g c =
