@@ -5,6 +5,7 @@ ghost use Rattle.symfilt.specs.Runs.{text_for};
 ghost use Rattle.std.specs.List.{flat_map};
 ghost use Rattle.symfilt.specs.Lines.{answer_for, is_read_word, line_of, AreCountsFor, IsBehindLine, reason_of, complaint_with, complaint_of, status_of, AreLines};
 ghost use Rattle.symfilt.specs.Streams.{BeginsWith};
+ghost use Rattle.symfilt.specs.declared.outcome.Run.{Run as Run-type};
 
 use crate::demangler::{Counts, Demangler};
 use crate::kinds::{Kind, kind_of};
@@ -68,7 +69,8 @@ fn flag<'a>(alloc: Global, name: &'a str) -> Arg<'a> {
 
 /// Appends what the command line's parser says of an error or a wish for help.
 fn refuse(alloc: Global, error: &Error, err: &mut Vec<u8>) -> Result<Run, AllocError>
-    ensures { BeginsWith err.new.items err.old.items }
+    ensures err { BeginsWith err.new.items err.old.items }
+    ensures wrong_use { IfOk result (λ run. run ≡ Run-type.Done 2) }
 {
     if error.kind() == ErrorKind::OutOfMemory {
         return Err(AllocError);

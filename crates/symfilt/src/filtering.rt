@@ -193,6 +193,7 @@ fn write_dots<W: Sink>(writer: &mut W, out: &mut Vec<u8>, dots: u128) -> Result<
 fn write_when_full<W: Sink>(writer: &mut W, out: &mut Vec<u8>) -> Result<(), FilterFault>
     requires failures { W.failure_count writer.old < 2 ^ 64 - 1 }
     ensures ok { OnOk result (Puts (W.taken writer.old) (W.taken writer.new) out.old.items out.new.items []) }
+    ensures few_wait { OnOk result (length out.new.items < 65536) }
     ensures err { IfErr result (λ fault. (fault ≢ FilterFault.Read)
         × PutsFront (W.taken writer.old) (W.taken writer.new) out.old.items []) }
     ensures failures { W.failure_count writer.new ≡ W.failure_count writer.old + writer_faults result }
@@ -200,7 +201,8 @@ fn write_when_full<W: Sink>(writer: &mut W, out: &mut Vec<u8>) -> Result<(), Fil
     if out.len() < ROOM {
         return Ok(());
     }
-    write_out(writer, out)
+    write_out(writer, out)?;
+    Ok(())
 }
 
 /// Writes the bytes that wait.

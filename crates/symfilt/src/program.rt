@@ -1,4 +1,6 @@
 // The program: symbols on the command line, or standard input filtered to standard output.
+ghost use Rattle.std.specs.Prelude.{◌≡◌, ◌⊎◌};
+
 use crate::command::run;
 use crate::filtering::filter_as;
 use crate::outcome::Run;
@@ -49,7 +51,9 @@ fn outcome_of<R: Env + AllocGlobal>(
 }
 
 /// Prints both lists, and says what went wrong where they don't.
-fn finish<R: Print, E: Print>(rt: &R, errors: &E, out: &[u8], err: &[u8], status: u8) -> u8 {
+fn finish<R: Print, E: Print>(rt: &R, errors: &E, out: &[u8], err: &[u8], status: u8) -> u8
+    ensures { (result ≡ status) ⊎ (result ≡ 3) }
+{
     if rt.write_all(out).is_err() {
         return fault(errors, FilterFault::Write);
     }
@@ -68,7 +72,9 @@ fn filter_input<R: Input + Print + AllocGlobal, E: Print>(
     errors: &E,
     limit: u32,
     detail: Detail,
-) -> u8 {
+) -> u8
+    ensures { (result ≡ 0) ⊎ (result ≡ 3) }
+{
     let mut reader = ReaderSource::new(rt.reader());
     let mut writer = WriterSink::new(io::writer(rt));
     match filter_as(rt.alloc(), &mut reader, &mut writer, limit, detail) {
@@ -78,7 +84,9 @@ fn filter_input<R: Input + Print + AllocGlobal, E: Print>(
 }
 
 /// Names a fault on standard error.
-fn fault<E: Print>(errors: &E, error: FilterFault) -> u8 {
+fn fault<E: Print>(errors: &E, error: FilterFault) -> u8
+    ensures { result ≡ 3 }
+{
     let _ = errors.println(format_args!("symfilt: {error}"));
     FAULT
 }

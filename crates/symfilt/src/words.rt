@@ -262,6 +262,7 @@ impl Words {
             ≡ tally_with_word (D.answer demangler.now) self.old.tally self.old.held.items) }
         ensures dots { IfOk result (λ dots. dots ≡ self.old.dots) }
         ensures ends { OnOk result ((held_of self.new ≡ []) × (self.new.dots ≡ 0) × (self.new.passes ≡ false)) }
+        ensures same { OnErr result (self.new ≡ self.old) }
     {
         let dots = self.dots;
         match kind_of(&self.held) {
