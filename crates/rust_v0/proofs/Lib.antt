@@ -18,3 +18,4 @@ pub mod Sorts
 pub mod SortedParts
 pub mod SortedTrees
 pub mod Reasons
+pub mod Feeding

@@ -1,6 +1,6 @@
 // Symbols that are read and printed one after the other with the same lists.
 
-ghost use Rattle.std.specs.Prelude.{◌≡◌, ◌≢◌, ◌⊎◌, ◌++◌, ◌<◌, ◌≤◌, ℕ, List, length, Ok, Err, OnOk, OnErr, IfOk, IfErr};
+ghost use Rattle.std.specs.Prelude.{◌≡◌, ◌≢◌, ◌⊎◌, ◌++◌, ◌+◌, ◌<◌, ◌≤◌, ℕ, List, length, false, true, None, Ok, Err, OnOk, OnErr, IfOk, IfErr};
 ghost use Rattle.sym_core.specs.Number.{FitsSymbol};
 ghost use Rattle.sym_core.specs.declared.refusal.Refusal.TheVariants as refusals;
 ghost use Rattle.sym_print.specs.Unshared.{text_of, cost_of};
@@ -21,12 +21,14 @@ use std::mem;
 use sym_core::Refusal;
 use sym_link::driver::Driver;
 use sym_print::Printer;
-use sym_shape::{Shape, read_into};
+use sym_shape::{Reader, Shape, read_into};
 
 /// The lists with which symbols are read and printed, one after the other.
 ///
 /// They grow with the largest symbol and text so far, and stay as large: nothing gives their memory back but the end of the
 /// workspace. A symbol takes its lists along; `recycle` gives them back.
+///
+/// Of a symbol whose bytes come in pieces `read_ahead` reads those that are there; the answers are the same without it.
 #[derive(Drop)]
 pub struct Workspace {
     bytes: Vec<u8>,
@@ -34,6 +36,41 @@ pub struct Workspace {
     linked: Linked,
     driver: Driver<Linked>,
     printer: Printer<Context>,
+    // what was read ahead of a symbol, whose end isn't told
+    ahead: Reader<V0>,
+    ghost ahead_is_open: { ahead.ended ≡ false },
+}
+
+/// Feeds a reader more bytes, if there are any.
+fn feed_more(reader: &mut Reader<V0>, more: &[u8]) -> Result<(), Refusal>
+    requires open { reader.old.ended ≡ false }
+    requires room { length reader.old.bytes + length more.now ≤ 16777216 }
+    ensures bytes { OnOk result (reader.new.bytes ≡ reader.old.bytes ++ more.now) }
+    ensures refusal { OnOk result (reader.new.refused ≡ reader.old.refused) }
+    ensures open { reader.new.ended ≡ false }
+    ensures memory { reader.old.refused ≡ None → IfErr result (λ e. e ≡ refusals.Memory) }
+{
+    if more.is_empty() {
+        return Ok(());
+    }
+    reader.feed(more)
+}
+
+/// Tells a reader the rest of its symbol's bytes and their end, and reads them.
+fn read_rest(reader: &mut Reader<V0>, rest: &[u8]) -> Result<(), Refusal>
+    requires open { reader.old.ended ≡ false }
+    requires fits { FitsSymbol (reader.old.bytes ++ rest.now) }
+    ensures bytes { OnOk result (reader.new.bytes ≡ reader.old.bytes ++ rest.now) }
+    ensures ready { OnOk result (reader.new.ready ≡ true) }
+    ensures open { OnOk result (reader.new.refused ≡ None) }
+    ensures refused { IfErr result (λ e. (e ≡ refusals.Memory) ⊎ IsReading (reader.old.bytes ++ rest.now) (Err e)) }
+    ensures never_too_long { IfErr result (λ e. e ≢ refusals.TooLong) }
+{
+    reader.run(&V0)?;
+    feed_more(reader, rest)?;
+    reader.feed(&[])?;
+    reader.run(&V0)?;
+    Ok(())
 }
 
 impl Workspace {
@@ -45,7 +82,48 @@ impl Workspace {
             linked: Linked::idle(alloc),
             driver: Driver::new(alloc),
             printer: Printer::idle(alloc),
+            ahead: Reader::with_lists(&V0, Vec::new(alloc), Shape::new(alloc)),
         }
+    }
+
+    /// Reads what is there of a symbol that may go on. Reading a symbol that begins with these bytes goes on from there.
+    pub fn read_ahead(&mut self, front: &[u8])
+        requires { FitsSymbol front.now }
+    {
+        let more = match front.strip_prefix(self.ahead.bytes()) {
+            Some(more) => more,
+            None => {
+                self.ahead.reset();
+                front
+            }
+        };
+        if feed_more(&mut self.ahead, more).is_ok() {
+            let _known = self.ahead.run(&V0);
+        }
+    }
+
+    /// Reads the symbol that was read ahead, to whose bytes these come.
+    fn read_on(&mut self, rest: &[u8]) -> Result<Symbol, Refusal>
+        requires fits { FitsSymbol (self.old.ahead.bytes ++ rest.now) }
+        ensures bytes { IfOk result (λ symbol. symbol.bytes ≡ self.old.ahead.bytes ++ rest.now) }
+        ensures symbol { IfOk result (λ symbol. IsReading (self.old.ahead.bytes ++ rest.now) (Ok (whole_of symbol))) }
+        ensures rows { IfOk result (λ symbol. (rows : List Row) × AreRowsOf v0_table (self.old.ahead.bytes ++ rest.now) rows × (symbol.rows ≡ length rows)) }
+        ensures refused { IfErr result (λ e. (e ≡ refusals.Memory) ⊎ IsReading (self.old.ahead.bytes ++ rest.now) (Err e)) }
+        ensures never_too_long { IfErr result (λ e. e ≢ refusals.TooLong) }
+    {
+        let alloc = self.linked.alloc;
+        let idle = Reader::with_lists(&V0, Vec::new(alloc), Shape::new(alloc));
+        let mut reader = mem::replace(&mut self.ahead, idle);
+        if let Err(refusal) = read_rest(&mut reader, rest) {
+            reader.reset();
+            self.ahead = reader;
+            return Err(refusal);
+        }
+        let (bytes, shape) = reader.finish()?;
+        let bytes = mem::replace(&mut self.bytes, bytes);
+        let shape = mem::replace(&mut self.shape, shape);
+        self.ahead = Reader::with_lists(&V0, bytes, shape);
+        self.link()
     }
 
     /// Links the symbol that the bytes are, whose shape was read.
@@ -86,6 +164,11 @@ impl Workspace {
         ensures refused { IfErr result (λ e. (e ≡ refusals.Memory) ⊎ IsReading s.now (Err e)) }
         ensures never_too_long { IfErr result (λ e. e ≢ refusals.TooLong) }
     {
+        if self.ahead.len() > 0
+            && let Some(rest) = s.strip_prefix(self.ahead.bytes())
+        {
+            return self.read_on(rest);
+        }
         read_into(&mut self.shape, &V0, s)?;
         self.bytes.clear();
         self.bytes.extend_from_slice(s)?;

@@ -30,6 +30,10 @@ pub trait Demangler {
     /// Lists to work on.
     fn lists(&self, alloc: Global) -> Result<Self::Lists, AllocError>;
 
+    /// Reads what is there of a symbol that may go on. What is answered for it is the same without this call.
+    fn read_ahead(&self, lists: &mut Self::Lists, lang: Lang, front: &[u8])
+        requires { length front.now ≤ 65536 };
+
     /// Appends the symbol's text. A refusal leaves the output as it was; want of memory may refuse any symbol.
     fn demangle(
         &self,

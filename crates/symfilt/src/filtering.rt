@@ -123,6 +123,7 @@ fn take_piece<W: Sink, D: Demangler>(
         put_behind(writer, out, taken, &rest[..taken.count])?;
         at += taken.count;
     }
+    words.read_ahead(demangler, lists);
     write_out(writer, out)?;
     Ok(())
 }

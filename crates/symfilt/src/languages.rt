@@ -37,6 +37,13 @@ impl Demangler for Languages {
         })
     }
 
+    fn read_ahead(&self, lists: &mut Lists, lang: Lang, front: &[u8]) {
+        match lang {
+            Lang::Cpp => {}
+            Lang::Rust => lists.rust.read_ahead(front),
+        }
+    }
+
     fn demangle(
         &self,
         lists: &mut Lists,

@@ -163,6 +163,13 @@ impl Words {
         self.tally
     }
 
+    /// Lets the demangler read what is there of the word that is held, if it names a symbol.
+    pub fn read_ahead<D: Demangler>(&self, demangler: &D, lists: &mut D::Lists) {
+        if let Some(kind) = kind_of(&self.held) {
+            demangler.read_ahead(lists, kind.lang, &self.held[kind.skip as usize..]);
+        }
+    }
+
     /// Takes bytes from the front of a text, appends what is known of the filtered text by them, and answers what
     /// follows on that.
     pub fn take<D: Demangler>(

@@ -1,4 +1,5 @@
 use Rattle.std.proofs.lemmas.Result.{err_from_is_err_and}
+use Rattle.rust_v0.proofs.Feeding.{behind_prefix}
 use Rattle.rust_v0.proofs.Standing.{shape_refused}
 use Rattle.rust_v0.proofs.Reasons.{links_not_too_long}
 use Rattle.rust_v0.proofs.workspace.Workspace.read.Goals as goal
@@ -8,5 +9,25 @@ returns-in_err-read_into-clause-refused c =
     let p = err_from_is_err_and c.from_residual.result c.from_residual.ensures.1 in
     rw (p.1, p.2) (shape_refused c.args.s.now c.in_err-read_into.field-0.0 c.in_err-read_into.ensures.refused)
 
-pub returns-clause-never_too_long : goal.returns-clause-never_too_long
-returns-clause-never_too_long c = links_not_too_long _ c.link.result c.link.ensures.refused
+pub returns-2-clause-never_too_long : goal.returns-2-clause-never_too_long
+returns-2-clause-never_too_long c = links_not_too_long _ c.link.result c.link.ensures.refused
+
+pub returns-clause-bytes : goal.returns-clause-bytes
+returns-clause-bytes c =
+    let is = behind_prefix c.args.s.now c.bytes.result.now c.args.self.now.ahead.bytes c.strip_prefix.result c.in-Some.rest c.strip_prefix.ensures.cases c.in-Some.is c.bytes.ensures in
+    rw is c.read_on.ensures.bytes
+
+pub returns-clause-symbol : goal.returns-clause-symbol
+returns-clause-symbol c =
+    let is = behind_prefix c.args.s.now c.bytes.result.now c.args.self.now.ahead.bytes c.strip_prefix.result c.in-Some.rest c.strip_prefix.ensures.cases c.in-Some.is c.bytes.ensures in
+    rw is c.read_on.ensures.symbol
+
+pub returns-clause-rows : goal.returns-clause-rows
+returns-clause-rows c =
+    let is = behind_prefix c.args.s.now c.bytes.result.now c.args.self.now.ahead.bytes c.strip_prefix.result c.in-Some.rest c.strip_prefix.ensures.cases c.in-Some.is c.bytes.ensures in
+    rw is c.read_on.ensures.rows
+
+pub returns-clause-refused : goal.returns-clause-refused
+returns-clause-refused c =
+    let is = behind_prefix c.args.s.now c.bytes.result.now c.args.self.now.ahead.bytes c.strip_prefix.result c.in-Some.rest c.strip_prefix.ensures.cases c.in-Some.is c.bytes.ensures in
+    rw is c.read_on.ensures.refused
