@@ -86,10 +86,15 @@ impl Workspace {
         }
     }
 
-    /// Reads what is there of a symbol that may go on. Reading a symbol that begins with these bytes goes on from there.
+    /// Reads what is there of a symbol that may go on, where that is half as much again as was read ahead before: a token
+    /// that comes in small pieces isn't read again for each. Reading a symbol that begins with these bytes goes on from there.
     pub fn read_ahead(&mut self, front: &[u8])
         requires { FitsSymbol front.now }
     {
+        let known = self.ahead.len() as usize;
+        if front.len() <= known + known / 2 {
+            return;
+        }
         let more = match front.strip_prefix(self.ahead.bytes()) {
             Some(more) => more,
             None => {
