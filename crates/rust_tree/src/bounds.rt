@@ -124,7 +124,7 @@ impl Symbol {
         requires empty { parts.old.items ≡ [] }
         ensures { Fills self.now parts.new.items (bound_parts ctx.detail ctx.bound (path_in (slice_get (trees_of self.now) path)) (bindings_in (slice_get (trees_of self.now) bindings))) }
     {
-        match self.path(path) {
+        match *self.path(path) {
             Path::Generic { parent, arguments } => {
                 self.push_path(parts, parent, false, ctx);
                 self.push_text(parts, texts::LESS);

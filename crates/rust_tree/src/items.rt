@@ -113,7 +113,7 @@ impl Symbol {
         requires empty { parts.old.items ≡ [] }
         ensures { Fills self.now parts.new.items (path_parts ctx.detail ctx.bound value (path_in (slice_get (trees_of self.now) node))) }
     {
-        match self.path(node) {
+        match *self.path(node) {
             Path::Crate { name, .. } => self.push_name(parts, name),
             Path::InherentImpl { self_type, .. } => {
                 self.push_text(parts, texts::LESS);

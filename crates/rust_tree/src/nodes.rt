@@ -62,7 +62,15 @@ impl Nodes {
         requires { number < length self.now.nodes }
         ensures { (need : ℕ) × (slice_get self.now.nodes number ≡ Some (record { node = result; need = need })) }
     {
-        self.entries[number as usize].node
+        *self.node_at(number)
+    }
+
+    /// The node of a number, where it is stored.
+    pub(crate) fn node_at(&self, number: u32) -> &Node
+        requires { number < length self.now.nodes }
+        ensures { (need : ℕ) × (slice_get self.now.nodes number ≡ Some (record { node = result.now; need = need })) }
+    {
+        &self.entries[number as usize].node
     }
 
     /// How many enclosing bound lifetimes close the tree of a node.

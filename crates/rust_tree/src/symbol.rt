@@ -127,12 +127,21 @@ impl Symbol {
         self.nodes.node(node)
     }
 
-    pub(crate) fn path(&self, node: u32) -> Path
-        requires { (p : tree.Path) × IsPath (trees_of self.now) node p }
-        ensures tree { IsPath (trees_of self.now) node (path_of self.now.bytes (trees_of self.now) result) }
-        ensures parts { HasPathParts self.now.bytes self.now.table.text (take node (trees_of self.now)) result }
+    /// A node where it is stored.
+    fn stored_at(&self, node: u32) -> &Node
+        requires { node < length self.now.table.nodes }
+        ensures tree { slice_get (trees_of self.now) node ≡ Some (tree_of self.now.bytes (trees_of self.now) result.now) }
+        ensures parts { HasParts self.now.bytes self.now.table.text (take node (trees_of self.now)) result.now }
     {
-        match self.stored(node) {
+        self.nodes.node_at(node)
+    }
+
+    pub(crate) fn path(&self, node: u32) -> &Path
+        requires { (p : tree.Path) × IsPath (trees_of self.now) node p }
+        ensures tree { IsPath (trees_of self.now) node (path_of self.now.bytes (trees_of self.now) result.now) }
+        ensures parts { HasPathParts self.now.bytes self.now.table.text (take node (trees_of self.now)) result.now }
+    {
+        match self.stored_at(node) {
             Node::Path(path) => path,
             _ => unreachable!(),
         }

@@ -1,5 +1,5 @@
 use Rattle.rust_tree.proofs.Reading.{is_within}
 use Rattle.rust_tree.proofs.symbol.Symbol.path.Goals as goal
 
-pub stored-requires : goal.stored-requires
-stored-requires c = is_within c.args.self.now c.args.node _ c.requires.1
+pub stored_at-requires : goal.stored_at-requires
+stored_at-requires c = is_within c.args.self.now c.args.node _ c.requires.1
