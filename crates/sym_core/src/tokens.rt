@@ -46,16 +46,24 @@ fn behind_number(to: u32, kind: NumberKind) -> usize
     to as usize + has_mark(kind) as usize
 }
 
+// For each byte whether it may stand in a Rust name: letters, digits and `_`.
+static RUST_NAME_BYTES: [u8; 256] = *b"\
+    00000000000000000000000000000000\
+    00000000000000001111111111000000\
+    01111111111111111111111111100001\
+    01111111111111111111111111100000\
+    00000000000000000000000000000000\
+    00000000000000000000000000000000\
+    00000000000000000000000000000000\
+    00000000000000000000000000000000";
+
 /// Whether the byte may stand in a name.
 fn is_name_byte(names: NameClass, byte: u8) -> bool
     ensures { result ≡ name_byte names byte }
 {
-    let decimal = b'0' <= byte && byte <= b'9';
-    let upper = b'A' <= byte && byte <= b'Z';
-    let lower = b'a' <= byte && byte <= b'z';
     match names {
         NameClass::Cpp => 33 <= byte && byte != 127,
-        NameClass::Rust => decimal || upper || lower || byte == b'_',
+        NameClass::Rust => RUST_NAME_BYTES[byte as usize] == b'1',
     }
 }
 
