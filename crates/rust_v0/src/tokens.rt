@@ -56,7 +56,7 @@ const MOST_DIGITS: usize = 11;
 fn counted_number(digits: &[u8]) -> Option<u64>
     ensures { AreDigitsOf Base62 digits.now → IsNumber result (value_of_base62 digits.now) }
 {
-    if digits.len() > MOST_DIGITS || !are_digits(NumberKind::Base62, digits) {
+    if digits.len() > MOST_DIGITS {
         return None;
     }
     value62(digits)

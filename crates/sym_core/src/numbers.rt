@@ -9,7 +9,7 @@ ghost use Rattle.sym_core.specs.Scan.{is_marked, IsRun, IsLimit};
 use crate::{NumberKind, Span};
 
 /// Whether the byte is a digit of the kind.
-fn is_digit(kind: NumberKind, byte: u8) -> bool
+pub fn is_digit(kind: NumberKind, byte: u8) -> bool
     ensures { result ≡ is_digit_of kind byte }
 {
     let decimal = b'0' <= byte && byte <= b'9';

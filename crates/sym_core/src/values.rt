@@ -1,11 +1,12 @@
 // Numbers: what they stand for.
 #![tactic(auto)]
 
-ghost use Rattle.std.specs.Prelude.{◌≡◌, ◌<◌, ◌≤◌, ◌^◌, length, true, MatchOption};
+ghost use Rattle.std.specs.Prelude.{◌≡◌, ◌<◌, ◌≤◌, ◌^◌, length, true, MatchOption, IfSome};
 ghost use Rattle.sym_core.specs.Number.{is_digit_of, AreDigits, AreDigitsOf};
 ghost use Rattle.sym_core.specs.Value.{radix_of, digit_value, value_of, counted_value};
 
 use crate::NumberKind;
+use crate::numbers::is_digit;
 
 /// How many digits the kind has.
 fn radix(kind: NumberKind) -> u64
@@ -37,23 +38,26 @@ fn digit(kind: NumberKind, byte: u8) -> u8
     }
 }
 
-/// The number that the digits stand for, or None past 64 bits.
+/// The number that the digits stand for, or None past 64 bits or where a byte is no digit.
 fn value(kind: NumberKind, digits: &[u8]) -> Option<u64>
-    requires { AreDigits kind digits.now }
-    ensures { MatchOption result (2 ^ 64 ≤ value_of kind digits.now) (λ v. v ≡ value_of kind digits.now) }
+    ensures value { AreDigits kind digits.now → MatchOption result (2 ^ 64 ≤ value_of kind digits.now) (λ v. v ≡ value_of kind digits.now) }
+    ensures digits { IfSome result (λ v. AreDigits kind digits.now) }
 {
     let mut value: u64 = 0;
     for byte in digits {
+        if !is_digit(kind, *byte) {
+            return None;
+        }
         let shifted = value.checked_mul(radix(kind))?;
         value = shifted.checked_add(u64::from(digit(kind, *byte)))?;
     }
     Some(value)
 }
 
-/// One more than the digits stand for, 0 where there are none, or None past 64 bits.
+/// One more than the digits stand for, 0 where there are none, or None past 64 bits or where a byte is no digit.
 fn counted(kind: NumberKind, digits: &[u8]) -> Option<u64>
-    requires { AreDigits kind digits.now }
-    ensures { MatchOption result (2 ^ 64 ≤ counted_value kind digits.now) (λ v. v ≡ counted_value kind digits.now) }
+    ensures value { AreDigits kind digits.now → MatchOption result (2 ^ 64 ≤ counted_value kind digits.now) (λ v. v ≡ counted_value kind digits.now) }
+    ensures digits { IfSome result (λ v. AreDigits kind digits.now) }
 {
     if digits.is_empty() {
         return Some(0);
@@ -80,10 +84,10 @@ pub fn value36(digits: &[u8]) -> Option<u64>
 }
 
 /// The value of a Base62 number by its digits: 0 where there are none, else one more than they stand for.
-/// None past 64 bits.
+/// None past 64 bits, and where a byte is no digit.
 pub fn value62(digits: &[u8]) -> Option<u64>
-    requires { AreDigitsOf NumberKind.Base62 digits.now }
-    ensures { MatchOption result (2 ^ 64 ≤ counted_value NumberKind.Base62 digits.now) (λ v. v ≡ counted_value NumberKind.Base62 digits.now) }
+    ensures value { AreDigits NumberKind.Base62 digits.now → MatchOption result (2 ^ 64 ≤ counted_value NumberKind.Base62 digits.now) (λ v. v ≡ counted_value NumberKind.Base62 digits.now) }
+    ensures digits { IfSome result (λ v. AreDigits NumberKind.Base62 digits.now) }
 {
     counted(NumberKind::Base62, digits)
 }
