@@ -1,12 +1,39 @@
 // Numbers: where they begin and end.
 #![tactic(auto)]
 
-ghost use Rattle.std.specs.Prelude.{◌≡◌, ◌-◌, ◌+◌, ◌<◌, ◌≤◌, length, drop, slice_range, true, IfOk, MatchResult, List, ℕ, ◌∷◌};
+ghost use Rattle.std.specs.Prelude.{◌≡◌, ◌-◌, ◌+◌, ◌<◌, ◌≤◌, length, drop, slice_range, true, nat_lt, IfOk, MatchResult, List, ℕ, ◌∷◌};
 ghost use Rattle.std.specs.Bool.{OnTrue, OnFalse};
 ghost use Rattle.sym_core.specs.Number.{FitsSymbol, is_digit_of, AreDigits, AreDigitsOf, IsNumberSpan, IsNumberBreak};
+ghost use Rattle.sym_core.specs.Value.{digit_value};
+ghost use Rattle.sym_core.specs.declared.NumberKind.TheVariants.{Base62};
 ghost use Rattle.sym_core.specs.Scan.{is_marked, IsRun, IsLimit};
 
 use crate::{NumberKind, Span};
+
+// For each byte what it counts as a digit in base 62: 0 to 9, then the lower-case letters, then the upper-case ones;
+// 62 where it is none.
+static BASE62_DIGITS: [u8; 256] = [
+    62, 62, 62, 62, 62, 62, 62, 62, 62, 62, 62, 62, 62, 62, 62, 62, 62, 62, 62, 62, 62, 62, 62, 62,
+    62, 62, 62, 62, 62, 62, 62, 62, 62, 62, 62, 62, 62, 62, 62, 62, 62, 62, 62, 62, 62, 62, 62, 62,
+    0, 1, 2, 3, 4, 5, 6, 7, 8, 9, 62, 62, 62, 62, 62, 62, 62, 36, 37, 38, 39, 40, 41, 42, 43, 44,
+    45, 46, 47, 48, 49, 50, 51, 52, 53, 54, 55, 56, 57, 58, 59, 60, 61, 62, 62, 62, 62, 62, 62, 10,
+    11, 12, 13, 14, 15, 16, 17, 18, 19, 20, 21, 22, 23, 24, 25, 26, 27, 28, 29, 30, 31, 32, 33, 34,
+    35, 62, 62, 62, 62, 62, 62, 62, 62, 62, 62, 62, 62, 62, 62, 62, 62, 62, 62, 62, 62, 62, 62, 62,
+    62, 62, 62, 62, 62, 62, 62, 62, 62, 62, 62, 62, 62, 62, 62, 62, 62, 62, 62, 62, 62, 62, 62, 62,
+    62, 62, 62, 62, 62, 62, 62, 62, 62, 62, 62, 62, 62, 62, 62, 62, 62, 62, 62, 62, 62, 62, 62, 62,
+    62, 62, 62, 62, 62, 62, 62, 62, 62, 62, 62, 62, 62, 62, 62, 62, 62, 62, 62, 62, 62, 62, 62, 62,
+    62, 62, 62, 62, 62, 62, 62, 62, 62, 62, 62, 62, 62, 62, 62, 62, 62, 62, 62, 62, 62, 62, 62, 62,
+    62, 62, 62, 62, 62, 62, 62, 62, 62, 62, 62, 62, 62, 62,
+];
+
+/// What the byte counts as a digit in base 62, or 62 where it is none.
+pub fn base62_digit(byte: u8) -> u8
+    ensures digit { nat_lt result 62 ≡ is_digit_of Base62 byte }
+    ensures value { is_digit_of Base62 byte ≡ true → result ≡ digit_value Base62 byte }
+    ensures below { is_digit_of Base62 byte ≡ true → result < 62 }
+{
+    BASE62_DIGITS[byte as usize]
+}
 
 /// Whether the byte is a digit of the kind.
 pub fn is_digit(kind: NumberKind, byte: u8) -> bool
@@ -14,11 +41,10 @@ pub fn is_digit(kind: NumberKind, byte: u8) -> bool
 {
     let decimal = b'0' <= byte && byte <= b'9';
     let upper = b'A' <= byte && byte <= b'Z';
-    let lower = b'a' <= byte && byte <= b'z';
     match kind {
         NumberKind::Length | NumberKind::Decimal | NumberKind::Digits => decimal,
         NumberKind::Seq36 => decimal || upper,
-        NumberKind::Base62 => decimal || lower || upper,
+        NumberKind::Base62 => base62_digit(byte) < 62,
         NumberKind::Hex => decimal || (b'a' <= byte && byte <= b'f'),
     }
 }

@@ -6,7 +6,7 @@ ghost use Rattle.sym_core.specs.Number.{is_digit_of, AreDigits, AreDigitsOf};
 ghost use Rattle.sym_core.specs.Value.{radix_of, digit_value, value_of, counted_value};
 
 use crate::NumberKind;
-use crate::numbers::is_digit;
+use crate::numbers::{base62_digit, is_digit};
 
 /// How many digits the kind has.
 fn radix(kind: NumberKind) -> u64
@@ -26,13 +26,10 @@ fn digit(kind: NumberKind, byte: u8) -> u8
     ensures value { result ≡ digit_value kind byte }
     ensures below { result < radix_of kind }
 {
-    if byte <= b'9' {
-        return byte - b'0';
-    }
     match kind {
+        NumberKind::Base62 => base62_digit(byte),
+        _ if byte <= b'9' => byte - b'0',
         NumberKind::Seq36 => byte - b'A' + 10,
-        NumberKind::Base62 if byte >= b'a' => byte - b'a' + 10,
-        NumberKind::Base62 => byte - b'A' + 36,
         NumberKind::Hex => byte - b'a' + 10,
         NumberKind::Length | NumberKind::Decimal | NumberKind::Digits => unreachable!(),
     }
