@@ -1,6 +1,6 @@
 // A machine over the rows of a shape, for any language.
 
-ghost use Rattle.std.specs.Prelude.{◌≡◌, ◌≢◌, ℕ, ◌+◌, ◌*◌, ◌<◌, ◌≤◌, ◌++◌, ◌∷◌, [], List, length, Ok, Err, Some, None, true, Result, IfSome, IfNone, IfErr, OnOk};
+ghost use Rattle.std.specs.Prelude.{◌≡◌, ◌≢◌, ℕ, ◌+◌, ◌-◌, ◌*◌, ◌<◌, ◌≤◌, ◌++◌, ◌∷◌, [], List, length, take, Ok, Err, Some, None, true, Result, IfSome, IfNone, IfErr, OnOk};
 ghost use Rattle.sym_shape.specs.Tree.{Tree};
 ghost use Rattle.sym_link.specs.Reading.{Found};
 ghost use Rattle.sym_link.specs.Following.{IsShape, Follows, FollowsAfter, EndsWith, CanClose, CanSettle, CanTake, CanBegin, CanMove, IsOnWay, Moves, CountsMove, Fits, IsDriving, IsStepTo, IsDone, meaning_of};
@@ -37,6 +37,25 @@ fn close<L: Linking>(
     parts.truncate(frame.base);
     parts.push(part)?;
     Ok(())
+}
+
+/// Takes the innermost rule's frame off, and closes the rule.
+#[inline(always)]
+fn leave<L: Linking>(
+    language: &mut L,
+    symbol: &[u8],
+    frames: &mut Vec<Frame<L::Kept>>,
+    parts: &mut Vec<L::Part>,
+    frame: Frame<L::Kept>,
+) -> Result<(), Refusal>
+    requires { CanClose (L.view symbol.now) symbol.now language.old frame parts.old.items }
+    ensures follows { (whole : Result (Found (List L.Value) L.State) Refusal) (shape : List Row) (lower : List (Frame L.Kept)) (next : ℕ)
+        → Follows (L.view symbol.now) symbol.now shape whole language.old next (lower ++ frame ∷ []) parts.old.items → frame.end ≡ next
+        → FollowsAfter (L.view symbol.now) symbol.now shape whole language.new next lower parts.new.items result }
+    ensures lower { frames.new.items ≡ take (length frames.old.items - 1) frames.old.items }
+{
+    frames.pop();
+    close(language, symbol, frame, parts)
 }
 
 /// Puts the frame of a rule that has begun on the others, or closes the rule at once if it has no row left.
@@ -146,8 +165,7 @@ fn advance<L: Linking>(
         return Ok(Some(1));
     };
     if frame.end == next {
-        frames.pop();
-        close(language, symbol, frame, parts)?;
+        leave(language, symbol, frames, parts, frame)?;
         return Ok(Some(next));
     }
     take(language, symbol, rows, next, frames, parts, frame)?;

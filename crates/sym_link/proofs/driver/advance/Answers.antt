@@ -1,4 +1,4 @@
-use Rattle.std.proofs.Common.{sym, ◌∙◌, ap, arith, length}
+use Rattle.std.proofs.Common.{sym, ◌∙◌, arith, refl}
 use Rattle.std.proofs.lemmas.Result.{err_from_is_err_and}
 use Rattle.sym_link.specs.Following.{meaning_of}
 use Rattle.sym_link.proofs.Lists.{popped}
@@ -20,8 +20,8 @@ begin-requires g c =
       fits = c.requires.fits;
     }
 
-pub close-requires : goal.close-requires
-close-requires g c =
+pub leave-requires : goal.leave-requires
+leave-requires g c =
     record {
       whole = meaning_of (g.L.Linking.view c.args.symbol.now) c.requires.tree;
       shape = c.args.rows.now;
@@ -33,22 +33,21 @@ close-requires g c =
       fits = c.requires.fits;
     }
 
-pub returns-in_err-close-clause-moves : goal.returns-in_err-close-clause-moves
-returns-in_err-close-clause-moves g c tree is way =
-    let p = err_from_is_err_and c.from_residual-in_err-close.result c.from_residual-in_err-close.ensures.1 in
+pub returns-in_err-leave-clause-moves : goal.returns-in_err-leave-clause-moves
+returns-in_err-leave-clause-moves g c tree is way =
+    let p = err_from_is_err_and c.from_residual-in_err-leave.result c.from_residual-in_err-leave.ensures.1 in
     rw (p.1, p.2)
-    (c.in_err-close.ensures (meaning_of (g.L.Linking.view c.args.symbol.now) tree) c.args.rows.now c.in-Some.ensures.some.0 c.args.next
+    (c.in_err-leave.ensures.follows (meaning_of (g.L.Linking.view c.args.symbol.now) tree) c.args.rows.now c.in-Some.ensures.some.0 c.args.next
     (closing_way (g.L.Linking.view c.args.symbol.now) c.args.symbol.now c.args.rows.now tree c.args.language.now c.args.next c.args.frames.now.items c.in-Some.frame c.args.parts.now.items
     way (c.in-Some.ensures.some.0, sym c.deref.ensures.value ∙ c.in-Some.ensures.some.1)) c.if-frame-next.true)
 
 pub returns-then-frame-next-clause-moves : goal.returns-then-frame-next-clause-moves
 returns-then-frame-next-clause-moves g c tree is way =
     rw (
-      c.pop.ensures.rest,
-      popped c.args.frames.now.items c.in-Some.ensures.some.0 c.in-Some.frame _ (sym c.deref.ensures.value ∙ c.in-Some.ensures.some.1)
-          (sym c.deref.ensures.len ∙ ap length c.deref.ensures.value),
+      c.in_ok-leave.ensures.lower,
+      popped c.args.frames.now.items c.in-Some.ensures.some.0 c.in-Some.frame _ (sym c.deref.ensures.value ∙ c.in-Some.ensures.some.1) refl,
     )
-    (c.in_ok-close.ensures (meaning_of (g.L.Linking.view c.args.symbol.now) tree) c.args.rows.now c.in-Some.ensures.some.0 c.args.next
+    (c.in_ok-leave.ensures.follows (meaning_of (g.L.Linking.view c.args.symbol.now) tree) c.args.rows.now c.in-Some.ensures.some.0 c.args.next
     (closing_way (g.L.Linking.view c.args.symbol.now) c.args.symbol.now c.args.rows.now tree c.args.language.now c.args.next c.args.frames.now.items c.in-Some.frame c.args.parts.now.items
     way (c.in-Some.ensures.some.0, sym c.deref.ensures.value ∙ c.in-Some.ensures.some.1)) c.if-frame-next.true)
 
