@@ -219,7 +219,7 @@ impl Nodes {
         self.stored_need(whole.path).max(other)
     }
 
-    #[inline(never)]
+    #[inline(always)]
     fn node_need(&self, node: &Node) -> u64
         ensures { result ≡ needs self.now.nodes node.now }
     {
@@ -236,6 +236,7 @@ impl Nodes {
     }
 
     /// Adds a node behind its parts, and answers its number.
+    #[inline(always)]
     pub fn push(&mut self, node: Node) -> Result<u32, Refusal>
         requires room { length self.old.nodes + 1 < 2 ^ 32 }
         ensures number { IfOk result (λ number. number ≡ length self.old.nodes) }

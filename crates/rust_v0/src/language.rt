@@ -194,7 +194,7 @@ impl Linked {
     }
 
     /// Adds a node that began at a place.
-    #[inline(never)]
+    #[inline(always)]
     fn add(&mut self, place: u32, node: Node) -> Result<Part, Refusal>
         requires room { length self.old.nodes.nodes + 1 < 2 ^ 32 }
         ensures gives { (at : At) (read : Meaning) → at.place ≡ place → place < length self.old.ended.items → Keeps at.symbol self.old at.ended
