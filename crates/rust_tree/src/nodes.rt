@@ -250,9 +250,10 @@ impl Nodes {
         let number = self.entries.len() as u32;
         let need = self.node_need(&node);
         let entry = Entry { node, need };
-        if self.entries.push(entry).is_err() {
+        if self.entries.reserve(1).is_err() {
             return Err(Refusal::Memory);
         }
+        self.entries.push_reserved(entry);
         Ok(number)
     }
 

@@ -354,6 +354,7 @@ impl Linked {
     }
 
     /// Adds the node that a rule makes of these parts.
+    #[inline(always)]
     fn add_by(
         &mut self,
         production: Production,
