@@ -90,6 +90,7 @@ impl Nodes {
         }
     }
 
+    #[inline(always)]
     fn path_need(&self, path: &Path) -> u64
         ensures { result ≡ path_needs self.now.nodes path.now }
     {
