@@ -103,6 +103,13 @@ made_gives table at rules.Minus ps vs other within fits lists are = (minus_mark,
 made_gives table at rules.False ps vs other within fits lists are = (a_truth false, refl, refl)
 made_gives table at rules.True ps vs other within fits lists are = (a_truth true, refl, refl)
 
+-- a production that makes a part is no reference
+pub makes_no_reference : (production : Production) → making.makes_part production ≡ true → is_reference production ≡ false
+makes_no_reference rules.PathReference makes = absurd (false≢true makes)
+makes_no_reference rules.TypeReference makes = absurd (false≢true makes)
+makes_no_reference rules.ConstantReference makes = absurd (false≢true makes)
+makes_no_reference production makes = refl
+
 pub reference_means : (at : At) (production : Production) (known : List Value) → is_reference production ≡ true
     → meaning production at known ≡ (number_part known >>= λ n. refers_by production at (referred at n.0))
 reference_means at rules.PathReference known is = refl

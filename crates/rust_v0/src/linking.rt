@@ -1,13 +1,153 @@
 // The four moments at which the driver asks the language.
 
+ghost use Rattle.std.specs.Prelude.{◌≡◌, ℕ, ◌<◌, ◌≤◌, ◌++◌, ◌∷◌, [], length, slice_index, Some, true, IfErr, OnOk};
+ghost use Rattle.sym_core.specs.Number.{FitsSymbol};
+ghost use Rattle.sym_core.specs.declared.refusal.Refusal.TheVariants as refusals;
+ghost use Rattle.sym_link.specs.Linking.{HasRoom, TakesToken, ClosesRule, Adds, Pays, at_most};
+ghost use Rattle.rust_v0.specs.Linked.{v0_view};
+ghost use Rattle.rust_v0.specs.Productions.{production_of};
+ghost use Rattle.rust_v0.specs.Tokens as tokens;
+ghost use Rattle.rust_v0.specs.Making as making;
+
 use crate::language::{Kept, Linked, bound_behind, end_of, reach};
-use crate::make::Site;
+use crate::make::{Site, part_by};
 use crate::part::{Part, STRAY};
-use crate::production::numbered;
-use crate::tokens::sort_of;
+use crate::production::{Production, numbered};
+use crate::tokens::{TokenSort, sort_of};
 use sym_core::{Refusal, Span};
 use sym_link::language::{Frame, Linking};
 use sym_shape::rule::Row;
+
+/// Where the rule of a frame stands.
+#[inline(always)]
+fn site_of(symbol: &[u8], frame: Frame<Kept>) -> Site
+    requires fits { FitsSymbol symbol.now }
+    requires place { frame.place < length symbol.now }
+    ensures place { result.place ≡ frame.place }
+    ensures byte { result.byte ≡ slice_index symbol.now frame.place }
+    ensures end { result.end ≡ length symbol.now }
+    ensures bound { result.bound ≡ frame.kept.bound }
+{
+    Site {
+        place: frame.place,
+        byte: symbol[frame.place as usize],
+        end: end_of(symbol),
+        bound: frame.kept.bound,
+    }
+}
+
+/// Puts a part behind the others.
+#[inline(always)]
+fn push_part(parts: &mut Vec<Part>, part: Part) -> Result<(), Refusal>
+    ensures items { OnOk result (parts.new.items ≡ parts.old.items ++ part ∷ []) }
+    ensures memory { IfErr result (λ e. e ≡ refusals.Memory) }
+{
+    parts.reserve(1)?;
+    parts.push_reserved(part);
+    Ok(())
+}
+
+impl Linked {
+    /// Takes a token of a sort in the rule of a frame.
+    #[inline(always)]
+    fn take_as(
+        &mut self,
+        symbol: &[u8],
+        sort: TokenSort,
+        frame: Frame<Kept>,
+        parts: &mut Vec<Part>,
+        row: Row,
+    ) -> Result<(), Refusal>
+        requires sort { sort ≡ tokens.sort_of (production_of frame.rule) }
+        requires room { HasRoom (v0_view symbol.now) symbol.now self.old (at_most (v0_view symbol.now)) }
+        requires base { frame.base ≤ length parts.old.items }
+        requires from { row.from ≤ row.to }
+        requires to { row.to ≤ length symbol.now }
+        ensures takes { TakesToken (v0_view symbol.now) symbol.now self.old self.new frame parts.old.items parts.new.items row result }
+        ensures adds { OnOk result (Adds (v0_view symbol.now) self.old self.new (at_most (v0_view symbol.now))) }
+        ensures pays { OnOk result ((at : ℕ) → at ≤ row.from → (length parts.old.items ≡ frame.base → at ≤ frame.place)
+            → Pays (v0_view symbol.now) self.old self.new at row.to) }
+    {
+        let own = Span {
+            from: row.from,
+            to: row.to,
+        };
+        let part = self.token_part(symbol, sort, frame.place, &parts[frame.base..], own)?;
+        push_part(parts, part)?;
+        Ok(())
+    }
+
+    /// Takes a token in the rule of a frame.
+    #[inline(never)]
+    fn take_any(
+        &mut self,
+        symbol: &[u8],
+        frame: Frame<Kept>,
+        parts: &mut Vec<Part>,
+        row: Row,
+    ) -> Result<(), Refusal>
+        requires room { HasRoom (v0_view symbol.now) symbol.now self.old (at_most (v0_view symbol.now)) }
+        requires base { frame.base ≤ length parts.old.items }
+        requires from { row.from ≤ row.to }
+        requires to { row.to ≤ length symbol.now }
+        ensures takes { TakesToken (v0_view symbol.now) symbol.now self.old self.new frame parts.old.items parts.new.items row result }
+        ensures adds { OnOk result (Adds (v0_view symbol.now) self.old self.new (at_most (v0_view symbol.now))) }
+        ensures pays { OnOk result ((at : ℕ) → at ≤ row.from → (length parts.old.items ≡ frame.base → at ≤ frame.place)
+            → Pays (v0_view symbol.now) self.old self.new at row.to) }
+    {
+        self.take_as(symbol, sort_of(frame.rule), frame, parts, row)
+    }
+
+    /// Closes the rule of a frame, whose production makes a part of its parts and no node.
+    #[inline(always)]
+    fn close_part(
+        &mut self,
+        symbol: &[u8],
+        production: Production,
+        frame: Frame<Kept>,
+        parts: &mut Vec<Part>,
+    ) -> Result<(), Refusal>
+        requires production { production_of frame.rule ≡ Some production }
+        requires part { making.makes_part production ≡ true }
+        requires room { HasRoom (v0_view symbol.now) symbol.now self.old (v0_view symbol.now).at_close }
+        requires base { frame.base ≤ length parts.old.items }
+        requires place { frame.place < length symbol.now }
+        ensures closes { ClosesRule (v0_view symbol.now) symbol.now self.old self.new frame parts.old.items parts.new.items result }
+        ensures adds { OnOk result (Adds (v0_view symbol.now) self.old self.new (v0_view symbol.now).at_close) }
+        ensures pays { OnOk result ((at : ℕ) → Pays (v0_view symbol.now) self.old self.new at at) }
+    {
+        let site = site_of(symbol, frame);
+        let part = part_by(production, site, &parts[frame.base..])?;
+        parts.truncate(frame.base);
+        push_part(parts, part)?;
+        Ok(())
+    }
+
+    /// Closes the rule of a frame.
+    #[inline(never)]
+    fn close_any(
+        &mut self,
+        symbol: &[u8],
+        frame: Frame<Kept>,
+        parts: &mut Vec<Part>,
+    ) -> Result<(), Refusal>
+        requires room { HasRoom (v0_view symbol.now) symbol.now self.old (v0_view symbol.now).at_close }
+        requires base { frame.base ≤ length parts.old.items }
+        requires place { frame.place < length symbol.now }
+        ensures closes { ClosesRule (v0_view symbol.now) symbol.now self.old self.new frame parts.old.items parts.new.items result }
+        ensures adds { OnOk result (Adds (v0_view symbol.now) self.old self.new (v0_view symbol.now).at_close) }
+        ensures pays { OnOk result ((at : ℕ) → Pays (v0_view symbol.now) self.old self.new at at) }
+    {
+        let Some(production) = numbered(frame.rule) else {
+            return Err(STRAY);
+        };
+        let site = site_of(symbol, frame);
+        let part = self.meant(production, site, &parts[frame.base..])?;
+        parts.truncate(frame.base);
+        push_part(parts, part)?;
+        Ok(())
+    }
+}
 
 impl Linking for Linked {
     ghost use Rattle.std.specs.Prelude.{◌≡◌, ℕ, ◌+◌, ◌<◌, ◌≤◌, [], List, length, take, drop, OnOk};
@@ -60,6 +200,7 @@ impl Linking for Linked {
         Ok(Kept { bound })
     }
 
+    #[inline(always)]
     fn token(
         &mut self,
         symbol: &[u8],
@@ -76,32 +217,38 @@ impl Linking for Linked {
         ensures pays { OnOk result ((at : ℕ) → at ≤ row.from → (length parts.old.items ≡ frame.base → at ≤ frame.place)
             → Pays (v0_view symbol.now) self.old self.new at row.to) }
     {
-        let own = Span {
-            from: row.from,
-            to: row.to,
-        };
-        let sort = sort_of(frame.rule);
-        let part = self.token_part(symbol, sort, frame.place, &parts[frame.base..], own)?;
-        parts.push(part)?;
-        Ok(())
+        match numbered(frame.rule) {
+            // the token of most rules
+            Some(Production::PlainName) => {
+                self.take_as(symbol, TokenSort::PlainName, frame, parts, row)
+            }
+            _ => self.take_any(symbol, frame, parts, row),
+        }
     }
 
-    fn close(&mut self, symbol: &[u8], frame: Frame<Kept>, parts: &[Part]) -> Result<Part, Refusal>
+    #[inline(always)]
+    fn close(
+        &mut self,
+        symbol: &[u8],
+        frame: Frame<Kept>,
+        parts: &mut Vec<Part>,
+    ) -> Result<(), Refusal>
         requires room { HasRoom (v0_view symbol.now) symbol.now self.old (v0_view symbol.now).at_close }
+        requires base { frame.base ≤ length parts.old.items }
         requires place { frame.place < length symbol.now }
-        ensures closes { ClosesRule (v0_view symbol.now) symbol.now self.old self.new frame parts.now result }
+        ensures closes { ClosesRule (v0_view symbol.now) symbol.now self.old self.new frame parts.old.items parts.new.items result }
         ensures adds { OnOk result (Adds (v0_view symbol.now) self.old self.new (v0_view symbol.now).at_close) }
         ensures pays { OnOk result ((at : ℕ) → Pays (v0_view symbol.now) self.old self.new at at) }
     {
-        let site = Site {
-            place: frame.place,
-            byte: symbol[frame.place as usize],
-            end: end_of(symbol),
-            bound: frame.kept.bound,
-        };
         match numbered(frame.rule) {
-            Some(production) => self.meant(production, site, parts),
-            None => Err(STRAY),
+            // most rules
+            Some(Production::PlainName) => {
+                self.close_part(symbol, Production::PlainName, frame, parts)
+            }
+            Some(Production::Namespace) => {
+                self.close_part(symbol, Production::Namespace, frame, parts)
+            }
+            _ => self.close_any(symbol, frame, parts),
         }
     }
 

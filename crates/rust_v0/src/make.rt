@@ -444,6 +444,7 @@ pub fn makes_part(production: Production) -> bool
 }
 
 /// What a rule makes of its parts where it makes no node.
+#[inline(always)]
 pub fn part_by(production: Production, at: Site, parts: &[Part]) -> Result<Part, Refusal>
     ensures { (s : List ℕ) → making.makes_part production ≡ true → at.byte ≡ slice_index s at.place → at.end ≡ length s
         → of_part result ≡ making.made production s at.place at.bound parts.now }

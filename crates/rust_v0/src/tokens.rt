@@ -178,6 +178,7 @@ impl Linked {
     }
 
     /// What a token is as a part of a rule at a place, behind these parts.
+    #[inline(always)]
     pub fn token_part(
         &mut self,
         symbol: &[u8],

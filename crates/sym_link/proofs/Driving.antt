@@ -52,21 +52,17 @@ no_row_left : {N P K V S C : Type 0} (view : View N P K V S C) (s : List ℕ) (s
 no_row_left view s shape whole nodes next lower code parts i ends = omega (arith, i.end, ends)
 
 pub closed : {N P K V S C : Type 0} (view : View N P K V S C) (s : List ℕ) (shape : List Row) (whole : Result (Found (List V) S) Refusal)
-    (old new : N) (next : ℕ) (lower : List (Frame K)) (frame : Frame K) (parts : List P) (part : P) → IsLinking view
+    (old new : N) (next : ℕ) (lower : List (Frame K)) (frame : Frame K) (parts new_parts : List P) (result : Result (Unit {0}) Refusal) → IsLinking view
     → Follows view s shape whole old next (lower ++ frame ∷ []) parts → frame.end ≡ next
-    → ClosesRule view s old new frame (drop frame.base parts) (Ok part) → Adds view old new view.at_close → ((at : ℕ) → view.IsPaid old at → view.IsPaid new at)
-    → Follows view s shape whole new next lower (take frame.base parts ++ part ∷ [])
-closed view s shape whole old new next lower frame parts part laws follows ends closes adds pays =
+    → ClosesRule view s old new frame parts new_parts result → OnOk result (Adds view old new view.at_close) → OnOk result ((at : ℕ) → view.IsPaid old at → view.IsPaid new at)
+    → FollowsAfter view s shape whole new next lower new_parts result
+closed view s shape whole old new next lower frame parts new_parts (Ok done) laws follows ends closes adds pays =
     let i = innermost view s shape whole old next (lower ++ frame ∷ []) lower frame parts follows refl in
     let none = no_row_left view s shape whole old next lower frame parts i ends in
-    close_follows view s shape whole old new next lower frame parts part laws adds.0 i none
-    (closes i.top.rule i.known i.top.from i.top.left i.state i.inside none) adds.1 (pays i.reached i.paid)
-
-pub closed_fails : {N P K V S C : Type 0} (view : View N P K V S C) (s : List ℕ) (shape : List Row) (whole : Result (Found (List V) S) Refusal)
-    (old new : N) (next : ℕ) (lower : List (Frame K)) (frame : Frame K) (parts : List P) (e : Refusal)
-    → Follows view s shape whole old next (lower ++ frame ∷ []) parts → frame.end ≡ next
-    → ClosesRule view s old new frame (drop frame.base parts) (Err e) → Fails e whole
-closed_fails view s shape whole old new next lower frame parts e follows ends closes =
+    let put = closes i.top.rule i.known i.top.from i.top.left i.state i.inside none in
+    subst (λ ps. Follows view s shape whole new next lower ps) (sym put.1)
+    (close_follows view s shape whole old new next lower frame parts put.0 laws adds.0 i none put.2 adds.1 (pays i.reached i.paid))
+closed view s shape whole old new next lower frame parts new_parts (Err e) laws follows ends closes adds pays =
     let i = innermost view s shape whole old next (lower ++ frame ∷ []) lower frame parts follows refl in
     let none = no_row_left view s shape whole old next lower frame parts i ends in
     close_fails view s shape whole old next lower frame parts e i none (closes i.top.rule i.known i.top.from i.top.left i.state i.inside none)
@@ -401,20 +397,20 @@ fresh_way {V = V} {S = S} {C = C} view s shape tree nodes next codes parts laws 
 -- a driver that has not refused is on its way
 pub driving_on : {N P K V S C : Type 0} (view : View N P K V S C) (s : List ℕ) (shape : List Row) (tree : Tree) (nodes : N) (steps : ℕ) (refused : Option Refusal) (next : ℕ)
     (codes : List (Frame K)) (parts : List P) → ((e : Refusal) → refused ≡ Some e → ⊥) → IsDriving view s shape tree nodes steps refused next codes parts
-    → IsOnWay view s shape tree nodes next codes parts × (steps + length codes ≤ 2 * next) × (next ≤ length shape) × (next ≤ steps)
+    → IsOnWay view s shape tree nodes next codes parts × (steps + length codes ≤ 2 * next) × (next ≤ length shape) × (next ≤ 2 * steps)
 driving_on view s shape tree nodes steps None next codes parts open_still driving = driving
 driving_on view s shape tree nodes steps (Some e) next codes parts open_still driving = absurd (open_still e refl)
 
 -- a move that goes on
 pub step_moved : {N P K V S C : Type 0} (view : View N P K V S C) (s : List ℕ) (shape : List Row) (tree : Tree) (new : N) (steps : ℕ) (refused : Option Refusal)
     (next behind : ℕ) (codes new_codes : List (Frame K)) (new_parts : List P) (result : Result (Option ℕ) Refusal) (moved : Option ℕ) → result ≡ Ok moved → moved ≡ Some behind
-    → ((e : Refusal) → refused ≡ Some e → ⊥) → steps + length codes ≤ 2 * next → next ≤ steps
+    → ((e : Refusal) → refused ≡ Some e → ⊥) → steps + length codes ≤ 2 * next → next ≤ 2 * steps
     → Moves view s shape tree new new_codes new_parts result → CountsMove (length shape) next (length codes) (length new_codes) result
     → IsDriving view s shape tree new (steps + 1) refused behind new_codes new_parts
 step_moved view s shape tree new steps None next behind codes new_codes new_parts result moved is on open_still few more moves counts =
     let there : result ≡ Ok (Some behind) = is ∙ ap (λ o. Ok o) on in
     let follows : Follows view s shape (meaning_of view tree) new behind new_codes new_parts = subst (λ r. Moves view s shape tree new new_codes new_parts r) there moves in
-    let count : (2 * next + length new_codes + 1 ≤ 2 * behind + length codes) × (behind ≤ next + 1) = subst (λ r. CountsMove (length shape) next (length codes) (length new_codes) r) there counts in
+    let count : (2 * next + length new_codes + 1 ≤ 2 * behind + length codes) × (behind ≤ next + 2) = subst (λ r. CountsMove (length shape) next (length codes) (length new_codes) r) there counts in
     (inr follows, omega (arith, few, count.0), follows.within, omega (arith, more, count.1))
 step_moved view s shape tree new steps (Some e) next behind codes new_codes new_parts result moved is on open_still few more moves counts = absurd (open_still e refl)
 
@@ -458,7 +454,7 @@ pub step_smaller : {N P K V S C : Type 0} (view : View N P K V S C) (s : List �
 step_smaller view s shape tree new next behind codes new_codes new_parts result moved is on within moves counts =
     let there : result ≡ Ok (Some behind) = is ∙ ap (λ o. Ok o) on in
     let follows : Follows view s shape (meaning_of view tree) new behind new_codes new_parts = subst (λ r. Moves view s shape tree new new_codes new_parts r) there moves in
-    let count : (2 * next + length new_codes + 1 ≤ 2 * behind + length codes) × (behind ≤ next + 1) = subst (λ r. CountsMove (length shape) next (length codes) (length new_codes) r) there counts in
+    let count : (2 * next + length new_codes + 1 ≤ 2 * behind + length codes) × (behind ≤ next + 2) = subst (λ r. CountsMove (length shape) next (length codes) (length new_codes) r) there counts in
     omega (arith, count.0, within, follows.within)
 
 -- a driver that has refused nothing

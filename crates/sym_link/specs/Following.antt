@@ -90,6 +90,12 @@ abbrev pub FollowsAfter : {N P K V S C A : Type 0} → View N P K V S C → (s :
 FollowsAfter view s shape whole nodes next codes parts (Ok done) = Follows view s shape whole nodes next codes parts
 FollowsAfter view s shape whole nodes next codes parts (Err e) = Fails e whole
 
+-- behind a move the driver is on the way to this row, or what was to come is the refusal
+abbrev pub FollowsOn : {N P K V S C : Type 0} → View N P K V S C → (s : List ℕ) → (shape : List Row) → (whole : Result (Found (List V) S) Refusal)
+    → (nodes : N) → List (Frame K) → List P → Result ℕ Refusal → Type 0
+FollowsOn view s shape whole nodes codes parts (Ok next) = Follows view s shape whole nodes next codes parts
+FollowsOn view s shape whole nodes codes parts (Err e) = Fails e whole
+
 -- this is the last item
 abbrev pub EndsWith : {A : Type 0} → List A → A → Type 0
 EndsWith {A = A} items last = (lower : List A) × (items ≡ lower ++ last ∷ [])
@@ -109,10 +115,9 @@ pub record CanClose {N P K V S C : Type 0} (view : View N P K V S C) (s : List �
   pub ends : frame.end ≡ next
   pub fits : Fits s shape
 
--- The rule of the frame is the innermost one of a driver that is on its way.
-pub record CanSettle {N P K V S C : Type 0} (view : View N P K V S C) (s : List ℕ) (nodes : N) (next : ℕ) (lower : List (Frame K)) (frame : Frame K) (parts : List P) : Type 0 where
+-- The rule of the frame has just begun in a driver that is on its way, and has no parts yet.
+pub record CanSettle {N P K V S C : Type 0} (view : View N P K V S C) (s : List ℕ) (shape : List Row) (nodes : N) (next : ℕ) (lower : List (Frame K)) (frame : Frame K) (parts : List P) : Type 0 where
   pub whole : Result (Found (List V) S) Refusal
-  pub shape : List Row
   pub follows : Follows view s shape whole nodes next (lower ++ frame ∷ []) parts
   pub fits : Fits s shape
 
@@ -171,10 +176,10 @@ Moves view s shape tree nodes codes parts (Ok (Some next)) = Follows view s shap
 Moves view s shape tree nodes codes parts (Ok None) = IsDone view s shape (meaning_of view tree) nodes parts
 Moves view s shape tree nodes codes parts (Err e) = Fails e (meaning_of view tree)
 
--- A move takes at most one row. One that takes a row leaves at most one open rule more, and one that takes none closes a rule. So,
--- with the open rules, the moves so far are at most two for each row, and at least one.
+-- A move takes at most two rows. One that takes a row leaves at most one open rule more, one that takes two leaves none more, and one
+-- that takes none closes a rule. So, with the open rules, the moves so far are at most two for each row, and at least one for two rows.
 abbrev pub CountsMove : (rows next before after : ℕ) → Result (Option ℕ) Refusal → Type 0
-CountsMove rows next before after (Ok (Some behind)) = (2 * next + after + 1 ≤ 2 * behind + before) × (behind ≤ next + 1)
+CountsMove rows next before after (Ok (Some behind)) = (2 * next + after + 1 ≤ 2 * behind + before) × (behind ≤ next + 2)
 CountsMove rows next before after (Ok None) = Unit {0}
 CountsMove rows next before after (Err e) = 2 * next + 1 ≤ 2 * rows + before
 
@@ -182,7 +187,7 @@ CountsMove rows next before after (Err e) = 2 * next + 1 ≤ 2 * rows + before
 abbrev pub IsDriving : {N P K V S C : Type 0} → View N P K V S C → (s : List ℕ) → (shape : List Row) → Tree → (nodes : N) → (steps : ℕ) → Option Refusal
     → (next : ℕ) → List (Frame K) → List P → Type 0
 IsDriving view s shape tree nodes steps None next codes parts =
-    IsOnWay view s shape tree nodes next codes parts × (steps + length codes ≤ 2 * next) × (next ≤ length shape) × (next ≤ steps)
+    IsOnWay view s shape tree nodes next codes parts × (steps + length codes ≤ 2 * next) × (next ≤ length shape) × (next ≤ 2 * steps)
 IsDriving view s shape tree nodes steps (Some e) next codes parts = Fails e (meaning_of view tree) × (steps ≤ 2 * length shape)
 
 -- What a step comes to: all is done, and nothing was to do; or it moved on, and is counted; or a refusal, which is kept.

@@ -126,6 +126,11 @@ Gives {V = V} {S = S} view nodes (Ok part) read =
     (value : V) × (state : S) × (read ≡ Ok (found value state)) × view.IsPart nodes part value × view.Holds nodes state
 Gives view nodes (Err e) read = Fails e read
 
+-- behind the lower parts there is one part, which stands for what is read
+abbrev pub Puts : {N P K V S C : Type 0} → View N P K V S C → (nodes : N) → (lower parts : List P) → Result (Unit {0}) Refusal → Result (Found V S) Refusal → Type 0
+Puts {P = P} view nodes lower parts (Ok done) read = (part : P) × (parts ≡ lower ++ part ∷ []) × Gives view nodes (Ok part) read
+Puts view nodes lower parts (Err e) read = Fails e read
+
 -- The rule of a whole symbol begins as the reading says.
 abbrev pub OpensRoot : {N P K V S C : Type 0} → View N P K V S C → (s : List ℕ) → (rows : List Row) → (old new : N) → Row → Result K Refusal → Type 0
 OpensRoot view s rows old new row result =
@@ -150,12 +155,12 @@ TakesToken {V = V} {S = S} {C = C} view s old new frame parts new_parts row resu
     → Takes view new (take frame.base parts) new_parts result
     (next_of view.reading around known from left state >>= taken_in view.reading t (skipped_from from left))
 
--- The rule of the frame closes over these parts as the reading says.
-abbrev pub ClosesRule : {N P K V S C : Type 0} → View N P K V S C → (s : List ℕ) → (old new : N) → Frame K → (own : List P) → Result P Refusal → Type 0
-ClosesRule {V = V} {S = S} {C = C} view s old new frame own result =
+-- The rule of the frame closes over its parts as the reading says: one part, which stands for what it means, takes their place.
+abbrev pub ClosesRule : {N P K V S C : Type 0} → View N P K V S C → (s : List ℕ) → (old new : N) → Frame K → (parts new_parts : List P) → Result (Unit {0}) Refusal → Type 0
+ClosesRule {V = V} {S = S} {C = C} view s old new frame parts new_parts result =
     (rule : Open S C) (known : List V) (from : ℕ) (left : Forest) (state : S)
-    → IsInside view s old frame own rule known from left state → row_count_all left ≡ 0
-    → Gives view new result (ended view.reading rule known from left state)
+    → IsInside view s old frame (drop frame.base parts) rule known from left state → row_count_all left ≡ 0
+    → Puts view new (take frame.base parts) new_parts result (ended view.reading rule known from left state)
 
 -- The nodes are the old ones and at most so many more.
 abbrev pub Adds : {N P K V S C : Type 0} → View N P K V S C → (old new : N) → (most : ℕ) → Type 0

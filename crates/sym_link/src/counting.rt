@@ -99,19 +99,28 @@ impl Linking for Counts {
         Ok(())
     }
 
-    fn close(&mut self, symbol: &[u8], frame: Frame<()>, parts: &[Part]) -> Result<Part, Refusal>
+    fn close(
+        &mut self,
+        symbol: &[u8],
+        frame: Frame<()>,
+        parts: &mut Vec<Part>,
+    ) -> Result<(), Refusal>
         requires room { HasRoom (counting symbol.now) symbol.now self.old (counting symbol.now).at_close }
+        requires base { frame.base ≤ length parts.old.items }
         requires place { frame.place < length symbol.now }
-        ensures closes { ClosesRule (counting symbol.now) symbol.now self.old self.new frame parts.now result }
+        ensures closes { ClosesRule (counting symbol.now) symbol.now self.old self.new frame parts.old.items parts.new.items result }
         ensures adds { OnOk result (Adds (counting symbol.now) self.old self.new (counting symbol.now).at_close) }
         ensures pays { OnOk result ((at : ℕ) → Pays (counting symbol.now) self.old self.new at at) }
     {
-        if parts.len() > 3 {
+        let own = parts.len() - frame.base;
+        if own > 3 {
             return Err(Refusal::BadValue { at: frame.place });
         }
         let node = self.counts.len();
-        self.counts.push(parts.len())?;
-        Ok(Part::Node(node))
+        self.counts.push(own)?;
+        parts.truncate(frame.base);
+        parts.push(Part::Node(node))?;
+        Ok(())
     }
 
     ghost laws = { counting_laws };

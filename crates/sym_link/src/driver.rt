@@ -1,9 +1,9 @@
 // A machine over the rows of a shape, for any language.
 
-ghost use Rattle.std.specs.Prelude.{◌≡◌, ◌≢◌, ℕ, ◌+◌, ◌-◌, ◌*◌, ◌<◌, ◌≤◌, ◌++◌, ◌∷◌, [], List, length, take, Ok, Err, Some, None, true, Result, IfSome, IfNone, IfErr, OnOk};
+ghost use Rattle.std.specs.Prelude.{◌≡◌, ◌≢◌, ℕ, ◌+◌, ◌-◌, ◌*◌, ◌<◌, ◌≤◌, ◌++◌, ◌∷◌, [], List, length, take, Ok, Err, Some, None, true, Result, IfSome, IfNone, IfOk, IfErr, OnOk};
 ghost use Rattle.sym_shape.specs.Tree.{Tree};
 ghost use Rattle.sym_link.specs.Reading.{Found};
-ghost use Rattle.sym_link.specs.Following.{IsShape, Follows, FollowsAfter, EndsWith, CanClose, CanSettle, CanTake, CanBegin, CanMove, IsOnWay, Moves, CountsMove, Fits, IsDriving, IsStepTo, IsDone, meaning_of};
+ghost use Rattle.sym_link.specs.Following.{IsShape, Follows, FollowsAfter, FollowsOn, EndsWith, CanClose, CanSettle, CanTake, CanBegin, CanMove, IsOnWay, Moves, CountsMove, Fits, IsDriving, IsStepTo, IsDone, meaning_of};
 
 use crate::language::{Frame, Linking};
 use std::alloc::Global;
@@ -19,24 +19,6 @@ fn innermost<K: Copy>(frames: &[Frame<K>]) -> Option<Frame<K>>
         [.., last] => Some(*last),
         [] => None,
     }
-}
-
-/// Closes the innermost rule, whose frame was taken off: what it means takes the place of its parts.
-fn close<L: Linking>(
-    language: &mut L,
-    symbol: &[u8],
-    frame: Frame<L::Kept>,
-    parts: &mut Vec<L::Part>,
-) -> Result<(), Refusal>
-    requires { CanClose (L.view symbol.now) symbol.now language.old frame parts.old.items }
-    ensures { (whole : Result (Found (List L.Value) L.State) Refusal) (shape : List Row) (lower : List (Frame L.Kept)) (next : ℕ)
-        → Follows (L.view symbol.now) symbol.now shape whole language.old next (lower ++ frame ∷ []) parts.old.items → frame.end ≡ next
-        → FollowsAfter (L.view symbol.now) symbol.now shape whole language.new next lower parts.new.items result }
-{
-    let part = language.close(symbol, frame, &parts[frame.base..])?;
-    parts.truncate(frame.base);
-    parts.push(part)?;
-    Ok(())
 }
 
 /// Takes the innermost rule's frame off, and closes the rule.
@@ -55,32 +37,42 @@ fn leave<L: Linking>(
     ensures lower { frames.new.items ≡ take (length frames.old.items - 1) frames.old.items }
 {
     frames.pop();
-    close(language, symbol, frame, parts)
+    language.close(symbol, frame, parts)
 }
 
-/// Puts the frame of a rule that has begun on the others, or closes the rule at once if it has no row left.
+/// Puts the frame of a rule that has begun on the others. A rule that has no row of its own closes at once, and one that has
+/// a token alone takes it and closes. It answers the number of the next row.
+#[inline(always)]
 fn settle<L: Linking>(
     language: &mut L,
     symbol: &[u8],
+    rows: &[Row],
     next: u32,
     frames: &mut Vec<Frame<L::Kept>>,
     parts: &mut Vec<L::Part>,
     frame: Frame<L::Kept>,
-) -> Result<(), Refusal>
-    requires { CanSettle (L.view symbol.now) symbol.now language.old next frames.old.items frame parts.old.items }
-    ensures follows { (whole : Result (Found (List L.Value) L.State) Refusal) (shape : List Row)
-        → Follows (L.view symbol.now) symbol.now shape whole language.old next (frames.old.items ++ frame ∷ []) parts.old.items
-        → FollowsAfter (L.view symbol.now) symbol.now shape whole language.new next frames.new.items parts.new.items result }
-    ensures count { length frames.new.items ≤ length frames.old.items + 1 }
+) -> Result<u32, Refusal>
+    requires { CanSettle (L.view symbol.now) symbol.now rows.now language.old next frames.old.items frame parts.old.items }
+    ensures follows { (whole : Result (Found (List L.Value) L.State) Refusal)
+        → Follows (L.view symbol.now) symbol.now rows.now whole language.old next (frames.old.items ++ frame ∷ []) parts.old.items
+        → FollowsOn (L.view symbol.now) symbol.now rows.now whole language.new frames.new.items parts.new.items result }
+    ensures counts { IfOk result (λ behind. (2 * next + length frames.new.items ≤ 2 * behind + length frames.old.items + 1) × (behind ≤ next + 1)) }
 {
     if frame.end == next {
-        return close(language, symbol, frame, parts);
+        language.close(symbol, frame, parts)?;
+        return Ok(next);
+    }
+    let row = rows[next as usize];
+    if row.rule == TOKEN && frame.end == next + 1 {
+        language.token(symbol, frame, parts, row)?;
+        language.close(symbol, frame, parts)?;
+        return Ok(next + 1);
     }
     frames.push(frame)?;
-    Ok(())
+    Ok(next)
 }
 
-/// Takes the row of a token or a rule, which stands in the innermost rule.
+/// Takes the row of a token or a rule, which stands in the innermost rule. It answers the number of the next row.
 fn take<L: Linking>(
     language: &mut L,
     symbol: &[u8],
@@ -89,17 +81,18 @@ fn take<L: Linking>(
     frames: &mut Vec<Frame<L::Kept>>,
     parts: &mut Vec<L::Part>,
     frame: Frame<L::Kept>,
-) -> Result<(), Refusal>
+) -> Result<u32, Refusal>
     requires { CanTake (L.view symbol.now) symbol.now rows.now language.old next frames.old.items frame parts.old.items }
     ensures follows { (whole : Result (Found (List L.Value) L.State) Refusal)
         → Follows (L.view symbol.now) symbol.now rows.now whole language.old next frames.old.items parts.old.items
-        → FollowsAfter (L.view symbol.now) symbol.now rows.now whole language.new (next + 1) frames.new.items parts.new.items result }
-    ensures count { length frames.new.items ≤ length frames.old.items + 1 }
+        → FollowsOn (L.view symbol.now) symbol.now rows.now whole language.new frames.new.items parts.new.items result }
+    ensures counts { IfOk result (λ behind. (2 * next + length frames.new.items + 1 ≤ 2 * behind + length frames.old.items) × (behind ≤ next + 2)) }
     ensures more { next < length rows.now }
 {
     let row = rows[next as usize];
     if row.rule == TOKEN {
-        return language.token(symbol, frame, parts, row);
+        language.token(symbol, frame, parts, row)?;
+        return Ok(next + 1);
     }
     let kept = language.enter(symbol, rows, frame, parts, row)?;
     let opened = Frame {
@@ -109,21 +102,21 @@ fn take<L: Linking>(
         base: parts.len(),
         kept,
     };
-    settle(language, symbol, next + 1, frames, parts, opened)
+    settle(language, symbol, rows, next + 1, frames, parts, opened)
 }
 
-/// Takes the first row.
+/// Takes the first row. It answers the number of the next row.
 fn begin<L: Linking>(
     language: &mut L,
     symbol: &[u8],
     rows: &[Row],
     frames: &mut Vec<Frame<L::Kept>>,
     parts: &mut Vec<L::Part>,
-) -> Result<(), Refusal>
+) -> Result<u32, Refusal>
     requires { CanBegin (L.view symbol.now) symbol.now rows.now language.old 0 frames.old.items parts.old.items }
     ensures follows { (tree : Tree) → IsShape (L.view symbol.now).table symbol.now rows.now tree
-        → FollowsAfter (L.view symbol.now) symbol.now rows.now (meaning_of (L.view symbol.now) tree) language.new 1 frames.new.items parts.new.items result }
-    ensures count { length frames.new.items ≤ 1 }
+        → FollowsOn (L.view symbol.now) symbol.now rows.now (meaning_of (L.view symbol.now) tree) language.new frames.new.items parts.new.items result }
+    ensures counts { IfOk result (λ behind. (length frames.new.items + 1 ≤ 2 * behind) × (behind ≤ 2)) }
     ensures more { 0 < length rows.now }
 {
     let row = rows[0];
@@ -135,10 +128,10 @@ fn begin<L: Linking>(
         base: 0,
         kept,
     };
-    settle(language, symbol, 1, frames, parts, opened)
+    settle(language, symbol, rows, 1, frames, parts, opened)
 }
 
-/// Takes the next row, or closes the innermost rule behind its last row. It answers the number of the next row, or none
+/// Takes the next row, with what `settle` adds to it, or closes the innermost rule behind its last row. It answers the number of the next row, or none
 /// where nothing is left to do.
 fn advance<L: Linking>(
     language: &mut L,
@@ -161,15 +154,15 @@ fn advance<L: Linking>(
         if next > 0 {
             return Ok(None);
         }
-        begin(language, symbol, rows, frames, parts)?;
-        return Ok(Some(1));
+        let behind = begin(language, symbol, rows, frames, parts)?;
+        return Ok(Some(behind));
     };
     if frame.end == next {
         leave(language, symbol, frames, parts, frame)?;
         return Ok(Some(next));
     }
-    take(language, symbol, rows, next, frames, parts, frame)?;
-    Ok(Some(next + 1))
+    let behind = take(language, symbol, rows, next, frames, parts, frame)?;
+    Ok(Some(behind))
 }
 
 /// The open rules and the parts of a symbol that is being linked. Its lists can be kept from symbol to symbol.

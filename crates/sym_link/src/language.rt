@@ -96,16 +96,17 @@ pub trait Linking {
         ensures pays { OnOk result ((at : ℕ) → at ≤ row.from → (length parts.old.items ≡ frame.base → at ≤ frame.place)
             → Pays (view symbol.now) self.old self.new at row.to) };
 
-    /// What the rule of the frame means, whose parts are these.
+    /// The rule of the frame closes: what it means takes the place of its parts.
     fn close(
         &mut self,
         symbol: &[u8],
         frame: Frame<Self::Kept>,
-        parts: &[Self::Part],
-    ) -> Result<Self::Part, Refusal>
+        parts: &mut Vec<Self::Part>,
+    ) -> Result<(), Refusal>
         requires room { HasRoom (view symbol.now) symbol.now self.old (view symbol.now).at_close }
+        requires base { frame.base ≤ length parts.old.items }
         requires place { frame.place < length symbol.now }
-        ensures closes { ClosesRule (view symbol.now) symbol.now self.old self.new frame parts.now result }
+        ensures closes { ClosesRule (view symbol.now) symbol.now self.old self.new frame parts.old.items parts.new.items result }
         ensures adds { OnOk result (Adds (view symbol.now) self.old self.new (view symbol.now).at_close) }
         ensures pays { OnOk result ((at : ℕ) → Pays (view symbol.now) self.old self.new at at) };
 

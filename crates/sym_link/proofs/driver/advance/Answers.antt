@@ -61,14 +61,14 @@ take-requires g c =
       fits = c.requires.fits;
     }
 
-pub returns-in_err-take-clause-moves : goal.returns-in_err-take-clause-moves
-returns-in_err-take-clause-moves g c tree is way =
-    let p = err_from_is_err_and c.from_residual-in_err-take.result c.from_residual-in_err-take.ensures.1 in
+pub returns-in_err-behind-2-clause-moves : goal.returns-in_err-behind-2-clause-moves
+returns-in_err-behind-2-clause-moves g c tree is way =
+    let p = err_from_is_err_and c.from_residual-in_err-behind-2.result c.from_residual-in_err-behind-2.ensures.1 in
     rw (p.1, p.2)
-    (c.in_err-take.ensures.follows (meaning_of (g.L.Linking.view c.args.symbol.now) tree)
+    (c.in_err-behind-2.ensures.follows (meaning_of (g.L.Linking.view c.args.symbol.now) tree)
     (begun_way (g.L.Linking.view c.args.symbol.now) c.args.symbol.now c.args.rows.now tree c.args.language.now c.args.next c.args.frames.now.items c.in-Some.frame c.args.parts.now.items way (c.in-Some.ensures.some.0, sym c.deref.ensures.value ∙ c.in-Some.ensures.some.1)))
 
 pub returns-clause-moves : goal.returns-clause-moves
 returns-clause-moves g c tree is way =
-    c.in_ok-take.ensures.follows (meaning_of (g.L.Linking.view c.args.symbol.now) tree)
+    c.in_ok-behind-2.ensures.follows (meaning_of (g.L.Linking.view c.args.symbol.now) tree)
     (begun_way (g.L.Linking.view c.args.symbol.now) c.args.symbol.now c.args.rows.now tree c.args.language.now c.args.next c.args.frames.now.items c.in-Some.frame c.args.parts.now.items way (c.in-Some.ensures.some.0, sym c.deref.ensures.value ∙ c.in-Some.ensures.some.1))

@@ -12,7 +12,6 @@ pub settle-requires : goal.settle-requires
 settle-requires g c =
     record {
       whole = meaning_of (g.L.Linking.view c.args.symbol.now) c.requires.tree;
-      shape = c.args.rows.now;
       follows = root_begun (g.L.Linking.view c.args.symbol.now) c.args.symbol.now c.args.rows.now c.requires.tree c.args.language.now c.root.new.self c.args.frames.now.items
           (record { rule = (slice_index_or c.args.rows.now 0 (record { rule = 0; from = 0; to = 0; end = 0 })).rule; place = (slice_index_or c.args.rows.now 0 (record { rule = 0; from = 0; to = 0; end = 0 })).from; end = (slice_index_or c.args.rows.now 0 (record { rule = 0; from = 0; to = 0; end = 0 })).end; base = 0; kept = c.in_ok-kept.kept })
           c.args.parts.now.items (slice_index_or c.args.rows.now 0 (record { rule = 0; from = 0; to = 0; end = 0 })) (record { rule = 0; from = 0; to = 0; end = 0 }) (g.met.L.Linking.laws c.args.symbol.now) c.requires.is_shape c.requires.fresh refl
@@ -22,7 +21,7 @@ settle-requires g c =
 
 pub returns-clause-follows : goal.returns-clause-follows
 returns-clause-follows g c tree is =
-    c.settle.ensures.follows (meaning_of (g.L.Linking.view c.args.symbol.now) tree) c.args.rows.now
+    c.settle.ensures.follows (meaning_of (g.L.Linking.view c.args.symbol.now) tree)
     (root_begun (g.L.Linking.view c.args.symbol.now) c.args.symbol.now c.args.rows.now tree c.args.language.now c.root.new.self c.args.frames.now.items
     (record { rule = (slice_index_or c.args.rows.now 0 (record { rule = 0; from = 0; to = 0; end = 0 })).rule; place = (slice_index_or c.args.rows.now 0 (record { rule = 0; from = 0; to = 0; end = 0 })).from; end = (slice_index_or c.args.rows.now 0 (record { rule = 0; from = 0; to = 0; end = 0 })).end; base = 0; kept = c.in_ok-kept.kept })
     c.args.parts.now.items (slice_index_or c.args.rows.now 0 (record { rule = 0; from = 0; to = 0; end = 0 })) (record { rule = 0; from = 0; to = 0; end = 0 }) (g.met.L.Linking.laws c.args.symbol.now) is c.requires.fresh refl

@@ -1,4 +1,4 @@
-use Rattle.std.proofs.Common.{refl, arith}
+use Rattle.std.proofs.Common.{refl, arith, Ok, Err}
 use Rattle.std.specs.Prelude.{slice_index_or}
 use Rattle.std.proofs.lemmas.Result.{err_from_is_err_and}
 use Rattle.sym_link.proofs.Driving.{more_rows, token_asks, rule_asks, token_taken, rule_begun, rule_refused}
@@ -24,11 +24,19 @@ token-requires-clause-to g c =
     (token_asks (g.L.Linking.view c.args.symbol.now) c.args.symbol.now c.args.rows.now c.args.language.now c.args.next c.args.frames.now.items c.args.frame c.args.parts.now.items
     (slice_index_or c.args.rows.now c.args.next (record { rule = 0; from = 0; to = 0; end = 0 })) (record { rule = 0; from = 0; to = 0; end = 0 }) (g.met.L.Linking.laws c.args.symbol.now) c.requires refl c.if-row.true).to
 
+pub returns-in_err-token-clause-follows : goal.returns-in_err-token-clause-follows
+returns-in_err-token-clause-follows g c whole follows =
+    let p = err_from_is_err_and c.from_residual.result c.from_residual.ensures.1 in
+    rw (p.1, p.2)
+    (token_taken (g.L.Linking.view c.args.symbol.now) c.args.symbol.now c.args.rows.now whole c.args.language.now c.token.new.self c.args.next c.args.frames.now.items c.args.frame
+    c.args.parts.now.items c.token.new.parts.items (slice_index_or c.args.rows.now c.args.next (record { rule = 0; from = 0; to = 0; end = 0 })) (record { rule = 0; from = 0; to = 0; end = 0 }) (Err c.in_err-token.field-0.0) (g.met.L.Linking.laws c.args.symbol.now) c.requires.last
+    follows c.requires.open_still refl c.if-row.true c.in_err-token.ensures.takes c.in_err-token.ensures.adds c.in_err-token.ensures.pays)
+
 pub returns-then-row-clause-follows : goal.returns-then-row-clause-follows
 returns-then-row-clause-follows g c whole follows =
     token_taken (g.L.Linking.view c.args.symbol.now) c.args.symbol.now c.args.rows.now whole c.args.language.now c.token.new.self c.args.next c.args.frames.now.items c.args.frame
-    c.args.parts.now.items c.token.new.parts.items (slice_index_or c.args.rows.now c.args.next (record { rule = 0; from = 0; to = 0; end = 0 })) (record { rule = 0; from = 0; to = 0; end = 0 }) c.token.result (g.met.L.Linking.laws c.args.symbol.now) c.requires.last
-    follows c.requires.open_still refl c.if-row.true c.token.ensures.takes c.token.ensures.adds c.token.ensures.pays
+    c.args.parts.now.items c.token.new.parts.items (slice_index_or c.args.rows.now c.args.next (record { rule = 0; from = 0; to = 0; end = 0 })) (record { rule = 0; from = 0; to = 0; end = 0 }) (Ok tt) (g.met.L.Linking.laws c.args.symbol.now) c.requires.last
+    follows c.requires.open_still refl c.if-row.true c.in_ok-token.ensures.takes c.in_ok-token.ensures.adds c.in_ok-token.ensures.pays
 
 pub enter-requires-clause-room : goal.enter-requires-clause-room
 enter-requires-clause-room g c =
@@ -47,7 +55,7 @@ enter-requires-clause-end g c =
 
 pub returns-in_err-kept-clause-follows : goal.returns-in_err-kept-clause-follows
 returns-in_err-kept-clause-follows g c whole follows =
-    let p = err_from_is_err_and c.from_residual.result c.from_residual.ensures.1 in
+    let p = err_from_is_err_and c.from_residual-in_err-kept.result c.from_residual-in_err-kept.ensures.1 in
     rw (p.1, p.2)
     (rule_refused (g.L.Linking.view c.args.symbol.now) c.args.symbol.now c.args.rows.now whole c.args.language.now c.enter.new.self c.args.next c.args.frames.now.items c.args.frame
     c.args.parts.now.items c.enter.new.parts.items (slice_index_or c.args.rows.now c.args.next (record { rule = 0; from = 0; to = 0; end = 0 })) (record { rule = 0; from = 0; to = 0; end = 0 }) c.in_err-kept.field-0.0 (g.met.L.Linking.laws c.args.symbol.now) c.requires.last
@@ -62,7 +70,6 @@ pub settle-requires : goal.settle-requires
 settle-requires g c =
     record {
       whole = c.requires.whole;
-      shape = c.args.rows.now;
       follows = rule_begun (g.L.Linking.view c.args.symbol.now) c.args.symbol.now c.args.rows.now c.requires.whole c.args.language.now c.enter.new.self c.args.next c.args.frames.now.items c.args.frame
           (record { rule = (slice_index_or c.args.rows.now c.args.next (record { rule = 0; from = 0; to = 0; end = 0 })).rule; place = (slice_index_or c.args.rows.now c.args.next (record { rule = 0; from = 0; to = 0; end = 0 })).from; end = (slice_index_or c.args.rows.now c.args.next (record { rule = 0; from = 0; to = 0; end = 0 })).end; base = c.len.result; kept = c.in_ok-kept.kept })
           c.args.parts.now.items c.enter.new.parts.items (slice_index_or c.args.rows.now c.args.next (record { rule = 0; from = 0; to = 0; end = 0 })) (record { rule = 0; from = 0; to = 0; end = 0 }) (g.met.L.Linking.laws c.args.symbol.now) c.requires.last
@@ -73,7 +80,7 @@ settle-requires g c =
 
 pub returns-clause-follows : goal.returns-clause-follows
 returns-clause-follows g c whole follows =
-    c.settle.ensures.follows whole c.args.rows.now
+    c.settle.ensures.follows whole
     (rule_begun (g.L.Linking.view c.args.symbol.now) c.args.symbol.now c.args.rows.now whole c.args.language.now c.enter.new.self c.args.next c.args.frames.now.items c.args.frame
     (record { rule = (slice_index_or c.args.rows.now c.args.next (record { rule = 0; from = 0; to = 0; end = 0 })).rule; place = (slice_index_or c.args.rows.now c.args.next (record { rule = 0; from = 0; to = 0; end = 0 })).from; end = (slice_index_or c.args.rows.now c.args.next (record { rule = 0; from = 0; to = 0; end = 0 })).end; base = c.len.result; kept = c.in_ok-kept.kept })
     c.args.parts.now.items c.enter.new.parts.items (slice_index_or c.args.rows.now c.args.next (record { rule = 0; from = 0; to = 0; end = 0 })) (record { rule = 0; from = 0; to = 0; end = 0 }) (g.met.L.Linking.laws c.args.symbol.now) c.requires.last

@@ -1,0 +1,20 @@
+use Rattle.sym_link.proofs.Driving.{closing_room, closing_place, closing_base, closed}
+use Rattle.sym_link.proofs.driver.leave.Goals as goal
+
+pub close-requires-clause-room : goal.close-requires-clause-room
+close-requires-clause-room g c =
+    closing_room (g.L.Linking.view c.args.symbol.now) c.args.symbol.now c.args.language.now c.args.frame c.args.parts.now.items (g.met.L.Linking.laws c.args.symbol.now) c.requires
+
+pub close-requires-clause-base : goal.close-requires-clause-base
+close-requires-clause-base g c =
+    closing_base (g.L.Linking.view c.args.symbol.now) c.args.symbol.now c.args.language.now c.args.frame c.args.parts.now.items c.requires
+
+pub close-requires-clause-place : goal.close-requires-clause-place
+close-requires-clause-place g c =
+    closing_place (g.L.Linking.view c.args.symbol.now) c.args.symbol.now c.args.language.now c.args.frame c.args.parts.now.items (g.met.L.Linking.laws c.args.symbol.now) c.requires
+
+pub returns-clause-follows : goal.returns-clause-follows
+returns-clause-follows g c whole shape lower next follows ends =
+    closed (g.L.Linking.view c.args.symbol.now) c.args.symbol.now shape whole c.args.language.now c.close.new.self next lower c.args.frame
+    c.args.parts.now.items c.close.new.parts.items c.close.result (g.met.L.Linking.laws c.args.symbol.now) follows ends
+    c.close.ensures.closes c.close.ensures.adds c.close.ensures.pays
