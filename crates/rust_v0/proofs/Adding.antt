@@ -54,7 +54,7 @@ module _ (at : At) (old new : Linked) (number : ℕ) (read : Meaning) (there : a
   pub added_gives : (node : Node) → read ≡ ends_tree at (tree_of at.symbol all node)
       → slice_get (trees at.symbol new.nodes.nodes) number ≡ Some (tree_of at.symbol all node)
       → new.ended.items ≡ ended_with (making.placed node number).1 old.ended.items at.place
-      → Gives (v0_view at.symbol) new (Ok (making.placed node number).0) read
+      → Gives (v0_view at.symbol) new (Ok (making.part_of (making.placed node number).0)) read
   added_gives (Node.Path path) is got same = (_, _, is, got, keeps_with (Ending.Path number) _ (_, got, inl refl) same)
   added_gives (Node.Ty type) is got same = (_, _, is, inl got, keeps_with (Ending.Type number) _ (_, got, not_a_path at.symbol all type, refl) same)
   added_gives (Node.Constant constant) is got same = (_, _, is, got, keeps_with (Ending.Constant number) _ (_, got, refl) same)

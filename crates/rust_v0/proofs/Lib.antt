@@ -1,6 +1,7 @@
 pub mod Adding
 pub mod Answering
 pub mod Beginning
+pub mod Closing
 pub mod Entering
 pub mod Fronts
 pub mod Integers

@@ -19,6 +19,7 @@ use Rattle.rust_v0.specs.Front as front
 use Rattle.rust_v0.specs.Unfold.{is_scalar, stray}
 use Rattle.rust_v0.specs.declared.language.Ending.{Ending}
 use Rattle.rust_v0.specs.declared.part.Part.{Part}
+use Rattle.rust_v0.specs.declared.part.Added.{Added}
 use Rattle.rust_v0.specs.declared.part.Integer.{Integer}
 use Rattle.rust_v0.specs.Made.{Made}
 
@@ -303,15 +304,31 @@ made rules.False s place bound parts = Ok (Made.Part (Part.Truth false))
 made rules.True s place bound parts = Ok (Made.Part (Part.Truth true))
 
 -- what a node is as a part, and how it has ended if references may name it
-abbrev pub placed : Node → (number : ℕ) → Part × Option Ending
-placed (Node.Path path) number = (Part.Path number, Some (Ending.Path number))
-placed (Node.Ty type) number = (Part.Type number, Some (Ending.Type number))
-placed (Node.Constant constant) number = (Part.Constant number, Some (Ending.Constant number))
-placed (Node.Arguments arguments) number = (Part.Arguments number, None)
-placed (Node.Types types) number = (Part.Types number, None)
-placed (Node.Bounds bounds) number = (Part.Bounds number, None)
-placed (Node.Bindings bindings) number = (Part.Bindings number, None)
-placed (Node.Symbol whole) number = (Part.Symbol number, None)
+abbrev pub placed : Node → (number : ℕ) → Added × Option Ending
+placed (Node.Path path) number = (Added.Path number, Some (Ending.Path number))
+placed (Node.Ty type) number = (Added.Type number, Some (Ending.Type number))
+placed (Node.Constant constant) number = (Added.Constant number, Some (Ending.Constant number))
+placed (Node.Arguments arguments) number = (Added.Arguments number, None)
+placed (Node.Types types) number = (Added.Types number, None)
+placed (Node.Bounds bounds) number = (Added.Bounds number, None)
+placed (Node.Bindings bindings) number = (Added.Bindings number, None)
+placed (Node.Symbol whole) number = (Added.Symbol number, None)
+
+-- the part of an added node
+abbrev pub part_of : Added → Part
+part_of (Added.Path node) = Part.Path node
+part_of (Added.Type node) = Part.Type node
+part_of (Added.Constant node) = Part.Constant node
+part_of (Added.Arguments node) = Part.Arguments node
+part_of (Added.Types node) = Part.Types node
+part_of (Added.Bounds node) = Part.Bounds node
+part_of (Added.Bindings node) = Part.Bindings node
+part_of (Added.Symbol node) = Part.Symbol node
+
+-- the part of the node that was added, if one was
+abbrev pub as_part : Result Added Refusal → Result Part Refusal
+as_part (Ok added) = Ok (part_of added)
+as_part (Err e) = Err e
 
 -- a reference
 abbrev pub is_reference : Production → Bool

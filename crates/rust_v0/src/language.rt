@@ -27,12 +27,13 @@ use crate::make::{
     signed_constant, slice, symbol, trait_definition, trait_impl, tuple, type_argument,
     unsigned_constant,
 };
-use crate::part::{Part, STRAY};
+use crate::part::{Added, Part, STRAY};
 use crate::production::{Production, numbered};
 use rust_tree::Nodes;
 use rust_tree::node::{Arguments, Bindings, Bounds, Constant, Node, Ty, Types};
 use std::alloc::Global;
 use sym_core::Refusal;
+use sym_link::language::Frame;
 
 /// What began at a place of the symbol and has ended, by its node.
 #[derive(Clone, Copy)]
@@ -99,17 +100,20 @@ fn note(ended: &mut Vec<Ending>, place: u32, ending: Ending)
     }
 }
 
-/// How many lifetimes are bound around the next part of a rule, whose earlier parts are these: a binder of a function's
-/// type holds for all behind it, one of a `dyn` type for its bounds alone.
-pub fn bound_behind(rule: u16, bound: u64, parts: &[Part]) -> u64
-    ensures { result ≡ front.bound_behind (production_of rule) bound parts.now }
+/// How many lifetimes are bound around the next part of the rule of a frame, whose parts are those from its base on: a binder
+/// of a function's type holds for all behind it, one of a `dyn` type for its bounds alone.
+#[inline(always)]
+pub fn bound_behind(frame: Frame<Kept>, parts: &[Part]) -> u64
+    requires { frame.base ≤ length parts.now }
+    ensures { result ≡ front.bound_behind (production_of frame.rule) frame.kept.bound (drop frame.base parts.now) }
 {
-    match numbered(rule) {
-        Some(Production::Function) => match parts {
+    let bound = frame.kept.bound;
+    match numbered(frame.rule) {
+        Some(Production::Function) => match &parts[frame.base..] {
             [Part::Binder(lifetimes), ..] => bound.saturating_add(u64::from(*lifetimes)),
             _ => bound,
         },
-        Some(Production::Dyn) => match parts {
+        Some(Production::Dyn) => match &parts[frame.base..] {
             [Part::Binder(lifetimes)] => bound.saturating_add(u64::from(*lifetimes)),
             _ => bound,
         },
@@ -131,18 +135,18 @@ pub fn without_zeros(digits: &[u8]) -> usize
 }
 
 /// What a node is as a part, and how it has ended if references may name it.
-fn placed(node: Node, number: u32) -> (Part, Option<Ending>)
+fn placed(node: Node, number: u32) -> (Added, Option<Ending>)
     ensures { result ≡ making.placed node number }
 {
     match node {
-        Node::Path(_) => (Part::Path(number), Some(Ending::Path(number))),
-        Node::Ty(_) => (Part::Type(number), Some(Ending::Type(number))),
-        Node::Constant(_) => (Part::Constant(number), Some(Ending::Constant(number))),
-        Node::Arguments(_) => (Part::Arguments(number), None),
-        Node::Types(_) => (Part::Types(number), None),
-        Node::Bounds(_) => (Part::Bounds(number), None),
-        Node::Bindings(_) => (Part::Bindings(number), None),
-        Node::Symbol(_) => (Part::Symbol(number), None),
+        Node::Path(_) => (Added::Path(number), Some(Ending::Path(number))),
+        Node::Ty(_) => (Added::Type(number), Some(Ending::Type(number))),
+        Node::Constant(_) => (Added::Constant(number), Some(Ending::Constant(number))),
+        Node::Arguments(_) => (Added::Arguments(number), None),
+        Node::Types(_) => (Added::Types(number), None),
+        Node::Bounds(_) => (Added::Bounds(number), None),
+        Node::Bindings(_) => (Added::Bindings(number), None),
+        Node::Symbol(_) => (Added::Symbol(number), None),
     }
 }
 
@@ -195,20 +199,20 @@ impl Linked {
 
     /// Adds a node that began at a place.
     #[inline(always)]
-    fn add(&mut self, place: u32, node: Node) -> Result<Part, Refusal>
+    fn add(&mut self, place: u32, node: Node) -> Result<Added, Refusal>
         requires room { length self.old.nodes.nodes + 1 < 2 ^ 32 }
         ensures gives { (at : At) (read : Meaning) → at.place ≡ place → place < length self.old.ended.items → Keeps at.symbol self.old at.ended
-            → MadeGives at.symbol self.old.nodes at (Ok (Made.Node node)) read → Gives (v0_view at.symbol) self.new result read }
+            → MadeGives at.symbol self.old.nodes at (Ok (Made.Node node)) read → Gives (v0_view at.symbol) self.new (making.as_part result) read }
         ensures grows { GoesOn self.old self.new }
         ensures one { length self.new.nodes.nodes ≤ length self.old.nodes.nodes + 1 }
         ensures text { self.new.nodes.text ≡ self.old.nodes.text }
     {
         let number = self.nodes.push(node)?;
-        let (part, ending) = placed(node, number);
+        let (added, ending) = placed(node, number);
         if let Some(ending) = ending {
             note(&mut self.ended, place, ending);
         }
-        Ok(part)
+        Ok(added)
     }
 
     /// A reference at a place stands for a node, if that needs no more lifetimes than are bound there.
@@ -287,7 +291,7 @@ pub fn end_of(symbol: &[u8]) -> u32
 }
 
 /// Whether the production is that of a reference.
-fn is_reference(production: Production) -> bool
+pub fn is_reference(production: Production) -> bool
     ensures { result ≡ making.is_reference production }
 {
     matches!(
@@ -319,7 +323,7 @@ impl Linked {
     }
 
     /// What a reference means, whose parts are these.
-    fn reference(
+    pub fn reference(
         &mut self,
         production: Production,
         site: Site,
@@ -339,10 +343,10 @@ impl Linked {
 
     /// Adds the node that a rule at a place has made, if it has made one.
     #[inline(always)]
-    fn add_made(&mut self, place: u32, made: Result<Node, Refusal>) -> Result<Part, Refusal>
+    fn add_made(&mut self, place: u32, made: Result<Node, Refusal>) -> Result<Added, Refusal>
         requires room { length self.old.nodes.nodes + 1 < 2 ^ 32 }
         ensures gives { (at : At) (read : Meaning) (meant : Making) → of_node made ≡ meant → at.place ≡ place → place < length self.old.ended.items → Keeps at.symbol self.old at.ended
-            → MadeGives at.symbol self.old.nodes at meant read → Gives (v0_view at.symbol) self.new result read }
+            → MadeGives at.symbol self.old.nodes at meant read → Gives (v0_view at.symbol) self.new (making.as_part result) read }
         ensures grows { GoesOn self.old self.new }
         ensures one { length self.new.nodes.nodes ≤ length self.old.nodes.nodes + 1 }
         ensures text { self.new.nodes.text ≡ self.old.nodes.text }
@@ -355,16 +359,16 @@ impl Linked {
 
     /// Adds the node that a rule makes of these parts.
     #[inline(always)]
-    fn add_by(
+    pub fn add_by(
         &mut self,
         production: Production,
         site: Site,
         parts: &[Part],
-    ) -> Result<Part, Refusal>
+    ) -> Result<Added, Refusal>
         requires room { length self.old.nodes.nodes + 1 < 2 ^ 32 }
         ensures gives { (at : At) (read : Meaning) → making.is_reference production ≡ false → making.makes_part production ≡ false
             → at.place ≡ site.place → site.byte ≡ slice_index at.symbol at.place → site.place < length self.old.ended.items → Keeps at.symbol self.old at.ended
-            → MadeGives at.symbol self.old.nodes at (making.made production at.symbol at.place at.bound parts.now) read → Gives (v0_view at.symbol) self.new result read }
+            → MadeGives at.symbol self.old.nodes at (making.made production at.symbol at.place at.bound parts.now) read → Gives (v0_view at.symbol) self.new (making.as_part result) read }
         ensures grows { GoesOn self.old self.new }
         ensures one { length self.new.nodes.nodes ≤ length self.old.nodes.nodes + 1 }
         ensures text { self.new.nodes.text ≡ self.old.nodes.text }
@@ -408,30 +412,5 @@ impl Linked {
             Production::Placeholder => self.add(place, Node::Constant(Constant::Placeholder)),
             _ => Err(STRAY),
         }
-    }
-
-    /// What a rule means, whose parts are these.
-    pub fn meant(
-        &mut self,
-        production: Production,
-        site: Site,
-        parts: &[Part],
-    ) -> Result<Part, Refusal>
-        requires room { length self.old.nodes.nodes + 1 < 2 ^ 32 }
-        ensures gives { (at : At) (known : List Value) → at.bound < 2 ^ 64 → at.place ≡ site.place → at.bound ≡ site.bound → site.byte ≡ slice_index at.symbol at.place
-            → site.end ≡ length at.symbol → at.place < length at.symbol → site.place < length self.old.ended.items → Keeps at.symbol self.old at.ended
-            → AreAll (IsPart (ground at.symbol self.old.nodes)) parts.now known
-            → Gives (v0_view at.symbol) self.new result (meaning production at known) }
-        ensures grows { GoesOn self.old self.new }
-        ensures one { length self.new.nodes.nodes ≤ length self.old.nodes.nodes + 1 }
-        ensures text { self.new.nodes.text ≡ self.old.nodes.text }
-    {
-        if is_reference(production) {
-            return self.reference(production, site, parts);
-        }
-        if makes_part(production) {
-            return part_by(production, site, parts);
-        }
-        self.add_by(production, site, parts)
     }
 }

@@ -1,17 +1,20 @@
 // The four moments at which the driver asks the language.
 
-ghost use Rattle.std.specs.Prelude.{◌≡◌, ℕ, ◌<◌, ◌≤◌, ◌++◌, ◌∷◌, [], length, slice_index, Some, true, IfErr, OnOk};
+ghost use Rattle.std.specs.Bool.{OnTrue};
+ghost use Rattle.std.specs.Prelude.{◌≡◌, ℕ, ◌<◌, ◌≤◌, ◌++◌, ◌∷◌, [], length, take, slice_index, Some, true, IfErr, OnOk};
 ghost use Rattle.sym_core.specs.Number.{FitsSymbol};
 ghost use Rattle.sym_core.specs.declared.refusal.Refusal.TheVariants as refusals;
 ghost use Rattle.sym_link.specs.Linking.{HasRoom, TakesToken, ClosesRule, Adds, Pays, at_most};
+ghost use Rattle.rust_tree.specs.declared.node.Name.{Name};
+ghost use Rattle.rust_v0.specs.declared.part.Part.{Part};
 ghost use Rattle.rust_v0.specs.Linked.{v0_view};
 ghost use Rattle.rust_v0.specs.Productions.{production_of};
 ghost use Rattle.rust_v0.specs.Tokens as tokens;
 ghost use Rattle.rust_v0.specs.Making as making;
 
-use crate::language::{Kept, Linked, bound_behind, end_of, reach};
-use crate::make::{Site, part_by};
-use crate::part::{Part, STRAY};
+use crate::language::{Kept, Linked, bound_behind, end_of, is_reference, reach};
+use crate::make::{Site, makes_part, part_by};
+use crate::part::{Part, STRAY, part_of};
 use crate::production::{Production, numbered};
 use crate::tokens::{TokenSort, sort_of};
 use sym_core::{Refusal, Span};
@@ -45,6 +48,24 @@ fn push_part(parts: &mut Vec<Part>, part: Part) -> Result<(), Refusal>
     parts.reserve(1)?;
     parts.push_reserved(part);
     Ok(())
+}
+
+/// Puts a part in the place of those from the base on.
+#[inline(always)]
+fn put(parts: &mut Vec<Part>, base: usize, part: Part) -> Result<(), Refusal>
+    requires { base ≤ length parts.old.items }
+    ensures items { OnOk result (parts.new.items ≡ take base parts.old.items ++ part ∷ []) }
+    ensures memory { IfErr result (λ e. e ≡ refusals.Memory) }
+{
+    parts.truncate(base);
+    push_part(parts, part)
+}
+
+/// Whether the parts are one name.
+fn is_name(parts: &[Part]) -> bool
+    ensures { OnTrue result ((name : Name) × (parts.now ≡ Part.Name name ∷ [])) }
+{
+    matches!(parts, [Part::Name(_)])
 }
 
 impl Linked {
@@ -118,9 +139,7 @@ impl Linked {
     {
         let site = site_of(symbol, frame);
         let part = part_by(production, site, &parts[frame.base..])?;
-        parts.truncate(frame.base);
-        push_part(parts, part)?;
-        Ok(())
+        put(parts, frame.base, part)
     }
 
     /// Closes the rule of a frame.
@@ -142,10 +161,17 @@ impl Linked {
             return Err(STRAY);
         };
         let site = site_of(symbol, frame);
-        let part = self.meant(production, site, &parts[frame.base..])?;
-        parts.truncate(frame.base);
-        push_part(parts, part)?;
-        Ok(())
+        let own = &parts[frame.base..];
+        if is_reference(production) {
+            let part = self.reference(production, site, own)?;
+            return put(parts, frame.base, part);
+        }
+        if makes_part(production) {
+            let part = part_by(production, site, own)?;
+            return put(parts, frame.base, part);
+        }
+        let added = self.add_by(production, site, own)?;
+        put(parts, frame.base, part_of(added))
     }
 }
 
@@ -195,7 +221,7 @@ impl Linking for Linked {
         ensures adds { OnOk result (Adds (v0_view symbol.now) self.old self.new (v0_view symbol.now).at_begin) }
         ensures pays { OnOk result ((at : ℕ) → at ≤ row.from → Pays (v0_view symbol.now) self.old self.new at row.from) }
     {
-        let bound = bound_behind(frame.rule, frame.kept.bound, &parts[frame.base..]);
+        let bound = bound_behind(frame, parts);
         reach(&mut self.ended, row.from as usize)?;
         Ok(Kept { bound })
     }
@@ -222,7 +248,8 @@ impl Linking for Linked {
             Some(Production::PlainName) => {
                 self.take_as(symbol, TokenSort::PlainName, frame, parts, row)
             }
-            _ => self.take_any(symbol, frame, parts, row),
+            // a frame and a row of their own for the call let the others stay in registers
+            _ => self.take_any(symbol, Frame { ..frame }, parts, Row { ..row }),
         }
     }
 
@@ -241,14 +268,13 @@ impl Linking for Linked {
         ensures pays { OnOk result ((at : ℕ) → Pays (v0_view symbol.now) self.old self.new at at) }
     {
         match numbered(frame.rule) {
-            // most rules
-            Some(Production::PlainName) => {
-                self.close_part(symbol, Production::PlainName, frame, parts)
-            }
+            // the name is what the rule means: it stays
+            Some(Production::PlainName) if is_name(&parts[frame.base..]) => Ok(()),
             Some(Production::Namespace) => {
                 self.close_part(symbol, Production::Namespace, frame, parts)
             }
-            _ => self.close_any(symbol, frame, parts),
+            // a frame of its own for the call lets the others stay in registers
+            _ => self.close_any(symbol, Frame { ..frame }, parts),
         }
     }
 

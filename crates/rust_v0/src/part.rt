@@ -1,5 +1,8 @@
 // What the parts of a rule stand for, in terms of nodes.
 
+ghost use Rattle.std.specs.Prelude.{◌≡◌};
+ghost use Rattle.rust_v0.specs.Making as making;
+
 use rust_tree::node::{Abi, Name};
 use sym_core::{Refusal, Span};
 
@@ -38,6 +41,35 @@ pub enum Part {
     Suffix(Span),
     SuffixRest,
     Symbol(u32),
+}
+
+/// A part that stands for a node which was just added.
+#[derive(Clone, Copy)]
+pub enum Added {
+    Path(u32),
+    Type(u32),
+    Constant(u32),
+    Arguments(u32),
+    Types(u32),
+    Bounds(u32),
+    Bindings(u32),
+    Symbol(u32),
+}
+
+/// The part of an added node.
+pub fn part_of(added: Added) -> Part
+    ensures { result ≡ making.part_of added }
+{
+    match added {
+        Added::Path(node) => Part::Path(node),
+        Added::Type(node) => Part::Type(node),
+        Added::Constant(node) => Part::Constant(node),
+        Added::Arguments(node) => Part::Arguments(node),
+        Added::Types(node) => Part::Types(node),
+        Added::Bounds(node) => Part::Bounds(node),
+        Added::Bindings(node) => Part::Bindings(node),
+        Added::Symbol(node) => Part::Symbol(node),
+    }
 }
 
 /// No well shaped symbol has such parts.

@@ -1,4 +1,4 @@
-use Rattle.std.proofs.Common.{◌≡◌, ◌<◌, ◌++◌, ◌∷◌, [], refl, sym, ap, ◌∙◌, arith, Some, Ok, Err, drop}
+use Rattle.std.proofs.Common.{◌≡◌, ◌<◌, refl, arith, Some, Ok, Err, drop, take}
 use Rattle.std.specs.Prelude.{◌^◌}
 use Rattle.std.proofs.lemmas.Result.{err_from_is_err_and}
 use Rattle.sym_link.proofs.Lists.{rest_all}
@@ -6,7 +6,8 @@ use Rattle.rust_v0.specs.Making as making
 use Rattle.rust_v0.specs.Making.{of_part}
 use Rattle.rust_v0.specs.Productions.{production_of}
 use Rattle.rust_v0.specs.Unfold.{at_rule}
-use Rattle.rust_v0.proofs.Meanings.{made_gives, gives_part, goes_on_same, makes_no_reference}
+use Rattle.rust_v0.proofs.Closing.{put_gives, same_adds}
+use Rattle.rust_v0.proofs.Meanings.{made_gives, gives_part, makes_no_reference}
 use Rattle.rust_v0.proofs.Reading.{v0_ended}
 use Rattle.rust_v0.proofs.language.Linked.close_part.Goals as goal
 
@@ -33,12 +34,10 @@ returns-clause-closes c rule known from left state is none =
     let made_is : of_part (Ok c.in_ok-part.part) ≡ making.made c.args.production s rule.place rule.context own =
     rw (← is.place, ← c.site_of-site.ensures.place, ← is.kept.is, ← c.site_of-site.ensures.bound, ← rest_all c.args.parts.now.items c.args.frame.base, ← c.deref.ensures.value)
     (c.in_ok-part.ensures s c.requires.part (rw c.site_of-site.ensures.place c.site_of-site.ensures.byte) c.site_of-site.ensures.end) in
-    rw (v0_ended s rule known from left state none, production_is) (
-      c.in_ok-part.part,
-      c.in_ok-push_part.ensures.items ∙ ap (λ ps. ps ++ c.in_ok-part.part ∷ []) c.truncate.ensures.items,
-      gives_part s c.args.self.now (at_rule s rule state) (Ok c.in_ok-part.part) _ _ is.holds made_is
-          (made_gives c.args.self.now.nodes (at_rule s rule state) c.args.production own known (makes_no_reference c.args.production c.requires.part) (rw (← is.place) c.requires.place) fits is.holds.lists is.parts),
-    )
+    rw (v0_ended s rule known from left state none, production_is)
+    (put_gives s c.args.self.now (take c.args.frame.base c.args.parts.now.items) c.put.new.parts.items c.in_ok-part.part c.put.result _ c.put.ensures.items c.put.ensures.memory
+    (gives_part s c.args.self.now (at_rule s rule state) (Ok c.in_ok-part.part) _ _ is.holds made_is
+    (made_gives c.args.self.now.nodes (at_rule s rule state) c.args.production own known (makes_no_reference c.args.production c.requires.part) (rw (← is.place) c.requires.place) fits is.holds.lists is.parts)))
 
 pub returns-clause-adds : goal.returns-clause-adds
-returns-clause-adds c = (goes_on_same c.args.self.now c.args.self.now refl refl, omega arith)
+returns-clause-adds c = same_adds c.args.symbol.now c.args.self.now c.args.self.now c.put.result refl refl

@@ -6,7 +6,7 @@ use Rattle.rust_v0.specs.Productions.{production_of}
 use Rattle.rust_v0.specs.Unfold.{bound_behind}
 use Rattle.rust_v0.specs.Makings.{ground}
 use Rattle.std.specs.Prelude.{◌^◌}
-use Rattle.sym_link.proofs.Lists.{taken_dropped, rest_all}
+use Rattle.sym_link.proofs.Lists.{taken_dropped}
 use Rattle.rust_v0.proofs.Reading.{v0_next}
 use Rattle.rust_v0.proofs.Noted.{noted_further}
 use Rattle.rust_v0.proofs.Entering.{bound_agrees, bound_few, skipped_further}
@@ -29,7 +29,7 @@ returns-clause-opens c around known from left state rule taken inner rest is lef
     let g = ground c.args.symbol.now c.args.self.now.nodes in
     let agrees = bound_agrees g (production_of around.rule.number) around.context (drop c.args.frame.base c.args.parts.now.items) known is.parts fits in
     let bound : c.bound_behind-bound.result ≡ bound_behind (production_of around.rule.number) around.context known =
-    (rw (c.deref.ensures.value, rest_all c.args.parts.now.items c.args.frame.base, is.number, is.kept.is) at c.bound_behind-bound.ensures) ∙ agrees.0 in
+    (rw (c.deref.ensures.value, is.number, is.kept.is) at c.bound_behind-bound.ensures) ∙ agrees.0 in
     rw (v0_next c.args.symbol.now around known from left state) (
       _,
       refl,
