@@ -1,6 +1,7 @@
 -- A node that is added stands for what its production means.
-use Rattle.std.proofs.Common.{◌≡◌, refl, ℕ, ◌<◌, inl, List, ◌∷◌, length, Option, Some, None, Ok}
+use Rattle.std.proofs.Common.{◌≡◌, refl, ap, arith, ℕ, ◌<◌, inl, List, ◌∷◌, length, Option, Some, None, Ok}
 use Rattle.std.specs.Prelude.{slice_get, slice_set}
+use Rattle.std.proofs.lemmas.List.{length-set}
 use Rattle.rust_tree.specs.Tree.{Tree}
 use Rattle.rust_tree.specs.Nodes.{Grows, IsTable, trees, tree_of, type_of}
 use Rattle.rust_tree.specs.declared.node.Node.{Node}
@@ -39,6 +40,7 @@ module _ (at : At) (old new : Linked) (number : ℕ) (read : Meaning) (there : a
   keeps_with : (ending : Ending) (v : Value) → IsNoted (trees at.symbol new.nodes.nodes) ending (Some v) → new.ended.items ≡ slice_set old.ended.items at.place ending
       → Keeps at.symbol new (record { place = at.place; value = v } ∷ at.ended)
   keeps_with ending v is same = record {
+    places = omega (arith, keeps.places, ap (λ es. length es) same, length-set old.ended.items at.place ending);
     table = table;
     lists = lists_stay at.symbol old.nodes new.nodes grows keeps.lists;
     noted = λ place. rw same (noted_added (trees at.symbol new.nodes.nodes) old.ended.items at.ended at.place ending v there further is place);
@@ -46,6 +48,7 @@ module _ (at : At) (old new : Linked) (number : ℕ) (read : Meaning) (there : a
 
   keeps_same : new.ended.items ≡ old.ended.items → Keeps at.symbol new at.ended
   keeps_same same = record {
+    places = omega (arith, keeps.places, ap (λ es. length es) same);
     table = table;
     lists = lists_stay at.symbol old.nodes new.nodes grows keeps.lists;
     noted = λ place. rw same (further place);

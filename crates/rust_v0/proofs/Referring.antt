@@ -1,7 +1,8 @@
 -- A reference stands for what it names.
-use Rattle.std.proofs.Common.{◌≡◌, refl, ℕ, ◌<◌, ◌⊎◌, inl, inr, List, ◌∷◌, length, Option, Some, None, arith}
+use Rattle.std.proofs.Common.{◌≡◌, refl, ap, ℕ, ◌<◌, ◌⊎◌, inl, inr, List, ◌∷◌, length, Option, Some, None, arith}
 use Rattle.std.specs.Prelude.{slice_set}
 use Rattle.std.proofs.lemmas.Bool.{le-leb}
+use Rattle.std.proofs.lemmas.List.{length-set}
 use Rattle.rust_tree.specs.Symbol as tree
 use Rattle.rust_tree.specs.Need.{need}
 use Rattle.rust_tree.specs.Tree.{need_of_tree, of_path, of_type, of_constant}
@@ -18,6 +19,7 @@ pub referred_keeps : (s : List ℕ) (old new : Linked) (ended : List Ended) (pla
     → IsNoted (trees s old.nodes.nodes) ending (Some v) → new.nodes ≡ old.nodes → new.ended.items ≡ slice_set old.ended.items place ending
     → Keeps s new (record { place = place; value = v } ∷ ended)
 referred_keeps s old new ended place ending v there keeps is nodes same = record {
+  places = omega (arith, keeps.places, ap (λ es. length es) same, length-set old.ended.items place ending);
   table = rw nodes keeps.table;
   lists = rw nodes keeps.lists;
   noted = λ at. rw (nodes, same) (noted_added (trees s old.nodes.nodes) old.ended.items ended place ending v there keeps.noted is at);

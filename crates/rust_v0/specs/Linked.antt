@@ -31,8 +31,9 @@ IsNoted all (Ending.Constant node) found = (constant : tree.Constant) × IsConst
 abbrev pub AreNoted : List Tree → List Ending → List Ended → Type 0
 AreNoted all endings ended = (place : ℕ) → IsNoted all (get_or endings place Ending.Nothing) (ended_at ended place)
 
--- the nodes are a table of the symbol, begun with the lists that have no items, and what has ended is noted
+-- the nodes are a table of the symbol, begun with the lists that have no items, and what has ended is noted by its place in the symbol
 pub record Keeps (s : List ℕ) (linked : Linked) (ended : List Ended) : Type 0 where
+  pub places : length s < length linked.ended.items
   pub table : IsTable s linked.nodes
   pub lists : HasLists (ground s linked.nodes)
   pub noted : AreNoted (ground s linked.nodes).all linked.ended.items ended

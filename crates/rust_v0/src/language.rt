@@ -160,20 +160,22 @@ impl Linked {
         }
     }
 
-    /// Forgets the symbol, and begins with the lists that have no items, and a text list with the decimal of zero alone.
-    /// The memory of the lists is kept.
+    /// Forgets the symbol, and begins another one with the lists that have no items, and a text list with the decimal of zero
+    /// alone. The memory of the lists is kept.
     ///
     /// # Errors
     ///
     /// `Memory` where a list couldn't grow.
-    pub fn restart(&mut self) -> Result<(), Refusal>
-        ensures keeps { OnOk result ((s : List ℕ) → Keeps s self.new []) }
+    pub fn restart(&mut self, symbol: &[u8]) -> Result<(), Refusal>
+        requires { FitsSymbol symbol.now }
+        ensures keeps { OnOk result (Keeps symbol.now self.new []) }
         ensures paid { OnOk result (IsPaid self.new 0) }
         ensures first { OnOk result (length self.new.nodes.nodes ≡ first_nodes) }
         ensures memory { IfErr result (λ e. e ≡ refusals.Memory) }
     {
         self.nodes.clear();
         self.ended.clear();
+        reach(&mut self.ended, symbol.len())?;
         self.nodes.push(Node::Arguments(Arguments::None))?;
         self.nodes.push(Node::Bounds(Bounds::None))?;
         self.nodes.push(Node::Bindings(Bindings::None))?;
@@ -181,19 +183,20 @@ impl Linked {
         Ok(())
     }
 
-    /// A table of the lists that have no items, and a text list with the decimal of zero alone.
+    /// A table for a symbol, of the lists that have no items, and a text list with the decimal of zero alone.
     ///
     /// # Errors
     ///
     /// `Memory` where a list couldn't grow.
-    pub fn new(alloc: Global) -> Result<Linked, Refusal>
-        ensures keeps { IfOk result (λ linked. (s : List ℕ) → Keeps s linked []) }
+    pub fn new(alloc: Global, symbol: &[u8]) -> Result<Linked, Refusal>
+        requires { FitsSymbol symbol.now }
+        ensures keeps { IfOk result (λ linked. Keeps symbol.now linked []) }
         ensures paid { IfOk result (λ linked. IsPaid linked 0) }
         ensures first { IfOk result (λ linked. length linked.nodes.nodes ≡ first_nodes) }
         ensures memory { IfErr result (λ e. e ≡ refusals.Memory) }
     {
         let mut linked = Linked::idle(alloc);
-        linked.restart()?;
+        linked.restart(symbol)?;
         Ok(linked)
     }
 

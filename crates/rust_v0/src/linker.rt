@@ -65,7 +65,7 @@ impl Linker {
         ensures unlinked { IfOk result (λ linker. linker ≡ unlinked bytes.items (length shape.rows) shape.steps) }
         ensures memory { IfErr result (λ e. e ≡ refusals.Memory) }
     {
-        let linked = Linked::new(alloc)?;
+        let linked = Linked::new(alloc, &bytes)?;
         Ok(Linker {
             bytes,
             shape,

@@ -12,7 +12,7 @@ ghost use Rattle.rust_v0.specs.Productions.{production_of};
 ghost use Rattle.rust_v0.specs.Tokens as tokens;
 ghost use Rattle.rust_v0.specs.Making as making;
 
-use crate::language::{Kept, Linked, bound_behind, end_of, is_reference, reach};
+use crate::language::{Kept, Linked, bound_behind, end_of, is_reference};
 use crate::make::{Site, makes_part, part_by};
 use crate::part::{Part, STRAY, part_of};
 use crate::production::{Production, numbered};
@@ -201,7 +201,6 @@ impl Linking for Linked {
         ensures adds { OnOk result (Adds (v0_view symbol.now) self.old self.new (v0_view symbol.now).at_begin) }
         ensures pays { OnOk result (Pays (v0_view symbol.now) self.old self.new 0 0) }
     {
-        reach(&mut self.ended, row.from as usize)?;
         Ok(Kept { bound: 0 })
     }
 
@@ -222,7 +221,6 @@ impl Linking for Linked {
         ensures pays { OnOk result ((at : ℕ) → at ≤ row.from → Pays (v0_view symbol.now) self.old self.new at row.from) }
     {
         let bound = bound_behind(frame, parts);
-        reach(&mut self.ended, row.from as usize)?;
         Ok(Kept { bound })
     }
 

@@ -141,7 +141,7 @@ impl Workspace {
         ensures rows { IfOk result (λ symbol. symbol.rows ≡ length self.old.shape.rows) }
         ensures refused { IfErr result (IsRefused self.old.bytes.items) }
     {
-        self.linked.restart()?;
+        self.linked.restart(&self.bytes)?;
         self.driver.reset();
         self.driver
             .run(&mut self.linked, &self.bytes, self.shape.rows())?;

@@ -6,10 +6,12 @@ use Rattle.rust_tree.specs.Tree.{of_arguments, of_bounds, of_bindings}
 use Rattle.rust_tree.specs.Nodes.{trees}
 use Rattle.rust_tree.proofs.Trees.{tree-stays}
 use Rattle.rust_v0.proofs.Beginning.{zero_alone, no_nodes, no_arguments_made, no_bounds_made, no_bindings_made, one_added}
+use Rattle.rust_v0.proofs.Noted.{noted_further}
 use Rattle.rust_v0.proofs.language.Linked.restart.Goals as goal
 
 pub returns-clause-keeps : goal.returns-clause-keeps
-returns-clause-keeps c s =
+returns-clause-keeps c =
+    let s = c.args.symbol.now in
     let none = c.clear.new.self in
     let one = c.push.new.self in
     let two = c.push-2.new.self in
@@ -33,7 +35,8 @@ returns-clause-keeps c s =
         bounds = tree-stays s three four 1 _ c.push_decimal.ensures.grows (tree-stays s two three 1 _ c.push-3.ensures.grows got_1);
         bindings = tree-stays s three four 2 _ c.push_decimal.ensures.grows got_2;
       };
-      noted = λ place. rw c.clear-2.ensures.items refl;
+      noted = noted_further (trees s four.nodes) c.clear-2.new.self.items c.reach.new.ended.items c.reach.ensures.more.0 [] c.reach.ensures.more.1 (λ place. rw c.clear-2.ensures.items refl);
+      places = c.in_ok-reach.ensures.there;
     }
 
 pub returns-clause-first : goal.returns-clause-first

@@ -31,6 +31,7 @@ returns-clause-takes c around known from left state t rest is left_is row_is =
       _,
       refl,
       record {
+        places = omega (arith, is.holds.places, ap (λ l. length l) c.token_part.ensures.ended);
         table = c.token_part.ensures.stays s is.holds.table;
         lists = lists_stay s old.nodes new.nodes c.token_part.ensures.grows is.holds.lists;
         noted = rw (c.token_part.ensures.nodes, c.token_part.ensures.ended) is.holds.noted;

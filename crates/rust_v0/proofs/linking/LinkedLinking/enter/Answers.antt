@@ -1,6 +1,4 @@
-use Rattle.std.proofs.Common.{arith, ap, length, length-append, refl, replicate}
-use Rattle.rust_v0.specs.declared.language.Ending.TheVariants as endings
-use Rattle.std.proofs.Common.{◌≡◌, ◌≤◌, ◌+◌, ◌<◌, sym, drop, ◌∙◌}
+use Rattle.std.proofs.Common.{◌≡◌, ◌≤◌, ◌+◌, ◌<◌, refl, sym, arith, length, drop, ◌∙◌}
 use Rattle.sym_link.specs.Parts.{skipped_from}
 use Rattle.rust_v0.specs.Productions.{production_of}
 use Rattle.rust_v0.specs.Unfold.{bound_behind}
@@ -8,19 +6,12 @@ use Rattle.rust_v0.specs.Makings.{ground}
 use Rattle.std.specs.Prelude.{◌^◌}
 use Rattle.sym_link.proofs.Lists.{taken_dropped}
 use Rattle.rust_v0.proofs.Reading.{v0_next}
-use Rattle.rust_v0.proofs.Noted.{noted_further}
+use Rattle.rust_v0.proofs.Meanings.{goes_on_same}
 use Rattle.rust_v0.proofs.Entering.{bound_agrees, bound_few, skipped_further}
-use Rattle.rust_tree.proofs.Trees.{grows-same}
 use Rattle.rust_v0.proofs.linking.LinkedLinking.enter.Goals as goal
 
 pub returns-clause-adds : goal.returns-clause-adds
-returns-clause-adds c = (
-  record {
-    nodes = grows-same c.args.self.now.nodes c.args.self.now.nodes refl;
-    places = omega (arith, ap (λ xs. length xs) c.reach.ensures.more.1, length-append c.args.self.now.ended.items (replicate c.reach.ensures.more.0 endings.Nothing));
-  },
-  omega arith,
-)
+returns-clause-adds c = (goes_on_same c.args.self.now c.args.self.now refl refl, omega arith)
 
 pub returns-clause-opens : goal.returns-clause-opens
 returns-clause-opens c around known from left state rule taken inner rest is left_is row_is =
@@ -36,13 +27,9 @@ returns-clause-opens c around known from left state rule taken inner rest is lef
       record {
         is = bound;
         few = bound_few c.args.symbol.now g around (drop c.args.frame.base c.args.parts.now.items) known (length known) from left is.parts is.stands is.kept.few fits later;
-        there = omega (arith, row_is.from, c.in_ok-reach.ensures.there);
+        there = omega (arith, row_is.from, c.requires.place, is.holds.places);
       },
-      record {
-        table = is.holds.table;
-        lists = is.holds.lists;
-        noted = noted_further g.all c.args.self.now.ended.items c.reach.new.ended.items c.reach.ensures.more.0 state.ended c.reach.ensures.more.1 is.holds.noted;
-      },
+      is.holds,
       _,
       sym (taken_dropped c.args.frame.base c.args.parts.now.items),
       is.parts,

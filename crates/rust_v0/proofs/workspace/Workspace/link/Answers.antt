@@ -41,24 +41,24 @@ is_linked s rows read_steps linked new steps new_steps refused new_refused next 
 
 pub whole_node-root-requires : goal.whole_node-root-requires
 whole_node-root-requires c =
-    let w = is_linked c.deref.result.now c.rows.result.now c.args.self.now.shape.steps c.restart.new.self c.run.new.language c.reset.new.self.steps c.run.new.self.steps c.reset.new.self.refused c.run.new.self.refused
+    let w = is_linked c.deref-2.result.now c.rows.result.now c.args.self.now.shape.steps c.restart.new.self c.run.new.language c.reset.new.self.steps c.run.new.self.steps c.reset.new.self.refused c.run.new.self.refused
     c.reset.new.self.next c.run.new.self.next c.reset.new.self.frames.items c.run.new.self.frames.items c.reset.new.self.parts.items c.run.new.self.parts.items
-    (rw (c.deref.ensures.value, c.rows.ensures) c.requires.rows) (rw (c.deref.ensures.value, c.rows.ensures) c.requires.few)
-    (c.in_ok-restart.ensures.keeps c.deref.result.now) c.in_ok-restart.ensures.first c.in_ok-restart.ensures.paid
+    (rw (c.deref-2.ensures.value, c.rows.ensures) c.requires.rows) (rw (c.deref-2.ensures.value, c.rows.ensures) c.requires.few)
+    (rw (c.deref-2.ensures.value, ← c.deref.ensures.value) c.in_ok-restart.ensures.keeps) c.in_ok-restart.ensures.first c.in_ok-restart.ensures.paid
     c.reset.ensures.steps c.reset.ensures.refused c.reset.ensures.next c.reset.ensures.frames c.reset.ensures.parts c.in_ok-run.ensures.driving c.in_ok-run.ensures.done in
-    rw c.deref-2.ensures.value (w.whole.node, w.whole.parts_are)
+    rw c.deref-3.ensures.value (w.whole.node, w.whole.parts_are)
 
 pub new-requires-3 : goal.new-requires-3
 new-requires-3 c =
-    let w = is_linked c.deref.result.now c.rows.result.now c.args.self.now.shape.steps c.restart.new.self c.run.new.language c.reset.new.self.steps c.run.new.self.steps c.reset.new.self.refused c.run.new.self.refused
+    let w = is_linked c.deref-2.result.now c.rows.result.now c.args.self.now.shape.steps c.restart.new.self c.run.new.language c.reset.new.self.steps c.run.new.self.steps c.reset.new.self.refused c.run.new.self.refused
     c.reset.new.self.next c.run.new.self.next c.reset.new.self.frames.items c.run.new.self.frames.items c.reset.new.self.parts.items c.run.new.self.parts.items
-    (rw (c.deref.ensures.value, c.rows.ensures) c.requires.rows) (rw (c.deref.ensures.value, c.rows.ensures) c.requires.few)
-    (c.in_ok-restart.ensures.keeps c.deref.result.now) c.in_ok-restart.ensures.first c.in_ok-restart.ensures.paid
+    (rw (c.deref-2.ensures.value, c.rows.ensures) c.requires.rows) (rw (c.deref-2.ensures.value, c.rows.ensures) c.requires.few)
+    (rw (c.deref-2.ensures.value, ← c.deref.ensures.value) c.in_ok-restart.ensures.keeps) c.in_ok-restart.ensures.first c.in_ok-restart.ensures.paid
     c.reset.ensures.steps c.reset.ensures.refused c.reset.ensures.next c.reset.ensures.frames c.reset.ensures.parts c.in_ok-run.ensures.driving c.in_ok-run.ensures.done in
-    let few : AreFew c.args.self.now.shape.steps (length c.rows.result.now) (length c.deref.result.now) = rw (c.deref.ensures.value, c.rows.ensures) c.requires.few in
-    let fits : FitsSymbol c.deref.result.now = rw c.deref.ensures.value c.requires.fits in
+    let few : AreFew c.args.self.now.shape.steps (length c.rows.result.now) (length c.deref-2.result.now) = rw (c.deref-2.ensures.value, c.rows.ensures) c.requires.few in
+    let fits : FitsSymbol c.deref-2.result.now = rw c.deref-2.ensures.value c.requires.fits in
     let counted : length c.rows-2.result.now ≡ length c.rows.result.now = ap (λ rs. length rs) (c.rows-2.ensures ∙ sym c.rows.ensures) in
-    rw (c.replace-bytes.ensures.value, c.replace-nodes.ensures.value, ← c.deref.ensures.value) (
-    reads c.deref.result.now _ c.run.new.language c.run.new.self.parts.items w.whole c.whole_node-root.result _ _ (sym c.deref-2.ensures.value ∙ c.whole_node-root.ensures)
+    rw (c.replace-bytes.ensures.value, c.replace-nodes.ensures.value, ← c.deref-2.ensures.value) (
+    reads c.deref-2.result.now _ c.run.new.language c.run.new.self.parts.items w.whole c.whole_node-root.result _ _ (sym c.deref-3.ensures.value ∙ c.whole_node-root.ensures)
     fits (omega (arith, counted, few.rows_few)) (omega (arith, counted, few.each, c.steps.ensures)) (omega (arith, w.few, c.steps.ensures))
     )
