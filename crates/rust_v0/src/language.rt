@@ -59,7 +59,7 @@ pub struct Linked {
 }
 
 /// The endings of places at which nothing has ended, added at once.
-const NO_ENDINGS: [Ending; 16] = [Ending::Nothing; 16];
+const NO_ENDINGS: [Ending; 64] = [Ending::Nothing; 64];
 
 /// Makes places for endings up to this one.
 pub fn reach(ended: &mut Vec<Ending>, place: usize) -> Result<(), Refusal>

@@ -227,8 +227,12 @@ impl<L: Linking> Driver<L> {
         self.refused = Some(refusal);
     }
 
-    /// Takes the next row or closes the innermost rule, which is counted. It answers whether nothing was left to do, and then does nothing and counts nothing.
-    /// A refusal is kept, and answered again.
+    /// Takes the next row, with the token that is all its rule has, or closes the innermost rule. That is counted.
+    /// It answers whether nothing was left to do, and then does nothing and counts nothing.
+    ///
+    /// # Errors
+    ///
+    /// What the symbol means, where that is a refusal, or `Memory`; and the same from then on.
     pub fn step(&mut self, language: &mut L, symbol: &[u8], rows: &[Row]) -> Result<bool, Refusal>
         requires fits { Fits symbol.now rows.now }
         requires driving { (tree : Tree) × IsShape (L.view symbol.now).table symbol.now rows.now tree
@@ -243,6 +247,7 @@ impl<L: Linking> Driver<L> {
         ensures frames { result ≡ Ok true → self.new.frames.items ≡ self.old.frames.items }
         ensures parts { result ≡ Ok true → self.new.parts.items ≡ self.old.parts.items }
         ensures next { result ≡ Ok true → self.new.next ≡ self.old.next }
+        ensures again { IfSome self.old.refused (λ refusal. result ≡ Err refusal) }
     {
         if let Some(refusal) = self.refused {
             return Err(refusal);
@@ -273,6 +278,10 @@ impl<L: Linking> Driver<L> {
     }
 
     /// Steps until nothing is left to do, with the same outcome and count as one step after the other.
+    ///
+    /// # Errors
+    ///
+    /// Those of `step`.
     pub fn run(&mut self, language: &mut L, symbol: &[u8], rows: &[Row]) -> Result<(), Refusal>
         requires fits { Fits symbol.now rows.now }
         requires driving { (tree : Tree) × IsShape (L.view symbol.now).table symbol.now rows.now tree
@@ -285,6 +294,7 @@ impl<L: Linking> Driver<L> {
             → OnOk result (IsDone (L.view symbol.now) symbol.now rows.now (meaning_of (L.view symbol.now) tree) language.new self.new.parts.items) }
         ensures open { OnOk result (self.new.refused ≡ None) }
         ensures kept { IfErr result (λ refusal. self.new.refused ≡ Some refusal) }
+        ensures again { IfSome self.old.refused (λ refusal. result ≡ Err refusal) }
     {
         if let Some(refusal) = self.refused {
             return Err(refusal);

@@ -4,4 +4,4 @@ use Rattle.rust_v0.proofs.language.reach.Goals as goal
 
 pub loop-ended-preserved : goal.loop-ended-preserved
 loop-ended-preserved c =
-    (c.loop-ended.invariant.0 + 16, more _ _ _ _ 16 _ c.loop-ended.invariant.1 (search rules))
+    (c.loop-ended.invariant.0 + 64, more _ _ _ _ 64 _ c.loop-ended.invariant.1 (search rules))
