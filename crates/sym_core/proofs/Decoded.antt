@@ -1,9 +1,8 @@
 -- What idna answers, as what the name stands for.
-use Rattle.std.proofs.Common.{◌≡◌, ℕ, ◌<◌, ◌≤◌, Bool, true, false, cond, nat_le, List, length, Option, Some, None, option_and_then, option_map, refl, sym, ap, ◌∙◌, arith, le-leb}
+use Rattle.std.proofs.Common.{◌≡◌, ℕ, ◌≤◌, Bool, true, false, cond, nat_le, List, length, Option, Some, None, option_and_then, option_map, refl, sym, ap, ◌∙◌, le-leb}
 use Rattle.std.specs.Prelude.{encode_utf8_all, chars}
 use Rattle.std.specs.Str.{IsUtf8}
 use Rattle.std.specs.List.{list_all}
-use Rattle.std.proofs.lemmas.Bool.Decides.{nat_tests}
 use Rattle.std.proofs.lemmas.Str.{chars_from_encodes}
 use Rattle.unicode_ident.specs.Ident.{is_xid_continue}
 use Rattle.idna.specs.Punycode.{decode}
@@ -22,10 +21,6 @@ pub decoded_name-invalid : (bytes coded : List ℕ) → coded ≡ hyphenated byt
 decoded_name-invalid bytes coded same e =
     pick (nat_le (length bytes) 2000) (option_and_then identifier_text (decode (hyphenated bytes)))
     (nothing (decode (hyphenated bytes)) (ap (λ (t : List ℕ). option_map encode_utf8_all (decode t)) (sym same) ∙ e))
-
--- a name that is too long
-pub decoded_name-long : (bytes : List ℕ) → 2000 < length bytes → decoded_name bytes ≡ None
-decoded_name-long bytes h = let no : nat_le (length bytes) 2000 ≡ false = grind (arith, nat_tests) in rw no refl
 
 something : (o : Option (List ℕ)) (text : List ℕ) (b : Bool) → IsUtf8 text → option_map encode_utf8_all o ≡ Some text → list_all is_xid_continue (chars text) ≡ b
     → option_and_then identifier_text o ≡ cond b (Some text) None

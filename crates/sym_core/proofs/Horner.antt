@@ -1,5 +1,5 @@
 -- Numbers read digit by digit.
-use Rattle.std.proofs.Common.{◌≡◌, ℕ, zero, suc, ◌+◌, ◌*◌, ◌^◌, ◌<◌, ◌≤◌, List, [], ◌∷◌, length, drop, refl, sym, ap, ◌∙◌, arith, get_or, true}
+use Rattle.std.proofs.Common.{◌≡◌, ℕ, zero, suc, ◌+◌, ◌*◌, ◌^◌, ◌<◌, ◌≤◌, List, [], ◌∷◌, length, drop, sym, ap, ◌∙◌, arith, get_or, true}
 use Rattle.std.proofs.Math.Nat.{pow-zero, pow-suc, mul_assoc, mul_comm, mul-le-mul_right}
 use Rattle.std.proofs.Math.Seq.{drop-cons}
 use Rattle.std.proofs.lemmas.Bool.Decides.{nat_tests}
@@ -7,7 +7,7 @@ use Rattle.std.proofs.lemmas.Fmt.{length-decimal-le, length-decimal-le_wide}
 use Rattle.std.specs.Fmt.{decimal}
 use Rattle.std.proofs.lemmas.List.Elements.{All-from_recursion}
 use Rattle.sym_core.specs.Number.{is_digit_of, AreDigits}
-use Rattle.sym_core.specs.Value.{radix_of, digit_value, value_onto, value_of, counted_value}
+use Rattle.sym_core.specs.Value.{radix_of, digit_value, value_onto, value_of}
 use Rattle.sym_core.specs.declared.NumberKind.{NumberKind}
 use Rattle.sym_core.specs.declared.NumberKind.TheVariants.{Length, Decimal, Seq36, Base62, Hex, Digits}
 
@@ -37,15 +37,6 @@ pub too_large : (kind : NumberKind) (v i most : ℕ) (ds : List ℕ) → i < len
     → most ≤ v * radix_of kind + digit_value kind (get_or ds i 0) → most ≤ value_of kind ds
 too_large kind v i most ds h same large =
     omega (arith, value_onto-next kind v i ds h, value_onto-le kind (v * radix_of kind + digit_value kind (get_or ds i 0)) (drop (i + 1) ds))
-
--- the value counts one more than the digits
-pub counted_value-more : (kind : NumberKind) (ds : List ℕ) → 0 < length ds → counted_value kind ds ≡ value_of kind ds + 1
-counted_value-more kind [] h = absurd (omega arith)
-counted_value-more kind (d ∷ ds) h = refl
-
-pub counted_value-none : (kind : NumberKind) (ds : List ℕ) → length ds ≡ 0 → counted_value kind ds ≡ 0
-counted_value-none kind [] h = refl
-counted_value-none kind (d ∷ ds) h = absurd (omega arith)
 
 pub digit_at : (kind : NumberKind) (ds : List ℕ) (i : ℕ) → AreDigits kind ds → i < length ds → is_digit_of kind (get_or ds i 0) ≡ true
 digit_at kind ds i are h = All-from_recursion (λ b. is_digit_of kind b ≡ true) ds are i 0 h

@@ -249,14 +249,3 @@ pub broken_bare : (kind : NumberKind) (s : List ℕ) (at end most : ℕ) → is_
 broken_bare kind s at end most unmarked le run limit =
     let none : end - at ≡ 0 = omega arith in
     subst (λ n. HasNoNumber kind (drop at s) n) (sym none) (has_no_number kind (drop at s) 0 (breaks_bare kind (drop at s) most (bares kind unmarked) (subst (λ n. IsRun kind (drop at s) most n) none run) limit))
-
-pub no_mark_end : (s : List ℕ) (at : ℕ) → length s ≤ at → (r : List ℕ) → drop at s ≡ 95 ∷ r → ⊥
-no_mark_end s at le r e = omega (arith, length-drop at s, ap length e)
-
-pub no_mark_here : (s : List ℕ) (at : ℕ) → at < length s → (get_or s at 0 ≡ 95 → ⊥) → (r : List ℕ) → drop at s ≡ 95 ∷ r → ⊥
-no_mark_here s at lt other r e =
-    let head : get_or s at 0 ∷ drop (at + 1) s ≡ 95 ∷ r = sym (drop_more s at 0 lt) ∙ e in
-    other cc
-
-pub mark_here : (s : List ℕ) (at : ℕ) → at < length s → get_or s at 0 ≡ 95 → drop at s ≡ 95 ∷ drop (at + 1) s
-mark_here s at lt is = drop_more s at 0 lt ∙ ap (λ c. c ∷ drop (at + 1) s) is
