@@ -14,9 +14,9 @@ use Rattle.sym_shape.specs.Reading.{Entry, Symbol}
 use Rattle.sym_shape.specs.Law.{IsLawful}
 use Rattle.sym_shape.specs.Tree.{IsMalformed, BeginsWellShaped, AreRowsOf}
 use Rattle.sym_shape.specs.Fed.{Fed, IsFed, IsOver, IsReason, IsMalformedSoFar}
-use Rattle.sym_shape.specs.Reader.{to_do, IsParse, IsParsing, IsAdvance, IsRun, IsRead, AreSpent}
+use Rattle.sym_shape.specs.Reader.{to_do, IsParse, IsParsing, IsAdvance, IsRun, AreSpent}
 use Rattle.sym_shape.proofs.Fronts.{front_begins}
-use Rattle.sym_shape.proofs.Runs.{few_now, few_stepped, run_rests}
+use Rattle.sym_shape.proofs.Runs.{few_stepped}
 use Rattle.sym_shape.proofs.Steps.{both_not, same_start, whole_read}
 
 -- what goes on with the next byte of more goes on with that of less
@@ -117,49 +117,6 @@ fed_more g bytes piece new ended ready refused parse going untold is room h =
       over = subst (λ r. IsOver g (bytes ++ piece) ended ready r parse) (sym going) over;
       few = record { steps_few = omega (arith, h.few.steps_few, length-append bytes piece); rows_few = omega (arith, h.few.rows_few, length-append bytes piece); each = h.few.each };
     })
-
--- the end is told
-pub fed_end : (g : Table) (bytes : List ℕ) (ended ready : Bool) (refused : Option Refusal) (parse : Parse) → refused ≡ None → ended ≡ false → IsFed g bytes ended ready refused parse → IsFed g bytes true ready refused parse
-fed_end g bytes ended ready refused parse going untold h =
-    let parsing = subst (λ e. IsParsing g e bytes parse) untold (open_parsing g bytes ended ready refused parse going h).0 in
-    let over : IsOver g bytes true ready None parse = (told g bytes parse.steps parse.at (to_do parse) parse.rows.items parsing, λ r. absurd (both_not ready r (not_ready g bytes ended ready refused parse untold h))) in
-    record {
-      fits = h.fits;
-      over = subst (λ r. IsOver g bytes true ready r parse) (sym going) over;
-      few = h.few;
-    }
-
--- a piece for which there is no memory
-pub fed_refused : (g : Table) (bytes : List ℕ) (ended ready : Bool) (refused : Option Refusal) (parse : Parse) → ended ≡ false → IsFed g bytes ended ready refused parse → IsFed g bytes ended ready (Some Memory) parse
-fed_refused g bytes ended ready refused parse untold h = record {
-  fits = h.fits;
-  over = (tt, not_ready g bytes ended ready refused parse untold h ∙ sym untold);
-  few = h.few;
-}
-
--- a move
-pub fed_moves : (g : Table) (bytes : List ℕ) (ended ready : Bool) (refused : Option Refusal) (old new : Parse) → refused ≡ None → ready ≡ false → IsFed g bytes ended ready refused old → IsAdvance g ended bytes old new (Ok false) → IsFed g bytes ended ready refused new
-fed_moves g bytes ended ready refused old new going unready h step =
-    let over : IsOver g bytes ended ready None new = (step.0, λ r. absurd (both_not ready r unready)) in
-    record {
-      fits = h.fits;
-      over = subst (λ r. IsOver g bytes ended ready r new) (sym going) over;
-      few = few_stepped g ended bytes old new (open_parsing g bytes ended ready refused old going h).0 step.1 step.2;
-    }
-
--- nothing is left to do with the bytes so far
-pub fed_reads : (g : Table) (bytes : List ℕ) (ended ready : Bool) (refused : Option Refusal) (old new : Parse) → refused ≡ None → IsFed g bytes ended ready refused old → IsRead g ended bytes old new → IsFed g bytes ended ended refused new
-fed_reads g bytes ended ready refused old new going h done =
-    let over : IsOver g bytes ended ended None new = (done.parsing, λ r. (r, (done.read r).0, (done.read r).1)) in
-    record {
-      fits = h.fits;
-      over = subst (λ r. IsOver g bytes ended ended r new) (sym going) over;
-      few = few_now g ended bytes new done.parsing;
-    }
-
-pub fed_rests : (g : Table) (bytes : List ℕ) (ended ready : Bool) (refused : Option Refusal) (old new : Parse) → refused ≡ None → IsFed g bytes ended ready refused old → IsAdvance g ended bytes old new (Ok true) → IsFed g bytes ended ended refused new
-fed_rests g bytes ended ready refused old new going h rest =
-    fed_reads g bytes ended ready refused old new going h (run_rests g ended bytes old old new (open_parsing g bytes ended ready refused old going h).0 (omega arith, omega arith) rest)
 
 -- a step that refuses
 pub fed_stops : (g : Table) (bytes : List ℕ) (ended ready : Bool) (refused : Option Refusal) (old new : Parse) (refusal : Refusal) → refused ≡ None → IsFed g bytes ended ready refused old → IsAdvance g ended bytes old new (Err refusal) → IsFed g bytes ended ended (Some refusal) new
