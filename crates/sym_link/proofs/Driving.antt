@@ -18,7 +18,7 @@ use Rattle.sym_link.proofs.Standing.{NextPart, a_rule, a_token, next_part, passe
 use Rattle.sym_link.proofs.Cases.{as_many}
 use Rattle.sym_link.proofs.Following.{Innermost, innermost, close_follows, close_fails}
 use Rattle.sym_link.proofs.Taking.{dropped_one, dropped_next, the_rule_row, rule_row_is, enter_follows, enter_fails, the_token_row, token_row_is, token_stands, token_follows, token_fails}
-use Rattle.sym_link.proofs.Starting.{room_close, room_take, room_less, room_root, IsRoot, root_of, root_row, root_follows, root_fails, done}
+use Rattle.sym_link.proofs.Starting.{room_close, room_take, room_less, room_root, IsRoot, root_of, root_row, root_follows, done}
 use Rattle.sym_link.proofs.Lists.{no_last}
 
 -- ## A rule closes
@@ -41,10 +41,6 @@ pub closing_place : {N P K V S C : Type 0} (view : View N P K V S C) (s : List �
     → CanClose view s nodes frame parts → frame.place < length s
 closing_place view s nodes frame parts laws can =
     inner_place view s can.shape can.whole nodes can.next can.lower frame parts laws (closing view s nodes frame parts can)
-
-pub closing_base : {N P K V S C : Type 0} (view : View N P K V S C) (s : List ℕ) (nodes : N) (frame : Frame K) (parts : List P)
-    → CanClose view s nodes frame parts → frame.base ≤ length parts
-closing_base view s nodes frame parts can = (closing view s nodes frame parts can).base
 
 no_row_left : {N P K V S C : Type 0} (view : View N P K V S C) (s : List ℕ) (shape : List Row) (whole : Result (Found (List V) S) Refusal)
     (nodes : N) (next : ℕ) (lower : List (Frame K)) (code : Frame K) (parts : List P) (i : Innermost view s shape whole nodes next lower code parts) → code.end ≡ next
@@ -335,13 +331,6 @@ root_begun view s shape tree old new codes opened parts row d laws is fresh row_
     rw (fresh.no_frame, fresh.no_part)
     (root_follows view s shape tree old new opened laws is r.0 fresh.no_node (number ∙ r.1.rule_is) (place ∙ r.1.from) (end ∙ r.2) base
     (opens r.0.rule r.0.taken r.0.inner r.1 fresh.holds) adds.1 (pays fresh.paid))
-
-pub root_refused : {N P K V S C : Type 0} (view : View N P K V S C) (s : List ℕ) (shape : List Row) (tree : Tree) (old new : N) (codes : List (Frame K)) (parts : List P) (row d : Row) (e : Refusal)
-    → IsLinking view → IsShape view.table s shape tree → IsFresh view old 0 codes parts → row ≡ slice_index_or shape 0 d
-    → OpensRoot view s shape old new row (Err e) → Fails e (meaning_of view tree)
-root_refused view s shape tree old new codes parts row d e laws is fresh row_is opens =
-    let r = root_at view s shape tree row d laws is row_is in
-    root_fails view tree r.0 e (opens r.0.rule r.0.taken r.0.inner r.1 fresh.holds)
 
 -- ## A move
 

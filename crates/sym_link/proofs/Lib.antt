@@ -9,4 +9,3 @@ pub mod Following
 pub mod Taking
 pub mod Starting
 pub mod Driving
-pub mod Positions

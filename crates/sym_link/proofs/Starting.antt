@@ -16,14 +16,14 @@ use Rattle.sym_link.specs.Reading.{Found, Reading, ◌>>=◌}
 use Rattle.sym_link.specs.Unfold.{found, alone, standing, unfold_tree, unfold_forest}
 use Rattle.sym_link.specs.Machine as machine
 use Rattle.sym_link.specs.Parts.{Stands}
-use Rattle.sym_link.specs.Driving.{AreAll, Fails}
+use Rattle.sym_link.specs.Driving.{AreAll}
 use Rattle.sym_link.specs.Linking.{View, IsLinking, HasRoom, at_most, Begun, begun, Begins}
 use Rattle.sym_link.specs.Following.{IsShape, meaning_of, HoldsAll, left_from, Follows, IsDone, IsDriving}
 use Rattle.sym_link.proofs.Lists.{no_last}
 use Rattle.sym_link.proofs.Results.{ok_any}
 use Rattle.sym_link.proofs.Opening.{root_outcome}
 use Rattle.sym_link.proofs.Standing.{stands_end}
-use Rattle.sym_link.proofs.Following.{Innermost, fails_carried}
+use Rattle.sym_link.proofs.Following.{Innermost}
 use Rattle.sym_link.proofs.Taking.{dropped_next, of_ok}
 
 -- ## The root
@@ -123,14 +123,6 @@ root_follows view s shape tree old new opened laws is r no_node number place end
   where
     sizes_root : (size new a b : ℕ) → size ≡ 0 → new ≤ size + a → new + b * 1 ≤ (a + b) * (0 + 1)
     sizes_root size new a b none added = omega (arith, none, added)
-
-pub root_fails : {N P K V S C : Type 0} (view : View N P K V S C) (tree : Tree) (r : IsRoot view.table tree) (e : Refusal)
-    → Fails e (begun view.reading r.rule r.taken 0 r.inner (record { context = view.around; values = []; state = view.first }))
-    → Fails e (meaning_of view tree)
-root_fails view tree r e fails =
-    fails_carried e (begun view.reading r.rule r.taken 0 r.inner (record { context = view.around; values = []; state = view.first }))
-    (λ b. machine.outcome_of view.reading (machine.frame b.rule (0 + length r.taken) r.inner b.values ∷ []) [] b.state) (meaning_of view tree) fails
-    (root_outcome view.reading view.around view.first r.rule r.taken r.inner ∙ ap (λ t. unfold_tree view.reading view.around 0 t view.first) (sym r.tree_is))
 
 -- ## Rooms
 

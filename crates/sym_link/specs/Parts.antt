@@ -29,11 +29,6 @@ values_in rowless (grown (fixed byte) rest) = rowless + values_in rowless rest
 values_in rowless (grown (token t) rest) = 1 + values_in rowless rest
 values_in rowless (grown (branch rule taken parts) rest) = 1 + values_in rowless rest
 
--- how many parts these are
-abbrev pub count_of : Forest → ℕ
-count_of nothing = 0
-count_of (grown first rest) = count_of rest + 1
-
 -- A rule of the grammar stands in a symbol. So many values are known of the parts that it has passed, and `left` are the
 -- other ones, which stand from a place on.
 pub record Stands {S C : Type 0} (g : Table) (s : List ℕ) (rowless : ℕ) (rule : Open S C) (held from : ℕ) (left : Forest) : Type 0 where
