@@ -1,21 +1,11 @@
 -- Parts that are built as data, and the code's list of them that grows part by part.
-use Rattle.std.proofs.Common.{◌≡◌, ℕ, ◌+◌, ◌<◌, List, [], ◌∷◌, ◌++◌, length, refl, sym, ap, ◌∙◌, arith}
+use Rattle.std.proofs.Common.{◌≡◌, ℕ, ◌<◌, List, [], ◌∷◌, ◌++◌, length, refl, sym, ap, ◌∙◌, arith}
 use Rattle.sym_print.specs.declared.layout.Item.{Item}
 use Rattle.sym_print.specs.declared.layout.Part.{Part}
 use Rattle.sym_print.specs.declared.layout.Part.TheVariants.{Sub}
-use Rattle.sym_print.specs.Unshared.{Unshared, done, bytes, item, text_of, cost_of_parts}
+use Rattle.sym_print.specs.Unshared.{Unshared, done, bytes, item}
 use Rattle.sym_print.specs.Building.{◌then◌}
 use Rattle.sym_print.specs.Joined.{joined, joined_before, IsText}
-
--- a text before other parts prints its bytes before them, also where it is empty
-pub text_of-then : (b : List ℕ) (rest : Unshared) → text_of (b then rest) ≡ b ++ text_of rest
-text_of-then [] rest = refl
-text_of-then (_ ∷ _) rest = refl
-
--- and costs its length
-pub cost_of-then : (b : List ℕ) (rest : Unshared) → cost_of_parts (b then rest) ≡ length b + cost_of_parts rest
-cost_of-then [] rest = omega arith
-cost_of-then (_ ∷ _) rest = refl
 
 -- a text that isn't empty is a part
 pub then-bytes : (b : List ℕ) (rest : Unshared) → 0 < length b → b then rest ≡ bytes b rest
