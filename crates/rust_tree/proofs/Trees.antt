@@ -506,24 +506,3 @@ grows-text old new more nodes text = record { more_nodes = []; more_text = more;
 pub text-stands : (s : List ℕ) (old new : Table) (more : List ℕ) → new.nodes ≡ old.nodes → new.text ≡ old.text ++ more → IsTable s old → IsTable s new
 text-stands s old new more nodes text is i e h =
     node-kept s old [] more new i e (ap (trees s) nodes ∙ sym (append-nil (trees s old.nodes))) text (is i e (sym (ap (λ ns. slice_get ns i) nodes) ∙ h))
-
-drop-front : {A : Type 0} (xs ys : List A) → drop (length xs) (xs ++ ys) ≡ ys
-drop-front [] ys = refl
-drop-front (x ∷ xs) ys = drop-front xs ys
-
-take-all : {A : Type 0} (n : ℕ) (xs : List A) → length xs ≤ n → take n xs ≡ xs
-take-all zero [] h = refl
-take-all zero (x ∷ xs) h = absurd (omega arith)
-take-all (suc n) [] h = refl
-take-all (suc n) (x ∷ xs) h = ap (λ r. x ∷ r) (take-all n xs (omega arith))
-
--- the span of what was added
-pub added-text : (old new text : List ℕ) (span : Span) → new ≡ old ++ text → span.from ≡ length old → span.to ≡ length new → bytes_at new span ≡ text
-added-text old new text span e from to =
-    ap (λ b. take (span.to - span.from) (drop span.from b)) e
-    ∙ ap (λ n. take (span.to - span.from) (drop n (old ++ text))) from
-    ∙ ap (take (span.to - span.from)) (drop-front old text)
-    ∙ take-all (span.to - span.from) text (omega (arith, from, to, ap (λ (b : List ℕ). length b) e, length-append old text))
-
-pub added-within : (old new text : List ℕ) (span : Span) → new ≡ old ++ text → span.from ≡ length old → span.to ≡ length new → IsWithin span new
-added-within old new text span e from to = (omega (arith, from, to, ap (λ (b : List ℕ). length b) e, length-append old text), omega (arith, to))

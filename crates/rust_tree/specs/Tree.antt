@@ -1,6 +1,6 @@
 -- What one node of a symbol stands for.
 use Rattle.std.specs.Prelude.{ℕ, max, Option, Some, None}
-use Rattle.rust_tree.specs.Symbol.{Path, Arguments, Ty, Tys, Bounds, Bindings, Constant, Symbol, path_type}
+use Rattle.rust_tree.specs.Symbol.{Path, Arguments, Ty, Tys, Bounds, Bindings, Constant, Symbol}
 use Rattle.rust_tree.specs.Need.{need, need_of_arguments, need_of_type, need_of_types, need_of_bounds, need_of_bindings}
 
 pub data Tree : Type 0 where
@@ -12,12 +12,6 @@ pub data Tree : Type 0 where
   of_bindings : Bindings → Tree
   of_constant : Constant → Tree
   of_symbol : Symbol → Tree
-
--- the node of a path is that of a type too
-abbrev pub as_type : Tree → Option Ty
-as_type (of_path path) = Some (path_type path)
-as_type (of_type type) = Some type
-as_type _ = None
 
 abbrev pub need_of_other : Option Path → ℕ
 need_of_other None = 0
