@@ -9,7 +9,7 @@ use Rattle.rust_tree.specs.declared.node.Ty.{Ty}
 use Rattle.rust_v0.specs.declared.language.Ending.{Ending}
 use Rattle.rust_v0.specs.declared.language.Linked.{Linked}
 use Rattle.rust_v0.specs.Value as value
-use Rattle.rust_v0.specs.Value.{Value, State, Ended}
+use Rattle.rust_v0.specs.Value.{Value}
 use Rattle.rust_v0.specs.Unfold.{At, Meaning, as_path}
 use Rattle.rust_v0.specs.Makings.{ends_tree}
 use Rattle.rust_v0.specs.Making as making

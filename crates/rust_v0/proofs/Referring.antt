@@ -1,5 +1,5 @@
 -- A reference stands for what it names.
-use Rattle.std.proofs.Common.{◌≡◌, refl, ap, ℕ, ◌<◌, ◌⊎◌, inl, inr, List, ◌∷◌, length, Option, Some, None, arith}
+use Rattle.std.proofs.Common.{◌≡◌, refl, ap, ℕ, ◌<◌, ◌⊎◌, inl, inr, List, ◌∷◌, length, Option, Some, arith}
 use Rattle.std.specs.Prelude.{slice_set}
 use Rattle.std.proofs.lemmas.Bool.{le-leb}
 use Rattle.std.proofs.lemmas.List.{length-set}
@@ -11,7 +11,7 @@ use Rattle.rust_v0.specs.declared.language.Ending.{Ending}
 use Rattle.rust_v0.specs.declared.language.Linked.{Linked}
 use Rattle.rust_v0.specs.Value as value
 use Rattle.rust_v0.specs.Value.{Value, Ended}
-use Rattle.rust_v0.specs.Unfold.{At, as_path, as_type, as_constant, refers_to_path, refers_to_type, refers_to_constant}
+use Rattle.rust_v0.specs.Unfold.{At, as_path, as_type, refers_to_path, refers_to_type, refers_to_constant}
 use Rattle.rust_v0.specs.Linked.{IsNoted, Keeps, refers_to}
 use Rattle.rust_v0.proofs.Noted.{noted_added}
 
@@ -32,10 +32,6 @@ path_is known path (inr is) = rw is refl
 pub type_is : (known : Option Value) (path : tree.Path) → ((known ≡ Some (value.a_path path)) ⊎ (known ≡ Some (value.a_type (tree.path_type path)))) → as_type known ≡ Some (tree.path_type path)
 type_is known path (inl is) = rw is refl
 type_is known path (inr is) = rw is refl
-
-pub constant_is : (known : Option Value) (path : tree.Path) → ((known ≡ Some (value.a_path path)) ⊎ (known ≡ Some (value.a_type (tree.path_type path)))) → as_constant known ≡ None
-constant_is known path (inl is) = rw is refl
-constant_is known path (inr is) = rw is refl
 
 pub path_refers : (at : At) (path : tree.Path) → refers_to_path at (Some path) ≡ refers_to at (value.a_path path) (need_of_tree (of_path path))
 unfolding need_of_tree
