@@ -28,10 +28,6 @@ Appends-keeps (Some xs') None c xs h i = absurd h
 Appends-keeps (Some xs') (Some bs) None xs h i = absurd i
 Appends-keeps (Some xs') (Some bs) (Some cs) xs h i = i ∙ h
 
-pub Consumes-none : (known : Option (List ℕ)) → Consumes known known []
-Consumes-none None = tt
-Consumes-none (Some xs) = refl
-
 pub Consumes-join : (a b c : Option (List ℕ)) (xs ys : List ℕ) → Consumes a b xs → Consumes b c ys → Consumes a c (xs ++ ys)
 Consumes-join None b c xs ys h i = tt
 Consumes-join (Some xs') None c xs ys h i = absurd h
@@ -57,15 +53,9 @@ BeginsWith-take xs i = (drop i xs, sym (take-append-drop i xs))
 pub BeginsWith-append : (xs ys more : List ℕ) → BeginsWith xs ys → BeginsWith (xs ++ more) ys
 BeginsWith-append xs ys more h = (h.0 ++ more, ap (λ (t : List ℕ). t ++ more) h.1 ∙ append_assoc ys h.0 more)
 
-pub BeginsWith-after : (front xs ys : List ℕ) → BeginsWith xs ys → BeginsWith (front ++ xs) (front ++ ys)
-BeginsWith-after front xs ys h = (h.0, ap (λ (t : List ℕ). front ++ t) h.1 ∙ sym (append_assoc front ys h.0))
-
 pub write_failures-some : (count : ℕ) (bytes : List ℕ) → (count ≡ 0 → ⊥) → write_failures (Some count) bytes ≡ 0
 write_failures-some zero bytes h = absurd (h refl)
 write_failures-some (suc count) bytes h = refl
-
-pub BeginsWith-none : (xs : List ℕ) → BeginsWith xs []
-BeginsWith-none xs = (xs, refl)
 
 pub IfErr-from_and : {T E : Type 0} → (r : Result T E) (Q P : E → Type 0) → IsErrAnd r Q → ((y : E) → Q y → P y) → IfErr r P
 IfErr-from_and (Ok x) Q P h f = absurd h
@@ -103,9 +93,6 @@ pub BeginsWith_trans : (a b c : List ℕ) → BeginsWith b a → BeginsWith c b 
 BeginsWith_trans a b c h j = (h.0 ++ j.0, j.1 ∙ ap (λ (t : List ℕ). t ++ j.0) h.1 ∙ append_assoc a h.0 j.0)
 
 -- bytes that are put behind those that wait
-pub Puts-none : (known : Option (List ℕ)) (out : List ℕ) → Puts known known out out []
-Puts-none known out = record { gone = []; writes = Appends-none known; keeps = append-nil out }
-
 pub Puts-push : (known : Option (List ℕ)) (out out' bytes : List ℕ) → out' ≡ out ++ bytes → Puts known known out out' bytes
 Puts-push known out out' bytes pushed = record { gone = []; writes = Appends-none known; keeps = sym pushed }
 

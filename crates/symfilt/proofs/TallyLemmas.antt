@@ -40,10 +40,6 @@ pub tally_with_word-unnamed : (answers : Answering) (tally : Tally) (word : List
 tally_with_word-unnamed answers tally word named fits =
     ap (tally_with answers tally) (cond-false (is_named word) _ _ named) ∙ tally_with-none answers tally fits
 
-pub IsTally-counted : (tally : Tally) (b : Bool) → IsTally tally → IsTally (tally_counted b tally)
-IsTally-counted tally true h = record { words = omega arith; replaced = omega arith; refused = h.refused }
-IsTally-counted tally false h = record { words = omega arith; replaced = h.replaced; refused = omega arith }
-
 -- two runs that have one word count alike
 pub tally_with-same : (answers : Answering) (tally : Tally) (run other : List ℕ) → has_text answers run ≡ has_text answers other → tally_with answers tally (run ∷ []) ≡ tally_with answers tally (other ∷ [])
 tally_with-same answers tally run other h =

@@ -187,9 +187,6 @@ Takes-join answers a b c piece next bytes more_bytes h i = record {
   dots = omega (arith, h.dots, i.dots, length-append piece next);
 }
 
-pub Takes-nothing : (answers : Answering) (words : Words) → Takes answers words words [] []
-Takes-nothing answers words = record { text = λ more. refl; counts = λ more. refl; dots = omega arith }
-
 -- nothing is held of a run
 pub held_of-empty : (words : Words) → words.held.items ≡ [] → words.dots ≡ 0 → held_of words ≡ []
 held_of-empty words h none = ap₂ (λ (t : List ℕ) (n : ℕ). t ++ replicate n 46) h none
