@@ -6,7 +6,7 @@ use Rattle.std.proofs.lemmas.List.Folds.{list_any-append}
 use Rattle.std.proofs.lemmas.Option.{slice_get-map, get_or_from_slice_get, slice_get_cases}
 use Rattle.std.proofs.lemmas.Bool.{le-leb, lt-leb, cases_Bool, cases_order}
 use Rattle.std.proofs.lemmas.Bool.Decides.{leb_tells, eqb_tells}
-use Rattle.sym_shape.specs.Sheet.{KindSheet, range, in_range, classes_of, choice_at, table_of}
+use Rattle.sym_shape.specs.Sheet.{range, in_range, classes_of, choice_at}
 use Rattle.sym_shape.specs.Sheet as sheets
 use Rattle.itanium.specs.declared.kind.Kind.{Kind}
 use Rattle.itanium.specs.Grammar.{Alternative, in_ranges, among, is_in, pick, alternatives, choose, kinds, may_be_empty}

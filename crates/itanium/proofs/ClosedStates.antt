@@ -238,9 +238,6 @@ parameter_grows around place k end state new e = go around.scope refl e
 
 -- ## Behind the parts of a production
 
-abbrev GoodState : Around → ℕ → State → State → Type 0
-GoodState around end old new = Grows around end old new
-
 pub with_prefix_grows : (around : Around) (end : ℕ) (state : State) → GoodPrefix (Bare around) around.prefix → Grows around end state (with_prefix around state)
 unfolding with_prefix
 with_prefix_grows around end state good = go around.prefix good

@@ -432,9 +432,6 @@ encoding_comes (grown t (grown u (grown v f))) all rule from state r is trees lt
 
 -- ## Branches
 
-keeps_length : (at : ℕ) (taken inner : List ℕ) → at + length taken + length inner ≡ at + length (taken ++ inner)
-keeps_length at taken inner = omega (arith, length-append taken inner)
-
 filled : (xs : List ℕ) → (xs ≡ [] → ⊥) → 0 < length xs
 filled [] h = absurd (h refl)
 filled (x ∷ xs) h = omega arith

@@ -22,10 +22,6 @@ or_no : (a b : Bool) → a ≡ false → b ≡ false → (a || b) ≡ false
 or_no false b e f = f
 or_no true b e f = absurd (true≢false e)
 
-or_left_no : (a b : Bool) → (a || b) ≡ false → a ≡ false
-or_left_no false b e = refl
-or_left_no true b e = absurd (true≢false e)
-
 or_right_no : (a b : Bool) → (a || b) ≡ false → b ≡ false
 or_right_no false b e = e
 or_right_no true b e = absurd (true≢false e)
