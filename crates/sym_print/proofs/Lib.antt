@@ -1,5 +1,4 @@
 pub mod Answering
-pub mod Bounds
 pub mod Building
 pub mod Leading
 pub mod Room
