@@ -184,8 +184,3 @@ module _ {C : Type 0} (unshared : Item C → Unshared) (bytes_of : Part C → Li
   pub too_dear : (stack : List (Part C)) (next : Part C) (limit spent : ℕ) → IsNext stack next → limit < spent + spends unshared bytes_of next
       → limit < spent + cost_of_stack unshared bytes_of stack
   too_dear stack next limit spent h dear = omega (arith, cost_of_next stack next h, spends-le next)
-
-  -- an empty stack prints nothing
-  pub text_of_none : (stack : List (Part C)) → stack ≡ [] → text_of_stack unshared bytes_of stack ≡ []
-  unfolding shown
-  text_of_none stack e = ap shown e
