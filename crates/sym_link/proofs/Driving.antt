@@ -42,6 +42,10 @@ pub closing_place : {N P K V S C : Type 0} (view : View N P K V S C) (s : List �
 closing_place view s nodes frame parts laws can =
     inner_place view s can.shape can.whole nodes can.next can.lower frame parts laws (closing view s nodes frame parts can)
 
+pub closing_base : {N P K V S C : Type 0} (view : View N P K V S C) (s : List ℕ) (nodes : N) (frame : Frame K) (parts : List P)
+    → CanClose view s nodes frame parts → frame.base ≤ length parts
+closing_base view s nodes frame parts can = (closing view s nodes frame parts can).base
+
 no_row_left : {N P K V S C : Type 0} (view : View N P K V S C) (s : List ℕ) (shape : List Row) (whole : Result (Found (List V) S) Refusal)
     (nodes : N) (next : ℕ) (lower : List (Frame K)) (code : Frame K) (parts : List P) (i : Innermost view s shape whole nodes next lower code parts) → code.end ≡ next
     → row_count_all i.top.left ≡ 0
