@@ -24,6 +24,7 @@ pub struct TokenPlace {
 }
 
 /// The longest number at a place, or the place where it breaks off.
+#[inline(always)]
 pub fn find_number(bytes: &[u8], at: usize, kind: NumberKind) -> Result<TokenPlace, usize>
     requires fits { FitsSymbol bytes.now }
     requires within { at ≤ length bytes.now }
@@ -125,6 +126,7 @@ fn is_bare_digit(own: &[u8], most: usize, skipped: usize) -> bool
 }
 
 /// The longest name at a place, or the place where it breaks off.
+#[inline(always)]
 pub fn find_name(bytes: &[u8], at: usize, names: NameClass) -> Result<TokenPlace, usize>
     requires fits { FitsSymbol bytes.now }
     requires within { at ≤ length bytes.now }

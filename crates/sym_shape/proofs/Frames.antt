@@ -1,6 +1,7 @@
 -- The reader's steps over its frames.
-use Rattle.std.proofs.Common.{◌≡◌, ℕ, ◌+◌, ◌-◌, ◌<◌, ◌≤◌, Bool, true, false, inl, inr, List, [], ◌∷◌, ◌++◌, length, take, drop, get_or, reverse, refl, ap, ap₂, sym, ◌∙◌, subst, arith, length-append, Some}
+use Rattle.std.proofs.Common.{◌≡◌, ℕ, ◌+◌, ◌-◌, ◌<◌, ◌≤◌, Bool, true, false, inl, inr, List, [], ◌∷◌, ◌++◌, length, take, drop, get_or, reverse, refl, ap, ap₂, sym, ◌∙◌, subst, arith, length-append, append_assoc, cond, Some}
 use Rattle.std.proofs.lemmas.List.{take_at, reverse-append}
+use Rattle.sym_core.specs.declared.NameClass.{NameClass}
 use Rattle.sym_core.specs.declared.TokenPlace.{TokenPlace}
 use Rattle.sym_shape.specs.declared.rule.Rule.{Rule}
 use Rattle.sym_shape.specs.declared.rule.Row.{Row}
@@ -10,11 +11,11 @@ use Rattle.sym_shape.specs.declared.frame.Frame.{Frame}
 use Rattle.sym_shape.specs.Table.{Table, symbols_of}
 use Rattle.sym_shape.specs.Tree.{IsMalformed, BeginsWellShaped}
 use Rattle.sym_shape.specs.Law.{IsLawful}
-use Rattle.sym_shape.specs.Reading.{Entry, Symbol, Close, entries_of, closed, IsKnown, TakesNone, place_behind, rule_stack, open_row, place_row}
+use Rattle.sym_shape.specs.Reading.{Entry, Symbol, Close, entries_of, closed, IsKnown, TakesNone, place_behind, rule_stack, open_row, place_row, lone_rows}
 use Rattle.sym_shape.specs.Frame.{left_of, passed, HasNext, HasLast, rule_frame, unfolded, IsTaken}
-use Rattle.sym_shape.specs.Reader.{IsParse, ReadsToken, BreaksToken}
+use Rattle.sym_shape.specs.Reader.{IsParse, ReadsToken, BreaksToken, IsWholeToken}
 use Rattle.sym_shape.proofs.Moves.{closed_at}
-use Rattle.sym_shape.proofs.Steps.{step_close, step_byte, step_empty, step_rule, step_token, refuse_behind, refuse_byte, refuse_kind, refuse_token, found_waits, broken_waits}
+use Rattle.sym_shape.proofs.Steps.{step_close, step_byte, step_empty, step_rule, step_token, refuse_behind, refuse_byte, refuse_kind, refuse_token, found_waits, broken_waits, token_within}
 
 -- the parse with these frames
 abbrev pub IsFramed : Table → Bool → List ℕ → ℕ → ℕ → Frame → List Frame → List Row → Type 0
@@ -107,6 +108,37 @@ frame_rule g lawful ended bytes steps at k b rule top frame below deeper rows ma
 pub frame_token : (g : Table) (lawful : IsLawful g) (ended : Bool) (bytes : List ℕ) (steps at : ℕ) (x : Sym) (place : TokenPlace) (top : Frame) (below : List Frame) (rows made : List Row) → IsFramed g ended bytes steps at top below rows → HasNext top x → ReadsToken g.names x (drop at bytes) at place → IsKnown ended bytes place.end → made ≡ rows ++ place_row place (length rows) ∷ [] → IsFramed g ended bytes (steps + 1) place.end (passed top) below made
 frame_token g lawful ended bytes steps at x place top below rows made h next read known is =
     subst (λ rs. IsFramed g ended bytes (steps + 1) place.end (passed top) below rs) (sym is) (step_token g lawful ended bytes steps at x place (unfolded (passed top) (reverse below)) rows read known (asks g ended bytes steps at top below rows x h next))
+
+one_more : (b : Bool) (at : ℕ) → cond b (at + 1) at ≤ at + 1
+one_more true at = omega arith
+one_more false at = omega arith
+
+behind_within : (rule : Rule) (at size : ℕ) → at < size → place_behind rule at ≤ size
+behind_within rule at size lt = omega (arith, one_more rule.eats at)
+
+-- a rule's only token is within the bytes
+pub lone_within : (names : NameClass) (x : Sym) (rule : Rule) (ended : Bool) (bytes : List ℕ) (at : ℕ) (place : TokenPlace) → at < length bytes → IsWholeToken names x ended bytes (place_behind rule at) place → (place.from ≤ place.to) × (place.to ≤ place.end) × (place.end ≤ length bytes)
+lone_within names x rule ended bytes at place lt whole =
+    token_within names x bytes (place_behind rule at) place (behind_within rule at (length bytes) lt) whole.0
+
+-- a rule is taken whose only symbol is a token, the token is read, and the rule's row ends
+pub frame_lone : (g : Table) (lawful : IsLawful g) (ended : Bool) (bytes : List ℕ) (steps at k b : ℕ) (rule : Rule) (x : Sym) (place : TokenPlace) (top : Frame) (below : List Frame) (rows made : List Row) → IsFramed g ended bytes steps at top below rows → HasNext top (Kind k) → at < length bytes → get_or bytes at 0 ≡ b → b < 256 → g.rule k b ≡ Some rule → symbols_of rule ≡ x ∷ [] → IsWholeToken g.names x ended bytes (place_behind rule at) place → made ≡ rows ++ lone_rows rule at place (length rows) → IsFramed g ended bytes (steps + 3) place.end (passed top) below made
+frame_lone g lawful ended bytes steps at k b rule x place top below rows made h next lt found byte chosen lone whole is =
+    let under = unfolded (passed top) (reverse below) in
+    let number = length rows in
+    let opened = rows ++ open_row rule at at 0 ∷ [] in
+    let count : length opened ≡ number + 1 = length-append rows (open_row rule at at 0 ∷ []) in
+    let token = place_row place (length opened) in
+    let taken = step_rule g lawful ended bytes steps at k b 0 rule under rows lt found byte chosen (asks g ended bytes steps at top below rows (Kind k) h next) in
+    let asked = subst (λ xs. IsParse g ended bytes (steps + 1) (place_behind rule at) (entries_of xs ++ Close number ∷ under) opened) lone taken in
+    let read = step_token g lawful ended bytes (steps + 1) (place_behind rule at) x place (Close number ∷ under) opened whole.0 whole.1 asked in
+    let closes = step_close g ended bytes (steps + 1 + 1) place.end number under (opened ++ token ∷ []) read in
+    let size : length (opened ++ token ∷ []) ≡ number + 2 = omega (arith, length-append opened (token ∷ []), count) in
+    let row : closed (opened ++ token ∷ []) number place.end (length (opened ++ token ∷ [])) ≡ rows ++ lone_rows rule at place number =
+    ap (λ rs. closed rs number place.end (length (opened ++ token ∷ []))) (append_assoc rows (open_row rule at at 0 ∷ []) (token ∷ []))
+    ∙ closed_at rows (open_row rule at at 0) (token ∷ []) place.end (length (opened ++ token ∷ []))
+    ∙ ap₂ (λ m n. rows ++ open_row rule at place.end m ∷ place_row place n ∷ []) size count in
+    subst (λ n. IsFramed g ended bytes n place.end (passed top) below made) (omega arith) (subst (λ rs. IsFramed g ended bytes (steps + 1 + 1 + 1) place.end (passed top) below rs) (row ∙ sym is) closes)
 
 -- refusals
 pub frame_behind : (g : Table) (lawful : IsLawful g) (ended : Bool) (bytes : List ℕ) (steps at : ℕ) (top : Frame) (below : List Frame) (rows : List Row) → IsFramed g ended bytes steps at top below rows → left_of top ≡ [] → below ≡ [] → at < length bytes → IsMalformed g bytes at

@@ -1,16 +1,18 @@
 -- The reader's steps.
-use Rattle.std.specs.Prelude.{◌≡◌, ℕ, ◌+◌, ◌*◌, ◌≤◌, List, [], length, take, drop, reverse, Bool, true, false, Result, Ok, Err, ⊤}
+use Rattle.std.specs.Prelude.{◌≡◌, ℕ, ◌+◌, ◌*◌, ◌≤◌, List, [], length, get_or, take, drop, reverse, Option, None, Some, ◌<◌, Bool, true, false, Result, Ok, Err, ⊤}
 use Rattle.sym_core.specs.declared.refusal.Refusal.{Refusal}
 use Rattle.sym_core.specs.declared.refusal.Refusal.TheVariants.{Malformed, BadReference, BadValue, TooLong, Memory}
 use Rattle.sym_shape.specs.declared.rule.Row.{Row}
+use Rattle.sym_shape.specs.declared.rule.Rule.{Rule}
 use Rattle.sym_shape.specs.declared.rule.Sym.{Sym}
 use Rattle.sym_core.specs.declared.NameClass.{NameClass}
 use Rattle.sym_core.specs.declared.TokenPlace.{TokenPlace}
 use Rattle.sym_shape.specs.declared.parse.Parse.{Parse}
+use Rattle.sym_shape.specs.declared.parse.Come.{Come}
 use Rattle.sym_core.specs.Token.{HasToken, HasNoToken, FindsToken as Finds}
 use Rattle.sym_shape.specs.Table.{Table, IsToken}
 use Rattle.sym_shape.specs.Tree.{IsMalformed, BeginsWellShaped}
-use Rattle.sym_shape.specs.Reading.{Entry, IsReading, IsCounted, IsKnown}
+use Rattle.sym_shape.specs.Reading.{Entry, IsReading, IsCounted, IsKnown, IsByteAt}
 use Rattle.sym_shape.specs.Frame.{unfolded}
 
 -- the longest token of the symbol at the front of q, which begins at a place
@@ -24,6 +26,20 @@ BreaksToken names x q size = HasNoToken (IsToken names x) q size
 -- what was found of a token of the symbol
 abbrev pub FindsToken : NameClass → Sym → List ℕ → ℕ → Result TokenPlace ℕ → Type 0
 FindsToken names x bytes at found = Finds (IsToken names x) bytes at found
+
+-- a token of the symbol stands at a place, and what comes behind it is known
+abbrev pub IsWholeToken : NameClass → Sym → Bool → List ℕ → ℕ → TokenPlace → Type 0
+IsWholeToken names x ended bytes at place = ReadsToken names x (drop at bytes) at place × IsKnown ended bytes place.end
+
+-- the kind takes the rule at the byte that stands at the place
+pub record HasRule (g : Table) (k : ℕ) (bytes : List ℕ) (at : ℕ) (rule : Rule) : Type 0 where
+  pub byte : ℕ
+  pub stands : IsByteAt bytes at byte
+  pub chosen : g.rule k byte ≡ Some rule
+
+-- the kind takes no rule at the byte that stands at the place, if one does
+abbrev pub HasNoRule : Table → ℕ → List ℕ → ℕ → Type 0
+HasNoRule g k bytes at = at < length bytes → g.rule k (get_or bytes at 0) ≡ None
 
 -- `at` of the bytes are read, and this is still to be done
 pub record IsParse (g : Table) (ended : Bool) (bytes : List ℕ) (steps at : ℕ) (stack : List Entry) (rows : List Row) : Type 0 where
@@ -90,6 +106,16 @@ pub record AreFew (steps rows bytes : ℕ) : Type 0 where
 pub record AreSpent (bytes : List ℕ) (old new : Parse) : Type 0 where
   pub made : MakeRows old new
   pub few : AreFew new.steps (length new.rows.items) (length bytes)
+
+-- one move or more, none, or no memory for one; how far they have come is told apart from the parse
+abbrev pub HasCome : Table → Bool → List ℕ → Come → Parse → Parse → Result (Option Come) Refusal → Type 0
+HasCome g ended bytes come old new (Ok (Some further)) = IsParse g ended bytes further.steps further.at (to_do new) new.rows.items × (come.steps < further.steps) × (length new.rows.items + come.steps ≤ length old.rows.items + further.steps)
+HasCome g ended bytes come old new (Ok None) = new ≡ old
+HasCome g ended bytes come old new (Err Memory) = MakesRow old new
+HasCome g ended bytes come old new (Err (Malformed at)) = ⊥
+HasCome g ended bytes come old new (Err (BadReference at)) = ⊥
+HasCome g ended bytes come old new (Err (BadValue at)) = ⊥
+HasCome g ended bytes come old new (Err TooLong) = ⊥
 
 -- some moves, or no memory for one
 abbrev pub IsHurried : Table → Bool → List ℕ → Parse → Parse → Result (Unit {0}) Refusal → Type 0

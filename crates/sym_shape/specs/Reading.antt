@@ -47,6 +47,10 @@ rule_stack stack number rule = entries_of (symbols_of rule) ++ Close number ∷ 
 abbrev pub place_row : TokenPlace → ℕ → Row
 place_row place number = record { rule = 65535; from = place.from; to = place.to; end = number + 1 }
 
+-- the rows of a rule at a place whose only symbol is a token, and of the token
+abbrev pub lone_rows : Rule → ℕ → TokenPlace → ℕ → List Row
+lone_rows rule at place number = open_row rule at place.end (number + 2) ∷ place_row place (number + 1) ∷ []
+
 -- the rows once these trees are read for the symbols on the stack
 abbrev pub finished : List Entry → Forest → ℕ → List Row → List Row
 finished [] f at rows = rows

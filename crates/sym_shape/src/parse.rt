@@ -1,10 +1,11 @@
 // The moves of the reader.
-ghost use Rattle.std.specs.Prelude.{◌≡◌, ℕ, ◌+◌, ◌^◌, ◌∷◌, [], ◌++◌, ◌<◌, ◌≤◌, List, length, take, drop, false, ◌-◌, OnOk, IfOk, OnErr, MatchOption};
+ghost use Rattle.std.specs.Prelude.{Some, Ok, ◌≡◌, ℕ, ◌+◌, ◌^◌, ◌∷◌, [], ◌++◌, ◌<◌, ◌≤◌, List, length, take, drop, false, ◌-◌, OnOk, IfOk, OnErr, IfSome, MatchOption};
 ghost use Rattle.std.specs.Bool.{OnTrue, OnFalse};
 ghost use Rattle.sym_core.specs.Number.{FitsSymbol};
-ghost use Rattle.sym_shape.specs.Reading.{Entry, Symbol, closed, IsKnown, IsByteAt, TakesNone, place_behind, place_row};
+ghost use Rattle.sym_shape.specs.Reading.{Entry, Symbol, closed, IsKnown, IsByteAt, TakesNone, place_behind, place_row, lone_rows};
+ghost use Rattle.sym_shape.specs.Table.{symbols_of};
 ghost use Rattle.sym_shape.specs.Frame.{left_of, HasNext, HasLast, IsTaken};
-ghost use Rattle.sym_shape.specs.Reader.{IsParsing, IsStep, IsAdvance, IsHurried, IsRun, FindsToken, to_do};
+ghost use Rattle.sym_shape.specs.Reader.{IsParsing, IsStep, IsAdvance, IsHurried, IsRun, FindsToken, IsWholeToken, IsParse, HasRule, HasNoRule, HasCome, to_do};
 
 use crate::frame::{Frame, upcoming};
 use crate::grammar::Grammar;
@@ -20,6 +21,24 @@ pub struct Parse {
     pub rows: Vec<Row>,
     pub at: usize,
     pub steps: u32,
+}
+
+/// The place that moves have come to, and the steps that are counted.
+#[derive(Clone, Copy)]
+struct Come {
+    at: usize,
+    steps: u32,
+}
+
+/// So many steps further, at a place.
+fn further(come: Come, at: usize, steps: u32) -> Option<Come>
+    requires { come.steps + steps < 2 ^ 32 }
+    ensures { result ≡ Some (record { at = at; steps = come.steps + steps }) }
+{
+    Some(Come {
+        at,
+        steps: come.steps + steps,
+    })
 }
 
 /// A rule that asks for the start kind alone.
@@ -143,6 +162,34 @@ fn push_token(rows: &mut Vec<Row>, place: TokenPlace) -> Result<(), Refusal>
     Ok(())
 }
 
+/// Puts the row of a rule whose only symbol is a token, and the token's, behind the others.
+fn push_lone(rows: &mut Vec<Row>, rule: &Rule, at: usize, place: TokenPlace) -> Result<(), Refusal>
+    requires few { length rows.old.items + 2 < 2 ^ 32 }
+    requires at { at < 2 ^ 32 }
+    requires own { place.from < 2 ^ 32 }
+    requires place { place.to < 2 ^ 32 }
+    requires end { place.end < 2 ^ 32 }
+    ensures rows { OnOk result (rows.new.items ≡ rows.old.items ++ lone_rows rule.now at place (length rows.old.items)) }
+    ensures same { OnErr result (rows.new.items ≡ rows.old.items) }
+    ensures memory { OnErr result (result ≡ Err Refusal.Memory) }
+{
+    let end = rows.len() as u32 + 2;
+    rows.reserve(2)?;
+    rows.push_reserved(Row {
+        rule: rule.number,
+        from: at as u32,
+        to: place.end as u32,
+        end,
+    });
+    rows.push_reserved(Row {
+        rule: TOKEN,
+        from: place.from as u32,
+        to: place.to as u32,
+        end,
+    });
+    Ok(())
+}
+
 /// The byte at a place, if it is known.
 fn next_byte(bytes: &[u8], at: usize) -> Option<u8>
     ensures { MatchOption result (length bytes.now ≤ at) (λ byte. IsByteAt bytes.now at byte) }
@@ -161,6 +208,56 @@ fn may_go_on(at: usize, bytes: &[u8], ended: bool) -> bool
     ensures known { OnFalse result (IsKnown ended bytes.now at) }
 {
     !ended && at >= bytes.len()
+}
+
+/// The place of a token that a symbol asks for, if it stands there whole.
+#[inline(always)]
+fn whole_token<G: Grammar>(
+    grammar: &G,
+    symbol: Sym,
+    bytes: &[u8],
+    at: usize,
+    ended: bool,
+) -> Option<TokenPlace>
+    requires fits { FitsSymbol bytes.now }
+    requires within { at ≤ length bytes.now }
+    ensures { IfSome result (IsWholeToken G.table.names symbol ended bytes.now at) }
+{
+    let found = match symbol {
+        Sym::Name => find_name(bytes, at, grammar.name_class()),
+        Sym::Number(kind) => find_number(bytes, at, kind),
+        _ => return None,
+    };
+    match found {
+        Ok(place) if may_go_on(place.end, bytes, ended) => None,
+        Ok(place) => Some(place),
+        Err(_) => None,
+    }
+}
+
+/// The token that is a rule's only symbol, if it is one.
+fn lone_token(rule: &Rule) -> Option<Sym>
+    ensures { IfSome result (λ symbol. symbols_of rule.now ≡ symbol ∷ []) }
+{
+    if rule.count != 1 {
+        return None;
+    }
+    match rule.symbols[0] {
+        Sym::Name => Some(Sym::Name),
+        Sym::Number(kind) => Some(Sym::Number(kind)),
+        _ => None,
+    }
+}
+
+/// The rule that a kind takes at a place, if it takes one at the byte there.
+fn rule_at<G: Grammar>(grammar: &G, kind: u16, bytes: &[u8], at: usize) -> Option<Rule>
+    requires { kind < G.table.kinds }
+    ensures { MatchOption result (HasNoRule G.table kind bytes.now at) (HasRule G.table kind bytes.now at) }
+{
+    match next_byte(bytes, at) {
+        Some(byte) => grammar.rule(kind, byte),
+        None => None,
+    }
 }
 
 impl Parse {
@@ -216,43 +313,131 @@ impl Parse {
         requires parsing { IsParsing G.table ended bytes.now self.old }
         ensures { IsHurried G.table ended bytes.now self.old self.new result }
     {
-        let mut at = self.at;
-        let mut steps = self.steps;
+        let mut come = Come {
+            at: self.at,
+            steps: self.steps,
+        };
         'moves: loop {
-            match upcoming(&self.top) {
-                None => match uppermost(&self.below) {
-                    Some(frame) => {
-                        let row = self.top.row as usize;
-                        self.top = frame;
-                        drop_uppermost(&mut self.below);
-                        close_row(&mut self.rows, row, at as u32);
-                    }
-                    None => break 'moves,
+            let moved = match upcoming(&self.top) {
+                None => Ok(self.leave_rule::<G>(come, bytes, ended)),
+                Some(symbol) => match symbol {
+                    Sym::Kind(kind) => self.enter_kind(grammar, kind, come, bytes, ended),
+                    _ => self.pass_symbol(grammar, symbol, come, bytes, ended),
                 },
-                Some(Sym::Byte(byte)) if at < bytes.len() && bytes[at] == byte => {
-                    at += 1;
-                    self.top.next += 1;
+            };
+            match moved {
+                Ok(Some(further)) => come = further,
+                Ok(None) => break 'moves,
+                Err(refusal) => {
+                    self.steps = come.steps + 1;
+                    return Err(refusal);
                 }
-                Some(Sym::Kind(kind)) if at < bytes.len() => match grammar.rule(kind, bytes[at]) {
-                    Some(rule) => {
-                        self.top.next += 1;
-                        self.steps = steps + 1;
-                        take_rule(&mut self.below, &mut self.rows, &mut self.top, &rule, at)?;
-                        at = behind(&rule, at);
-                    }
-                    None if grammar.may_be_empty(kind) => self.top.next += 1,
-                    None => break 'moves,
-                },
-                Some(_) => break 'moves,
             }
-            steps += 1;
         }
-        self.at = at;
-        self.steps = steps;
+        self.at = come.at;
+        self.steps = come.steps;
         Ok(())
     }
 
+    /// Ends the row of a rule all of whose symbols are read, unless it is the lowest.
+    #[inline(always)]
+    fn leave_rule<G: Grammar>(&mut self, come: Come, bytes: &[u8], ended: bool) -> Option<Come>
+        requires parsing { IsParse G.table ended bytes.now come.steps come.at (to_do self.old) self.old.rows.items }
+        requires fits { FitsSymbol bytes.now }
+        requires bare { left_of self.old.top ≡ [] }
+        ensures { HasCome G.table ended bytes.now come self.old self.new (Ok result) }
+    {
+        match uppermost(&self.below) {
+            Some(frame) => {
+                let row = self.top.row as usize;
+                self.top = frame;
+                drop_uppermost(&mut self.below);
+                close_row(&mut self.rows, row, come.at as u32);
+                further(come, come.at, 1)
+            }
+            None => None,
+        }
+    }
+
+    /// Takes the rule of a kind, with its token where that is its only symbol, or leaves the kind.
+    #[inline(always)]
+    fn enter_kind<G: Grammar>(
+        &mut self,
+        grammar: &G,
+        kind: u16,
+        come: Come,
+        bytes: &[u8],
+        ended: bool,
+    ) -> Result<Option<Come>, Refusal>
+        requires parsing { IsParse G.table ended bytes.now come.steps come.at (to_do self.old) self.old.rows.items }
+        requires fits { FitsSymbol bytes.now }
+        requires next { HasNext self.old.top (Sym.Kind kind) }
+        ensures { HasCome G.table ended bytes.now come self.old self.new result }
+    {
+        let at = come.at;
+        match rule_at(grammar, kind, bytes, at) {
+            Some(rule) => match lone_token(&rule) {
+                Some(symbol) => {
+                    match whole_token(grammar, symbol, bytes, behind(&rule, at), ended) {
+                        Some(place) => {
+                            push_lone(&mut self.rows, &rule, at, place)?;
+                            self.top.next += 1;
+                            Ok(further(come, place.end, 3))
+                        }
+                        None => Ok(None),
+                    }
+                }
+                None => {
+                    self.top.next += 1;
+                    take_rule(&mut self.below, &mut self.rows, &mut self.top, &rule, at)?;
+                    Ok(further(come, behind(&rule, at), 1))
+                }
+            },
+            None if may_go_on(at, bytes, ended) => Ok(None),
+            None if grammar.may_be_empty(kind) => {
+                self.top.next += 1;
+                Ok(further(come, at, 1))
+            }
+            None => Ok(None),
+        }
+    }
+
+    /// Reads a fixed byte or a token that stands there.
+    #[inline(always)]
+    fn pass_symbol<G: Grammar>(
+        &mut self,
+        grammar: &G,
+        symbol: Sym,
+        come: Come,
+        bytes: &[u8],
+        ended: bool,
+    ) -> Result<Option<Come>, Refusal>
+        requires parsing { IsParse G.table ended bytes.now come.steps come.at (to_do self.old) self.old.rows.items }
+        requires fits { FitsSymbol bytes.now }
+        requires next { HasNext self.old.top symbol }
+        ensures { HasCome G.table ended bytes.now come self.old self.new result }
+    {
+        match symbol {
+            Sym::Byte(byte) => match next_byte(bytes, come.at) {
+                Some(next) if next == byte => {
+                    self.top.next += 1;
+                    Ok(further(come, come.at + 1, 1))
+                }
+                _ => Ok(None),
+            },
+            _ => match whole_token(grammar, symbol, bytes, come.at, ended) {
+                Some(place) => {
+                    push_token(&mut self.rows, place)?;
+                    self.top.next += 1;
+                    Ok(further(come, place.end, 1))
+                }
+                None => Ok(None),
+            },
+        }
+    }
+
     /// One step, counted unless it waits for bytes or all is read.
+    #[inline(never)]
     pub fn advance<G: Grammar>(
         &mut self,
         grammar: &G,
