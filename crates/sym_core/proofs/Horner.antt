@@ -1,12 +1,13 @@
 -- Numbers read digit by digit.
-use Rattle.std.proofs.Common.{◌≡◌, ℕ, zero, suc, ◌+◌, ◌*◌, ◌^◌, ◌<◌, ◌≤◌, List, [], ◌∷◌, length, drop, sym, ap, ◌∙◌, arith, get_or, true}
+use Rattle.std.proofs.Common.{◌≡◌, ℕ, zero, suc, ◌+◌, ◌*◌, ◌^◌, ◌<◌, ◌≤◌, List, [], ◌∷◌, ◌++◌, ◌-◌, length, take, drop, refl, sym, ap, ◌∙◌, arith, get_or, true}
 use Rattle.std.proofs.Math.Nat.{pow-zero, pow-suc, mul_assoc, mul_comm, mul-le-mul_right}
 use Rattle.std.proofs.Math.Seq.{drop-cons}
+use Rattle.std.proofs.lemmas.List.{take_more, length-drop, get_or-drop}
 use Rattle.std.proofs.lemmas.Bool.Decides.{nat_tests}
 use Rattle.std.proofs.lemmas.Fmt.{length-decimal-le, length-decimal-le_wide}
 use Rattle.std.specs.Fmt.{decimal}
 use Rattle.std.proofs.lemmas.List.Elements.{All-from_recursion}
-use Rattle.sym_core.specs.Number.{is_digit_of, AreDigits}
+use Rattle.sym_core.specs.Number.{is_digit_of, is_decimal_digit, AreDigits}
 use Rattle.sym_core.specs.Value.{radix_of, digit_value, value_onto, value_of}
 use Rattle.sym_core.specs.declared.NumberKind.{NumberKind}
 use Rattle.sym_core.specs.declared.NumberKind.TheVariants.{Length, Decimal, Seq36, Base62, Hex, Digits}
@@ -37,6 +38,33 @@ pub too_large : (kind : NumberKind) (v i most : ℕ) (ds : List ℕ) → i < len
     → most ≤ v * radix_of kind + digit_value kind (get_or ds i 0) → most ≤ value_of kind ds
 too_large kind v i most ds h same large =
     omega (arith, value_onto-next kind v i ds h, value_onto-le kind (v * radix_of kind + digit_value kind (get_or ds i 0)) (drop (i + 1) ds))
+
+-- digits behind others
+value_onto-append : (kind : NumberKind) (v : ℕ) (xs ys : List ℕ) → value_onto kind v (xs ++ ys) ≡ value_onto kind (value_onto kind v xs) ys
+value_onto-append kind v [] ys = refl
+value_onto-append kind v (x ∷ xs) ys = value_onto-append kind (v * radix_of kind + digit_value kind x) xs ys
+
+-- one digit more behind those of a front
+pub value_of-more : (kind : NumberKind) (ds : List ℕ) (i : ℕ) → i < length ds → value_of kind (take (i + 1) ds) ≡ value_of kind (take i ds) * radix_of kind + digit_value kind (get_or ds i 0)
+value_of-more kind ds i lt = ap (value_of kind) (take_more ds i 0 lt) ∙ value_onto-append kind 0 (take i ds) (get_or ds i 0 ∷ [])
+
+-- the same at a place
+pub value_of-next : (kind : NumberKind) (s : List ℕ) (at end : ℕ) → at ≤ end → end < length s → value_of kind (take (end + 1 - at) (drop at s)) ≡ value_of kind (take (end - at) (drop at s)) * radix_of kind + digit_value kind (get_or s end 0)
+value_of-next kind s at end le lt =
+    let one : end + 1 - at ≡ end - at + 1 = omega arith in
+    let here : at + (end - at) ≡ end = omega arith in
+    ap (λ n. value_of kind (take n (drop at s))) one
+    ∙ value_of-more kind (drop at s) (end - at) (omega (arith, length-drop at s))
+    ∙ ap (λ d. value_of kind (take (end - at) (drop at s)) * radix_of kind + digit_value kind d) (get_or-drop at s (end - at) 0 ∙ ap (λ n. get_or s n 0) here)
+
+pub decimal_small : (b : ℕ) → is_decimal_digit b ≡ true → (48 ≤ b) × (b ≤ 57)
+decimal_small b h = grind (arith, nat_tests)
+
+-- one decimal digit more
+pub ten_more : (v d n m : ℕ) → v < 10 ^ n → d ≤ 9 → m ≡ n + 1 → v * 10 + d < 10 ^ m
+ten_more v d n m below small is =
+    let one : 10 ^ m ≡ 10 ^ n * 10 = ap (λ k. 10 ^ k) (is ∙ omega arith) ∙ pow-suc 10 n in
+    omega (arith, below, one)
 
 pub digit_at : (kind : NumberKind) (ds : List ℕ) (i : ℕ) → AreDigits kind ds → i < length ds → is_digit_of kind (get_or ds i 0) ≡ true
 digit_at kind ds i are h = All-from_recursion (λ b. is_digit_of kind b ≡ true) ds are i 0 h

@@ -443,11 +443,6 @@ no_bare_digit most skipped (c ∷ own) (b ∷ part) rest h e none some =
     let test : ltb 0 most && eqb skipped 0 ≡ true = and_from _ _ (lt-ltb 0 most some) (eq-eqb skipped 0 none) in
     ap is_decimal_digit (sym same) ∙ sym (ap (λ v. v && is_decimal_digit c) test) ∙ h
 
-pub span_within : (s : List ℕ) (at : ℕ) (span : Span) → at ≤ length s → IsNumberSpan Length s at span → span.to ≤ length s
-span_within s at span le h =
-    let r = reads_number Length (drop at s) (span.to - at) h.2 in
-    omega (arith, h.1, r.size_is, ap length r.split, length-append (r.digits ++ []) r.rest, length-append r.digits [], length-drop at s)
-
 -- the tail of the bytes, as `&bytes[to..]` gives it
 abbrev pub tail_at : List ℕ → ℕ → List ℕ
 tail_at s to = take (length s - to) (drop to s)

@@ -1,6 +1,6 @@
 -- Runs of digits, and what they say of numbers.
 use Rattle.std.proofs.Common.{◌≡◌, ℕ, ◌+◌, ◌-◌, ◌<◌, ◌≤◌, Bool, true, false, ◌⊎◌, inl, inr, List, [], ◌∷◌, ◌++◌, length, take, drop, get_or, refl, ap, sym, ◌∙◌, subst, arith, append_assoc, length-append}
-use Rattle.std.proofs.lemmas.Bool.{false≢true}
+use Rattle.std.proofs.lemmas.Bool.{false≢true, cases_lt}
 use Rattle.std.proofs.lemmas.List.{append-nil, take-append-drop, length-take-le, length-drop, drop-drop, get_or-take, get_or-drop, drop_more, drop_at}
 use Rattle.sym_core.specs.declared.NumberKind.{NumberKind}
 use Rattle.sym_core.specs.declared.NumberKind.TheVariants.{Length, Decimal, Seq36, Base62, Hex, Digits}
@@ -38,6 +38,21 @@ stops_here p s end h = at_rest (drop end s) refl
         let head : get_or s end 0 ∷ drop (end + 1) s ≡ b ∷ r = sym (drop_more s end 0 lt) ∙ e in
         let same : get_or s end 0 ≡ b = cc in
         ap p (sym same) ∙ h lt
+
+-- one digit more
+pub run_more : (p : ℕ → Bool) (s : List ℕ) (at end : ℕ) → ((k : ℕ) → at ≤ k → k < end → p (get_or s k 0) ≡ true) → p (get_or s end 0) ≡ true → (k : ℕ) → at ≤ k → k < end + 1 → p (get_or s k 0) ≡ true
+run_more p s at end digits last k low high = elim (cases_lt k end) [
+  | inl before ↦ digits k low before
+  | inr behind ↦ (let same : end ≡ k = omega (arith, behind) in ap (λ n. p (get_or s n 0)) (sym same) ∙ last)
+]
+
+-- what it leaves where it has come as far as it may
+pub run_reached : (kind : NumberKind) (s : List ℕ) (at end stop most : ℕ) → at ≤ end → end ≤ stop → stop ≤ length s → ((k : ℕ) → at ≤ k → k < end → is_digit_of kind (get_or s k 0) ≡ true) → stop - at ≤ most → (stop - at ≡ most) ⊎ (length s ≤ stop) → stop ≤ end → IsRun kind (drop at s) most (end - at)
+run_reached kind s at end stop most low high within digits few full come =
+    run_found kind s at end most low (omega arith) digits (omega arith) (elim full [
+      | inl all ↦ inl (omega (arith, all))
+      | inr last ↦ inr (stops_here (is_digit_of kind) s end (λ lt. absurd (omega (arith, last))))
+    ])
 
 -- a run isn't part of a longer number
 no_longer : (kind : NumberKind) (q : List ℕ) (most size : ℕ) (run : IsRun kind q most size) → IsLimit kind q most → (ds : List ℕ) (b : ℕ) (m r : List ℕ) → AreDigitsOf kind ds → ds ≡ run.front ++ b ∷ m → run.rest ≡ b ∷ r → ⊥

@@ -1,10 +1,10 @@
 // Numbers: where they begin and end.
 #![tactic(auto)]
 
-ghost use Rattle.std.specs.Prelude.{◌≡◌, ◌-◌, ◌+◌, ◌<◌, ◌≤◌, length, drop, slice_range, true, nat_lt, IfOk, MatchResult, List, ℕ, ◌∷◌};
+ghost use Rattle.std.specs.Prelude.{◌≡◌, ◌-◌, ◌+◌, ◌<◌, ◌≤◌, length, take, drop, ◌⊎◌, slice_range, true, nat_lt, IfOk, MatchResult, List, ℕ, ◌∷◌};
 ghost use Rattle.std.specs.Bool.{OnTrue, OnFalse};
 ghost use Rattle.sym_core.specs.Number.{FitsSymbol, is_digit_of, AreDigits, AreDigitsOf, IsNumberSpan, IsNumberBreak};
-ghost use Rattle.sym_core.specs.Value.{digit_value};
+ghost use Rattle.sym_core.specs.Value.{digit_value, value_of};
 ghost use Rattle.sym_core.specs.declared.NumberKind.TheVariants.{Base62};
 ghost use Rattle.sym_core.specs.Scan.{is_marked, IsRun, IsLimit};
 
@@ -78,6 +78,21 @@ fn most_digits(s: &[u8], at: usize, kind: NumberKind) -> usize
     }
 }
 
+/// The place so many bytes behind another, or the end of the bytes where there are fewer.
+fn reach(s: &[u8], at: usize, most: usize) -> usize
+    requires { at ≤ length s.now }
+    ensures low { at ≤ result }
+    ensures high { result ≤ length s.now }
+    ensures few { result - at ≤ most }
+    ensures full { (result - at ≡ most) ⊎ (length s.now ≤ result) }
+{
+    if most < s.len() - at {
+        at + most
+    } else {
+        s.len()
+    }
+}
+
 /// The end of the digits at a place, of which there may be so many.
 fn digits_end(s: &[u8], at: usize, kind: NumberKind, most: usize) -> usize
     requires { at ≤ length s.now }
@@ -85,11 +100,55 @@ fn digits_end(s: &[u8], at: usize, kind: NumberKind, most: usize) -> usize
     ensures high { result ≤ length s.now }
     ensures run { IsRun kind (drop at s.now) most (result - at) }
 {
+    let stop = reach(s, at, most);
     let mut end = at;
-    while end < s.len() && end - at < most && is_digit(kind, s[end]) {
+    while end < stop && is_digit(kind, s[end]) {
         end += 1;
     }
     end
+}
+
+/// Digits of a Length: the place behind them, and what they stand for.
+#[derive(Clone, Copy)]
+pub struct CountedLength {
+    pub to: usize,
+    pub value: u32,
+}
+
+/// The digits of a Length at a place, of which there may be so many, counted as they are found.
+fn count_length(s: &[u8], at: usize, most: usize) -> CountedLength
+    requires within { at ≤ length s.now }
+    requires few { most ≤ 9 }
+    ensures low { at ≤ result.to }
+    ensures high { result.to ≤ length s.now }
+    ensures run { IsRun NumberKind.Length (drop at s.now) most (result.to - at) }
+    ensures value { result.value ≡ value_of NumberKind.Length (take (result.to - at) (drop at s.now)) }
+{
+    let stop = reach(s, at, most);
+    let mut to = at;
+    let mut value: u32 = 0;
+    while to < stop && is_digit(NumberKind::Length, s[to]) {
+        value = value * 10 + u32::from(s[to] - b'0');
+        to += 1;
+    }
+    CountedLength { to, value }
+}
+
+/// The longest Length at a place, with what it stands for, or the place where it breaks off.
+pub fn find_length(s: &[u8], at: usize) -> Result<CountedLength, usize>
+    requires fits { FitsSymbol s.now }
+    requires within { at ≤ length s.now }
+    ensures number { MatchResult result (λ found. IsNumberSpan NumberKind.Length s.now at (record { from = at; to = found.to })) (IsNumberBreak NumberKind.Length s.now at) }
+    ensures value { IfOk result (λ found. found.value ≡ value_of NumberKind.Length (take (found.to - at) (drop at s.now))) }
+    ensures within { IfOk result (λ found. found.to ≤ length s.now) }
+{
+    let most = most_digits(s, at, NumberKind::Length);
+    let found = count_length(s, at, most);
+    if at < found.to {
+        Ok(found)
+    } else {
+        Err(found.to)
+    }
 }
 
 /// Whether an `_` stands at a place.
@@ -110,6 +169,7 @@ fn is_mark(s: &[u8], at: usize) -> bool
 ///
 /// Where no number begins there, the first bad place: the end of the longest front from `at` that begins one.
 /// It is `s.len()` where the bytes only end too soon.
+#[inline(always)]
 pub fn number(s: &[u8], at: usize, kind: NumberKind) -> Result<Span, usize>
     requires fits { FitsSymbol s.now }
     requires within { at ≤ length s.now }

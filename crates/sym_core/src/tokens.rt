@@ -1,15 +1,15 @@
 // Tokens: names and numbers as they stand in a symbol.
 #![tactic(auto)]
 
-ghost use Rattle.std.specs.Prelude.{◌≡◌, ◌≤◌, ◌+◌, ◌↔◌, length, true, IsTrue};
+ghost use Rattle.std.specs.Prelude.{◌≡◌, ◌≤◌, ◌+◌, ◌-◌, ◌↔◌, length, take, drop, true, IsTrue};
 ghost use Rattle.sym_core.specs.Number.{FitsSymbol, ending_of, IsNumberSpan};
+ghost use Rattle.sym_core.specs.Value.{value_of};
 ghost use Rattle.sym_core.specs.Scan.{IsSeparated, IsOwn, IsNameless};
 ghost use Rattle.sym_core.specs.Scan.{is_bare_digit as bare_digit};
 ghost use Rattle.sym_core.specs.Token.{AreNameBytes, IsName, IsNumberToken, FindsToken};
 ghost use Rattle.sym_core.specs.Token.{is_name_byte as name_byte};
 
-use crate::numbers::{has_mark, number};
-use crate::values::length_of;
+use crate::numbers::{find_length, has_mark, number};
 use crate::{NameClass, NumberKind, Span};
 
 /// Where a token was found: its own bytes, and the place behind it.
@@ -132,21 +132,27 @@ pub fn find_name(bytes: &[u8], at: usize, names: NameClass) -> Result<TokenPlace
     requires within { at ≤ length bytes.now }
     ensures { FindsToken (IsName names) bytes.now at result }
 {
-    match number(bytes, at, NumberKind::Length) {
-        Ok(digits) => find_own(bytes, digits, names),
+    match find_length(bytes, at) {
+        Ok(length) => {
+            let digits = Span {
+                from: at as u32,
+                to: length.to as u32,
+            };
+            find_own(bytes, digits, length.value as usize, names)
+        }
         Err(bad) => Err(bad),
     }
 }
 
-/// Finds a name's own bytes behind its length.
-fn find_own(bytes: &[u8], digits: Span, names: NameClass) -> Result<TokenPlace, usize>
+/// Finds a name's own bytes behind its length, which says how many they are.
+fn find_own(bytes: &[u8], digits: Span, most: usize, names: NameClass) -> Result<TokenPlace, usize>
     requires fits { FitsSymbol bytes.now }
     requires span { IsNumberSpan NumberKind.Length bytes.now digits.from digits }
     requires within { digits.to ≤ length bytes.now }
+    requires most { most ≡ value_of NumberKind.Length (take (digits.to - digits.from) (drop digits.from bytes.now)) }
     ensures { FindsToken (IsName names) bytes.now digits.from result }
 {
     let to = digits.to as usize;
-    let most = length_of(&bytes[digits.from as usize..to]) as usize;
     if is_nameless(most, names) {
         return Err(digits.from as usize);
     }

@@ -1,0 +1,19 @@
+-- the digits so far, and what they stand for
+use Rattle.std.proofs.Common.{◌≡◌, ℕ, ◌<◌, ◌≤◌, ◌-◌, ◌^◌, take, drop, get_or, true}
+use Rattle.sym_core.specs.Number.{is_digit_of}
+use Rattle.sym_core.specs.Value.{value_of}
+use Rattle.sym_core.specs.declared.NumberKind.TheVariants.{Length}
+use Rattle.sym_core.proofs.numbers.count_length.Given as goal
+
+abbrev pub invariant-loop-to : goal.invariant-loop-to
+invariant-loop-to l =
+    record {
+      low : l.at ≤ l.to;
+      high : l.to ≤ l.stop;
+      digits : (k : ℕ) → l.at ≤ k → k < l.to → is_digit_of Length (get_or l.s k 0) ≡ true;
+      value : l.value ≡ value_of Length (take (l.to - l.at) (drop l.at l.s));
+      below : l.value < 10 ^ (l.to - l.at);
+    }
+
+abbrev pub decreases-loop-to : goal.decreases-loop-to
+decreases-loop-to l = l.stop - l.to
