@@ -1,15 +1,14 @@
 -- What the reader still has to do, as rules that are being read.
-use Rattle.std.specs.Prelude.{◌≡◌, ℕ, ◌+◌, ◌<◌, List, [], ◌∷◌, ◌++◌, drop, length, ◌⊎◌}
+use Rattle.std.specs.Prelude.{◌≡◌, ℕ, ◌+◌, ◌<◌, List, [], ◌∷◌, ◌++◌, take, drop, length, ◌⊎◌}
 use Rattle.sym_shape.specs.declared.rule.Rule.{Rule}
 use Rattle.sym_shape.specs.declared.rule.Row.{Row}
 use Rattle.sym_shape.specs.declared.rule.Sym.{Sym}
 use Rattle.sym_shape.specs.declared.frame.Frame.{Frame}
-use Rattle.sym_shape.specs.Table.{symbols_of}
 use Rattle.sym_shape.specs.Reading.{Entry, Close, entries_of, open_row, place_behind}
 
 -- the symbols of a frame that are still to be read
 abbrev pub left_of : Frame → List Sym
-left_of frame = drop frame.next (symbols_of frame.rule)
+left_of frame = drop frame.next (take frame.count frame.symbols)
 
 -- the frame behind its next symbol
 abbrev pub passed : Frame → Frame
@@ -22,7 +21,7 @@ pub record HasNext (frame : Frame) (x : Sym) : Type 0 where
 
 -- the frame of a rule that begins
 abbrev pub rule_frame : Rule → ℕ → Frame
-rule_frame rule number = record { rule = rule; next = 0; row = number }
+rule_frame rule number = record { symbols = rule.symbols; count = rule.count; next = 0; row = number }
 
 -- what a frame and those below it, the uppermost first, still ask for; the lowest ends no row
 abbrev pub unfolded : Frame → List Frame → List Entry

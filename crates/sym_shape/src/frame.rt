@@ -2,12 +2,13 @@
 ghost use Rattle.std.specs.Prelude.{◌≡◌, [], ◌<◌, MatchOption};
 ghost use Rattle.sym_shape.specs.Frame.{left_of, HasNext};
 
-use crate::rule::{Rule, Sym};
+use crate::rule::Sym;
 
-/// A rule whose symbols are being read: which of them is next, and the number of the rule's row.
+/// A rule whose symbols are being read: how many of these there are, which is next, and the number of the rule's row.
 #[derive(Clone, Copy, Debug)]
 pub struct Frame {
-    pub rule: Rule,
+    pub symbols: [Sym; 5],
+    pub count: u32,
     pub next: u32,
     pub row: u32,
 }
@@ -16,8 +17,8 @@ pub struct Frame {
 pub fn upcoming(frame: &Frame) -> Option<Sym>
     ensures { MatchOption result (left_of frame.now ≡ []) (λ symbol. HasNext frame.now symbol) }
 {
-    if frame.next < frame.rule.count as u32 {
-        frame.rule.symbols.get(frame.next as usize).copied()
+    if frame.next < frame.count {
+        frame.symbols.get(frame.next as usize).copied()
     } else {
         None
     }

@@ -41,26 +41,19 @@ fn further(come: Come, at: usize, steps: u32) -> Option<Come>
     })
 }
 
-/// A rule that asks for the start kind alone.
-const START: Rule = Rule {
-    number: 0,
-    eats: false,
-    count: 1,
-    symbols: [
-        Sym::Kind(0),
-        Sym::Kind(0),
-        Sym::Kind(0),
-        Sym::Kind(0),
-        Sym::Kind(0),
-    ],
-};
-
-/// The lowest frame.
+/// The lowest frame, which asks for the start kind alone.
 fn lowest() -> Frame
     ensures { left_of result ≡ Sym.Kind 0 ∷ [] }
 {
     Frame {
-        rule: START,
+        symbols: [
+            Sym::Kind(0),
+            Sym::Kind(0),
+            Sym::Kind(0),
+            Sym::Kind(0),
+            Sym::Kind(0),
+        ],
+        count: 1,
         next: 0,
         row: 0,
     }
@@ -137,7 +130,8 @@ fn take_rule(
     })?;
     below.reserve(1)?;
     below.push_reserved(*top);
-    top.rule = *rule;
+    top.symbols = rule.symbols;
+    top.count = rule.count as u32;
     top.next = 0;
     top.row = number;
     Ok(())
