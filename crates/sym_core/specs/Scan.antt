@@ -1,5 +1,5 @@
 -- What is seen while numbers and names are scanned.
-use Rattle.std.specs.Prelude.{◌≡◌, ℕ, ◌<◌, ◌≤◌, Bool, true, false, ◌&&◌, ◌==◌, nat_lt, List, [], ◌∷◌, ◌++◌, length, ◌⊎◌, ⊤}
+use Rattle.std.specs.Prelude.{◌≡◌, ℕ, ◌<◌, ◌≤◌, Bool, true, false, ◌&&◌, ◌==◌, nat_lt, List, [], ◌∷◌, ◌++◌, length, get_or, ◌⊎◌, ⊤}
 use Rattle.sym_core.specs.Number.{is_decimal_digit, is_digit_of, AreDigits}
 use Rattle.sym_core.specs.Token.{is_name_byte, AreNameBytes}
 use Rattle.sym_core.specs.declared.NumberKind.{NumberKind}
@@ -49,6 +49,10 @@ IsSeparated Rust tail n = ((n ≡ 1) × ((r : List ℕ) × (tail ≡ 95 ∷ r)))
 abbrev pub is_bare_digit : ℕ → ℕ → List ℕ → Bool
 is_bare_digit most skipped [] = false
 is_bare_digit most skipped (b ∷ own) = nat_lt 0 most && skipped == 0 && is_decimal_digit b
+
+-- the bytes in front of a place may stand in a name
+abbrev pub ReachesNameBytes : NameClass → List ℕ → ℕ → Type 0
+ReachesNameBytes names bytes end = (k : ℕ) → k < end → is_name_byte names (get_or bytes k 0) ≡ true
 
 -- so many of the bytes are a name's own: as many as may be, or up to one that may not
 pub record IsOwn (names : NameClass) (bytes : List ℕ) (most size : ℕ) : Type 0 where

@@ -79,7 +79,7 @@ fn most_digits(s: &[u8], at: usize, kind: NumberKind) -> usize
 }
 
 /// The place so many bytes behind another, or the end of the bytes where there are fewer.
-fn reach(s: &[u8], at: usize, most: usize) -> usize
+pub fn reach(s: &[u8], at: usize, most: usize) -> usize
     requires { at ≤ length s.now }
     ensures low { at ≤ result }
     ensures high { result ≤ length s.now }

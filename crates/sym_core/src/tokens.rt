@@ -4,12 +4,12 @@
 ghost use Rattle.std.specs.Prelude.{◌≡◌, ◌≤◌, ◌+◌, ◌-◌, ◌↔◌, length, take, drop, true, IsTrue};
 ghost use Rattle.sym_core.specs.Number.{FitsSymbol, ending_of, IsNumberSpan};
 ghost use Rattle.sym_core.specs.Value.{value_of};
-ghost use Rattle.sym_core.specs.Scan.{IsSeparated, IsOwn, IsNameless};
+ghost use Rattle.sym_core.specs.Scan.{IsSeparated, IsOwn, IsNameless, ReachesNameBytes};
 ghost use Rattle.sym_core.specs.Scan.{is_bare_digit as bare_digit};
 ghost use Rattle.sym_core.specs.Token.{AreNameBytes, IsName, IsNumberToken, FindsToken};
 ghost use Rattle.sym_core.specs.Token.{is_name_byte as name_byte};
 
-use crate::numbers::{find_length, has_mark, number};
+use crate::numbers::{find_length, has_mark, number, reach};
 use crate::{NameClass, NumberKind, Span};
 
 /// Where a token was found: its own bytes, and the place behind it.
@@ -103,12 +103,31 @@ fn separator_len(tail: &[u8], names: NameClass) -> usize
     }
 }
 
+/// How many of the first bytes, up to so many and by fours, may stand in a name.
+fn own_fours(bytes: &[u8], most: usize, names: NameClass) -> usize
+    ensures within { result ≤ length bytes.now }
+    ensures few { result ≤ most }
+    ensures each { ReachesNameBytes names bytes.now result }
+{
+    let stop = reach(bytes, 0, most);
+    let mut end = 0;
+    while stop - end >= 4
+        && is_name_byte(names, bytes[end])
+        && is_name_byte(names, bytes[end + 1])
+        && is_name_byte(names, bytes[end + 2])
+        && is_name_byte(names, bytes[end + 3])
+    {
+        end += 4;
+    }
+    end
+}
+
 /// How many of the bytes are a name's own, of which there may be so many.
 fn own_len(bytes: &[u8], most: usize, names: NameClass) -> usize
     ensures within { result ≤ length bytes.now }
     ensures own { IsOwn names bytes.now most result }
 {
-    let mut end = 0;
+    let mut end = own_fours(bytes, most, names);
     while end < bytes.len() && end < most && is_name_byte(names, bytes[end]) {
         end += 1;
     }

@@ -1,0 +1,14 @@
+-- the bytes so far may stand in a name
+use Rattle.std.proofs.Common.{◌≤◌, ◌-◌}
+use Rattle.sym_core.specs.Scan.{ReachesNameBytes}
+use Rattle.sym_core.proofs.tokens.own_fours.Given as goal
+
+abbrev pub invariant-loop-end : goal.invariant-loop-end
+invariant-loop-end l =
+    record {
+      high : l.end ≤ l.stop;
+      each : ReachesNameBytes l.names l.bytes l.end;
+    }
+
+abbrev pub decreases-loop-end : goal.decreases-loop-end
+decreases-loop-end l = l.stop - l.end
