@@ -220,7 +220,7 @@ pub fn rule(kind: u16, byte: u8) -> Option<Rule>
     if letter == BLANK {
         return None;
     }
-    let place = (letter - FIRST_LETTER) as usize;
+    let place = letter as usize - FIRST_LETTER as usize;
     let head = &HEADS[place];
     Some(Rule {
         number: head.number,
