@@ -86,11 +86,7 @@ pub fn reach(s: &[u8], at: usize, most: usize) -> usize
     ensures few { result - at ≤ most }
     ensures full { (result - at ≡ most) ⊎ (length s.now ≤ result) }
 {
-    if most < s.len() - at {
-        at + most
-    } else {
-        s.len()
-    }
+    at + most.min(s.len() - at)
 }
 
 /// The end of the digits at a place, of which there may be so many.

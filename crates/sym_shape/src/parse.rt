@@ -236,8 +236,11 @@ fn lone_token(rule: &Rule) -> Option<Sym>
     if rule.count != 1 {
         return None;
     }
+    // Names are by far the commonest.
+    if matches!(rule.symbols[0], Sym::Name) {
+        return Some(Sym::Name);
+    }
     match rule.symbols[0] {
-        Sym::Name => Some(Sym::Name),
         Sym::Number(kind) => Some(Sym::Number(kind)),
         _ => None,
     }
