@@ -59,6 +59,7 @@ impl Layout for Symbol {
         }
     }
 
+    #[inline(always)]
     fn bytes<'a>(&'a self, part: &'a Part<Context>) -> &'a [u8] {
         match part {
             Part::Symbol(span) => self.bytes_of(*span),

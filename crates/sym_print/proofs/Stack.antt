@@ -1,15 +1,16 @@
 -- What the work stack prints and costs, before and after one step.
-use Rattle.std.proofs.Common.{◌≡◌, ℕ, suc, ◌+◌, ◌-◌, ◌<◌, ◌≤◌, List, [], ◌∷◌, ◌++◌, length, take, reverse, refl, sym, ap, ◌∙◌, subst, append_assoc, append-nil, arith, get_or}
-use Rattle.std.proofs.lemmas.List.{reverse-append, take_all}
-use Rattle.std.proofs.lemmas.Option.{slice_get_within, get_or_from_slice_get}
+use Rattle.std.proofs.Common.{◌≡◌, ℕ, suc, ◌+◌, ◌-◌, ◌<◌, ◌≤◌, Some, List, [], ◌∷◌, ◌++◌, length, take, drop, reverse, slice_get, refl, sym, ap, ◌∙◌, subst, append_assoc, append-nil, arith, get_or}
+use Rattle.std.proofs.lemmas.List.{reverse-append, take_all, length-append, length-reverse, drop-take, take-append-le}
+use Rattle.std.proofs.lemmas.Option.{slice_get_within, get_or_from_slice_get, slice_get_read}
 use Rattle.std.proofs.Math.Seq.{take-suc}
 use Rattle.std.specs.List.{All}
-use Rattle.std.proofs.lemmas.List.Elements.{All-append, All-take, All-nil, All-head, All-tail, All-push}
+use Rattle.std.proofs.lemmas.List.Elements.{All-append, All-take, All-nil, All-head, All-tail, All-push, All-pop, All-same}
+use Rattle.sym_print.proofs.Leading.{reverse-next, drop-next}
 use Rattle.sym_print.specs.declared.layout.Item.{Item}
 use Rattle.sym_print.specs.declared.layout.Part.{Part}
 use Rattle.sym_print.specs.declared.layout.Part.TheVariants.{Sub}
 use Rattle.sym_print.specs.Unshared.{Unshared, text_of, cost_of_parts, steps_of_parts}
-use Rattle.sym_print.specs.Joined.{joined, IsNext, IsText, text_of_part, cost_of_part, steps_of_part, text_of_stack, cost_of_stack, steps_of_stack, spends}
+use Rattle.sym_print.specs.Joined.{joined, with_parts, IsNext, IsText, text_of_part, cost_of_part, steps_of_part, text_of_stack, cost_of_stack, steps_of_stack, spends}
 
 module _ {C : Type 0} where
   -- the next entry stands last
@@ -21,6 +22,13 @@ module _ {C : Type 0} where
       let one : suc (length stack - 1) ≡ length stack = omega arith in
       let split : take (suc (length stack - 1)) stack ≡ take (length stack - 1) stack ++ get_or stack (length stack - 1) next ∷ [] = take-suc stack (length stack - 1) next within in
       sym all ∙ ap (λ n. take n stack) (sym one) ∙ split ∙ ap (λ p. take (length stack - 1) stack ++ p ∷ []) here
+
+  -- taken from the stack into a list of its own, it stands above what is left
+  pub top_is : (stack left none parts : List (Part C)) (next : Part C) → IsNext stack next → left ≡ take (length stack - 1) stack → none ≡ [] → parts ≡ none ++ next ∷ []
+      → with_parts left parts ≡ stack
+  top_is stack left none parts next h popped empty put =
+      let one : parts ≡ next ∷ [] = put ∙ ap (λ xs. xs ++ next ∷ []) empty in
+      ap (λ xs. left ++ reverse xs) one ∙ ap (λ xs. xs ++ next ∷ []) popped ∙ sym (next_is_last stack next h)
 
   -- it may come where all may
   pub next_may_come : (P : Part C → Type 0) (stack : List (Part C)) (next : Part C) → All P stack → IsNext stack next → P next
@@ -37,6 +45,54 @@ module _ {C : Type 0} where
   -- all that stands on the stack may come, once an item's parts stand in its place
   pub All-visit : (P : Part C → Type 0) (stack parts : List (Part C)) → All P stack → All P parts → All P (take (length stack - 1) stack ++ reverse parts)
   All-visit P stack parts old new = All-append P (take (length stack - 1) stack) (reverse parts) (All-take P (length stack - 1) stack old) (All-reverse P parts new)
+
+  -- the same, where the item was taken from the stack before
+  pub All-turn : (P : Part C → Type 0) (held below after left : List (Part C)) (i : Item C) → held ≡ below ++ Sub i ∷ [] → after ≡ below ++ reverse left
+      → All P held → All P left → All P after
+  All-turn P held below after left i was is old new =
+      All-same P after (below ++ reverse left) is (All-append P below (reverse left) ((All-pop P held below (Some (Sub i)) was old).0) (All-reverse P left new))
+
+  -- a part that was read where it stands
+  pub here_is : (seen parts : List (Part C)) (n k : ℕ) (part : Part C) → seen ≡ parts → n ≡ length parts → k < n → part ≡ get_or seen k part → slice_get parts k ≡ Some part
+  here_is seen parts n k part same count within read = ap (λ xs. slice_get xs k) (sym same) ∙ slice_get_read seen n k part (count ∙ ap length (sym same)) within read
+
+  -- the next of the parts above a stack stands last
+  pub above_is : (stack parts : List (Part C)) (k : ℕ) (part : Part C) → slice_get parts k ≡ Some part
+      → with_parts stack (drop k parts) ≡ with_parts stack (drop (k + 1) parts) ++ part ∷ []
+  above_is stack parts k part h =
+      let last = reverse-next parts k part (slice_get_within parts k part h) (sym (get_or_from_slice_get parts k part part h)) in
+      ap (λ r. stack ++ r) last ∙ sym (append_assoc stack (reverse (drop (k + 1) parts)) (part ∷ []))
+
+  -- the parts behind it were moved to the stack
+  pub above_moved : (stack moved now parts : List (Part C)) (k : ℕ) (part : Part C) → slice_get parts k ≡ Some part → moved ≡ with_parts stack (drop (k + 1) parts) → now ≡ moved
+      → with_parts stack (drop k parts) ≡ now ++ part ∷ []
+  above_moved stack moved now parts k part h put same = above_is stack parts k part h ∙ ap (λ s. s ++ part ∷ []) (sym (same ∙ put))
+
+  -- and it stands above them
+  pub moved_is : (stack moved parts left : List (Part C)) (k : ℕ) (part : Part C) → slice_get parts k ≡ Some part → moved ≡ with_parts stack (drop (k + 1) parts) → left ≡ take (k + 1) parts
+      → with_parts moved (drop k left) ≡ with_parts stack (drop k parts)
+  moved_is stack moved parts left k part h put kept =
+      let here = drop-next parts k part (slice_get_within parts k part h) (sym (get_or_from_slice_get parts k part part h)) in
+      let one : drop k left ≡ part ∷ [] = ap (λ xs. drop k xs) kept ∙ drop-take k 1 parts ∙ ap (λ xs. take 1 xs) here in
+      ap (λ xs. moved ++ reverse xs) one ∙ ap (λ xs. xs ++ part ∷ []) put ∙ sym (above_is stack parts k part h)
+
+  -- how long the stack is, with what was taken from it, once parts stand in that one's place
+  pub length_of_turn : (held below after left : List (Part C)) (i : Item C) → held ≡ below ++ Sub i ∷ [] → after ≡ below ++ reverse left
+      → (length held ≡ length below + 1) × (length after ≡ length below + length left)
+  length_of_turn held below after left i was is = (
+    omega (arith, ap length was, length-append below (Sub i ∷ [])),
+    omega (arith, ap length is, length-append below (reverse left), length-reverse left),
+  )
+
+-- a list without its last element
+pub without_last : {X : Type 0} (xs ys : List X) (x : X) → xs ≡ ys ++ x ∷ [] → ys ≡ take (length xs - 1) xs
+without_last xs ys x e =
+    let long : length xs - 1 ≡ length ys = omega (arith, ap length e, length-append ys (x ∷ [])) in
+    sym
+    (ap (λ n. take n xs) long
+    ∙ ap (λ l. take (length ys) l) e
+    ∙ take-append-le (length ys) ys (x ∷ []) (omega arith)
+    ∙ take_all (length ys) ys (omega arith))
 
 -- a stack without its top, and then parts
 pub replaced : {X : Type 0} (old popped new parts : List X) → popped ≡ take (length old - 1) old → new ≡ popped ++ reverse parts → new ≡ take (length old - 1) old ++ reverse parts
@@ -149,6 +205,57 @@ module _ {C : Type 0} (unshared : Item C → Unshared) (bytes_of : Part C → Li
   steps_of_visit stack parts left i old new h e paid =
       omega (arith, paid, steps_of_stack-append (take (length stack - 1) stack) (reverse left), steps_of_stack-reverse left, ap steps_of_parts e, steps_of_next stack (Sub i) h)
 
+  -- the same three, where the item was taken from the stack before
+  pub text_of_turn : (held below after parts left : List (Part C)) (i : Item C) (old new whole : List ℕ) → held ≡ below ++ Sub i ∷ [] → after ≡ below ++ reverse left
+      → unshared i ≡ joined unshared bytes_of parts → new ++ text_of (joined unshared bytes_of left) ≡ old ++ text_of (joined unshared bytes_of parts)
+      → old ++ text_of_stack unshared bytes_of held ≡ whole → new ++ text_of_stack unshared bytes_of after ≡ whole
+  unfolding shown
+  text_of_turn held below after parts left i old new whole was is e written before =
+      ap (λ s. new ++ shown s) is
+      ∙ ap (λ t. new ++ t) (text_of_stack-append below (reverse left) ∙ ap (λ t. t ++ shown below) (text_of_stack-reverse left))
+      ∙ sym (append_assoc new (text_of (joined unshared bytes_of left)) (shown below))
+      ∙ ap (λ t. t ++ shown below) (written ∙ ap (λ u. old ++ text_of u) (sym e))
+      ∙ append_assoc old (text_of (unshared i)) (shown below)
+      ∙ ap (λ t. old ++ t) (sym (text_of_stack-append below (Sub i ∷ [])))
+      ∙ ap (λ s. old ++ shown s) (sym was)
+      ∙ before
+
+  pub cost_of_turn : (held below after parts left : List (Part C)) (i : Item C) (old paid new whole : ℕ) → held ≡ below ++ Sub i ∷ [] → after ≡ below ++ reverse left
+      → unshared i ≡ joined unshared bytes_of parts → paid ≡ old + 1 → new + cost_of_parts (joined unshared bytes_of left) ≡ paid + cost_of_parts (joined unshared bytes_of parts)
+      → old + cost_of_stack unshared bytes_of held ≡ whole → new + cost_of_stack unshared bytes_of after ≡ whole
+  unfolding price
+  cost_of_turn held below after parts left i old paid new whole was is e one written before =
+      omega (
+        arith,
+        ap price is,
+        cost_of_stack-append below (reverse left),
+        cost_of_stack-reverse left,
+        ap cost_of_parts e,
+        ap price was,
+        cost_of_stack-append below (Sub i ∷ []),
+        one,
+        written,
+        before,
+      )
+
+  pub steps_of_turn : (held below after parts left : List (Part C)) (i : Item C) (old paid new whole : ℕ) → held ≡ below ++ Sub i ∷ [] → after ≡ below ++ reverse left
+      → unshared i ≡ joined unshared bytes_of parts → paid ≡ old + 1 → new + steps_of_parts (joined unshared bytes_of left) ≡ paid + steps_of_parts (joined unshared bytes_of parts)
+      → old + steps_of_stack unshared bytes_of held ≡ whole → new + steps_of_stack unshared bytes_of after ≡ whole
+  unfolding count
+  steps_of_turn held below after parts left i old paid new whole was is e one written before =
+      omega (
+        arith,
+        ap count is,
+        steps_of_stack-append below (reverse left),
+        steps_of_stack-reverse left,
+        ap steps_of_parts e,
+        ap count was,
+        steps_of_stack-append below (Sub i ∷ []),
+        one,
+        written,
+        before,
+      )
+
   -- a byte text prints and costs its bytes
   pub text_of_text : (next : Part C) → IsText next → text_of_part unshared bytes_of next ≡ bytes_of next
   text_of_text (Sub i) h = elim h [ ]
@@ -162,10 +269,44 @@ module _ {C : Type 0} (unshared : Item C → Unshared) (bytes_of : Part C → Li
   steps_of_text (Sub i) h = elim h [ ]
   steps_of_text _ h = refl
 
+  -- a byte text that is written stands in the text and no more above the stack
+  pub text_of_put : (held below : List (Part C)) (part : Part C) (old new whole : List ℕ) → held ≡ below ++ part ∷ [] → IsText part → new ≡ old ++ bytes_of part
+      → old ++ text_of_stack unshared bytes_of held ≡ whole → new ++ text_of_stack unshared bytes_of below ≡ whole
+  unfolding shown one
+  text_of_put held below part old new whole was is_text put before =
+      ap (λ t. t ++ shown below) put
+      ∙ append_assoc old (bytes_of part) (shown below)
+      ∙ ap (λ t. old ++ (t ++ shown below)) (sym (text_of_text part is_text))
+      ∙ ap (λ t. old ++ t) (sym (text_of_stack-append below (part ∷ [])))
+      ∙ ap (λ s. old ++ shown s) (sym was)
+      ∙ before
+
+  pub cost_of_put : (held below : List (Part C)) (part : Part C) (old new whole : ℕ) → held ≡ below ++ part ∷ [] → IsText part → new ≡ old + length (bytes_of part)
+      → old + cost_of_stack unshared bytes_of held ≡ whole → new + cost_of_stack unshared bytes_of below ≡ whole
+  unfolding price
+  cost_of_put held below part old new whole was is_text paid before = omega (arith, ap price was, cost_of_stack-append below (part ∷ []), cost_of_text part is_text, paid, before)
+
+  pub steps_of_put : (held below : List (Part C)) (part : Part C) (old new whole : ℕ) → held ≡ below ++ part ∷ [] → IsText part → new ≡ old + 1
+      → old + steps_of_stack unshared bytes_of held ≡ whole → new + steps_of_stack unshared bytes_of below ≡ whole
+  unfolding count
+  steps_of_put held below part old new whole was is_text paid before = omega (arith, ap count was, steps_of_stack-append below (part ∷ []), steps_of_text part is_text, paid, before)
+
   -- no entry costs less than it spends
   pub spends-le : (next : Part C) → spends unshared bytes_of next ≤ cost_of_part unshared bytes_of next
   spends-le (Sub i) = omega arith
   spends-le _ = omega arith
+
+  -- a text above the stack that can't be paid for is part of what can't
+  pub text_too_dear : (held below : List (Part C)) (part : Part C) (limit spent : ℕ) → held ≡ below ++ part ∷ [] → IsText part → limit < spent + length (bytes_of part)
+      → limit < spent + cost_of_stack unshared bytes_of held
+  unfolding price
+  text_too_dear held below part limit spent was is_text dear = omega (arith, ap price was, cost_of_stack-append below (part ∷ []), cost_of_text part is_text, dear)
+
+  -- and so is an entry
+  pub part_too_dear : (held below : List (Part C)) (part : Part C) (limit spent : ℕ) → held ≡ below ++ part ∷ [] → limit < spent + spends unshared bytes_of part
+      → limit < spent + cost_of_stack unshared bytes_of held
+  unfolding price
+  part_too_dear held below part limit spent was dear = omega (arith, ap price was, cost_of_stack-append below (part ∷ []), spends-le part, dear)
 
   -- a byte text, once written, stands in the text and no more on the stack
   pub text_of_write : (stack left : List (Part C)) (next : Part C) (text written own : List ℕ)

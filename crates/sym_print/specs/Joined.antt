@@ -1,5 +1,5 @@
 -- The parts that a layout answers, read as what they print.
-use Rattle.std.specs.Prelude.{◌≡◌, ℕ, ◌+◌, ◌-◌, Some, slice_get, length, List, [], ◌∷◌, ◌++◌}
+use Rattle.std.specs.Prelude.{◌≡◌, ℕ, ◌+◌, ◌-◌, Some, slice_get, length, reverse, List, [], ◌∷◌, ◌++◌}
 use Rattle.sym_print.specs.declared.layout.Item.{Item}
 use Rattle.sym_print.specs.declared.layout.Part.{Part}
 use Rattle.sym_print.specs.declared.layout.Part.TheVariants.{Sub}
@@ -14,6 +14,10 @@ module _ {C : Type 0} where
   -- the part is the next entry of a stack, which is its last
   abbrev pub IsNext : List (Part C) → Part C → Type 0
   IsNext stack part = slice_get stack (length stack - 1) ≡ Some part
+
+  -- a stack, and above it parts, the first on top
+  abbrev pub with_parts : List (Part C) → List (Part C) → List (Part C)
+  with_parts stack parts = stack ++ reverse parts
 
 module _ {C : Type 0} (unshared : Item C → Unshared) (bytes_of : Part C → List ℕ) where
   -- a list of parts as what it prints

@@ -1,11 +1,10 @@
 // The work stack: its entries are taken one at a time, and paid for.
 #![tactic(auto)]
 
-ghost use Rattle.std.specs.Prelude.{◌≡◌, ℕ, ◌+◌, ◌*◌, ◌-◌, ◌<◌, ◌≤◌, ◌++◌, length, take, drop, reverse, vec_len, vec_capacity, is_ok, if◌then◌else◌, Some, None, [], ◌∷◌, IfOk, Err, IfErr, OnOk, OnErr, ◌⊎◌};
+ghost use Rattle.std.specs.Prelude.{◌≡◌, ℕ, ◌+◌, ◌*◌, ◌-◌, ◌<◌, ◌≤◌, ◌++◌, length, take, drop, slice_get, reverse, vec_len, vec_capacity, is_ok, if◌then◌else◌, Some, None, [], ◌∷◌, IfOk, Err, IfErr, OnOk, OnErr, ◌⊎◌};
 ghost use Rattle.std.specs.List.{All};
 ghost use Rattle.arrayvec.specs.ArrayVec.{array_vec_len};
-ghost use Rattle.sym_print.specs.Joined.{joined, text_of_stack, cost_of_stack, steps_of_stack, IsText, IsNext};
-ghost use Rattle.sym_print.specs.Unshared.{text_of, cost_of_parts, steps_of_parts};
+ghost use Rattle.sym_print.specs.Joined.{with_parts, text_of_stack, cost_of_stack, steps_of_stack, IsText, IsNext};
 ghost use Rattle.sym_print.specs.declared.layout.Part.{Part};
 ghost use Rattle.sym_core.specs.declared.Refusal.{Refusal};
 
@@ -32,12 +31,13 @@ fn push_reversed<C: Copy>(stack: &mut Vec<Part<C>>, parts: &[Part<C>])
 /// Moves the parts from a place on to a stack that has room for them, the first on top.
 fn move_reversed<C: Copy>(stack: &mut Vec<Part<C>>, parts: &mut ArrayVec<Part<C>, 8>, from: usize)
     requires within { from ≤ length parts.old.items }
-    requires room { vec_len stack.old + array_vec_len parts.old ≤ vec_capacity stack.old }
-    ensures items { stack.new.items ≡ stack.old.items ++ reverse (drop from parts.old.items) }
+    requires room { vec_len stack.old + array_vec_len parts.old ≤ vec_capacity stack.old + from }
+    ensures items { stack.new.items ≡ with_parts stack.old.items (drop from parts.old.items) }
+    ensures left { parts.new.items ≡ take from parts.old.items }
     ensures len { vec_len stack.new + from ≡ vec_len stack.old + array_vec_len parts.old }
     ensures capacity { vec_capacity stack.new ≡ vec_capacity stack.old }
 {
-    while parts.len() > from {
+    'parts: while parts.len() > from {
         if let Some(part) = parts.pop() {
             stack.push_reserved(part);
         }
@@ -104,41 +104,27 @@ fn write_text<Y: Layout>(
     Ok(())
 }
 
-/// Writes the texts before the first item of `parts`. It answers how many it wrote, and the refusal where one stopped it.
-fn write_leading<Y: Layout>(
-    y: &Y,
-    parts: &[Part<Y::Ctx>],
-    text: &mut Vec<u8>,
-    meter: &mut Meter,
-) -> (usize, Result<(), Refusal>)
-    requires may_come { All (Y.may_come y.now) parts.now }
-    requires paid { vec_len text.old ≤ meter.old.spent }
-    ensures paid { vec_len text.new ≤ meter.new.spent }
-    ensures within { result.0 ≤ length parts.now }
-    ensures text { text.new.items ++ text_of (joined (Y.unshared y.now) (Y.bytes_of y.now) (drop result.0 parts.now)) ≡ text.old.items ++ text_of (joined (Y.unshared y.now) (Y.bytes_of y.now) parts.now) }
-    ensures cost { meter.new.spent + cost_of_parts (joined (Y.unshared y.now) (Y.bytes_of y.now) (drop result.0 parts.now)) ≡ meter.old.spent + cost_of_parts (joined (Y.unshared y.now) (Y.bytes_of y.now) parts.now) }
-    ensures steps { meter.new.steps + steps_of_parts (joined (Y.unshared y.now) (Y.bytes_of y.now) (drop result.0 parts.now)) ≡ meter.old.steps + steps_of_parts (joined (Y.unshared y.now) (Y.bytes_of y.now) parts.now) }
+/// Pays for an item, and makes room for its parts.
+fn pay_item<C: Copy>(stack: &mut Vec<Part<C>>, meter: &mut Meter) -> Result<(), Refusal>
+    ensures items { stack.new.items ≡ stack.old.items }
+    ensures len { vec_len stack.new ≡ vec_len stack.old }
+    ensures parts_fit { OnOk result (vec_len stack.new + 8 ≤ vec_capacity stack.new) }
+    ensures spent { OnOk result (meter.new.spent ≡ meter.old.spent + 1) }
+    ensures steps { OnOk result (meter.new.steps ≡ meter.old.steps + 1) }
     ensures limit { meter.new.limit ≡ meter.old.limit }
-    ensures spent { meter.old.spent ≤ meter.new.spent }
-    ensures room { vec_capacity text.old ≤ vec_capacity text.new }
-    ensures own { IfErr result.1 (λ r. (r ≡ Refusal.TooLong) ⊎ (r ≡ Refusal.Memory)) }
-    ensures too_long { result.1 ≡ Err Refusal.TooLong → meter.new.limit < meter.new.spent + cost_of_parts (joined (Y.unshared y.now) (Y.bytes_of y.now) (drop result.0 parts.now)) }
-    ensures memory { result.1 ≡ Err Refusal.Memory → vec_capacity text.old < meter.old.limit }
+    ensures err { OnErr result (meter.new ≡ meter.old) }
+    ensures room { vec_capacity stack.old ≤ vec_capacity stack.new }
+    ensures own { IfErr result (λ r. (r ≡ Refusal.TooLong) ⊎ (r ≡ Refusal.Memory)) }
+    ensures too_long { result ≡ Err Refusal.TooLong → meter.old.limit < meter.old.spent + 1 }
+    ensures memory { result ≡ Err Refusal.Memory → vec_capacity stack.old < vec_len stack.old + 8 }
+    ensures affords { result ≡ Err Refusal.Memory → meter.old.spent < meter.old.limit }
 {
-    let mut done = 0;
-    while done < parts.len() {
-        let part = &parts[done];
-        match part {
-            Part::Sub(_) => return (done, Ok(())),
-            _ => {
-                if let Err(refusal) = write_text(y, part, text, meter) {
-                    return (done, Err(refusal));
-                }
-            }
-        }
-        done += 1;
+    if !meter.affords(1) {
+        return Err(Refusal::TooLong);
     }
-    (done, Ok(()))
+    stack.reserve(8)?;
+    meter.pay(1);
+    Ok(())
 }
 
 /// Takes the next entry, an item, from the stack, pays for it, and makes room for its parts.
@@ -155,14 +141,9 @@ fn take_item<C: Copy>(stack: &mut Vec<Part<C>>, meter: &mut Meter) -> Result<(),
     ensures own { IfErr result (λ r. (r ≡ Refusal.TooLong) ⊎ (r ≡ Refusal.Memory)) }
     ensures too_long { result ≡ Err Refusal.TooLong → meter.old.limit < meter.old.spent + 1 }
     ensures memory { result ≡ Err Refusal.Memory → vec_capacity stack.old < vec_len stack.old + 8 }
-    ensures affords { result ≡ Err Refusal.Memory → meter.old.spent < meter.old.limit }
 {
-    if !meter.affords(1) {
-        return Err(Refusal::TooLong);
-    }
-    stack.reserve(8)?;
+    pay_item(stack, meter)?;
     stack.pop();
-    meter.pay(1);
     Ok(())
 }
 
@@ -196,7 +177,100 @@ pub(crate) fn open_item<Y: Layout>(
     Ok(())
 }
 
-/// Puts the parts of the next entry, an item, in its place, but writes the texts before the first item at once.
+/// Puts the parts of an item, which is the part at a place, into the list that it stands in, and what stands behind it
+/// onto the stack. Where it is refused, what the stack and the list from that place on print stays the same.
+fn open_part<Y: Layout>(
+    y: &Y,
+    item: Item<Y::Ctx>,
+    at: usize,
+    parts: &mut ArrayVec<Part<Y::Ctx>, 8>,
+    stack: &mut Vec<Part<Y::Ctx>>,
+    meter: &mut Meter,
+) -> Result<(), Refusal>
+    requires here { slice_get parts.old.items at ≡ Some (Part.Sub item) }
+    requires few { at < 8 }
+    requires may_come { All (Y.may_come y.now) (with_parts stack.old.items (drop at parts.old.items)) }
+    requires room { vec_len stack.old + array_vec_len parts.old ≤ vec_capacity stack.old + at }
+    requires paid { length (with_parts stack.old.items (drop at parts.old.items)) ≤ 7 * meter.old.spent + 1 }
+    ensures may_come { OnOk result (All (Y.may_come y.now) (with_parts stack.new.items parts.new.items)) }
+    ensures text { OnOk result (text_of_stack (Y.unshared y.now) (Y.bytes_of y.now) (with_parts stack.new.items parts.new.items) ≡ text_of_stack (Y.unshared y.now) (Y.bytes_of y.now) (with_parts stack.old.items (drop at parts.old.items))) }
+    ensures cost { OnOk result (meter.new.spent + cost_of_stack (Y.unshared y.now) (Y.bytes_of y.now) (with_parts stack.new.items parts.new.items) ≡ meter.old.spent + cost_of_stack (Y.unshared y.now) (Y.bytes_of y.now) (with_parts stack.old.items (drop at parts.old.items))) }
+    ensures steps { OnOk result (meter.new.steps + steps_of_stack (Y.unshared y.now) (Y.bytes_of y.now) (with_parts stack.new.items parts.new.items) ≡ meter.old.steps + steps_of_stack (Y.unshared y.now) (Y.bytes_of y.now) (with_parts stack.old.items (drop at parts.old.items))) }
+    ensures spent { OnOk result (meter.new.spent ≡ meter.old.spent + 1) }
+    ensures paid { OnOk result (length (with_parts stack.new.items parts.new.items) ≤ 7 * meter.new.spent + 1) }
+    ensures room { OnOk result (vec_len stack.new + array_vec_len parts.new ≤ vec_capacity stack.new) }
+    ensures same { OnErr result (with_parts stack.new.items (drop at parts.new.items) ≡ with_parts stack.old.items (drop at parts.old.items)) }
+    ensures unpaid { OnErr result (meter.new ≡ meter.old) }
+    ensures still_room { OnErr result ((at ≤ length parts.new.items) × (vec_len stack.new + array_vec_len parts.new ≤ vec_capacity stack.new + at)) }
+    ensures limit { meter.new.limit ≡ meter.old.limit }
+    ensures capacity { vec_capacity stack.old ≤ vec_capacity stack.new }
+    ensures own { IfErr result (λ r. (r ≡ Refusal.TooLong) ⊎ (r ≡ Refusal.Memory)) }
+    ensures too_long { result ≡ Err Refusal.TooLong → meter.old.limit < meter.old.spent + 1 }
+    ensures memory { result ≡ Err Refusal.Memory → vec_capacity stack.old < 8 * (meter.old.limit + 1) }
+{
+    move_reversed(stack, parts, at + 1);
+    pay_item(stack, meter)?;
+    parts.pop();
+    parts.clear();
+    y.fill(item, parts);
+    let count = parts.len();
+    prove!(count <= 8);
+    Ok(())
+}
+
+/// Prints parts up to the items behind the first, which it puts onto the stack with what stands behind them: each text is
+/// written at once, and an item's parts are the next ones. A refusal leaves all that wasn't printed on the stack.
+fn print_parts<Y: Layout>(
+    y: &Y,
+    parts: &mut ArrayVec<Part<Y::Ctx>, 8>,
+    stack: &mut Vec<Part<Y::Ctx>>,
+    text: &mut Vec<u8>,
+    meter: &mut Meter,
+) -> Result<(), Refusal>
+    requires may_come { All (Y.may_come y.now) (with_parts stack.old.items parts.old.items) }
+    requires room { vec_len stack.old + array_vec_len parts.old ≤ vec_capacity stack.old }
+    requires paid { vec_len text.old ≤ meter.old.spent }
+    requires stack_paid { length (with_parts stack.old.items parts.old.items) ≤ 7 * meter.old.spent + 1 }
+    requires some { 0 < length parts.old.items }
+    ensures paid { vec_len text.new ≤ meter.new.spent }
+    ensures stack_paid { vec_len stack.new ≤ 7 * meter.new.spent + 1 }
+    ensures may_come { All (Y.may_come y.now) stack.new.items }
+    ensures text { text.new.items ++ text_of_stack (Y.unshared y.now) (Y.bytes_of y.now) stack.new.items ≡ text.old.items ++ text_of_stack (Y.unshared y.now) (Y.bytes_of y.now) (with_parts stack.old.items parts.old.items) }
+    ensures cost { meter.new.spent + cost_of_stack (Y.unshared y.now) (Y.bytes_of y.now) stack.new.items ≡ meter.old.spent + cost_of_stack (Y.unshared y.now) (Y.bytes_of y.now) (with_parts stack.old.items parts.old.items) }
+    ensures steps { meter.new.steps + steps_of_stack (Y.unshared y.now) (Y.bytes_of y.now) stack.new.items ≡ meter.old.steps + steps_of_stack (Y.unshared y.now) (Y.bytes_of y.now) (with_parts stack.old.items parts.old.items) }
+    ensures limit { meter.new.limit ≡ meter.old.limit }
+    ensures entry_room { vec_capacity stack.old ≤ vec_capacity stack.new }
+    ensures own { IfErr result (λ r. (r ≡ Refusal.TooLong) ⊎ (r ≡ Refusal.Memory)) }
+    ensures text_room { vec_capacity text.old ≤ vec_capacity text.new }
+    ensures spends { OnOk result (meter.old.spent < meter.new.spent) }
+    ensures too_long { result ≡ Err Refusal.TooLong → meter.new.limit < meter.new.spent + cost_of_stack (Y.unshared y.now) (Y.bytes_of y.now) stack.new.items }
+    ensures memory { result ≡ Err Refusal.Memory → (vec_capacity stack.old < 8 * (meter.old.limit + 1)) ⊎ (vec_capacity text.old < meter.old.limit) }
+{
+    let mut at = 0;
+    'parts: while at < parts.len() {
+        let part = &parts.as_slice()[at];
+        match part {
+            Part::Sub(item) => {
+                let item = *item;
+                if let Err(refusal) = open_part(y, item, at, parts, stack, meter) {
+                    move_reversed(stack, parts, at);
+                    return Err(refusal);
+                }
+                at = 0;
+            }
+            _ => {
+                if let Err(refusal) = write_text(y, part, text, meter) {
+                    move_reversed(stack, parts, at);
+                    return Err(refusal);
+                }
+                at += 1;
+            }
+        }
+    }
+    Ok(())
+}
+
+/// Prints the next entry, an item, up to the items behind its first one.
 fn print_item<Y: Layout>(
     y: &Y,
     item: Item<Y::Ctx>,
@@ -223,12 +297,10 @@ fn print_item<Y: Layout>(
     ensures too_long { result ≡ Err Refusal.TooLong → meter.new.limit < meter.new.spent + cost_of_stack (Y.unshared y.now) (Y.bytes_of y.now) stack.new.items }
     ensures memory { result ≡ Err Refusal.Memory → (vec_capacity stack.old < 8 * (meter.old.limit + 1)) ⊎ (vec_capacity text.old < meter.old.limit) }
 {
-    take_item(stack, meter)?;
+    stack.pop();
     parts.clear();
-    y.fill(item, parts);
-    let (done, outcome) = write_leading(y, parts.as_slice(), text, meter);
-    move_reversed(stack, parts, done);
-    outcome
+    parts.push(Part::Sub(item));
+    print_parts(y, parts, stack, text, meter)
 }
 
 /// Writes the next entry, a byte text, and takes it from the stack.
@@ -296,7 +368,7 @@ pub(crate) fn print_entries<Y: Layout>(
             Part::Sub(item) => print_item(y, *item, &mut parts, stack, text, meter)?,
             _ => {
                 write_text(y, next, text, meter)?;
-                stack.pop();
+                stack.take_last();
             }
         }
     }

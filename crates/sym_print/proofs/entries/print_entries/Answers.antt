@@ -5,7 +5,7 @@ use Rattle.sym_core.specs.declared.Refusal.{Refusal}
 use Rattle.sym_core.specs.declared.Refusal.TheVariants.{TooLong}
 use Rattle.sym_print.specs.declared.meter.Meter.{Meter}
 use Rattle.sym_print.specs.Joined.{IsNext, IsText, text_of_stack, cost_of_stack, steps_of_stack}
-use Rattle.sym_print.proofs.Stack.{text_of_write, cost_of_next, cost_of_text, steps_of_next, steps_of_text}
+use Rattle.sym_print.proofs.Stack.{without_last, text_of_write, cost_of_next, cost_of_text, steps_of_next, steps_of_text}
 use Rattle.sym_print.proofs.entries.print_entries.Given as given
 use Rattle.sym_print.proofs.entries.print_entries.Goals as goal
 
@@ -43,8 +43,8 @@ returns-in_err-write_text-in_default-next-clause-too_long g c same =
     )
 
 -- what is left on the stack
-left : (g : given.Over) → (c : goal.After-pop g) → c.pop.new.self.items ≡ take (length c.loop-next.stack.items - 1) c.loop-next.stack.items
-left g c = rw c.loop-next.stack.ok.0 at c.pop.ensures.rest
+left : (g : given.Over) → (c : goal.After-take_last g) → c.take_last.new.self.items ≡ take (length c.loop-next.stack.items - 1) c.loop-next.stack.items
+left g c = without_last c.loop-next.stack.items c.take_last.new.self.items c.take_last.result c.take_last.ensures.items
 
 pub loop-next-preserved : goal.loop-next-preserved
 loop-next-preserved g c =
@@ -55,7 +55,7 @@ loop-next-preserved g c =
     let is_text : IsText c.in-Some.next.now = search rules in
     let next : IsNext c.loop-next.stack.items c.in-Some.next.now = search rules in (
       All-same (g.Y.Layout.may_come c.args.y.now) _ _ (left g c) (All-take (g.Y.Layout.may_come c.args.y.now) (length stack - 1) stack c.loop-next.invariant.0),
-      text_of_write unshared bytes_of stack c.pop.new.self.items part c.loop-next.text.items c.write_text.new.text.items (bytes_of part) next is_text (left g c) refl c.in_ok-write_text-in_default-next.ensures.ok
+      text_of_write unshared bytes_of stack c.take_last.new.self.items part c.loop-next.text.items c.write_text.new.text.items (bytes_of part) next is_text (left g c) refl c.in_ok-write_text-in_default-next.ensures.ok
           ∙ c.loop-next.invariant.1,
       omega (
         arith,
@@ -74,8 +74,8 @@ loop-next-preserved g c =
         c.loop-next.invariant.3,
       ),
       c.write_text.ensures.paid,
-      omega (arith, c.in_ok-write_text-in_default-next.ensures.spent, c.pop.ensures.len, c.loop-next.invariant.5),
+      omega (arith, c.in_ok-write_text-in_default-next.ensures.spent, c.take_last.ensures.len, c.loop-next.invariant.5),
       omega (arith, c.write_text.ensures.limit, c.loop-next.invariant.6),
-      omega (arith, c.pop.ensures.capacity, c.loop-next.invariant.7),
+      omega (arith, c.take_last.ensures.capacity, c.loop-next.invariant.7),
       omega (arith, c.write_text.ensures.room, c.loop-next.invariant.8),
     )
