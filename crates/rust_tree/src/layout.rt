@@ -6,7 +6,7 @@ ghost use Rattle.arrayvec.specs.ArrayVec.{array_vec_len};
 ghost use Rattle.sym_print.specs.Unshared.{Unshared, done};
 ghost use Rattle.sym_print.specs.Building.{◌then◌, ◌also◌, ◌perhaps◌};
 ghost use Rattle.rust_tree.specs.Symbol as tree;
-ghost use Rattle.rust_tree.specs.Nodes.{IsPath, IsArguments, IsType, IsTypes, IsBounds, IsBindings, IsConstant, IsSymbol, HasName, name_of, identifier_of, path_in, arguments_in, type_in, types_in, bounds_in, bindings_in, constant_in, symbol_in, most_bound};
+ghost use Rattle.rust_tree.specs.Nodes.{IsPath, IsArguments, IsType, IsTypes, IsBounds, IsBindings, IsConstant, IsSymbol, HasName, IsWithin, bytes_at, name_of, identifier_of, path_in, arguments_in, type_in, types_in, bounds_in, bindings_in, constant_in, symbol_in, most_bound};
 ghost use Rattle.rust_tree.specs.Shown.{path_parts, type_parts, arguments_from, types_from, bounds_from, bindings_from, bound_parts, constant_parts, lifetime_parts, lifetime_text, numbered_lifetime, name_text, name_behind, namespace_text, special_name, generic_parts};
 ghost use Rattle.rust_tree.specs.Texts.{fixed_text};
 ghost use Rattle.rust_tree.specs.Layout.{ReadSymbol, trees_of, shown, HasForm, HasDepth, Shows, Fills, any_arguments, any_types, any_bounds, any_bindings, item_if, is_empty};
@@ -18,6 +18,7 @@ use crate::symbol::Symbol;
 use crate::texts;
 use arrayvec::ArrayVec;
 use itoa::Buffer;
+use sym_core::Span;
 use sym_print::{Detail, Part};
 
 impl Symbol {
@@ -262,15 +263,42 @@ impl Symbol {
         }
     }
 
-    /// Whether a name prints nothing.
-    fn prints_nothing(&self, name: Name) -> bool
-        ensures { HasName self.now.bytes self.now.table.text name → result ≡ is_empty (name_text (name_of self.now.bytes name)) }
+    /// Adds a text and bytes of the symbol behind it, unless there are none of these.
+    pub(crate) fn push_bytes_behind(
+        &self,
+        parts: &mut ArrayVec<Part<Context>, 8>,
+        number: u16,
+        span: Span,
+    )
+        requires room { array_vec_len parts.old + 2 ≤ 8 }
+        requires text { 0 < length (fixed_text number) }
+        ensures shows { (so_far : Unshared → Unshared) → Shows self.now parts.old.items so_far → IsWithin span self.now.bytes
+            → Shows self.now parts.new.items (λ rest. so_far (name_behind (fixed_text number) (bytes_at self.now.bytes span) rest)) }
+        ensures len { array_vec_len parts.new ≤ array_vec_len parts.old + 2 }
     {
-        let span = match name.decoded {
-            None => name.bytes,
-            Some(decoded) => decoded,
-        };
-        span.from >= span.to
+        if !prints_nothing(span) {
+            self.push_text(parts, number);
+            self.push_bytes(parts, span);
+        }
+    }
+
+    /// Adds a text and bytes of the text list behind it, unless there are none of these.
+    pub(crate) fn push_printed_behind(
+        &self,
+        parts: &mut ArrayVec<Part<Context>, 8>,
+        number: u16,
+        span: Span,
+    )
+        requires room { array_vec_len parts.old + 2 ≤ 8 }
+        requires text { 0 < length (fixed_text number) }
+        ensures shows { (so_far : Unshared → Unshared) → Shows self.now parts.old.items so_far → IsWithin span self.now.table.text
+            → Shows self.now parts.new.items (λ rest. so_far (name_behind (fixed_text number) (bytes_at self.now.table.text span) rest)) }
+        ensures len { array_vec_len parts.new ≤ array_vec_len parts.old + 2 }
+    {
+        if !prints_nothing(span) {
+            self.push_text(parts, number);
+            self.push_printed(parts, span);
+        }
     }
 
     /// Adds a text and a name behind it, unless the name prints nothing.
@@ -287,9 +315,9 @@ impl Symbol {
             → Shows self.now parts.new.items (λ rest. so_far (name_behind (fixed_text number) (name_text (name_of self.now.bytes name)) rest)) }
         ensures len { array_vec_len parts.new ≤ array_vec_len parts.old + 2 }
     {
-        if !self.prints_nothing(name) {
-            self.push_text(parts, number);
-            self.push_name(parts, name);
+        match name.decoded {
+            None => self.push_bytes_behind(parts, number, name.bytes),
+            Some(decoded) => self.push_printed_behind(parts, number, decoded),
         }
     }
 
@@ -328,4 +356,11 @@ impl Symbol {
         self.push_decimal(parts, disambiguator);
         self.push_text(parts, texts::RIGHT_BRACE);
     }
+}
+
+/// Whether a span prints nothing.
+fn prints_nothing(span: Span) -> bool
+    ensures { (bytes : List ℕ) → IsWithin span bytes → result ≡ is_empty (bytes_at bytes span) }
+{
+    span.from >= span.to
 }

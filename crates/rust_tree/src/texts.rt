@@ -87,6 +87,7 @@ pub const BLANK_LEFT: u16 = 39;
 
 /// The text of a number. The number of a basic type's text is its letter.
 #[tactic(auto, unfolding(crate::specs::Texts::fixed_text))]
+#[inline(always)]
 pub fn fixed_text(number: u16) -> &'static [u8]
     ensures { result.now ≡ fixed_text number }
 {

@@ -6,7 +6,7 @@ ghost use Rattle.arrayvec.specs.ArrayVec.{array_vec_len};
 ghost use Rattle.sym_print.specs.Unshared.{Unshared, done};
 ghost use Rattle.sym_print.specs.Building.{◌then◌, ◌also◌, ◌perhaps◌};
 ghost use Rattle.rust_tree.specs.Symbol as tree;
-ghost use Rattle.rust_tree.specs.Nodes.{IsPath, IsArguments, IsType, IsTypes, IsBounds, IsBindings, IsConstant, IsSymbol, HasName, HasAbi, HasTypeParts, name_of, identifier_of, abi_of, type_of, path_in, arguments_in, type_in, types_in, bounds_in, bindings_in, constant_in, symbol_in, bytes_at, IsWithin};
+ghost use Rattle.rust_tree.specs.Nodes.{IsPath, IsArguments, IsType, IsTypes, IsBounds, IsBindings, IsConstant, IsSymbol, HasName, HasAbi, HasTypeParts, name_of, identifier_of, abi_of, type_of, path_in, arguments_in, type_in, types_in, bounds_in, bindings_in, constant_in, symbol_in, bytes_at, IsWithin, most_bound};
 ghost use Rattle.rust_tree.specs.Shown.{path_parts, type_parts, arguments_from, types_from, bounds_from, bindings_from, bound_parts, constant_parts, lifetime_parts, symbol_parts, suffix_parts, argument_list, nested_name, reference_opening, dyn_lifetime, for_binder, signature_opening, returned_parts, closing_tuple, is_unit, basic_text};
 ghost use Rattle.rust_tree.specs.Texts.{fixed_text};
 ghost use Rattle.rust_tree.specs.Tree.{Tree, of_type};
@@ -121,6 +121,105 @@ impl Symbol {
         }
     }
 
+    /// Adds an array's type.
+    fn push_array(
+        &self,
+        parts: &mut ArrayVec<Part<Context>, 8>,
+        element: u32,
+        size: u32,
+        ctx: Context,
+    )
+        requires { array_vec_len parts.old + 5 ≤ 8 }
+        ensures shows { (so_far : Unshared → Unshared) → Shows self.now parts.old.items so_far → ((t : tree.Ty) × IsType (trees_of self.now) element t) → HasDepth Form.PlainPath element ctx.bound → ((k : tree.Constant) × IsConstant (trees_of self.now) size k) → HasDepth Form.PlainPath size ctx.bound
+            → Shows self.now parts.new.items (λ rest. so_far (codes "[" then type_parts ctx.detail ctx.bound (type_in (slice_get (trees_of self.now) element)) also codes "; " then constant_parts (constant_in (slice_get (trees_of self.now) size)) also codes "]" then rest)) }
+        ensures len { array_vec_len parts.new ≤ array_vec_len parts.old + 5 }
+    {
+        self.push_text(parts, texts::LEFT_BRACKET);
+        self.push_item(parts, element, Form::Ty, 0, ctx);
+        self.push_text(parts, texts::SEMICOLON);
+        self.push_item(parts, size, Form::Constant, 0, ctx);
+        self.push_text(parts, texts::RIGHT_BRACKET);
+    }
+
+    /// Adds a slice's type.
+    fn push_slice(&self, parts: &mut ArrayVec<Part<Context>, 8>, element: u32, ctx: Context)
+        requires { array_vec_len parts.old + 3 ≤ 8 }
+        ensures shows { (so_far : Unshared → Unshared) → Shows self.now parts.old.items so_far → ((t : tree.Ty) × IsType (trees_of self.now) element t) → HasDepth Form.PlainPath element ctx.bound
+            → Shows self.now parts.new.items (λ rest. so_far (codes "[" then type_parts ctx.detail ctx.bound (type_in (slice_get (trees_of self.now) element)) also codes "]" then rest)) }
+        ensures len { array_vec_len parts.new ≤ array_vec_len parts.old + 3 }
+    {
+        self.push_text(parts, texts::LEFT_BRACKET);
+        self.push_item(parts, element, Form::Ty, 0, ctx);
+        self.push_text(parts, texts::RIGHT_BRACKET);
+    }
+
+    /// Adds a pointer's type, behind the text that it begins with.
+    fn push_pointer(
+        &self,
+        parts: &mut ArrayVec<Part<Context>, 8>,
+        number: u16,
+        pointee: u32,
+        ctx: Context,
+    )
+        requires room { array_vec_len parts.old + 2 ≤ 8 }
+        requires text { 0 < length (fixed_text number) }
+        ensures shows { (so_far : Unshared → Unshared) → Shows self.now parts.old.items so_far → ((t : tree.Ty) × IsType (trees_of self.now) pointee t) → HasDepth Form.PlainPath pointee ctx.bound
+            → Shows self.now parts.new.items (λ rest. so_far (fixed_text number then type_parts ctx.detail ctx.bound (type_in (slice_get (trees_of self.now) pointee)) also rest)) }
+        ensures len { array_vec_len parts.new ≤ array_vec_len parts.old + 2 }
+    {
+        self.push_text(parts, number);
+        self.push_item(parts, pointee, Form::Ty, 0, ctx);
+    }
+
+    /// Adds a function's type: its binder, and its signature under it.
+    fn push_function(
+        &self,
+        parts: &mut ArrayVec<Part<Context>, 8>,
+        node: u32,
+        binder: u16,
+        ctx: Context,
+    )
+        requires room { array_vec_len parts.old + 4 ≤ 8 }
+        requires depth { HasDepth Form.PlainPath node ctx.bound }
+        ensures shows { (so_far : Unshared → Unshared) → Shows self.now parts.old.items so_far → ((t : tree.Ty) × IsType (trees_of self.now) node t) → binder ≤ most_bound → binder_in (type_in (slice_get (trees_of self.now) node)) ≡ binder
+            → Shows self.now parts.new.items (λ rest. so_far (for_binder ctx.bound binder (signature_in (record { bound = ctx.bound + binder; detail = ctx.detail }) (type_in (slice_get (trees_of self.now) node)) also rest))) }
+        ensures len { array_vec_len parts.new ≤ array_vec_len parts.old + 4 }
+    {
+        self.push_binder(parts, node, binder, ctx);
+        let inner = Context {
+            bound: ctx.bound + binder as u64,
+            detail: ctx.detail,
+        };
+        self.push_item(parts, node, Form::Signature, 0, inner);
+    }
+
+    /// Adds a `dyn` type: its binder, its bounds under it, and its lifetime.
+    fn push_dyn(
+        &self,
+        parts: &mut ArrayVec<Part<Context>, 8>,
+        node: u32,
+        binder: u16,
+        bounds: u32,
+        lifetime: u64,
+        ctx: Context,
+    )
+        requires room { array_vec_len parts.old + 7 ≤ 8 }
+        requires depth { HasDepth Form.PlainPath node ctx.bound }
+        requires are_bounds { (bs : tree.Bounds) × IsBounds (trees_of self.now) bounds bs }
+        ensures shows { (so_far : Unshared → Unshared) → Shows self.now parts.old.items so_far → ((t : tree.Ty) × IsType (trees_of self.now) node t) → bounds < node → binder ≤ most_bound → binder_in (type_in (slice_get (trees_of self.now) node)) ≡ binder
+            → Shows self.now parts.new.items (λ rest. so_far (codes "dyn " then for_binder ctx.bound binder (bounds_from ctx.detail (ctx.bound + binder) [] (bounds_in (slice_get (trees_of self.now) bounds)) perhaps dyn_lifetime ctx.bound lifetime rest))) }
+        ensures len { array_vec_len parts.new ≤ array_vec_len parts.old + 7 }
+    {
+        self.push_text(parts, texts::DYN);
+        self.push_binder(parts, node, binder, ctx);
+        let inner = Context {
+            bound: ctx.bound + binder as u64,
+            detail: ctx.detail,
+        };
+        self.push_bounds(parts, bounds, true, inner);
+        self.push_dyn_lifetime(parts, lifetime, ctx);
+    }
+
     /// Adds the end of a tuple.
     fn push_closing(&self, parts: &mut ArrayVec<Part<Context>, 8>, elements: u32)
         requires room { array_vec_len parts.old + 1 ≤ 8 }
@@ -152,18 +251,8 @@ impl Symbol {
     {
         match ty {
             Ty::Basic(letter) => self.push_basic(parts, letter),
-            Ty::Array { element, size } => {
-                self.push_text(parts, texts::LEFT_BRACKET);
-                self.push_item(parts, element, Form::Ty, 0, ctx);
-                self.push_text(parts, texts::SEMICOLON);
-                self.push_item(parts, size, Form::Constant, 0, ctx);
-                self.push_text(parts, texts::RIGHT_BRACKET);
-            }
-            Ty::Slice(element) => {
-                self.push_text(parts, texts::LEFT_BRACKET);
-                self.push_item(parts, element, Form::Ty, 0, ctx);
-                self.push_text(parts, texts::RIGHT_BRACKET);
-            }
+            Ty::Array { element, size } => self.push_array(parts, element, size, ctx),
+            Ty::Slice(element) => self.push_slice(parts, element, ctx),
             Ty::Tuple(elements) => {
                 self.push_text(parts, texts::LEFT);
                 self.push_types(parts, elements, true, ctx);
@@ -177,36 +266,19 @@ impl Symbol {
                 self.push_reference(parts, lifetime, true, ctx);
                 self.push_item(parts, referent, Form::Ty, 0, ctx);
             }
-            Ty::ConstPointer(pointee) => {
-                self.push_text(parts, texts::CONST_POINTER);
-                self.push_item(parts, pointee, Form::Ty, 0, ctx);
-            }
-            Ty::MutPointer(pointee) => {
-                self.push_text(parts, texts::MUT_POINTER);
-                self.push_item(parts, pointee, Form::Ty, 0, ctx);
-            }
-            Ty::Function { binder, .. } => {
-                self.push_binder(parts, node, binder, ctx);
-                let inner = Context {
-                    bound: ctx.bound + binder as u64,
-                    detail: ctx.detail,
-                };
-                self.push_item(parts, node, Form::Signature, 0, inner);
-            }
+            Ty::ConstPointer(pointee) => self.push_pointer(
+                parts,
+                texts::CONST_POINTER,
+                pointee,
+                ctx,
+            ),
+            Ty::MutPointer(pointee) => self.push_pointer(parts, texts::MUT_POINTER, pointee, ctx),
+            Ty::Function { binder, .. } => self.push_function(parts, node, binder, ctx),
             Ty::Dyn {
                 binder,
                 bounds,
                 lifetime,
-            } => {
-                self.push_text(parts, texts::DYN);
-                self.push_binder(parts, node, binder, ctx);
-                let inner = Context {
-                    bound: ctx.bound + binder as u64,
-                    detail: ctx.detail,
-                };
-                self.push_bounds(parts, bounds, true, inner);
-                self.push_dyn_lifetime(parts, lifetime, ctx);
-            }
+            } => self.push_dyn(parts, node, binder, bounds, lifetime, ctx),
         }
     }
 

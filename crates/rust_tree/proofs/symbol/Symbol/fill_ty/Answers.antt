@@ -1,6 +1,6 @@
 use Rattle.std.proofs.Common.{ap, subst, refl, take, inl}
 use Rattle.rust_tree.proofs.Lists.{starts, fills}
-use Rattle.rust_tree.proofs.Showing.{deeper, deeper-bound, deeper-signature, early-type, early-types, early-constant, early-bounds}
+use Rattle.rust_tree.proofs.Showing.{deeper, early-type, early-types, early-constant, early-bounds}
 use Rattle.rust_tree.specs.Nodes.{HasTypeParts, type_of}
 use Rattle.rust_tree.specs.Shown.{type_parts}
 use Rattle.rust_tree.specs.Layout.{trees_of}
@@ -16,25 +16,25 @@ unfolding type_parts type_of
 returns-in-Array c =
     let t = early-type (trees_of c.args.self.now) c.args.node c.in-Array.element (subst (HasTypeParts c.args.self.now.bytes c.args.self.now.table.text (take c.args.node (trees_of c.args.self.now))) c.in-Array.is c.requires.parts).0 in
     let k = early-constant (trees_of c.args.self.now) c.args.node c.in-Array.size (subst (HasTypeParts c.args.self.now.bytes c.args.self.now.table.text (take c.args.node (trees_of c.args.self.now))) c.in-Array.is c.requires.parts).1 in
-    fills c.args.self.now _ _ _ (c.push_text-in-Array-2.ensures.shows _ (c.push_item-in-Array.ensures.shows _ (c.push_text-in-Array.ensures.shows _ (c.push_item.ensures.shows _ (c.push_text.ensures.shows _ (starts c.args.self.now c.args.parts.now.items c.requires.empty)) t.1 (deeper c.args.ctx.bound c.in-Array.element c.args.node t.0 c.requires.depth))) k.1 (deeper c.args.ctx.bound c.in-Array.size c.args.node k.0 c.requires.depth))) (ap (λ t. type_parts c.args.ctx.detail c.args.ctx.bound (type_of c.args.self.now.bytes (trees_of c.args.self.now) t)) c.in-Array.is)
+    fills c.args.self.now _ _ _ (c.push_array.ensures.shows _ (starts c.args.self.now c.args.parts.now.items c.requires.empty) t.1 (deeper c.args.ctx.bound c.in-Array.element c.args.node t.0 c.requires.depth) k.1 (deeper c.args.ctx.bound c.in-Array.size c.args.node k.0 c.requires.depth)) (ap (λ t. type_parts c.args.ctx.detail c.args.ctx.bound (type_of c.args.self.now.bytes (trees_of c.args.self.now) t)) c.in-Array.is)
 
 pub returns-in-Slice : goal.returns-in-Slice
 unfolding type_parts type_of
 returns-in-Slice c =
     let t = early-type (trees_of c.args.self.now) c.args.node c.in-Slice.element (subst (HasTypeParts c.args.self.now.bytes c.args.self.now.table.text (take c.args.node (trees_of c.args.self.now))) c.in-Slice.is c.requires.parts) in
-    fills c.args.self.now _ _ _ (c.push_text-in-Slice-2.ensures.shows _ (c.push_item-in-Slice.ensures.shows _ (c.push_text-in-Slice.ensures.shows _ (starts c.args.self.now c.args.parts.now.items c.requires.empty)) t.1 (deeper c.args.ctx.bound c.in-Slice.element c.args.node t.0 c.requires.depth))) (ap (λ t. type_parts c.args.ctx.detail c.args.ctx.bound (type_of c.args.self.now.bytes (trees_of c.args.self.now) t)) c.in-Slice.is)
+    fills c.args.self.now _ _ _ (c.push_slice.ensures.shows _ (starts c.args.self.now c.args.parts.now.items c.requires.empty) t.1 (deeper c.args.ctx.bound c.in-Slice.element c.args.node t.0 c.requires.depth)) (ap (λ t. type_parts c.args.ctx.detail c.args.ctx.bound (type_of c.args.self.now.bytes (trees_of c.args.self.now) t)) c.in-Slice.is)
 
 pub returns-in-Tuple : goal.returns-in-Tuple
 unfolding type_parts type_of
 returns-in-Tuple c =
     let t = early-types (trees_of c.args.self.now) c.args.node c.in-Tuple.elements (subst (HasTypeParts c.args.self.now.bytes c.args.self.now.table.text (take c.args.node (trees_of c.args.self.now))) c.in-Tuple.is c.requires.parts) in
-    fills c.args.self.now _ _ _ (c.push_closing.ensures.shows _ (c.push_types.ensures.shows _ (c.push_text-in-Tuple.ensures.shows _ (starts c.args.self.now c.args.parts.now.items c.requires.empty)) (deeper c.args.ctx.bound c.in-Tuple.elements c.args.node t.0 c.requires.depth))) (ap (λ t. type_parts c.args.ctx.detail c.args.ctx.bound (type_of c.args.self.now.bytes (trees_of c.args.self.now) t)) c.in-Tuple.is)
+    fills c.args.self.now _ _ _ (c.push_closing.ensures.shows _ (c.push_types.ensures.shows _ (c.push_text.ensures.shows _ (starts c.args.self.now c.args.parts.now.items c.requires.empty)) (deeper c.args.ctx.bound c.in-Tuple.elements c.args.node t.0 c.requires.depth))) (ap (λ t. type_parts c.args.ctx.detail c.args.ctx.bound (type_of c.args.self.now.bytes (trees_of c.args.self.now) t)) c.in-Tuple.is)
 
 pub returns-in-SharedReference : goal.returns-in-SharedReference
 unfolding type_parts type_of
 returns-in-SharedReference c =
     let t = early-type (trees_of c.args.self.now) c.args.node c.in-SharedReference.referent (subst (HasTypeParts c.args.self.now.bytes c.args.self.now.table.text (take c.args.node (trees_of c.args.self.now))) c.in-SharedReference.is c.requires.parts) in
-    fills c.args.self.now _ _ _ (c.push_item-in-SharedReference.ensures.shows _ (c.push_reference.ensures.shows _ (starts c.args.self.now c.args.parts.now.items c.requires.empty)) t.1 (deeper c.args.ctx.bound c.in-SharedReference.referent c.args.node t.0 c.requires.depth)) (ap (λ t. type_parts c.args.ctx.detail c.args.ctx.bound (type_of c.args.self.now.bytes (trees_of c.args.self.now) t)) c.in-SharedReference.is)
+    fills c.args.self.now _ _ _ (c.push_item.ensures.shows _ (c.push_reference.ensures.shows _ (starts c.args.self.now c.args.parts.now.items c.requires.empty)) t.1 (deeper c.args.ctx.bound c.in-SharedReference.referent c.args.node t.0 c.requires.depth)) (ap (λ t. type_parts c.args.ctx.detail c.args.ctx.bound (type_of c.args.self.now.bytes (trees_of c.args.self.now) t)) c.in-SharedReference.is)
 
 pub returns-in-MutableReference : goal.returns-in-MutableReference
 unfolding type_parts type_of
@@ -46,23 +46,23 @@ pub returns-in-ConstPointer : goal.returns-in-ConstPointer
 unfolding type_parts type_of
 returns-in-ConstPointer c =
     let t = early-type (trees_of c.args.self.now) c.args.node c.in-ConstPointer.pointee (subst (HasTypeParts c.args.self.now.bytes c.args.self.now.table.text (take c.args.node (trees_of c.args.self.now))) c.in-ConstPointer.is c.requires.parts) in
-    fills c.args.self.now _ _ _ (c.push_item-in-ConstPointer.ensures.shows _ (c.push_text-in-ConstPointer.ensures.shows _ (starts c.args.self.now c.args.parts.now.items c.requires.empty)) t.1 (deeper c.args.ctx.bound c.in-ConstPointer.pointee c.args.node t.0 c.requires.depth)) (ap (λ t. type_parts c.args.ctx.detail c.args.ctx.bound (type_of c.args.self.now.bytes (trees_of c.args.self.now) t)) c.in-ConstPointer.is)
+    fills c.args.self.now _ _ _ (c.push_pointer.ensures.shows _ (starts c.args.self.now c.args.parts.now.items c.requires.empty) t.1 (deeper c.args.ctx.bound c.in-ConstPointer.pointee c.args.node t.0 c.requires.depth)) (ap (λ t. type_parts c.args.ctx.detail c.args.ctx.bound (type_of c.args.self.now.bytes (trees_of c.args.self.now) t)) c.in-ConstPointer.is)
 
 pub returns-in-MutPointer : goal.returns-in-MutPointer
 unfolding type_parts type_of
 returns-in-MutPointer c =
     let t = early-type (trees_of c.args.self.now) c.args.node c.in-MutPointer.pointee (subst (HasTypeParts c.args.self.now.bytes c.args.self.now.table.text (take c.args.node (trees_of c.args.self.now))) c.in-MutPointer.is c.requires.parts) in
-    fills c.args.self.now _ _ _ (c.push_item-in-MutPointer.ensures.shows _ (c.push_text-in-MutPointer.ensures.shows _ (starts c.args.self.now c.args.parts.now.items c.requires.empty)) t.1 (deeper c.args.ctx.bound c.in-MutPointer.pointee c.args.node t.0 c.requires.depth)) (ap (λ t. type_parts c.args.ctx.detail c.args.ctx.bound (type_of c.args.self.now.bytes (trees_of c.args.self.now) t)) c.in-MutPointer.is)
+    fills c.args.self.now _ _ _ (c.push_pointer-in-MutPointer.ensures.shows _ (starts c.args.self.now c.args.parts.now.items c.requires.empty) t.1 (deeper c.args.ctx.bound c.in-MutPointer.pointee c.args.node t.0 c.requires.depth)) (ap (λ t. type_parts c.args.ctx.detail c.args.ctx.bound (type_of c.args.self.now.bytes (trees_of c.args.self.now) t)) c.in-MutPointer.is)
 
 pub returns-in-Function : goal.returns-in-Function
 unfolding type_parts type_of
 returns-in-Function c =
     let has = (subst (HasTypeParts c.args.self.now.bytes c.args.self.now.table.text (take c.args.node (trees_of c.args.self.now))) c.in-Function.is c.requires.parts) in
-    fills c.args.self.now _ _ _ (c.push_item-in-Function.ensures.shows _ (c.push_binder.ensures.shows _ (starts c.args.self.now c.args.parts.now.items c.requires.empty) (type_of c.args.self.now.bytes (trees_of c.args.self.now) c.args.ty, inl c.requires.tree) c.requires.depth (rw (c.requires.tree, c.in-Function.is) refl)) (type_of c.args.self.now.bytes (trees_of c.args.self.now) c.args.ty, inl c.requires.tree) (deeper-signature c.args.ctx.bound c.args.node c.in-Function.binder has.0 c.requires.depth)) (rw (c.requires.tree, c.in-Function.is) refl)
+    fills c.args.self.now _ _ _ (c.push_function.ensures.shows _ (starts c.args.self.now c.args.parts.now.items c.requires.empty) (type_of c.args.self.now.bytes (trees_of c.args.self.now) c.args.ty, inl c.requires.tree) has.0 (rw (c.requires.tree, c.in-Function.is) refl)) (rw (c.requires.tree, c.in-Function.is) refl)
 
 pub returns-in-Dyn : goal.returns-in-Dyn
 unfolding type_parts type_of
 returns-in-Dyn c =
     let has = (subst (HasTypeParts c.args.self.now.bytes c.args.self.now.table.text (take c.args.node (trees_of c.args.self.now))) c.in-Dyn.is c.requires.parts) in
     let b = early-bounds (trees_of c.args.self.now) c.args.node c.in-Dyn.bounds has.1 in
-    fills c.args.self.now _ _ _ (c.push_dyn_lifetime.ensures.shows _ (c.push_bounds.ensures.shows _ (c.push_binder-in-Dyn.ensures.shows _ (c.push_text-in-Dyn.ensures.shows _ (starts c.args.self.now c.args.parts.now.items c.requires.empty)) (type_of c.args.self.now.bytes (trees_of c.args.self.now) c.args.ty, inl c.requires.tree) c.requires.depth (rw (c.requires.tree, c.in-Dyn.is) refl)) (deeper-bound c.args.ctx.bound c.in-Dyn.bounds c.args.node c.in-Dyn.binder b.0 has.0 c.requires.depth))) (ap (λ t. type_parts c.args.ctx.detail c.args.ctx.bound (type_of c.args.self.now.bytes (trees_of c.args.self.now) t)) c.in-Dyn.is)
+    fills c.args.self.now _ _ _ (c.push_dyn.ensures.shows _ (starts c.args.self.now c.args.parts.now.items c.requires.empty) (type_of c.args.self.now.bytes (trees_of c.args.self.now) c.args.ty, inl c.requires.tree) b.0 has.0 (rw (c.requires.tree, c.in-Dyn.is) refl)) (ap (λ t. type_parts c.args.ctx.detail c.args.ctx.bound (type_of c.args.self.now.bytes (trees_of c.args.self.now) t)) c.in-Dyn.is)

@@ -1,13 +1,16 @@
-use Rattle.std.proofs.Common.{rules, sym, ◌∙◌}
-use Rattle.rust_tree.proofs.Showing.{changed, named, unnamed}
+use Rattle.std.proofs.Common.{sym, ap}
+use Rattle.rust_tree.specs.Shown.{name_behind}
+use Rattle.rust_tree.specs.Texts.{fixed_text}
+use Rattle.rust_tree.proofs.Lists.{name-plain, name-decoded}
+use Rattle.rust_tree.proofs.Showing.{changed}
 use Rattle.rust_tree.proofs.symbol.Symbol.push_name_behind.Goals as goal
 
-pub returns-then-not-prints_nothing-clause-shows : goal.returns-then-not-prints_nothing-clause-shows
-returns-then-not-prints_nothing-clause-shows c so_far shows has =
-    let e = c.prints_nothing.ensures has in
-    changed c.args.self.now _ so_far _ _ (λ rest. named _ _ rest (sym e ∙ search rules)) (c.push_name.ensures.shows _ (c.push_text.ensures.shows so_far shows) has)
+pub returns-in-None-clause-shows : goal.returns-in-None-clause-shows
+returns-in-None-clause-shows c so_far shows has =
+    changed c.args.self.now _ so_far _ _ (λ rest. ap (λ b. name_behind (fixed_text c.args.number) b rest) (sym (name-plain c.args.self.now.bytes c.args.self.now.table.text c.args.name c.in-None.is)))
+    (c.push_bytes_behind.ensures.shows so_far shows has.0)
 
-pub returns-else-not-prints_nothing-clause-shows : goal.returns-else-not-prints_nothing-clause-shows
-returns-else-not-prints_nothing-clause-shows c so_far shows has =
-    let e = c.prints_nothing.ensures has in
-    changed c.args.self.now _ so_far _ _ (λ rest. unnamed _ _ rest (sym e ∙ search rules)) shows
+pub returns-in-Some-clause-shows : goal.returns-in-Some-clause-shows
+returns-in-Some-clause-shows c so_far shows has =
+    let found = name-decoded c.args.self.now.bytes c.args.self.now.table.text c.args.name c.in-Some.decoded c.in-Some.is has in
+    changed c.args.self.now _ so_far _ _ (λ rest. ap (λ b. name_behind (fixed_text c.args.number) b rest) found.1) (c.push_printed_behind.ensures.shows so_far shows found.0)
