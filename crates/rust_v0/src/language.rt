@@ -346,7 +346,7 @@ impl Linked {
 
     /// Adds the node that a rule at a place has made, if it has made one.
     #[inline(always)]
-    fn add_made(&mut self, place: u32, made: Result<Node, Refusal>) -> Result<Added, Refusal>
+    pub fn add_made(&mut self, place: u32, made: Result<Node, Refusal>) -> Result<Added, Refusal>
         requires room { length self.old.nodes.nodes + 1 < 2 ^ 32 }
         ensures gives { (at : At) (read : Meaning) (meant : Making) → of_node made ≡ meant → at.place ≡ place → place < length self.old.ended.items → Keeps at.symbol self.old at.ended
             → MadeGives at.symbol self.old.nodes at meant read → Gives (v0_view at.symbol) self.new (making.as_part result) read }

@@ -7,13 +7,14 @@ ghost use Rattle.sym_core.specs.declared.refusal.Refusal.TheVariants as refusals
 ghost use Rattle.sym_link.specs.Linking.{HasRoom, TakesToken, ClosesRule, Adds, Pays, at_most};
 ghost use Rattle.rust_tree.specs.declared.node.Name.{Name};
 ghost use Rattle.rust_v0.specs.declared.part.Part.{Part};
+ghost use Rattle.rust_v0.specs.declared.production.Production.TheVariants as rules;
 ghost use Rattle.rust_v0.specs.Linked.{v0_view};
 ghost use Rattle.rust_v0.specs.Productions.{production_of};
 ghost use Rattle.rust_v0.specs.Tokens as tokens;
 ghost use Rattle.rust_v0.specs.Making as making;
 
 use crate::language::{Kept, Linked, bound_behind, end_of, is_reference};
-use crate::make::{Site, makes_part, part_by};
+use crate::make::{Site, makes_part, nested, part_by};
 use crate::part::{Part, STRAY, part_of};
 use crate::production::{Production, numbered};
 use crate::tokens::{TokenSort, sort_of};
@@ -140,6 +141,27 @@ impl Linked {
         let site = site_of(symbol, frame);
         let part = part_by(production, site, &parts[frame.base..])?;
         put(parts, frame.base, part)
+    }
+
+    /// Closes the rule of a frame, which is that of a name in a path.
+    #[inline(always)]
+    fn close_nested(
+        &mut self,
+        symbol: &[u8],
+        frame: Frame<Kept>,
+        parts: &mut Vec<Part>,
+    ) -> Result<(), Refusal>
+        requires production { production_of frame.rule ≡ Some rules.Nested }
+        requires room { HasRoom (v0_view symbol.now) symbol.now self.old (v0_view symbol.now).at_close }
+        requires base { frame.base ≤ length parts.old.items }
+        requires place { frame.place < length symbol.now }
+        ensures closes { ClosesRule (v0_view symbol.now) symbol.now self.old self.new frame parts.old.items parts.new.items result }
+        ensures adds { OnOk result (Adds (v0_view symbol.now) self.old self.new (v0_view symbol.now).at_close) }
+        ensures pays { OnOk result ((at : ℕ) → Pays (v0_view symbol.now) self.old self.new at at) }
+    {
+        let made = nested(&parts[frame.base..]);
+        let added = self.add_made(frame.place, made)?;
+        put(parts, frame.base, part_of(added))
     }
 
     /// Closes the rule of a frame.
@@ -271,6 +293,7 @@ impl Linking for Linked {
             Some(Production::Namespace) => {
                 self.close_part(symbol, Production::Namespace, frame, parts)
             }
+            Some(Production::Nested) => self.close_nested(symbol, frame, parts),
             // a frame of its own for the call lets the others stay in registers
             _ => self.close_any(symbol, Frame { ..frame }, parts),
         }
