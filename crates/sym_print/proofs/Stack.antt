@@ -23,12 +23,11 @@ module _ {C : Type 0} where
       let split : take (suc (length stack - 1)) stack ≡ take (length stack - 1) stack ++ get_or stack (length stack - 1) next ∷ [] = take-suc stack (length stack - 1) next within in
       sym all ∙ ap (λ n. take n stack) (sym one) ∙ split ∙ ap (λ p. take (length stack - 1) stack ++ p ∷ []) here
 
-  -- taken from the stack into a list of its own, it stands above what is left
-  pub top_is : (stack left none parts : List (Part C)) (next : Part C) → IsNext stack next → left ≡ take (length stack - 1) stack → none ≡ [] → parts ≡ none ++ next ∷ []
-      → with_parts left parts ≡ stack
-  top_is stack left none parts next h popped empty put =
+  -- taken from the stack into a list of its own, an entry stands above what is left
+  pub top_is : (stack left none parts : List (Part C)) (next : Part C) → stack ≡ left ++ next ∷ [] → none ≡ [] → parts ≡ none ++ next ∷ [] → with_parts left parts ≡ stack
+  top_is stack left none parts next popped empty put =
       let one : parts ≡ next ∷ [] = put ∙ ap (λ xs. xs ++ next ∷ []) empty in
-      ap (λ xs. left ++ reverse xs) one ∙ ap (λ xs. xs ++ next ∷ []) popped ∙ sym (next_is_last stack next h)
+      ap (λ xs. left ++ reverse xs) one ∙ sym popped
 
   -- it may come where all may
   pub next_may_come : (P : Part C → Type 0) (stack : List (Part C)) (next : Part C) → All P stack → IsNext stack next → P next

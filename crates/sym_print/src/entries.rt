@@ -270,16 +270,15 @@ fn print_parts<Y: Layout>(
     Ok(())
 }
 
-/// Prints the next entry, an item, up to the items behind its first one.
-fn print_item<Y: Layout>(
+/// Prints the next entry: of an item all up to the items behind its first one.
+fn print_next<Y: Layout>(
     y: &Y,
-    item: Item<Y::Ctx>,
     parts: &mut ArrayVec<Part<Y::Ctx>, 8>,
     stack: &mut Vec<Part<Y::Ctx>>,
     text: &mut Vec<u8>,
     meter: &mut Meter,
 ) -> Result<(), Refusal>
-    requires next { IsNext stack.old.items (Part.Sub item) }
+    requires some { 0 < vec_len stack.old }
     requires may_come { All (Y.may_come y.now) stack.old.items }
     requires paid { vec_len text.old ≤ meter.old.spent }
     requires stack_paid { vec_len stack.old ≤ 7 * meter.old.spent + 1 }
@@ -297,9 +296,9 @@ fn print_item<Y: Layout>(
     ensures too_long { result ≡ Err Refusal.TooLong → meter.new.limit < meter.new.spent + cost_of_stack (Y.unshared y.now) (Y.bytes_of y.now) stack.new.items }
     ensures memory { result ≡ Err Refusal.Memory → (vec_capacity stack.old < 8 * (meter.old.limit + 1)) ⊎ (vec_capacity text.old < meter.old.limit) }
 {
-    stack.pop();
+    let next = stack.take_last();
     parts.clear();
-    parts.push(Part::Sub(item));
+    parts.push(next);
     print_parts(y, parts, stack, text, meter)
 }
 
@@ -365,7 +364,7 @@ pub(crate) fn print_entries<Y: Layout>(
     let mut parts = ArrayVec::new();
     while let Some(next) = stack.last() {
         match next {
-            Part::Sub(item) => print_item(y, *item, &mut parts, stack, text, meter)?,
+            Part::Sub(_) => print_next(y, &mut parts, stack, text, meter)?,
             _ => {
                 write_text(y, next, text, meter)?;
                 stack.take_last();
