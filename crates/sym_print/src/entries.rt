@@ -52,22 +52,23 @@ fn append(text: &mut Vec<u8>, bytes: &[u8]) -> Result<(), AllocError>
     ensures capacity { vec_capacity text.old ≤ vec_capacity text.new }
     ensures full { OnErr result (vec_capacity text.old < vec_len text.old + length bytes.now) }
 {
-    if bytes.len() > 3 {
-        return text.extend_from_slice(bytes);
-    }
-    text.reserve(bytes.len())?;
     match bytes {
         [first, second] => {
+            text.reserve(2)?;
             text.push_reserved(*first);
             text.push_reserved(*second);
         }
-        [first] => text.push_reserved(*first),
+        [first] => {
+            text.reserve(1)?;
+            text.push_reserved(*first);
+        }
         [first, second, third] => {
+            text.reserve(3)?;
             text.push_reserved(*first);
             text.push_reserved(*second);
             text.push_reserved(*third);
         }
-        _ => {}
+        _ => text.extend_from_slice(bytes)?,
     }
     Ok(())
 }
