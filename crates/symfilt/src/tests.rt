@@ -130,7 +130,7 @@ fn answers_words(rt: HostRuntime) -> Result<(), Fail> {
     let words = ["_Z1fQ", "__RC1a", "foo"];
     let status = answer_words(alloc, &languages, true, &words, &mut out, &mut err)?;
     assert_eq!(rt; status, 1);
-    assert!(rt; holds(&out, b"_Z1fQ\na\nrows 4 nodes 5 steps 17\nfoo\n"));
+    assert!(rt; holds(&out, b"_Z1fQ\na\nrows 4 nodes 5 steps 15\nfoo\n"));
     assert!(rt;
         holds(
             &err,
