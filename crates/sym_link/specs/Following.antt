@@ -115,7 +115,7 @@ pub record CanClose {N P K V S C : Type 0} (view : View N P K V S C) (s : List �
   pub ends : frame.end ≡ next
   pub fits : Fits s shape
 
--- The rule of the frame has just begun in a driver that is on its way, and has no parts yet.
+-- The rule of the frame is the innermost one of a driver that is on its way, and may end in front of the next row or behind it.
 pub record CanSettle {N P K V S C : Type 0} (view : View N P K V S C) (s : List ℕ) (shape : List Row) (nodes : N) (next : ℕ) (lower : List (Frame K)) (frame : Frame K) (parts : List P) : Type 0 where
   pub whole : Result (Found (List V) S) Refusal
   pub follows : Follows view s shape whole nodes next (lower ++ frame ∷ []) parts

@@ -131,8 +131,8 @@ fn begin<L: Linking>(
     settle(language, symbol, rows, 1, frames, parts, opened)
 }
 
-/// Takes the next row, with what `settle` adds to it, or closes the innermost rule behind its last row. It answers the number of the next row, or none
-/// where nothing is left to do.
+/// Takes the next row, with what `settle` adds to it, or closes the innermost rule behind its last row. It answers the number
+/// of the next row, or none where nothing is left to do.
 fn advance<L: Linking>(
     language: &mut L,
     symbol: &[u8],
