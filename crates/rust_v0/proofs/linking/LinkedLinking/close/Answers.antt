@@ -1,4 +1,4 @@
-use Rattle.std.proofs.Common.{◌≡◌, ◌<◌, ◌++◌, ◌∷◌, [], refl, sym, ap, ◌∙◌, arith, Some, Ok, drop, take, length, ◌-◌}
+use Rattle.std.proofs.Common.{◌≡◌, ◌<◌, ◌++◌, ◌∷◌, [], refl, sym, ap, ◌∙◌, arith, Some, Ok, drop, take}
 use Rattle.std.specs.Prelude.{◌^◌}
 use Rattle.sym_link.proofs.Lists.{rest_all, taken_dropped}
 use Rattle.rust_v0.specs.declared.part.Part.{Part}
