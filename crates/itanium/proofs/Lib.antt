@@ -10,4 +10,3 @@ pub mod ClosedParts
 pub mod ClosedTrees
 pub mod RanksFall
 pub mod FewParts
-pub mod Answering

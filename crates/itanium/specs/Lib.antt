@@ -16,4 +16,4 @@ pub mod Parts
 pub mod Ranks
 pub mod Answer
 pub mod Closed
-pub mod Answered
+pub mod Mangled

@@ -8,8 +8,7 @@ ghost use Rattle.sym_shape.specs.Grown.{GrowsInto};
 ghost use Rattle.sym_shape.specs.Tree.{Tree, IsTree, AreRowsOf, IsFirstBad};
 ghost use Rattle.sym_shape.specs.declared.rule.Sym.TheVariants.{Kind};
 ghost use Rattle.sym_shape.specs.declared.rule.Row.{Row};
-ghost use Rattle.itanium.specs.Answer.{IsAnswer};
-ghost use Rattle.itanium.specs.Answered.{answer};
+ghost use Rattle.itanium.specs.Mangled.{IsAnswer, answer};
 ghost use Rattle.itanium.specs.Closed.{ScopesAreClosed};
 ghost use Rattle.itanium.specs.Items.{Item};
 ghost use Rattle.itanium.specs.Parts.{parts};
@@ -19,7 +18,7 @@ ghost use Rattle.itanium.specs.Term.{Term};
 ghost use Rattle.itanium.specs.Unfolding.{unfold_cpp};
 
 use crate::abi::Abi;
-use sym_shape::{grown_keeps, one_tree};
+use sym_shape::grown_keeps;
 
 /// Each tree of the grammar before vector types, noexcept function types and complex types were added is one of
 /// [`Abi`](crate::Abi). So a symbol that was well shaped has the rows that it had, and of one that wasn't the first bad byte
@@ -35,10 +34,7 @@ pub fn earlier_trees_stay()
 /// A symbol has at most one answer.
 pub fn one_answer()
     ensures { (detail : Detail) (s : List ℕ) (limit : ℕ) (a b : Result (List ℕ) Refusal) → IsAnswer detail s limit a → IsAnswer detail s limit b → a ≡ b }
-{
-    one_tree::<Abi>();
-    grown_keeps::<Abi>();
-}
+{}
 
 /// Each list of bytes has its answer, and no other.
 pub fn each_has_an_answer()

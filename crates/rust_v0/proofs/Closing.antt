@@ -20,6 +20,6 @@ put_gives s linked lower new_parts part (Err e) read items memory gives = fails_
 
 -- where no node was added, at most one was
 pub same_adds : (s : List ℕ) (old new : Linked) (result : Result (Unit {0}) Refusal) → new.nodes ≡ old.nodes → length new.ended.items ≡ length old.ended.items
-    → OnOk result (Adds (v0_view s) old new 1)
+    → OnOk result (Adds (v0_view s) old new 1 0)
 same_adds s old new (Ok done) nodes places = (goes_on_same old new nodes places, omega (arith, ap (λ t. length t.nodes) nodes))
 same_adds s old new (Err e) nodes places = tt

@@ -1,5 +1,4 @@
 pub mod Adding
-pub mod Answering
 pub mod Beginning
 pub mod Closing
 pub mod Entering
@@ -18,5 +17,3 @@ pub mod Taking
 pub mod Sorts
 pub mod SortedParts
 pub mod SortedTrees
-pub mod Reasons
-pub mod Feeding

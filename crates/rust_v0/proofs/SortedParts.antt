@@ -5,6 +5,7 @@ use Rattle.std.proofs.lemmas.Bool.{false≢true}
 use Rattle.sym_core.specs.declared.refusal.Refusal.{Refusal}
 use Rattle.sym_core.specs.declared.refusal.Refusal.TheVariants.{BadReference, BadValue}
 use Rattle.sym_link.specs.Reading.{◌>>=◌}
+use Rattle.sym_demangle.specs.Mangled.{IsBadToken}
 use Rattle.rust_tree.specs.Symbol as tree
 use Rattle.rust_tree.specs.Need.{need, need_of_type}
 use Rattle.rust_v0.specs.declared.production.Production.{Production}
@@ -13,12 +14,6 @@ use Rattle.rust_v0.specs.Value.{Value, Integer, number, an_integer, letter, a_na
 use Rattle.rust_v0.specs.Unfold.{At, Meaning, meaning, number_part, integer_part, letter_part, name_part, identifier_part, path_part, type_part, constant_part, lifetime_part, truth_part, abi_value_part, types_part, disambiguator_part, binder_part, some_lifetime_part, unsafe_part, minus_part, abi_part, arguments_part, bounds_part, bindings_part, suffix_part, other_path_part, refers_to_path, refers_to_type, refers_to_constant, lifetime_of, bounded, greatest_u64, greatest_u128, integer_of, character_of, is_scalar, plain, ends_path, ends_type, ends_constant, as_path, as_type, as_constant, referred}
 use Rattle.rust_v0.proofs.Sorts as sorts
 use Rattle.rust_v0.proofs.Sorts.{Sort, Slot, sort_of, sorts_of, fills, slots_of, made_by}
-
--- a token of the symbol is bad: a reference, or a number that is out of range
-abbrev pub IsBadToken : Refusal → Type 0
-IsBadToken (BadReference at) = ⊤
-IsBadToken (BadValue at) = ⊤
-IsBadToken _ = ⊥
 
 -- what is found has the fact, and what is refused is a bad token
 abbrev pub Gives : {A : Type 0} → (A → Type 0) → Result A Refusal → Type 0

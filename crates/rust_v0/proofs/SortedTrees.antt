@@ -20,7 +20,8 @@ use Rattle.rust_v0.specs.Value.{Value, State, a_symbol}
 use Rattle.rust_v0.specs.Unfold.{meaning_of, token_of, at_rule, at_first, v0, symbol_of, unfolded, is_minus, bound_behind}
 use Rattle.rust_v0.proofs.Sorts as sorts
 use Rattle.rust_v0.proofs.Sorts.{Sort, is_same, sort_of, sorts_of, slots_of, made_by, token_sort, always_fills, IsSorted, is_sorted, IsOption, lone_option, empty_option, full_option}
-use Rattle.rust_v0.proofs.SortedParts.{IsBadToken, Gives, gives_then, Fill, Makes, made}
+use Rattle.sym_demangle.specs.Mangled.{IsBadToken}
+use Rattle.rust_v0.proofs.SortedParts.{Gives, gives_then, Fill, Makes, made}
 
 -- ## The parts of a tree
 

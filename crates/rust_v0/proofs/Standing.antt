@@ -16,7 +16,7 @@ use Rattle.sym_link.specs.Reading.{Found, ◌>>=◌}
 use Rattle.sym_link.specs.Unfold.{found, alone, standing, unfold_tree, unfold_forest}
 use Rattle.sym_link.specs.declared.language.Frame.{Frame}
 use Rattle.sym_link.specs.Following.{IsShape, IsDone, meaning_of}
-use Rattle.sym_link.proofs.Starting.{root_of, driving_few}
+use Rattle.sym_link.proofs.Starting.{root_of}
 use Rattle.rust_tree.specs.Symbol as tree
 use Rattle.rust_tree.specs.Counts.{IsRead}
 use Rattle.rust_tree.specs.Nodes.{IsSymbol, IsTable, trees}
@@ -34,14 +34,6 @@ use Rattle.rust_v0.specs.Unfold as defined
 use Rattle.rust_v0.specs.Unfold.{At, Meaning, v0, at_first, at_rule, meaning, symbol_of, unfolded, path_part, other_path_part, suffix_part}
 use Rattle.rust_v0.specs.Views.{Ground, IsPart}
 use Rattle.rust_v0.specs.Linked.{v0_view}
-use Rattle.rust_v0.specs.Standing.{IsLinker, IsReading, misshapen, well_shaped}
-use Rattle.rust_v0.specs.Answer.{IsAnswer, malformed, shaped, answer_of_symbol}
-use Rattle.rust_tree.specs.Shown.{symbol_parts}
-use Rattle.sym_print.specs.Answer.{text_within}
-use Rattle.sym_print.specs.Unshared.{text_of, cost_of}
-use Rattle.sym_print.proofs.Answering.{text_within-ok, text_within-too_long}
-use Rattle.sym_print.specs.declared.detail.Detail.{Detail}
-use Rattle.sym_shape.specs.Reader.{IsMalformedOrMemory}
 
 -- ## The root's rule makes a symbol
 
@@ -122,9 +114,9 @@ pub record HasWhole (s : List ℕ) (shape : Tree) (linked : Linked) (parts : Lis
   pub nodes : length linked.nodes.nodes ≤ 4 * length s + 8
   pub text : length linked.nodes.text ≤ 4 * length s + 20
 
-pub has_whole : (s : List ℕ) (rows : List Row) (shape : Tree) (linked : Linked) (parts : List Part) → IsShape v0_table s rows shape → length rows ≤ 4 * length s + 4
+pub has_whole : (s : List ℕ) (rows : List Row) (shape : Tree) (linked : Linked) (parts : List Part) → IsShape v0_table s rows shape
     → IsDone (v0_view s) s rows (meaning_of (v0_view s) shape) linked parts → HasWhole s shape linked parts
-has_whole s rows shape linked parts is few done =
+has_whole s rows shape linked parts is done =
     let w = whole_is s shape done.value done.state is.is_tree done.means in
     let p = symbol_part _ done.part w.0 (subst (λ v. IsPart _ done.part v) w.1 done.is_part) in
     record {
@@ -134,20 +126,9 @@ has_whole s rows shape linked parts is few done =
       is_whole = p.2;
       stands = sym (unfolded_is s shape is.spelled ∙ ap (λ m. m >>= λ whole. symbol_of whole.value) (done.means ∙ ap (λ v. Ok (found (v ∷ []) done.state)) w.1));
       table = done.holds.table;
-      nodes = omega (arith, done.size, done.paid.begun, few);
+      nodes = omega (arith, done.size, done.paid.begun);
       text = done.paid.text;
     }
-
--- ## A linker on its way
-
-module _ (s : List ℕ) (rows : List Row) (read_steps : ℕ) (linked : Linked) (steps : ℕ) (refused : Option Refusal) (next : ℕ) (frames : List (Frame Kept)) (parts : List Part)
-    (done : Bool) (is : IsLinker s rows read_steps linked steps refused next frames parts done) where
-  -- steps and rows are few
-  pub steps_few : read_steps + steps ≤ 32 * length s + 48
-  steps_few = omega (arith, driving_few (v0_view s) s rows is.shape linked steps refused next frames parts is.driving, is.few.steps_few, is.few.rows_few)
-
-  pub whole_done : done ≡ true → HasWhole s is.shape linked parts
-  whole_done all = has_whole s rows is.shape linked parts is.is_shape is.few.rows_few (is.ended all)
 
 -- ## The end
 
@@ -173,40 +154,3 @@ reads s shape linked parts w node rows steps is fits few each all = record {
   steps = all;
   counted = each;
 }
-
--- ## Answers
-
--- why a symbol isn't read
-pub shape_refused : (s : List ℕ) (e : Refusal) → IsMalformedOrMemory v0_table s e → (e ≡ refusals.Memory) ⊎ IsReading s (Err e)
-shape_refused s (refusals.Malformed at) is = inr (misshapen at is refl)
-shape_refused s refusals.Memory is = inl refl
-shape_refused s e is = absurd is
-
-pub answer_refused : (detail : Detail) (s : List ℕ) (limit : ℕ) (e : Refusal) → (e ≡ refusals.Memory) ⊎ IsReading s (Err e)
-    → (e ≡ refusals.Memory) ⊎ IsAnswer detail s limit (Err e)
-answer_refused detail s limit e (inl memory) = inl memory
-answer_refused detail s limit e (inr (misshapen at is same)) = inr (malformed at is (ap (λ (o : Result tree.Symbol Refusal). answer_of_symbol detail limit o) same))
-answer_refused detail s limit e (inr (well_shaped (shape, is, spelled, same))) = inr (shaped shape is spelled (ap (λ (o : Result tree.Symbol Refusal). answer_of_symbol detail limit o) same))
-
--- the answer of a symbol that is read
-pub answer_read : (detail : Detail) (s : List ℕ) (limit : ℕ) (w : tree.Symbol) (result : Result (List ℕ) Refusal) → IsReading s (Ok w)
-    → result ≡ text_within limit (symbol_parts detail w) → IsAnswer detail s limit result
-answer_read detail s limit w result (misshapen at is same) given = absurd (let no : Ok w ≡ Err (refusals.Malformed at) = same in cc)
-answer_read detail s limit w result (well_shaped (shape, is, spelled, same)) given =
-    shaped shape is spelled (given ∙ ap (λ (o : Result tree.Symbol Refusal). answer_of_symbol detail limit o) same)
-
-pub answer_text : {A : Type 0} (bytes_of : A → List ℕ) (detail : Detail) (s : List ℕ) (limit : ℕ) (w : tree.Symbol) (result : Result A Refusal) → IsReading s (Ok w) → IfOk result (λ text. bytes_of text ≡ text_of (symbol_parts detail w))
-    → OnOk result (cost_of (symbol_parts detail w) ≤ limit) → IfOk result (λ text. IsAnswer detail s limit (Ok (bytes_of text)))
-answer_text bytes_of detail s limit w (Ok text) reading is within =
-    answer_read detail s limit w (Ok (bytes_of text)) reading (sym (text_within-ok limit (symbol_parts detail w) (bytes_of text) is within))
-answer_text bytes_of detail s limit w (Err e) reading is within = tt
-
-pub answer_too_long : {A : Type 0} (detail : Detail) (s : List ℕ) (limit : ℕ) (w : tree.Symbol) (result : Result A Refusal) → IsReading s (Ok w)
-    → IfErr result (λ r. (r ≡ refusals.TooLong) ⊎ (r ≡ refusals.Memory)) → (result ≡ Err refusals.TooLong → limit < cost_of (symbol_parts detail w))
-    → IfErr result (λ e. (e ≡ refusals.Memory) ⊎ IsAnswer detail s limit (Err e))
-answer_too_long detail s limit w (Ok text) reading is long = tt
-answer_too_long detail s limit w (Err e) reading (inr memory) long = inl memory
-answer_too_long {A = A} detail s limit w (Err e) reading (inl same) long =
-    let errs : Refusal → Result A Refusal = λ r. Err r in
-    let refused : Refusal → Result (List ℕ) Refusal = λ r. Err r in
-    inr (answer_read detail s limit w (Err e) reading (ap refused same ∙ sym (text_within-too_long limit (symbol_parts detail w) (long (ap errs same)))))

@@ -3,7 +3,6 @@ pub mod Rules
 pub mod Value
 pub mod Tokens
 pub mod Unfold
-pub mod Answer
 pub mod Views
 pub mod Front
 pub mod Made
@@ -11,6 +10,4 @@ pub mod Making
 pub mod Makings
 pub mod Linked
 pub mod LinkedLaws
-pub mod Answered
-pub mod Standing
-pub mod Refusals
+pub mod Mangled

@@ -70,8 +70,8 @@ v0_view s = record {
   Holds = λ linked state. Keeps s linked state.ended;
   Grows = GoesOn;
   size = λ linked. length linked.nodes.nodes - first_nodes;
-  at_begin = 0;
-  at_close = 1;
+  owes = λ number held. 1;
+  most = λ bytes. 4 * bytes + 4;
   IsPaid = IsPaid;
 }
 

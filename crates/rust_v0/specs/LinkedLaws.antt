@@ -3,6 +3,7 @@ use Rattle.std.proofs.Common.{refl, arith, ℕ, List, Option, Some, None, [], sy
 use Rattle.sym_core.specs.declared.NameClass.{NameClass}
 use Rattle.sym_shape.specs.SheetLaws.{lawful_sheet}
 use Rattle.sym_link.specs.Linking.{IsLinking}
+use Rattle.sym_link.specs.OwingLaws.{cost_rows}
 use Rattle.rust_tree.specs.Nodes.{IsAbi, HasAbi}
 use Rattle.rust_tree.proofs.Trees.{tree-stays, type-stays, name-stays, within-grown, bytes-grown, HasAbi-grown}
 use Rattle.rust_tree.specs.Symbol as tree
@@ -67,4 +68,5 @@ v0_laws s = record {
   kept_stays = λ old new kept rule grows is. record { is = is.is; few = is.few; there = omega (arith, grows.places, is.there) };
   paid_more = λ linked few more le paid. record { begun = paid.begun; text = omega (arith, le, paid.text); zero = paid.zero };
   keeps_count = λ rule known state. refl;
+  few = λ tree is rows. omega (arith, rows, cost_rows (λ number held. 1) (λ number. omega arith) tree);
 }

@@ -4,35 +4,16 @@ ghost use Rattle.std.specs.Prelude.{◌≡◌, ◌≢◌, ◌⊎◌, ℕ, List, 
 ghost use Rattle.sym_core.specs.Number.{FitsSymbol};
 ghost use Rattle.sym_core.specs.declared.refusal.Refusal.TheVariants as refusals;
 ghost use Rattle.sym_print.specs.declared.detail.Detail.{Detail};
-ghost use Rattle.sym_shape.specs.Reader.{AreFew};
 ghost use Rattle.sym_shape.specs.Tree.{AreRowsOf};
 ghost use Rattle.sym_shape.specs.declared.rule.Row.{Row};
-ghost use Rattle.rust_v0.specs.Answer.{IsAnswer};
+ghost use Rattle.rust_v0.specs.Mangled.{IsReading, IsAnswer, whole_of};
 ghost use Rattle.rust_v0.specs.Rules.{v0_table};
-ghost use Rattle.rust_v0.specs.Standing.{IsReading, whole_of};
 
 use crate::grammar::V0;
-use crate::linker::Linker;
 use rust_tree::{Detail, Symbol};
 use std::alloc::Global;
 use sym_core::Refusal;
-use sym_shape::{Reader, Shape};
-
-/// The symbol of these bytes, whose shape was read.
-fn link(alloc: Global, bytes: Vec<u8>, shape: Shape) -> Result<Symbol, Refusal>
-    requires fits { FitsSymbol bytes.items }
-    requires rows { AreRowsOf v0_table bytes.items shape.rows }
-    requires few { AreFew shape.steps (length shape.rows) (length bytes.items) }
-    ensures bytes { IfOk result (λ symbol. symbol.bytes ≡ bytes.items) }
-    ensures symbol { IfOk result (λ symbol. IsReading bytes.items (Ok (whole_of symbol))) }
-    ensures rows { IfOk result (λ symbol. symbol.rows ≡ length shape.rows) }
-    ensures refused { IfErr result (λ e. (e ≡ refusals.Memory) ⊎ IsReading bytes.items (Err e)) }
-    ensures never_too_long { IfErr result (λ e. e ≢ refusals.TooLong) }
-{
-    let mut linker = Linker::new(alloc, bytes, shape)?;
-    linker.run()?;
-    Ok(linker.finish())
-}
+use sym_shape::Reader;
 
 /// Reads a symbol.
 ///
@@ -49,10 +30,7 @@ pub fn read(alloc: Global, s: &[u8]) -> Result<Symbol, Refusal>
     ensures refused { IfErr result (λ e. (e ≡ refusals.Memory) ⊎ IsReading s.now (Err e)) }
     ensures never_too_long { IfErr result (λ e. e ≢ refusals.TooLong) }
 {
-    let shape = sym_shape::read(alloc, &V0, s)?;
-    let mut bytes = Vec::new(alloc);
-    bytes.extend_from_slice(s)?;
-    link(alloc, bytes, shape)
+    sym_demangle::read::<V0>(alloc, s)
 }
 
 /// Reads the symbol that a reader was fed, whose end was told. Its bytes aren't copied.
@@ -60,7 +38,7 @@ pub fn read(alloc: Global, s: &[u8]) -> Result<Symbol, Refusal>
 /// # Errors
 ///
 /// Those of `read`, for the bytes fed.
-pub fn read_fed(alloc: Global, mut reader: Reader<V0>) -> Result<Symbol, Refusal>
+pub fn read_fed(alloc: Global, reader: Reader<V0>) -> Result<Symbol, Refusal>
     requires { reader.ended ≡ true }
     ensures bytes { IfOk result (λ symbol. symbol.bytes ≡ reader.bytes) }
     ensures symbol { IfOk result (λ symbol. IsReading reader.bytes (Ok (whole_of symbol))) }
@@ -69,9 +47,7 @@ pub fn read_fed(alloc: Global, mut reader: Reader<V0>) -> Result<Symbol, Refusal
     ensures refused { IfErr result (λ e. (e ≡ refusals.Memory) ⊎ IsReading reader.bytes (Err e)) }
     ensures never_too_long { IfErr result (λ e. e ≢ refusals.TooLong) }
 {
-    reader.run(&V0)?;
-    let (bytes, shape) = reader.finish()?;
-    link(alloc, bytes, shape)
+    sym_demangle::read_fed::<V0>(alloc, reader)
 }
 
 /// The text of a symbol in full, if it costs at most the limit.
@@ -84,7 +60,7 @@ pub fn demangle(alloc: Global, s: &[u8], limit: u32) -> Result<Vec<u8>, Refusal>
     ensures text { IfOk result (λ text. IsAnswer Detail.Full s.now limit (Ok text.items)) }
     ensures refused { IfErr result (λ e. (e ≡ refusals.Memory) ⊎ IsAnswer Detail.Full s.now limit (Err e)) }
 {
-    demangle_as(alloc, s, limit, Detail::Full)
+    sym_demangle::demangle::<V0>(alloc, s, limit)
 }
 
 /// The text of a symbol in a detail, if it costs at most the limit.
@@ -97,6 +73,5 @@ pub fn demangle_as(alloc: Global, s: &[u8], limit: u32, detail: Detail) -> Resul
     ensures text { IfOk result (λ text. IsAnswer detail s.now limit (Ok text.items)) }
     ensures refused { IfErr result (λ e. (e ≡ refusals.Memory) ⊎ IsAnswer detail s.now limit (Err e)) }
 {
-    let symbol = read(alloc, s)?;
-    symbol.text_as(limit, detail)
+    sym_demangle::demangle_as::<V0>(alloc, s, limit, detail)
 }

@@ -5,23 +5,25 @@ mod demangling;
 mod front;
 mod grammar;
 mod language;
-mod laws;
-mod linker;
 mod linking;
 mod make;
+mod mangling;
 pub mod part;
 pub mod production;
 mod table;
 pub mod tokens;
-mod workspace;
 
 pub use demangling::{demangle, demangle_as, read, read_fed};
 pub use grammar::V0;
-pub use laws::{each_has_an_answer, each_refusal_has_a_reason, one_answer, read_answers};
-pub use linker::Linker;
 pub use rust_tree::{
     Counts, Detail, Node, Symbol, equal_trees_have_equal_views, fields_make_the_tree,
     tree_production,
 };
+pub use sym_demangle::{each_has_an_answer, each_refusal_has_a_reason, one_answer, read_answers};
 pub use sym_shape::Reader;
-pub use workspace::Workspace;
+
+/// Links a symbol.
+pub type Linker = sym_demangle::Linker<V0>;
+
+/// The lists with which symbols are read and printed, one after the other.
+pub type Workspace = sym_demangle::Workspace<V0>;

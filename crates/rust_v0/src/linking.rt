@@ -4,7 +4,7 @@ ghost use Rattle.std.specs.Bool.{OnTrue};
 ghost use Rattle.std.specs.Prelude.{◌≡◌, ℕ, ◌<◌, ◌≤◌, ◌++◌, ◌∷◌, [], length, take, slice_index, Some, true, IfErr, OnOk};
 ghost use Rattle.sym_core.specs.Number.{FitsSymbol};
 ghost use Rattle.sym_core.specs.declared.refusal.Refusal.TheVariants as refusals;
-ghost use Rattle.sym_link.specs.Linking.{HasRoom, TakesToken, ClosesRule, Adds, Pays, at_most};
+ghost use Rattle.sym_link.specs.Linking.{HasRoom, TakesToken, ClosesRule, Adds, Pays, owed_behind, owed_next};
 ghost use Rattle.rust_tree.specs.declared.node.Name.{Name};
 ghost use Rattle.rust_v0.specs.declared.part.Part.{Part};
 ghost use Rattle.rust_v0.specs.declared.production.Production.TheVariants as rules;
@@ -81,12 +81,12 @@ impl Linked {
         row: Row,
     ) -> Result<(), Refusal>
         requires sort { sort ≡ tokens.sort_of (production_of frame.rule) }
-        requires room { HasRoom (v0_view symbol.now) symbol.now self.old (at_most (v0_view symbol.now)) }
+        requires room { HasRoom (v0_view symbol.now) symbol.now self.old (owed_behind (v0_view symbol.now) frame parts.old.items) }
         requires base { frame.base ≤ length parts.old.items }
         requires from { row.from ≤ row.to }
         requires to { row.to ≤ length symbol.now }
         ensures takes { TakesToken (v0_view symbol.now) symbol.now self.old self.new frame parts.old.items parts.new.items row result }
-        ensures adds { OnOk result (Adds (v0_view symbol.now) self.old self.new (at_most (v0_view symbol.now))) }
+        ensures adds { OnOk result (Adds (v0_view symbol.now) self.old self.new (owed_behind (v0_view symbol.now) frame parts.old.items) (owed_behind (v0_view symbol.now) frame parts.new.items)) }
         ensures pays { OnOk result ((at : ℕ) → at ≤ row.from → (length parts.old.items ≡ frame.base → at ≤ frame.place)
             → Pays (v0_view symbol.now) self.old self.new at row.to) }
     {
@@ -108,12 +108,12 @@ impl Linked {
         parts: &mut Vec<Part>,
         row: Row,
     ) -> Result<(), Refusal>
-        requires room { HasRoom (v0_view symbol.now) symbol.now self.old (at_most (v0_view symbol.now)) }
+        requires room { HasRoom (v0_view symbol.now) symbol.now self.old (owed_behind (v0_view symbol.now) frame parts.old.items) }
         requires base { frame.base ≤ length parts.old.items }
         requires from { row.from ≤ row.to }
         requires to { row.to ≤ length symbol.now }
         ensures takes { TakesToken (v0_view symbol.now) symbol.now self.old self.new frame parts.old.items parts.new.items row result }
-        ensures adds { OnOk result (Adds (v0_view symbol.now) self.old self.new (at_most (v0_view symbol.now))) }
+        ensures adds { OnOk result (Adds (v0_view symbol.now) self.old self.new (owed_behind (v0_view symbol.now) frame parts.old.items) (owed_behind (v0_view symbol.now) frame parts.new.items)) }
         ensures pays { OnOk result ((at : ℕ) → at ≤ row.from → (length parts.old.items ≡ frame.base → at ≤ frame.place)
             → Pays (v0_view symbol.now) self.old self.new at row.to) }
     {
@@ -131,11 +131,11 @@ impl Linked {
     ) -> Result<(), Refusal>
         requires production { production_of frame.rule ≡ Some production }
         requires part { making.makes_part production ≡ true }
-        requires room { HasRoom (v0_view symbol.now) symbol.now self.old (v0_view symbol.now).at_close }
+        requires room { HasRoom (v0_view symbol.now) symbol.now self.old (owed_behind (v0_view symbol.now) frame parts.old.items) }
         requires base { frame.base ≤ length parts.old.items }
         requires place { frame.place < length symbol.now }
         ensures closes { ClosesRule (v0_view symbol.now) symbol.now self.old self.new frame parts.old.items parts.new.items result }
-        ensures adds { OnOk result (Adds (v0_view symbol.now) self.old self.new (v0_view symbol.now).at_close) }
+        ensures adds { OnOk result (Adds (v0_view symbol.now) self.old self.new (owed_behind (v0_view symbol.now) frame parts.old.items) 0) }
         ensures pays { OnOk result ((at : ℕ) → Pays (v0_view symbol.now) self.old self.new at at) }
     {
         let site = site_of(symbol, frame);
@@ -152,11 +152,11 @@ impl Linked {
         parts: &mut Vec<Part>,
     ) -> Result<(), Refusal>
         requires production { production_of frame.rule ≡ Some rules.Nested }
-        requires room { HasRoom (v0_view symbol.now) symbol.now self.old (v0_view symbol.now).at_close }
+        requires room { HasRoom (v0_view symbol.now) symbol.now self.old (owed_behind (v0_view symbol.now) frame parts.old.items) }
         requires base { frame.base ≤ length parts.old.items }
         requires place { frame.place < length symbol.now }
         ensures closes { ClosesRule (v0_view symbol.now) symbol.now self.old self.new frame parts.old.items parts.new.items result }
-        ensures adds { OnOk result (Adds (v0_view symbol.now) self.old self.new (v0_view symbol.now).at_close) }
+        ensures adds { OnOk result (Adds (v0_view symbol.now) self.old self.new (owed_behind (v0_view symbol.now) frame parts.old.items) 0) }
         ensures pays { OnOk result ((at : ℕ) → Pays (v0_view symbol.now) self.old self.new at at) }
     {
         let made = nested(&parts[frame.base..]);
@@ -172,11 +172,11 @@ impl Linked {
         frame: Frame<Kept>,
         parts: &mut Vec<Part>,
     ) -> Result<(), Refusal>
-        requires room { HasRoom (v0_view symbol.now) symbol.now self.old (v0_view symbol.now).at_close }
+        requires room { HasRoom (v0_view symbol.now) symbol.now self.old (owed_behind (v0_view symbol.now) frame parts.old.items) }
         requires base { frame.base ≤ length parts.old.items }
         requires place { frame.place < length symbol.now }
         ensures closes { ClosesRule (v0_view symbol.now) symbol.now self.old self.new frame parts.old.items parts.new.items result }
-        ensures adds { OnOk result (Adds (v0_view symbol.now) self.old self.new (v0_view symbol.now).at_close) }
+        ensures adds { OnOk result (Adds (v0_view symbol.now) self.old self.new (owed_behind (v0_view symbol.now) frame parts.old.items) 0) }
         ensures pays { OnOk result ((at : ℕ) → Pays (v0_view symbol.now) self.old self.new at at) }
     {
         let Some(production) = numbered(frame.rule) else {
@@ -199,7 +199,7 @@ impl Linked {
 
 impl Linking for Linked {
     ghost use Rattle.std.specs.Prelude.{◌≡◌, ℕ, ◌+◌, ◌<◌, ◌≤◌, [], List, length, take, drop, OnOk};
-    ghost use Rattle.sym_link.specs.Linking.{View, IsLinking, HasRoom, OpensRoot, Opens, TakesToken, ClosesRule, Adds, Pays, at_most};
+    ghost use Rattle.sym_link.specs.Linking.{View, IsLinking, HasRoom, OpensRoot, Opens, TakesToken, ClosesRule, Adds, Pays, owed_behind, owed_next};
     ghost use Rattle.rust_v0.specs.Value.{Value, State};
     ghost use Rattle.rust_v0.specs.Linked.{v0_view};
     ghost use Rattle.rust_v0.specs.LinkedLaws.{v0_laws};
@@ -217,10 +217,10 @@ impl Linking for Linked {
     ghost view = { v0_view };
 
     fn root(&mut self, symbol: &[u8], _rows: &[Row], row: Row) -> Result<Kept, Refusal>
-        requires room { HasRoom (v0_view symbol.now) symbol.now self.old (v0_view symbol.now).at_begin }
+        requires room { HasRoom (v0_view symbol.now) symbol.now self.old 0 }
         requires end { row.end ≤ length _rows.now }
         ensures opens { OpensRoot (v0_view symbol.now) symbol.now _rows.now self.old self.new row result }
-        ensures adds { OnOk result (Adds (v0_view symbol.now) self.old self.new (v0_view symbol.now).at_begin) }
+        ensures adds { OnOk result (Adds (v0_view symbol.now) self.old self.new 0 0) }
         ensures pays { OnOk result (Pays (v0_view symbol.now) self.old self.new 0 0) }
     {
         Ok(Kept { bound: 0 })
@@ -234,12 +234,12 @@ impl Linking for Linked {
         parts: &mut Vec<Part>,
         row: Row,
     ) -> Result<Kept, Refusal>
-        requires room { HasRoom (v0_view symbol.now) symbol.now self.old (v0_view symbol.now).at_begin }
+        requires room { HasRoom (v0_view symbol.now) symbol.now self.old (owed_behind (v0_view symbol.now) frame parts.old.items) }
         requires base { frame.base ≤ length parts.old.items }
         requires place { row.from < length symbol.now }
         requires end { row.end ≤ length _rows.now }
         ensures opens { Opens (v0_view symbol.now) symbol.now _rows.now self.old self.new frame parts.old.items parts.new.items row result }
-        ensures adds { OnOk result (Adds (v0_view symbol.now) self.old self.new (v0_view symbol.now).at_begin) }
+        ensures adds { OnOk result (Adds (v0_view symbol.now) self.old self.new (owed_behind (v0_view symbol.now) frame parts.old.items) (owed_next (v0_view symbol.now) frame parts.new.items)) }
         ensures pays { OnOk result ((at : ℕ) → at ≤ row.from → Pays (v0_view symbol.now) self.old self.new at row.from) }
     {
         let bound = bound_behind(frame, parts);
@@ -254,12 +254,12 @@ impl Linking for Linked {
         parts: &mut Vec<Part>,
         row: Row,
     ) -> Result<(), Refusal>
-        requires room { HasRoom (v0_view symbol.now) symbol.now self.old (at_most (v0_view symbol.now)) }
+        requires room { HasRoom (v0_view symbol.now) symbol.now self.old (owed_behind (v0_view symbol.now) frame parts.old.items) }
         requires base { frame.base ≤ length parts.old.items }
         requires from { row.from ≤ row.to }
         requires to { row.to ≤ length symbol.now }
         ensures takes { TakesToken (v0_view symbol.now) symbol.now self.old self.new frame parts.old.items parts.new.items row result }
-        ensures adds { OnOk result (Adds (v0_view symbol.now) self.old self.new (at_most (v0_view symbol.now))) }
+        ensures adds { OnOk result (Adds (v0_view symbol.now) self.old self.new (owed_behind (v0_view symbol.now) frame parts.old.items) (owed_behind (v0_view symbol.now) frame parts.new.items)) }
         ensures pays { OnOk result ((at : ℕ) → at ≤ row.from → (length parts.old.items ≡ frame.base → at ≤ frame.place)
             → Pays (v0_view symbol.now) self.old self.new at row.to) }
     {
@@ -280,11 +280,11 @@ impl Linking for Linked {
         frame: Frame<Kept>,
         parts: &mut Vec<Part>,
     ) -> Result<(), Refusal>
-        requires room { HasRoom (v0_view symbol.now) symbol.now self.old (v0_view symbol.now).at_close }
+        requires room { HasRoom (v0_view symbol.now) symbol.now self.old (owed_behind (v0_view symbol.now) frame parts.old.items) }
         requires base { frame.base ≤ length parts.old.items }
         requires place { frame.place < length symbol.now }
         ensures closes { ClosesRule (v0_view symbol.now) symbol.now self.old self.new frame parts.old.items parts.new.items result }
-        ensures adds { OnOk result (Adds (v0_view symbol.now) self.old self.new (v0_view symbol.now).at_close) }
+        ensures adds { OnOk result (Adds (v0_view symbol.now) self.old self.new (owed_behind (v0_view symbol.now) frame parts.old.items) 0) }
         ensures pays { OnOk result ((at : ℕ) → Pays (v0_view symbol.now) self.old self.new at at) }
     {
         match numbered(frame.rule) {

@@ -12,13 +12,13 @@ use Rattle.sym_link.specs.Machine as machine
 use Rattle.sym_link.specs.Unfold.{standing}
 use Rattle.sym_link.specs.Parts.{skipped, skipped_from, values_in, Stands}
 use Rattle.sym_link.specs.Driving.{Fails}
-use Rattle.sym_link.specs.Linking.{View, IsLinking, HasRoom, IsRuleRow, IsTokenRow, at_most, Adds, ClosesRule, TakesToken, Opens, OpensRoot}
+use Rattle.sym_link.specs.Linking.{View, IsLinking, HasRoom, IsRuleRow, IsTokenRow, owed_behind, owed_next, Adds, ClosesRule, TakesToken, Opens, OpensRoot}
 use Rattle.sym_link.specs.Following.{Follows, FollowsAfter, CanClose, CanTake, CanBegin, EndsWith, IsShape, IsFresh, IsOnWay, IsDone, HoldsAll, Moves, CountsMove, IsDriving, IsStepTo, meaning_of}
 use Rattle.sym_link.proofs.Standing.{NextPart, a_rule, a_token, next_part, passed_by, skip_from, stands_within, stands_end, stands_inner, stands_skip, rows_length_all}
 use Rattle.sym_link.proofs.Cases.{as_many}
 use Rattle.sym_link.proofs.Following.{Innermost, innermost, close_follows, close_fails}
 use Rattle.sym_link.proofs.Taking.{dropped_one, dropped_next, the_rule_row, rule_row_is, enter_follows, enter_fails, the_token_row, token_row_is, token_stands, token_follows, token_fails}
-use Rattle.sym_link.proofs.Starting.{room_close, room_take, room_less, room_root, IsRoot, root_of, root_row, root_follows, done}
+use Rattle.sym_link.proofs.Starting.{room_inside, room_root, IsRoot, root_of, root_row, root_follows, done}
 use Rattle.sym_link.proofs.Lists.{no_last}
 
 -- ## A rule closes
@@ -28,9 +28,9 @@ abbrev pub closing : {N P K V S C : Type 0} (view : View N P K V S C) (s : List 
 closing view s nodes frame parts can = innermost view s can.shape can.whole nodes can.next (can.lower ++ frame ∷ []) can.lower frame parts can.follows refl
 
 pub closing_room : {N P K V S C : Type 0} (view : View N P K V S C) (s : List ℕ) (nodes : N) (frame : Frame K) (parts : List P) → IsLinking view
-    → CanClose view s nodes frame parts → HasRoom view s nodes view.at_close
+    → CanClose view s nodes frame parts → HasRoom view s nodes (owed_behind view frame parts)
 closing_room view s nodes frame parts laws can =
-    room_close view s can.shape can.whole nodes can.next can.lower frame parts laws can.fits.symbol can.fits.rows (closing view s nodes frame parts can)
+    room_inside view s can.shape can.whole nodes can.next can.lower frame parts laws can.fits.symbol (closing view s nodes frame parts can)
 
 pub inner_place : {N P K V S C : Type 0} (view : View N P K V S C) (s : List ℕ) (shape : List Row) (whole : Result (Found (List V) S) Refusal)
     (nodes : N) (next : ℕ) (lower : List (Frame K)) (code : Frame K) (parts : List P) → IsLinking view → Innermost view s shape whole nodes next lower code parts → code.place < length s
@@ -54,7 +54,7 @@ no_row_left view s shape whole nodes next lower code parts i ends = omega (arith
 pub closed : {N P K V S C : Type 0} (view : View N P K V S C) (s : List ℕ) (shape : List Row) (whole : Result (Found (List V) S) Refusal)
     (old new : N) (next : ℕ) (lower : List (Frame K)) (frame : Frame K) (parts new_parts : List P) (result : Result (Unit {0}) Refusal) → IsLinking view
     → Follows view s shape whole old next (lower ++ frame ∷ []) parts → frame.end ≡ next
-    → ClosesRule view s old new frame parts new_parts result → OnOk result (Adds view old new view.at_close) → OnOk result ((at : ℕ) → view.IsPaid old at → view.IsPaid new at)
+    → ClosesRule view s old new frame parts new_parts result → OnOk result (Adds view old new (owed_behind view frame parts) 0) → OnOk result ((at : ℕ) → view.IsPaid old at → view.IsPaid new at)
     → FollowsAfter view s shape whole new next lower new_parts result
 closed view s shape whole old new next lower frame parts new_parts (Ok done) laws follows ends closes adds pays =
     let i = innermost view s shape whole old next (lower ++ frame ∷ []) lower frame parts follows refl in
@@ -188,7 +188,7 @@ more_rows view s shape nodes next codes code parts d laws can =
 
 -- what is asked where a token is taken
 pub record TokenAsks {N P K V S C : Type 0} (view : View N P K V S C) (s : List ℕ) (nodes : N) (frame : Frame K) (parts : List P) (row : Row) : Type 0 where
-  pub room : HasRoom view s nodes (at_most view)
+  pub room : HasRoom view s nodes (owed_behind view frame parts)
   pub base : frame.base ≤ length parts
   pub from : row.from ≤ row.to
   pub to : row.to ≤ length s
@@ -200,7 +200,7 @@ token_asks view s shape nodes next codes code parts row d laws can row_is is_tok
     let t = token_next view s shape can.whole nodes next codes code parts row d laws can.last can.follows can.open_still row_is is_token in
     let stands = token_stands view s shape can.whole nodes next can.last.0 code parts t.i t.t t.rest t.left_is in
     record {
-      room = room_take view s shape can.whole nodes next can.last.0 code parts laws can.fits.symbol can.fits.rows t.i t.more;
+      room = room_inside view s shape can.whole nodes next can.last.0 code parts laws can.fits.symbol t.i;
       base = t.i.base;
       from = omega (arith, t.row_is.to);
       to = omega (
@@ -227,7 +227,7 @@ row_ends shape place row rule taken inner is =
 
 -- what is asked where a rule begins
 pub record RuleAsks {N P K V S C : Type 0} (view : View N P K V S C) (s : List ℕ) (shape : List Row) (nodes : N) (frame : Frame K) (parts : List P) (row : Row) : Type 0 where
-  pub room : HasRoom view s nodes view.at_begin
+  pub room : HasRoom view s nodes (owed_behind view frame parts)
   pub base : frame.base ≤ length parts
   pub place : row.from < length s
   pub end : row.end ≤ length shape
@@ -241,7 +241,7 @@ rule_asks view s shape nodes next codes code parts row d laws can row_is no_toke
     let n = length view.reading.rowless in
     let stands = rule_stands view s shape can.whole nodes next can.last.0 code parts r.i r.rule r.taken r.inner r.rest laws r.left_is in
     record {
-      room = room_less view s nodes view.at_begin (room_take view s shape can.whole nodes next can.last.0 code parts laws can.fits.symbol can.fits.rows r.i r.more) (omega arith);
+      room = room_inside view s shape can.whole nodes next can.last.0 code parts laws can.fits.symbol r.i;
       base = r.i.base;
       place = omega (arith, r.row_is.from, stands_within view.table s n (standing r.rule r.taken place r.i.top.rule.context r.i.state) 0 (place + length r.taken) r.inner laws.lawful stands);
       end = row_ends shape place row r.rule r.taken r.inner r.row_is;
@@ -257,7 +257,7 @@ early_base view s shape whole nodes next lower code parts i none =
 pub token_taken : {N P K V S C : Type 0} (view : View N P K V S C) (s : List ℕ) (shape : List Row) (whole : Result (Found (List V) S) Refusal)
     (old new : N) (next : ℕ) (codes : List (Frame K)) (code : Frame K) (parts new_parts : List P) (row d : Row) (result : Result (Unit {0}) Refusal) → IsLinking view → (last : EndsWith codes code)
     → Follows view s shape whole old next codes parts → code.end ≢ next → row ≡ slice_index_or shape next d → row.rule ≡ 65535
-    → TakesToken view s old new code parts new_parts row result → OnOk result (Adds view old new (at_most view))
+    → TakesToken view s old new code parts new_parts row result → OnOk result (Adds view old new (owed_behind view code parts) (owed_behind view code new_parts))
     → OnOk result ((at : ℕ) → at ≤ row.from → (length parts ≡ code.base → at ≤ code.place) → view.IsPaid old at → view.IsPaid new row.to)
     → FollowsAfter view s shape whole new (next + 1) codes new_parts result
 token_taken view s shape whole old new next codes code parts new_parts row d (Ok done) laws last follows open_still row_is is_token takes adds pays =
@@ -276,7 +276,7 @@ token_taken view s shape whole old new next codes code parts new_parts row d (Er
 pub rule_begun : {N P K V S C : Type 0} (view : View N P K V S C) (s : List ℕ) (shape : List Row) (whole : Result (Found (List V) S) Refusal)
     (old new : N) (next : ℕ) (codes : List (Frame K)) (code opened : Frame K) (parts new_parts : List P) (row d : Row) → IsLinking view → (last : EndsWith codes code)
     → Follows view s shape whole old next codes parts → code.end ≢ next → row ≡ slice_index_or shape next d → row.rule ≢ 65535
-    → Opens view s shape old new code parts new_parts row (Ok opened.kept) → Adds view old new view.at_begin
+    → Opens view s shape old new code parts new_parts row (Ok opened.kept) → Adds view old new (owed_behind view code parts) (owed_next view code new_parts)
     → ((at : ℕ) → at ≤ row.from → view.IsPaid old at → view.IsPaid new row.from)
     → opened.rule ≡ row.rule → opened.place ≡ row.from → opened.end ≡ row.end → opened.base ≡ length new_parts
     → Follows view s shape whole new (next + 1) (codes ++ opened ∷ []) new_parts
@@ -303,7 +303,7 @@ rule_refused view s shape whole old new next codes code parts new_parts row d e 
 
 -- what is asked where the root begins
 pub record RootAsks {N P K V S C : Type 0} (view : View N P K V S C) (s : List ℕ) (shape : List Row) (nodes : N) (row : Row) : Type 0 where
-  pub room : HasRoom view s nodes view.at_begin
+  pub room : HasRoom view s nodes 0
   pub end : row.end ≤ length shape
   pub more : 0 < length shape
 
@@ -326,14 +326,14 @@ root_asks view s shape nodes codes parts row d laws can row_is =
     }
 
 pub root_begun : {N P K V S C : Type 0} (view : View N P K V S C) (s : List ℕ) (shape : List Row) (tree : Tree) (old new : N) (codes : List (Frame K)) (opened : Frame K) (parts : List P) (row d : Row)
-    → IsLinking view → IsShape view.table s shape tree → IsFresh view old 0 codes parts → row ≡ slice_index_or shape 0 d
-    → OpensRoot view s shape old new row (Ok opened.kept) → Adds view old new view.at_begin → (view.IsPaid old 0 → view.IsPaid new 0)
+    → IsLinking view → IsShape view.table s shape tree → length shape ≤ 4 * length s + 4 → IsFresh view old 0 codes parts → row ≡ slice_index_or shape 0 d
+    → OpensRoot view s shape old new row (Ok opened.kept) → Adds view old new 0 0 → (view.IsPaid old 0 → view.IsPaid new 0)
     → opened.rule ≡ row.rule → opened.place ≡ row.from → opened.end ≡ row.end → opened.base ≡ 0
     → Follows view s shape (meaning_of view tree) new 1 (codes ++ opened ∷ []) parts
-root_begun view s shape tree old new codes opened parts row d laws is fresh row_is opens adds pays number place end base =
+root_begun view s shape tree old new codes opened parts row d laws is fits fresh row_is opens adds pays number place end base =
     let r = root_at view s shape tree row d laws is row_is in
     rw (fresh.no_frame, fresh.no_part)
-    (root_follows view s shape tree old new opened laws is r.0 fresh.no_node (number ∙ r.1.rule_is) (place ∙ r.1.from) (end ∙ r.2) base
+    (root_follows view s shape tree old new opened laws is fits r.0 fresh.no_node (number ∙ r.1.rule_is) (place ∙ r.1.from) (end ∙ r.2) base
     (opens r.0.rule r.0.taken r.0.inner r.1 fresh.holds) adds.1 (pays fresh.paid))
 
 -- ## A move

@@ -1,5 +1,5 @@
 -- A driver that takes a row or closes a rule stays on its way.
-use Rattle.std.proofs.Common.{◌≡◌, sym, ◌∙◌, ap, subst, arith, ℕ, ◌+◌, ◌*◌, ◌≤◌, List, [], ◌∷◌, ◌++◌, length, take, drop, Ok, add-zero, append_assoc, length-append}
+use Rattle.std.proofs.Common.{◌≡◌, sym, ◌∙◌, ap, subst, arith, ℕ, ◌+◌, ◌≤◌, List, [], ◌∷◌, ◌++◌, length, take, drop, Ok, add-zero, append_assoc, length-append, length-drop}
 use Rattle.std.specs.Prelude.{Result}
 use Rattle.sym_core.specs.declared.refusal.Refusal.{Refusal}
 use Rattle.sym_core.specs.declared.refusal.Refusal.TheVariants as refusals
@@ -10,20 +10,13 @@ use Rattle.sym_link.specs.Reading.{Found, ◌>>=◌}
 use Rattle.sym_link.specs.Machine as machine
 use Rattle.sym_link.specs.Parts.{Stands}
 use Rattle.sym_link.specs.Driving.{AreAll, Fails}
-use Rattle.sym_link.specs.Linking.{View, IsLinking, IsInside, at_most, Gives}
+use Rattle.sym_link.specs.Linking.{View, IsLinking, IsInside, owed_behind, Gives}
+use Rattle.sym_link.specs.Owing.{owed}
 use Rattle.sym_link.specs.Following.{HoldsAll, left_from, Nests, IsEarly, Follows}
+use Rattle.sym_link.proofs.Cases.{as_many}
 use Rattle.sym_link.proofs.Closing.{ended_outcome}
 use Rattle.sym_link.proofs.Lists.{all_push, all_stay, snoc_last, snoc_front, no_last, dropped_front, taken_front}
 use Rattle.sym_link.proofs.Standing.{no_rows}
-
--- ## Sizes
-
--- one frame less, and what it may add
-pub sizes_close : (size new b n most : ℕ) → size + b * (n + 1) ≤ most → new ≤ size + b → new + b * n ≤ most
-sizes_close size new b n most few added = omega (arith, few, added, times_more b n)
-  where
-    times_more : (b n : ℕ) → b * (n + 1) ≡ b * n + b
-    times_more b n = omega arith
 
 -- ## Frames and parts
 
@@ -94,7 +87,8 @@ pub record Innermost {N P K V S C : Type 0} (view : View N P K V S C) (s : List 
   pub end : code.end ≡ next + row_count_all top.left
   pub holds : HoldsAll view s nodes frames top.outer 1 (next + row_count_all top.left) lower (take code.base parts)
   pub nests : Nests (length s) (top ∷ frames)
-  pub size : view.size nodes + view.at_close * (length lower + 1) ≤ at_most view * next
+  pub size : view.size nodes + owed view.owes (top ∷ frames) (length known) ≤ view.most (length s)
+  pub owes : owed_behind view code parts ≡ view.owes top.rule.rule.number (length known)
   pub reached : ℕ
   pub before : reached ≤ top.from
   pub early : length known ≡ 0 → reached ≤ top.rule.place
@@ -105,7 +99,7 @@ innermost_on : {N P K V S C : Type 0} (view : View N P K V S C) (s : List ℕ) (
     (frames : List (machine.Frame V S C)) (known : List V) (state : S) (reached : ℕ)
     → machine.outcome_of view.reading frames known state ≡ whole → drop next shape ≡ machine.pending frames next → next ≤ length shape
     → HoldsAll view s nodes frames known 0 next codes parts → view.Holds nodes state → Nests (length s) frames
-    → view.size nodes + view.at_close * length codes ≤ at_most view * next
+    → view.size nodes + owed view.owes frames (length known) ≤ view.most (length s)
     → reached ≤ left_from (length s) frames → IsEarly reached frames known → view.IsPaid nodes reached
     → codes ≡ lower ++ code ∷ [] → Innermost view s shape whole nodes next lower code parts
 innermost_on view s shape whole nodes next codes lower code parts [] known state reached coming rows within (none, are) keeps nests size before early paid ends =
@@ -137,7 +131,10 @@ innermost_on view s shape whole nodes next codes lower code parts (top ∷ frame
       holds = subst (λ ps. HoldsAll view s nodes frames top.outer 1 (next + row_count_all top.left) lower ps) (sym front)
           (subst (λ fs. HoldsAll view s nodes frames top.outer 1 (next + row_count_all top.left) fs one.below) same_lower holds);
       nests = nests;
-      size = subst (λ n. view.size nodes + view.at_close * n ≤ at_most view * next) (ap (λ fs. length fs) ends ∙ length-append lower (code ∷ [])) size;
+      size = size;
+      owes = rw (ap (λ f. f.rule) (sym same) ∙ one.number)
+          (ap (λ k. view.owes top.rule.rule.number k)
+          (sym (length-drop code.base parts) ∙ ap (λ ps. length ps) back ∙ as_many (view.IsPart nodes) one.own known one.are));
       reached = reached;
       before = before;
       early = early;
@@ -169,7 +166,7 @@ pub close_follows : {N P K V S C : Type 0} (view : View N P K V S C) (s : List �
     (old new : N) (next : ℕ) (lower : List (Frame K)) (code : Frame K) (parts : List P) (part : P) → IsLinking view → view.Grows old new
     → (i : Innermost view s shape whole old next lower code parts) → row_count_all i.top.left ≡ 0
     → Gives view new (Ok part) (machine.ended view.reading i.top.rule i.known i.top.from i.top.left i.state)
-    → view.size new ≤ view.size old + view.at_close → view.IsPaid new i.reached
+    → view.size new + 0 ≤ view.size old + owed_behind view code parts → view.IsPaid new i.reached
     → Follows view s shape whole new next lower (take code.base parts ++ part ∷ [])
 close_follows view s shape whole old new next lower code parts part laws grows i none (value, state, read, is_part, holds) added paid =
     let row_is : next + row_count_all i.top.left ≡ next = omega (arith, none) in
@@ -186,7 +183,13 @@ close_follows view s shape whole old new next lower code parts part laws grows i
           (subst (λ n. HoldsAll view s old i.frames i.top.outer 1 n lower (take code.base parts)) row_is i.holds)) is_part;
       keeps = holds;
       nests = i.nests.1;
-      size = sizes_close (view.size old) (view.size new) view.at_close (length lower) (at_most view * next) i.size added;
+      size = omega (
+        arith,
+        i.size,
+        i.owes,
+        added,
+        ap (λ k. owed view.owes i.frames k) (length-append i.top.outer (value ∷ [])),
+      );
       reached = i.reached;
       before = omega (arith, i.before, i.nests.0);
       early = early_push i.reached i.frames i.top.outer value;

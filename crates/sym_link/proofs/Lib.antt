@@ -9,3 +9,5 @@ pub mod Following
 pub mod Taking
 pub mod Starting
 pub mod Driving
+pub mod Passing
+pub mod Ahead

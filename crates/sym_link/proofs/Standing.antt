@@ -12,6 +12,7 @@ use Rattle.sym_shape.specs.Tree.{Tree, Forest, branch, empty, token, fixed, noth
 use Rattle.sym_link.specs.Reading.{Open}
 use Rattle.sym_link.specs.Unfold.{standing}
 use Rattle.sym_link.specs.Machine.{HasRowNext}
+use Rattle.sym_link.specs.Owing.{Owes, cost_all}
 use Rattle.sym_link.specs.Parts.{skipped, skipped_from, joined, values_in, Stands}
 
 -- ## Parts without a row that are skipped
@@ -48,6 +49,13 @@ skip_count (grown (fixed byte) rest) = omega (arith, skip_count rest)
 skip_count (grown (token t) rest) = refl
 skip_count (grown (branch rule taken parts) rest) = refl
 skip_count nothing = refl
+
+pub skip_cost : (owes : Owes) (left : Forest) → cost_all owes (skipped left) ≡ cost_all owes left
+skip_cost owes (grown empty rest) = omega (arith, skip_cost owes rest)
+skip_cost owes (grown (fixed byte) rest) = omega (arith, skip_cost owes rest)
+skip_cost owes (grown (token t) rest) = refl
+skip_cost owes (grown (branch rule taken parts) rest) = refl
+skip_cost owes nothing = refl
 
 pub skip_next : (left : Forest) → HasRowNext (skipped left)
 skip_next (grown empty rest) = skip_next rest

@@ -1,9 +1,8 @@
 -- A driver at the beginning of a symbol, and at its end.
-use Rattle.std.proofs.Common.{◌≡◌, refl, sym, ◌∙◌, ap, subst, arith, ℕ, ◌+◌, ◌*◌, ◌<◌, ◌≤◌, List, [], ◌∷◌, ◌++◌, length, drop, Ok, Err, inl, false, append-nil, length-append}
+use Rattle.std.proofs.Common.{◌≡◌, refl, sym, ◌∙◌, ap, subst, arith, ℕ, ◌+◌, ◌*◌, ◌≤◌, List, [], ◌∷◌, ◌++◌, length, drop, Ok, Err, inl, false, append-nil, length-append}
 use Rattle.std.specs.Prelude.{Result, Option, Some, None}
 use Rattle.std.specs.Result.{IfOk}
 use Rattle.std.proofs.lemmas.Bool.{false≢true}
-use Rattle.std.proofs.lemmas.Nat.{mul-le}
 use Rattle.sym_core.specs.Number.{FitsSymbol}
 use Rattle.sym_core.specs.declared.refusal.Refusal.{Refusal}
 use Rattle.sym_shape.specs.declared.rule.Row.{Row}
@@ -17,12 +16,13 @@ use Rattle.sym_link.specs.Unfold.{found, alone, standing, unfold_tree, unfold_fo
 use Rattle.sym_link.specs.Machine as machine
 use Rattle.sym_link.specs.Parts.{Stands}
 use Rattle.sym_link.specs.Driving.{AreAll}
-use Rattle.sym_link.specs.Linking.{View, IsLinking, HasRoom, at_most, Begun, begun, Begins}
+use Rattle.sym_link.specs.Linking.{View, IsLinking, HasRoom, owed_behind, Begun, begun, Begins}
+use Rattle.sym_link.specs.Owing.{cost, owed}
 use Rattle.sym_link.specs.Following.{IsShape, meaning_of, HoldsAll, left_from, Follows, IsDone, IsDriving}
 use Rattle.sym_link.proofs.Lists.{no_last}
 use Rattle.sym_link.proofs.Results.{ok_any}
 use Rattle.sym_link.proofs.Opening.{root_outcome}
-use Rattle.sym_link.proofs.Standing.{stands_end}
+use Rattle.sym_link.proofs.Standing.{stands_end, rows_length}
 use Rattle.sym_link.proofs.Following.{Innermost}
 use Rattle.sym_link.proofs.Taking.{dropped_next, of_ok}
 
@@ -64,12 +64,12 @@ root_count reading context state rule taken inner =
 
 -- A driver in which the root begins is on its way.
 pub root_follows : {N P K V S C : Type 0} (view : View N P K V S C) (s : List ℕ) (shape : List Row) (tree : Tree)
-    (old new : N) (opened : Frame K) → IsLinking view → IsShape view.table s shape tree → (r : IsRoot view.table tree) → view.size old ≡ 0
+    (old new : N) (opened : Frame K) → IsLinking view → IsShape view.table s shape tree → length shape ≤ 4 * length s + 4 → (r : IsRoot view.table tree) → view.size old ≡ 0
     → opened.rule ≡ r.rule.number → opened.place ≡ 0 → opened.end ≡ 0 + 1 + row_count_all r.inner → opened.base ≡ 0
     → Begins view new [] [] (Ok opened.kept) (begun view.reading r.rule r.taken 0 r.inner (record { context = view.around; values = []; state = view.first }))
-    → view.size new ≤ view.size old + view.at_begin → view.IsPaid new 0
+    → view.size new + 0 ≤ view.size old + 0 → view.IsPaid new 0
     → Follows view s shape (meaning_of view tree) new (0 + 1) (opened ∷ []) []
-root_follows view s shape tree old new opened laws is r no_node number place end base (b, read, is_kept, holds, own, parts_are, are) added paid =
+root_follows view s shape tree old new opened laws is fits r no_node number place end base (b, read, is_kept, holds, own, parts_are, are) added paid =
     let n = length view.reading.rowless in
     let count = of_ok (begun view.reading r.rule r.taken 0 r.inner (record { context = view.around; values = []; state = view.first })) b (BeginsRoot r.rule r.taken) read
     (root_count view.reading view.around view.first r.rule r.taken r.inner) in
@@ -114,63 +114,41 @@ root_follows view s shape tree old new opened laws is r no_node number place end
       );
       keeps = holds;
       nests = (omega (arith, ap (λ x. length x) bytes, length-append r.taken (spell_all r.inner)), tt);
-      size = sizes_root (view.size old) (view.size new) view.at_begin view.at_close no_node added;
+      size = omega (
+        arith,
+        no_node,
+        added,
+        subst (λ x. cost view.owes tree ≤ view.most (length x)) is.spelled (laws.few tree is.is_tree (rw is.spelled (omega (arith, fits, ap (λ x. length x) is.rows_are, rows_length tree 0 0)))),
+        ap (λ t. cost view.owes t) r.tree_is,
+        ap (λ o. view.owes o.rule.number 0) count.1.2,
+      );
       reached = 0;
       before = omega arith;
       early = λ none. omega arith;
       paid = paid;
     }
-  where
-    sizes_root : (size new a b : ℕ) → size ≡ 0 → new ≤ size + a → new + b * 1 ≤ (a + b) * (0 + 1)
-    sizes_root size new a b none added = omega (arith, none, added)
 
 -- ## Rooms
 
-sizes_room : (size more most m n : ℕ) → size + more ≤ most * m → m ≤ n → size + more ≤ most * n
-sizes_room size more most m n few less = omega (arith, few, mul-le most m most n (omega arith) less)
-
--- the language may close the innermost rule
-pub room_close : {N P K V S C : Type 0} (view : View N P K V S C) (s : List ℕ) (shape : List Row) (whole : Result (Found (List V) S) Refusal)
-    (nodes : N) (next : ℕ) (lower : List (Frame K)) (code : Frame K) (parts : List P) → IsLinking view → FitsSymbol s → length shape ≤ 4 * length s + 4
-    → Innermost view s shape whole nodes next lower code parts → HasRoom view s nodes view.at_close
-room_close view s shape whole nodes next lower code parts laws fits few i = record {
+-- the language may take the next row, or close the innermost rule
+pub room_inside : {N P K V S C : Type 0} (view : View N P K V S C) (s : List ℕ) (shape : List Row) (whole : Result (Found (List V) S) Refusal)
+    (nodes : N) (next : ℕ) (lower : List (Frame K)) (code : Frame K) (parts : List P) → IsLinking view → FitsSymbol s
+    → Innermost view s shape whole nodes next lower code parts → HasRoom view s nodes (owed_behind view code parts)
+room_inside view s shape whole nodes next lower code parts laws fits i = record {
   fits = fits;
-  size = sizes_room (view.size nodes) view.at_close (at_most view) next (4 * length s + 4) (one_frame (view.size nodes) view.at_close (length lower) (at_most view * next) i.size) (omega (arith, i.within, few));
+  size = omega (arith, i.size, i.owes);
   paid = laws.paid_more nodes i.reached (length s)
       (omega (arith, i.before, stands_end view.table s (length view.reading.rowless) i.top.rule (length i.known) i.top.from i.top.left laws.lawful i.inside.stands)) i.paid;
 }
-  where
-    one_frame : (size b n most : ℕ) → size + b * (n + 1) ≤ most → size + b ≤ most
-    one_frame size b n most few = omega (arith, few)
-
--- the language may take the next row
-pub room_take : {N P K V S C : Type 0} (view : View N P K V S C) (s : List ℕ) (shape : List Row) (whole : Result (Found (List V) S) Refusal)
-    (nodes : N) (next : ℕ) (lower : List (Frame K)) (code : Frame K) (parts : List P) → IsLinking view → FitsSymbol s → length shape ≤ 4 * length s + 4
-    → Innermost view s shape whole nodes next lower code parts → next < length shape → HasRoom view s nodes (at_most view)
-room_take view s shape whole nodes next lower code parts laws fits few i more = record {
-  fits = fits;
-  size = sizes_room (view.size nodes) (at_most view) (at_most view) (next + 1) (4 * length s + 4) (one_row (view.size nodes) view.at_close (length lower) (at_most view) next i.size) (omega (arith, more, few));
-  paid = laws.paid_more nodes i.reached (length s)
-      (omega (arith, i.before, stands_end view.table s (length view.reading.rowless) i.top.rule (length i.known) i.top.from i.top.left laws.lawful i.inside.stands)) i.paid;
-}
-  where
-    one_row : (size b n most next : ℕ) → size + b * (n + 1) ≤ most * next → size + most ≤ most * (next + 1)
-    one_row size b n most next few = omega (arith, few)
-
-pub room_less : {N P K V S C : Type 0} (view : View N P K V S C) (s : List ℕ) (nodes : N) (most : ℕ) → HasRoom view s nodes (at_most view) → most ≤ at_most view → HasRoom view s nodes most
-room_less view s nodes most room less = record { fits = room.fits; size = omega (arith, room.size, less); paid = room.paid }
 
 -- the language may begin
 pub room_root : {N P K V S C : Type 0} (view : View N P K V S C) (s : List ℕ) (nodes : N) → IsLinking view → FitsSymbol s
-    → view.size nodes ≡ 0 → view.IsPaid nodes 0 → HasRoom view s nodes view.at_begin
+    → view.size nodes ≡ 0 → view.IsPaid nodes 0 → HasRoom view s nodes 0
 room_root view s nodes laws fits none paid = record {
   fits = fits;
-  size = few (view.size nodes) view.at_begin view.at_close (length s) none;
+  size = omega (arith, none);
   paid = laws.paid_more nodes 0 (length s) (omega arith) paid;
 }
-  where
-    few : (size a b n : ℕ) → size ≡ 0 → size + a ≤ (a + b) * (4 * n + 4)
-    few size a b n none = omega (arith, none)
 
 -- ## The end
 
@@ -210,7 +188,7 @@ done_on : {N P K V S C : Type 0} (view : View N P K V S C) (s : List ℕ) (shape
     → IsLinking view → IsRoot view.table tree → (frames : List (machine.Frame V S C)) (known : List V) (state : S) (reached : ℕ)
     → machine.outcome_of view.reading frames known state ≡ meaning_of view tree → next ≤ length shape
     → HoldsAll view s nodes frames known 0 next codes parts → view.Holds nodes state
-    → view.size nodes + view.at_close * length codes ≤ at_most view * next → reached ≤ left_from (length s) frames → view.IsPaid nodes reached
+    → view.size nodes + owed view.owes frames (length known) ≤ view.most (length s) → reached ≤ left_from (length s) frames → view.IsPaid nodes reached
     → codes ≡ [] → IsDone view s shape (meaning_of view tree) nodes parts
 done_on view s shape tree nodes next codes parts laws r [] known state reached coming within (none, are) keeps size before paid no_frame =
     let one = one_value view.reading view.around view.first r.rule r.taken r.inner known state
@@ -224,7 +202,7 @@ done_on view s shape tree nodes next codes parts laws r [] known state reached c
       means = sym coming ∙ ap (λ vs. Ok (found vs state)) one.1;
       is_part = part.2;
       holds = keeps;
-      size = omega (arith, size, mul-le (at_most view) next (at_most view) (length shape) (omega arith) within);
+      size = omega (arith, size);
       paid = laws.paid_more nodes reached (length s) before paid;
     }
 done_on view s shape tree nodes next codes parts laws r (top ∷ frames) known state reached coming within (one, holds) keeps size before paid no_frame =

@@ -1,5 +1,5 @@
 -- A driver that takes the next row stays on its way.
-use Rattle.std.proofs.Common.{◌≡◌, refl, sym, ◌∙◌, ap, subst, arith, ℕ, zero, suc, ◌+◌, ◌-◌, ◌*◌, ◌<◌, ◌≤◌, List, [], ◌∷◌, ◌++◌, length, take, drop, Ok, add-one, append_assoc, append-nil, length-append}
+use Rattle.std.proofs.Common.{◌≡◌, refl, sym, ◌∙◌, ap, subst, arith, ℕ, zero, suc, ◌+◌, ◌-◌, ◌<◌, ◌≤◌, List, [], ◌∷◌, ◌++◌, length, take, drop, Ok, add-one, append_assoc, append-nil, length-append}
 use Rattle.std.specs.Prelude.{Result, slice_index_or}
 use Rattle.std.specs.Result.{IfOk}
 use Rattle.std.proofs.lemmas.List.{length-take-le}
@@ -13,11 +13,13 @@ use Rattle.sym_link.specs.Reading.{Found, Open, ◌>>=◌}
 use Rattle.sym_link.specs.Unfold.{found}
 use Rattle.sym_link.specs.Machine as machine
 use Rattle.sym_link.specs.Parts.{skipped, skipped_from, values_in, Stands}
-use Rattle.sym_link.specs.Driving.{Fails}
-use Rattle.sym_link.specs.Linking.{View, IsLinking, IsRuleRow, IsTokenRow, at_most, next_of, begun, taken_in, Begins, Takes}
+use Rattle.sym_link.specs.Driving.{AreAll, Fails}
+use Rattle.sym_link.specs.Linking.{View, IsLinking, IsRuleRow, IsTokenRow, owed_behind, owed_next, next_of, begun, taken_in, Begins, Takes}
+use Rattle.sym_link.specs.Owing.{cost_all}
 use Rattle.sym_link.specs.Following.{HoldsAll, Follows}
 use Rattle.sym_link.proofs.Opening.{machine_in, entering_outcome, machine_at, token_outcome, BeginsBehind, begun_count, taken_count}
-use Rattle.sym_link.proofs.Standing.{passed_by, skip_split, skip_from, skip_rows, skip_count, joined_spell, stands_skip, stands_take, stands_left, stands_inner, token_own}
+use Rattle.sym_link.proofs.Standing.{passed_by, skip_split, skip_from, skip_rows, skip_count, skip_cost, joined_spell, stands_skip, stands_take, stands_left, stands_inner, token_own}
+use Rattle.sym_link.proofs.Cases.{as_many}
 use Rattle.sym_link.proofs.Following.{Innermost, holds_stays, fails_carried}
 
 pub dropped_one : {A : Type 0} (xs more : List A) (n : ℕ) (x d : A) → drop n xs ≡ x ∷ more → (drop (n + 1) xs ≡ more) × (n < length xs) × (slice_index_or xs n d ≡ x)
@@ -74,13 +76,17 @@ token_pending top frames from number t rest =
     let second : number + (1 + row_count_all rest) ≡ number + 1 + row_count_all rest = omega arith in
     rw second refl
 
--- one frame more, and what its rule may add where it begins
-sizes_enter : (size new a b n next : ℕ) → size + b * (n + 1) ≤ (a + b) * next → new ≤ size + a → new + b * (n + 1 + 1) ≤ (a + b) * (next + 1)
-sizes_enter size new a b n next few added = omega (arith, few, added)
-
--- a token may add what a rule may
-sizes_token : (size new a b n next : ℕ) → size + b * (n + 1) ≤ (a + b) * next → new ≤ size + (a + b) → new + b * (n + 1) ≤ (a + b) * (next + 1)
-sizes_token size new a b n next few added = omega (arith, few, added)
+-- so many parts stand behind the base as there are values
+own_count : {P V : Type 0} (Is : P → V → Type 0) (parts new_parts own : List P) (values : List V) (base : ℕ) → base ≤ length parts
+    → new_parts ≡ take base parts ++ own → AreAll Is own values → length new_parts - base ≡ length values
+own_count Is parts new_parts own values base within are_parts are =
+    omega (
+      arith,
+      ap (λ ps. length ps) are_parts,
+      length-append (take base parts) own,
+      length-take-le base parts within,
+      as_many Is own values are,
+    )
 
 -- ## A rule begins
 
@@ -127,7 +133,7 @@ pub enter_follows : {N P K V S C : Type 0} (view : View N P K V S C) (s : List �
     → opened.rule ≡ rule.number → opened.place ≡ skipped_from i.top.from i.top.left → opened.end ≡ next + 1 + row_count_all inner → opened.base ≡ length new_parts
     → Begins view new (take code.base parts) new_parts (Ok opened.kept)
     (next_of view.reading i.top.rule i.known i.top.from i.top.left i.state >>= begun view.reading rule taken (skipped_from i.top.from i.top.left) inner)
-    → view.size new ≤ view.size old + view.at_begin → view.IsPaid new (skipped_from i.top.from i.top.left)
+    → view.size new + owed_next view code new_parts ≤ view.size old + owed_behind view code parts → view.IsPaid new (skipped_from i.top.from i.top.left)
     → Follows view s shape whole new (next + 1) ((lower ++ code ∷ []) ++ opened ∷ []) new_parts
 enter_follows view s shape whole old new next lower code opened parts new_parts laws grows i rule taken inner rest left_is number place_is end base
     (b, read, is_kept, holds, own, parts_are, are) added paid =
@@ -138,6 +144,9 @@ enter_follows view s shape whole old new next lower code opened parts new_parts 
     let count = of_ok reading b (BeginsBehind view.reading i.known i.top.left rule taken place) read (begun_count view.reading laws.keeps_count i.top.rule i.known i.top.from i.top.left i.state rule taken place inner) in
     let row = dropped_next shape _ next _ (the_rule_row view s shape whole old next lower code parts i rule taken inner rest left_is) in
     let left_count : row_count_all i.top.left ≡ 1 + row_count_all inner + row_count_all rest = sym (skip_count i.top.left) ∙ ap row_count_all left_is in
+    let owed_is : owed_next view code new_parts ≡ view.owes i.top.rule.rule.number (length b.values + 1) =
+    ap (λ n. view.owes n (length new_parts - code.base + 1)) i.inside.number
+    ∙ ap (λ k. view.owes i.top.rule.rule.number (k + 1)) (own_count (view.IsPart new) parts new_parts own b.values code.base i.base parts_are are) in
     let skip : Stands view.table s n i.top.rule (length i.known + values_in n (passed_by i.top.left)) place (grown (branch rule taken inner) rest) =
     subst (λ f. Stands view.table s n i.top.rule (length i.known + values_in n (passed_by i.top.left)) place f) left_is
     (stands_skip view.table s n i.top.rule (length i.known) i.top.from i.top.left i.inside.stands) in
@@ -199,9 +208,15 @@ enter_follows view s shape whole old new next lower code opened parts new_parts 
           i.nests.1,
         ),
       );
-      size = subst (λ k. view.size new + view.at_close * k ≤ at_most view * (next + 1))
-          (omega (arith, length-append (lower ++ code ∷ []) (opened ∷ []), length-append lower (code ∷ [])))
-          (sizes_enter (view.size old) (view.size new) view.at_begin view.at_close (length lower) next i.size added);
+      size = omega (
+        arith,
+        i.size,
+        i.owes,
+        added,
+        sym (skip_cost view.owes i.top.left) ∙ ap (λ f. cost_all view.owes f) left_is,
+        ap (λ r. view.owes r.rule.number 0) count.1.2,
+        owed_is,
+      );
       reached = place;
       before = omega arith;
       early = λ none. omega (arith, ap (λ r. r.place) count.1.2);
@@ -272,7 +287,7 @@ pub token_follows : {N P K V S C : Type 0} (view : View N P K V S C) (s : List �
     → to ≡ skipped_from i.top.from i.top.left + length t.before + length t.own
     → Takes view new (take code.base parts) new_parts (Ok tt)
     (next_of view.reading i.top.rule i.known i.top.from i.top.left i.state >>= taken_in view.reading t (skipped_from i.top.from i.top.left))
-    → view.size new ≤ view.size old + at_most view → view.IsPaid new to
+    → view.size new + owed_behind view code new_parts ≤ view.size old + owed_behind view code parts → view.IsPaid new to
     → Follows view s shape whole new (next + 1) (lower ++ code ∷ []) new_parts
 token_follows view s shape whole old new next lower code parts new_parts laws grows i t rest to left_is to_is
     (known, state, read, holds, own, parts_are, are) added paid =
@@ -285,6 +300,9 @@ token_follows view s shape whole old new next lower code parts new_parts laws gr
     let row = dropped_next shape _ next _ (the_token_row view s shape whole old next lower code parts i t rest left_is) in
     let left_count : row_count_all i.top.left ≡ 1 + row_count_all rest = sym (skip_count i.top.left) ∙ ap row_count_all left_is in
     let skip = token_stands view s shape whole old next lower code parts i t rest left_is in
+    let owed_is : owed_behind view code new_parts ≡ view.owes i.top.rule.rule.number (length known) =
+    ap (λ n. view.owes n (length new_parts - code.base)) i.inside.number
+    ∙ ap (λ k. view.owes i.top.rule.rule.number k) (own_count (view.IsPart new) parts new_parts own known code.base i.base parts_are are) in
     let bytes : length (bytes_of t) ≡ length t.before + length t.own + length t.behind =
     omega (arith, length-append (t.before ++ t.own) t.behind, length-append t.before t.own) in
     record {
@@ -316,8 +334,7 @@ token_follows view s shape whole old new next lower code parts new_parts laws gr
       );
       keeps = holds;
       nests = (omega (arith, skipped_end i.top.from i.top.left (grown (token t) rest) left_is, length-append (bytes_of t) (spell_all rest), i.nests.0), i.nests.1);
-      size = subst (λ k. view.size new + view.at_close * k ≤ at_most view * (next + 1)) (omega (arith, length-append lower (code ∷ [])))
-          (sizes_token (view.size old) (view.size new) view.at_begin view.at_close (length lower) next i.size added);
+      size = omega (arith, i.size, i.owes, added, sym (skip_cost view.owes i.top.left) ∙ ap (λ f. cost_all view.owes f) left_is, owed_is);
       reached = to;
       before = omega (arith, to_is, bytes);
       early = λ none. absurd (omega (arith, none, count));

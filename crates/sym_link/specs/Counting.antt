@@ -1,5 +1,5 @@
 -- A small language, in which a rule means the number of its parts, of which it may have at most three.
-use Rattle.std.specs.Prelude.{◌≡◌, ℕ, ◌+◌, ◌<◌, ◌≤◌, nat_lt, List, [], ◌∷◌, ◌++◌, length, get_or, true, false, if◌then◌else◌, Result, Ok, Err}
+use Rattle.std.specs.Prelude.{◌≡◌, ℕ, ◌+◌, ◌*◌, ◌<◌, ◌≤◌, nat_lt, List, [], ◌∷◌, ◌++◌, length, get_or, true, false, if◌then◌else◌, Result, Ok, Err}
 use Rattle.sym_core.specs.declared.NumberKind.{NumberKind}
 use Rattle.sym_core.specs.declared.refusal.Refusal.{Refusal}
 use Rattle.sym_core.specs.declared.NameClass.{NameClass}
@@ -60,8 +60,8 @@ counting s = record {
   Holds = λ nodes state. length nodes.counts.items ≡ state;
   Grows = λ old new. (more : List ℕ) × (new.counts.items ≡ old.counts.items ++ more);
   size = λ nodes. length nodes.counts.items;
-  at_begin = 0;
-  at_close = 1;
+  owes = λ number held. 1;
+  most = λ bytes. 4 * bytes + 4;
   IsPaid = λ nodes bytes. length nodes.text.items ≤ bytes;
 }
 

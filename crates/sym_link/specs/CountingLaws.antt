@@ -7,6 +7,7 @@ use Rattle.sym_link.specs.declared.counting.Counts.{Counts}
 use Rattle.sym_link.specs.declared.counting.Part.{Part}
 use Rattle.sym_link.specs.declared.counting.Part.TheVariants as parts
 use Rattle.sym_link.specs.Linking.{IsLinking}
+use Rattle.sym_link.specs.OwingLaws.{cost_rows}
 use Rattle.sym_link.specs.Counting.{blank, sheet, IsNumber, counting}
 
 stays : (old new : Counts) (part : Part) (value : ℕ) → (more : List ℕ) × (new.counts.items ≡ old.counts.items ++ more) → IsNumber old part value → IsNumber new part value
@@ -24,4 +25,5 @@ counting_laws s = record {
   kept_stays = λ old new kept rule grows is. is;
   paid_more = λ nodes few more le paid. omega (arith, le, paid);
   keeps_count = λ rule known state. refl;
+  few = λ tree is rows. omega (arith, rows, cost_rows (λ number held. 1) (λ number. omega arith) tree);
 }

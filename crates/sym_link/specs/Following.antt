@@ -12,7 +12,8 @@ use Rattle.sym_link.specs.Unfold.{found, unfold_tree}
 use Rattle.sym_link.specs.Machine as machine
 use Rattle.sym_link.specs.Parts.{Stands}
 use Rattle.sym_link.specs.Driving.{AreAll, Fails}
-use Rattle.sym_link.specs.Linking.{View, at_most}
+use Rattle.sym_link.specs.Linking.{View}
+use Rattle.sym_link.specs.Owing.{owed}
 
 -- these are the rows of a tree that spells the symbol
 pub record IsShape (g : Table) (s : List ℕ) (rows : List Row) (tree : Tree) : Type 0 where
@@ -78,7 +79,7 @@ pub record Follows {N P K V S C : Type 0} (view : View N P K V S C) (s : List �
   pub holds : HoldsAll view s nodes frames known 0 next codes parts
   pub keeps : view.Holds nodes state
   pub nests : Nests (length s) frames
-  pub size : view.size nodes + view.at_close * length codes ≤ at_most view * next
+  pub size : view.size nodes + owed view.owes frames (length known) ≤ view.most (length s)
   pub reached : ℕ
   pub before : reached ≤ left_from (length s) frames
   pub early : IsEarly reached frames known
@@ -167,7 +168,7 @@ pub record IsDone {N P K V S C : Type 0} (view : View N P K V S C) (s : List ℕ
   pub means : whole ≡ Ok (found (value ∷ []) state)
   pub is_part : view.IsPart nodes part value
   pub holds : view.Holds nodes state
-  pub size : view.size nodes ≤ at_most view * length shape
+  pub size : view.size nodes ≤ view.most (length s)
   pub paid : view.IsPaid nodes (length s)
 
 -- A move goes on to the next row or comes to another one, or nothing is left to do.

@@ -2,8 +2,14 @@ pub mod Reading
 pub mod Unfold
 pub mod Machine
 pub mod Cases
+pub mod Threads
+pub mod Ahead
 pub mod Driving
 pub mod Parts
+pub mod Owing
+pub mod OwingLaws
+pub mod Paying
+pub mod PayingLaws
 pub mod Linking
 pub mod Following
 pub mod Counting

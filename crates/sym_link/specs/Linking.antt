@@ -7,11 +7,13 @@ use Rattle.sym_shape.specs.declared.rule.Row.{Row}
 use Rattle.sym_shape.specs.declared.rule.Rule.{Rule}
 use Rattle.sym_shape.specs.Table.{Table, Token}
 use Rattle.sym_shape.specs.Law.{IsLawful}
-use Rattle.sym_shape.specs.Tree.{Forest, branch, token, grown, row_count_all, rows_of_all, spell_all}
+use Rattle.sym_shape.specs.declared.rule.Sym.TheVariants.{Kind}
+use Rattle.sym_shape.specs.Tree.{Tree, Forest, branch, token, grown, IsTree, row_count, row_count_all, rows_of_all, spell, spell_all}
 use Rattle.sym_link.specs.declared.language.Frame.{Frame}
 use Rattle.sym_link.specs.Reading.{Found, Open, Next, Reading, ◌>>=◌}
 use Rattle.sym_link.specs.Unfold.{found, standing}
 use Rattle.sym_link.specs.Machine.{passed, ended}
+use Rattle.sym_link.specs.Owing.{Owes, cost}
 use Rattle.sym_link.specs.Parts.{skipped, skipped_from, Stands}
 use Rattle.sym_link.specs.Driving.{AreAll, Fails}
 
@@ -29,16 +31,21 @@ pub record View (N P K V S C : Type 0) : Type 1 where
   pub Holds : N → S → Type 0
   -- the new nodes are the old ones and more
   pub Grows : (old new : N) → Type 0
-  -- how many nodes there are, and how many a rule may add at most where it begins and where it closes
+  -- how many nodes there are, how many a rule may add still once its parts have so many values, and how many a symbol of
+  -- so many bytes may have
   pub size : N → ℕ
-  pub at_begin : ℕ
-  pub at_close : ℕ
+  pub owes : Owes
+  pub most : (bytes : ℕ) → ℕ
   -- what the language has written beside the nodes is paid for by so many bytes of the symbol
   pub IsPaid : N → (bytes : ℕ) → Type 0
 
--- how many nodes a row may add
-abbrev pub at_most : {N P K V S C : Type 0} → View N P K V S C → ℕ
-at_most view = view.at_begin + view.at_close
+-- how many nodes the rule of a frame may add still, behind these parts
+abbrev pub owed_behind : {N P K V S C : Type 0} → View N P K V S C → Frame K → List P → ℕ
+owed_behind view frame parts = view.owes frame.rule (length parts - frame.base)
+
+-- how many it may add still behind the part that begins there
+abbrev pub owed_next : {N P K V S C : Type 0} → View N P K V S C → Frame K → List P → ℕ
+owed_next view frame parts = view.owes frame.rule (length parts - frame.base + 1)
 
 -- what every language keeps to
 pub record IsLinking {N P K V S C : Type 0} (view : View N P K V S C) : Type 0 where
@@ -53,11 +60,13 @@ pub record IsLinking {N P K V S C : Type 0} (view : View N P K V S C) : Type 0 w
   -- as many values go into a part as were known
   pub keeps_count : (rule : Open S C) (known : List V) (state : S)
       → IfOk (view.reading.between rule known state) (λ next. length next.values ≡ length known)
+  -- what the rules of a symbol's tree may add isn't more than the symbol may have
+  pub few : (tree : Tree) → IsTree view.table (Kind 0) tree → row_count tree ≤ 4 * length (spell tree) + 4 → cost view.owes tree ≤ view.most (length (spell tree))
 
 -- the symbol can be read, and the language may add so many nodes
 pub record HasRoom {N P K V S C : Type 0} (view : View N P K V S C) (s : List ℕ) (nodes : N) (more : ℕ) : Type 0 where
   pub fits : FitsSymbol s
-  pub size : view.size nodes + more ≤ at_most view * (4 * length s + 4)
+  pub size : view.size nodes + more ≤ view.most (length s)
   pub paid : view.IsPaid nodes (length s)
 
 -- The frame of code is that of an open rule of the symbol: so many values are known, and `left` are the parts that are left.
@@ -162,9 +171,9 @@ ClosesRule {V = V} {S = S} {C = C} view s old new frame parts new_parts result =
     → IsInside view s old frame (drop frame.base parts) rule known from left state → row_count_all left ≡ 0
     → Puts view new (take frame.base parts) new_parts result (ended view.reading rule known from left state)
 
--- The nodes are the old ones and at most so many more.
-abbrev pub Adds : {N P K V S C : Type 0} → View N P K V S C → (old new : N) → (most : ℕ) → Type 0
-Adds view old new most = view.Grows old new × (view.size new ≤ view.size old + most)
+-- The nodes are the old ones and at most so many more as may be added less than before.
+abbrev pub Adds : {N P K V S C : Type 0} → View N P K V S C → (old new : N) → (before after : ℕ) → Type 0
+Adds view old new before after = view.Grows old new × (view.size new + after ≤ view.size old + before)
 
 -- Where bytes up to a place have paid so far, bytes up to the new place pay now.
 abbrev pub Pays : {N P K V S C : Type 0} → View N P K V S C → (old new : N) → (at to : ℕ) → Type 0

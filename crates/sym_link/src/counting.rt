@@ -29,7 +29,7 @@ pub struct Counts {
 
 impl Linking for Counts {
     ghost use Rattle.std.specs.Prelude.{◌≡◌, ℕ, ◌+◌, ◌<◌, ◌≤◌, [], List, length, take, drop, OnOk};
-    ghost use Rattle.sym_link.specs.Linking.{View, IsLinking, HasRoom, OpensRoot, Opens, TakesToken, ClosesRule, Adds, Pays, at_most};
+    ghost use Rattle.sym_link.specs.Linking.{View, IsLinking, HasRoom, OpensRoot, Opens, TakesToken, ClosesRule, Adds, Pays, owed_behind, owed_next};
     ghost use Rattle.sym_link.specs.Counting.{counting};
     ghost use Rattle.sym_link.specs.CountingLaws.{counting_laws};
 
@@ -46,10 +46,10 @@ impl Linking for Counts {
     ghost view = { counting };
 
     fn root(&mut self, _symbol: &[u8], _rows: &[Row], _row: Row) -> Result<(), Refusal>
-        requires room { HasRoom (counting _symbol.now) _symbol.now self.old (counting _symbol.now).at_begin }
+        requires room { HasRoom (counting _symbol.now) _symbol.now self.old 0 }
         requires end { _row.end ≤ length _rows.now }
         ensures opens { OpensRoot (counting _symbol.now) _symbol.now _rows.now self.old self.new _row result }
-        ensures adds { OnOk result (Adds (counting _symbol.now) self.old self.new (counting _symbol.now).at_begin) }
+        ensures adds { OnOk result (Adds (counting _symbol.now) self.old self.new 0 0) }
         ensures pays { OnOk result (Pays (counting _symbol.now) self.old self.new 0 0) }
     {
         Ok(())
@@ -63,12 +63,12 @@ impl Linking for Counts {
         _parts: &mut Vec<Part>,
         _row: Row,
     ) -> Result<(), Refusal>
-        requires room { HasRoom (counting _symbol.now) _symbol.now self.old (counting _symbol.now).at_begin }
+        requires room { HasRoom (counting _symbol.now) _symbol.now self.old (owed_behind (counting _symbol.now) _frame _parts.old.items) }
         requires base { _frame.base ≤ length _parts.old.items }
         requires place { _row.from < length _symbol.now }
         requires end { _row.end ≤ length _rows.now }
         ensures opens { Opens (counting _symbol.now) _symbol.now _rows.now self.old self.new _frame _parts.old.items _parts.new.items _row result }
-        ensures adds { OnOk result (Adds (counting _symbol.now) self.old self.new (counting _symbol.now).at_begin) }
+        ensures adds { OnOk result (Adds (counting _symbol.now) self.old self.new (owed_behind (counting _symbol.now) _frame _parts.old.items) (owed_next (counting _symbol.now) _frame _parts.new.items)) }
         ensures pays { OnOk result ((at : ℕ) → at ≤ _row.from → Pays (counting _symbol.now) self.old self.new at _row.from) }
     {
         Ok(())
@@ -81,12 +81,12 @@ impl Linking for Counts {
         parts: &mut Vec<Part>,
         row: Row,
     ) -> Result<(), Refusal>
-        requires room { HasRoom (counting symbol.now) symbol.now self.old (at_most (counting symbol.now)) }
+        requires room { HasRoom (counting symbol.now) symbol.now self.old (owed_behind (counting symbol.now) frame parts.old.items) }
         requires base { frame.base ≤ length parts.old.items }
         requires from { row.from ≤ row.to }
         requires to { row.to ≤ length symbol.now }
         ensures takes { TakesToken (counting symbol.now) symbol.now self.old self.new frame parts.old.items parts.new.items row result }
-        ensures adds { OnOk result (Adds (counting symbol.now) self.old self.new (at_most (counting symbol.now))) }
+        ensures adds { OnOk result (Adds (counting symbol.now) self.old self.new (owed_behind (counting symbol.now) frame parts.old.items) (owed_behind (counting symbol.now) frame parts.new.items)) }
         ensures pays { OnOk result ((at : ℕ) → at ≤ row.from → (length parts.old.items ≡ frame.base → at ≤ frame.place)
             → Pays (counting symbol.now) self.old self.new at row.to) }
     {
@@ -105,11 +105,11 @@ impl Linking for Counts {
         frame: Frame<()>,
         parts: &mut Vec<Part>,
     ) -> Result<(), Refusal>
-        requires room { HasRoom (counting symbol.now) symbol.now self.old (counting symbol.now).at_close }
+        requires room { HasRoom (counting symbol.now) symbol.now self.old (owed_behind (counting symbol.now) frame parts.old.items) }
         requires base { frame.base ≤ length parts.old.items }
         requires place { frame.place < length symbol.now }
         ensures closes { ClosesRule (counting symbol.now) symbol.now self.old self.new frame parts.old.items parts.new.items result }
-        ensures adds { OnOk result (Adds (counting symbol.now) self.old self.new (counting symbol.now).at_close) }
+        ensures adds { OnOk result (Adds (counting symbol.now) self.old self.new (owed_behind (counting symbol.now) frame parts.old.items) 0) }
         ensures pays { OnOk result ((at : ℕ) → Pays (counting symbol.now) self.old self.new at at) }
     {
         let own = parts.len() - frame.base;

@@ -22,7 +22,7 @@
 // An impl writes the clauses of its methods out, with its own view in the place of `view`.
 
 ghost use Rattle.std.specs.Prelude.{◌≡◌, ℕ, ◌+◌, ◌<◌, ◌≤◌, [], List, length, take, drop, OnOk};
-ghost use Rattle.sym_link.specs.Linking.{View, IsLinking, HasRoom, OpensRoot, Opens, TakesToken, ClosesRule, Adds, Pays, at_most};
+ghost use Rattle.sym_link.specs.Linking.{View, IsLinking, HasRoom, OpensRoot, Opens, TakesToken, ClosesRule, Adds, Pays, owed_behind, owed_next};
 
 use sym_core::Refusal;
 use sym_shape::rule::Row;
@@ -56,10 +56,10 @@ pub trait Linking {
 
     /// The rule of the whole symbol begins.
     fn root(&mut self, symbol: &[u8], rows: &[Row], row: Row) -> Result<Self::Kept, Refusal>
-        requires room { HasRoom (view symbol.now) symbol.now self.old (view symbol.now).at_begin }
+        requires room { HasRoom (view symbol.now) symbol.now self.old 0 }
         requires end { row.end ≤ length rows.now }
         ensures opens { OpensRoot (view symbol.now) symbol.now rows.now self.old self.new row result }
-        ensures adds { OnOk result (Adds (view symbol.now) self.old self.new (view symbol.now).at_begin) }
+        ensures adds { OnOk result (Adds (view symbol.now) self.old self.new 0 0) }
         ensures pays { OnOk result (Pays (view symbol.now) self.old self.new 0 0) };
 
     /// A rule begins in the rule of the frame.
@@ -71,12 +71,12 @@ pub trait Linking {
         parts: &mut Vec<Self::Part>,
         row: Row,
     ) -> Result<Self::Kept, Refusal>
-        requires room { HasRoom (view symbol.now) symbol.now self.old (view symbol.now).at_begin }
+        requires room { HasRoom (view symbol.now) symbol.now self.old (owed_behind (view symbol.now) frame parts.old.items) }
         requires base { frame.base ≤ length parts.old.items }
         requires place { row.from < length symbol.now }
         requires end { row.end ≤ length rows.now }
         ensures opens { Opens (view symbol.now) symbol.now rows.now self.old self.new frame parts.old.items parts.new.items row result }
-        ensures adds { OnOk result (Adds (view symbol.now) self.old self.new (view symbol.now).at_begin) }
+        ensures adds { OnOk result (Adds (view symbol.now) self.old self.new (owed_behind (view symbol.now) frame parts.old.items) (owed_next (view symbol.now) frame parts.new.items)) }
         ensures pays { OnOk result ((at : ℕ) → at ≤ row.from → Pays (view symbol.now) self.old self.new at row.from) };
 
     /// A token is taken in the rule of the frame.
@@ -87,12 +87,12 @@ pub trait Linking {
         parts: &mut Vec<Self::Part>,
         row: Row,
     ) -> Result<(), Refusal>
-        requires room { HasRoom (view symbol.now) symbol.now self.old (at_most (view symbol.now)) }
+        requires room { HasRoom (view symbol.now) symbol.now self.old (owed_behind (view symbol.now) frame parts.old.items) }
         requires base { frame.base ≤ length parts.old.items }
         requires from { row.from ≤ row.to }
         requires to { row.to ≤ length symbol.now }
         ensures takes { TakesToken (view symbol.now) symbol.now self.old self.new frame parts.old.items parts.new.items row result }
-        ensures adds { OnOk result (Adds (view symbol.now) self.old self.new (at_most (view symbol.now))) }
+        ensures adds { OnOk result (Adds (view symbol.now) self.old self.new (owed_behind (view symbol.now) frame parts.old.items) (owed_behind (view symbol.now) frame parts.new.items)) }
         ensures pays { OnOk result ((at : ℕ) → at ≤ row.from → (length parts.old.items ≡ frame.base → at ≤ frame.place)
             → Pays (view symbol.now) self.old self.new at row.to) };
 
@@ -103,11 +103,11 @@ pub trait Linking {
         frame: Frame<Self::Kept>,
         parts: &mut Vec<Self::Part>,
     ) -> Result<(), Refusal>
-        requires room { HasRoom (view symbol.now) symbol.now self.old (view symbol.now).at_close }
+        requires room { HasRoom (view symbol.now) symbol.now self.old (owed_behind (view symbol.now) frame parts.old.items) }
         requires base { frame.base ≤ length parts.old.items }
         requires place { frame.place < length symbol.now }
         ensures closes { ClosesRule (view symbol.now) symbol.now self.old self.new frame parts.old.items parts.new.items result }
-        ensures adds { OnOk result (Adds (view symbol.now) self.old self.new (view symbol.now).at_close) }
+        ensures adds { OnOk result (Adds (view symbol.now) self.old self.new (owed_behind (view symbol.now) frame parts.old.items) 0) }
         ensures pays { OnOk result ((at : ℕ) → Pays (view symbol.now) self.old self.new at at) };
 
     ghost laws: { (s : List ℕ) → IsLinking (view s) };

@@ -4,3 +4,4 @@
 pub mod counting;
 pub mod driver;
 pub mod language;
+pub mod threads;

@@ -4,9 +4,7 @@ use Rattle.std.specs.Prelude.{OnOk, IfErr}
 use Rattle.sym_core.specs.declared.refusal.Refusal.{Refusal}
 use Rattle.sym_core.specs.declared.refusal.Refusal.TheVariants.{Memory, TooLong}
 use Rattle.sym_print.specs.declared.detail.Detail.{Detail}
-use Rattle.rust_v0.specs.Answer.{IsAnswer}
-use Rattle.rust_v0.specs.Answered.{answer}
-use Rattle.rust_v0.specs.Standing.{IsReading}
+use Rattle.rust_v0.specs.Mangled.{IsAnswer, answer, IsReading}
 use Rattle.symfilt.specs.declared.kinds.Lang.{Lang}
 use Rattle.symfilt.specs.declared.kinds.Lang.TheVariants.{Rust}
 use Rattle.symfilt.specs.declared.demangler.Counts.{Counts}

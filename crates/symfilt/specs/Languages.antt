@@ -6,9 +6,8 @@ use Rattle.sym_print.specs.declared.detail.Detail.{Detail}
 use Rattle.sym_shape.specs.declared.rule.Row.{Row}
 use Rattle.sym_shape.specs.Tree.{AreRowsOf}
 use Rattle.rust_tree.specs.Layout.{ReadSymbol}
-use Rattle.rust_v0.specs.Answered.{answer}
+use Rattle.rust_v0.specs.Mangled.{answer, IsReading, whole_of}
 use Rattle.rust_v0.specs.Rules.{v0_table}
-use Rattle.rust_v0.specs.Standing.{IsReading, whole_of}
 use Rattle.symfilt.specs.declared.demangler.Counts.{Counts}
 use Rattle.symfilt.specs.declared.kinds.Lang.{Lang}
 use Rattle.symfilt.specs.declared.kinds.Lang.TheVariants.{Cpp, Rust}

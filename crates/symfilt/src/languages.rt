@@ -3,7 +3,7 @@ ghost use Rattle.symfilt.specs.Languages.{answer_of, AreCountsOf};
 
 use crate::demangler::{Counts, Demangler};
 use crate::kinds::Lang;
-use rust_v0::{Workspace, one_answer, read_answers};
+use rust_v0::{V0, Workspace, one_answer, read_answers};
 use std::alloc::{AllocError, Global};
 use sym_core::Refusal;
 use sym_print::Detail;
@@ -54,7 +54,7 @@ impl Demangler for Languages {
         match lang {
             Lang::Cpp => Err(UNREAD),
             Lang::Rust => {
-                one_answer();
+                one_answer::<V0>();
                 lists
                     .rust
                     .demangle_into(symbol, self.limit, self.detail, out)
@@ -66,7 +66,7 @@ impl Demangler for Languages {
         match lang {
             Lang::Cpp => Err(UNREAD),
             Lang::Rust => {
-                read_answers();
+                read_answers::<V0>();
                 let read = lists.rust.read(symbol)?;
                 let counts = read.counts();
                 lists.rust.recycle(read);

@@ -14,7 +14,7 @@ settle-requires g c =
       whole = meaning_of (g.L.Linking.view c.args.symbol.now) c.requires.tree;
       follows = root_begun (g.L.Linking.view c.args.symbol.now) c.args.symbol.now c.args.rows.now c.requires.tree c.args.language.now c.root.new.self c.args.frames.now.items
           (record { rule = (slice_index_or c.args.rows.now 0 (record { rule = 0; from = 0; to = 0; end = 0 })).rule; place = (slice_index_or c.args.rows.now 0 (record { rule = 0; from = 0; to = 0; end = 0 })).from; end = (slice_index_or c.args.rows.now 0 (record { rule = 0; from = 0; to = 0; end = 0 })).end; base = 0; kept = c.in_ok-kept.kept })
-          c.args.parts.now.items (slice_index_or c.args.rows.now 0 (record { rule = 0; from = 0; to = 0; end = 0 })) (record { rule = 0; from = 0; to = 0; end = 0 }) (g.met.L.Linking.laws c.args.symbol.now) c.requires.is_shape c.requires.fresh refl
+          c.args.parts.now.items (slice_index_or c.args.rows.now 0 (record { rule = 0; from = 0; to = 0; end = 0 })) (record { rule = 0; from = 0; to = 0; end = 0 }) (g.met.L.Linking.laws c.args.symbol.now) c.requires.is_shape c.requires.fits.rows c.requires.fresh refl
           c.in_ok-kept.ensures.opens c.in_ok-kept.ensures.adds c.in_ok-kept.ensures.pays refl refl refl refl;
       fits = c.requires.fits;
     }
@@ -24,5 +24,5 @@ returns-clause-follows g c tree is =
     c.settle.ensures.follows (meaning_of (g.L.Linking.view c.args.symbol.now) tree)
     (root_begun (g.L.Linking.view c.args.symbol.now) c.args.symbol.now c.args.rows.now tree c.args.language.now c.root.new.self c.args.frames.now.items
     (record { rule = (slice_index_or c.args.rows.now 0 (record { rule = 0; from = 0; to = 0; end = 0 })).rule; place = (slice_index_or c.args.rows.now 0 (record { rule = 0; from = 0; to = 0; end = 0 })).from; end = (slice_index_or c.args.rows.now 0 (record { rule = 0; from = 0; to = 0; end = 0 })).end; base = 0; kept = c.in_ok-kept.kept })
-    c.args.parts.now.items (slice_index_or c.args.rows.now 0 (record { rule = 0; from = 0; to = 0; end = 0 })) (record { rule = 0; from = 0; to = 0; end = 0 }) (g.met.L.Linking.laws c.args.symbol.now) is c.requires.fresh refl
+    c.args.parts.now.items (slice_index_or c.args.rows.now 0 (record { rule = 0; from = 0; to = 0; end = 0 })) (record { rule = 0; from = 0; to = 0; end = 0 }) (g.met.L.Linking.laws c.args.symbol.now) is c.requires.fits.rows c.requires.fresh refl
     c.in_ok-kept.ensures.opens c.in_ok-kept.ensures.adds c.in_ok-kept.ensures.pays refl refl refl refl)

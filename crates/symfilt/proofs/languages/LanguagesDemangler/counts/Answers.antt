@@ -1,6 +1,6 @@
 use Rattle.std.proofs.Common.{ℕ, ◌+◌, ◌*◌, ◌<◌, ◌≤◌, ◌∙◌, List, length, get_or, subst, rules}
 use Rattle.std.proofs.lemmas.Result.{err_from_is_err_and}
-use Rattle.rust_v0.specs.Standing.{whole_of}
+use Rattle.rust_v0.specs.Mangled.{whole_of}
 use Rattle.symfilt.proofs.LanguageLemmas.{reading_refused, reading_answered, rust_counts}
 use Rattle.symfilt.proofs.languages.LanguagesDemangler.counts.Goals as goal
 

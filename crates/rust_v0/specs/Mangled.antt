@@ -1,0 +1,52 @@
+-- Rust's mangling: what its symbols read as, and their answers.
+use Rattle.std.proofs.Common.{◌≡◌, refl, ap, ℕ, List, Result, Ok, Err}
+use Rattle.std.specs.Prelude.{slice_get}
+use Rattle.sym_core.specs.declared.refusal.Refusal.{Refusal}
+use Rattle.sym_core.specs.declared.refusal.Refusal.TheVariants as refusals
+use Rattle.sym_core.specs.declared.NameClass.TheVariants.{Rust}
+use Rattle.sym_print.specs.declared.detail.Detail.{Detail}
+use Rattle.sym_shape.specs.Law.{IsLawful}
+use Rattle.sym_shape.specs.SheetLaws.{lawful_sheet}
+use Rattle.sym_shape.specs.Tree.{Tree, spell}
+use Rattle.sym_link.specs.Driving.{Fails}
+use Rattle.sym_link.specs.Following.{meaning_of}
+use Rattle.sym_link.specs.Reading.{◌>>=◌}
+use Rattle.sym_demangle.specs.Mangled as demangle
+use Rattle.sym_demangle.specs.Mangled.{Mangled}
+use Rattle.rust_tree.specs.Symbol as tree
+use Rattle.rust_tree.specs.Layout.{ReadSymbol, trees_of}
+use Rattle.rust_tree.specs.Nodes.{symbol_in}
+use Rattle.rust_tree.specs.Shown.{symbol_parts}
+use Rattle.rust_v0.specs.Rules.{v0_table, kinds, no_kind}
+use Rattle.rust_v0.specs.Unfold.{unfolded, symbol_of}
+use Rattle.rust_v0.specs.Linked.{v0_view}
+
+pub v0_lawful : IsLawful v0_table
+v0_lawful = lawful_sheet no_kind kinds Rust refl
+
+abbrev pub v0_mangled : Mangled tree.Symbol
+v0_mangled = record { table = v0_table; unfolded = unfolded; shown = symbol_parts; lawful = v0_lawful }
+
+-- the tree of a symbol that was read
+abbrev pub whole_of : ReadSymbol → tree.Symbol
+whole_of y = symbol_in (slice_get (trees_of y) y.root)
+
+-- what a symbol reads as, and the answer to it
+abbrev pub IsReading : List ℕ → Result tree.Symbol Refusal → Type 0
+IsReading s result = demangle.IsReading v0_mangled s result
+
+abbrev pub IsAnswer : Detail → List ℕ → ℕ → Result (List ℕ) Refusal → Type 0
+IsAnswer detail s limit result = demangle.IsAnswer v0_mangled detail s limit result
+
+abbrev pub answer : Detail → List ℕ → ℕ → Result (List ℕ) Refusal
+answer detail s limit = demangle.answer v0_mangled detail s limit
+
+abbrev pub answer_of_shape : Detail → ℕ → Tree → Result (List ℕ) Refusal
+answer_of_shape detail limit shape = demangle.answer_of_shape v0_mangled detail limit shape
+
+fails_behind : {A B : Type 0} (e : Refusal) (m : Result A Refusal) (k : A → Result B Refusal) → Fails e m → Fails e (m >>= k)
+fails_behind refusals.Memory m k fails = tt
+fails_behind e m k fails = ap (λ r. r >>= k) fails
+
+pub v0_fails : (shape : Tree) (e : Refusal) → Fails e (meaning_of (v0_view (spell shape)) shape) → Fails e (unfolded shape)
+v0_fails shape e fails = fails_behind e (meaning_of (v0_view (spell shape)) shape) (λ whole. symbol_of whole.value) fails

@@ -1,0 +1,112 @@
+// Rust's mangling, as the demangler takes it.
+
+ghost use Rattle.std.specs.Prelude.{◌≡◌, ℕ, ◌∷◌, [], List, OnOk, IfErr, Ok};
+ghost use Rattle.sym_core.specs.Number.{FitsSymbol};
+ghost use Rattle.sym_core.specs.declared.refusal.Refusal.TheVariants as refusals;
+ghost use Rattle.sym_print.specs.declared.layout.Part.TheVariants as parts;
+ghost use Rattle.sym_shape.specs.Tree.{Tree};
+ghost use Rattle.sym_demangle.specs.Standing.{Begins, IsLinked};
+ghost use Rattle.rust_tree.specs.Layout.{MayCome, unshared_of};
+ghost use Rattle.rust_tree.specs.Shown.{symbol_parts};
+ghost use Rattle.rust_v0.specs.declared.part.Part.TheVariants as part;
+ghost use Rattle.rust_v0.specs.Linked.{v0_view};
+ghost use Rattle.rust_v0.specs.Mangled.{whole_of};
+ghost use Rattle.rust_v0.specs.Unfold.{unfolded};
+
+use crate::grammar::V0;
+use crate::language::Linked;
+use crate::part::Part;
+use rust_tree::{Context, Detail, Nodes, Symbol};
+use std::alloc::Global;
+use std::mem;
+use sym_core::Refusal;
+use sym_demangle::Mangling;
+use sym_print::Item;
+
+/// The node of a whole symbol, for which the one part stands.
+fn whole_node(parts: &[Part]) -> u32
+    requires { (node : ℕ) × (parts.now ≡ part.Symbol node ∷ []) }
+    ensures { parts.now ≡ part.Symbol result ∷ [] }
+{
+    match parts {
+        [Part::Symbol(node)] => *node,
+        _ => unreachable!(),
+    }
+}
+
+impl Mangling for V0 {
+    ghost use Rattle.std.specs.Prelude.{refl};
+    ghost use Rattle.rust_tree.specs.Symbol as tree;
+    ghost use Rattle.rust_v0.specs.Mangled.{v0_mangled, v0_fails, whole_of};
+
+    type Linked = Linked;
+
+    type Symbol = Symbol;
+
+    ghost Whole = { tree.Symbol };
+
+    ghost mangled = { v0_mangled };
+
+    ghost whole_of = { whole_of };
+
+    ghost bytes_of = { λ y. y.bytes };
+
+    ghost rows_of = { λ y. y.rows };
+
+    ghost steps_of = { λ y. y.steps };
+
+    fn grammar() -> V0 {
+        V0
+    }
+
+    fn idle(alloc: Global) -> Linked {
+        Linked::idle(alloc)
+    }
+
+    fn restart(linked: &mut Linked, symbol: &[u8]) -> Result<(), Refusal>
+        requires { FitsSymbol symbol.now }
+        ensures begins { OnOk result (Begins (v0_view symbol.now) linked.new) }
+        ensures memory { IfErr result (λ e. e ≡ refusals.Memory) }
+    {
+        linked.restart(symbol)
+    }
+
+    fn finish(
+        bytes: Vec<u8>,
+        linked: &mut Linked,
+        parts: &[Part],
+        rows: u32,
+        steps: u32,
+    ) -> Symbol
+        requires { (shape : Tree) × IsLinked (v0_view bytes.items) bytes.items linked.old parts.now rows steps shape }
+        ensures bytes { result.bytes ≡ bytes.items }
+        ensures whole { (shape : Tree) → IsLinked (v0_view bytes.items) bytes.items linked.old parts.now rows steps shape → Ok (whole_of result) ≡ unfolded shape }
+        ensures rows { result.rows ≡ rows }
+        ensures steps { result.steps ≡ steps }
+    {
+        let root = whole_node(parts);
+        let nodes = mem::replace(&mut linked.nodes, Nodes::new(linked.alloc));
+        Symbol::new(bytes, nodes, root, rows, steps)
+    }
+
+    fn root(symbol: &Symbol, detail: Detail) -> Item<Context>
+        ensures may_come { MayCome symbol.now (parts.Sub result) }
+        ensures shows { unshared_of symbol.now result ≡ symbol_parts detail (whole_of symbol.now) }
+    {
+        symbol.root_as(detail)
+    }
+
+    fn recycle(linked: &mut Linked, symbol: Symbol) -> Vec<u8> {
+        let (bytes, nodes) = symbol.into_lists();
+        linked.nodes = nodes;
+        bytes
+    }
+
+    fn refuses_bad_tokens() {}
+
+    ghost table_is = { refl };
+
+    ghost view_table = { λ s. refl };
+
+    ghost fails = { v0_fails };
+}

@@ -1,0 +1,29 @@
+-- Why a reader that is fed refuses.
+use Rattle.std.proofs.Common.{◌≡◌, ◌≢◌, ◌++◌, ◌+◌, ◌∙◌, ap, subst, ℕ, List, Bool, true, false, length, take, drop, eqb, Bor, Option, Some}
+use Rattle.std.specs.Prelude.{MatchOption}
+use Rattle.std.specs.Cmp.Lexicographic.{pointwise}
+use Rattle.std.proofs.lemmas.Bool.Decides.{Decides-eqb}
+use Rattle.std.proofs.lemmas.Slice.Eq.{strip_prefix_is}
+use Rattle.sym_core.specs.declared.refusal.Refusal.{Refusal}
+use Rattle.sym_core.specs.declared.refusal.Refusal.TheVariants.{Malformed}
+use Rattle.sym_shape.specs.Fed.{IsReason}
+use Rattle.sym_shape.specs.Reader.{IsMalformedOrMemory}
+use Rattle.sym_shape.specs.Table.{Table}
+
+-- once the end is told, a reader's reason is that of the whole symbol
+pub reason_told : (g : Table) (s : List ℕ) (ended : Bool) (e : Refusal) → ended ≡ true → IsReason g ended s e → IsMalformedOrMemory g s e
+reason_told g s ended (Malformed at) told reason = subst (λ b. IsReason g b s (Malformed at)) told reason
+reason_told g s ended e told reason = reason
+
+-- before that it is that of the symbol whatever comes behind
+pub reason_whatever : (g : Table) (s rest : List ℕ) (ended : Bool) (e : Refusal) → ended ≡ false → IsReason g ended s e → IsMalformedOrMemory g (s ++ rest) e
+reason_whatever g s rest ended (Malformed at) untold reason = subst (λ b. IsReason g b s (Malformed at)) untold reason rest
+reason_whatever g s rest ended e untold reason = reason
+
+-- what stands behind a prefix that was taken off
+pub behind_prefix : (s prefix front : List ℕ) (found : Option (Bor (List ℕ))) (rest : Bor (List ℕ))
+    → MatchOption found (pointwise eqb (take (length prefix) s) prefix ≡ false) (λ x. (pointwise eqb (take (length prefix) s) prefix ≡ true) × (x.now ≡ drop (length prefix) s) × (length x.now + length prefix ≡ length s))
+    → found ≡ Some rest → prefix ≡ front → s ≡ front ++ rest.now
+behind_prefix s prefix front found rest cases is same =
+    subst (λ (r : Option (Bor (List ℕ))). MatchOption r ((xs : List ℕ) → s ≢ prefix ++ xs) (λ x. s ≡ prefix ++ x.now)) is (strip_prefix_is Decides-eqb s prefix found cases)
+    ∙ ap (λ bs. bs ++ rest.now) same

@@ -1,0 +1,4 @@
+pub mod Standing
+pub mod Answering
+pub mod Reasons
+pub mod Feeding

@@ -1,0 +1,17 @@
+use Rattle.std.proofs.Common.{◌≡◌, ◌≤◌, ◌<◌, ap, subst}
+use Rattle.std.proofs.lemmas.Result.{err_from_is_err_and}
+use Rattle.sym_demangle.proofs.Answering.{answer_refused, answer_printed, answer_not_printed}
+use Rattle.sym_demangle.proofs.demangling.demangle_as.Goals as goal
+
+pub returns-in_err-symbol-clause-refused : goal.returns-in_err-symbol-clause-refused
+returns-in_err-symbol-clause-refused g c =
+    let p = err_from_is_err_and c.from_residual.result c.from_residual.ensures.1 in
+    rw (p.1, p.2) (answer_refused g.M.Mangling.mangled c.args.detail c.args.s.now c.args.limit c.in_err-symbol.field-0.0 c.in_err-symbol.ensures.refused)
+
+pub returns-clause-text : goal.returns-clause-text
+returns-clause-text g c =
+    answer_printed g.M.Mangling.mangled (λ text. text.items) c.args.detail c.args.s.now c.args.limit (g.M.Mangling.whole_of c.in_ok-symbol.symbol) _ c.root.ensures.shows c.print.result c.in_ok-symbol.ensures.symbol c.print.ensures.text c.print.ensures.within
+
+pub returns-clause-refused : goal.returns-clause-refused
+returns-clause-refused g c =
+    answer_not_printed g.M.Mangling.mangled c.args.detail c.args.s.now c.args.limit (g.M.Mangling.whole_of c.in_ok-symbol.symbol) _ c.root.ensures.shows c.print.result c.in_ok-symbol.ensures.symbol c.print.ensures.refusals c.print.ensures.too_long

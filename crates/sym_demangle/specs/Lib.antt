@@ -1,0 +1,2 @@
+pub mod Mangled
+pub mod Standing

@@ -1,0 +1,56 @@
+-- A symbol that is being linked.
+use Rattle.std.specs.Prelude.{◌≡◌, ℕ, ◌+◌, ◌*◌, ◌≤◌, List, length, Bool, true, false, Option, None}
+use Rattle.sym_core.specs.Number.{FitsSymbol}
+use Rattle.sym_core.specs.declared.refusal.Refusal.{Refusal}
+use Rattle.sym_shape.specs.declared.rule.Row.{Row}
+use Rattle.sym_shape.specs.Reader.{AreFew}
+use Rattle.sym_shape.specs.Tree.{Tree}
+use Rattle.sym_link.specs.declared.language.Frame.{Frame}
+use Rattle.sym_link.specs.Linking.{View}
+use Rattle.sym_link.specs.Following.{Fits, IsShape, IsDone, IsDriving, meaning_of}
+
+-- How far a symbol is linked: its bytes, how many rows its shape has and how many steps the reader took, the linker's own steps,
+-- whether it has answered that all is done, and the refusal if there was one.
+pub record Progress : Type 0 where
+  pub bytes : List ℕ
+  pub rows : ℕ
+  pub read_steps : ℕ
+  pub steps : ℕ
+  pub done : Bool
+  pub refused : Option Refusal
+
+-- nothing is linked yet
+abbrev pub unlinked : (bytes : List ℕ) → (rows read_steps : ℕ) → Progress
+unlinked bytes rows read_steps = record { bytes = bytes; rows = rows; read_steps = read_steps; steps = 0; done = false; refused = None }
+
+-- The steps of the reader and the linker together, and the rows, are few for the bytes.
+pub record AreFewInAll (progress : Progress) : Type 0 where
+  pub steps : progress.read_steps + progress.steps ≤ 32 * length progress.bytes + 48
+  pub rows : progress.rows ≤ 4 * length progress.bytes + 4
+
+-- a table of nodes with which a symbol begins
+pub record Begins {N P K V S C : Type 0} (view : View N P K V S C) (nodes : N) : Type 0 where
+  pub size : view.size nodes ≡ 0
+  pub holds : view.Holds nodes view.first
+  pub paid : view.IsPaid nodes 0
+
+-- A linker of the rows of a symbol's one tree is on its way, or at its end.
+pub record IsLinker {N P K V S C : Type 0} (view : View N P K V S C) (s : List ℕ) (rows : List Row) (read_steps : ℕ) (nodes : N) (steps : ℕ)
+    (refused : Option Refusal) (next : ℕ) (frames : List (Frame K)) (parts : List P) (done : Bool) : Type 0 where
+  pub shape : Tree
+  pub is_shape : IsShape view.table s rows shape
+  pub fits : Fits s rows
+  pub few : AreFew read_steps (length rows) (length s)
+  pub driving : IsDriving view s rows shape nodes steps refused next frames parts
+  pub ended : done ≡ true → IsDone view s rows (meaning_of view shape) nodes parts
+
+-- A symbol is linked: its nodes and its one part are what its shape means, and rows and steps are few.
+pub record IsLinked {N P K V S C : Type 0} (view : View N P K V S C) (s : List ℕ) (nodes : N) (parts : List P) (count steps : ℕ) (shape : Tree) : Type 0 where
+  pub rows : List Row
+  pub is_shape : IsShape view.table s rows shape
+  pub fits : FitsSymbol s
+  pub done : IsDone view s rows (meaning_of view shape) nodes parts
+  pub counted : count ≡ length rows
+  pub rows_few : count ≤ 4 * length s + 4
+  pub each : count ≤ steps
+  pub steps_few : steps ≤ 32 * length s + 48

@@ -1,0 +1,166 @@
+// From the rows of a symbol's shape to what the symbol stands for.
+
+ghost use Rattle.std.specs.Prelude.{◌≡◌, ℕ, ◌+◌, ◌≤◌, [], ◌∷◌, List, length, true, false, Some, None, Ok, Err, OnOk, OnErr, IfOk, IfErr, IfSome};
+ghost use Rattle.sym_core.specs.Number.{FitsSymbol};
+ghost use Rattle.sym_core.specs.declared.refusal.Refusal.TheVariants as refusals;
+ghost use Rattle.sym_shape.specs.Tree.{AreRowsOf};
+ghost use Rattle.sym_shape.specs.Reader.{AreFew};
+ghost use Rattle.sym_demangle.specs.Mangled.{StandsFor, IsRefused};
+ghost use Rattle.sym_demangle.specs.Standing.{Progress, unlinked, AreFewInAll};
+
+use crate::mangling::Mangling;
+use std::alloc::Global;
+use std::marker::Model;
+use sym_core::Refusal;
+use sym_link::driver::Driver;
+use sym_shape::Shape;
+
+/// Links a symbol: goes over the rows of its shape, and makes nodes for what they stand for.
+///
+/// `step` is called until it answers true, or `run` once; then `finish` gives the symbol.
+#[derive(Drop)]
+pub struct Linker<M: Mangling> {
+    bytes: Vec<u8>,
+    shape: Shape,
+    linked: M::Linked,
+    driver: Driver<M::Linked>,
+    done: bool,
+}
+
+impl<M: Mangling> Model for Linker<M> {
+    ghost use Rattle.std.specs.Prelude.{length};
+    ghost use Rattle.sym_demangle.specs.Standing.{Progress, IsLinker};
+
+    ghost Value = { Progress };
+
+    ghost view = { λ l. record { bytes = l.bytes.items; rows = length l.shape.rows; read_steps = l.shape.steps; steps = l.driver.steps; done = l.done; refused = l.driver.refused } };
+
+    ghost invariant = { λ l. IsLinker (M.Linked.view l.bytes.items) l.bytes.items l.shape.rows l.shape.steps l.linked l.driver.steps l.driver.refused l.driver.next l.driver.frames.items l.driver.parts.items l.done };
+}
+
+impl<M: Mangling> Linker<M> {
+    /// A linker of a symbol's bytes and their shape.
+    ///
+    /// # Errors
+    ///
+    /// `Memory` where a list couldn't grow.
+    pub fn new(alloc: Global, bytes: Vec<u8>, shape: Shape) -> Result<Linker<M>, Refusal>
+        requires fits { FitsSymbol bytes.items }
+        requires rows { AreRowsOf M.mangled.table bytes.items shape.rows }
+        requires few { AreFew shape.steps (length shape.rows) (length bytes.items) }
+        ensures unlinked { IfOk result (λ linker. linker ≡ unlinked bytes.items (length shape.rows) shape.steps) }
+        ensures memory { IfErr result (λ e. e ≡ refusals.Memory) }
+    {
+        let mut linked = M::idle(alloc);
+        M::restart(&mut linked, &bytes)?;
+        Ok(Linker {
+            bytes,
+            shape,
+            linked,
+            driver: Driver::new(alloc),
+            done: false,
+        })
+    }
+
+    /// How many steps the linker took, without those of the reader.
+    pub fn steps(&self) -> u32
+        ensures steps { result ≡ self.now.steps }
+        ensures few { AreFewInAll self.now }
+    {
+        self.driver.steps
+    }
+
+    /// One step over the rows; true once nothing is left to do. A step that answers true isn't counted.
+    ///
+    /// # Errors
+    ///
+    /// `BadReference` and `BadValue` at the first bad token of the symbol, or `Memory`; and the same from then on.
+    pub fn step(&mut self) -> Result<bool, Refusal>
+        ensures bytes { self.new.bytes ≡ self.old.bytes }
+        ensures rows { self.new.rows ≡ self.old.rows }
+        ensures read_steps { self.new.read_steps ≡ self.old.read_steps }
+        // A step is counted, the first that refuses too, and goes on.
+        ensures moved { result ≡ Ok false → (self.new.steps ≡ self.old.steps + 1) × (self.new.done ≡ false) }
+        ensures counted { self.old.refused ≡ None → OnErr result (self.new.steps ≡ self.old.steps + 1) }
+        // Nothing is left to do, and nothing was done.
+        ensures done { result ≡ Ok true → self.new.done ≡ true }
+        ensures same { result ≡ Ok true → self.new.steps ≡ self.old.steps }
+        ensures open { OnOk result (self.new.refused ≡ None) }
+        // A refusal has its reason, is kept, and is answered again.
+        ensures refused { IfErr result (IsRefused M.mangled self.old.bytes) }
+        ensures kept { IfErr result (λ e. self.new.refused ≡ Some e) }
+        ensures again { IfSome self.old.refused (λ e. (result ≡ Err e) × (self.new ≡ self.old)) }
+        ensures few { AreFewInAll self.new }
+    {
+        if let Some(refusal) = self.driver.refused {
+            return Err(refusal);
+        }
+        if self.done {
+            return Ok(true);
+        }
+        match self
+            .driver
+            .step(&mut self.linked, &self.bytes, self.shape.rows())
+        {
+            Ok(done) => {
+                self.done = done;
+                Ok(done)
+            }
+            Err(refusal) => Err(refusal),
+        }
+    }
+
+    /// Steps until nothing is left to do, with the same outcome as one step after the other.
+    ///
+    /// # Errors
+    ///
+    /// Those of `step`.
+    pub fn run(&mut self) -> Result<(), Refusal>
+        ensures bytes { self.new.bytes ≡ self.old.bytes }
+        ensures rows { self.new.rows ≡ self.old.rows }
+        ensures read_steps { self.new.read_steps ≡ self.old.read_steps }
+        ensures done { OnOk result (self.new.done ≡ true) }
+        ensures open { OnOk result (self.new.refused ≡ None) }
+        ensures refused { IfErr result (IsRefused M.mangled self.old.bytes) }
+        ensures kept { IfErr result (λ e. self.new.refused ≡ Some e) }
+        ensures again { IfSome self.old.refused (λ e. (result ≡ Err e) × (self.new ≡ self.old)) }
+        ensures few { AreFewInAll self.new }
+    {
+        if let Some(refusal) = self.driver.refused {
+            return Err(refusal);
+        }
+        if self.done {
+            return Ok(());
+        }
+        match self
+            .driver
+            .run(&mut self.linked, &self.bytes, self.shape.rows())
+        {
+            Ok(()) => {
+                self.done = true;
+                Ok(())
+            }
+            Err(refusal) => Err(refusal),
+        }
+    }
+
+    /// The symbol. It takes no memory.
+    pub fn finish(self) -> M::Symbol
+        requires { self.done ≡ true }
+        ensures bytes { M.bytes_of result ≡ self.bytes }
+        ensures stands { StandsFor M.mangled self.bytes (Ok (M.whole_of result)) }
+        ensures rows { M.rows_of result ≡ self.rows }
+        ensures steps { M.steps_of result ≡ self.read_steps + self.steps }
+    {
+        let Linker {
+            bytes,
+            shape,
+            mut linked,
+            driver,
+            ..
+        } = self;
+        let rows = shape.rows().len() as u32;
+        let steps = shape.steps() + driver.steps;
+        M::finish(bytes, &mut linked, &driver.parts, rows, steps)
+    }
+}

@@ -1,0 +1,87 @@
+// What a mangling tells the linker, and what it makes of a linked symbol.
+
+ghost use Rattle.std.specs.Prelude.{◌≡◌, ℕ, List, OnOk, IfErr, Ok, Err};
+ghost use Rattle.sym_core.specs.Number.{FitsSymbol};
+ghost use Rattle.sym_core.specs.declared.refusal.Refusal.{Refusal};
+ghost use Rattle.sym_core.specs.declared.refusal.Refusal.TheVariants as refusals;
+ghost use Rattle.sym_print.specs.declared.detail.Detail.{Detail};
+ghost use Rattle.sym_print.specs.declared.layout.Part.TheVariants as part;
+ghost use Rattle.sym_shape.specs.Tree.{Tree, spell};
+ghost use Rattle.sym_link.specs.Driving.{Fails};
+ghost use Rattle.sym_link.specs.Following.{meaning_of};
+ghost use Rattle.sym_demangle.specs.Mangled.{Mangled, RefusesBadTokens};
+ghost use Rattle.sym_demangle.specs.Standing.{Begins, IsLinked};
+
+use std::alloc::Global;
+use sym_core::Refusal;
+use sym_link::language::Linking;
+use sym_print::{Detail, Item, Layout};
+use sym_shape::grammar::Grammar;
+
+/// A mangling: its grammar, the nodes that are made of a shape's rows, and the symbol that these come to.
+pub trait Mangling: Grammar + Copy {
+    /// The nodes of a symbol that is being linked.
+    type Linked: Linking + Drop;
+
+    /// A symbol that was read.
+    type Symbol: Layout + Drop;
+
+    // what a symbol stands for
+    ghost Whole: { Type 0 };
+
+    ghost mangled: { Mangled Whole };
+
+    // the tree of a symbol that was read, its bytes, and the numbers of its rows and of the steps that reading took
+    ghost whole_of: { Self.Symbol → Whole };
+
+    ghost bytes_of: { Self.Symbol → List ℕ };
+
+    ghost rows_of: { Self.Symbol → ℕ };
+
+    ghost steps_of: { Self.Symbol → ℕ };
+
+    /// The mangling.
+    fn grammar() -> Self;
+
+    /// A table without nodes. It takes no memory.
+    fn idle(alloc: Global) -> Self::Linked;
+
+    /// Forgets the symbol, and begins another one. The memory of the lists is kept.
+    fn restart(linked: &mut Self::Linked, symbol: &[u8]) -> Result<(), Refusal>
+        requires { FitsSymbol symbol.now }
+        ensures begins { OnOk result (Begins (Self.Linked.view symbol.now) linked.new) }
+        ensures memory { IfErr result (λ e. e ≡ refusals.Memory) };
+
+    /// The symbol that was linked. It takes no memory.
+    fn finish(
+        bytes: Vec<u8>,
+        linked: &mut Self::Linked,
+        parts: &[<Self::Linked as Linking>::Part],
+        rows: u32,
+        steps: u32,
+    ) -> Self::Symbol
+        requires { (shape : Tree) × IsLinked (Self.Linked.view bytes.items) bytes.items linked.old parts.now rows steps shape }
+        ensures bytes { bytes_of result ≡ bytes.items }
+        ensures whole { (shape : Tree) → IsLinked (Self.Linked.view bytes.items) bytes.items linked.old parts.now rows steps shape → Ok (whole_of result) ≡ mangled.unfolded shape }
+        ensures rows { rows_of result ≡ rows }
+        ensures steps { steps_of result ≡ steps };
+
+    /// The item of a whole symbol in a detail.
+    fn root(symbol: &Self::Symbol, detail: Detail) -> Item<<Self::Symbol as Layout>::Ctx>
+        ensures may_come { Self.Symbol.may_come symbol.now (part.Sub result) }
+        ensures shows { Self.Symbol.unshared symbol.now result ≡ mangled.shown detail (whole_of symbol.now) };
+
+    /// Takes back the lists of a symbol: its nodes, and its bytes, which are answered. It takes no memory.
+    fn recycle(linked: &mut Self::Linked, symbol: Self::Symbol) -> Vec<u8>;
+
+    /// What is well shaped is refused for a bad token alone.
+    fn refuses_bad_tokens()
+        ensures { RefusesBadTokens mangled };
+
+    ghost table_is: { Self.table ≡ mangled.table };
+
+    ghost view_table: { (s : List ℕ) → (Self.Linked.view s).table ≡ mangled.table };
+
+    // a shape whose meaning is a refusal stands for that refusal
+    ghost fails: { (shape : Tree) (refusal : Refusal) → Fails refusal (meaning_of (Self.Linked.view (spell shape)) shape) → Fails refusal (mangled.unfolded shape) };
+}

@@ -1,0 +1,229 @@
+// Symbols that are read and printed one after the other with the same lists.
+
+ghost use Rattle.std.specs.Prelude.{◌≡◌, ◌≢◌, ◌⊎◌, ◌++◌, ◌+◌, ◌<◌, ◌≤◌, ℕ, List, length, false, true, None, Ok, Err, OnOk, OnErr, IfOk, IfErr};
+ghost use Rattle.sym_core.specs.Number.{FitsSymbol};
+ghost use Rattle.sym_core.specs.declared.refusal.Refusal.TheVariants as refusals;
+ghost use Rattle.sym_print.specs.Unshared.{text_of, cost_of};
+ghost use Rattle.sym_shape.specs.Reader.{AreFew};
+ghost use Rattle.sym_shape.specs.Tree.{AreRowsOf};
+ghost use Rattle.sym_shape.specs.declared.rule.Row.{Row};
+ghost use Rattle.sym_demangle.specs.Mangled.{IsReading, IsAnswer, StandsFor, IsRefused};
+
+use crate::mangling::Mangling;
+use std::alloc::Global;
+use std::mem;
+use sym_core::Refusal;
+use sym_link::driver::Driver;
+use sym_print::{Detail, Layout, Printer};
+use sym_shape::{Reader, Shape, read_into};
+
+/// The lists with which symbols are read and printed, one after the other.
+///
+/// They grow with the largest symbol and text so far, and stay as large: nothing gives their memory back but the end of the
+/// workspace. A symbol takes its lists along; `recycle` gives them back.
+///
+/// Of a symbol whose bytes come in pieces `read_ahead` reads those that are there; the answers are the same without it.
+#[derive(Drop)]
+pub struct Workspace<M: Mangling> {
+    alloc: Global,
+    bytes: Vec<u8>,
+    shape: Shape,
+    linked: M::Linked,
+    driver: Driver<M::Linked>,
+    printer: Printer<<M::Symbol as Layout>::Ctx>,
+    // what was read ahead of a symbol, whose end isn't told
+    ahead: Reader<M>,
+    ghost ahead_is_open: { ahead.ended ≡ false },
+}
+
+/// Feeds a reader more bytes, if there are any.
+fn feed_more<M: Mangling>(reader: &mut Reader<M>, more: &[u8]) -> Result<(), Refusal>
+    requires open { reader.old.ended ≡ false }
+    requires room { length reader.old.bytes + length more.now ≤ 16777216 }
+    ensures bytes { OnOk result (reader.new.bytes ≡ reader.old.bytes ++ more.now) }
+    ensures refusal { OnOk result (reader.new.refused ≡ reader.old.refused) }
+    ensures open { reader.new.ended ≡ false }
+    ensures memory { reader.old.refused ≡ None → IfErr result (λ e. e ≡ refusals.Memory) }
+{
+    if more.is_empty() {
+        return Ok(());
+    }
+    reader.feed(more)
+}
+
+/// Tells a reader the rest of its symbol's bytes and their end, and reads them.
+fn read_rest<M: Mangling>(reader: &mut Reader<M>, rest: &[u8]) -> Result<(), Refusal>
+    requires open { reader.old.ended ≡ false }
+    requires fits { FitsSymbol (reader.old.bytes ++ rest.now) }
+    ensures bytes { OnOk result (reader.new.bytes ≡ reader.old.bytes ++ rest.now) }
+    ensures ready { OnOk result (reader.new.ready ≡ true) }
+    ensures open { OnOk result (reader.new.refused ≡ None) }
+    ensures refused { IfErr result (λ e. (e ≡ refusals.Memory) ⊎ IsReading M.mangled (reader.old.bytes ++ rest.now) (Err e)) }
+    ensures never_too_long { IfErr result (λ e. e ≢ refusals.TooLong) }
+{
+    reader.run(&M::grammar())?;
+    feed_more(reader, rest)?;
+    reader.feed(&[])?;
+    reader.run(&M::grammar())?;
+    Ok(())
+}
+
+impl<M: Mangling> Workspace<M> {
+    /// Lists that have no memory yet.
+    pub fn new(alloc: Global) -> Workspace<M> {
+        Workspace {
+            alloc,
+            bytes: Vec::new(alloc),
+            shape: Shape::new(alloc),
+            linked: M::idle(alloc),
+            driver: Driver::new(alloc),
+            printer: Printer::idle(alloc),
+            ahead: Reader::with_lists(&M::grammar(), Vec::new(alloc), Shape::new(alloc)),
+        }
+    }
+
+    /// Reads what is there of a symbol that may go on, where that is half as much again as was read ahead before: a token
+    /// that comes in small pieces isn't read again for each. Reading a symbol that begins with these bytes goes on from there.
+    pub fn read_ahead(&mut self, front: &[u8])
+        requires { FitsSymbol front.now }
+    {
+        let known = self.ahead.len() as usize;
+        if front.len() <= known + known / 2 {
+            return;
+        }
+        let more = match front.strip_prefix(self.ahead.bytes()) {
+            Some(more) => more,
+            None => {
+                self.ahead.reset();
+                front
+            }
+        };
+        if feed_more(&mut self.ahead, more).is_ok() {
+            let _known = self.ahead.run(&M::grammar());
+        }
+    }
+
+    /// Reads the symbol that was read ahead, to whose bytes these come.
+    fn read_on(&mut self, rest: &[u8]) -> Result<M::Symbol, Refusal>
+        requires fits { FitsSymbol (self.old.ahead.bytes ++ rest.now) }
+        ensures bytes { IfOk result (λ symbol. M.bytes_of symbol ≡ self.old.ahead.bytes ++ rest.now) }
+        ensures symbol { IfOk result (λ symbol. IsReading M.mangled (self.old.ahead.bytes ++ rest.now) (Ok (M.whole_of symbol))) }
+        ensures rows { IfOk result (λ symbol. (rows : List Row) × AreRowsOf M.mangled.table (self.old.ahead.bytes ++ rest.now) rows × (M.rows_of symbol ≡ length rows)) }
+        ensures refused { IfErr result (λ e. (e ≡ refusals.Memory) ⊎ IsReading M.mangled (self.old.ahead.bytes ++ rest.now) (Err e)) }
+        ensures never_too_long { IfErr result (λ e. e ≢ refusals.TooLong) }
+    {
+        let alloc = self.alloc;
+        M::refuses_bad_tokens();
+        let idle = Reader::with_lists(&M::grammar(), Vec::new(alloc), Shape::new(alloc));
+        let mut reader = mem::replace(&mut self.ahead, idle);
+        if let Err(refusal) = read_rest(&mut reader, rest) {
+            reader.reset();
+            self.ahead = reader;
+            return Err(refusal);
+        }
+        let (bytes, shape) = reader.finish()?;
+        let bytes = mem::replace(&mut self.bytes, bytes);
+        let shape = mem::replace(&mut self.shape, shape);
+        self.ahead = Reader::with_lists(&M::grammar(), bytes, shape);
+        self.link()
+    }
+
+    /// Links the symbol that the bytes are, whose shape was read.
+    fn link(&mut self) -> Result<M::Symbol, Refusal>
+        requires fits { FitsSymbol self.old.bytes.items }
+        requires rows { AreRowsOf M.mangled.table self.old.bytes.items self.old.shape.rows }
+        requires few { AreFew self.old.shape.steps (length self.old.shape.rows) (length self.old.bytes.items) }
+        ensures bytes { IfOk result (λ symbol. M.bytes_of symbol ≡ self.old.bytes.items) }
+        ensures stands { IfOk result (λ symbol. StandsFor M.mangled self.old.bytes.items (Ok (M.whole_of symbol))) }
+        ensures rows { IfOk result (λ symbol. M.rows_of symbol ≡ length self.old.shape.rows) }
+        ensures refused { IfErr result (IsRefused M.mangled self.old.bytes.items) }
+    {
+        M::restart(&mut self.linked, &self.bytes)?;
+        self.driver.reset();
+        self.driver
+            .run(&mut self.linked, &self.bytes, self.shape.rows())?;
+        let rows = self.shape.rows().len() as u32;
+        let steps = self.shape.steps() + self.driver.steps;
+        let bytes = mem::replace(&mut self.bytes, Vec::new(self.alloc));
+        Ok(M::finish(bytes, &mut self.linked, &self.driver.parts, rows, steps))
+    }
+
+    /// Reads a symbol, as the function `read` does.
+    ///
+    /// # Errors
+    ///
+    /// `Malformed` at the first bad byte of a symbol that isn't well shaped, `BadReference` and `BadValue` at the first bad token of
+    /// one that is, `Memory` where a list couldn't grow.
+    pub fn read(&mut self, s: &[u8]) -> Result<M::Symbol, Refusal>
+        requires { FitsSymbol s.now }
+        ensures bytes { IfOk result (λ symbol. M.bytes_of symbol ≡ s.now) }
+        ensures symbol { IfOk result (λ symbol. IsReading M.mangled s.now (Ok (M.whole_of symbol))) }
+        // The rows that are counted are those of the symbol's one shape.
+        ensures rows { IfOk result (λ symbol. (rows : List Row) × AreRowsOf M.mangled.table s.now rows × (M.rows_of symbol ≡ length rows)) }
+        ensures refused { IfErr result (λ e. (e ≡ refusals.Memory) ⊎ IsReading M.mangled s.now (Err e)) }
+        ensures never_too_long { IfErr result (λ e. e ≢ refusals.TooLong) }
+    {
+        M::refuses_bad_tokens();
+        if self.ahead.len() > 0
+            && let Some(rest) = s.strip_prefix(self.ahead.bytes())
+        {
+            return self.read_on(rest);
+        }
+        read_into(&mut self.shape, &M::grammar(), s)?;
+        self.bytes.clear();
+        self.bytes.extend_from_slice(s)?;
+        self.link()
+    }
+
+    /// Appends the text of a symbol in a detail, if it costs at most the limit.
+    ///
+    /// # Errors
+    ///
+    /// `TooLong` exactly where it costs more, `Memory` where a list couldn't grow. The list is then as it was.
+    pub fn print(
+        &mut self,
+        symbol: &M::Symbol,
+        limit: u32,
+        detail: Detail,
+        out: &mut Vec<u8>,
+    ) -> Result<(), Refusal>
+        ensures text { OnOk result (out.new.items ≡ out.old.items ++ text_of (M.mangled.shown detail (M.whole_of symbol.now))) }
+        ensures within { OnOk result (cost_of (M.mangled.shown detail (M.whole_of symbol.now)) ≤ limit) }
+        ensures refusals { IfErr result (λ e. (e ≡ refusals.TooLong) ⊎ (e ≡ refusals.Memory)) }
+        ensures too_long { result ≡ Err refusals.TooLong → limit < cost_of (M.mangled.shown detail (M.whole_of symbol.now)) }
+        ensures same { OnErr result (out.new.items ≡ out.old.items) }
+    {
+        self.printer.reset(M::root(symbol, detail), limit)?;
+        self.printer.run(symbol)?;
+        out.extend_from_slice(self.printer.text())?;
+        Ok(())
+    }
+
+    /// Takes back the lists of a symbol, to read the next one with them.
+    pub fn recycle(&mut self, symbol: M::Symbol) {
+        self.bytes = M::recycle(&mut self.linked, symbol);
+    }
+
+    /// Appends the text of a symbol in a detail, if it costs at most the limit.
+    ///
+    /// # Errors
+    ///
+    /// Those of `read`, and `TooLong` exactly where the text costs more. The list is then as it was.
+    pub fn demangle_into(
+        &mut self,
+        s: &[u8],
+        limit: u32,
+        detail: Detail,
+        out: &mut Vec<u8>,
+    ) -> Result<(), Refusal>
+        requires { FitsSymbol s.now }
+        ensures text { OnOk result ((text : List ℕ) × (out.new.items ≡ out.old.items ++ text) × IsAnswer M.mangled detail s.now limit (Ok text)) }
+        ensures refused { IfErr result (λ e. (e ≡ refusals.Memory) ⊎ IsAnswer M.mangled detail s.now limit (Err e)) }
+        ensures same { OnErr result (out.new.items ≡ out.old.items) }
+    {
+        let symbol = self.read(s)?;
+        let printed = self.print(&symbol, limit, detail, out);
+        self.recycle(symbol);
+        printed
+    }
+}

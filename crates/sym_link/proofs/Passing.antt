@@ -1,0 +1,263 @@
+-- Parts without a row are passed one after the other.
+use Rattle.std.proofs.Common.{◌≡◌, refl, sym, ◌∙◌, ap, subst, arith, ℕ, ◌+◌, ◌-◌, ◌<◌, ◌≤◌, List, [], ◌∷◌, ◌++◌, length, take, drop, Ok, Err, append_assoc, length-append, length-drop}
+use Rattle.std.specs.Prelude.{Result}
+use Rattle.std.proofs.lemmas.List.{length-take-le}
+use Rattle.sym_core.specs.declared.refusal.Refusal.{Refusal}
+use Rattle.sym_shape.specs.declared.rule.Row.{Row}
+use Rattle.sym_shape.specs.declared.rule.Rule.{Rule}
+use Rattle.sym_shape.specs.Tree.{Forest, branch, empty, token, fixed, nothing, grown}
+use Rattle.sym_link.specs.declared.language.Frame.{Frame}
+use Rattle.sym_shape.specs.Table.{Token}
+use Rattle.sym_link.specs.Reading.{Found, Open, Reading, ◌>>=◌}
+use Rattle.sym_link.specs.Unfold.{found, standing}
+use Rattle.sym_link.specs.Parts.{skipped_from}
+use Rattle.sym_link.specs.Machine.{Passed, passed, ended}
+use Rattle.sym_link.specs.Driving.{AreAll, Fails}
+use Rattle.sym_link.specs.Linking.{View, IsInside, IsRuleRow, IsTokenRow, taken_in, Takes, next_of, Begun, begun, Begins, Puts, HasRoom, Adds, owed_behind, owed_next}
+use Rattle.sym_link.specs.Threads.{skips, IsAt, GoesOn, BeginsIn, ClosesAll, IsTaken, IsThreading, Passing, Passes}
+use Rattle.sym_link.proofs.Cases.{as_many}
+use Rattle.sym_link.proofs.Lists.{all_push, all_stay, dropped_front, taken_front}
+use Rattle.sym_link.proofs.Following.{fails_carried}
+use Rattle.sym_link.proofs.Taking.{of_ok}
+
+-- the parts behind the one that is passed, and where they stand
+record Later {V S C : Type 0} (reading : Reading V S C) (rule : Open S C) (known : List V) (at : ℕ) (state : S) (left : Forest) : Type 0 where
+  rest : Forest
+  from : ℕ
+  count : skips left ≡ 1 + skips rest
+  passes : passed reading rule known at left state ≡ (reading.between rule known state >>= λ next. passed reading rule (next.values ++ reading.rowless) from rest next.state)
+
+later : {V S C : Type 0} (reading : Reading V S C) (rule : Open S C) (known : List V) (at : ℕ) (state : S) (left : Forest) → 0 < skips left → Later reading rule known at state left
+later reading rule known at state (grown empty rest) more = record { rest = rest; from = at; count = refl; passes = refl }
+later reading rule known at state (grown (fixed byte) rest) more = record { rest = rest; from = at + 1; count = refl; passes = refl }
+later reading rule known at state (grown (token t) rest) more = absurd (omega (arith, more))
+later reading rule known at state (grown (branch r taken parts) rest) more = absurd (omega (arith, more))
+later reading rule known at state nothing more = absurd (omega (arith, more))
+
+pub passed_none : {V S C : Type 0} (reading : Reading V S C) (rule : Open S C) (known : List V) (from : ℕ) (left : Forest) (state : S)
+    → skips left ≡ 0 → passed reading rule known from left state ≡ Ok (record { known = known; from = from; left = left; state = state })
+passed_none reading rule known from (grown empty rest) state none = absurd (omega (arith, none))
+passed_none reading rule known from (grown (fixed byte) rest) state none = absurd (omega (arith, none))
+passed_none reading rule known from (grown (token t) rest) state none = refl
+passed_none reading rule known from (grown (branch r taken parts) rest) state none = refl
+passed_none reading rule known from nothing state none = refl
+
+-- so many values are known as there are parts
+own_length : {N P K V S C : Type 0} (view : View N P K V S C) (nodes : N) (frame : Frame K) (parts : List P) (rule : Open S C) (known : List V) (state : S)
+    → IsAt view nodes frame (drop frame.base parts) rule known state → length parts - frame.base ≡ length known
+own_length view nodes frame parts rule known state at = sym (length-drop frame.base parts) ∙ as_many (view.IsPart nodes) (drop frame.base parts) known at.parts
+
+-- one value is that of one part
+single : {P V : Type 0} (Is : P → V → Type 0) (p : P) (vs : List V) → length vs ≡ 1 → AreAll Is (p ∷ []) vs → (v : V) × (vs ≡ v ∷ []) × Is p v
+single Is p [] one are = absurd are
+single Is p (v ∷ []) one are = (v, refl, are.0)
+single Is p (v ∷ w ∷ vs) one are = absurd are.1
+
+module _ {N P K V S C : Type 0} (view : View N P K V S C) (Surrounds : N → K → C → Type 0) (laws : IsThreading view) (old new : N) (frame : Frame K)
+    (lower parts middle : List P) (to : ℕ) (whole : Result (Passed V S) Refusal) (p : Passing view old frame lower parts to whole)
+    (less : length parts - frame.base < to) where
+  more : 0 < skips p.left
+  more = omega (arith, own_length view old frame parts p.rule p.known p.state p.at, p.count, less)
+
+  after : Later view.reading p.rule p.known p.from p.state p.left
+  after = later view.reading p.rule p.known p.from p.state p.left more
+
+  -- one is passed, and what it stands for is put behind the other parts
+  pub passing_next : (context : K) (part : P) → GoesOn view Surrounds old new frame parts middle (Ok context) → view.Grows old new
+      → AreAll (view.IsPart new) (part ∷ []) view.reading.rowless
+      → Passing view new frame lower (middle ++ part ∷ []) to whole
+  passing_next context part goes grows is =
+      let (next, read, surrounds, holds, own, middle_is, are) = goes p.rule p.known p.state p.at in
+      let one = single (view.IsPart new) part view.reading.rowless laws.one is in
+      let base : length (take frame.base parts) ≡ frame.base = length-take-le frame.base parts p.base in
+      let all : middle ++ part ∷ [] ≡ take frame.base parts ++ (own ++ part ∷ []) =
+      ap (λ ps. ps ++ part ∷ []) middle_is ∙ append_assoc (take frame.base parts) own (part ∷ []) in
+      let front : take frame.base (middle ++ part ∷ []) ≡ take frame.base parts =
+      subst (λ n. take n (middle ++ part ∷ []) ≡ take frame.base parts) base (ap (λ ps. take (length (take frame.base parts)) ps) all ∙ taken_front (take frame.base parts) (own ++ part ∷ [])) in
+      let back : drop frame.base (middle ++ part ∷ []) ≡ own ++ part ∷ [] =
+      subst (λ n. drop n (middle ++ part ∷ []) ≡ own ++ part ∷ []) base (ap (λ ps. drop (length (take frame.base parts)) ps) all ∙ dropped_front (take frame.base parts) (own ++ part ∷ [])) in
+      let count : length next.values ≡ length p.known = of_ok (view.reading.between p.rule p.known p.state) next (λ n. length n.values ≡ length p.known) read (laws.linking.keeps_count p.rule p.known p.state) in
+      record {
+        rule = p.rule;
+        known = next.values ++ view.reading.rowless;
+        from = after.from;
+        left = after.rest;
+        state = next.state;
+        base = omega (arith, ap (λ ps. length ps) all, length-append (take frame.base parts) (own ++ part ∷ []), base);
+        below = front ∙ p.below;
+        at = record {
+          number = p.at.number;
+          place = p.at.place;
+          kept = laws.linking.kept_stays old new frame.kept p.rule grows p.at.kept;
+          parts = subst (λ ps. AreAll (view.IsPart new) ps (next.values ++ view.reading.rowless)) (sym back)
+              (subst (λ vs. AreAll (view.IsPart new) (own ++ part ∷ []) (next.values ++ vs)) (sym one.1) (all_push (view.IsPart new) own next.values part one.0 are one.2));
+          holds = holds;
+        };
+        coming = rw read at (sym after.passes) ∙ p.coming;
+        count = omega (arith, p.count, after.count, count, laws.one, length-append next.values view.reading.rowless);
+      }
+
+  pub passing_fails : (e : Refusal) → GoesOn view Surrounds old new frame parts middle (Err e) → Fails e whole
+  passing_fails e goes =
+      fails_carried e (view.reading.between p.rule p.known p.state) (λ next. passed view.reading p.rule (next.values ++ view.reading.rowless) after.from after.rest next.state) whole
+      (goes p.rule p.known p.state p.at) (sym after.passes ∙ p.coming)
+
+-- all are passed
+pub passing_done : {N P K V S C : Type 0} (view : View N P K V S C) (nodes : N) (frame : Frame K) (lower parts : List P) (to : ℕ) (whole : Result (Passed V S) Refusal)
+    → Passing view nodes frame lower parts to whole → to ≤ length parts - frame.base → Passes view nodes frame lower parts (Ok tt) whole
+passing_done view nodes frame lower parts to whole p enough =
+    let none : skips p.left ≡ 0 = omega (arith, own_length view nodes frame parts p.rule p.known p.state p.at, p.count, enough) in (
+      record { known = p.known; from = p.from; left = p.left; state = p.state },
+      sym p.coming ∙ passed_none view.reading p.rule p.known p.from p.left p.state none,
+      p.at.holds,
+      p.below,
+      p.base,
+      p.at.parts,
+    )
+
+-- ## One after the other
+
+-- where one is passed, the bound on nodes goes on
+pub adds_then : {N P K V S C : Type 0} (view : View N P K V S C) (a b c : N) (x y z : ℕ) → IsThreading view → Adds view a b x y → Adds view b c y z → Adds view a c x z
+adds_then view a b c x y z laws first second = (laws.grows_then a b c first.0 second.0, omega (arith, first.1, second.1))
+
+pub room_then : {N P K V S C : Type 0} (view : View N P K V S C) (s : List ℕ) (a b : N) (x y : ℕ) → HasRoom view s a x → Adds view a b x y → (view.IsPaid a (length s) → view.IsPaid b (length s))
+    → HasRoom view s b y
+room_then view s a b x y room adds pays = record { fits = room.fits; size = omega (arith, room.size, adds.1); paid = pays room.paid }
+
+-- a rule whose frame has a part less
+pub owed_pushed : {N P K V S C : Type 0} (view : View N P K V S C) (old new : N) (frame : Frame K) (parts middle : List P) (part : P) (x : ℕ) → frame.base ≤ length middle
+    → Adds view old new x (owed_next view frame middle) → Adds view old new x (owed_behind view frame (middle ++ part ∷ []))
+owed_pushed view old new frame parts middle part x within adds =
+    (adds.0, subst (λ k. view.size new + view.owes frame.rule k ≤ view.size old + x) (omega (arith, within, length-append middle (part ∷ []))) adds.1)
+
+-- ## A rule begins, or closes
+
+module _ {N P K V S C : Type 0} (view : View N P K V S C) (s : List ℕ) (laws : IsThreading view) (old : N) (frame : Frame K) (parts : List P)
+    (base : frame.base ≤ length parts) (rule : Open S C) (known : List V) (from : ℕ) (left : Forest) (state : S)
+    (is : IsInside view s old frame (drop frame.base parts) rule known from left state) where
+  -- nothing is passed yet
+  pub passing_first : (to : ℕ) → to ≡ length known + skips left → Passing view old frame (take frame.base parts) parts to (passed view.reading rule known from left state)
+  passing_first to to_is = record {
+    rule = rule;
+    known = known;
+    from = from;
+    left = left;
+    state = state;
+    base = base;
+    below = refl;
+    at = record { number = is.number; place = is.place; kept = is.kept; parts = is.parts; holds = is.holds };
+    coming = refl;
+    count = sym to_is;
+  }
+
+  -- where parts were passed the frame is that of the rule still
+  pub passed_at : (middle : N) (passed_parts : List P) (p : Passed V S) → view.Grows old middle → AreAll (view.IsPart middle) (drop frame.base passed_parts) p.known → view.Holds middle p.state
+      → IsAt view middle frame (drop frame.base passed_parts) rule p.known p.state
+  passed_at middle passed_parts p grows are holds = record {
+    number = is.number;
+    place = is.place;
+    kept = laws.linking.kept_stays old middle frame.kept rule grows is.kept;
+    parts = are;
+    holds = holds;
+  }
+
+  pub closed_all : (middle new : N) (passed_parts new_parts : List P) (result : Result (Unit {0}) Refusal) → view.Grows old middle
+      → Passes view middle frame (take frame.base parts) passed_parts (Ok tt) (passed view.reading rule known from left state)
+      → ClosesAll view middle new frame passed_parts new_parts result
+      → Puts view new (take frame.base parts) new_parts result (ended view.reading rule known from left state)
+  closed_all middle new passed_parts new_parts result grows (p, read, holds, below, within, are) closes =
+      subst (λ ps. Puts view new ps new_parts result (ended view.reading rule known from left state)) below
+      (rw read (closes rule p.known p.state (passed_at middle passed_parts p grows are holds)))
+
+  pub closed_none : (middle : N) (passed_parts : List P) (e : Refusal) → Passes view middle frame (take frame.base parts) passed_parts (Err e) (passed view.reading rule known from left state)
+      → Fails e (ended view.reading rule known from left state)
+  closed_none middle passed_parts e fails =
+      fails_carried e (passed view.reading rule known from left state) (λ p. view.reading.close rule p.known p.state) (ended view.reading rule known from left state) fails refl
+
+  module _ (Surrounds : N → K → C → Type 0) (rows : List Row) (row : Row) (inside : Rule) (taken : List ℕ) (inner : Forest) (row_is : IsRuleRow rows row inside taken inner (skipped_from from left)) where
+    abbrev whole : Result (Begun V S C) Refusal
+    whole = next_of view.reading rule known from left state >>= begun view.reading inside taken (skipped_from from left) inner
+
+    pub begins_passed : (middle : N) (passed_parts : List P) (e : Refusal) → Passes view middle frame (take frame.base parts) passed_parts (Err e) (passed view.reading rule known from left state)
+        → Fails e whole
+    begins_passed middle passed_parts e fails =
+        fails_carried e (next_of view.reading rule known from left state) (begun view.reading inside taken (skipped_from from left) inner) whole
+        (fails_carried e (passed view.reading rule known from left state) (λ p. view.reading.between rule p.known p.state) (next_of view.reading rule known from left state) fails refl) refl
+
+    module _ (middle later : N) (passed_parts new_parts : List P) (grows : view.Grows old middle)
+        (passes : Passes view middle frame (take frame.base parts) passed_parts (Ok tt) (passed view.reading rule known from left state)) where
+      pub begins_gone : (e : Refusal) → GoesOn view Surrounds middle later frame passed_parts new_parts (Err e) → Fails e whole
+      begins_gone e goes =
+          rw passes.1
+          (fails_carried e (view.reading.between rule passes.0.known passes.0.state) (begun view.reading inside taken (skipped_from from left) inner)
+          (view.reading.between rule passes.0.known passes.0.state >>= begun view.reading inside taken (skipped_from from left) inner)
+          (goes rule passes.0.known passes.0.state (passed_at middle passed_parts passes.0 grows passes.5 passes.2)) refl)
+
+      pub begins_refused : (new : N) (context : K) (e : Refusal) → GoesOn view Surrounds middle later frame passed_parts new_parts (Ok context)
+          → BeginsIn view Surrounds rows later new context row (Err e) → Fails e whole
+      begins_refused new context e goes begins =
+          let (next, went, surrounds, held, own, own_is, own_are) = goes rule passes.0.known passes.0.state (passed_at middle passed_parts passes.0 grows passes.5 passes.2) in
+          let r = standing inside taken (skipped_from from left) next.context next.state in
+          let then_of : S → Result (Begun V S C) Refusal = λ st. Ok (record { rule = r; values = next.values; state = st }) in
+          rw (passes.1, went)
+          (fails_carried e (view.reading.begin r inner) then_of (view.reading.begin r inner >>= then_of) (begins next.context next.state inside taken inner (skipped_from from left) row_is surrounds held) refl)
+
+      pub begins_right : (new : N) (context kept : K) → GoesOn view Surrounds middle later frame passed_parts new_parts (Ok context) → view.Grows later new
+          → BeginsIn view Surrounds rows later new context row (Ok kept) → Begins view new (take frame.base parts) new_parts (Ok kept) whole
+      begins_right new context kept goes grown_on begins =
+          let (next, went, surrounds, held, own, own_is, own_are) = goes rule passes.0.known passes.0.state (passed_at middle passed_parts passes.0 grows passes.5 passes.2) in
+          let (after, began, is_kept, holds) = begins next.context next.state inside taken inner (skipped_from from left) row_is surrounds held in
+          let r = standing inside taken (skipped_from from left) next.context next.state in
+          rw (passes.1, went, began) (
+            record { rule = r; values = next.values; state = after },
+            refl,
+            is_kept,
+            holds,
+            own,
+            own_is ∙ ap (λ ps. ps ++ own) passes.3,
+            all_stay (view.IsPart new) (view.IsPart later) own next.values (λ p v is. laws.linking.part_stays later new p v grown_on is) own_are,
+          )
+
+  module _ (Surrounds : N → K → C → Type 0) (row : Row) (t : Token) (row_is : IsTokenRow s row t (skipped_from from left)) where
+    abbrev whole_token : Result (Found (List V) S) Refusal
+    whole_token = next_of view.reading rule known from left state >>= taken_in view.reading t (skipped_from from left)
+
+    pub token_passed : (middle : N) (passed_parts : List P) (e : Refusal) → Passes view middle frame (take frame.base parts) passed_parts (Err e) (passed view.reading rule known from left state)
+        → Fails e whole_token
+    token_passed middle passed_parts e fails =
+        fails_carried e (next_of view.reading rule known from left state) (taken_in view.reading t (skipped_from from left)) whole_token
+        (fails_carried e (passed view.reading rule known from left state) (λ p. view.reading.between rule p.known p.state) (next_of view.reading rule known from left state) fails refl) refl
+
+    module _ (middle later : N) (passed_parts new_parts : List P) (grows : view.Grows old middle)
+        (passes : Passes view middle frame (take frame.base parts) passed_parts (Ok tt) (passed view.reading rule known from left state)) where
+      pub token_gone : (e : Refusal) → GoesOn view Surrounds middle later frame passed_parts new_parts (Err e) → Fails e whole_token
+      token_gone e goes =
+          rw passes.1
+          (fails_carried e (view.reading.between rule passes.0.known passes.0.state) (taken_in view.reading t (skipped_from from left))
+          (view.reading.between rule passes.0.known passes.0.state >>= taken_in view.reading t (skipped_from from left))
+          (goes rule passes.0.known passes.0.state (passed_at middle passed_parts passes.0 grows passes.5 passes.2)) refl)
+
+      pub token_refused : (new : N) (context : K) (e : Refusal) → GoesOn view Surrounds middle later frame passed_parts new_parts (Ok context)
+          → IsTaken view s later new row (Err e) → Fails e whole_token
+      token_refused new context e goes taken =
+          let (next, went, surrounds, held, own, own_is, own_are) = goes rule passes.0.known passes.0.state (passed_at middle passed_parts passes.0 grows passes.5 passes.2) in
+          let then_of : Found V S → Result (Found (List V) S) Refusal = λ one. Ok (found (next.values ++ one.value ∷ []) one.state) in
+          rw (passes.1, went)
+          (fails_carried e (view.reading.token (skipped_from from left) t next.state) then_of (view.reading.token (skipped_from from left) t next.state >>= then_of) (taken next.state t (skipped_from from left) row_is held) refl)
+
+      pub token_right : (new : N) (context : K) (part : P) → GoesOn view Surrounds middle later frame passed_parts new_parts (Ok context) → view.Grows later new
+          → IsTaken view s later new row (Ok part) → Takes view new (take frame.base parts) (new_parts ++ part ∷ []) (Ok tt) whole_token
+      token_right new context part goes grown_on taken =
+          let (next, went, surrounds, held, own, own_is, own_are) = goes rule passes.0.known passes.0.state (passed_at middle passed_parts passes.0 grows passes.5 passes.2) in
+          let (value, after, read, is_part, holds) = taken next.state t (skipped_from from left) row_is held in
+          rw (passes.1, went, read) (
+            next.values ++ value ∷ [],
+            after,
+            refl,
+            holds,
+            own ++ part ∷ [],
+            ap (λ ps. ps ++ part ∷ []) (own_is ∙ ap (λ ps. ps ++ own) passes.3) ∙ append_assoc (take frame.base parts) own (part ∷ []),
+            all_push (view.IsPart new) own next.values part value
+                (all_stay (view.IsPart new) (view.IsPart later) own next.values (λ p v is. laws.linking.part_stays later new p v grown_on is) own_are) is_part,
+          )

@@ -1,0 +1,21 @@
+-- Some parts are passed: what comes of them all is known still, and the bounds go on.
+use Rattle.std.proofs.Common.{◌-◌, ◌≤◌, ℕ, List, length}
+use Rattle.std.specs.Prelude.{Result}
+use Rattle.sym_core.specs.declared.refusal.Refusal.{Refusal}
+use Rattle.sym_link.specs.Machine.{Passed}
+use Rattle.sym_link.specs.Linking.{HasRoom, Adds, Pays, owed_behind}
+use Rattle.sym_link.specs.Threads.{Passing}
+use Rattle.sym_link.proofs.threads.pass.Given as goal
+
+abbrev pub invariant-parts : goal.invariant-parts
+invariant-parts g l =
+    (l.frame.base ≤ length l.parts.items)
+    × HasRoom (g.L.Threading.view l.symbol) l.symbol l.language (owed_behind (g.L.Threading.view l.symbol) l.frame l.parts.items)
+    × Adds (g.L.Threading.view l.symbol) l.fn.language l.language (owed_behind (g.L.Threading.view l.symbol) l.frame l.fn.parts.items) (owed_behind (g.L.Threading.view l.symbol) l.frame l.parts.items)
+    × ((at : ℕ) → Pays (g.L.Threading.view l.symbol) l.fn.language l.language at at)
+    × ((lower : List g.row.L-Part.Denot) (whole : Result (Passed g.L.Threading.Value g.L.Threading.State) Refusal)
+    → Passing (g.L.Threading.view l.symbol) l.fn.language l.frame lower l.fn.parts.items l.to whole
+    → Passing (g.L.Threading.view l.symbol) l.language l.frame lower l.parts.items l.to whole)
+
+abbrev pub decreases-parts : goal.decreases-parts
+decreases-parts g l = l.to - (length l.parts.items - l.frame.base)

@@ -1,0 +1,122 @@
+-- A language in which each part has one value, also one with no row, and something is done before each part.
+use Rattle.std.specs.Prelude.{◌≡◌, ℕ, ◌+◌, ◌≤◌, List, ◌++◌, length, take, drop, Result, Ok, Err}
+use Rattle.sym_core.specs.declared.refusal.Refusal.{Refusal}
+use Rattle.sym_shape.specs.declared.rule.Row.{Row}
+use Rattle.sym_shape.specs.declared.rule.Rule.{Rule}
+use Rattle.sym_shape.specs.Table.{Token}
+use Rattle.sym_shape.specs.Tree.{Forest, branch, empty, token, fixed, grown, row_count_all}
+use Rattle.sym_link.specs.declared.language.Frame.{Frame}
+use Rattle.sym_link.specs.Reading.{Open, Next}
+use Rattle.sym_link.specs.Unfold.{standing}
+use Rattle.sym_link.specs.Machine.{Passed, passed}
+use Rattle.sym_link.specs.Parts.{skipped, skipped_from}
+use Rattle.sym_link.specs.Driving.{AreAll, Fails}
+use Rattle.sym_link.specs.Linking.{View, IsLinking, IsInside, IsRuleRow, IsTokenRow, Gives, Puts}
+
+-- how many parts without a row stand first
+abbrev pub skips : Forest → ℕ
+skips (grown empty rest) = 1 + skips rest
+skips (grown (fixed byte) rest) = 1 + skips rest
+skips left = 0
+
+-- The frame of code is that of an open rule, whose parts so far have these values.
+pub record IsAt {N P K V S C : Type 0} (view : View N P K V S C) (nodes : N) (frame : Frame K) (own : List P)
+    (rule : Open S C) (known : List V) (state : S) : Type 0 where
+  pub number : frame.rule ≡ rule.rule.number
+  pub place : frame.place ≡ rule.place
+  pub kept : view.IsKept nodes frame.kept rule
+  pub parts : AreAll (view.IsPart nodes) own known
+  pub holds : view.Holds nodes state
+
+-- What goes into the next part is what is read: its context, the values so far, and the state.
+abbrev pub Goes : {N P K V S C : Type 0} → View N P K V S C → (IsContext : N → K → C → Type 0) → (nodes : N) → (lower parts : List P)
+    → Result K Refusal → Result (Next V S C) Refusal → Type 0
+Goes {P = P} {V = V} {S = S} {C = C} view IsContext nodes lower parts (Ok context) read =
+    (next : Next V S C) × (read ≡ Ok next) × IsContext nodes context next.context × view.Holds nodes next.state
+    × (own : List P) × (parts ≡ lower ++ own) × AreAll (view.IsPart nodes) own next.values
+Goes view IsContext nodes lower parts (Err e) read = Fails e read
+
+-- What is done before the next part of the rule of the frame is what the reading says.
+abbrev pub GoesOn : {N P K V S C : Type 0} → View N P K V S C → (IsContext : N → K → C → Type 0) → (old new : N) → Frame K → (parts new_parts : List P)
+    → Result K Refusal → Type 0
+GoesOn {V = V} {S = S} {C = C} view IsContext old new frame parts new_parts result =
+    (rule : Open S C) (known : List V) (state : S) → IsAt view old frame (drop frame.base parts) rule known state
+    → Goes view IsContext new (take frame.base parts) new_parts result (view.reading.between rule known state)
+
+-- Some parts without a row of the rule of the frame are passed, of those in front of the part with this number. What comes of
+-- them all is known.
+pub record Passing {N P K V S C : Type 0} (view : View N P K V S C) (nodes : N) (frame : Frame K) (lower parts : List P) (to : ℕ)
+    (whole : Result (Passed V S) Refusal) : Type 0 where
+  pub rule : Open S C
+  pub known : List V
+  pub from : ℕ
+  pub left : Forest
+  pub state : S
+  pub base : frame.base ≤ length parts
+  pub below : take frame.base parts ≡ lower
+  pub at : IsAt view nodes frame (drop frame.base parts) rule known state
+  pub coming : passed view.reading rule known from left state ≡ whole
+  pub count : length known + skips left ≡ to
+
+-- One more is passed.
+abbrev pub PassesOne : {N P K V S C : Type 0} → View N P K V S C → (nodes : N) → Frame K → (lower parts : List P) → (to : ℕ) → (whole : Result (Passed V S) Refusal) → Result (Unit {0}) Refusal → Type 0
+PassesOne view nodes frame lower parts to whole (Ok done) = Passing view nodes frame lower parts to whole
+PassesOne view nodes frame lower parts to whole (Err e) = Fails e whole
+
+-- All are passed, and the parts stand for the values there.
+abbrev pub Passes : {N P K V S C : Type 0} → View N P K V S C → (nodes : N) → Frame K → (lower parts : List P) → Result (Unit {0}) Refusal → Result (Passed V S) Refusal → Type 0
+Passes {P = P} {V = V} {S = S} view nodes frame lower parts (Ok done) whole =
+    (p : Passed V S) × (whole ≡ Ok p) × view.Holds nodes p.state × (take frame.base parts ≡ lower) × (frame.base ≤ length parts)
+    × AreAll (view.IsPart nodes) (drop frame.base parts) p.known
+Passes view nodes frame lower parts (Err e) whole = Fails e whole
+
+-- what such a language keeps to
+pub record IsThreading {N P K V S C : Type 0} (view : View N P K V S C) : Type 0 where
+  pub linking : IsLinking view
+  pub grows_same : (nodes : N) → view.Grows nodes nodes
+  pub grows_then : (a b c : N) → view.Grows a b → view.Grows b c → view.Grows a c
+  pub one : length view.reading.rowless ≡ 1
+
+-- ## The other moments
+
+abbrev pub BeginsAs : {N P K V S C : Type 0} → View N P K V S C → (nodes : N) → Open S C → Result K Refusal → Result S Refusal → Type 0
+BeginsAs {S = S} view nodes rule (Ok kept) read = (state : S) × (read ≡ Ok state) × view.IsKept nodes kept rule × view.Holds nodes state
+BeginsAs view nodes rule (Err e) read = Fails e read
+
+-- The rule of a row begins in a context as the reading says.
+abbrev pub BeginsIn : {N P K V S C : Type 0} → View N P K V S C → (Surrounds : N → K → C → Type 0) → (rows : List Row) → (old new : N) → (context : K) → Row → Result K Refusal → Type 0
+BeginsIn {S = S} {C = C} view Surrounds rows old new context row result =
+    (around : C) (state : S) (rule : Rule) (taken : List ℕ) (inner : Forest) (place : ℕ) → IsRuleRow rows row rule taken inner place
+    → Surrounds old context around → view.Holds old state
+    → BeginsAs view new (standing rule taken place around state) result (view.reading.begin (standing rule taken place around state) inner)
+
+-- The rule of the frame closes over all its parts as the reading says.
+abbrev pub ClosesAll : {N P K V S C : Type 0} → View N P K V S C → (old new : N) → Frame K → (parts new_parts : List P) → Result (Unit {0}) Refusal → Type 0
+ClosesAll {V = V} {S = S} {C = C} view old new frame parts new_parts result =
+    (rule : Open S C) (known : List V) (state : S) → IsAt view old frame (drop frame.base parts) rule known state
+    → Puts view new (take frame.base parts) new_parts result (view.reading.close rule known state)
+
+-- A token in the rule of the frame is what the reading says.
+abbrev pub IsTaken : {N P K V S C : Type 0} → View N P K V S C → (s : List ℕ) → (old new : N) → Row → Result P Refusal → Type 0
+IsTaken {S = S} view s old new row result =
+    (state : S) (t : Token) (place : ℕ) → IsTokenRow s row t place → view.Holds old state → Gives view new result (view.reading.token place t state)
+
+-- this is the number of the next part that has a row, where the next row is that of a rule, or of a token, or where there is none
+abbrev pub IsAhead : {N P K V S C : Type 0} → View N P K V S C → (s : List ℕ) → (rows : List Row) → (nodes : N) → Frame K → (held : ℕ) → Row → (ahead : ℕ) → Type 0
+IsAhead {P = P} {V = V} {S = S} {C = C} view s rows nodes frame held row ahead =
+    (own : List P) (around : Open S C) (known : List V) (from : ℕ) (left : Forest) (state : S) (rule : Rule) (taken : List ℕ) (inner rest : Forest)
+    → IsInside view s nodes frame own around known from left state → length own ≡ held
+    → skipped left ≡ grown (branch rule taken inner) rest → IsRuleRow rows row rule taken inner (skipped_from from left)
+    → ahead ≡ length known + skips left
+
+abbrev pub IsAheadToken : {N P K V S C : Type 0} → View N P K V S C → (s : List ℕ) → (nodes : N) → Frame K → (held : ℕ) → (ahead : ℕ) → Type 0
+IsAheadToken {P = P} {V = V} {S = S} {C = C} view s nodes frame held ahead =
+    (own : List P) (around : Open S C) (known : List V) (from : ℕ) (left : Forest) (state : S) (t : Token) (rest : Forest)
+    → IsInside view s nodes frame own around known from left state → length own ≡ held
+    → skipped left ≡ grown (token t) rest → ahead ≡ length known + skips left
+
+abbrev pub IsCount : {N P K V S C : Type 0} → View N P K V S C → (s : List ℕ) → (nodes : N) → Frame K → (held : ℕ) → (count : ℕ) → Type 0
+IsCount {P = P} {V = V} {S = S} {C = C} view s nodes frame held count =
+    (own : List P) (around : Open S C) (known : List V) (from : ℕ) (left : Forest) (state : S)
+    → IsInside view s nodes frame own around known from left state → length own ≡ held → row_count_all left ≡ 0
+    → count ≡ length known + skips left

@@ -1,0 +1,222 @@
+// A language in which each part has one value, also one with no row, and something is done before each part.
+//
+// Such a language says what is done before a part, whatever part that is, and its code need not know of parts without a
+// row: `pass` does what stands before each of those, as soon as a part with a row is there, or the rule closes.
+
+ghost use Rattle.std.specs.Prelude.{◌≡◌, ℕ, ◌+◌, ◌-◌, ◌<◌, ◌≤◌, ◌∷◌, [], List, length, take, drop, Result, OnOk};
+ghost use Rattle.sym_core.specs.declared.refusal.Refusal.{Refusal};
+ghost use Rattle.sym_link.specs.Machine.{Passed};
+ghost use Rattle.sym_link.specs.Driving.{AreAll};
+ghost use Rattle.sym_link.specs.Linking.{View, HasRoom, Opens, TakesToken, ClosesRule, Adds, Pays, owed_behind, owed_next};
+ghost use Rattle.sym_link.specs.Threads.{GoesOn, BeginsIn, ClosesAll, IsTaken, IsAhead, IsAheadToken, IsCount, IsThreading, Passing, PassesOne, Passes};
+
+use crate::language::Frame;
+use sym_core::Refusal;
+use sym_shape::rule::Row;
+
+/// A language over the nodes that it has made so far, in which something is done before each part.
+pub trait Threading {
+    /// What a part of a symbol stands for, in terms of nodes.
+    type Part: Copy;
+
+    /// What the language keeps for an open rule, and what holds around its next part.
+    type Kept: Copy;
+
+    ghost Value: { Type 0 };
+
+    ghost State: { Type 0 };
+
+    ghost Context: { Type 0 };
+
+    ghost view: { List ℕ → View Self Self.Part Self.Kept Value State Context };
+
+    ghost surrounds: { List ℕ → Self → Self.Kept → Context → Type 0 };
+
+    /// What a part without a row stands for.
+    fn nothing(&self) -> Self::Part
+        ensures { (s : List ℕ) → AreAll ((view s).IsPart self.now) (result ∷ []) (view s).reading.rowless };
+
+    /// What is done before the next part of the rule of the frame.
+    fn between(
+        &mut self,
+        symbol: &[u8],
+        frame: Frame<Self::Kept>,
+        parts: &mut Vec<Self::Part>,
+    ) -> Result<Self::Kept, Refusal>
+        requires room { HasRoom (view symbol.now) symbol.now self.old (owed_behind (view symbol.now) frame parts.old.items) }
+        requires base { frame.base ≤ length parts.old.items }
+        ensures goes { GoesOn (view symbol.now) (surrounds symbol.now) self.old self.new frame parts.old.items parts.new.items result }
+        ensures adds { OnOk result (Adds (view symbol.now) self.old self.new (owed_behind (view symbol.now) frame parts.old.items) (owed_next (view symbol.now) frame parts.new.items)) }
+        ensures pays { OnOk result ((at : ℕ) → Pays (view symbol.now) self.old self.new at at) }
+        ensures count { OnOk result (length parts.new.items ≡ length parts.old.items) };
+
+    /// The rule of a row begins, around which this holds.
+    fn begin(
+        &mut self,
+        symbol: &[u8],
+        rows: &[Row],
+        context: Self::Kept,
+        row: Row,
+    ) -> Result<Self::Kept, Refusal>
+        requires place { row.from < length symbol.now }
+        requires end { row.end ≤ length rows.now }
+        ensures begins { BeginsIn (view symbol.now) (surrounds symbol.now) rows.now self.old self.new context row result }
+        ensures adds { OnOk result (Adds (view symbol.now) self.old self.new 0 0) }
+        ensures pays { OnOk result ((at : ℕ) → Pays (view symbol.now) self.old self.new at at) };
+
+    /// The rule of the frame closes over all its parts.
+    fn finish(
+        &mut self,
+        symbol: &[u8],
+        frame: Frame<Self::Kept>,
+        parts: &mut Vec<Self::Part>,
+    ) -> Result<(), Refusal>
+        requires room { HasRoom (view symbol.now) symbol.now self.old (owed_behind (view symbol.now) frame parts.old.items) }
+        requires base { frame.base ≤ length parts.old.items }
+        requires place { frame.place < length symbol.now }
+        ensures closes { ClosesAll (view symbol.now) self.old self.new frame parts.old.items parts.new.items result }
+        ensures adds { OnOk result (Adds (view symbol.now) self.old self.new (owed_behind (view symbol.now) frame parts.old.items) 0) }
+        ensures pays { OnOk result ((at : ℕ) → Pays (view symbol.now) self.old self.new at at) };
+
+    /// The number of the next part of the rule of the frame that has a row: a rule's, of which so many parts have begun.
+    fn ahead(
+        &self,
+        symbol: &[u8],
+        rows: &[Row],
+        frame: Frame<Self::Kept>,
+        held: usize,
+        row: Row,
+    ) -> usize
+        requires place { row.from < length symbol.now }
+        ensures { IsAhead (view symbol.now) symbol.now rows.now self.now frame held row result };
+
+    /// What a token stands for.
+    fn text(&mut self, symbol: &[u8], row: Row) -> Result<Self::Part, Refusal>
+        requires from { row.from ≤ row.to }
+        requires to { row.to ≤ length symbol.now }
+        ensures taken { IsTaken (view symbol.now) symbol.now self.old self.new row result }
+        ensures adds { OnOk result (Adds (view symbol.now) self.old self.new 0 0) }
+        ensures pays { OnOk result ((at : ℕ) → Pays (view symbol.now) self.old self.new at at) };
+
+    /// The number of the next part of the rule of the frame that has a row: a token's, of which so many parts have begun.
+    fn ahead_token(&self, symbol: &[u8], frame: Frame<Self::Kept>, held: usize) -> usize
+        ensures { IsAheadToken (view symbol.now) symbol.now self.now frame held result };
+
+    /// The number of the parts of the rule of the frame, where no row is left.
+    fn count(&self, symbol: &[u8], frame: Frame<Self::Kept>, held: usize) -> usize
+        ensures { IsCount (view symbol.now) symbol.now self.now frame held result };
+
+    ghost laws: { (s : List ℕ) → IsThreading (view s) };
+}
+
+/// Passes a part without a row of the rule of the frame.
+fn pass_one<L: Threading>(
+    language: &mut L,
+    symbol: &[u8],
+    frame: Frame<L::Kept>,
+    parts: &mut Vec<L::Part>,
+) -> Result<(), Refusal>
+    requires room { HasRoom (L.view symbol.now) symbol.now language.old (owed_behind (L.view symbol.now) frame parts.old.items) }
+    requires base { frame.base ≤ length parts.old.items }
+    ensures passing { (lower : List L.Part) (to : ℕ) (whole : Result (Passed L.Value L.State) Refusal)
+        → Passing (L.view symbol.now) language.old frame lower parts.old.items to whole → length parts.old.items - frame.base < to
+        → PassesOne (L.view symbol.now) language.new frame lower parts.new.items to whole result }
+    ensures adds { OnOk result (Adds (L.view symbol.now) language.old language.new (owed_behind (L.view symbol.now) frame parts.old.items) (owed_behind (L.view symbol.now) frame parts.new.items)) }
+    ensures pays { OnOk result ((at : ℕ) → Pays (L.view symbol.now) language.old language.new at at) }
+    ensures count { OnOk result (length parts.new.items ≡ length parts.old.items + 1) }
+{
+    language.between(symbol, frame, parts)?;
+    parts.push(language.nothing())?;
+    Ok(())
+}
+
+/// Passes the parts without a row of the rule of the frame that stand in front of the part with this number.
+pub fn pass<L: Threading>(
+    language: &mut L,
+    symbol: &[u8],
+    frame: Frame<L::Kept>,
+    parts: &mut Vec<L::Part>,
+    to: usize,
+) -> Result<(), Refusal>
+    requires room { HasRoom (L.view symbol.now) symbol.now language.old (owed_behind (L.view symbol.now) frame parts.old.items) }
+    requires base { frame.base ≤ length parts.old.items }
+    ensures passes { (lower : List L.Part) (whole : Result (Passed L.Value L.State) Refusal)
+        → Passing (L.view symbol.now) language.old frame lower parts.old.items to whole
+        → Passes (L.view symbol.now) language.new frame lower parts.new.items result whole }
+    ensures adds { OnOk result (Adds (L.view symbol.now) language.old language.new (owed_behind (L.view symbol.now) frame parts.old.items) (owed_behind (L.view symbol.now) frame parts.new.items)) }
+    ensures pays { OnOk result ((at : ℕ) → Pays (L.view symbol.now) language.old language.new at at) }
+    ensures base { OnOk result (frame.base ≤ length parts.new.items) }
+{
+    'parts: while parts.len() - frame.base < to {
+        pass_one(language, symbol, frame, parts)?;
+    }
+    Ok(())
+}
+
+/// A rule begins in the rule of the frame.
+pub fn enter_by<L: Threading>(
+    language: &mut L,
+    symbol: &[u8],
+    rows: &[Row],
+    frame: Frame<L::Kept>,
+    parts: &mut Vec<L::Part>,
+    row: Row,
+) -> Result<L::Kept, Refusal>
+    requires room { HasRoom (L.view symbol.now) symbol.now language.old (owed_behind (L.view symbol.now) frame parts.old.items) }
+    requires base { frame.base ≤ length parts.old.items }
+    requires place { row.from < length symbol.now }
+    requires end { row.end ≤ length rows.now }
+    ensures opens { Opens (L.view symbol.now) symbol.now rows.now language.old language.new frame parts.old.items parts.new.items row result }
+    ensures adds { OnOk result (Adds (L.view symbol.now) language.old language.new (owed_behind (L.view symbol.now) frame parts.old.items) (owed_next (L.view symbol.now) frame parts.new.items)) }
+    ensures pays { OnOk result ((at : ℕ) → at ≤ row.from → Pays (L.view symbol.now) language.old language.new at row.from) }
+{
+    let to = language.ahead(symbol, rows, frame, parts.len() - frame.base, row);
+    pass(language, symbol, frame, parts, to)?;
+    let context = language.between(symbol, frame, parts)?;
+    let kept = language.begin(symbol, rows, context, row)?;
+    Ok(kept)
+}
+
+/// The rule of the frame closes: what it means takes the place of its parts.
+pub fn close_by<L: Threading>(
+    language: &mut L,
+    symbol: &[u8],
+    frame: Frame<L::Kept>,
+    parts: &mut Vec<L::Part>,
+) -> Result<(), Refusal>
+    requires room { HasRoom (L.view symbol.now) symbol.now language.old (owed_behind (L.view symbol.now) frame parts.old.items) }
+    requires base { frame.base ≤ length parts.old.items }
+    requires place { frame.place < length symbol.now }
+    ensures closes { ClosesRule (L.view symbol.now) symbol.now language.old language.new frame parts.old.items parts.new.items result }
+    ensures adds { OnOk result (Adds (L.view symbol.now) language.old language.new (owed_behind (L.view symbol.now) frame parts.old.items) 0) }
+    ensures pays { OnOk result ((at : ℕ) → Pays (L.view symbol.now) language.old language.new at at) }
+{
+    let to = language.count(symbol, frame, parts.len() - frame.base);
+    pass(language, symbol, frame, parts, to)?;
+    language.finish(symbol, frame, parts)?;
+    Ok(())
+}
+
+/// A token is taken in the rule of the frame.
+pub fn token_by<L: Threading>(
+    language: &mut L,
+    symbol: &[u8],
+    frame: Frame<L::Kept>,
+    parts: &mut Vec<L::Part>,
+    row: Row,
+) -> Result<(), Refusal>
+    requires room { HasRoom (L.view symbol.now) symbol.now language.old (owed_behind (L.view symbol.now) frame parts.old.items) }
+    requires base { frame.base ≤ length parts.old.items }
+    requires from { row.from ≤ row.to }
+    requires to { row.to ≤ length symbol.now }
+    ensures takes { TakesToken (L.view symbol.now) symbol.now language.old language.new frame parts.old.items parts.new.items row result }
+    ensures adds { OnOk result (Adds (L.view symbol.now) language.old language.new (owed_behind (L.view symbol.now) frame parts.old.items) (owed_behind (L.view symbol.now) frame parts.new.items)) }
+    ensures pays { OnOk result ((at : ℕ) → at ≤ row.from → Pays (L.view symbol.now) language.old language.new at row.to) }
+{
+    let to = language.ahead_token(symbol, frame, parts.len() - frame.base);
+    pass(language, symbol, frame, parts, to)?;
+    language.between(symbol, frame, parts)?;
+    let part = language.text(symbol, row)?;
+    parts.push(part)?;
+    Ok(())
+}
