@@ -1,8 +1,1 @@
-pub mod LanguageLemmas
 pub mod LineLemmas
-pub mod PlainLemmas
-pub mod RunLemmas
-pub mod SplitLemmas
-pub mod StreamLemmas
-pub mod TallyLemmas
-pub mod WordLemmas

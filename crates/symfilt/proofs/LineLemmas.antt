@@ -7,12 +7,12 @@ use Rattle.std.proofs.lemmas.List.{append-nil, map-append, take_more}
 use Rattle.std.proofs.lemmas.List.Folds.{list_all-append}
 use Rattle.std.proofs.Math.Bool.{and-true}
 use Rattle.sym_core.specs.declared.refusal.Refusal.{Refusal}
-use Rattle.symfilt.specs.declared.kinds.Kind.{Kind}
-use Rattle.symfilt.specs.Kinds.{kind_of, symbol_of}
-use Rattle.symfilt.specs.Runs.{Answering, text_for}
+use Rattle.sym_filter.specs.declared.kinds.Kind.{Kind}
+use Rattle.sym_filter.specs.Kinds.{kind_of, symbol_of}
+use Rattle.sym_filter.specs.Runs.{Answering, is_read, text_for}
 use Rattle.sym_core.specs.declared.refusal.Refusal.TheVariants.{Malformed, BadReference, BadValue, TooLong, Memory}
-use Rattle.symfilt.specs.Lines.{answer_for, is_read, is_read_word, line_of, status_of, Counting, AreCountsFor, IsCountsLine, IsBehindLine, AreLines}
-use Rattle.symfilt.proofs.WordLemmas.{slice_from}
+use Rattle.symfilt.specs.Lines.{answer_for, is_read_word, line_of, status_of, Counting, AreCountsFor, IsCountsLine, IsBehindLine, AreLines}
+use Rattle.sym_filter.proofs.WordLemmas.{slice_from}
 
 pub answer_for-named : (answers : Answering) (word : List ℕ) (kind : Kind) (answer : Result (List ℕ) Refusal) → kind_of word ≡ Some kind → answers kind.lang (symbol_of kind word) ≡ answer → answer_for answers word ≡ Some answer
 unfolding answer_for

@@ -1,9 +1,1 @@
-pub mod Held
-pub mod Kinds
-pub mod Languages
 pub mod Lines
-pub mod Plain
-pub mod Runs
-pub mod Splits
-pub mod Streams
-pub mod Words

@@ -4,17 +4,11 @@ use Rattle.std.specs.List.{list_all}
 use Rattle.std.specs.Fmt.{decimal}
 use Rattle.sym_core.specs.declared.refusal.Refusal.{Refusal}
 use Rattle.sym_core.specs.declared.refusal.Refusal.TheVariants.{Malformed, BadReference, BadValue, TooLong, Memory}
-use Rattle.symfilt.specs.declared.demangler.Counts.{Counts}
-use Rattle.symfilt.specs.declared.kinds.Kind.{Kind}
-use Rattle.symfilt.specs.declared.kinds.Lang.{Lang}
-use Rattle.symfilt.specs.Kinds.{kind_of, symbol_of}
-use Rattle.symfilt.specs.Runs.{Answering, text_for, word_or_text}
-
--- a symbol is read: it has a text, or one that costs more than the limit
-abbrev pub is_read : Result (List ℕ) Refusal → Bool
-is_read (Ok text) = true
-is_read (Err TooLong) = true
-is_read (Err refusal) = false
+use Rattle.sym_filter.specs.declared.demangler.Counts.{Counts}
+use Rattle.sym_filter.specs.declared.kinds.Kind.{Kind}
+use Rattle.sym_filter.specs.declared.kinds.Lang.{Lang}
+use Rattle.sym_filter.specs.Kinds.{kind_of, symbol_of}
+use Rattle.sym_filter.specs.Runs.{Answering, is_read, text_for, word_or_text}
 
 -- what is answered for a word's symbol, where it names one
 unfoldable pub answer_for : Answering → List ℕ → Option (Result (List ℕ) Refusal)

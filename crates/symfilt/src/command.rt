@@ -1,20 +1,18 @@
 // The command line.
 ghost use Rattle.std.specs.Prelude.{◌≡◌, ◌≢◌, List, ℕ, [], ◌∷◌, ◌++◌, ◌&&◌, OnOk, OnErr, IfOk, Some, is_some, map, string_bytes};
-ghost use Rattle.symfilt.specs.Kinds.{kind_of};
-ghost use Rattle.symfilt.specs.Runs.{text_for};
+ghost use Rattle.sym_filter.specs.Kinds.{kind_of};
+ghost use Rattle.sym_filter.specs.Runs.{text_for};
 ghost use Rattle.std.specs.List.{flat_map};
 ghost use Rattle.symfilt.specs.Lines.{answer_for, is_read_word, line_of, AreCountsFor, IsBehindLine, reason_of, complaint_with, complaint_of, status_of, AreLines};
-ghost use Rattle.symfilt.specs.Streams.{BeginsWith};
+ghost use Rattle.sym_filter.specs.Streams.{BeginsWith};
 ghost use Rattle.symfilt.specs.declared.outcome.Run.{Run as Run-type};
 
-use crate::demangler::{Counts, Demangler};
-use crate::kinds::{Kind, kind_of};
-use crate::languages::Languages;
 use crate::outcome::Run;
 use clap::error::ErrorKind;
 use clap::{Arg, ArgAction, ArgMatches, Command, Error};
 use std::alloc::{AllocError, Global};
 use sym_core::Refusal;
+use sym_filter::{Counts, Demangler, Kind, Languages, kind_of};
 use sym_print::Detail;
 
 const ANSWERED: u8 = 0;

@@ -2,21 +2,14 @@
 #![tactic(auto)]
 
 mod command;
-pub mod demangler;
-pub mod filtering;
-pub mod kinds;
-pub mod languages;
-mod laws;
 mod outcome;
 mod program;
 #[cfg(test)]
 mod rows;
-pub mod standard;
-pub mod streams;
+#[cfg(test)]
+mod scripted;
 #[cfg(test)]
 mod tests;
-pub mod told;
-pub mod words;
 
 pub use command::run;
 pub use outcome::Run;

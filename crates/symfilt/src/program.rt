@@ -2,13 +2,11 @@
 ghost use Rattle.std.specs.Prelude.{◌≡◌, ◌⊎◌};
 
 use crate::command::run;
-use crate::filtering::filter_as;
 use crate::outcome::Run;
-use crate::standard::{ReaderSource, WriterSink};
-use crate::streams::FilterFault;
 use std::alloc::AllocError;
 use std::rt::Env;
 use std::{env, io};
+use sym_filter::{FilterFault, ReaderSource, WriterSink, filter_as};
 use sym_print::Detail;
 
 const WRONG_USE: u8 = 2;

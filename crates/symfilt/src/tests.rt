@@ -1,14 +1,12 @@
 // The filter over streams in memory, and the command line.
 use crate::command::answer_words;
-use crate::filtering::filter;
-use crate::languages::Languages;
 use crate::outcome::Run;
 use crate::run;
-use crate::streams::FilterFault;
-use crate::told::{Call, ToldSink, ToldSource};
+use crate::scripted::{Call, ScriptedSink, ScriptedSource};
 use std::alloc::{AllocError, Global};
 use std::process::Abort;
 use std::test::Fail;
+use sym_filter::{FilterFault, Languages, filter};
 use sym_print::Detail;
 
 const LIMIT: u32 = 1_000_000;
@@ -27,8 +25,8 @@ fn filters(
     tally_wanted: (u64, u64, u64),
 ) {
     let calls = [Call::Moves(piece); 120];
-    let mut reader = ToldSource::new(text, &calls, 1000);
-    let mut writer = ToldSink::new(alloc, &calls);
+    let mut reader = ScriptedSource::new(text, &calls, 1000);
+    let mut writer = ScriptedSink::new(alloc, &calls);
     let tally = filter(alloc, &mut reader, &mut writer, LIMIT);
     assert!(rt; writer.bytes() == wanted);
     if let Ok(tally) = tally {
@@ -53,8 +51,8 @@ fn filters_however_cut(rt: HostRuntime) {
 fn cuts_once_at_each_byte(rt: HostRuntime) {
     for cut in 1..=TEXT.len() {
         let calls = [Call::Moves(cut)];
-        let mut reader = ToldSource::new(TEXT, &calls, 100);
-        let mut writer = ToldSink::new(rt.alloc(), &calls);
+        let mut reader = ScriptedSource::new(TEXT, &calls, 100);
+        let mut writer = ScriptedSink::new(rt.alloc(), &calls);
         let tally = filter(rt.alloc(), &mut reader, &mut writer, LIMIT);
         assert!(rt; tally.is_ok() && writer.bytes() == FILTERED, "cut at {cut}");
     }
@@ -83,8 +81,8 @@ fn each_read_fails(rt: HostRuntime) {
     for good in 0..40usize {
         let mut calls = [Call::Moves(2); 40];
         calls[good] = Call::Fails;
-        let mut reader = ToldSource::new(TEXT, &calls, 1000);
-        let mut writer = ToldSink::new(rt.alloc(), &[]);
+        let mut reader = ScriptedSource::new(TEXT, &calls, 1000);
+        let mut writer = ScriptedSink::new(rt.alloc(), &[]);
         let tally = filter(rt.alloc(), &mut reader, &mut writer, LIMIT);
         if good <= TEXT.len() / 2 {
             assert!(rt; tally == Err(FilterFault::Read), "after {good} reads");
@@ -99,8 +97,8 @@ fn each_write_fails(rt: HostRuntime) {
         for failure in [Call::Fails, Call::Moves(0)] {
             let mut calls = [Call::Moves(2); 40];
             calls[good] = failure;
-            let mut reader = ToldSource::new(TEXT, &[Call::Moves(5); 40], 1000);
-            let mut writer = ToldSink::new(rt.alloc(), &calls);
+            let mut reader = ScriptedSource::new(TEXT, &[Call::Moves(5); 40], 1000);
+            let mut writer = ScriptedSink::new(rt.alloc(), &calls);
             let tally = filter(rt.alloc(), &mut reader, &mut writer, LIMIT);
             if good < FILTERED.len() / 2 {
                 assert!(rt; tally == Err(FilterFault::Write), "after {good} writes");
@@ -112,8 +110,8 @@ fn each_write_fails(rt: HostRuntime) {
 
 #[test]
 fn a_source_with_no_read_left_fails(rt: HostRuntime) {
-    let mut reader = ToldSource::new(TEXT, &[], 0);
-    let mut writer = ToldSink::new(rt.alloc(), &[]);
+    let mut reader = ScriptedSource::new(TEXT, &[], 0);
+    let mut writer = ScriptedSink::new(rt.alloc(), &[]);
     let tally = filter(rt.alloc(), &mut reader, &mut writer, LIMIT);
     assert!(rt; tally == Err(FilterFault::Read) && writer.bytes().is_empty());
 }

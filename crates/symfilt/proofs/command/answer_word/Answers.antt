@@ -1,9 +1,9 @@
 use Rattle.std.proofs.Common.{◌≡◌, ◌++◌, ◌∙◌, [], sym, ap, refl, None}
 use Rattle.std.specs.Prelude.{is_some, codes}
 use Rattle.std.proofs.lemmas.List.{append-nil}
-use Rattle.symfilt.specs.Kinds.{kind_of}
+use Rattle.sym_filter.specs.Kinds.{kind_of}
 use Rattle.symfilt.specs.Lines.{line_of, complaint_with, complaint_about}
-use Rattle.symfilt.proofs.RunLemmas.{text_for-unnamed}
+use Rattle.sym_filter.proofs.RunLemmas.{text_for-unnamed}
 use Rattle.symfilt.proofs.LineLemmas.{answer_for-unnamed, word-line, said-line, nothing-behind}
 use Rattle.symfilt.proofs.command.answer_word.Goals as goal
 

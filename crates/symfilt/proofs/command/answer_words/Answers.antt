@@ -2,7 +2,7 @@ use Rattle.std.proofs.Common.{◌≡◌, ◌++◌, cond, sym, subst, ◌∙◌, 
 use Rattle.std.proofs.lemmas.Bool.{cond-true, cond-false}
 use Rattle.symfilt.specs.Lines.{line_of, complaint_of, AreLines}
 use Rattle.symfilt.proofs.LineLemmas.{words-more, complaints-more, lines-joined, AreLines-more, status-more}
-use Rattle.symfilt.proofs.StreamLemmas.{BeginsWith_trans}
+use Rattle.sym_filter.proofs.StreamLemmas.{BeginsWith_trans}
 use Rattle.symfilt.proofs.command.answer_words.Goals as goal
 use Rattle.symfilt.proofs.command.answer_words.Goals.{then-not-branch, else-not-branch}
 

@@ -1,7 +1,7 @@
 use Rattle.std.proofs.Common.{◌≡◌, ◌++◌, List, ℕ, take, map}
 use Rattle.std.specs.List.{flat_map}
 use Rattle.symfilt.specs.Lines.{complaint_of, status_of, AreLines}
-use Rattle.symfilt.specs.Streams.{BeginsWith}
+use Rattle.sym_filter.specs.Streams.{BeginsWith}
 use Rattle.symfilt.proofs.command.answer_words.Given as goal
 
 abbrev pub invariant-loop-word : goal.invariant-loop-word

@@ -2,7 +2,7 @@ use Rattle.std.proofs.Common.{◌∙◌, ◌++◌, sym, ap, Ok, Err}
 use Rattle.std.specs.Prelude.{is_some}
 use Rattle.std.proofs.lemmas.List.{append-nil}
 use Rattle.symfilt.specs.Lines.{complaint_about, complaint_with, reason_of}
-use Rattle.symfilt.proofs.RunLemmas.{text_for-named}
+use Rattle.sym_filter.proofs.RunLemmas.{text_for-named}
 use Rattle.symfilt.proofs.LineLemmas.{answer_for-named, symbol_in, text-line, word-line, said-line}
 use Rattle.symfilt.proofs.command.push_answer.Goals as goal
 

@@ -1,8 +1,9 @@
 use Rattle.std.proofs.Common.{◌≡◌, ◌++◌, ◌∷◌, ◌∙◌, [], List, ℕ, sym, subst, ap, drop, refl, Err, true}
 use Rattle.std.proofs.lemmas.List.{append-nil}
-use Rattle.symfilt.specs.Kinds.{symbol_of}
-use Rattle.symfilt.specs.Lines.{is_read, counts_text, AreCountsFor, IsCountsLine}
-use Rattle.symfilt.proofs.WordLemmas.{slice_from}
+use Rattle.sym_filter.specs.Kinds.{symbol_of}
+use Rattle.sym_filter.specs.Runs.{is_read}
+use Rattle.symfilt.specs.Lines.{counts_text, AreCountsFor, IsCountsLine}
+use Rattle.sym_filter.proofs.WordLemmas.{slice_from}
 use Rattle.symfilt.proofs.LineLemmas.{symbol_in, counts-behind, refused-behind, said-line}
 use Rattle.symfilt.proofs.command.push_counts.Goals as goal
 

@@ -1,0 +1,7 @@
+pub mod LanguageLemmas
+pub mod PlainLemmas
+pub mod RunLemmas
+pub mod SplitLemmas
+pub mod StreamLemmas
+pub mod TallyLemmas
+pub mod WordLemmas

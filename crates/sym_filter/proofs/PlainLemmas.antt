@@ -1,0 +1,55 @@
+-- Facts on plain fronts and on the words of runs' parts.
+use Rattle.std.proofs.Common.{◌≡◌, ℕ, ◌+◌, ◌-◌, ◌<◌, ◌≤◌, Bool, true, false, eqb, not, ◌||◌, List, [], ◌∷◌, ◌++◌, length, take, drop, get_or, refl, sym, ap, ◌∙◌, arith}
+use Rattle.std.specs.List.{list_all}
+use Rattle.std.proofs.lemmas.Bool.{and_parts, and_from, and_left, cond-false, ne_eqb}
+use Rattle.std.proofs.lemmas.List.{take_more, take-append-drop}
+use Rattle.sym_filter.specs.Runs.{is_run_byte, word_of}
+use Rattle.sym_filter.specs.Plain.{is_plain, is_in_run}
+use Rattle.sym_filter.proofs.RunLemmas.{is_dot, word_of-part, word_of-append_dots}
+
+-- a byte more
+pub is_plain-more : (in_run : Bool) (front : List ℕ) (byte : ℕ) → is_plain in_run front ≡ true → (is_in_run in_run front || not (eqb byte 95)) ≡ true → is_plain in_run (front ++ byte ∷ []) ≡ true
+is_plain-more in_run [] byte h next = and_from _ _ next refl
+is_plain-more in_run (first ∷ front) byte h next =
+    let parts = and_parts (in_run || not (eqb first 95)) (is_plain (is_run_byte first) front) h in
+    and_from _ _ parts.0 (is_plain-more (is_run_byte first) front byte parts.1 next)
+
+pub is_in_run-more : (in_run : Bool) (front : List ℕ) (byte : ℕ) → is_in_run in_run (front ++ byte ∷ []) ≡ is_run_byte byte
+is_in_run-more in_run [] byte = refl
+is_in_run-more in_run (first ∷ front) byte = is_in_run-more (is_run_byte first) front byte
+
+-- the front of a text with its next byte
+pub is_plain-take : (in_run : Bool) (text : List ℕ) (i d : ℕ) → i < length text → is_plain in_run (take i text) ≡ true → (is_in_run in_run (take i text) || not (eqb (get_or text i d) 95)) ≡ true → is_plain in_run (take (i + 1) text) ≡ true
+is_plain-take in_run text i d h plain next = ap (is_plain in_run) (take_more text i d h) ∙ is_plain-more in_run (take i text) (get_or text i d) plain next
+
+pub is_in_run-take : (in_run : Bool) (text : List ℕ) (i d : ℕ) → i < length text → is_in_run in_run (take (i + 1) text) ≡ is_run_byte (get_or text i d)
+is_in_run-take in_run text i d h = ap (is_in_run in_run) (take_more text i d h) ∙ is_in_run-more in_run (take i text) (get_or text i d)
+
+pub goes_on : (in_run : Bool) (byte : ℕ) → in_run ≡ true → (in_run || not (eqb byte 95)) ≡ true
+goes_on true byte h = refl
+goes_on false byte h = cc
+
+or_true : (b : Bool) → (b || true) ≡ true
+or_true true = refl
+or_true false = refl
+
+pub is_other : (in_run : Bool) (byte : ℕ) → (byte ≡ 95 → ⊥) → (in_run || not (eqb byte 95)) ≡ true
+is_other in_run byte h = ap (λ (b : Bool). in_run || not b) (ne_eqb byte 95 h) ∙ or_true in_run
+
+-- the word of a part ends behind its last byte that is no dot
+word_of-front : (part : List ℕ) (end : ℕ) → list_all is_dot (drop end part) ≡ true → word_of part ≡ word_of (take end part)
+word_of-front part end h = ap word_of (sym (take-append-drop end part)) ∙ word_of-append_dots (take end part) (drop end part) h
+
+last-step : (front : List ℕ) (byte : ℕ) → (byte ≡ 46 → ⊥) → word_of (front ++ byte ∷ []) ≡ front ++ byte ∷ []
+last-step front byte other =
+    let no_dot : list_all is_dot (byte ∷ []) ≡ false = and_left (is_dot byte) true (ne_eqb byte 46 other) in
+    word_of-part front (byte ∷ []) no_dot ∙ ap (λ (t : List ℕ). front ++ t) (cond-false _ _ _ no_dot)
+
+pub word_of-last : (part : List ℕ) (end : ℕ) → 0 < end → end ≤ length part → list_all is_dot (drop end part) ≡ true → (get_or part (end - 1) 0 ≡ 46 → ⊥) → take end part ≡ word_of part
+word_of-last part end some within dots other =
+    let place : end - 1 + 1 ≡ end = omega arith in
+    let whole : take end part ≡ take (end - 1) part ++ get_or part (end - 1) 0 ∷ [] = ap (λ n. take n part) (sym place) ∙ take_more part (end - 1) 0 (omega arith) in
+    whole ∙ sym (word_of-front part end dots ∙ ap word_of whole ∙ last-step (take (end - 1) part) (get_or part (end - 1) 0) other)
+
+pub word_of-none : (part : List ℕ) (end : ℕ) → end ≡ 0 → list_all is_dot (drop end part) ≡ true → [] ≡ word_of part
+word_of-none part end none dots = sym (word_of-front part end dots ∙ ap (λ n. word_of (take n part)) none)

@@ -1,0 +1,11 @@
+-- What a filter holds back of a run.
+use Rattle.std.specs.Prelude.{◌≡◌, ◌≤◌, ℕ, List, [], length, Bool, true}
+use Rattle.std.specs.List.{list_all}
+use Rattle.sym_filter.specs.Runs.{is_run_byte, word_of}
+
+-- the front of a run without its trailing dots, as long as a word that names a symbol may be
+pub record IsHeld (held : List ℕ) (dots : ℕ) (passes : Bool) : Type 0 where
+  pub of_run : list_all is_run_byte held ≡ true
+  pub is_word : word_of held ≡ held
+  pub fits : length held ≤ 65536
+  pub passing_holds_nothing : passes ≡ true → (held ≡ []) × (dots ≡ 0)

@@ -1,0 +1,40 @@
+-- What is still to come of a filtered text, where a filter stands after a front of it.
+use Rattle.std.specs.Prelude.{◌≡◌, ◌+◌, ◌≤◌, ℕ, List, [], ◌++◌, length, Bool, true, false, filter, replicate, if◌then◌else◌}
+use Rattle.sym_filter.specs.declared.words.Taken.{Taken}
+use Rattle.sym_filter.specs.declared.words.Tally.{Tally}
+use Rattle.sym_filter.specs.declared.words.Words.{Words}
+use Rattle.sym_filter.specs.Runs.{Answering, first_run, later_runs, with_later_runs, replaced, filtered, is_named, named_runs, tally_with}
+
+-- the front of a run that is held back
+abbrev pub held_of : Words → List ℕ
+held_of words = words.held.items ++ replicate words.dots 46
+
+-- what is to be written for the bytes that follow a held front of a run, or a run that is passed on:
+-- the held front goes before them, and a run that is passed on goes on unchanged
+abbrev pub rest_of : Answering → List ℕ → Bool → List ℕ → List ℕ
+rest_of answers held true more = first_run more ++ with_later_runs (replaced answers) more
+rest_of answers held false more = filtered answers (held ++ more)
+
+-- the runs that are to be counted with the bytes that follow
+abbrev pub named_of : List ℕ → Bool → List ℕ → List (List ℕ)
+named_of held true more = filter is_named (later_runs more)
+named_of held false more = named_runs (held ++ more)
+
+-- what is to be written for the bytes that follow
+abbrev pub rest_after : Answering → Words → List ℕ → List ℕ
+rest_after answers words more = rest_of answers (held_of words) words.passes more
+
+-- the tally in the end, where these bytes follow
+abbrev pub tally_after : Answering → Words → List ℕ → Tally
+tally_after answers words more = tally_with answers words.tally (named_of (held_of words) words.passes more)
+
+-- what follows on the bytes that were appended for the bytes that were taken: dots, and the bytes themselves where they stay
+abbrev pub behind : Taken → List ℕ → List ℕ
+behind taken bytes = replicate taken.dots 46 ++ (if taken.stay then bytes else [])
+
+-- a filter takes a piece and gives bytes for it: whatever follows, these bytes and what is still to come are the whole,
+-- and the tally in the end is the same
+pub record Takes (answers : Answering) (old new : Words) (piece bytes : List ℕ) : Type 0 where
+  pub text : (more : List ℕ) → rest_after answers old (piece ++ more) ≡ bytes ++ rest_after answers new more
+  pub counts : (more : List ℕ) → tally_after answers old (piece ++ more) ≡ tally_after answers new more
+  pub dots : new.dots ≤ old.dots + length piece

@@ -1,0 +1,221 @@
+// The filter: words of a text that are symbols are replaced by their texts.
+ghost use Rattle.std.specs.Prelude.{◌≡◌, ◌≢◌, ◌+◌, ◌-◌, ◌^◌, ◌<◌, ◌≤◌, ℕ, List, [], ◌++◌, length, vec_len, replicate, IfOk, OnOk, OnErr, IfErr};
+ghost use Rattle.sym_filter.specs.Languages.{answer_of};
+ghost use Rattle.sym_filter.specs.Streams.{reader_faults, writer_faults, Puts, PutsFront, FiltersAll, FiltersFront};
+ghost use Rattle.sym_filter.specs.Words.{rest_after, tally_after, behind, Takes};
+
+use crate::demangler::Demangler;
+use crate::languages::Languages;
+use crate::streams::{FilterFault, Sink, Source, write_all};
+use crate::words::{Taken, Tally, Words};
+use std::alloc::{AllocError, Global};
+use sym_print::Detail;
+
+/// How many bytes are read at a time, and from how many on they are written.
+const ROOM: usize = 65_536;
+
+/// Reads all that the source gives, and writes it with each word that names a symbol replaced by the symbol's whole text,
+/// where that costs at most the limit.
+pub fn filter<R: Source, W: Sink>(
+    alloc: Global,
+    reader: &mut R,
+    writer: &mut W,
+    limit: u32,
+) -> Result<Tally, FilterFault>
+    requires reader_failures { R.failure_count reader.old < 2 ^ 64 - 1 }
+    requires writer_failures { W.failure_count writer.old < 2 ^ 64 - 1 }
+    ensures ok { IfOk result (λ tally. FiltersAll (answer_of limit Detail.Full)
+        (R.coming reader.old) (R.coming reader.new) (W.taken writer.old) (W.taken writer.new) tally) }
+    ensures err { OnErr result (FiltersFront (answer_of limit Detail.Full)
+        (R.coming reader.old) (R.coming reader.new) (W.taken writer.old) (W.taken writer.new)) }
+    ensures read_failed { R.failure_count reader.new ≡ R.failure_count reader.old + reader_faults result }
+    ensures write_failed { W.failure_count writer.new ≡ W.failure_count writer.old + writer_faults result }
+{
+    filter_as(alloc, reader, writer, limit, Detail::Full)
+}
+
+/// The filter with texts of a detail.
+pub fn filter_as<R: Source, W: Sink>(
+    alloc: Global,
+    reader: &mut R,
+    writer: &mut W,
+    limit: u32,
+    detail: Detail,
+) -> Result<Tally, FilterFault>
+    requires reader_failures { R.failure_count reader.old < 2 ^ 64 - 1 }
+    requires writer_failures { W.failure_count writer.old < 2 ^ 64 - 1 }
+    ensures ok { IfOk result (λ tally. FiltersAll (answer_of limit detail)
+        (R.coming reader.old) (R.coming reader.new) (W.taken writer.old) (W.taken writer.new) tally) }
+    ensures err { OnErr result (FiltersFront (answer_of limit detail)
+        (R.coming reader.old) (R.coming reader.new) (W.taken writer.old) (W.taken writer.new)) }
+    ensures read_failed { R.failure_count reader.new ≡ R.failure_count reader.old + reader_faults result }
+    ensures write_failed { W.failure_count writer.new ≡ W.failure_count writer.old + writer_faults result }
+{
+    filter_with(alloc, reader, writer, &Languages { limit, detail })
+}
+
+/// The filter over any demangler. What cannot be decided yet is held back: at most the longest word, and a count of
+/// dots behind it. What is decided after a read is written before the next.
+pub fn filter_with<R: Source, W: Sink, D: Demangler>(
+    alloc: Global,
+    reader: &mut R,
+    writer: &mut W,
+    demangler: &D,
+) -> Result<Tally, FilterFault>
+    requires reader_failures { R.failure_count reader.old < 2 ^ 64 - 1 }
+    requires writer_failures { W.failure_count writer.old < 2 ^ 64 - 1 }
+    ensures ok { IfOk result (λ tally. FiltersAll (D.answer demangler.now)
+        (R.coming reader.old) (R.coming reader.new) (W.taken writer.old) (W.taken writer.new) tally) }
+    ensures err { OnErr result (FiltersFront (D.answer demangler.now)
+        (R.coming reader.old) (R.coming reader.new) (W.taken writer.old) (W.taken writer.new)) }
+    ensures read_failed { R.failure_count reader.new ≡ R.failure_count reader.old + reader_faults result }
+    ensures write_failed { W.failure_count writer.new ≡ W.failure_count writer.old + writer_faults result }
+{
+    let _left = reader.left();
+    let mut words = Words::new(alloc);
+    let mut out = Vec::new(alloc);
+    let mut lists = demangler.lists(alloc)?;
+    let mut room = room_for_reads(alloc)?;
+    loop {
+        let Some(count) = reader.read(&mut room) else {
+            return Err(FilterFault::Read);
+        };
+        if count == 0 {
+            break;
+        }
+        let piece = &room[..count];
+        take_piece(demangler, &mut lists, &mut words, piece, &mut out, writer)?;
+    }
+    end_text(demangler, &mut lists, &mut words, &mut out, writer)?;
+    Ok(words.tally())
+}
+
+/// Room for the bytes of one read.
+fn room_for_reads(alloc: Global) -> Result<Vec<u8>, AllocError>
+    ensures { IfOk result (λ room. vec_len room ≡ 65536) }
+{
+    vec![in alloc; 0u8; ROOM]
+}
+
+/// Takes a piece of the text, and writes what is known of the filtered text by it.
+fn take_piece<W: Sink, D: Demangler>(
+    demangler: &D,
+    lists: &mut D::Lists,
+    words: &mut Words,
+    piece: &[u8],
+    out: &mut Vec<u8>,
+    writer: &mut W,
+) -> Result<(), FilterFault>
+    requires failures { W.failure_count writer.old < 2 ^ 64 - 1 }
+    requires nothing_waits { out.old.items ≡ [] }
+    requires room { words.old.dots + length piece.now < 2 ^ 128 }
+    ensures ok { OnOk result ((bytes : List ℕ) × Takes (D.answer demangler.now) words.old words.new piece.now bytes
+        × Puts (W.taken writer.old) (W.taken writer.new) [] out.new.items bytes) }
+    ensures nothing_waits { OnOk result (out.new.items ≡ []) }
+    ensures err { IfErr result (λ fault. (fault ≢ FilterFault.Read)
+        × PutsFront (W.taken writer.old) (W.taken writer.new) [] (rest_after (D.answer demangler.now) words.old piece.now)) }
+    ensures failures { W.failure_count writer.new ≡ W.failure_count writer.old + writer_faults result }
+{
+    let mut at = 0;
+    while at < piece.len() {
+        let rest = &piece[at..];
+        let taken = words.take(demangler, lists, rest, out)?;
+        put_behind(writer, out, taken, &rest[..taken.count])?;
+        at += taken.count;
+    }
+    words.read_ahead(demangler, lists);
+    write_out(writer, out)?;
+    Ok(())
+}
+
+/// Writes what is still to come of the filtered text at the text's end.
+fn end_text<W: Sink, D: Demangler>(
+    demangler: &D,
+    lists: &mut D::Lists,
+    words: &mut Words,
+    out: &mut Vec<u8>,
+    writer: &mut W,
+) -> Result<(), FilterFault>
+    requires failures { W.failure_count writer.old < 2 ^ 64 - 1 }
+    requires nothing_waits { out.old.items ≡ [] }
+    ensures ok { OnOk result (Puts (W.taken writer.old) (W.taken writer.new) [] []
+        (rest_after (D.answer demangler.now) words.old [])) }
+    ensures counts { OnOk result (words.new.tally ≡ tally_after (D.answer demangler.now) words.old []) }
+    ensures err { IfErr result (λ fault. (fault ≢ FilterFault.Read)
+        × PutsFront (W.taken writer.old) (W.taken writer.new) [] (rest_after (D.answer demangler.now) words.old [])) }
+    ensures failures { W.failure_count writer.new ≡ W.failure_count writer.old + writer_faults result }
+{
+    let dots = words.end_word(demangler, lists, out)?;
+    write_dots(writer, out, dots)?;
+    write_out(writer, out)?;
+    Ok(())
+}
+
+/// Puts what follows on taken bytes behind the bytes that wait to be written: dots, and the bytes where they stay.
+fn put_behind<W: Sink>(
+    writer: &mut W,
+    out: &mut Vec<u8>,
+    taken: Taken,
+    bytes: &[u8],
+) -> Result<(), FilterFault>
+    requires failures { W.failure_count writer.old < 2 ^ 64 - 1 }
+    ensures ok { OnOk result (Puts (W.taken writer.old) (W.taken writer.new) out.old.items out.new.items
+        (behind taken bytes.now)) }
+    ensures err { IfErr result (λ fault. (fault ≢ FilterFault.Read)
+        × PutsFront (W.taken writer.old) (W.taken writer.new) out.old.items (behind taken bytes.now)) }
+    ensures failures { W.failure_count writer.new ≡ W.failure_count writer.old + writer_faults result }
+{
+    write_dots(writer, out, taken.dots)?;
+    if !taken.stay {
+        return Ok(());
+    }
+    out.extend_from_slice(bytes)?;
+    write_when_full(writer, out)?;
+    Ok(())
+}
+
+/// Puts dots behind the bytes that wait to be written.
+fn write_dots<W: Sink>(writer: &mut W, out: &mut Vec<u8>, dots: u128) -> Result<(), FilterFault>
+    requires failures { W.failure_count writer.old < 2 ^ 64 - 1 }
+    ensures ok { OnOk result (Puts (W.taken writer.old) (W.taken writer.new) out.old.items out.new.items
+        (replicate dots 46)) }
+    ensures err { IfErr result (λ fault. (fault ≢ FilterFault.Read)
+        × PutsFront (W.taken writer.old) (W.taken writer.new) out.old.items (replicate dots 46)) }
+    ensures failures { W.failure_count writer.new ≡ W.failure_count writer.old + writer_faults result }
+{
+    for _ in 0..dots {
+        out.push(b'.')?;
+        write_when_full(writer, out)?;
+    }
+    Ok(())
+}
+
+/// Writes the bytes that wait, where they are many.
+fn write_when_full<W: Sink>(writer: &mut W, out: &mut Vec<u8>) -> Result<(), FilterFault>
+    requires failures { W.failure_count writer.old < 2 ^ 64 - 1 }
+    ensures ok { OnOk result (Puts (W.taken writer.old) (W.taken writer.new) out.old.items out.new.items []) }
+    ensures few_wait { OnOk result (length out.new.items < 65536) }
+    ensures err { IfErr result (λ fault. (fault ≢ FilterFault.Read)
+        × PutsFront (W.taken writer.old) (W.taken writer.new) out.old.items []) }
+    ensures failures { W.failure_count writer.new ≡ W.failure_count writer.old + writer_faults result }
+{
+    if out.len() < ROOM {
+        return Ok(());
+    }
+    write_out(writer, out)?;
+    Ok(())
+}
+
+/// Writes the bytes that wait.
+fn write_out<W: Sink>(writer: &mut W, out: &mut Vec<u8>) -> Result<(), FilterFault>
+    requires failures { W.failure_count writer.old < 2 ^ 64 - 1 }
+    ensures ok { OnOk result (Puts (W.taken writer.old) (W.taken writer.new) out.old.items out.new.items []) }
+    ensures nothing_waits { OnOk result (out.new.items ≡ []) }
+    ensures err { IfErr result (λ fault. (fault ≢ FilterFault.Read)
+        × PutsFront (W.taken writer.old) (W.taken writer.new) out.old.items []) }
+    ensures failures { W.failure_count writer.new ≡ W.failure_count writer.old + writer_faults result }
+{
+    write_all(writer, out)?;
+    out.clear();
+    Ok(())
+}

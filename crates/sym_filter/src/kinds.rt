@@ -1,0 +1,37 @@
+// Which words are symbols, and of which language.
+ghost use Rattle.std.specs.Prelude.{◌≡◌};
+ghost use Rattle.sym_filter.specs.Kinds.{kind_of};
+
+/// The longest word that is read as a symbol, in bytes.
+pub const LONGEST_WORD: usize = 65_536;
+
+/// A mangling.
+#[derive(Clone, Copy, Debug, PartialEq, Eq)]
+pub enum Lang {
+    Cpp,
+    Rust,
+}
+
+/// The mangling of a word, and how many bytes stand before its symbol.
+#[derive(Clone, Copy, Debug, PartialEq, Eq)]
+pub struct Kind {
+    pub lang: Lang,
+    pub skip: u32,
+}
+
+/// The kind of a word that names a symbol, by its length and how it begins.
+pub fn kind_of(word: &[u8]) -> Option<Kind>
+    ensures { result ≡ kind_of word.now }
+{
+    if word.len() > LONGEST_WORD {
+        return None;
+    }
+    let (lang, skip) = match word {
+        [b'_', b'Z', ..] => (Lang::Cpp, 0),
+        [b'_', b'R', ..] => (Lang::Rust, 0),
+        [b'_', b'_', b'Z', ..] => (Lang::Cpp, 1),
+        [b'_', b'_', b'R', ..] => (Lang::Rust, 1),
+        _ => return None,
+    };
+    Some(Kind { lang, skip })
+}

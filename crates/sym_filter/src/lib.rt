@@ -1,0 +1,20 @@
+//! Which words of a text are mangled symbols, and the text with each of them replaced by what it stands for.
+#![tactic(auto)]
+
+pub mod demangler;
+mod filtering;
+pub mod kinds;
+pub mod languages;
+mod laws;
+pub mod standard;
+pub mod streams;
+pub mod words;
+
+pub use demangler::{Counts, Demangler};
+pub use filtering::{filter, filter_as, filter_with};
+pub use kinds::{Kind, Lang, kind_of};
+pub use languages::Languages;
+pub use laws::filtered_by_splits;
+pub use standard::{ReaderSource, WriterSink};
+pub use streams::{FilterFault, Sink, Source};
+pub use words::Tally;

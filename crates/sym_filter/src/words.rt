@@ -1,0 +1,370 @@
+// Words found in a text that comes in any pieces.
+ghost use Rattle.std.specs.Prelude.{◌≡◌, ◌≢◌, ◌+◌, ◌-◌, ◌^◌, ◌<◌, ◌≤◌, ℕ, List, [], ◌∷◌, ◌++◌, length, take, slice_index, vec_len, true, false, replicate, OnOk, IfOk, Some, is_some, OnErr};
+ghost use Rattle.std.specs.List.{list_all};
+ghost use Rattle.sym_filter.specs.Runs.{is_run_byte, text_for, word_of, word_or_text, IsTally};
+ghost use Rattle.sym_filter.specs.Kinds.{kind_of};
+ghost use Rattle.sym_filter.specs.Held.{IsHeld};
+ghost use Rattle.sym_filter.specs.Plain.{is_plain, is_in_run};
+
+use crate::demangler::Demangler;
+use crate::kinds::{Kind, LONGEST_WORD, kind_of};
+use std::alloc::{AllocError, Global};
+use sym_core::Refusal;
+
+/// How many words name symbols, are replaced by a text, and are not.
+#[derive(Clone, Copy, Debug, PartialEq, Eq)]
+pub struct Tally {
+    pub words: u64,
+    pub replaced: u64,
+    pub refused: u64,
+}
+
+impl Tally {
+    ghost use Rattle.sym_filter.specs.Runs.{tally_counted};
+
+    /// Counts a word that has a text or none.
+    fn count(&mut self, has_text: bool)
+        ensures { self.new ≡ tally_counted has_text self.old }
+    {
+        self.words = self.words.saturating_add(1);
+        if has_text {
+            self.replaced = self.replaced.saturating_add(1);
+        } else {
+            self.refused = self.refused.saturating_add(1);
+        }
+    }
+}
+
+// For each byte whether it belongs to runs: ASCII letters, digits, `_`, `.`, `$`, and all from 0x80.
+static RUN_BYTES: [u8; 256] = *b"\
+    00000000000000000000000000000000\
+    00001000000000101111111111000000\
+    01111111111111111111111111100001\
+    01111111111111111111111111100000\
+    11111111111111111111111111111111\
+    11111111111111111111111111111111\
+    11111111111111111111111111111111\
+    11111111111111111111111111111111";
+
+/// Whether the byte belongs to runs.
+#[inline]
+pub fn is_run_byte(byte: u8) -> bool
+    ensures { result ≡ is_run_byte byte }
+{
+    RUN_BYTES[byte as usize] == b'1'
+}
+
+/// The front of a text that can be passed on as it is, and whether its last byte belongs to a run.
+#[derive(Clone, Copy, Debug, PartialEq, Eq)]
+struct Front {
+    length: usize,
+    in_run: bool,
+}
+
+/// The front of a text up to the first `_` that begins a run; `in_run` says whether the byte before belongs to a run.
+fn plain_front(text: &[u8], in_run: bool) -> Front
+    ensures within { result.length ≤ length text.now }
+    ensures plain { is_plain in_run (take result.length text.now) ≡ true }
+    ensures in_run { result.in_run ≡ is_in_run in_run (take result.length text.now) }
+    ensures stops { result.length < length text.now → result.in_run ≡ false }
+{
+    let mut length = 0;
+    for byte in text {
+        if *byte == b'_' && !is_in_run(text, length, in_run) {
+            return Front {
+                length,
+                in_run: false,
+            };
+        }
+        length += 1;
+    }
+    Front {
+        length,
+        in_run: is_in_run(text, length, in_run),
+    }
+}
+
+/// Whether the byte before a place of a text belongs to a run.
+fn is_in_run(text: &[u8], at: usize, in_run: bool) -> bool
+    requires { at ≤ length text.now }
+    ensures { result ≡ is_in_run in_run (take at text.now) }
+{
+    if at == 0 {
+        return in_run;
+    }
+    is_run_byte(text[at - 1])
+}
+
+/// Whether a text begins with four bytes that belong to runs.
+#[inline(always)]
+fn begins_with_four(text: &[u8]) -> bool
+    ensures { result ≡ true → (4 ≤ length text.now) × (list_all is_run_byte (take 4 text.now) ≡ true) }
+{
+    match text {
+        [first, second, third, fourth, ..] => {
+            is_run_byte(*first)
+                && is_run_byte(*second)
+                && is_run_byte(*third)
+                && is_run_byte(*fourth)
+        }
+        _ => false,
+    }
+}
+
+/// How many bytes at the front of a text belong to runs, in whole fours.
+#[inline(always)]
+fn fours_front(text: &[u8]) -> usize
+    ensures within { result ≤ length text.now }
+    ensures in_run { list_all is_run_byte (take result text.now) ≡ true }
+{
+    let mut length = 0;
+    'fours: while begins_with_four(&text[length..]) {
+        length += 4;
+    }
+    length
+}
+
+/// How many bytes at the front of a text belong to runs.
+fn run_front(text: &[u8]) -> usize
+    ensures within { result ≤ length text.now }
+    ensures in_run { list_all is_run_byte (take result text.now) ≡ true }
+    ensures stops { result < length text.now → is_run_byte (slice_index text.now result) ≡ false }
+{
+    let mut length = fours_front(text);
+    'bytes: while length < text.len() {
+        if !is_run_byte(text[length]) {
+            return length;
+        }
+        length += 1;
+    }
+    length
+}
+
+/// How many bytes of a text were taken, and what follows on the bytes that were appended for them: dots, and behind
+/// the dots the bytes themselves, where they stay.
+#[derive(Clone, Copy, Debug, PartialEq, Eq)]
+pub struct Taken {
+    pub dots: u128,
+    pub count: usize,
+    pub stay: bool,
+}
+
+/// Where a text stands that is filtered.
+#[derive(Drop)]
+pub struct Words {
+    // the run so far, up to its last byte that is no dot; nothing where no run has begun or it is passed on
+    held: Vec<u8>,
+    // the dots behind it
+    dots: u128,
+    // the run's word cannot name a symbol, and its bytes are passed on as they come
+    passes: bool,
+    tally: Tally,
+    ghost is_held: { IsHeld held.items dots passes },
+    ghost is_counted: { IsTally tally },
+}
+
+impl Words {
+    ghost use Rattle.sym_filter.specs.Words.{held_of, behind, Takes};
+    ghost use Rattle.sym_filter.specs.Runs.{tally_with_word};
+
+    pub fn new(alloc: Global) -> Words
+        ensures holds_nothing { held_of result ≡ [] }
+        ensures no_dots { result.dots ≡ 0 }
+        ensures in_no_run { result.passes ≡ false }
+        ensures nothing_counted { result.tally ≡ record { words = 0; replaced = 0; refused = 0 } }
+    {
+        let tally = Tally {
+            words: 0,
+            replaced: 0,
+            refused: 0,
+        };
+        Words {
+            held: Vec::new(alloc),
+            dots: 0,
+            passes: false,
+            tally,
+        }
+    }
+
+    pub fn tally(&self) -> Tally
+        ensures { result ≡ self.now.tally }
+    {
+        self.tally
+    }
+
+    /// Lets the demangler read what is there of the word that is held, if it names a symbol.
+    pub fn read_ahead<D: Demangler>(&self, demangler: &D, lists: &mut D::Lists) {
+        if let Some(kind) = kind_of(&self.held) {
+            demangler.read_ahead(lists, kind.lang, &self.held[kind.skip as usize..]);
+        }
+    }
+
+    /// Takes bytes from the front of a text, appends what is known of the filtered text by them, and answers what
+    /// follows on that.
+    pub fn take<D: Demangler>(
+        &mut self,
+        demangler: &D,
+        lists: &mut D::Lists,
+        text: &[u8],
+        out: &mut Vec<u8>,
+    ) -> Result<Taken, AllocError>
+        requires some { 0 < length text.now }
+        requires dots { self.old.dots + length text.now < 2 ^ 128 }
+        ensures within { IfOk result (λ taken. (0 < taken.count) × (taken.count ≤ length text.now)) }
+        ensures takes { IfOk result (λ taken. (bytes : List ℕ) × (out.new.items ≡ out.old.items ++ bytes)
+            × Takes (D.answer demangler.now) self.old self.new (take taken.count text.now)
+            (bytes ++ behind taken (take taken.count text.now))) }
+    {
+        if self.held.is_empty() && self.dots == 0 {
+            let front = plain_front(text, self.passes);
+            if front.length > 0 {
+                self.passes = front.in_run;
+                return Ok(Taken {
+                    dots: 0,
+                    count: front.length,
+                    stay: true,
+                });
+            }
+        }
+        let count = run_front(text);
+        if count == 0 {
+            let dots = self.end_word(demangler, lists, out)?;
+            return Ok(Taken {
+                dots,
+                count: 1,
+                stay: true,
+            });
+        }
+        let taken = self.hold(&text[..count], out)?;
+        Ok(taken)
+    }
+
+    /// Holds a part of a run, or passes the run on where it is too long for a word that names a symbol.
+    fn hold(&mut self, part: &[u8], out: &mut Vec<u8>) -> Result<Taken, AllocError>
+        requires in_run { list_all is_run_byte part.now ≡ true }
+        requires holds { self.old.passes ≡ false }
+        requires dots { self.old.dots + length part.now < 2 ^ 128 }
+        ensures same { OnOk result (self.new.tally ≡ self.old.tally) }
+        ensures dots { OnOk result (self.new.dots ≤ self.old.dots + length part.now) }
+        ensures count { IfOk result (λ taken. taken.count ≡ length part.now) }
+        ensures held { IfOk result (λ taken. taken.stay ≡ false → (self.new.passes ≡ false) × (taken.dots ≡ 0)
+            × (held_of self.new ≡ held_of self.old ++ part.now) × (out.new.items ≡ out.old.items)) }
+        ensures passes { IfOk result (λ taken. taken.stay ≡ true → (self.new.passes ≡ true)
+            × (taken.dots ≡ self.old.dots) × (out.new.items ≡ out.old.items ++ self.old.held.items)
+            × (65536 < length (word_of (held_of self.old ++ part.now)))) }
+    {
+        let end = word_end(part);
+        let dots = self.dots;
+        if end == 0 {
+            self.dots = dots + part.len() as u128;
+            return Ok(Taken {
+                dots: 0,
+                count: part.len(),
+                stay: false,
+            });
+        }
+        let room = LONGEST_WORD - self.held.len();
+        if dots + end as u128 > room as u128 {
+            out.extend_from_slice(&self.held)?;
+            self.held.clear();
+            self.dots = 0;
+            self.passes = true;
+            return Ok(Taken {
+                dots,
+                count: part.len(),
+                stay: true,
+            });
+        }
+        push_word(&mut self.held, dots as usize, &part[..end])?;
+        self.dots = (part.len() - end) as u128;
+        Ok(Taken {
+            dots: 0,
+            count: part.len(),
+            stay: false,
+        })
+    }
+
+    /// Ends the run that is held: appends the text of its word, or the word, and counts it where it names a symbol.
+    /// Answers how many dots stand behind it.
+    pub fn end_word<D: Demangler>(
+        &mut self,
+        demangler: &D,
+        lists: &mut D::Lists,
+        out: &mut Vec<u8>,
+    ) -> Result<u128, AllocError>
+        ensures text { OnOk result (out.new.items ≡ out.old.items
+            ++ word_or_text (D.answer demangler.now) self.old.held.items) }
+        ensures counts { OnOk result (self.new.tally
+            ≡ tally_with_word (D.answer demangler.now) self.old.tally self.old.held.items) }
+        ensures dots { IfOk result (λ dots. dots ≡ self.old.dots) }
+        ensures ends { OnOk result ((held_of self.new ≡ []) × (self.new.dots ≡ 0) × (self.new.passes ≡ false)) }
+        ensures same { OnErr result (self.new ≡ self.old) }
+    {
+        let dots = self.dots;
+        match kind_of(&self.held) {
+            Some(kind) => {
+                let has_text = push_text(demangler, lists, &self.held, kind, out)?;
+                self.tally.count(has_text);
+            }
+            None => out.extend_from_slice(&self.held)?,
+        }
+        self.held.clear();
+        self.dots = 0;
+        self.passes = false;
+        Ok(dots)
+    }
+}
+
+/// Appends the text of a word's symbol, or the word where it has none, and says whether it has one.
+fn push_text<D: Demangler>(
+    demangler: &D,
+    lists: &mut D::Lists,
+    word: &[u8],
+    kind: Kind,
+    out: &mut Vec<u8>,
+) -> Result<bool, AllocError>
+    requires { kind_of word.now ≡ Some kind }
+    ensures text { OnOk result (out.new.items ≡ out.old.items ++ word_or_text (D.answer demangler.now) word.now) }
+    ensures has_text { IfOk result (λ has_text. has_text ≡ is_some (text_for (D.answer demangler.now) word.now)) }
+{
+    match demangler.demangle(lists, kind.lang, &word[kind.skip as usize..], out) {
+        Ok(()) => Ok(true),
+        Err(refusal) => match refusal {
+            Refusal::Memory => Err(AllocError),
+            _ => {
+                out.extend_from_slice(word)?;
+                Ok(false)
+            }
+        },
+    }
+}
+
+/// The place behind the last byte of a run's part that is no dot, 0 where there is none.
+fn word_end(part: &[u8]) -> usize
+    ensures within { result ≤ length part.now }
+    ensures word { take result part.now ≡ word_of part.now }
+{
+    let mut end = part.len();
+    while end > 0 {
+        if part[end - 1] != b'.' {
+            return end;
+        }
+        end -= 1;
+    }
+    0
+}
+
+/// Appends dots and a part of a word behind them, or nothing.
+fn push_word(held: &mut Vec<u8>, dots: usize, part: &[u8]) -> Result<(), AllocError>
+    requires { length held.old.items + dots + length part.now ≤ 65536 }
+    ensures ok { OnOk result (held.new.items ≡ held.old.items ++ replicate dots 46 ++ part.now) }
+    ensures unchanged { OnErr result (held.new.items ≡ held.old.items) }
+{
+    let len = held.len();
+    held.resize(len + dots, b'.')?;
+    if held.extend_from_slice(part).is_err() {
+        held.truncate(len);
+        return Err(AllocError);
+    }
+    Ok(())
+}

@@ -1,9 +1,0 @@
-use Rattle.std.proofs.Common.{◌≡◌, replicate}
-use Rattle.symfilt.specs.Streams.{Puts}
-use Rattle.symfilt.proofs.filtering.write_dots.Given as goal
-
-abbrev pub invariant-loop : goal.invariant-loop
-invariant-loop g l = record {
-  puts : Puts (g.W.Sink.taken l.fn.writer) (g.W.Sink.taken l.writer) l.fn.out.items l.out.items (replicate l.counter 46);
-  failures : g.W.Sink.failure_count l.writer ≡ g.W.Sink.failure_count l.fn.writer;
-}
