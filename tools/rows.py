@@ -1,5 +1,5 @@
 #!/usr/bin/env python3
-"""Writes the rows of crate itanium that compute its definitions at single symbols.
+"""Writes the rows of crate cpp_grammar that compute its definitions at single symbols.
 usage: rows.py REFERENCE GENERATOR FOLDER
 REFERENCE is a Python module with demangle(symbol, limit, brief) that answers (answer, at, text, cost); GENERATOR is one with
 symbols(seed, count, lang, mode, size=, wild=). FOLDER is the crate's. The listed symbols stand in cpp_symbols.txt."""
@@ -53,8 +53,8 @@ def names_in(folder):
 def write(folder, name, title, groups):
     names = names_in(folder)
     out = [f"-- {title}", "use Rattle.std.specs.Prelude.{◌≡◌, refl, true, List, [], ◌∷◌}", "use Rattle.std.specs.Fmt.{digits}", "use Rattle.sym_print.specs.Unfold.{printed_to, printed}",
-           "use Rattle.itanium.proofs.Row.{" + ", ".join(["Row"] + [w for w in WORDS if any(r.startswith(w + " ") for rows in groups for r in rows)]) + "}"]
-    out += [f"use Rattle.itanium.{module}.{{{', '.join(ns)}}}" for module, ns in names.items() if ns]
+           "use Rattle.cpp_grammar.proofs.Row.{" + ", ".join(["Row"] + [w for w in WORDS if any(r.startswith(w + " ") for rows in groups for r in rows)]) + "}"]
+    out += [f"use Rattle.cpp_grammar.{module}.{{{', '.join(ns)}}}" for module, ns in names.items() if ns]
     unfolding = "unfolding digits printed_to printed " + " ".join(n for ns in names.values() for n in ns)
     for k, rows in enumerate(groups):
         out += ["", f"rows_{k} : List Row", f"rows_{k} =", *[f"    {r} ∷" for r in rows], "    []", "", f"right_{k} : are_right rows_{k} ≡ true", unfolding, f"right_{k} = refl"]
