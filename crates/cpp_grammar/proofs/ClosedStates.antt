@@ -12,12 +12,12 @@ use Rattle.cpp_grammar.specs.Scope.{count, element, length_if_pack, is_open}
 use Rattle.cpp_grammar.specs.Closed.{ScopesAreClosed}
 use Rattle.sym_core.specs.declared.NumberKind.TheVariants.{Seq36}
 use Rattle.sym_core.specs.Value.{counted_value}
-use Rattle.cpp_grammar.specs.Values.{Candidate, State, Prefix, outermost, behind, Around, Value, tree, tree_of, is_listed, text_of, part}
+use Rattle.cpp_grammar.specs.Values.{Candidate, State, Prefix, outermost, behind, Around, Value, tree, is_listed, text_of, part, tree_of}
 use Rattle.cpp_grammar.specs.References.{appended, is_builtin, is_function_type, with_type, with_unqualified, with_prefix, with_packs, packs_in, substituted, parameter_named}
 use Rattle.cpp_grammar.specs.Meaning.{meaning}
 use Rattle.cpp_grammar.specs.Unfolding as unfolding_
 use Rattle.cpp_grammar.specs.Unfolding.{close}
-use Rattle.cpp_grammar.proofs.ClosedValues.{Good, AllGood, GoodPrefix, HasClosedName, good_part, meaning_good}
+use Rattle.cpp_grammar.proofs.ClosedValues.{Good, AllGood, GoodPrefix, HasClosedName, held, good_tree, good_part, meaning_good}
 
 -- no parameters are named here
 abbrev pub Bare : Around → Type 0
@@ -165,34 +165,34 @@ old_get around at (d ∷ cs) zero c all e = let same : d ≡ c = cc in subst (λ
 old_get around at (d ∷ cs) (suc n) c all e = old_get around at cs n c all.1 e
 
 named_good : (around : Around) (place at : ℕ) (c : Candidate) (state : State) (r : Found Value State) → IsOld around at c → substituted around place (Some c) state ≡ Ok r →
-    Good (Bare around) (tree_of r.value) × (r.state.candidates ≡ state.candidates)
-unfolding substituted tree_of
+    Good (Bare around) (held r.value) × (r.state.candidates ≡ state.candidates)
+unfolding substituted held
 named_good around place at c state r old e = go (is_open c.tree) around.in_lambda (nat_eq c.encoding around.encoding) refl refl refl e
   where
     answered : (Bare around → is_open c.tree ≡ false) → (with_packs place around.in_expansion (packs_in around.scope c.tree) state >>= λ s. Ok (found (tree c.tree true) s)) ≡ Ok r →
-        Good (Bare around) (tree_of r.value) × (r.state.candidates ≡ state.candidates)
+        Good (Bare around) (held r.value) × (r.state.candidates ≡ state.candidates)
     answered closed h =
         let b = behind_bind (with_packs place around.in_expansion (packs_in around.scope c.tree) state) (λ s. Ok (found (tree c.tree true) s)) r h in
         let same : found (tree c.tree true) b.value ≡ r = ok_same (found (tree c.tree true) b.value) r b.next in
-        subst (λ x. Good (Bare around) (tree_of x.value) × (x.state.candidates ≡ state.candidates)) same
+        subst (λ x. Good (Bare around) (held x.value) × (x.state.candidates ≡ state.candidates)) same
         (record { closed = closed; scopes = old.scopes }, packs_keep place around.in_expansion (packs_in around.scope c.tree) state b.value b.is)
 
     go : (open_ lambda_ same : Bool) → is_open c.tree ≡ open_ → around.in_lambda ≡ lambda_ → nat_eq c.encoding around.encoding ≡ same →
         ◌≡◌ {A = Result (Found Value State) Refusal} (elim (open_ && (lambda_ || not same)) [
           | true ↦ Err (BadReference place)
           | false ↦ with_packs place around.in_expansion (packs_in around.scope c.tree) state >>= λ s. Ok (found (tree c.tree true) s)
-        ]) (Ok r) → Good (Bare around) (tree_of r.value) × (r.state.candidates ≡ state.candidates)
+        ]) (Ok r) → Good (Bare around) (held r.value) × (r.state.candidates ≡ state.candidates)
     go false lambda_ same is-open is-lambda is-same h = answered (λ bare. is-open) h
     go true true same is-open is-lambda is-same h = absurd cc
     go true false false is-open is-lambda is-same h = absurd cc
     go true false true is-open is-lambda is-same h = answered (λ bare. old.closed bare is-lambda (eqb-true c.encoding around.encoding is-same)) h
 
 pub substituted_good : (around : Around) (place at n : ℕ) (state : State) (r : Found Value State) → AllOld around at state.candidates →
-    substituted around place (slice_get state.candidates n) state ≡ Ok r → Good (Bare around) (tree_of r.value) × (r.state.candidates ≡ state.candidates)
+    substituted around place (slice_get state.candidates n) state ≡ Ok r → Good (Bare around) (held r.value) × (r.state.candidates ≡ state.candidates)
 unfolding substituted
 substituted_good around place at n state r all e = go (slice_get state.candidates n) refl e
   where
-    go : (o : Option Candidate) → slice_get state.candidates n ≡ o → substituted around place o state ≡ Ok r → Good (Bare around) (tree_of r.value) × (r.state.candidates ≡ state.candidates)
+    go : (o : Option Candidate) → slice_get state.candidates n ≡ o → substituted around place o state ≡ Ok r → Good (Bare around) (held r.value) × (r.state.candidates ≡ state.candidates)
     go None is h = let clash : ◌≡◌ {A = Result (Found Value State) Refusal} (Err (BadReference place)) (Ok r) = h in absurd cc
     go (Some c) is h = named_good around place at c state r (old_get around at state.candidates n c all is) h
 
@@ -253,10 +253,10 @@ with_prefix_grows around end state good = go around.prefix good
 behind_grows : (production : Production) (byte : ℕ) (around : Around) (began : State) (vs : List Value) (state : State) (end : ℕ) →
     GoodPrefix (Bare around) around.prefix → AllGood (Bare around) vs → Grows around end state (unfolding_.behind production byte around began vs state)
 unfolding unfolding_.behind
-behind_grows Production.RestrictType byte around began vs state end pre all = grows_one around end _ state (meaning_good (Bare around) Production.RestrictType byte around vs pre all tt)
-behind_grows Production.VolatileType byte around began vs state end pre all = grows_one around end _ state (meaning_good (Bare around) Production.VolatileType byte around vs pre all tt)
-behind_grows Production.ConstType byte around began vs state end pre all = grows_one around end _ state (meaning_good (Bare around) Production.ConstType byte around vs pre all tt)
-behind_grows Production.ReferenceType byte around began vs state end pre all = grows_one around end _ state (meaning_good (Bare around) Production.ReferenceType byte around vs pre all tt)
+behind_grows Production.RestrictType byte around began vs state end pre all = grows_one around end _ state (good_tree (Bare around) (meaning Production.RestrictType byte around vs) (meaning_good (Bare around) Production.RestrictType byte around vs pre all tt))
+behind_grows Production.VolatileType byte around began vs state end pre all = grows_one around end _ state (good_tree (Bare around) (meaning Production.VolatileType byte around vs) (meaning_good (Bare around) Production.VolatileType byte around vs pre all tt))
+behind_grows Production.ConstType byte around began vs state end pre all = grows_one around end _ state (good_tree (Bare around) (meaning Production.ConstType byte around vs) (meaning_good (Bare around) Production.ConstType byte around vs pre all tt))
+behind_grows Production.ReferenceType byte around began vs state end pre all = grows_one around end _ state (good_tree (Bare around) (meaning Production.ReferenceType byte around vs) (meaning_good (Bare around) Production.ReferenceType byte around vs pre all tt))
 behind_grows Production.PlainType byte around began vs state end pre all = with_type_grows around end (part vs 0) state (good_part (Bare around) vs 0 all)
 behind_grows Production.TypeWithD byte around began vs state end pre all = with_type_grows around end (part vs 0) state (good_part (Bare around) vs 0 all)
 behind_grows Production.ItemWithD byte around began vs state end pre all = with_type_grows around end (part vs 0) state (good_part (Bare around) vs 0 all)
@@ -266,7 +266,7 @@ behind_grows _ byte around began vs state end pre all = grows_same around end st
 
 -- what a part comes to is good, and the candidates grow
 pub record Comes (around : Around) (end : ℕ) (old : State) (r : Found Value State) : Type 0 where
-  pub good : Good (Bare around) (tree_of r.value)
+  pub good : Good (Bare around) (held r.value)
   pub grows : Grows around end old r.state
 
 pub close_good : (production : Production) (byte : ℕ) (around : Around) (place : ℕ) (began : State) (vs : List Value) (state : State) (r : Found Value State) (end : ℕ) →

@@ -27,7 +27,7 @@ use Rattle.cpp_grammar.specs.Meaning.{meaning}
 use Rattle.cpp_grammar.specs.Unfolding as unfolding_
 use Rattle.cpp_grammar.specs.Unfolding.{last_token, number_tested, opening, close, production_at, byte_of, cpp, first_around, first_state, first_tree, unfold_cpp}
 use Rattle.cpp_grammar.proofs.Choosing.{rule_at_kind, is_kind}
-use Rattle.cpp_grammar.proofs.ClosedValues.{Good, AllGood, GoodPrefix, HasClosedName, good_encoding, good_no_items}
+use Rattle.cpp_grammar.proofs.ClosedValues.{Good, AllGood, GoodPrefix, HasClosedName, held, good_tree, good_encoding, good_no_items}
 use Rattle.cpp_grammar.proofs.ClosedStates.{Bare, AllOld, AllNew, Grows, old_later, grows_same, grows_then, old_grows, ok_same, behind_bind, close_good}
 use Rattle.cpp_grammar.proofs.ClosedParts.{Fits, StaysInside, between_goes}
 
@@ -158,7 +158,7 @@ taken_rule k rule taken lt takes = go (slice_get kinds k) refl
 pub record TreeComes (around : Around) (end : ℕ) (old : State) (r : Found (List Value) State) : Type 0 where
   pub value : Value
   pub is : r.value ≡ value ∷ []
-  pub good : Good (Bare around) (tree_of value)
+  pub good : Good (Bare around) (held value)
   pub grows : Grows around end old r.state
 
 pub record ForestComes (around : Around) (end : ℕ) (old : State) (r : Found (List Value) State) : Type 0 where
@@ -239,7 +239,7 @@ new_inner around inner at end (c ∷ cs) is lt more all = (
 pub grows_inner : (around inner : Around) (at end : ℕ) (old new : State) → inner.encoding ≡ at → around.encoding < at → at < end → Grows inner end old new → Grows around end old new
 grows_inner around inner at end old new is lt more g = record { more = g.more; is = g.is; each = new_inner around inner at end g.more is lt more g.each }
 
-pub one_good : (s : Type 0) (v : Value) (vs : List Value) → vs ≡ v ∷ [] → Good s (tree_of v) → AllGood s vs
+pub one_good : (s : Type 0) (v : Value) (vs : List Value) → vs ≡ v ∷ [] → Good s (held v) → AllGood s vs
 one_good s v vs is good = subst (λ ws. AllGood s ws) (sym is) (good, tt)
 
 -- ## Trees
@@ -253,7 +253,7 @@ abbrev pub AllTreesGood : Forest → Type 0
 AllTreesGood nothing = Unit {0}
 AllTreesGood (grown t f) = TreeGood t × AllTreesGood f
 
-leaf_comes : (around : Around) (end : ℕ) (state : State) (v : Value) (r : Found (List Value) State) → Good (Bare around) (tree_of v) → ◌≡◌ {A = Result (Found (List Value) State) Refusal} (Ok (found (v ∷ []) state)) (Ok r) →
+leaf_comes : (around : Around) (end : ℕ) (state : State) (v : Value) (r : Found (List Value) State) → Good (Bare around) (held v) → ◌≡◌ {A = Result (Found (List Value) State) Refusal} (Ok (found (v ∷ []) state)) (Ok r) →
     TreeComes around end state r
 leaf_comes around end state v r good e =
     subst (λ x. TreeComes around end state x) (ok_same (found (v ∷ []) state) r e) (record { value = v; is = refl; good = good; grows = grows_same around end state state refl })
@@ -285,7 +285,7 @@ forest_good (grown t f) all rule (x ∷ xs) vs at state r stays known trees le i
     g.fits.prefix (old_fits around n.context at n.state.candidates g.fits old1) c.is in
     let grown1 = grows_fits around n.context later n.state part.state g.fits tree.grows in
     let old2 = old_grows around at later n.state part.state (omega arith) old1 grown1 in
-    let good1 = one_good (Bare around) tree.value part.value tree.is (good_fits around n.context (tree_of tree.value) g.fits tree.good) in
+    let good1 = one_good (Bare around) tree.value part.value tree.is (good_fits around n.context (held tree.value) g.fits tree.good) in
     let rest = forest_good f all.1 rule xs (n.values ++ part.value) later part.state r stays known.1 trees.1 (omega (arith, le))
     (λ opening. omega (arith, inside (or_true (is_encoding x) (has_encoding xs) opening))) pre (all_append (Bare around) n.values part.value g.values good1) old2 c.next in
     record {
@@ -302,7 +302,7 @@ forest_good (grown t f) all rule (x ∷ xs) vs at state r stays known trees le i
 
 -- what the parts of an encoding come to
 pub record InnerComes (production : Production) (around : Around) (end : ℕ) (old : State) (r : Found (List Value) State) : Type 0 where
-  pub means : (byte : ℕ) → Good (Bare around) (tree_of (meaning production byte around r.value))
+  pub means : (byte : ℕ) → Good (Bare around) (held (meaning production byte around r.value))
   pub grows : Grows around end old r.state
 
 kind_count : abi.kinds ≡ 66
@@ -350,7 +350,7 @@ always s at t good = record { closed = λ h. good.closed refl; scopes = good.sco
 special_comes : (f : Forest) → AllTreesGood f → (rule : Open State Around) (from : ℕ) (state : State) (r : Found (List Value) State) → production_at rule.rule.number ≡ Production.Special →
     AreTrees abi (parts_of Production.Special) f → rule.context.encoding < rule.place → rule.place ≤ from → rule.place < from + length (spell_all f) → AllOld rule.context rule.place state.candidates →
     unfold_forest cpp rule [] from f state ≡ Ok r → InnerComes Production.Special rule.context (from + length (spell_all f)) state r
-unfolding cpp parts_of number_of_kind between meaning tree_of is_encoding nameless part in_name
+unfolding cpp parts_of number_of_kind between meaning held is_encoding nameless part in_name
 special_comes (grown t nothing) all rule from state r is trees lt le more old e =
     let around = rule.context in
     let at = rule.place in
@@ -360,7 +360,7 @@ special_comes (grown t nothing) all rule from state r is trees lt le more old e 
     let end = from + length (spell t ++ []) in
     subst (λ x. InnerComes Production.Special around end state x) same
     (record {
-      means = λ byte. always (Bare around) at (tree_of c.value) c.good;
+      means = λ byte. always (Bare around) at (held c.value) c.good;
       grows = grows_inner around (in_name at) at end state s.part.state refl lt more
           (grows_on (in_name at) (from + length (spell t)) end state s.part.state (omega (arith, length-append (spell t) [])) c.grows);
     })
@@ -370,7 +370,7 @@ special_comes (grown t (grown u f)) all rule from state r is trees lt le more ol
 guard_comes : (f : Forest) → AllTreesGood f → (rule : Open State Around) (from : ℕ) (state : State) (r : Found (List Value) State) → production_at rule.rule.number ≡ Production.Guard →
     AreTrees abi (parts_of Production.Guard) f → rule.context.encoding < rule.place → rule.place ≤ from → rule.place < from + length (spell_all f) → AllOld rule.context rule.place state.candidates →
     unfold_forest cpp rule [] from f state ≡ Ok r → InnerComes Production.Guard rule.context (from + length (spell_all f)) state r
-unfolding cpp parts_of number_of_kind between meaning tree_of is_encoding nameless part in_name is_open
+unfolding cpp parts_of number_of_kind between meaning held is_encoding nameless part in_name is_open
 guard_comes (grown t (grown u nothing)) all rule from state r is trees lt le more old e =
     let around = rule.context in
     let at = rule.place in
@@ -385,7 +385,7 @@ guard_comes (grown t (grown u nothing)) all rule from state r is trees lt le mor
     let d = name_comes u all.1.0 (OfKind 8) at next first.part.state second.part (known 8 (lit≤ tt)) trees.1.0 refl (omega (arith, le)) old1 second.is in
     let same : found (c.value ∷ d.value ∷ []) second.part.state ≡ r = same_found vs second.part.value (d.value ∷ []) second.part.state r d.is second.rest in
     let end = from + length (spell t ++ (spell u ++ [])) in
-    let good = always (Bare around) at (tree_of d.value) d.good in
+    let good = always (Bare around) at (tree_of d.value) (good_tree (Bare (in_name at)) d.value d.good) in
     subst (λ x. InnerComes Production.Guard around end state x) same
     (record {
       means = λ byte. record { closed = λ h. refl; scopes = good.scopes };
@@ -400,7 +400,7 @@ guard_comes (grown t (grown u (grown v f))) all rule from state r is trees lt le
 encoding_comes : (f : Forest) → AllTreesGood f → (rule : Open State Around) (from : ℕ) (state : State) (r : Found (List Value) State) → production_at rule.rule.number ≡ Production.Encoding →
     AreTrees abi (parts_of Production.Encoding) f → rule.context.encoding < rule.place → rule.place ≤ from → rule.place < from + length (spell_all f) → AllOld rule.context rule.place state.candidates →
     unfold_forest cpp rule [] from f state ≡ Ok r → InnerComes Production.Encoding rule.context (from + length (spell_all f)) state r
-unfolding cpp parts_of number_of_kind between meaning tree_of is_encoding nameless part in_name in_types
+unfolding cpp parts_of number_of_kind between meaning held is_encoding nameless part in_name in_types
 encoding_comes (grown t (grown u nothing)) all rule from state r is trees lt le more old e =
     let around = rule.context in
     let at = rule.place in
@@ -409,6 +409,7 @@ encoding_comes (grown t (grown u nothing)) all rule from state r is trees lt le 
     let c = name_comes t all.0 (OfKind 8) at from state first.part (known 8 (lit≤ tt)) trees.0 refl le old0 first.is in
     let next = from + length (spell t) in
     let name = tree_of c.value in
+    let named = good_tree (Bare (in_name at)) c.value c.good in
     let vs = c.value ∷ [] in
     let onward = subst (λ ws. unfold_forest cpp rule ws next (grown u nothing) first.part.state ≡ Ok r) c.is first.rest in
     let types : Next Value State Around = record { context = in_types at name; values = vs; state = first.part.state } in
@@ -419,7 +420,8 @@ encoding_comes (grown t (grown u nothing)) all rule from state r is trees lt le 
     let end = from + length (spell t ++ (spell u ++ [])) in
     subst (λ x. InnerComes Production.Encoding around end state x) same
     (record {
-      means = λ byte. good_encoding (Bare around) c.value (no_items d.value) (c.good.closed refl) c.good.scopes (good_no_items (Bare (in_types at name)) d.value d.good).scopes;
+      means = λ byte. good_encoding (Bare around) c.value (no_items d.value) (named.closed refl) named.scopes
+          (good_no_items (Bare (in_types at name)) d.value (good_tree (Bare (in_types at name)) d.value d.good)).scopes;
       grows = grows_then around end end state first.part.state second.part.state (omega arith)
           (grows_inner around (in_name at) at end state first.part.state refl lt more
           (grows_on (in_name at) next end state first.part.state (omega (arith, length-append (spell t) (spell u ++ []))) c.grows))
@@ -529,12 +531,12 @@ branch_good rule taken parts all (OfKind k) around at state r lt is le inside pr
     ])
 branch_good rule taken parts all _ around at state r lt is le inside pre old e = absurd is
 
-nothing_good : (around : Around) → Good (Bare around) (tree_of nothing_there)
-unfolding tree_of is_open
+nothing_good : (around : Around) → Good (Bare around) (held nothing_there)
+unfolding held is_open
 nothing_good around = record { closed = λ h. refl; scopes = tt }
 
-text_good : (around : Around) (bytes : List ℕ) → Good (Bare around) (tree_of (text bytes))
-unfolding tree_of is_open
+text_good : (around : Around) (bytes : List ℕ) → Good (Bare around) (held (text bytes))
+unfolding held is_open
 text_good around bytes = record { closed = λ h. refl; scopes = tt }
 
 mutual
@@ -561,4 +563,4 @@ scopes_are_closed shape t is e =
     let whole = behind_bind (unfold_tree cpp first_around 0 shape first_state) (λ whole. Ok (first_tree whole.value)) t e in
     let comes = tree_good shape (OfKind 0) first_around 0 first_state whole.value (known 0 (lit≤ tt)) is (omega arith) (λ opening. absurd (false≢true opening)) tt tt whole.is in
     let same : first_tree whole.value.value ≡ t = ok_same (first_tree whole.value.value) t whole.next in
-    subst (λ x. ScopesAreClosed x) same (first_good comes.value whole.value.value comes.is comes.good.scopes)
+    subst (λ x. ScopesAreClosed x) same (first_good comes.value whole.value.value comes.is (good_tree (Bare first_around) comes.value comes.good).scopes)

@@ -5,7 +5,7 @@ use Rattle.cpp_grammar.specs.declared.production.Production.{Production}
 use Rattle.cpp_grammar.specs.Term.{RefQualifier, lvalue_only, rvalue_only, Term, symbol, function, within, instance, local, string_literal, lvalue, rvalue, member_pointer, function_type, nil, list, absent}
 use Rattle.cpp_grammar.specs.Scope.{arguments_of, is_open, has_return_type}
 use Rattle.cpp_grammar.specs.Closed.{HasNoneFree, ScopesAreClosed}
-use Rattle.cpp_grammar.specs.Values.{Around, Prefix, outermost, behind, Value, nothing_there, letter, tree_of, qualifiers_of, ref_of, is_there, part}
+use Rattle.cpp_grammar.specs.Values.{Around, Prefix, outermost, behind, Value, nothing_there, letter, tree, piece, named, signature, tree_of, piece_of, qualifiers_of, ref_of, is_there, part}
 use Rattle.cpp_grammar.specs.Between.{extended, prefix_tree, applied, no_items}
 use Rattle.cpp_grammar.specs.Meaning.{is_void, is_nil, parameters, encoding_of, qualified_by, listed_value, function_of, with_item, reference_to, signature_or, operator_or_literal, meaning}
 
@@ -14,9 +14,17 @@ pub record Good (s : Type 0) (t : Term) : Type 0 where
   pub closed : s → is_open t ≡ false
   pub scopes : ScopesAreClosed t
 
+-- the tree or the piece of a name that a value is
+unfoldable pub held : Value → Term
+held (tree t listed) = t
+held (piece p) = p
+held (named t qualifiers ref) = t
+held (signature t ref) = t
+held _ = absent
+
 abbrev pub AllGood : Type 0 → List Value → Type 0
 AllGood s [] = Unit {0}
-AllGood s (v ∷ vs) = Good s (tree_of v) × AllGood s vs
+AllGood s (v ∷ vs) = Good s (held v) × AllGood s vs
 
 or_no : (a b : Bool) → a ≡ false → b ≡ false → (a || b) ≡ false
 or_no false b e f = f
@@ -30,11 +38,29 @@ pub good_nothing : (s : Type 0) → Good s absent
 unfolding is_open
 good_nothing s = record { closed = λ h. refl; scopes = tt }
 
+pub good_tree : (s : Type 0) (v : Value) → Good s (held v) → Good s (tree_of v)
+unfolding held tree_of
+good_tree s nothing_there g = g
+good_tree s (piece p) g = good_nothing s
+good_tree s v g = g
+
+pub good_piece : (s : Type 0) (v : Value) → Good s (held v) → Good s (piece_of v)
+unfolding held piece_of
+good_piece s (piece p) g = g
+good_piece s nothing_there g = good_nothing s
+good_piece s v g = good_nothing s
+
+good_held : (s : Type 0) (vs : List Value) (k : ℕ) → AllGood s vs → Good s (held (part vs k))
+unfolding part held
+good_held s [] k all = good_nothing s
+good_held s (v ∷ vs) zero all = all.0
+good_held s (v ∷ vs) (suc k) all = good_held s vs k all.1
+
 pub good_part : (s : Type 0) (vs : List Value) (k : ℕ) → AllGood s vs → Good s (tree_of (part vs k))
-unfolding part tree_of
-good_part s [] k all = good_nothing s
-good_part s (v ∷ vs) zero all = all.0
-good_part s (v ∷ vs) (suc k) all = good_part s vs k all.1
+good_part s vs k all = good_tree s (part vs k) (good_held s vs k all)
+
+good_piece_part : (s : Type 0) (vs : List Value) (k : ℕ) → AllGood s vs → Good s (piece_of (part vs k))
+good_piece_part s vs k all = good_piece s (part vs k) (good_held s vs k all)
 
 -- ## Terms
 
@@ -108,14 +134,14 @@ good_reference s byte v g = go (nat_eq byte 82)
     go true = record { closed = g.closed; scopes = g.scopes }
     go false = record { closed = g.closed; scopes = g.scopes }
 
-good_signature_or : (s : Type 0) (ref : RefQualifier) (v : Value) → Good s (tree_of v) → Good s (tree_of (signature_or ref v))
-unfolding signature_or tree_of
+good_signature_or : (s : Type 0) (ref : RefQualifier) (v : Value) → Good s (held v) → Good s (held (signature_or ref v))
+unfolding signature_or held
 good_signature_or s ref nothing_there g = good_nil s
 good_signature_or s ref (letter b) g = g
 good_signature_or s ref v g = g
 
-good_operator : (s : Type 0) (first : ℕ) (v : Value) → Good s (tree_of v) → Good s (tree_of (operator_or_literal first v))
-unfolding operator_or_literal tree_of is_open
+good_operator : (s : Type 0) (first : ℕ) (v : Value) → Good s (held v) → Good s (held (operator_or_literal first v))
+unfolding operator_or_literal held is_open
 good_operator s first (letter second) g = record { closed = λ h. refl; scopes = tt }
 good_operator s first nothing_there g = g
 good_operator s first v g = g
@@ -163,10 +189,10 @@ good_name : (s : Type 0) (vs : List Value) → AllGood s vs → Good s (applied 
 good_name s vs all = good_applied s _ (part vs 1) (good_part s vs 0 all) (good_part s vs 1 all)
 
 pub meaning_good : (s : Type 0) (production : Production) (byte : ℕ) (around : Around) (vs : List Value) → GoodPrefix s around.prefix → AllGood s vs → HasClosedName production vs →
-    Good s (tree_of (meaning production byte around vs))
-unfolding meaning tree_of is_open listed_value qualified_by function_of with_item
+    Good s (held (meaning production byte around vs))
+unfolding meaning held tree_of is_open listed_value qualified_by function_of with_item
 meaning_good s Production.Symbol byte around vs pre all name = let g = good_part s vs 1 all in record { closed = λ h. refl; scopes = g.scopes }
-meaning_good s Production.Special byte around vs pre all name = good_part s vs 0 all
+meaning_good s Production.Special byte around vs pre all name = good_held s vs 0 all
 meaning_good s Production.Guard byte around vs pre all name = let g = good_part s vs 1 all in record { closed = λ h. refl; scopes = g.scopes }
 meaning_good s Production.Encoding byte around vs pre all name =
     good_encoding s (part vs 0) (no_items (part vs 1)) name (good_part s vs 0 all).scopes (good_no_items s (part vs 1) (good_part s vs 1 all)).scopes
@@ -175,7 +201,7 @@ meaning_good s Production.NonVirtualThunk byte around vs pre all name = let g = 
 meaning_good s Production.VirtualThunk byte around vs pre all name = let g = good_part s vs 4 all in record { closed = λ h. refl; scopes = g.scopes }
 meaning_good s Production.CovariantThunk byte around vs pre all name = let g = good_part s vs 2 all in record { closed = λ h. refl; scopes = g.scopes }
 meaning_good s Production.NestedName byte around vs pre all name = good_part s vs 4 all
-meaning_good s Production.NameWithS byte around vs pre all name = good_part s vs 0 all
+meaning_good s Production.NameWithS byte around vs pre all name = good_held s vs 0 all
 meaning_good s Production.LocalName byte around vs pre all name =
     let e = good_part s vs 0 all in let g = good_part s vs 2 all in record { closed = g.closed; scopes = (e.scopes, g.scopes) }
 meaning_good s Production.InternalName byte around vs pre all name = good_name s vs all
@@ -186,21 +212,21 @@ meaning_good s Production.Constructor byte around vs pre all name = good_name s 
 meaning_good s Production.Destructor byte around vs pre all name = good_name s vs all
 meaning_good s Production.StdName byte around vs pre all name = good_name s vs all
 meaning_good s Production.AbbreviatedName byte around vs pre all name = good_name s vs all
-meaning_good s Production.LocalTypePiece byte around vs pre all name = good_part s vs 0 all
-meaning_good s Production.OperatorPiece byte around vs pre all name = good_part s vs 0 all
-meaning_good s Production.NestWithS byte around vs pre all name = good_part s vs 0 all
-meaning_good s Production.NestParameter byte around vs pre all name = good_part s vs 1 all
-meaning_good s Production.NestInternal byte around vs pre all name = good_part s vs 1 all
-meaning_good s Production.NestLocalType byte around vs pre all name = good_part s vs 1 all
-meaning_good s Production.NestSource byte around vs pre all name = good_part s vs 1 all
-meaning_good s Production.NestStd byte around vs pre all name = good_part s vs 2 all
-meaning_good s Production.NestAbbreviated byte around vs pre all name = good_part s vs 1 all
-meaning_good s Production.NestArguments byte around vs pre all name = good_part s vs 3 all
-meaning_good s Production.NestNext byte around vs pre all name = good_part s vs 1 all
+meaning_good s Production.LocalTypePiece byte around vs pre all name = good_held s vs 0 all
+meaning_good s Production.OperatorPiece byte around vs pre all name = good_held s vs 0 all
+meaning_good s Production.NestWithS byte around vs pre all name = good_held s vs 0 all
+meaning_good s Production.NestParameter byte around vs pre all name = good_held s vs 1 all
+meaning_good s Production.NestInternal byte around vs pre all name = good_held s vs 1 all
+meaning_good s Production.NestLocalType byte around vs pre all name = good_held s vs 1 all
+meaning_good s Production.NestSource byte around vs pre all name = good_held s vs 1 all
+meaning_good s Production.NestStd byte around vs pre all name = good_held s vs 2 all
+meaning_good s Production.NestAbbreviated byte around vs pre all name = good_held s vs 1 all
+meaning_good s Production.NestArguments byte around vs pre all name = good_held s vs 3 all
+meaning_good s Production.NestNext byte around vs pre all name = good_held s vs 1 all
 meaning_good s Production.NestEnd byte around vs pre all name = good_prefix s around.prefix pre
 meaning_good s Production.StringLiteral byte around vs pre all name = good_extended s around.prefix string_literal pre (record { closed = λ h. refl; scopes = tt })
-meaning_good s Production.NestedType byte around vs pre all name = good_part s vs 0 all
-meaning_good s Production.Discriminator byte around vs pre all name = good_part s vs 0 all
+meaning_good s Production.NestedType byte around vs pre all name = good_held s vs 0 all
+meaning_good s Production.Discriminator byte around vs pre all name = good_held s vs 0 all
 meaning_good s Production.Lambda byte around vs pre all name = let g = good_parameters s _ (good_pair s vs 0 1 all) in record { closed = g.closed; scopes = g.scopes }
 meaning_good s Production.RestrictType byte around vs pre all name = let g = good_part s vs 2 all in record { closed = g.closed; scopes = g.scopes }
 meaning_good s Production.VolatileType byte around vs pre all name = let g = good_part s vs 1 all in record { closed = g.closed; scopes = g.scopes }
@@ -211,7 +237,7 @@ meaning_good s Production.QualifiedPlain byte around vs pre all name = good_part
 meaning_good s Production.TypeWithD byte around vs pre all name = good_part s vs 0 all
 meaning_good s Production.PlainWithD byte around vs pre all name = good_part s vs 0 all
 meaning_good s Production.ItemWithD byte around vs pre all name = good_part s vs 0 all
-meaning_good s Production.ItemIsType byte around vs pre all name = good_part s vs 0 all
+meaning_good s Production.ItemIsType byte around vs pre all name = good_held s vs 0 all
 meaning_good s Production.Expansion byte around vs pre all name = let g = good_part s vs 0 all in record { closed = g.closed; scopes = g.scopes }
 meaning_good s Production.Vector byte around vs pre all name = let g = good_part s vs 2 all in record { closed = g.closed; scopes = g.scopes }
 meaning_good s Production.NoexceptFunction byte around vs pre all name = good_function s (is_there (part vs 1)) true (ref_of (part vs 3)) _ _ (good_part s vs 2 all) (good_part s vs 3 all)
@@ -224,10 +250,10 @@ meaning_good s Production.Parameter byte around vs pre all name = good_name s vs
 meaning_good s Production.TypeWithS byte around vs pre all name = good_name s vs all
 meaning_good s Production.LocalType byte around vs pre all name =
     let e = good_part s vs 0 all in let g = good_part s vs 2 all in record { closed = g.closed; scopes = (e.scopes, g.scopes) }
-meaning_good s Production.StdType byte around vs pre all name = let g = good_part s vs 0 all in record { closed = g.closed; scopes = g.scopes }
-meaning_good s Production.AbbreviatedType byte around vs pre all name = good_part s vs 0 all
-meaning_good s Production.RestLvalue byte around vs pre all name = good_signature_or s lvalue_only (part vs 0) (good_part s vs 0 all)
-meaning_good s Production.RestRvalue byte around vs pre all name = good_signature_or s rvalue_only (part vs 0) (good_part s vs 0 all)
+meaning_good s Production.StdType byte around vs pre all name = let g = good_piece_part s vs 0 all in record { closed = g.closed; scopes = g.scopes }
+meaning_good s Production.AbbreviatedType byte around vs pre all name = good_held s vs 0 all
+meaning_good s Production.RestLvalue byte around vs pre all name = good_signature_or s lvalue_only (part vs 0) (good_held s vs 0 all)
+meaning_good s Production.RestRvalue byte around vs pre all name = good_signature_or s rvalue_only (part vs 0) (good_held s vs 0 all)
 meaning_good s Production.LvalueItem byte around vs pre all name = good_list s _ _ (good_part s vs 0 all) (good_part s vs 1 all)
 meaning_good s Production.RvalueItem byte around vs pre all name = good_list s _ _ (good_part s vs 0 all) (good_part s vs 1 all)
 meaning_good s Production.RestItem byte around vs pre all name = good_list s _ _ (good_part s vs 0 all) (good_part s vs 1 all)
@@ -242,7 +268,7 @@ meaning_good s Production.AddressElement byte around vs pre all name = good_pair
 meaning_good s Production.TypeElement byte around vs pre all name = good_pair s vs 0 1 all
 meaning_good s Production.Address byte around vs pre all name = let g = good_part s vs 2 all in record { closed = λ h. refl; scopes = g.scopes }
 meaning_good s Production.EncodingLiteral byte around vs pre all name = let g = good_part s vs 1 all in record { closed = λ h. refl; scopes = g.scopes }
-meaning_good s Production.LiteralWithD byte around vs pre all name = good_part s vs 0 all
+meaning_good s Production.LiteralWithD byte around vs pre all name = good_held s vs 0 all
 meaning_good s Production.IntegerLiteral byte around vs pre all name = let g = good_part s vs 0 all in record { closed = g.closed; scopes = g.scopes }
-meaning_good s Production.OperatorL byte around vs pre all name = good_operator s byte (part vs 0) (good_part s vs 0 all)
+meaning_good s Production.OperatorL byte around vs pre all name = good_operator s byte (part vs 0) (good_held s vs 0 all)
 meaning_good s _ byte around vs pre all name = record { closed = λ h. refl; scopes = tt }

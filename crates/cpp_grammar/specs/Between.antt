@@ -9,7 +9,7 @@ use Rattle.sym_link.specs.Reading.{Next, ◌>>=◌}
 use Rattle.cpp_grammar.specs.declared.production.Production.{Production}
 use Rattle.cpp_grammar.specs.Term.{Term, alone, within, in_std, instance, parameter, lvalue, rvalue, pack, source, constructor, destructor, nil, absent}
 use Rattle.cpp_grammar.specs.Scope.{arguments_of}
-use Rattle.cpp_grammar.specs.Values.{State, Prefix, outermost, behind, Around, Value, nothing_there, tree, tree_of, is_listed, is_there, letter_of, text_of}
+use Rattle.cpp_grammar.specs.Values.{State, Prefix, outermost, behind, Around, Value, nothing_there, tree, tree_of, piece_of, is_listed, is_there, letter_of, text_of}
 use Rattle.cpp_grammar.specs.References.{appended, with_type, with_prefix, parameter_named}
 
 -- ## What surrounds a part
@@ -94,20 +94,20 @@ between Production.LocalName around place (e ∷ vs) state = next (e ∷ vs) (af
 between Production.LocalType around place (e ∷ vs) state = next (e ∷ vs) (after (tree_of e) true around) state
 between Production.InternalName around place (v ∷ []) state = piece_so_far around (source true (text_of v)) [] state
 between Production.SourceName around place (v ∷ []) state = piece_so_far around (source false (text_of v)) [] state
-between Production.LocalTypeName around place (v ∷ []) state = piece_so_far around (tree_of v) [] state
-between Production.OperatorName around place (v ∷ []) state = piece_so_far around (tree_of v) [] state
+between Production.LocalTypeName around place (v ∷ []) state = piece_so_far around (piece_of v) [] state
+between Production.OperatorName around place (v ∷ []) state = piece_so_far around (piece_of v) [] state
 between Production.Constructor around place (v ∷ []) state = piece_so_far around (constructor (letter_of v)) [] state
 between Production.Destructor around place (v ∷ []) state = piece_so_far around (destructor (letter_of v)) [] state
-between Production.StdName around place (v ∷ []) state = named_so_far around (in_std (tree_of v)) [] state
+between Production.StdName around place (v ∷ []) state = named_so_far around (in_std (piece_of v)) [] state
 between Production.AbbreviatedName around place (v ∷ []) state = listed_so_far around (tree_of v) [] state
 -- nested names: each proper prefix is a candidate
-between Production.NestStd around place (v ∷ []) state = named_so_far around (in_std (tree_of v)) [] state
+between Production.NestStd around place (v ∷ []) state = named_so_far around (in_std (piece_of v)) [] state
 between Production.NestStd around place (v ∷ arguments ∷ []) state = named_so_far around (applied (tree_of v) arguments) (arguments ∷ []) state
 between Production.NestAbbreviated around place (v ∷ []) state = listed_so_far around (tree_of v) [] state
 between Production.NestParameter around place (v ∷ []) state = parameter_so_far around place (index_of v) [] state
 between Production.NestInternal around place (v ∷ []) state = piece_so_far around (source true (text_of v)) [] state
 between Production.NestSource around place (v ∷ []) state = piece_so_far around (source false (text_of v)) [] state
-between Production.NestLocalType around place (v ∷ []) state = piece_so_far around (tree_of v) [] state
+between Production.NestLocalType around place (v ∷ []) state = piece_so_far around (piece_of v) [] state
 between Production.NestArguments around place [] state = next [] (inside around) (with_prefix around state)
 between Production.NestArguments around place (arguments ∷ e ∷ []) state =
     let t = instance (prefix_tree around.prefix) (no_items arguments) in listed_so_far around t (e ∷ []) (appended around t state)

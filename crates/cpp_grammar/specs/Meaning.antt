@@ -3,7 +3,7 @@ use Rattle.std.specs.Prelude.{ℕ, List, [], ◌∷◌, Bool, true, false, cond,
 use Rattle.cpp_grammar.specs.declared.production.Production.{Production}
 use Rattle.cpp_grammar.specs.Term.{RefQualifier, any_value, lvalue_only, rvalue_only, non_virtual, by_table, adjusting, covariant, Term, symbol, function, object, special, thunk, guard, in_std, local, abbreviation, source, operator, literal_operator, lambda, unnamed, string_literal, builtin, vendor, pointer, lvalue, rvalue, array, member_pointer, function_type, qualified, vector, complex, expansion, integer, boolean, null_pointer, encoding_literal, address_of, nil, list, absent}
 use Rattle.cpp_grammar.specs.Scope.{has_return_type}
-use Rattle.cpp_grammar.specs.Values.{Around, Value, nothing_there, letter, text, signed, adjusted, tree, named, signature, tree_of, is_listed, qualifiers_of, ref_of, letter_of, is_there, mark_of, text_of, signed_of, adjustment_of, normal, signed_digits, local_number, part}
+use Rattle.cpp_grammar.specs.Values.{Around, Value, nothing_there, letter, text, signed, adjusted, tree, piece, named, signature, tree_of, piece_of, is_listed, qualifiers_of, ref_of, letter_of, is_there, mark_of, text_of, signed_of, adjustment_of, normal, signed_digits, local_number, part}
 use Rattle.cpp_grammar.specs.Between.{extended, prefix_tree, prefix_listed, applied, no_items}
 
 -- a lone void is no parameters
@@ -65,7 +65,7 @@ signature_or ref v = v
 
 -- the operator of two letters that begins with l, or a literal operator
 unfoldable pub operator_or_literal : ℕ → Value → Value
-operator_or_literal first (letter second) = tree (operator first second) true
+operator_or_literal first (letter second) = piece (operator first second)
 operator_or_literal first v = v
 
 -- What a production stands for, given the byte that it takes, what surrounds it and the values of its parts. A type's tree is
@@ -98,9 +98,9 @@ meaning Production.Constructor byte around vs = tree (applied (tree_of (part vs 
 meaning Production.Destructor byte around vs = tree (applied (tree_of (part vs 0)) (part vs 1)) false
 meaning Production.StdName byte around vs = tree (applied (tree_of (part vs 0)) (part vs 1)) false
 meaning Production.AbbreviatedName byte around vs = tree (applied (tree_of (part vs 0)) (part vs 1)) false
-meaning Production.InternalPiece byte around vs = tree (source true (text_of (part vs 0))) true
+meaning Production.InternalPiece byte around vs = piece (source true (text_of (part vs 0)))
 meaning Production.LocalTypePiece byte around vs = part vs 0
-meaning Production.SourcePiece byte around vs = tree (source false (text_of (part vs 0))) true
+meaning Production.SourcePiece byte around vs = piece (source false (text_of (part vs 0)))
 meaning Production.OperatorPiece byte around vs = part vs 0
 meaning Production.NestWithS byte around vs = part vs 0
 meaning Production.NestParameter byte around vs = part vs 1
@@ -120,8 +120,8 @@ meaning Production.NestedType byte around vs = part vs 0
 meaning Production.Discriminator byte around vs = part vs 0
 meaning Production.OneDigit byte around vs = text (byte ∷ [])
 meaning Production.ManyDigits byte around vs = text (normal (text_of (part vs 0)))
-meaning Production.Lambda byte around vs = tree (lambda (parameters (list (tree_of (part vs 0)) (no_items (part vs 1)))) (local_number (text_of (part vs 3)))) true
-meaning Production.Unnamed byte around vs = tree (unnamed (local_number (text_of (part vs 0)))) true
+meaning Production.Lambda byte around vs = piece (lambda (parameters (list (tree_of (part vs 0)) (no_items (part vs 1)))) (local_number (text_of (part vs 3))))
+meaning Production.Unnamed byte around vs = piece (unnamed (local_number (text_of (part vs 0))))
 -- types
 meaning Production.RestrictType byte around vs = listed_value (qualified_by true (part vs 0) (part vs 1) (part vs 2))
 meaning Production.VolatileType byte around vs = listed_value (qualified_by false (letter 86) (part vs 0) (part vs 1))
@@ -147,7 +147,7 @@ meaning Production.MemberPointer byte around vs = tree (member_pointer (tree_of 
 meaning Production.Parameter byte around vs = tree (applied (tree_of (part vs 0)) (part vs 1)) (not (is_there (part vs 1)))
 meaning Production.TypeWithS byte around vs = tree (applied (tree_of (part vs 0)) (part vs 1)) (is_listed (part vs 0) && not (is_there (part vs 1)))
 meaning Production.LocalType byte around vs = tree (local (tree_of (part vs 0)) (tree_of (part vs 2)) (discriminator_of (part vs 3))) false
-meaning Production.StdType byte around vs = tree (in_std (tree_of (part vs 0))) false
+meaning Production.StdType byte around vs = tree (in_std (piece_of (part vs 0))) false
 meaning Production.AbbreviatedType byte around vs = part vs 0
 meaning Production.RestEnd byte around vs = signature nil any_value
 meaning Production.RestLvalue byte around vs = signature_or lvalue_only (part vs 0)
@@ -175,18 +175,18 @@ meaning Production.IntegerLiteral byte around vs = tree (integer (tree_of (part 
 meaning Production.NullLiteral byte around vs = tree null_pointer true
 meaning Production.CharLiteral byte around vs = tree (integer (builtin (68 ∷ byte ∷ [])) (signed_of (part vs 0))) true
 -- operators, by two letters
-meaning Production.OperatorN byte around vs = tree (operator byte (letter_of (part vs 0))) true
-meaning Production.OperatorD byte around vs = tree (operator byte (letter_of (part vs 0))) true
-meaning Production.OperatorA byte around vs = tree (operator byte (letter_of (part vs 0))) true
-meaning Production.OperatorP byte around vs = tree (operator byte (letter_of (part vs 0))) true
-meaning Production.OperatorC byte around vs = tree (operator byte (letter_of (part vs 0))) true
-meaning Production.OperatorM byte around vs = tree (operator byte (letter_of (part vs 0))) true
-meaning Production.OperatorR byte around vs = tree (operator byte (letter_of (part vs 0))) true
-meaning Production.OperatorO byte around vs = tree (operator byte (letter_of (part vs 0))) true
-meaning Production.OperatorE byte around vs = tree (operator byte (letter_of (part vs 0))) true
+meaning Production.OperatorN byte around vs = piece (operator byte (letter_of (part vs 0)))
+meaning Production.OperatorD byte around vs = piece (operator byte (letter_of (part vs 0)))
+meaning Production.OperatorA byte around vs = piece (operator byte (letter_of (part vs 0)))
+meaning Production.OperatorP byte around vs = piece (operator byte (letter_of (part vs 0)))
+meaning Production.OperatorC byte around vs = piece (operator byte (letter_of (part vs 0)))
+meaning Production.OperatorM byte around vs = piece (operator byte (letter_of (part vs 0)))
+meaning Production.OperatorR byte around vs = piece (operator byte (letter_of (part vs 0)))
+meaning Production.OperatorO byte around vs = piece (operator byte (letter_of (part vs 0)))
+meaning Production.OperatorE byte around vs = piece (operator byte (letter_of (part vs 0)))
 meaning Production.OperatorL byte around vs = operator_or_literal byte (part vs 0)
-meaning Production.OperatorS byte around vs = tree (operator byte (letter_of (part vs 0))) true
-meaning Production.OperatorI byte around vs = tree (operator byte (letter_of (part vs 0))) true
-meaning Production.OperatorG byte around vs = tree (operator byte (letter_of (part vs 0))) true
-meaning Production.LiteralOperator byte around vs = tree (literal_operator (text_of (part vs 0))) true
+meaning Production.OperatorS byte around vs = piece (operator byte (letter_of (part vs 0)))
+meaning Production.OperatorI byte around vs = piece (operator byte (letter_of (part vs 0)))
+meaning Production.OperatorG byte around vs = piece (operator byte (letter_of (part vs 0)))
+meaning Production.LiteralOperator byte around vs = piece (literal_operator (text_of (part vs 0)))
 meaning Production.Mark byte around vs = letter byte

@@ -38,6 +38,8 @@ pub data Value : Type 0 where
   adjusted : Adjustment → Value
   -- a tree, and whether it is a candidate already or never is one
   tree : Term → (listed : Bool) → Value
+  -- a piece of a name, of which a name is made next
+  piece : Term → Value
   -- the name of an encoding, with the qualifiers that belong to the encoding
   named : Term → Qualifiers → RefQualifier → Value
   -- the parameters of a function type, and its mark
@@ -50,6 +52,10 @@ tree_of (tree t listed) = t
 tree_of (named t qualifiers ref) = t
 tree_of (signature t ref) = t
 tree_of _ = absent
+
+unfoldable pub piece_of : Value → Term
+piece_of (piece p) = p
+piece_of _ = absent
 
 unfoldable pub is_listed : Value → Bool
 is_listed (tree t listed) = listed
