@@ -6,7 +6,7 @@ use Rattle.sym_link.specs.Reading.{Next}
 use Rattle.cpp_grammar.specs.declared.production.Production.{Production}
 use Rattle.cpp_grammar.specs.Term.{Term, in_std, instance, parameter, lvalue, rvalue, source, constructor, destructor}
 use Rattle.cpp_grammar.specs.Values as leaf_
-use Rattle.cpp_grammar.specs.Values.{Around, Prefix, Value, State, tree_of, is_listed, text_of, letter_of, part}
+use Rattle.cpp_grammar.specs.Values.{Around, Prefix, Value, State, tree_of, piece_of, is_listed, text_of, letter_of, part}
 use Rattle.cpp_grammar.specs.References.{appended, with_type, with_unqualified, with_prefix, substituted, parameter_named}
 use Rattle.cpp_grammar.specs.Between.{in_signature, under_expansion, after, inside, extended, prefix_tree, applied, no_items, named_so_far, listed_so_far, piece_so_far, parameter_so_far, index_of, between}
 use Rattle.cpp_grammar.specs.Meaning.{meaning}
@@ -21,7 +21,7 @@ use Rattle.cpp_term.specs.Meaning as noted_
 use Rattle.cpp_term.specs.Unfolding as unfolded_
 use Rattle.cpp_term.specs.Annotated.{argument_in, annotate, noted_scope, noted_value, noted_values, noted_prefix, noted_around}
 use Rattle.cpp_term.proofs.Notes.{both}
-use Rattle.cpp_term.proofs.MeaningNoted.{part_noted, tree_noted, text_noted, letter_noted, listed_noted, items_noted, applied_noted, text_part_, extended_noted, prefix_tree_noted, Inside, meaning_noted}
+use Rattle.cpp_term.proofs.MeaningNoted.{part_noted, tree_noted, piece_noted, text_noted, letter_noted, listed_noted, items_noted, applied_noted, text_part_, extended_noted, prefix_tree_noted, Inside, meaning_noted}
 use Rattle.cpp_term.proofs.StatesNoted.{Alike, alike_bind, Same, Moves, moves_none, one_moves, type_moves, unqualified_moves, prefix_moves, Comes, get_noted, substituted_noted, parameter_noted}
 
 -- what stands inside has the same scope, or none
@@ -114,13 +114,13 @@ between_noted Production.LocalType around place [] x y stays packs = same_goes a
 between_noted Production.LocalType around place (v ∷ vs) x y stays packs = after_goes around x x y y v (tree_of v) _ true (v ∷ vs) (tree_noted (noted_scope around.scope) v) (moves_none around x x y y refl refl packs)
 between_noted Production.InternalName around place (v ∷ []) x y stays packs = piece_goes around x y (source true (text_of v)) _ packs (ap (term_.source true) (text_noted (noted_scope around.scope) v))
 between_noted Production.SourceName around place (v ∷ []) x y stays packs = piece_goes around x y (source false (text_of v)) _ packs (ap (term_.source false) (text_noted (noted_scope around.scope) v))
-between_noted Production.LocalTypeName around place (v ∷ []) x y stays packs = piece_goes around x y (tree_of v) _ packs (tree_noted (noted_scope around.scope) v)
-between_noted Production.OperatorName around place (v ∷ []) x y stays packs = piece_goes around x y (tree_of v) _ packs (tree_noted (noted_scope around.scope) v)
+between_noted Production.LocalTypeName around place (v ∷ []) x y stays packs = piece_goes around x y (piece_of v) _ packs (piece_noted (noted_scope around.scope) v)
+between_noted Production.OperatorName around place (v ∷ []) x y stays packs = piece_goes around x y (piece_of v) _ packs (piece_noted (noted_scope around.scope) v)
 between_noted Production.Constructor around place (v ∷ []) x y stays packs = piece_goes around x y (constructor (letter_of v)) _ packs (ap term_.constructor (letter_noted (noted_scope around.scope) v))
 between_noted Production.Destructor around place (v ∷ []) x y stays packs = piece_goes around x y (destructor (letter_of v)) _ packs (ap term_.destructor (letter_noted (noted_scope around.scope) v))
-between_noted Production.StdName around place (v ∷ []) x y stays packs = named_goes around x x y y (in_std (tree_of v)) _ false [] [] (ap term_.in_std (tree_noted (noted_scope around.scope) v)) refl (moves_none around x x y y refl refl packs)
+between_noted Production.StdName around place (v ∷ []) x y stays packs = named_goes around x x y y (in_std (piece_of v)) _ false [] [] (ap term_.in_std (piece_noted (noted_scope around.scope) v)) refl (moves_none around x x y y refl refl packs)
 between_noted Production.AbbreviatedName around place (v ∷ []) x y stays packs = named_goes around x x y y (tree_of v) _ true [] [] (tree_noted (noted_scope around.scope) v) refl (moves_none around x x y y refl refl packs)
-between_noted Production.NestStd around place (v ∷ []) x y stays packs = named_goes around x x y y (in_std (tree_of v)) _ false [] [] (ap term_.in_std (tree_noted (noted_scope around.scope) v)) refl (moves_none around x x y y refl refl packs)
+between_noted Production.NestStd around place (v ∷ []) x y stays packs = named_goes around x x y y (in_std (piece_of v)) _ false [] [] (ap term_.in_std (piece_noted (noted_scope around.scope) v)) refl (moves_none around x x y y refl refl packs)
 between_noted Production.NestStd around place (v ∷ w ∷ []) x y stays packs =
     named_goes around x x y y (applied (tree_of v) w) _ false (w ∷ []) (noted_value (noted_scope around.scope) w ∷ [])
     (ap (λ t. between_.applied t (noted_value (noted_scope around.scope) w)) (tree_noted (noted_scope around.scope) v) ∙ applied_noted (noted_scope around.scope) (tree_of v) w) refl (moves_none around x x y y refl refl packs)
@@ -128,7 +128,7 @@ between_noted Production.NestAbbreviated around place (v ∷ []) x y stays packs
 between_noted Production.NestParameter around place (v ∷ []) x y stays packs = named_parameter around x y place v packs
 between_noted Production.NestInternal around place (v ∷ []) x y stays packs = piece_goes around x y (source true (text_of v)) _ packs (ap (term_.source true) (text_noted (noted_scope around.scope) v))
 between_noted Production.NestSource around place (v ∷ []) x y stays packs = piece_goes around x y (source false (text_of v)) _ packs (ap (term_.source false) (text_noted (noted_scope around.scope) v))
-between_noted Production.NestLocalType around place (v ∷ []) x y stays packs = piece_goes around x y (tree_of v) _ packs (tree_noted (noted_scope around.scope) v)
+between_noted Production.NestLocalType around place (v ∷ []) x y stays packs = piece_goes around x y (piece_of v) _ packs (piece_noted (noted_scope around.scope) v)
 between_noted Production.NestArguments around place [] x y stays packs = inside_goes around x y packs
 between_noted Production.NestArguments around place (v ∷ w ∷ []) x y stays packs =
     let e = both term_.instance (prefix_tree_noted (noted_scope around.scope) around.prefix) (items_noted (noted_scope around.scope) v) in

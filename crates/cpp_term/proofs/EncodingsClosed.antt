@@ -23,7 +23,7 @@ use Rattle.cpp_grammar.specs.Between.{in_name, no_items, between}
 use Rattle.cpp_grammar.specs.Meaning.{meaning, encoding_of, parameters}
 use Rattle.cpp_grammar.specs.Unfolding.{opening, close, production_at, byte_of, cpp}
 use Rattle.cpp_grammar.proofs.Choosing.{rule_at_kind, is_kind}
-use Rattle.cpp_grammar.proofs.ClosedValues.{AllGood, GoodPrefix}
+use Rattle.cpp_grammar.proofs.ClosedValues.{AllGood, GoodPrefix, held, good_tree}
 use Rattle.cpp_grammar.proofs.ClosedStates.{Bare, AllOld, old_later, old_grows, ok_same, behind_bind}
 use Rattle.cpp_grammar.proofs.ClosedParts.{StaysInside, between_goes}
 use Rattle.cpp_grammar.proofs.ClosedTrees.{is_encoding, has_encoding, opens, or_true, at_number, its_symbols, stays, takes_byte, Whole, same_rule, kinds_numbered, number_at, opening_keeps, all_append, good_fits, old_fits, grows_fits, old_inner, one_good, known, name_comes, same_found, stepped, inner_closes, forest_good, tree_good, trees_good}
@@ -128,7 +128,7 @@ special_closed (grown t nothing) rule from state r is trees lt le old e =
     let s = stepped rule [] from state t nothing r (nameless_ at [] state) (ap (λ p. between p around at [] state) is) e in
     let c = name_comes t (tree_good t) (OfKind 5) at from state s.part (known 5 (lit≤ tt)) trees.0 refl le (old_later (in_name at) at from state.candidates le (old_inner around at state.candidates lt old)) s.is in
     let same : found (c.value ∷ []) s.part.state ≡ r = same_found [] s.part.value (c.value ∷ []) s.part.state r c.is s.rest in
-    subst (λ x. is_open (tree_of (part x.value 0)) ≡ false) same (c.good.closed refl)
+    subst (λ x. is_open (tree_of (part x.value 0)) ≡ false) same ((good_tree (Bare (in_name at)) c.value c.good).closed refl)
 special_closed nothing rule from state r is trees lt le old e = absurd trees
 special_closed (grown t (grown u f)) rule from state r is trees lt le old e = absurd trees.1
 
@@ -231,7 +231,7 @@ forest_closed (grown t f) rule (x ∷ xs) vs at state r stays keep known trees l
     g.fits.prefix old3 c.is in
     let grown1 = grows_fits around n.context later n.state this.state g.fits tree.grows in
     let old2 = old_grows around at later n.state this.state (omega arith) old1 grown1 in
-    let good1 = one_good (Bare around) tree.value this.value tree.is (good_fits around n.context (tree_of tree.value) g.fits tree.good) in
+    let good1 = one_good (Bare around) tree.value this.value tree.is (good_fits around n.context (held tree.value) g.fits tree.good) in
     let rest = forest_closed f rule xs (n.values ++ this.value) later this.state r stays keep known.1 trees.1 (omega (arith, le))
     (λ opening. omega (arith, inside (or_true (is_encoding x) (has_encoding xs) opening))) pre (all_append (Bare around) n.values this.value g.values good1) old2 c.next in
     record {
@@ -286,7 +286,7 @@ inside_values _ vs plain all special = tt
 first_closed : (s : Type 0) (vs : List Value) → s → AllGood s vs → is_open (tree_of (part vs 0)) ≡ false
 unfolding part tree_of is_open
 first_closed s [] bare all = refl
-first_closed s (v ∷ vs) bare all = all.0.closed bare
+first_closed s (v ∷ vs) bare all = (good_tree s v all.0).closed bare
 
 -- Encodings among the parts of a production have no free parameters.
 pub insides : (p : Production) (rule : Rule) (taken : List ℕ) (parts : Forest) (k : ℕ) (around : Around) (at : ℕ) (state : State) (inner : Found (List Value) State) → rule ≡ rule_of p → opens p ≡ false → k < abi.kinds →

@@ -14,7 +14,7 @@ use Rattle.cpp_grammar.specs.Values as leaf_
 use Rattle.cpp_grammar.specs.Values.{Candidate, State, Around, Value, tree_of}
 use Rattle.cpp_grammar.specs.Between.{between}
 use Rattle.cpp_grammar.specs.Unfolding.{production_at, cpp}
-use Rattle.cpp_grammar.proofs.ClosedValues.{AllGood, GoodPrefix}
+use Rattle.cpp_grammar.proofs.ClosedValues.{AllGood, GoodPrefix, held}
 use Rattle.cpp_grammar.proofs.ClosedStates.{Bare, AllOld, AllNew, Grows, old_grows}
 use Rattle.cpp_grammar.proofs.ClosedParts.{StaysInside, between_goes}
 use Rattle.cpp_grammar.proofs.ClosedTrees as trees_
@@ -85,8 +85,9 @@ unfolding noted_values
 values_append s [] ws = refl
 values_append s (v ∷ vs) ws = ap (λ us. noted_value s v ∷ us) (values_append s vs ws)
 
-pub value_closed : (s r : Option term_.Term) (v : Value) → is_open (tree_of v) ≡ false → noted_value s v ≡ noted_value r v
-unfolding noted_value tree_of
+pub value_closed : (s r : Option term_.Term) (v : Value) → is_open (held v) ≡ false → noted_value s v ≡ noted_value r v
+unfolding noted_value held
+value_closed s r (leaf_.piece p) h = ap value_.piece (closed_noted s r p h)
 value_closed s r (leaf_.tree t listed) h = ap (λ u. value_.tree u listed) (closed_noted s r t h)
 value_closed s r (leaf_.named t qualifiers ref) h = ap (λ u. value_.named u qualifiers ref) (closed_noted s r t h)
 value_closed s r (leaf_.signature t ref) h = ap (λ u. value_.signature u ref) (closed_noted s r t h)
@@ -168,7 +169,7 @@ forest_noted (grown t f) all rule first (k ∷ ks) vs at x y stays known trees l
             let comes = tree_good t k n.context at n.state a known.0 trees.0 le1 inside1 g.fits.prefix old2 part-is in
             let moves1 = moves_outer around n.context later n.state a.state m.state b.state g.fits.encoding goes.scope comes.grows part.moves in
             let grown1 = grows_fits around n.context later n.state a.state g.fits comes.grows in
-            let good1 = one_good (Bare around) comes.value a.value comes.is (good_fits around n.context (tree_of comes.value) g.fits comes.good) in
+            let good1 = one_good (Bare around) comes.value a.value comes.is (good_fits around n.context (held comes.value) g.fits comes.good) in
             let values1 = both (λ us ws. us ++ ws) goes.values (part.values ∙ outer_values around n.context a later n.state goes.scope comes) ∙ sym (values_append s n.values a.value) in
             let moves2 = moves_then around x n.state a.state y m.state b.state goes.moves moves1 in
             let rest = forest_noted f all.1 rule first ks (n.values ++ a.value) later a.state b.state stays known.1 trees.1 (omega (arith, le))

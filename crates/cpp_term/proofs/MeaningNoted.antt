@@ -4,7 +4,7 @@ use Rattle.cpp_grammar.specs.declared.production.Production.{Production}
 use Rattle.cpp_grammar.specs.Term.{RefQualifier, lvalue_only, rvalue_only, non_virtual, by_table, adjusting, covariant, Term, function, within, instance, local, constructor, destructor, string_literal, builtin, lvalue, rvalue, nil, list, absent}
 use Rattle.cpp_grammar.specs.Scope.{arguments_of, before_arguments, is_structor, has_return_type, is_open}
 use Rattle.cpp_grammar.specs.Values as leaf_
-use Rattle.cpp_grammar.specs.Values.{Around, Prefix, Value, tree_of, is_listed, qualifiers_of, ref_of, letter_of, is_there, mark_of, text_of, signed_of, adjustment_of, normal, signed_digits, local_number, part}
+use Rattle.cpp_grammar.specs.Values.{Around, Prefix, Value, tree_of, piece_of, is_listed, qualifiers_of, ref_of, letter_of, is_there, mark_of, text_of, signed_of, adjustment_of, normal, signed_digits, local_number, part}
 use Rattle.cpp_grammar.specs.Between as going_
 use Rattle.cpp_grammar.specs.Meaning as meaning_
 use Rattle.cpp_grammar.specs.Meaning.{meaning}
@@ -40,6 +40,14 @@ tree_noted s _ = refl
 
 pub tree_part : (s : Option term_.Term) (vs : List Value) (k : ℕ) → value_.tree_of (value_.part (noted_values s vs) k) ≡ annotate s (tree_of (part vs k))
 tree_part s vs k = ap value_.tree_of (part_noted s vs k) ∙ tree_noted s (part vs k)
+
+pub piece_noted : (s : Option term_.Term) (v : Value) → value_.piece_of (noted_value s v) ≡ annotate s (piece_of v)
+unfolding value_.piece_of piece_of noted_value annotate
+piece_noted s (leaf_.piece p) = refl
+piece_noted s _ = refl
+
+piece_part : (s : Option term_.Term) (vs : List Value) (k : ℕ) → value_.piece_of (value_.part (noted_values s vs) k) ≡ annotate s (piece_of (part vs k))
+piece_part s vs k = ap value_.piece_of (part_noted s vs k) ∙ piece_noted s (part vs k)
 
 pub closed_part : (s : Option term_.Term) (vs : List Value) (k : ℕ) → is_open (tree_of (part vs k)) ≡ false → value_.tree_of (value_.part (noted_values s vs) k) ≡ annotate None (tree_of (part vs k))
 closed_part s vs k h = tree_part s vs k ∙ closed_noted s None (tree_of (part vs k)) h
@@ -303,7 +311,7 @@ meaning_noted Production.Special byte around vs h = part_noted (noted_scope arou
 meaning_noted Production.Guard byte around vs h = three (λ x y z. value_.tree (term_.guard x y z) true) (closed_part (noted_scope around.scope) vs 1 h) (qualifiers_part (noted_scope around.scope) vs 1) (ref_part (noted_scope around.scope) vs 1)
 meaning_noted Production.NestedName byte around vs h = five (λ x a b c m. value_.named x (record { restrict = a; volatile = b; const = c }) m) (tree_part (noted_scope around.scope) vs 4) (there_part (noted_scope around.scope) vs 0) (there_part (noted_scope around.scope) vs 1) (there_part (noted_scope around.scope) vs 2) (mark_part (noted_scope around.scope) vs 3)
 meaning_noted Production.LocalName byte around vs h = five (λ x y d q r. value_.named (term_.local x y d) q r) (closed_part (noted_scope around.scope) vs 0 h) (tree_part (noted_scope around.scope) vs 2) (discriminator_part (noted_scope around.scope) vs 3) (qualifiers_part (noted_scope around.scope) vs 2) (ref_part (noted_scope around.scope) vs 2)
-meaning_noted Production.Lambda byte around vs h = both (λ x d. value_.tree (term_.lambda x (local_number d)) true) (both (λ x y. noted_.parameters (term_.list x y)) (tree_part (noted_scope around.scope) vs 0) (items_part (noted_scope around.scope) vs 1) ∙ parameters_noted (noted_scope around.scope) (list (tree_of (part vs 0)) (going_.no_items (part vs 1)))) (text_part_ (noted_scope around.scope) vs 3)
+meaning_noted Production.Lambda byte around vs h = both (λ x d. value_.piece (term_.lambda x (local_number d))) (both (λ x y. noted_.parameters (term_.list x y)) (tree_part (noted_scope around.scope) vs 0) (items_part (noted_scope around.scope) vs 1) ∙ parameters_noted (noted_scope around.scope) (list (tree_of (part vs 0)) (going_.no_items (part vs 1)))) (text_part_ (noted_scope around.scope) vs 3)
 meaning_noted Production.NestEnd byte around vs h = both value_.tree (prefix_tree_noted (noted_scope around.scope) around.prefix) (prefix_listed_noted (noted_scope around.scope) around.prefix)
 meaning_noted Production.StringLiteral byte around vs h = ap (λ x. value_.tree x true) (extended_noted (noted_scope around.scope) around.prefix string_literal)
 meaning_noted Production.Substitution byte around vs h = refl
@@ -336,9 +344,9 @@ meaning_noted Production.Constructor byte around vs h = ap (λ x. value_.tree x 
 meaning_noted Production.Destructor byte around vs h = ap (λ x. value_.tree x false) (applied_part (noted_scope around.scope) vs 0 1)
 meaning_noted Production.StdName byte around vs h = ap (λ x. value_.tree x false) (applied_part (noted_scope around.scope) vs 0 1)
 meaning_noted Production.AbbreviatedName byte around vs h = ap (λ x. value_.tree x false) (applied_part (noted_scope around.scope) vs 0 1)
-meaning_noted Production.InternalPiece byte around vs h = ap (λ x. value_.tree ( term_.source true x ) true) (text_part_ (noted_scope around.scope) vs 0)
+meaning_noted Production.InternalPiece byte around vs h = ap (λ x. value_.piece ( term_.source true x )) (text_part_ (noted_scope around.scope) vs 0)
 meaning_noted Production.LocalTypePiece byte around vs h = part_noted (noted_scope around.scope) vs 0
-meaning_noted Production.SourcePiece byte around vs h = ap (λ x. value_.tree ( term_.source false x ) true) (text_part_ (noted_scope around.scope) vs 0)
+meaning_noted Production.SourcePiece byte around vs h = ap (λ x. value_.piece ( term_.source false x )) (text_part_ (noted_scope around.scope) vs 0)
 meaning_noted Production.OperatorPiece byte around vs h = part_noted (noted_scope around.scope) vs 0
 meaning_noted Production.NestWithS byte around vs h = part_noted (noted_scope around.scope) vs 0
 meaning_noted Production.NestParameter byte around vs h = part_noted (noted_scope around.scope) vs 1
@@ -354,7 +362,7 @@ meaning_noted Production.NestedType byte around vs h = part_noted (noted_scope a
 meaning_noted Production.Discriminator byte around vs h = part_noted (noted_scope around.scope) vs 0
 meaning_noted Production.OneDigit byte around vs h = refl
 meaning_noted Production.ManyDigits byte around vs h = ap (λ x. value_.text ( normal x )) (text_part_ (noted_scope around.scope) vs 0)
-meaning_noted Production.Unnamed byte around vs h = ap (λ x. value_.tree ( term_.unnamed ( local_number x ) ) true) (text_part_ (noted_scope around.scope) vs 0)
+meaning_noted Production.Unnamed byte around vs h = ap (λ x. value_.piece ( term_.unnamed ( local_number x ) )) (text_part_ (noted_scope around.scope) vs 0)
 meaning_noted Production.PlainType byte around vs h = listed_whole (noted_scope around.scope) vs 0
 meaning_noted Production.QualifiedPlain byte around vs h = listed_whole (noted_scope around.scope) vs 0
 meaning_noted Production.TypeWithD byte around vs h = listed_whole (noted_scope around.scope) vs 0
@@ -373,7 +381,7 @@ meaning_noted Production.MemberPointer byte around vs h = both (λ x y. value_.t
 meaning_noted Production.Parameter byte around vs h = both (λ x y. value_.tree x ( not y )) (applied_part (noted_scope around.scope) vs 0 1) (there_part (noted_scope around.scope) vs 1)
 meaning_noted Production.TypeWithS byte around vs h = three (λ x y z. value_.tree x (y && not z)) (applied_part (noted_scope around.scope) vs 0 1) (listed_part (noted_scope around.scope) vs 0) (there_part (noted_scope around.scope) vs 1)
 meaning_noted Production.LocalType byte around vs h = three (λ x y z. value_.tree ( term_.local x y z ) false) (closed_part (noted_scope around.scope) vs 0 h) (tree_part (noted_scope around.scope) vs 2) (discriminator_part (noted_scope around.scope) vs 3)
-meaning_noted Production.StdType byte around vs h = ap (λ x. value_.tree ( term_.in_std x ) false) (tree_part (noted_scope around.scope) vs 0)
+meaning_noted Production.StdType byte around vs h = ap (λ x. value_.tree ( term_.in_std x ) false) (piece_part (noted_scope around.scope) vs 0)
 meaning_noted Production.AbbreviatedType byte around vs h = part_noted (noted_scope around.scope) vs 0
 meaning_noted Production.RestEnd byte around vs h = refl
 meaning_noted Production.RefEnd byte around vs h = refl
@@ -396,17 +404,17 @@ meaning_noted Production.LiteralWithD byte around vs h = part_noted (noted_scope
 meaning_noted Production.IntegerLiteral byte around vs h = both (λ x y. value_.tree ( term_.integer x y ) true) (tree_part (noted_scope around.scope) vs 0) (signed_part (noted_scope around.scope) vs 1)
 meaning_noted Production.NullLiteral byte around vs h = refl
 meaning_noted Production.CharLiteral byte around vs h = ap (λ x. value_.tree ( term_.integer ( term_.builtin ( 68 ∷ byte ∷ [] ) ) x ) true) (signed_part (noted_scope around.scope) vs 0)
-meaning_noted Production.OperatorN byte around vs h = ap (λ x. value_.tree ( term_.operator byte x ) true) (letter_part (noted_scope around.scope) vs 0)
-meaning_noted Production.OperatorD byte around vs h = ap (λ x. value_.tree ( term_.operator byte x ) true) (letter_part (noted_scope around.scope) vs 0)
-meaning_noted Production.OperatorA byte around vs h = ap (λ x. value_.tree ( term_.operator byte x ) true) (letter_part (noted_scope around.scope) vs 0)
-meaning_noted Production.OperatorP byte around vs h = ap (λ x. value_.tree ( term_.operator byte x ) true) (letter_part (noted_scope around.scope) vs 0)
-meaning_noted Production.OperatorC byte around vs h = ap (λ x. value_.tree ( term_.operator byte x ) true) (letter_part (noted_scope around.scope) vs 0)
-meaning_noted Production.OperatorM byte around vs h = ap (λ x. value_.tree ( term_.operator byte x ) true) (letter_part (noted_scope around.scope) vs 0)
-meaning_noted Production.OperatorR byte around vs h = ap (λ x. value_.tree ( term_.operator byte x ) true) (letter_part (noted_scope around.scope) vs 0)
-meaning_noted Production.OperatorO byte around vs h = ap (λ x. value_.tree ( term_.operator byte x ) true) (letter_part (noted_scope around.scope) vs 0)
-meaning_noted Production.OperatorE byte around vs h = ap (λ x. value_.tree ( term_.operator byte x ) true) (letter_part (noted_scope around.scope) vs 0)
-meaning_noted Production.OperatorS byte around vs h = ap (λ x. value_.tree ( term_.operator byte x ) true) (letter_part (noted_scope around.scope) vs 0)
-meaning_noted Production.OperatorI byte around vs h = ap (λ x. value_.tree ( term_.operator byte x ) true) (letter_part (noted_scope around.scope) vs 0)
-meaning_noted Production.OperatorG byte around vs h = ap (λ x. value_.tree ( term_.operator byte x ) true) (letter_part (noted_scope around.scope) vs 0)
-meaning_noted Production.LiteralOperator byte around vs h = ap (λ x. value_.tree ( term_.literal_operator x ) true) (text_part_ (noted_scope around.scope) vs 0)
+meaning_noted Production.OperatorN byte around vs h = ap (λ x. value_.piece ( term_.operator byte x )) (letter_part (noted_scope around.scope) vs 0)
+meaning_noted Production.OperatorD byte around vs h = ap (λ x. value_.piece ( term_.operator byte x )) (letter_part (noted_scope around.scope) vs 0)
+meaning_noted Production.OperatorA byte around vs h = ap (λ x. value_.piece ( term_.operator byte x )) (letter_part (noted_scope around.scope) vs 0)
+meaning_noted Production.OperatorP byte around vs h = ap (λ x. value_.piece ( term_.operator byte x )) (letter_part (noted_scope around.scope) vs 0)
+meaning_noted Production.OperatorC byte around vs h = ap (λ x. value_.piece ( term_.operator byte x )) (letter_part (noted_scope around.scope) vs 0)
+meaning_noted Production.OperatorM byte around vs h = ap (λ x. value_.piece ( term_.operator byte x )) (letter_part (noted_scope around.scope) vs 0)
+meaning_noted Production.OperatorR byte around vs h = ap (λ x. value_.piece ( term_.operator byte x )) (letter_part (noted_scope around.scope) vs 0)
+meaning_noted Production.OperatorO byte around vs h = ap (λ x. value_.piece ( term_.operator byte x )) (letter_part (noted_scope around.scope) vs 0)
+meaning_noted Production.OperatorE byte around vs h = ap (λ x. value_.piece ( term_.operator byte x )) (letter_part (noted_scope around.scope) vs 0)
+meaning_noted Production.OperatorS byte around vs h = ap (λ x. value_.piece ( term_.operator byte x )) (letter_part (noted_scope around.scope) vs 0)
+meaning_noted Production.OperatorI byte around vs h = ap (λ x. value_.piece ( term_.operator byte x )) (letter_part (noted_scope around.scope) vs 0)
+meaning_noted Production.OperatorG byte around vs h = ap (λ x. value_.piece ( term_.operator byte x )) (letter_part (noted_scope around.scope) vs 0)
+meaning_noted Production.LiteralOperator byte around vs h = ap (λ x. value_.piece ( term_.literal_operator x )) (text_part_ (noted_scope around.scope) vs 0)
 meaning_noted Production.Mark byte around vs h = refl

@@ -22,7 +22,7 @@ use Rattle.cpp_grammar.specs.Between.{in_name, in_types, between, no_items}
 use Rattle.cpp_grammar.specs.Meaning.{meaning}
 use Rattle.cpp_grammar.specs.Unfolding as unfolding_
 use Rattle.cpp_grammar.specs.Unfolding.{last_token, number_tested, opening, production_at, byte_of, close, cpp}
-use Rattle.cpp_grammar.proofs.ClosedValues.{GoodPrefix}
+use Rattle.cpp_grammar.proofs.ClosedValues.{GoodPrefix, held, good_tree}
 use Rattle.cpp_grammar.proofs.ClosedStates.{Bare, AllOld, AllNew, Grows, old_later, old_grows}
 use Rattle.cpp_grammar.proofs.ClosedParts.{StaysInside}
 use Rattle.cpp_grammar.proofs.ClosedTrees as trees_
@@ -199,7 +199,7 @@ special_noted (grown t nothing) all rule first from x y is trees lt le old same 
     (λ a b a-is many.
         let c = trees_.name_comes t (trees_.tree_good t) (OfKind 5) at from x a (trees_.known 5 (lit≤ tt)) trees.0 refl le old0 a-is in
         record {
-          means = λ byte. ap (λ us. value_.part us 0) many.values ∙ part_noted None a.value 0 ∙ value_closed None (noted_scope around.scope) (part a.value 0) (subst (λ vs. is_open (tree_of (part vs 0)) ≡ false) (sym c.is) (c.good.closed refl));
+          means = λ byte. ap (λ us. value_.part us 0) many.values ∙ part_noted None a.value 0 ∙ value_closed None (noted_scope around.scope) (part a.value 0) (subst (λ vs. is_open (held (part vs 0)) ≡ false) (sym c.is) (c.good.closed refl));
           moves = moves_out around (in_name at) at (from + length (spell t)) x a.state y b.state refl lt c.grows many.moves;
         }))
 
@@ -290,7 +290,7 @@ guard_noted (grown t (grown u nothing)) all rule first from x y is trees lt le o
         (λ d e d-is more.
             let g = trees_.name_comes u (trees_.tree_good u) (OfKind 8) at next a.state d (trees_.known 8 (lit≤ tt)) trees.1.0 refl (omega (arith, le)) old1 d-is in
             record {
-              means = λ byte. guard_means around byte a.value b.value d.value e.value c.value g.value c.is g.is (g.good.closed refl) many.values more.values;
+              means = λ byte. guard_means around byte a.value b.value d.value e.value c.value g.value c.is g.is ((good_tree (Bare (in_name at)) g.value g.good).closed refl) many.values more.values;
               moves = moves_then around x a.state d.state y b.state e.state (moves_out around (in_name at) at next x a.state y b.state refl lt c.grows many.moves)
                   (moves_out around (in_name at) at (next + length (spell u)) a.state d.state b.state e.state refl lt g.grows more.moves);
             }))))
