@@ -5,9 +5,9 @@ use Rattle.sym_link.specs.Reading.{Next}
 use Rattle.cpp_grammar.specs.declared.production.Production.{Production}
 use Rattle.cpp_grammar.specs.Term.{Term, in_std, instance, parameter, lvalue, rvalue, pack, source, constructor, destructor}
 use Rattle.cpp_grammar.specs.Scope.{is_open}
-use Rattle.cpp_grammar.specs.Values.{State, Around, Value, tree, tree_of, piece_of, is_listed, letter_of, text_of}
+use Rattle.cpp_grammar.specs.Values.{State, Around, prefix_tree, Value, tree, tree_of, piece_of, is_listed, letter_of, text_of}
 use Rattle.cpp_grammar.specs.References.{appended, with_type, with_prefix, parameter_named}
-use Rattle.cpp_grammar.specs.Between.{in_signature, under_expansion, after, inside, extended, prefix_tree, applied, no_items, Going, named_so_far, listed_so_far, piece_so_far, parameter_so_far, index_of, between}
+use Rattle.cpp_grammar.specs.Between.{in_signature, under_expansion, after, inside, extended, applied, no_items, Going, named_so_far, listed_so_far, piece_so_far, parameter_so_far, index_of, between}
 use Rattle.cpp_grammar.proofs.ClosedValues.{Good, AllGood, GoodPrefix, held, good_tree, good_piece, good_no_items, good_applied, good_instance, good_extended, good_prefix}
 use Rattle.cpp_grammar.proofs.ClosedStates.{Bare, Grows, grows_same, grows_one, with_prefix_grows, with_type_grows, parameter_good, parameter_grows, ok_same, behind_bind}
 

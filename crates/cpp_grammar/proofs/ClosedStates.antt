@@ -12,12 +12,12 @@ use Rattle.cpp_grammar.specs.Scope.{count, element, length_if_pack, is_open}
 use Rattle.cpp_grammar.specs.Closed.{ScopesAreClosed}
 use Rattle.sym_core.specs.declared.NumberKind.TheVariants.{Seq36}
 use Rattle.sym_core.specs.Value.{counted_value}
-use Rattle.cpp_grammar.specs.Values.{Candidate, State, Prefix, outermost, behind, Around, Value, tree, is_listed, text_of, part, tree_of}
-use Rattle.cpp_grammar.specs.References.{appended, is_builtin, is_function_type, with_type, with_unqualified, with_prefix, with_packs, packs_in, substituted, parameter_named}
+use Rattle.cpp_grammar.specs.Values.{Candidate, State, Around, prefix_tree, prefix_listed, Value, tree, is_listed, text_of, part, tree_of}
+use Rattle.cpp_grammar.specs.References.{appended, is_function_type, with_type, with_unqualified, with_prefix, with_packs, packs_in, substituted, parameter_named}
 use Rattle.cpp_grammar.specs.Meaning.{meaning}
 use Rattle.cpp_grammar.specs.Unfolding as unfolding_
 use Rattle.cpp_grammar.specs.Unfolding.{close}
-use Rattle.cpp_grammar.proofs.ClosedValues.{Good, AllGood, GoodPrefix, HasClosedName, held, good_tree, good_part, meaning_good}
+use Rattle.cpp_grammar.proofs.ClosedValues.{Good, AllGood, GoodPrefix, HasClosedName, held, good_tree, good_part, good_prefix, meaning_good}
 
 -- no parameters are named here
 abbrev pub Bare : Around → Type 0
@@ -109,7 +109,7 @@ old_grows around a b old new le known grows =
 
 pub with_type_grows : (around : Around) (end : ℕ) (v : Value) (state : State) → Good (Bare around) (tree_of v) → Grows around end state (with_type around v state)
 unfolding with_type
-with_type_grows around end v state good = go (is_listed v || is_builtin (tree_of v))
+with_type_grows around end v state good = go (is_listed v)
   where
     go : (b : Bool) → Grows around end state (elim b [ true ↦ state | false ↦ appended around (tree_of v) state ])
     go true = grows_same around end state state refl
@@ -240,15 +240,11 @@ parameter_grows around place k end state new e = go around.scope refl e
 
 pub with_prefix_grows : (around : Around) (end : ℕ) (state : State) → GoodPrefix (Bare around) around.prefix → Grows around end state (with_prefix around state)
 unfolding with_prefix
-with_prefix_grows around end state good = go around.prefix good
+with_prefix_grows around end state good = go (prefix_listed around.prefix)
   where
-    chosen : (t : Term) (listed : Bool) → Good (Bare around) t → Grows around end state (elim listed [ true ↦ state | false ↦ appended around t state ])
-    chosen t true g = grows_same around end state state refl
-    chosen t false g = grows_one around end t state g
-
-    go : (prefix : Prefix) → GoodPrefix (Bare around) prefix → Grows around end state (elim prefix [ outermost ↦ state | behind t listed ↦ elim listed [ true ↦ state | false ↦ appended around t state ] ])
-    go outermost g = grows_same around end state state refl
-    go (behind t listed) g = chosen t listed g
+    go : (listed : Bool) → Grows around end state (elim listed [ true ↦ state | false ↦ appended around (prefix_tree around.prefix) state ])
+    go true = grows_same around end state state refl
+    go false = grows_one around end (prefix_tree around.prefix) state (good_prefix (Bare around) around.prefix good)
 
 behind_grows : (production : Production) (byte : ℕ) (around : Around) (began : State) (vs : List Value) (state : State) (end : ℕ) →
     GoodPrefix (Bare around) around.prefix → AllGood (Bare around) vs → Grows around end state (unfolding_.behind production byte around began vs state)

@@ -5,8 +5,8 @@ use Rattle.cpp_grammar.specs.declared.production.Production.{Production}
 use Rattle.cpp_grammar.specs.Term.{RefQualifier, lvalue_only, rvalue_only, Term, symbol, function, within, instance, local, string_literal, lvalue, rvalue, member_pointer, function_type, nil, list, absent}
 use Rattle.cpp_grammar.specs.Scope.{arguments_of, is_open, has_return_type}
 use Rattle.cpp_grammar.specs.Closed.{HasNoneFree, ScopesAreClosed}
-use Rattle.cpp_grammar.specs.Values.{Around, Prefix, outermost, behind, Value, nothing_there, letter, tree, piece, named, signature, tree_of, piece_of, qualifiers_of, ref_of, is_there, part}
-use Rattle.cpp_grammar.specs.Between.{extended, prefix_tree, applied, no_items}
+use Rattle.cpp_grammar.specs.Values.{Around, Prefix, outermost, behind, prefix_tree, Value, nothing_there, letter, tree, piece, named, signature, tree_of, piece_of, qualifiers_of, ref_of, is_there, part}
+use Rattle.cpp_grammar.specs.Between.{extended, applied, no_items}
 use Rattle.cpp_grammar.specs.Meaning.{is_void, is_nil, parameters, encoding_of, qualified_by, listed_value, function_of, with_item, reference_to, signature_or, operator_or_literal, meaning}
 
 -- the tree is closed under a condition, and so are the scopes in it

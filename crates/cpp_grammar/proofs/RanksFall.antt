@@ -9,7 +9,7 @@ use Rattle.sym_print.specs.Unfold.{PartOf, text, sub, RanksBelow}
 use Rattle.cpp_grammar.specs.Term.{Qualifiers, RefQualifier, Signed, Term, symbol, function, object, special, thunk, guard, alone, in_std, within, instance, local, abbreviation, parameter, source, constructor, destructor, lambda, pointer, lvalue, rvalue, array, member_pointer, function_type, qualified, vector, complex, expansion, integer, encoding_literal, address_of, pack, nil, list, absent}
 use Rattle.cpp_grammar.specs.Scope.{element, arguments_of, pack_length}
 use Rattle.cpp_grammar.specs.Items.{Form, root, full, bare, left, right, low, base, piece, first, more, expand, Context, Item, indexed, argument, head, is_reference, is_funarr, packs_of, is_empty}
-use Rattle.cpp_grammar.specs.Parts.{as_item, says, text_part, list_part, piece_parts, prefix_form, within_parts, instance_parts, marked_parts, reference_parts, qualified_left, blank_last, qualifier_text, expansion_parts, sign_part, is_plain_integer, integer_parts, builtin_code, member_parts, array_left, left_parts, low_parts, function_right, ref_text, closing_right, qualified_right, right_parts, base_within, base_parts, types_of, encoding_text, function_bare, function_full, full_parts, bare_parts, root_parts, first_parts, more_parts, at_index, is_below, comma_before, expand_rest, expand_parts, parts_in, not_empty, parts}
+use Rattle.cpp_grammar.specs.Parts.{as_item, says, text_part, list_part, piece_parts, prefix_item, within_parts, instance_parts, marked_parts, reference_parts, qualified_left, blank_last, qualifier_text, expansion_parts, sign_part, is_plain_integer, integer_parts, builtin_code, member_parts, array_left, left_parts, low_parts, function_right, ref_text, closing_right, qualified_right, right_parts, base_within, base_parts, types_of, encoding_text, function_bare, function_full, full_parts, bare_parts, root_parts, first_parts, more_parts, at_index, is_below, comma_before, expand_rest, expand_parts, parts_in, not_empty, parts}
 use Rattle.cpp_grammar.specs.Ranks.{or_none, pack_count, weight, scope_weight, weight_in, rank_in, rank}
 use Rattle.cpp_grammar.specs.Texts.{look_up, literal_endings}
 
@@ -110,17 +110,17 @@ piece_falls r c (source internal name) h = tt
 piece_falls r c (lambda parameters number) h = falls_append r (list_part first c parameters) _ (falls_first r c parameters (omega arith)) tt
 piece_falls r c _ h = tt
 
-item_prefix : (r : ℕ) (c : Context) (t : Term) → Below r c t → rank_in c (prefix_form t) t < r
-unfolding prefix_form rank_in
-item_prefix r c (function name q ref returned parameters) h = h
-item_prefix r c _ h = h
+prefix_falls : (r : ℕ) (c : Context) (t : Term) → Below r c t → RanksBelow rank r (prefix_item c t ∷ [])
+unfolding prefix_item rank rank_in weight_in weight
+prefix_falls r c (function name q ref returned parameters) h = (h, tt)
+prefix_falls r c _ h = (h, tt)
 
 within_falls : (r : ℕ) (c : Context) (prefix p : Term) → Below r c prefix → Below r c p → RanksBelow rank r (within_parts c prefix p)
 unfolding within_parts rank rank_in
 within_falls r c prefix (constructor digit) h g = (h, (h, tt))
 within_falls r c prefix (destructor digit) h g = (h, (h, tt))
-within_falls r c prefix (symbol e suffix) h g = (item_prefix r c prefix h, (g, tt))
-within_falls r c prefix _ h g = (item_prefix r c prefix h, (g, tt))
+within_falls r c prefix (symbol e suffix) h g = falls_append r (prefix_item c prefix ∷ []) _ (prefix_falls r c prefix h) (g, tt)
+within_falls r c prefix _ h g = falls_append r (prefix_item c prefix ∷ []) _ (prefix_falls r c prefix h) (g, tt)
 
 instance_falls : (r : ℕ) (d : Detail) (c : Context) (t arguments : Term) → Below r c t → Below r c arguments → RanksBelow rank r (instance_parts d c t arguments)
 unfolding instance_parts rank rank_in

@@ -42,7 +42,7 @@ unfoldable pub indexed : Option ℕ → Term → Term
 indexed (Some i) (pack elements) = element elements i
 indexed index t = t
 
--- the argument that a parameter stands for
+-- the argument that a parameter stands for; in a tree of a symbol each parameter has one
 unfoldable pub argument : Context → ℕ → Term
 argument context k = elim context.scope [ None ↦ absent | Some arguments ↦ indexed context.index (element arguments k) ]
 

@@ -3,8 +3,8 @@ use Rattle.std.specs.Prelude.{ℕ, List, [], ◌∷◌, Bool, true, false, cond,
 use Rattle.cpp_grammar.specs.declared.production.Production.{Production}
 use Rattle.cpp_grammar.specs.Term.{RefQualifier, any_value, lvalue_only, rvalue_only, non_virtual, by_table, adjusting, covariant, Term, symbol, function, object, special, thunk, guard, in_std, local, abbreviation, source, operator, literal_operator, lambda, unnamed, string_literal, builtin, vendor, pointer, lvalue, rvalue, array, member_pointer, function_type, qualified, vector, complex, expansion, integer, boolean, null_pointer, encoding_literal, address_of, nil, list, absent}
 use Rattle.cpp_grammar.specs.Scope.{has_return_type}
-use Rattle.cpp_grammar.specs.Values.{Around, Value, nothing_there, letter, text, signed, adjusted, tree, piece, named, signature, tree_of, piece_of, is_listed, qualifiers_of, ref_of, letter_of, is_there, mark_of, text_of, signed_of, adjustment_of, normal, signed_digits, local_number, part}
-use Rattle.cpp_grammar.specs.Between.{extended, prefix_tree, prefix_listed, applied, no_items}
+use Rattle.cpp_grammar.specs.Values.{Around, prefix_tree, prefix_listed, Value, nothing_there, letter, text, signed, adjusted, tree, piece, named, signature, tree_of, piece_of, is_listed, qualifiers_of, ref_of, letter_of, is_there, mark_of, text_of, signed_of, adjustment_of, normal, signed_digits, local_number, part}
+use Rattle.cpp_grammar.specs.Between.{extended, applied, no_items}
 
 -- a lone void is no parameters
 unfoldable pub is_void : Term → Bool
@@ -18,14 +18,6 @@ is_nil _ = false
 unfoldable pub parameters : Term → Term
 parameters (list first rest) = elim (is_void first && is_nil rest) [ true ↦ nil | false ↦ list first rest ]
 parameters t = t
-
-unfoldable pub first_item : Term → Term
-first_item (list first rest) = first
-first_item t = absent
-
-unfoldable pub later_items : Term → Term
-later_items (list first rest) = rest
-later_items t = nil
 
 -- an encoding without items is data; with items it's a function
 unfoldable pub encoding_of : Value → Term → Term

@@ -4,26 +4,23 @@ use Rattle.sym_core.specs.declared.refusal.Refusal.{Refusal}
 use Rattle.sym_core.specs.declared.refusal.Refusal.TheVariants.{BadReference}
 use Rattle.sym_link.specs.Reading.{Found, ◌>>=◌}
 use Rattle.sym_link.specs.Unfold.{found}
-use Rattle.cpp_grammar.specs.Term.{Term, builtin, function_type, parameter}
+use Rattle.cpp_grammar.specs.Term.{Term, function_type, parameter}
 use Rattle.cpp_grammar.specs.Scope.{count, element, is_open, length_if_pack, pack_length}
-use Rattle.cpp_grammar.specs.Values.{Candidate, State, outermost, behind, Around, Value, tree, tree_of, is_listed}
+use Rattle.cpp_grammar.specs.Values.{Candidate, State, Around, prefix_tree, prefix_listed, Value, tree, tree_of, is_listed}
 
 -- ## Candidates
 
 unfoldable pub appended : Around → Term → State → State
 appended around t state = record state { candidates = state.candidates ++ (record { tree = t; encoding = around.encoding } ∷ []) }
 
-unfoldable pub is_builtin : Term → Bool
-is_builtin (builtin code) = true
-is_builtin _ = false
-
 unfoldable pub is_function_type : Term → Bool
 is_function_type (function_type c_linkage noexcept ref returned parameters) = true
 is_function_type _ = false
 
--- a type is a candidate once it's complete, unless it's builtin, an abbreviation or what a substitution stands for
+-- a type is a candidate once it's complete, unless it's builtin, an abbreviation or what a substitution stands for, which are
+-- marked as listed
 unfoldable pub with_type : Around → Value → State → State
-with_type around v state = elim (is_listed v || is_builtin (tree_of v)) [ true ↦ state | false ↦ appended around (tree_of v) state ]
+with_type around v state = elim (is_listed v) [ true ↦ state | false ↦ appended around (tree_of v) state ]
 
 -- under qualifiers written before it a function type is no candidate
 unfoldable pub with_unqualified : Around → Value → State → State
@@ -31,7 +28,7 @@ with_unqualified around v state = elim (is_function_type (tree_of v)) [ true ↦
 
 -- the name so far is a candidate once something is added to it: a further piece, or arguments
 unfoldable pub with_prefix : Around → State → State
-with_prefix around state = elim around.prefix [ outermost ↦ state | behind t listed ↦ elim listed [ true ↦ state | false ↦ appended around t state ] ]
+with_prefix around state = elim (prefix_listed around.prefix) [ true ↦ state | false ↦ appended around (prefix_tree around.prefix) state ]
 
 -- ## References
 

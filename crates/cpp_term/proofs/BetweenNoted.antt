@@ -6,9 +6,9 @@ use Rattle.sym_link.specs.Reading.{Next}
 use Rattle.cpp_grammar.specs.declared.production.Production.{Production}
 use Rattle.cpp_grammar.specs.Term.{Term, in_std, instance, parameter, lvalue, rvalue, source, constructor, destructor}
 use Rattle.cpp_grammar.specs.Values as leaf_
-use Rattle.cpp_grammar.specs.Values.{Around, Prefix, Value, State, tree_of, piece_of, is_listed, text_of, letter_of, part}
+use Rattle.cpp_grammar.specs.Values.{Around, Prefix, prefix_tree, Value, State, tree_of, piece_of, is_listed, text_of, letter_of, part}
 use Rattle.cpp_grammar.specs.References.{appended, with_type, with_unqualified, with_prefix, substituted, parameter_named}
-use Rattle.cpp_grammar.specs.Between.{in_signature, under_expansion, after, inside, extended, prefix_tree, applied, no_items, named_so_far, listed_so_far, piece_so_far, parameter_so_far, index_of, between}
+use Rattle.cpp_grammar.specs.Between.{in_signature, under_expansion, after, inside, extended, applied, no_items, named_so_far, listed_so_far, piece_so_far, parameter_so_far, index_of, between}
 use Rattle.cpp_grammar.specs.Meaning.{meaning}
 use Rattle.cpp_grammar.specs.Unfolding as unfolding_
 use Rattle.cpp_grammar.specs.Unfolding.{close}
@@ -95,7 +95,7 @@ expansion_goes around x y vs = record { values = refl; context = refl; moves = m
 
 listed_goes : (around : Around) (x : State) (y : value_.State) (v : Value) → y.packs ≡ x.packs →
     Goes around x y (record { context = after (tree_of v) (is_listed v) around; values = v ∷ []; state = x })
-        (record { context = between_.after (value_.tree_of (noted_value (noted_scope around.scope) v)) (value_.is_listed (noted_value (noted_scope around.scope) v)) (noted_around around); values = noted_value (noted_scope around.scope) v ∷ []; state = y })
+    (record { context = between_.after (value_.tree_of (noted_value (noted_scope around.scope) v)) (value_.is_listed (noted_value (noted_scope around.scope) v)) (noted_around around); values = noted_value (noted_scope around.scope) v ∷ []; state = y })
 unfolding after noted_values
 listed_goes around x y v packs = record {
   values = refl;
@@ -171,7 +171,7 @@ between_noted _ around place vs x y stays packs = same_goes around x y vs packs
 
 made_moves : (production : Production) (byte : ℕ) (around : Around) (vs : List Value) (x : State) (y : value_.State) → Inside production vs → y.packs ≡ x.packs →
     Moves around x y (appended around (tree_of (meaning production byte around vs)) x)
-        (reference_.appended (noted_around around) (value_.tree_of (noted_.meaning production byte (noted_around around) (noted_values (noted_scope around.scope) vs))) y)
+    (reference_.appended (noted_around around) (value_.tree_of (noted_.meaning production byte (noted_around around) (noted_values (noted_scope around.scope) vs))) y)
 made_moves production byte around vs x y h packs =
     one_moves around (tree_of (meaning production byte around vs)) _ x y packs (ap value_.tree_of (meaning_noted production byte around vs h) ∙ tree_noted (noted_scope around.scope) (meaning production byte around vs))
 
@@ -205,7 +205,7 @@ pub close_noted : (production : Production) (byte : ℕ) (around : Around) (plac
 unfolding close unfolded_.close
 close_noted Production.Substitution byte around place began first vs x y h same e =
     subst (λ bytes. Alike (Comes around x y) (substituted around (place - 1) (slice_get x.candidates (counted_value Seq36 (text_of (part vs 0)))) x)
-        (reference_.substituted (noted_around around) (place - 1) (slice_get y.candidates (counted_value Seq36 bytes)) y)) (sym (text_part_ (noted_scope around.scope) vs 0))
+    (reference_.substituted (noted_around around) (place - 1) (slice_get y.candidates (counted_value Seq36 bytes)) y)) (sym (text_part_ (noted_scope around.scope) vs 0))
     (substituted_noted around (place - 1) (slice_get x.candidates (counted_value Seq36 (text_of (part vs 0)))) (slice_get y.candidates (counted_value Seq36 (text_of (part vs 0)))) x y same.packs
     (get_noted around x.candidates y.candidates (counted_value Seq36 (text_of (part vs 0))) same.all))
 close_noted production byte around place began first vs x y h same e =

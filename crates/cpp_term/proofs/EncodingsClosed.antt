@@ -302,10 +302,10 @@ insides p rule taken parts k around at state inner is plain lt tree le special p
     let old0 = old_later around at from state.candidates (omega arith) old in
     inside_values p inner.value plain
     (λ has.
-        let reads = forest_closed parts whole (symbols_of rule) [] from state inner inside_ (subst (λ q. Keeps q) (sym number) (keeps p has)) symbols tree.1 (omega (arith, le))
-        (λ any. omega (arith, le, takes_byte p rule k taken is tree.0 any)) pre tt old0 e in
-        subst (λ us. Encodings (parts_of p) us) (sym reads.is) (subst (λ xs. Encodings xs reads.more) same reads.closed))
+    let reads = forest_closed parts whole (symbols_of rule) [] from state inner inside_ (subst (λ q. Keeps q) (sym number) (keeps p has)) symbols tree.1 (omega (arith, le))
+    (λ any. omega (arith, le, takes_byte p rule k taken is tree.0 any)) pre tt old0 e in
+    subst (λ us. Encodings (parts_of p) us) (sym reads.is) (subst (λ xs. Encodings xs reads.more) same reads.closed))
     (λ is_type.
-        let all = forest_good parts (trees_good parts) whole (symbols_of rule) [] from state inner inside_ symbols tree.1 (omega (arith, le))
-        (λ any. omega (arith, le, takes_byte p rule k taken is tree.0 any)) pre tt old0 e in
-        first_closed (Bare around) inner.value (special (special_kind p k rule taken is lt tree.0 is_type)) all.good)
+    let all = forest_good parts (trees_good parts) whole (symbols_of rule) [] from state inner inside_ symbols tree.1 (omega (arith, le))
+    (λ any. omega (arith, le, takes_byte p rule k taken is tree.0 any)) pre tt old0 e in
+    first_closed (Bare around) inner.value (special (special_kind p k rule taken is lt tree.0 is_type)) all.good)

@@ -40,7 +40,9 @@ all_inner around inner (c ∷ cs) (d ∷ ds) e i all = (one i, all_inner around 
   where
     one : InScope around inner → IsNoted inner c d
     one (inl same) = record {
-      encoding = all.0.encoding; opened = all.0.opened; closed = all.0.closed;
+      encoding = all.0.encoding;
+      opened = all.0.opened;
+      closed = all.0.closed;
       here = λ h f. all.0.here (h ∙ e) (sym same.1 ∙ f) ∙ ap (λ o. annotate (noted_scope o) c.tree) (sym same.0);
     }
     one (inr bare) = record { encoding = all.0.encoding; opened = all.0.opened; closed = all.0.closed; here = λ h f. absurd (true≢false (sym bare.1 ∙ f)) }
@@ -59,11 +61,15 @@ all_outer around inner end (c ∷ cs) (d ∷ ds) e i new all = (one i, all_outer
 
     one : InScope around inner → IsNoted around c d
     one (inl same) = record {
-      encoding = all.0.encoding; opened = all.0.opened; closed = all.0.closed;
+      encoding = all.0.encoding;
+      opened = all.0.opened;
+      closed = all.0.closed;
       here = λ h f. all.0.here (h ∙ sym e) (same.1 ∙ f) ∙ ap (λ o. annotate (noted_scope o) c.tree) same.0;
     }
     one (inr bare) = record {
-      encoding = all.0.encoding; opened = all.0.opened; closed = all.0.closed;
+      encoding = all.0.encoding;
+      opened = all.0.opened;
+      closed = all.0.closed;
       here = λ h f. all.0.closed (closed_here bare.0 h) ∙ closed_noted None (noted_scope around.scope) c.tree (closed_here bare.0 h);
     }
 all_outer around inner end [] (d ∷ ds) e i new all = absurd all
@@ -74,7 +80,11 @@ same_inner around inner x y e i same = record { packs = same.packs; all = all_in
 
 pub moves_outer : (around inner : Around) (end : ℕ) (x later : State) (y noted : value_.State) → inner.encoding ≡ around.encoding → InScope around inner → Grows inner end x later → Moves inner x y later noted → Moves around x y later noted
 moves_outer around inner end x later y noted e i grows m = record {
-  more = m.more; others = m.others; is = m.is; so = m.so; packs = m.packs;
+  more = m.more;
+  others = m.others;
+  is = m.is;
+  so = m.so;
+  packs = m.packs;
   each = all_outer around inner end m.more m.others e i (subst (λ cs. AllNew inner end cs) (cancel x.candidates grows.more m.more (sym grows.is ∙ m.is)) grows.each) m.each;
 }
 
@@ -154,30 +164,30 @@ forest_noted (grown t f) all rule first (k ∷ ks) vs at x y stays known trees l
     (λ next. unfold_tree unfolded_.cpp next.context at t next.state >>= λ part. unfold_forest unfolded_.cpp (noted_open rule first) (next.values ++ part.value) later f part.state)
     (between_noted (production_at rule.rule.number) around rule.place vs x y stays same.packs)
     (λ n m goes-is goes.
-        let g = between_goes (production_at rule.rule.number) around rule.place vs x n at stays pre good goes-is in
-        let old1 = old_grows around at at x n.state (omega arith) old g.grows in
-        let same1 = same_moves around x n.state y m.state same goes.moves in
-        let inside1 : is_encoding k ≡ true → n.context.encoding < at = λ opening. omega (arith, g.fits.encoding, inside (or_first (is_encoding k) (has_encoding ks) opening)) in
-        let le1 : n.context.encoding ≤ at = omega (arith, g.fits.encoding, le) in
-        let old2 = old_fits around n.context at n.state.candidates g.fits old1 in
-        let tree = all.0 k n.context at n.state m.state known.0 trees.0 le1 inside1
-            (λ special. absurd (true≢false (sym (or_first (is_special k) (has_special ks) special) ∙ none))) g.fits.prefix old2 (same_inner around n.context n.state m.state g.fits.encoding goes.scope same1) in
-        alike_bind (Many n.context n.state m.state) (Many around x y) (unfold_tree cpp n.context at t n.state) (unfold_tree unfolded_.cpp m.context at t m.state)
-        (λ part. unfold_forest cpp rule (n.values ++ part.value) later f part.state) (λ part. unfold_forest unfolded_.cpp (noted_open rule first) (m.values ++ part.value) later f part.state)
-        (subst (λ c. Alike (Many n.context n.state m.state) (unfold_tree cpp n.context at t n.state) (unfold_tree unfolded_.cpp c at t m.state)) (sym goes.context) tree)
-        (λ a b part-is part.
-            let comes = tree_good t k n.context at n.state a known.0 trees.0 le1 inside1 g.fits.prefix old2 part-is in
-            let moves1 = moves_outer around n.context later n.state a.state m.state b.state g.fits.encoding goes.scope comes.grows part.moves in
-            let grown1 = grows_fits around n.context later n.state a.state g.fits comes.grows in
-            let good1 = one_good (Bare around) comes.value a.value comes.is (good_fits around n.context (held comes.value) g.fits comes.good) in
-            let values1 = both (λ us ws. us ++ ws) goes.values (part.values ∙ outer_values around n.context a later n.state goes.scope comes) ∙ sym (values_append s n.values a.value) in
-            let moves2 = moves_then around x n.state a.state y m.state b.state goes.moves moves1 in
-            let rest = forest_noted f all.1 rule first ks (n.values ++ a.value) later a.state b.state stays known.1 trees.1 (omega (arith, le))
-                (λ opening. omega (arith, inside (or_true (is_encoding k) (has_encoding ks) opening))) (or_rest (is_special k) (has_special ks) none) pre (trees_.all_append (Bare around) n.values a.value g.values good1)
-                (old_grows around at later n.state a.state (omega arith) old1 grown1) (same_moves around n.state a.state m.state b.state same1 moves1) in
-            alike_map (Many around a.state b.state) (Many around x y) (unfold_forest cpp rule (n.values ++ a.value) later f a.state) (unfold_forest unfolded_.cpp (noted_open rule first) (m.values ++ b.value) later f b.state)
-            (λ u v end-is end. record { values = end.values; moves = moves_then around x a.state u.state y b.state v.state moves2 end.moves })
-            (subst (λ us. Alike (Many around a.state b.state) (unfold_forest cpp rule (n.values ++ a.value) later f a.state) (unfold_forest unfolded_.cpp (noted_open rule first) us later f b.state)) (sym values1) rest)))
+    let g = between_goes (production_at rule.rule.number) around rule.place vs x n at stays pre good goes-is in
+    let old1 = old_grows around at at x n.state (omega arith) old g.grows in
+    let same1 = same_moves around x n.state y m.state same goes.moves in
+    let inside1 : is_encoding k ≡ true → n.context.encoding < at = λ opening. omega (arith, g.fits.encoding, inside (or_first (is_encoding k) (has_encoding ks) opening)) in
+    let le1 : n.context.encoding ≤ at = omega (arith, g.fits.encoding, le) in
+    let old2 = old_fits around n.context at n.state.candidates g.fits old1 in
+    let tree = all.0 k n.context at n.state m.state known.0 trees.0 le1 inside1
+    (λ special. absurd (true≢false (sym (or_first (is_special k) (has_special ks) special) ∙ none))) g.fits.prefix old2 (same_inner around n.context n.state m.state g.fits.encoding goes.scope same1) in
+    alike_bind (Many n.context n.state m.state) (Many around x y) (unfold_tree cpp n.context at t n.state) (unfold_tree unfolded_.cpp m.context at t m.state)
+    (λ part. unfold_forest cpp rule (n.values ++ part.value) later f part.state) (λ part. unfold_forest unfolded_.cpp (noted_open rule first) (m.values ++ part.value) later f part.state)
+    (subst (λ c. Alike (Many n.context n.state m.state) (unfold_tree cpp n.context at t n.state) (unfold_tree unfolded_.cpp c at t m.state)) (sym goes.context) tree)
+    (λ a b part-is part.
+    let comes = tree_good t k n.context at n.state a known.0 trees.0 le1 inside1 g.fits.prefix old2 part-is in
+    let moves1 = moves_outer around n.context later n.state a.state m.state b.state g.fits.encoding goes.scope comes.grows part.moves in
+    let grown1 = grows_fits around n.context later n.state a.state g.fits comes.grows in
+    let good1 = one_good (Bare around) comes.value a.value comes.is (good_fits around n.context (held comes.value) g.fits comes.good) in
+    let values1 = both (λ us ws. us ++ ws) goes.values (part.values ∙ outer_values around n.context a later n.state goes.scope comes) ∙ sym (values_append s n.values a.value) in
+    let moves2 = moves_then around x n.state a.state y m.state b.state goes.moves moves1 in
+    let rest = forest_noted f all.1 rule first ks (n.values ++ a.value) later a.state b.state stays known.1 trees.1 (omega (arith, le))
+    (λ opening. omega (arith, inside (or_true (is_encoding k) (has_encoding ks) opening))) (or_rest (is_special k) (has_special ks) none) pre (trees_.all_append (Bare around) n.values a.value g.values good1)
+    (old_grows around at later n.state a.state (omega arith) old1 grown1) (same_moves around n.state a.state m.state b.state same1 moves1) in
+    alike_map (Many around a.state b.state) (Many around x y) (unfold_forest cpp rule (n.values ++ a.value) later f a.state) (unfold_forest unfolded_.cpp (noted_open rule first) (m.values ++ b.value) later f b.state)
+    (λ u v end-is end. record { values = end.values; moves = moves_then around x a.state u.state y b.state v.state moves2 end.moves })
+    (subst (λ us. Alike (Many around a.state b.state) (unfold_forest cpp rule (n.values ++ a.value) later f a.state) (unfold_forest unfolded_.cpp (noted_open rule first) us later f b.state)) (sym values1) rest)))
   where
     or_first : (a b : Bool) → a ≡ true → a || b ≡ true
     or_first a b h = ap (λ c. c || b) h

@@ -4,7 +4,7 @@ use Rattle.cpp_grammar.specs.declared.production.Production.{Production}
 use Rattle.cpp_grammar.specs.Term.{RefQualifier, lvalue_only, rvalue_only, non_virtual, by_table, adjusting, covariant, Term, function, within, instance, local, constructor, destructor, string_literal, builtin, lvalue, rvalue, nil, list, absent}
 use Rattle.cpp_grammar.specs.Scope.{arguments_of, before_arguments, is_structor, has_return_type, is_open}
 use Rattle.cpp_grammar.specs.Values as leaf_
-use Rattle.cpp_grammar.specs.Values.{Around, Prefix, Value, tree_of, piece_of, is_listed, qualifiers_of, ref_of, letter_of, is_there, mark_of, text_of, signed_of, adjustment_of, normal, signed_digits, local_number, part}
+use Rattle.cpp_grammar.specs.Values.{Around, Prefix, prefix_tree, prefix_listed, Value, tree_of, piece_of, is_listed, qualifiers_of, ref_of, letter_of, is_there, mark_of, text_of, signed_of, adjustment_of, normal, signed_digits, local_number, part}
 use Rattle.cpp_grammar.specs.Between as going_
 use Rattle.cpp_grammar.specs.Meaning as meaning_
 use Rattle.cpp_grammar.specs.Meaning.{meaning}
@@ -218,13 +218,13 @@ unfolding between_.extended going_.extended noted_prefix annotate
 extended_noted s leaf_.outermost t = refl
 extended_noted s (leaf_.behind u listed) t = refl
 
-pub prefix_tree_noted : (s : Option term_.Term) (p : Prefix) → between_.prefix_tree (noted_prefix s p) ≡ annotate s (going_.prefix_tree p)
-unfolding between_.prefix_tree going_.prefix_tree noted_prefix annotate
+pub prefix_tree_noted : (s : Option term_.Term) (p : Prefix) → value_.prefix_tree (noted_prefix s p) ≡ annotate s (prefix_tree p)
+unfolding value_.prefix_tree prefix_tree noted_prefix annotate
 prefix_tree_noted s leaf_.outermost = refl
 prefix_tree_noted s (leaf_.behind u listed) = refl
 
-pub prefix_listed_noted : (s : Option term_.Term) (p : Prefix) → between_.prefix_listed (noted_prefix s p) ≡ going_.prefix_listed p
-unfolding between_.prefix_listed going_.prefix_listed noted_prefix
+pub prefix_listed_noted : (s : Option term_.Term) (p : Prefix) → value_.prefix_listed (noted_prefix s p) ≡ prefix_listed p
+unfolding value_.prefix_listed prefix_listed noted_prefix
 prefix_listed_noted s leaf_.outermost = refl
 prefix_listed_noted s (leaf_.behind u listed) = refl
 
@@ -274,12 +274,12 @@ encoding_noted s name (list e rest) = go (scope_.has_return_type (value_.tree_of
     moved t = ap (λ o. annotate o t) (sym (scope_noted (tree_of name)))
 
     go : (c b : Bool) → c ≡ b → ◌≡◌ {A = term_.Term} (elim c [
-        | true ↦ term_.function (value_.tree_of (noted_value None name)) (value_.qualifiers_of (noted_value None name)) (value_.ref_of (noted_value None name)) (annotate r e) (noted_.parameters (annotate r rest))
-        | false ↦ term_.function (value_.tree_of (noted_value None name)) (value_.qualifiers_of (noted_value None name)) (value_.ref_of (noted_value None name)) term_.absent (noted_.parameters (term_.list (annotate r e) (annotate r rest)))
-      ]) (annotate s (elim b [
-        | true ↦ function (tree_of name) (qualifiers_of name) (ref_of name) e (meaning_.parameters rest)
-        | false ↦ function (tree_of name) (qualifiers_of name) (ref_of name) absent (meaning_.parameters (list e rest))
-      ]))
+      | true ↦ term_.function (value_.tree_of (noted_value None name)) (value_.qualifiers_of (noted_value None name)) (value_.ref_of (noted_value None name)) (annotate r e) (noted_.parameters (annotate r rest))
+      | false ↦ term_.function (value_.tree_of (noted_value None name)) (value_.qualifiers_of (noted_value None name)) (value_.ref_of (noted_value None name)) term_.absent (noted_.parameters (term_.list (annotate r e) (annotate r rest)))
+    ]) (annotate s (elim b [
+      | true ↦ function (tree_of name) (qualifiers_of name) (ref_of name) e (meaning_.parameters rest)
+      | false ↦ function (tree_of name) (qualifiers_of name) (ref_of name) absent (meaning_.parameters (list e rest))
+    ]))
     go true true same = five term_.function (tree_noted None name) (qualifiers_noted None name) (ref_noted None name) (moved e) (parameters_noted r rest ∙ moved (meaning_.parameters rest))
     go false false same = five term_.function (tree_noted None name) (qualifiers_noted None name) (ref_noted None name) refl (parameters_noted r (list e rest) ∙ moved (meaning_.parameters (list e rest)))
     go true false same = absurd cc
@@ -324,17 +324,17 @@ meaning_noted Production.Function byte around vs h = three (noted_.function_of f
 meaning_noted Production.RestLvalue byte around vs h = ap (noted_.signature_or lvalue_only) (part_noted (noted_scope around.scope) vs 0) ∙ signature_or_noted (noted_scope around.scope) lvalue_only (part vs 0)
 meaning_noted Production.RestRvalue byte around vs h = ap (noted_.signature_or rvalue_only) (part_noted (noted_scope around.scope) vs 0) ∙ signature_or_noted (noted_scope around.scope) rvalue_only (part vs 0)
 meaning_noted Production.OperatorL byte around vs h = ap (noted_.operator_or_literal byte) (part_noted (noted_scope around.scope) vs 0) ∙ operator_noted (noted_scope around.scope) byte (part vs 0)
-meaning_noted Production.Symbol byte around vs h = both (λ x y. value_.tree ( term_.symbol x y ) true) (closed_part (noted_scope around.scope) vs 1 h) (text_part_ (noted_scope around.scope) vs 2)
+meaning_noted Production.Symbol byte around vs h = both (λ x y. value_.tree (term_.symbol x y) true) (closed_part (noted_scope around.scope) vs 1 h) (text_part_ (noted_scope around.scope) vs 2)
 meaning_noted Production.Suffix byte around vs h = ap (λ x. value_.text (byte ∷ x)) (text_part_ (noted_scope around.scope) vs 0)
 meaning_noted Production.SuffixByte byte around vs h = ap (λ x. value_.text (byte ∷ x)) (text_part_ (noted_scope around.scope) vs 0)
-meaning_noted Production.SpecialType byte around vs h = ap (λ x. value_.tree ( term_.special byte x ) true) (closed_part (noted_scope around.scope) vs 0 h)
-meaning_noted Production.NonVirtualThunk byte around vs h = both (λ x y. value_.tree ( term_.thunk ( adjusting ( non_virtual x ) ) y ) true) (signed_part (noted_scope around.scope) vs 0) (closed_part (noted_scope around.scope) vs 2 h)
-meaning_noted Production.VirtualThunk byte around vs h = three (λ x y z. value_.tree ( term_.thunk ( adjusting ( by_table x y ) ) z ) true) (signed_part (noted_scope around.scope) vs 0) (signed_part (noted_scope around.scope) vs 2) (closed_part (noted_scope around.scope) vs 4 h)
-meaning_noted Production.CovariantThunk byte around vs h = three (λ x y z. value_.tree ( term_.thunk ( covariant x y ) z ) true) (adjustment_part (noted_scope around.scope) vs 0) (adjustment_part (noted_scope around.scope) vs 1) (closed_part (noted_scope around.scope) vs 2 h)
-meaning_noted Production.NonVirtualOffset byte around vs h = ap (λ x. value_.adjusted ( non_virtual x )) (signed_part (noted_scope around.scope) vs 0)
-meaning_noted Production.VirtualOffset byte around vs h = both (λ x y. value_.adjusted ( by_table x y )) (signed_part (noted_scope around.scope) vs 0) (signed_part (noted_scope around.scope) vs 2)
-meaning_noted Production.Negative byte around vs h = ap (λ x. value_.signed ( signed_digits true x )) (text_part_ (noted_scope around.scope) vs 0)
-meaning_noted Production.Positive byte around vs h = ap (λ x. value_.signed ( signed_digits false x )) (text_part_ (noted_scope around.scope) vs 0)
+meaning_noted Production.SpecialType byte around vs h = ap (λ x. value_.tree (term_.special byte x) true) (closed_part (noted_scope around.scope) vs 0 h)
+meaning_noted Production.NonVirtualThunk byte around vs h = both (λ x y. value_.tree (term_.thunk (adjusting (non_virtual x)) y) true) (signed_part (noted_scope around.scope) vs 0) (closed_part (noted_scope around.scope) vs 2 h)
+meaning_noted Production.VirtualThunk byte around vs h = three (λ x y z. value_.tree (term_.thunk (adjusting (by_table x y)) z) true) (signed_part (noted_scope around.scope) vs 0) (signed_part (noted_scope around.scope) vs 2) (closed_part (noted_scope around.scope) vs 4 h)
+meaning_noted Production.CovariantThunk byte around vs h = three (λ x y z. value_.tree (term_.thunk (covariant x y) z) true) (adjustment_part (noted_scope around.scope) vs 0) (adjustment_part (noted_scope around.scope) vs 1) (closed_part (noted_scope around.scope) vs 2 h)
+meaning_noted Production.NonVirtualOffset byte around vs h = ap (λ x. value_.adjusted (non_virtual x)) (signed_part (noted_scope around.scope) vs 0)
+meaning_noted Production.VirtualOffset byte around vs h = both (λ x y. value_.adjusted (by_table x y)) (signed_part (noted_scope around.scope) vs 0) (signed_part (noted_scope around.scope) vs 2)
+meaning_noted Production.Negative byte around vs h = ap (λ x. value_.signed (signed_digits true x)) (text_part_ (noted_scope around.scope) vs 0)
+meaning_noted Production.Positive byte around vs h = ap (λ x. value_.signed (signed_digits false x)) (text_part_ (noted_scope around.scope) vs 0)
 meaning_noted Production.NameWithS byte around vs h = part_noted (noted_scope around.scope) vs 0
 meaning_noted Production.InternalName byte around vs h = ap (λ x. value_.tree x false) (applied_part (noted_scope around.scope) vs 0 1)
 meaning_noted Production.SourceName byte around vs h = ap (λ x. value_.tree x false) (applied_part (noted_scope around.scope) vs 0 1)
@@ -344,9 +344,9 @@ meaning_noted Production.Constructor byte around vs h = ap (λ x. value_.tree x 
 meaning_noted Production.Destructor byte around vs h = ap (λ x. value_.tree x false) (applied_part (noted_scope around.scope) vs 0 1)
 meaning_noted Production.StdName byte around vs h = ap (λ x. value_.tree x false) (applied_part (noted_scope around.scope) vs 0 1)
 meaning_noted Production.AbbreviatedName byte around vs h = ap (λ x. value_.tree x false) (applied_part (noted_scope around.scope) vs 0 1)
-meaning_noted Production.InternalPiece byte around vs h = ap (λ x. value_.piece ( term_.source true x )) (text_part_ (noted_scope around.scope) vs 0)
+meaning_noted Production.InternalPiece byte around vs h = ap (λ x. value_.piece (term_.source true x)) (text_part_ (noted_scope around.scope) vs 0)
 meaning_noted Production.LocalTypePiece byte around vs h = part_noted (noted_scope around.scope) vs 0
-meaning_noted Production.SourcePiece byte around vs h = ap (λ x. value_.piece ( term_.source false x )) (text_part_ (noted_scope around.scope) vs 0)
+meaning_noted Production.SourcePiece byte around vs h = ap (λ x. value_.piece (term_.source false x)) (text_part_ (noted_scope around.scope) vs 0)
 meaning_noted Production.OperatorPiece byte around vs h = part_noted (noted_scope around.scope) vs 0
 meaning_noted Production.NestWithS byte around vs h = part_noted (noted_scope around.scope) vs 0
 meaning_noted Production.NestParameter byte around vs h = part_noted (noted_scope around.scope) vs 1
@@ -361,60 +361,60 @@ meaning_noted Production.Abbreviation byte around vs h = refl
 meaning_noted Production.NestedType byte around vs h = part_noted (noted_scope around.scope) vs 0
 meaning_noted Production.Discriminator byte around vs h = part_noted (noted_scope around.scope) vs 0
 meaning_noted Production.OneDigit byte around vs h = refl
-meaning_noted Production.ManyDigits byte around vs h = ap (λ x. value_.text ( normal x )) (text_part_ (noted_scope around.scope) vs 0)
-meaning_noted Production.Unnamed byte around vs h = ap (λ x. value_.piece ( term_.unnamed ( local_number x ) )) (text_part_ (noted_scope around.scope) vs 0)
+meaning_noted Production.ManyDigits byte around vs h = ap (λ x. value_.text (normal x)) (text_part_ (noted_scope around.scope) vs 0)
+meaning_noted Production.Unnamed byte around vs h = ap (λ x. value_.piece (term_.unnamed (local_number x))) (text_part_ (noted_scope around.scope) vs 0)
 meaning_noted Production.PlainType byte around vs h = listed_whole (noted_scope around.scope) vs 0
 meaning_noted Production.QualifiedPlain byte around vs h = listed_whole (noted_scope around.scope) vs 0
 meaning_noted Production.TypeWithD byte around vs h = listed_whole (noted_scope around.scope) vs 0
 meaning_noted Production.PlainWithD byte around vs h = listed_whole (noted_scope around.scope) vs 0
 meaning_noted Production.ItemWithD byte around vs h = listed_whole (noted_scope around.scope) vs 0
 meaning_noted Production.ItemIsType byte around vs h = part_noted (noted_scope around.scope) vs 0
-meaning_noted Production.Expansion byte around vs h = ap (λ x. value_.tree ( term_.expansion x ) false) (tree_part (noted_scope around.scope) vs 0)
+meaning_noted Production.Expansion byte around vs h = ap (λ x. value_.tree (term_.expansion x) false) (tree_part (noted_scope around.scope) vs 0)
 meaning_noted Production.BuiltinWithD byte around vs h = refl
-meaning_noted Production.Vector byte around vs h = both (λ x y. value_.tree ( term_.vector ( normal x ) y ) false) (text_part_ (noted_scope around.scope) vs 0) (tree_part (noted_scope around.scope) vs 2)
+meaning_noted Production.Vector byte around vs h = both (λ x y. value_.tree (term_.vector (normal x) y) false) (text_part_ (noted_scope around.scope) vs 0) (tree_part (noted_scope around.scope) vs 2)
 meaning_noted Production.Builtin byte around vs h = refl
-meaning_noted Production.Vendor byte around vs h = ap (λ x. value_.tree ( term_.vendor x ) false) (text_part_ (noted_scope around.scope) vs 0)
-meaning_noted Production.Array byte around vs h = both (λ x y. value_.tree ( term_.array ( normal x ) y ) false) (text_part_ (noted_scope around.scope) vs 0) (tree_part (noted_scope around.scope) vs 1)
-meaning_noted Production.Complex byte around vs h = ap (λ x. value_.tree ( term_.complex x ) false) (tree_part (noted_scope around.scope) vs 0)
-meaning_noted Production.Pointer byte around vs h = ap (λ x. value_.tree ( term_.pointer x ) false) (tree_part (noted_scope around.scope) vs 0)
-meaning_noted Production.MemberPointer byte around vs h = both (λ x y. value_.tree ( term_.member_pointer x y ) false) (tree_part (noted_scope around.scope) vs 0) (tree_part (noted_scope around.scope) vs 1)
-meaning_noted Production.Parameter byte around vs h = both (λ x y. value_.tree x ( not y )) (applied_part (noted_scope around.scope) vs 0 1) (there_part (noted_scope around.scope) vs 1)
+meaning_noted Production.Vendor byte around vs h = ap (λ x. value_.tree (term_.vendor x) false) (text_part_ (noted_scope around.scope) vs 0)
+meaning_noted Production.Array byte around vs h = both (λ x y. value_.tree (term_.array (normal x) y) false) (text_part_ (noted_scope around.scope) vs 0) (tree_part (noted_scope around.scope) vs 1)
+meaning_noted Production.Complex byte around vs h = ap (λ x. value_.tree (term_.complex x) false) (tree_part (noted_scope around.scope) vs 0)
+meaning_noted Production.Pointer byte around vs h = ap (λ x. value_.tree (term_.pointer x) false) (tree_part (noted_scope around.scope) vs 0)
+meaning_noted Production.MemberPointer byte around vs h = both (λ x y. value_.tree (term_.member_pointer x y) false) (tree_part (noted_scope around.scope) vs 0) (tree_part (noted_scope around.scope) vs 1)
+meaning_noted Production.Parameter byte around vs h = both (λ x y. value_.tree x (not y)) (applied_part (noted_scope around.scope) vs 0 1) (there_part (noted_scope around.scope) vs 1)
 meaning_noted Production.TypeWithS byte around vs h = three (λ x y z. value_.tree x (y && not z)) (applied_part (noted_scope around.scope) vs 0 1) (listed_part (noted_scope around.scope) vs 0) (there_part (noted_scope around.scope) vs 1)
-meaning_noted Production.LocalType byte around vs h = three (λ x y z. value_.tree ( term_.local x y z ) false) (closed_part (noted_scope around.scope) vs 0 h) (tree_part (noted_scope around.scope) vs 2) (discriminator_part (noted_scope around.scope) vs 3)
-meaning_noted Production.StdType byte around vs h = ap (λ x. value_.tree ( term_.in_std x ) false) (piece_part (noted_scope around.scope) vs 0)
+meaning_noted Production.LocalType byte around vs h = three (λ x y z. value_.tree (term_.local x y z) false) (closed_part (noted_scope around.scope) vs 0 h) (tree_part (noted_scope around.scope) vs 2) (discriminator_part (noted_scope around.scope) vs 3)
+meaning_noted Production.StdType byte around vs h = ap (λ x. value_.tree (term_.in_std x) false) (piece_part (noted_scope around.scope) vs 0)
 meaning_noted Production.AbbreviatedType byte around vs h = part_noted (noted_scope around.scope) vs 0
 meaning_noted Production.RestEnd byte around vs h = refl
 meaning_noted Production.RefEnd byte around vs h = refl
 meaning_noted Production.LvalueItem byte around vs h = with_item_noted (noted_scope around.scope) vs
 meaning_noted Production.RvalueItem byte around vs h = with_item_noted (noted_scope around.scope) vs
 meaning_noted Production.RestItem byte around vs h = with_item_noted (noted_scope around.scope) vs
-meaning_noted Production.Items byte around vs h = both (λ x y. value_.tree ( term_.list x y ) true) (tree_part (noted_scope around.scope) vs 0) (items_part (noted_scope around.scope) vs 1)
+meaning_noted Production.Items byte around vs h = both (λ x y. value_.tree (term_.list x y) true) (tree_part (noted_scope around.scope) vs 0) (items_part (noted_scope around.scope) vs 1)
 meaning_noted Production.Arguments byte around vs h = ap (λ x. value_.tree x true) (items_part (noted_scope around.scope) vs 0)
-meaning_noted Production.PackArgument byte around vs h = both (λ x y. value_.tree ( term_.list x y ) true) (tree_part (noted_scope around.scope) vs 0) (items_part (noted_scope around.scope) vs 2)
-meaning_noted Production.LiteralArgument byte around vs h = both (λ x y. value_.tree ( term_.list x y ) true) (tree_part (noted_scope around.scope) vs 0) (items_part (noted_scope around.scope) vs 2)
-meaning_noted Production.AddressArgument byte around vs h = both (λ x y. value_.tree ( term_.list x y ) true) (tree_part (noted_scope around.scope) vs 2) (items_part (noted_scope around.scope) vs 3)
-meaning_noted Production.TypeArgument byte around vs h = both (λ x y. value_.tree ( term_.list x y ) true) (tree_part (noted_scope around.scope) vs 0) (items_part (noted_scope around.scope) vs 1)
-meaning_noted Production.LiteralElement byte around vs h = both (λ x y. value_.tree ( term_.list x y ) true) (tree_part (noted_scope around.scope) vs 0) (items_part (noted_scope around.scope) vs 2)
-meaning_noted Production.AddressElement byte around vs h = both (λ x y. value_.tree ( term_.list x y ) true) (tree_part (noted_scope around.scope) vs 2) (items_part (noted_scope around.scope) vs 3)
-meaning_noted Production.TypeElement byte around vs h = both (λ x y. value_.tree ( term_.list x y ) true) (tree_part (noted_scope around.scope) vs 0) (items_part (noted_scope around.scope) vs 1)
-meaning_noted Production.Address byte around vs h = ap (λ x. value_.tree ( term_.address_of x ) true) (closed_part (noted_scope around.scope) vs 2 h)
-meaning_noted Production.EncodingLiteral byte around vs h = ap (λ x. value_.tree ( term_.encoding_literal x ) true) (closed_part (noted_scope around.scope) vs 1 h)
-meaning_noted Production.BoolLiteral byte around vs h = ap (λ x. value_.tree ( term_.boolean ( nat_eq x 49 ) ) true) (letter_part (noted_scope around.scope) vs 0)
+meaning_noted Production.PackArgument byte around vs h = both (λ x y. value_.tree (term_.list x y) true) (tree_part (noted_scope around.scope) vs 0) (items_part (noted_scope around.scope) vs 2)
+meaning_noted Production.LiteralArgument byte around vs h = both (λ x y. value_.tree (term_.list x y) true) (tree_part (noted_scope around.scope) vs 0) (items_part (noted_scope around.scope) vs 2)
+meaning_noted Production.AddressArgument byte around vs h = both (λ x y. value_.tree (term_.list x y) true) (tree_part (noted_scope around.scope) vs 2) (items_part (noted_scope around.scope) vs 3)
+meaning_noted Production.TypeArgument byte around vs h = both (λ x y. value_.tree (term_.list x y) true) (tree_part (noted_scope around.scope) vs 0) (items_part (noted_scope around.scope) vs 1)
+meaning_noted Production.LiteralElement byte around vs h = both (λ x y. value_.tree (term_.list x y) true) (tree_part (noted_scope around.scope) vs 0) (items_part (noted_scope around.scope) vs 2)
+meaning_noted Production.AddressElement byte around vs h = both (λ x y. value_.tree (term_.list x y) true) (tree_part (noted_scope around.scope) vs 2) (items_part (noted_scope around.scope) vs 3)
+meaning_noted Production.TypeElement byte around vs h = both (λ x y. value_.tree (term_.list x y) true) (tree_part (noted_scope around.scope) vs 0) (items_part (noted_scope around.scope) vs 1)
+meaning_noted Production.Address byte around vs h = ap (λ x. value_.tree (term_.address_of x) true) (closed_part (noted_scope around.scope) vs 2 h)
+meaning_noted Production.EncodingLiteral byte around vs h = ap (λ x. value_.tree (term_.encoding_literal x) true) (closed_part (noted_scope around.scope) vs 1 h)
+meaning_noted Production.BoolLiteral byte around vs h = ap (λ x. value_.tree (term_.boolean (nat_eq x 49)) true) (letter_part (noted_scope around.scope) vs 0)
 meaning_noted Production.LiteralWithD byte around vs h = part_noted (noted_scope around.scope) vs 0
-meaning_noted Production.IntegerLiteral byte around vs h = both (λ x y. value_.tree ( term_.integer x y ) true) (tree_part (noted_scope around.scope) vs 0) (signed_part (noted_scope around.scope) vs 1)
+meaning_noted Production.IntegerLiteral byte around vs h = both (λ x y. value_.tree (term_.integer x y) true) (tree_part (noted_scope around.scope) vs 0) (signed_part (noted_scope around.scope) vs 1)
 meaning_noted Production.NullLiteral byte around vs h = refl
-meaning_noted Production.CharLiteral byte around vs h = ap (λ x. value_.tree ( term_.integer ( term_.builtin ( 68 ∷ byte ∷ [] ) ) x ) true) (signed_part (noted_scope around.scope) vs 0)
-meaning_noted Production.OperatorN byte around vs h = ap (λ x. value_.piece ( term_.operator byte x )) (letter_part (noted_scope around.scope) vs 0)
-meaning_noted Production.OperatorD byte around vs h = ap (λ x. value_.piece ( term_.operator byte x )) (letter_part (noted_scope around.scope) vs 0)
-meaning_noted Production.OperatorA byte around vs h = ap (λ x. value_.piece ( term_.operator byte x )) (letter_part (noted_scope around.scope) vs 0)
-meaning_noted Production.OperatorP byte around vs h = ap (λ x. value_.piece ( term_.operator byte x )) (letter_part (noted_scope around.scope) vs 0)
-meaning_noted Production.OperatorC byte around vs h = ap (λ x. value_.piece ( term_.operator byte x )) (letter_part (noted_scope around.scope) vs 0)
-meaning_noted Production.OperatorM byte around vs h = ap (λ x. value_.piece ( term_.operator byte x )) (letter_part (noted_scope around.scope) vs 0)
-meaning_noted Production.OperatorR byte around vs h = ap (λ x. value_.piece ( term_.operator byte x )) (letter_part (noted_scope around.scope) vs 0)
-meaning_noted Production.OperatorO byte around vs h = ap (λ x. value_.piece ( term_.operator byte x )) (letter_part (noted_scope around.scope) vs 0)
-meaning_noted Production.OperatorE byte around vs h = ap (λ x. value_.piece ( term_.operator byte x )) (letter_part (noted_scope around.scope) vs 0)
-meaning_noted Production.OperatorS byte around vs h = ap (λ x. value_.piece ( term_.operator byte x )) (letter_part (noted_scope around.scope) vs 0)
-meaning_noted Production.OperatorI byte around vs h = ap (λ x. value_.piece ( term_.operator byte x )) (letter_part (noted_scope around.scope) vs 0)
-meaning_noted Production.OperatorG byte around vs h = ap (λ x. value_.piece ( term_.operator byte x )) (letter_part (noted_scope around.scope) vs 0)
-meaning_noted Production.LiteralOperator byte around vs h = ap (λ x. value_.piece ( term_.literal_operator x )) (text_part_ (noted_scope around.scope) vs 0)
+meaning_noted Production.CharLiteral byte around vs h = ap (λ x. value_.tree (term_.integer (term_.builtin (68 ∷ byte ∷ [])) x) true) (signed_part (noted_scope around.scope) vs 0)
+meaning_noted Production.OperatorN byte around vs h = ap (λ x. value_.piece (term_.operator byte x)) (letter_part (noted_scope around.scope) vs 0)
+meaning_noted Production.OperatorD byte around vs h = ap (λ x. value_.piece (term_.operator byte x)) (letter_part (noted_scope around.scope) vs 0)
+meaning_noted Production.OperatorA byte around vs h = ap (λ x. value_.piece (term_.operator byte x)) (letter_part (noted_scope around.scope) vs 0)
+meaning_noted Production.OperatorP byte around vs h = ap (λ x. value_.piece (term_.operator byte x)) (letter_part (noted_scope around.scope) vs 0)
+meaning_noted Production.OperatorC byte around vs h = ap (λ x. value_.piece (term_.operator byte x)) (letter_part (noted_scope around.scope) vs 0)
+meaning_noted Production.OperatorM byte around vs h = ap (λ x. value_.piece (term_.operator byte x)) (letter_part (noted_scope around.scope) vs 0)
+meaning_noted Production.OperatorR byte around vs h = ap (λ x. value_.piece (term_.operator byte x)) (letter_part (noted_scope around.scope) vs 0)
+meaning_noted Production.OperatorO byte around vs h = ap (λ x. value_.piece (term_.operator byte x)) (letter_part (noted_scope around.scope) vs 0)
+meaning_noted Production.OperatorE byte around vs h = ap (λ x. value_.piece (term_.operator byte x)) (letter_part (noted_scope around.scope) vs 0)
+meaning_noted Production.OperatorS byte around vs h = ap (λ x. value_.piece (term_.operator byte x)) (letter_part (noted_scope around.scope) vs 0)
+meaning_noted Production.OperatorI byte around vs h = ap (λ x. value_.piece (term_.operator byte x)) (letter_part (noted_scope around.scope) vs 0)
+meaning_noted Production.OperatorG byte around vs h = ap (λ x. value_.piece (term_.operator byte x)) (letter_part (noted_scope around.scope) vs 0)
+meaning_noted Production.LiteralOperator byte around vs h = ap (λ x. value_.piece (term_.literal_operator x)) (text_part_ (noted_scope around.scope) vs 0)
 meaning_noted Production.Mark byte around vs h = refl

@@ -53,16 +53,16 @@ piece_noted c (lambda parameters number) = ap (λ ps. text (codes "{lambda(") �
 piece_noted c (source internal bytes) = refl
 piece_noted c _ = refl
 
-prefix_noted : (s : Option term_.Term) (t : Term) → part_.prefix_form (annotate s t) ≡ leaf_.prefix_form t
-unfolding part_.prefix_form leaf_.prefix_form annotate
-prefix_noted s (function name q ref returned parameters) = refl
-prefix_noted s _ = refl
+prefix_noted : (c : Context) (t : Term) → part_.prefix_item (noted_context c) (annotate (at c) t) ≡ noted_part (leaf_.prefix_item c t)
+unfolding part_.prefix_item leaf_.prefix_item annotate noted_part noted_item noted_context
+prefix_noted c (function name q ref returned parameters) = refl
+prefix_noted c _ = refl
 
 within_noted : (c : Context) (prefix p : Term) → part_.within_parts (noted_context c) (annotate (at c) prefix) (annotate (at c) p) ≡ noted_parts (leaf_.within_parts c prefix p)
 unfolding part_.within_parts leaf_.within_parts annotate noted_parts noted_part noted_item
 within_noted c prefix (constructor digit) = refl
 within_noted c prefix (destructor digit) = refl
-within_noted c prefix p = ap (λ f. part_.as_item f (noted_context c) (annotate (at c) prefix) ∷ part_.says "::" ∷ part_.as_item piece (noted_context c) (annotate (at c) p) ∷ []) (prefix_noted (at c) prefix)
+within_noted c prefix p = ap (λ i. i ∷ part_.says "::" ∷ part_.as_item piece (noted_context c) (annotate (at c) p) ∷ []) (prefix_noted c prefix)
 
 opening_noted : (s : Option term_.Term) (t : Term) → part_.opening_text (annotate s t) ≡ leaf_.opening_text t
 unfolding part_.opening_text leaf_.opening_text annotate

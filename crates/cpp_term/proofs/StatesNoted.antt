@@ -6,18 +6,18 @@ use Rattle.sym_core.specs.declared.refusal.Refusal.{Refusal}
 use Rattle.sym_core.specs.declared.refusal.Refusal.TheVariants.{BadReference}
 use Rattle.sym_link.specs.Reading.{Found, ◌>>=◌}
 use Rattle.sym_link.specs.Unfold.{found}
-use Rattle.cpp_grammar.specs.Term.{Term, parameter, builtin, function_type}
+use Rattle.cpp_grammar.specs.Term.{Term, parameter, function_type}
 use Rattle.cpp_grammar.specs.Scope.{count, element, is_open, length_if_pack}
 use Rattle.cpp_grammar.specs.Values as leaf_
-use Rattle.cpp_grammar.specs.Values.{Around, Prefix, Value, State, Candidate, tree_of, is_listed}
-use Rattle.cpp_grammar.specs.References.{appended, is_builtin, is_function_type, with_type, with_unqualified, with_prefix, with_packs, packs_in, substituted, parameter_named}
+use Rattle.cpp_grammar.specs.Values.{Around, Prefix, prefix_tree, prefix_listed, Value, State, Candidate, tree_of, is_listed}
+use Rattle.cpp_grammar.specs.References.{appended, is_function_type, with_type, with_unqualified, with_prefix, with_packs, packs_in, substituted, parameter_named}
 use Rattle.cpp_term.specs.Term as term_
 use Rattle.cpp_term.specs.Scope as scope_
 use Rattle.cpp_term.specs.Values as value_
 use Rattle.cpp_term.specs.References as noted_
 use Rattle.cpp_term.specs.Annotated.{argument_in, annotate, noted_scope, noted_value, noted_prefix, noted_around}
 use Rattle.cpp_term.proofs.Notes.{both, count_noted, element_noted, open_noted, closed_noted, length_noted, packs_noted}
-use Rattle.cpp_term.proofs.MeaningNoted.{tree_noted, listed_noted}
+use Rattle.cpp_term.proofs.MeaningNoted.{tree_noted, listed_noted, prefix_tree_noted, prefix_listed_noted}
 
 -- ## Results
 
@@ -101,11 +101,6 @@ one_moves around t u x y packs is = record {
 
 -- ## Types and prefixes
 
-builtin_noted : (s : Option term_.Term) (t : Term) → noted_.is_builtin (annotate s t) ≡ is_builtin t
-unfolding noted_.is_builtin is_builtin annotate
-builtin_noted s (builtin code) = refl
-builtin_noted s _ = refl
-
 function_type_noted : (s : Option term_.Term) (t : Term) → noted_.is_function_type (annotate s t) ≡ is_function_type t
 unfolding noted_.is_function_type is_function_type annotate
 function_type_noted s (function_type c_linkage noexcept ref returned parameters) = refl
@@ -124,8 +119,7 @@ unfolding with_type noted_.with_type
 type_moves around v x y packs =
     let s = noted_scope around.scope in
     moves_choice around x x (appended around (tree_of v) x) y y (noted_.appended (noted_around around) (value_.tree_of (noted_value s v)) y)
-    (is_listed v || is_builtin (tree_of v)) (value_.is_listed (noted_value s v) || noted_.is_builtin (value_.tree_of (noted_value s v)))
-    (both (λ a b. a || b) (listed_noted s v) (ap noted_.is_builtin (tree_noted s v) ∙ builtin_noted s (tree_of v)))
+    (is_listed v) (value_.is_listed (noted_value s v)) (listed_noted s v)
     (moves_none around x x y y refl refl packs) (one_moves around (tree_of v) (value_.tree_of (noted_value s v)) x y packs (tree_noted s v))
 
 pub unqualified_moves : (around : Around) (v : Value) (x : State) (y : value_.State) → y.packs ≡ x.packs →
@@ -139,20 +133,14 @@ unqualified_moves around v x y packs =
     (moves_none around x x y y refl refl packs) (type_moves around v x y packs)
 
 pub prefix_moves : (around : Around) (x : State) (y : value_.State) → y.packs ≡ x.packs → Moves around x y (with_prefix around x) (noted_.with_prefix (noted_around around) y)
-unfolding with_prefix noted_.with_prefix noted_prefix noted_around
-prefix_moves around x y packs = go around.prefix
-  where
-    s : Option term_.Term
-    s = noted_scope around.scope
-
-    listed : (t : Term) (b : Bool) → Moves around x y (elim b [ true ↦ x | false ↦ appended around t x ]) (elim b [ true ↦ y | false ↦ noted_.appended (noted_around around) (annotate s t) y ])
-    listed t true = moves_none around x x y y refl refl packs
-    listed t false = one_moves around t (annotate s t) x y packs refl
-
-    go : (p : Prefix) → Moves around x y (elim p [ leaf_.outermost ↦ x | leaf_.behind t listed ↦ elim listed [ true ↦ x | false ↦ appended around t x ] ])
-        (elim (noted_prefix s p) [ value_.outermost ↦ y | value_.behind t listed ↦ elim listed [ true ↦ y | false ↦ noted_.appended (noted_around around) t y ] ])
-    go leaf_.outermost = moves_none around x x y y refl refl packs
-    go (leaf_.behind t b) = listed t b
+unfolding with_prefix noted_.with_prefix noted_around
+prefix_moves around x y packs =
+    let s = noted_scope around.scope in
+    let p = around.prefix in
+    let t = value_.prefix_tree (noted_prefix s p) in
+    moves_choice around x x (appended around (prefix_tree p) x) y y (noted_.appended (noted_around around) t y)
+    (prefix_listed p) (value_.prefix_listed (noted_prefix s p)) (prefix_listed_noted s p)
+    (moves_none around x x y y refl refl packs) (one_moves around (prefix_tree p) t x y packs (prefix_tree_noted s p))
 
 -- ## References
 
@@ -258,8 +246,11 @@ parameter_noted around place k x y packs = go around.scope refl
 
     tested : (arguments : Term) → around.scope ≡ Some arguments → (b c : Bool) → c ≡ b → Alike (Moves around x y)
         (elim b [ false ↦ Err (BadReference place) | true ↦ with_packs place around.in_expansion (length_if_pack (element arguments k)) x >>= λ z. Ok (appended around (parameter k) z) ])
-        (elim c [ false ↦ Err (BadReference place) | true ↦ noted_.with_packs place around.in_expansion (scope_.length_if_pack (scope_.element (annotate None arguments) k)) y
-            >>= λ z. Ok (noted_.appended (noted_around around) (term_.parameter k (scope_.element (annotate None arguments) k)) z) ])
+        (elim c [
+          | false ↦ Err (BadReference place)
+          | true ↦ noted_.with_packs place around.in_expansion (scope_.length_if_pack (scope_.element (annotate None arguments) k)) y
+              >>= λ z. Ok (noted_.appended (noted_around around) (term_.parameter k (scope_.element (annotate None arguments) k)) z)
+        ])
     tested arguments scope false false f = refl
     tested arguments scope true true f = onward arguments scope (length_if_pack (element arguments k)) (scope_.length_if_pack (scope_.element (annotate None arguments) k))
         (ap scope_.length_if_pack (element_noted None arguments k) ∙ length_noted None (element arguments k)) (term_.parameter k (scope_.element (annotate None arguments) k)) (named_here around k arguments scope)
@@ -273,8 +264,11 @@ parameter_noted around place k x y packs = go around.scope refl
         ])
         (elim (noted_scope o) [
           | None ↦ Err (BadReference place)
-          | Some arguments ↦ elim (nat_lt k (scope_.count arguments)) [ false ↦ Err (BadReference place) | true ↦ noted_.with_packs place around.in_expansion (scope_.length_if_pack (scope_.element arguments k)) y
-              >>= λ z. Ok (noted_.appended (noted_around around) (term_.parameter k (scope_.element arguments k)) z) ]
+          | Some arguments ↦ elim (nat_lt k (scope_.count arguments)) [
+            | false ↦ Err (BadReference place)
+            | true ↦ noted_.with_packs place around.in_expansion (scope_.length_if_pack (scope_.element arguments k)) y
+                >>= λ z. Ok (noted_.appended (noted_around around) (term_.parameter k (scope_.element arguments k)) z)
+          ]
         ])
     go None scope = refl
     go (Some arguments) scope = tested arguments scope (nat_lt k (count arguments)) (nat_lt k (scope_.count (annotate None arguments))) (ap (nat_lt k) (count_noted None arguments))

@@ -97,13 +97,13 @@ plain_noted k rule taken parts all p is plain around at state other lt tree le s
     (forest_noted parts all whole other (symbols_of rule) [] from state other inside_ symbols tree.1 (omega (arith, le)) (λ has. omega (arith, le, takes_byte p rule k taken is tree.0 has)) none pre tt
     (old_later around at from state.candidates (omega arith) old) same)
     (λ a b a-is many.
-        let h = insides p rule taken parts k around at state a is plain lt tree le special pre old a-is in
-        alike_bind (Comes around a.state b.state) (Many around state other) (close (production_at rule.number) (byte_of taken) around at state a.value a.state)
-        (unfolded_.close (production_at rule.number) (byte_of taken) (noted_around around) at other b.value b.state) alone alone
-        (subst (λ us. Alike (Comes around a.state b.state) (close (production_at rule.number) (byte_of taken) around at state a.value a.state)
-            (unfolded_.close (production_at rule.number) (byte_of taken) (noted_around around) at other us b.state)) (sym many.values)
-        (close_noted (production_at rule.number) (byte_of taken) around at state other a.value a.state b.state (subst (λ q. Inside q a.value) (sym number) h) (same_moves around state a.state other b.state same many.moves) same.packs))
-        (λ u v u-is comes. record { values = ap (λ w. w ∷ []) comes.value; moves = moves_then around state a.state u.state other b.state v.state many.moves comes.moves })))
+    let h = insides p rule taken parts k around at state a is plain lt tree le special pre old a-is in
+    alike_bind (Comes around a.state b.state) (Many around state other) (close (production_at rule.number) (byte_of taken) around at state a.value a.state)
+    (unfolded_.close (production_at rule.number) (byte_of taken) (noted_around around) at other b.value b.state) alone alone
+    (subst (λ us. Alike (Comes around a.state b.state) (close (production_at rule.number) (byte_of taken) around at state a.value a.state)
+    (unfolded_.close (production_at rule.number) (byte_of taken) (noted_around around) at other us b.state)) (sym many.values)
+    (close_noted (production_at rule.number) (byte_of taken) around at state other a.value a.state b.state (subst (λ q. Inside q a.value) (sym number) h) (same_moves around state a.state other b.state same many.moves) same.packs))
+    (λ u v u-is comes. record { values = ap (λ w. w ∷ []) comes.value; moves = moves_then around state a.state u.state other b.state v.state many.moves comes.moves })))
 
 -- ## Encodings
 
@@ -121,7 +121,9 @@ unfolding in_name in_types
 all_types at b name [] [] old all = tt
 all_types at b name (c ∷ cs) (d ∷ ds) old all = (
   record {
-    encoding = all.0.encoding; opened = all.0.opened; closed = all.0.closed;
+    encoding = all.0.encoding;
+    opened = all.0.opened;
+    closed = all.0.closed;
     here = λ h f. all.0.closed (old.0.closed refl refl h) ∙ closed_noted None (noted_scope (arguments_of name)) c.tree (old.0.closed refl refl h);
   },
   all_types at b name cs ds old.1 all.1,
@@ -139,7 +141,11 @@ all_out around inner at end (c ∷ cs) [] is lt new all = absurd all
 
 moves_out : (around inner : Around) (at end : ℕ) (x later : State) (y noted : value_.State) → inner.encoding ≡ at → around.encoding < at → Grows inner end x later → Moves inner x y later noted → Moves around x y later noted
 moves_out around inner at end x later y noted is lt grows m = record {
-  more = m.more; others = m.others; is = m.is; so = m.so; packs = m.packs;
+  more = m.more;
+  others = m.others;
+  is = m.is;
+  so = m.so;
+  packs = m.packs;
   each = all_out around inner at end m.more m.others is lt (subst (λ cs. AllNew inner end cs) (cancel x.candidates grows.more m.more (sym grows.is ∙ m.is)) grows.each) m.each;
 }
 
@@ -148,14 +154,14 @@ step : (Q : Found (List Value) State → Found (List value_.Value) value_.State 
     (t : Tree) (f : Forest) (n : Next Value State Around) (m : Next value_.Value value_.State value_.Around) →
     between (production_at rule.rule.number) rule.context rule.place vs x ≡ Ok n → between_.between (production_at rule.rule.number) (noted_around rule.context) rule.place us y ≡ Ok m →
     Alike Q (unfold_tree cpp n.context at t n.state >>= λ part. unfold_forest cpp rule (n.values ++ part.value) (at + length (spell t)) f part.state)
-        (unfold_tree unfolded_.cpp m.context at t m.state >>= λ part. unfold_forest unfolded_.cpp (noted_open rule first) (m.values ++ part.value) (at + length (spell t)) f part.state) →
+    (unfold_tree unfolded_.cpp m.context at t m.state >>= λ part. unfold_forest unfolded_.cpp (noted_open rule first) (m.values ++ part.value) (at + length (spell t)) f part.state) →
     Alike Q (unfold_forest cpp rule vs at (grown t f) x) (unfold_forest unfolded_.cpp (noted_open rule first) us at (grown t f) y)
 unfolding cpp unfolded_.cpp
 step Q rule first vs us at x y t f n m e g r =
     let onward : Next Value State Around → Result (Found (List Value) State) Refusal =
-        λ next. unfold_tree cpp next.context at t next.state >>= λ part. unfold_forest cpp rule (next.values ++ part.value) (at + length (spell t)) f part.state in
+    λ next. unfold_tree cpp next.context at t next.state >>= λ part. unfold_forest cpp rule (next.values ++ part.value) (at + length (spell t)) f part.state in
     let other : Next value_.Value value_.State value_.Around → Result (Found (List value_.Value) value_.State) Refusal =
-        λ next. unfold_tree unfolded_.cpp next.context at t next.state >>= λ part. unfold_forest unfolded_.cpp (noted_open rule first) (next.values ++ part.value) (at + length (spell t)) f part.state in
+    λ next. unfold_tree unfolded_.cpp next.context at t next.state >>= λ part. unfold_forest unfolded_.cpp (noted_open rule first) (next.values ++ part.value) (at + length (spell t)) f part.state in
     subst (λ u. Alike Q (u >>= onward) (between_.between (production_at rule.rule.number) (noted_around rule.context) rule.place us y >>= other)) (sym e)
     (subst (λ w. Alike Q (onward n) (w >>= other)) (sym g) r)
 
@@ -197,11 +203,11 @@ special_noted (grown t nothing) all rule first from x y is trees lt le old same 
     (λ part. unfold_forest cpp rule ([] ++ part.value) (from + length (spell t)) nothing part.state) (λ part. unfold_forest unfolded_.cpp (noted_open rule first) ([] ++ part.value) (from + length (spell t)) nothing part.state)
     (named_part t all.0 (OfKind 5) at from x y (trees_.known 5 (lit≤ tt)) trees.0 refl le old0 same0)
     (λ a b a-is many.
-        let c = trees_.name_comes t (trees_.tree_good t) (OfKind 5) at from x a (trees_.known 5 (lit≤ tt)) trees.0 refl le old0 a-is in
-        record {
-          means = λ byte. ap (λ us. value_.part us 0) many.values ∙ part_noted None a.value 0 ∙ value_closed None (noted_scope around.scope) (part a.value 0) (subst (λ vs. is_open (held (part vs 0)) ≡ false) (sym c.is) (c.good.closed refl));
-          moves = moves_out around (in_name at) at (from + length (spell t)) x a.state y b.state refl lt c.grows many.moves;
-        }))
+    let c = trees_.name_comes t (trees_.tree_good t) (OfKind 5) at from x a (trees_.known 5 (lit≤ tt)) trees.0 refl le old0 a-is in
+    record {
+      means = λ byte. ap (λ us. value_.part us 0) many.values ∙ part_noted None a.value 0 ∙ value_closed None (noted_scope around.scope) (part a.value 0) (subst (λ vs. is_open (held (part vs 0)) ≡ false) (sym c.is) (c.good.closed refl));
+      moves = moves_out around (in_name at) at (from + length (spell t)) x a.state y b.state refl lt c.grows many.moves;
+    }))
 
 guard_made : (around : Around) (byte : ℕ) (v w : Value) →
     noted_.meaning Production.Guard byte (noted_around around) (noted_value None v ∷ noted_value None w ∷ []) ≡ noted_value (noted_scope around.scope) (meaning Production.Guard byte around (v ∷ w ∷ []))
@@ -279,21 +285,21 @@ guard_noted (grown t (grown u nothing)) all rule first from x y is trees lt le o
     (λ part. unfold_forest cpp rule ([] ++ part.value) next (grown u nothing) part.state) (λ part. unfold_forest unfolded_.cpp (noted_open rule first) ([] ++ part.value) next (grown u nothing) part.state)
     (named_part t all.0 (Byte 86) at from x y (lit≤ tt) trees.0 refl le old0 same0)
     (λ a b a-is many.
-        let c = trees_.name_comes t (trees_.tree_good t) (Byte 86) at from x a (lit≤ tt) trees.0 refl le old0 a-is in
-        let old1 = old_grows (in_name at) from next x a.state (omega arith) old0 c.grows in
-        let same1 = same_moves (in_name at) x a.state y b.state same0 many.moves in
-        step (Inner Production.Guard around x y) rule first a.value b.value next a.state b.state u nothing (nameless_ at a.value a.state) (noted_nameless at b.value b.state)
-        (ap (λ p. between p around at a.value a.state) is) (ap (λ p. between_.between p (noted_around around) at b.value b.state) is)
-        (alike_bind (Many (in_name at) a.state b.state) (Inner Production.Guard around x y) (unfold_tree cpp (in_name at) next u a.state) (unfold_tree unfolded_.cpp (between_.in_name at) next u b.state)
-        (λ part. unfold_forest cpp rule (a.value ++ part.value) (next + length (spell u)) nothing part.state) (λ part. unfold_forest unfolded_.cpp (noted_open rule first) (b.value ++ part.value) (next + length (spell u)) nothing part.state)
-        (named_part u all.1.0 (OfKind 8) at next a.state b.state (trees_.known 8 (lit≤ tt)) trees.1.0 refl (omega (arith, le)) old1 same1)
-        (λ d e d-is more.
-            let g = trees_.name_comes u (trees_.tree_good u) (OfKind 8) at next a.state d (trees_.known 8 (lit≤ tt)) trees.1.0 refl (omega (arith, le)) old1 d-is in
-            record {
-              means = λ byte. guard_means around byte a.value b.value d.value e.value c.value g.value c.is g.is ((good_tree (Bare (in_name at)) g.value g.good).closed refl) many.values more.values;
-              moves = moves_then around x a.state d.state y b.state e.state (moves_out around (in_name at) at next x a.state y b.state refl lt c.grows many.moves)
-                  (moves_out around (in_name at) at (next + length (spell u)) a.state d.state b.state e.state refl lt g.grows more.moves);
-            }))))
+    let c = trees_.name_comes t (trees_.tree_good t) (Byte 86) at from x a (lit≤ tt) trees.0 refl le old0 a-is in
+    let old1 = old_grows (in_name at) from next x a.state (omega arith) old0 c.grows in
+    let same1 = same_moves (in_name at) x a.state y b.state same0 many.moves in
+    step (Inner Production.Guard around x y) rule first a.value b.value next a.state b.state u nothing (nameless_ at a.value a.state) (noted_nameless at b.value b.state)
+    (ap (λ p. between p around at a.value a.state) is) (ap (λ p. between_.between p (noted_around around) at b.value b.state) is)
+    (alike_bind (Many (in_name at) a.state b.state) (Inner Production.Guard around x y) (unfold_tree cpp (in_name at) next u a.state) (unfold_tree unfolded_.cpp (between_.in_name at) next u b.state)
+    (λ part. unfold_forest cpp rule (a.value ++ part.value) (next + length (spell u)) nothing part.state) (λ part. unfold_forest unfolded_.cpp (noted_open rule first) (b.value ++ part.value) (next + length (spell u)) nothing part.state)
+    (named_part u all.1.0 (OfKind 8) at next a.state b.state (trees_.known 8 (lit≤ tt)) trees.1.0 refl (omega (arith, le)) old1 same1)
+    (λ d e d-is more.
+    let g = trees_.name_comes u (trees_.tree_good u) (OfKind 8) at next a.state d (trees_.known 8 (lit≤ tt)) trees.1.0 refl (omega (arith, le)) old1 d-is in
+    record {
+      means = λ byte. guard_means around byte a.value b.value d.value e.value c.value g.value c.is g.is ((good_tree (Bare (in_name at)) g.value g.good).closed refl) many.values more.values;
+      moves = moves_then around x a.state d.state y b.state e.state (moves_out around (in_name at) at next x a.state y b.state refl lt c.grows many.moves)
+          (moves_out around (in_name at) at (next + length (spell u)) a.state d.state b.state e.state refl lt g.grows more.moves);
+    }))))
 
 encoding_noted_ : (f : Forest) → AllTreesNoted f → (rule : Open State Around) (first : value_.State) (from : ℕ) (x : State) (y : value_.State) → production_at rule.rule.number ≡ Production.Encoding → AreTrees abi (parts_of Production.Encoding) f →
     rule.context.encoding < rule.place → rule.place ≤ from → AllOld rule.context rule.place x.candidates → Same rule.context x y →
@@ -313,26 +319,26 @@ encoding_noted_ (grown t (grown u nothing)) all rule first from x y is trees lt 
     (λ part. unfold_forest cpp rule ([] ++ part.value) next (grown u nothing) part.state) (λ part. unfold_forest unfolded_.cpp (noted_open rule first) ([] ++ part.value) next (grown u nothing) part.state)
     (named_part t all.0 (OfKind 8) at from x y (trees_.known 8 (lit≤ tt)) trees.0 refl le old0 same0)
     (λ a b a-is many.
-        let c = trees_.name_comes t (trees_.tree_good t) (OfKind 8) at from x a (trees_.known 8 (lit≤ tt)) trees.0 refl le old0 a-is in
-        let name = tree_of c.value in
-        let old1 = old_grows (in_name at) from next x a.state (omega arith) old0 c.grows in
-        let same1 = same_moves (in_name at) x a.state y b.state same0 many.moves in
-        let old2 = trees_.old_types at next name a.state.candidates old1 in
-        let same2 : Same (in_types at name) a.state b.state = record { packs = same1.packs; all = all_types at next name a.state.candidates b.state.candidates old1 same1.all } in
-        let n : Next Value State Around = record { context = in_types at name; values = a.value; state = a.state } in
-        let m : Next value_.Value value_.State value_.Around = record { context = noted_around (in_types at name); values = b.value; state = b.state } in
-        step (Inner Production.Encoding around x y) rule first a.value b.value next a.state b.state u nothing n m
-        (types_next rule c.value a.value a.state is c.is) (noted_types_next rule c.value a.value b.value b.state is c.is many.values)
-        (alike_bind (Many (in_types at name) a.state b.state) (Inner Production.Encoding around x y) (unfold_tree cpp (in_types at name) next u a.state) (unfold_tree unfolded_.cpp (noted_around (in_types at name)) next u b.state)
-        (λ part. unfold_forest cpp rule (a.value ++ part.value) (next + length (spell u)) nothing part.state) (λ part. unfold_forest unfolded_.cpp (noted_open rule first) (b.value ++ part.value) (next + length (spell u)) nothing part.state)
-        (all.1.0 (OfKind 41) (in_types at name) next a.state b.state (trees_.known 41 (lit≤ tt)) trees.1.0 (omega (arith, le)) (λ opening. absurd (false≢true opening)) (λ special. absurd (false≢true special)) tt old2 same2)
-        (λ d e d-is more.
-            let g = trees_.tree_good u (OfKind 41) (in_types at name) next a.state d (trees_.known 41 (lit≤ tt)) trees.1.0 (omega (arith, le)) (λ opening. absurd (false≢true opening)) tt old2 d-is in
-            record {
-              means = λ byte. encoding_means around byte a.value b.value d.value e.value c.value g.value c.is g.is many.values more.values;
-              moves = moves_then around x a.state d.state y b.state e.state (moves_out around (in_name at) at next x a.state y b.state refl lt c.grows many.moves)
-                  (moves_out around (in_types at name) at (next + length (spell u)) a.state d.state b.state e.state refl lt g.grows more.moves);
-            }))))
+    let c = trees_.name_comes t (trees_.tree_good t) (OfKind 8) at from x a (trees_.known 8 (lit≤ tt)) trees.0 refl le old0 a-is in
+    let name = tree_of c.value in
+    let old1 = old_grows (in_name at) from next x a.state (omega arith) old0 c.grows in
+    let same1 = same_moves (in_name at) x a.state y b.state same0 many.moves in
+    let old2 = trees_.old_types at next name a.state.candidates old1 in
+    let same2 : Same (in_types at name) a.state b.state = record { packs = same1.packs; all = all_types at next name a.state.candidates b.state.candidates old1 same1.all } in
+    let n : Next Value State Around = record { context = in_types at name; values = a.value; state = a.state } in
+    let m : Next value_.Value value_.State value_.Around = record { context = noted_around (in_types at name); values = b.value; state = b.state } in
+    step (Inner Production.Encoding around x y) rule first a.value b.value next a.state b.state u nothing n m
+    (types_next rule c.value a.value a.state is c.is) (noted_types_next rule c.value a.value b.value b.state is c.is many.values)
+    (alike_bind (Many (in_types at name) a.state b.state) (Inner Production.Encoding around x y) (unfold_tree cpp (in_types at name) next u a.state) (unfold_tree unfolded_.cpp (noted_around (in_types at name)) next u b.state)
+    (λ part. unfold_forest cpp rule (a.value ++ part.value) (next + length (spell u)) nothing part.state) (λ part. unfold_forest unfolded_.cpp (noted_open rule first) (b.value ++ part.value) (next + length (spell u)) nothing part.state)
+    (all.1.0 (OfKind 41) (in_types at name) next a.state b.state (trees_.known 41 (lit≤ tt)) trees.1.0 (omega (arith, le)) (λ opening. absurd (false≢true opening)) (λ special. absurd (false≢true special)) tt old2 same2)
+    (λ d e d-is more.
+    let g = trees_.tree_good u (OfKind 41) (in_types at name) next a.state d (trees_.known 41 (lit≤ tt)) trees.1.0 (omega (arith, le)) (λ opening. absurd (false≢true opening)) tt old2 d-is in
+    record {
+      means = λ byte. encoding_means around byte a.value b.value d.value e.value c.value g.value c.is g.is many.values more.values;
+      moves = moves_then around x a.state d.state y b.state e.state (moves_out around (in_name at) at next x a.state y b.state refl lt c.grows many.moves)
+          (moves_out around (in_types at name) at (next + length (spell u)) a.state d.state b.state e.state refl lt g.grows more.moves);
+    }))))
 
 -- ## Trees
 
@@ -382,11 +388,11 @@ encoded_noted k rule taken parts all p is opening_ around at state other tree le
     (λ inner. unfolded_.close (production_at rule.number) byte (noted_around around) at other inner.value inner.state >>= alone)
     (inner_noted p opening_ parts all whole other from state other number trees less (omega arith) old same)
     (λ a b a-is inner.
-        let e = ap (λ q. close q byte around at state a.value a.state) number ∙ inner_closes p opening_ byte around at state a.value a.state in
-        let g = ap (λ q. unfolded_.close q byte (noted_around around) at other b.value b.state) number ∙ noted_closes p opening_ byte (noted_around around) at other b.value b.state in
-        subst (λ r. Alike (Many around state other) (r >>= alone) (unfolded_.close (production_at rule.number) byte (noted_around around) at other b.value b.state >>= alone)) (sym e)
-        (subst (λ r. Alike (Many around state other) (Ok (found (meaning p byte around a.value ∷ []) a.state)) (r >>= alone)) (sym g)
-        (record { values = ap (λ w. w ∷ []) (inner.means byte); moves = inner.moves }))))
+    let e = ap (λ q. close q byte around at state a.value a.state) number ∙ inner_closes p opening_ byte around at state a.value a.state in
+    let g = ap (λ q. unfolded_.close q byte (noted_around around) at other b.value b.state) number ∙ noted_closes p opening_ byte (noted_around around) at other b.value b.state in
+    subst (λ r. Alike (Many around state other) (r >>= alone) (unfolded_.close (production_at rule.number) byte (noted_around around) at other b.value b.state >>= alone)) (sym e)
+    (subst (λ r. Alike (Many around state other) (Ok (found (meaning p byte around a.value ∷ []) a.state)) (r >>= alone)) (sym g)
+    (record { values = ap (λ w. w ∷ []) (inner.means byte); moves = inner.moves }))))
 
 branch_noted : (rule : Rule) (taken : List ℕ) (parts : Forest) → AllTreesNoted parts → TreeNoted (branch rule taken parts)
 unfolding is_encoding is_special

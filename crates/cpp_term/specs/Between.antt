@@ -9,7 +9,7 @@ use Rattle.sym_link.specs.Reading.{Next, ◌>>=◌}
 use Rattle.cpp_grammar.specs.declared.production.Production.{Production}
 use Rattle.cpp_term.specs.Term.{Term, alone, within, in_std, instance, parameter, lvalue, rvalue, pack, source, constructor, destructor, nil, absent}
 use Rattle.cpp_term.specs.Scope.{element, arguments_of}
-use Rattle.cpp_term.specs.Values.{State, Prefix, outermost, behind, Around, Value, nothing_there, tree, tree_of, piece_of, is_listed, is_there, letter_of, text_of}
+use Rattle.cpp_term.specs.Values.{State, Prefix, outermost, behind, Around, prefix_tree, Value, nothing_there, tree, tree_of, piece_of, is_listed, is_there, letter_of, text_of}
 use Rattle.cpp_term.specs.References.{appended, with_type, with_prefix, parameter_named}
 
 -- ## What surrounds a part
@@ -38,14 +38,6 @@ inside around = record { scope = around.scope; encoding = around.encoding; in_la
 unfoldable pub extended : Prefix → Term → Term
 extended outermost piece = alone piece
 extended (behind t listed) piece = within t piece
-
-unfoldable pub prefix_tree : Prefix → Term
-prefix_tree outermost = absent
-prefix_tree (behind t listed) = t
-
-unfoldable pub prefix_listed : Prefix → Bool
-prefix_listed outermost = true
-prefix_listed (behind t listed) = listed
 
 -- a name, with arguments where there are some
 unfoldable pub applied : Term → Value → Term

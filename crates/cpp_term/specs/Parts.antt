@@ -38,19 +38,19 @@ piece_parts context (unnamed number) = says "{unnamed type#" ∷ text (decimal n
 piece_parts context string_literal = says "string literal" ∷ []
 piece_parts context _ = []
 
--- a prefix is a name, or the enclosing encoding
-unfoldable pub prefix_form : Term → Form
-prefix_form (function name q r returned parameters) = bare
-prefix_form (object name q r) = bare
-prefix_form (special letter t) = bare
-prefix_form (thunk kind e) = bare
-prefix_form (guard name q r) = bare
-prefix_form _ = left
+-- a prefix is a name, or the enclosing encoding, which names no parameters of what stands in it
+unfoldable pub prefix_item : Context → Term → PartOf Item
+prefix_item context (function name q r returned parameters) = as_item bare closed (function name q r returned parameters)
+prefix_item context (object name q r) = as_item bare closed (object name q r)
+prefix_item context (special letter t) = as_item bare closed (special letter t)
+prefix_item context (thunk kind e) = as_item bare closed (thunk kind e)
+prefix_item context (guard name q r) = as_item bare closed (guard name q r)
+prefix_item context t = as_item left context t
 
 unfoldable pub within_parts : Context → Term → Term → List (PartOf Item)
 within_parts context prefix (constructor digit) = as_item left context prefix ∷ says "::" ∷ as_item base context prefix ∷ []
 within_parts context prefix (destructor digit) = as_item left context prefix ∷ says "::~" ∷ as_item base context prefix ∷ []
-within_parts context prefix p = as_item (prefix_form prefix) context prefix ∷ says "::" ∷ as_item piece context p ∷ []
+within_parts context prefix p = prefix_item context prefix ∷ says "::" ∷ as_item piece context p ∷ []
 
 -- The last piece of a template name. A parameter, an abbreviation or an instance has none.
 unfoldable pub last_piece : Term → Term
@@ -282,7 +282,7 @@ parts_in d context first t = first_parts context t
 parts_in d context more t = more_parts context t
 parts_in d context (expand i) t = expand_parts context t i
 
--- an empty text isn't a part
+-- An empty text isn't a part. The texts of a symbol's tree are not empty.
 unfoldable pub not_empty : List (PartOf Item) → List (PartOf Item)
 not_empty [] = []
 not_empty (text [] ∷ ps) = not_empty ps

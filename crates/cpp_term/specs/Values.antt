@@ -20,6 +20,14 @@ pub data Prefix : Type 0 where
   outermost : Prefix
   behind : Term → (listed : Bool) → Prefix
 
+unfoldable pub prefix_tree : Prefix → Term
+prefix_tree outermost = absent
+prefix_tree (behind t listed) = t
+
+unfoldable pub prefix_listed : Prefix → Bool
+prefix_listed outermost = true
+prefix_listed (behind t listed) = listed
+
 -- What surrounds a part: the arguments that parameters name there, the place where the innermost encoding begins,
 -- whether the part stands in a lambda's signature of that encoding, or under an expansion of it, and the name so far.
 pub record Around : Type 0 where
