@@ -12,7 +12,8 @@ HERE = os.path.dirname(os.path.abspath(__file__))
 WORDS = ("prints", "briefly", "refers_badly", "counts_badly", "has_no_shape")
 
 def quoted(text):
-    return '"' + text.decode("ascii").replace("\\", "\\\\").replace('"', '\\"') + '"'
+    """each byte as the character with its number, as `codes` reads them"""
+    return '"' + text.decode("latin-1").replace("\\", "\\\\").replace('"', '\\"') + '"'
 
 def row(reference, symbol, brief=False):
     """the row of a symbol, or None where its text is too long to be written down"""
@@ -25,7 +26,7 @@ def row(reference, symbol, brief=False):
     return None
 
 def is_plain(symbol):
-    return all(33 <= b < 127 for b in symbol)
+    return all(33 <= b < 127 or 161 <= b and b != 173 for b in symbol)
 
 def generated(reference, generator, modes):
     out, seen = [], set()

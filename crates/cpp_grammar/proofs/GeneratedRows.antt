@@ -20,6 +20,7 @@ use Rattle.cpp_grammar.proofs.Row.{same_refusal, same_seen, are_right}
 
 abbrev rows_0 : List Row
 rows_0 =
+    prints "_ZSt3ÿ!~v" "std::ÿ!~()" 14 ∷
     prints "_ZlSIJDpK1xIJEEEDv0_3barEDpS04_v" "bar... operator<<=<x<> const..., bar __vector(0)>()" 76 ∷
     prints "_Z1AIXadL_ZSt1AIlS0_EKDuSt1fEEET_v" "&std::A<long, std::A>(std::f) A<&std::A<long, std::A>(std::f)>()" 105 ∷
     prints "_ZNV1x6vectorEv.a" "x::vector() volatile (.a)" 30 ∷
@@ -30,6 +31,7 @@ rows_0 =
     prints "_ZSsIaaEcPrVKT_rVKS1_T0_" "char std::string<signed char, signed char>(signed char const volatile restrict*, signed char const volatile restrict* const volatile restrict, signed char)" 192 ∷
     prints "_ZSaIEcDi" "char std::allocator<>(char32_t)" 40 ∷
     prints "_ZGVNUleE1_IrKNSt1xEE6vector4pairE" "guard variable for {lambda(long double)#3}<std::x const restrict>::vector::pair" 96 ∷
+    prints "_ZN2Ã©mIIJKvvcEEES0_Kf" "Ã©::operator-= Ã©::operator-=<void const, void, char>(float const)" 95 ∷
     prints "_ZZTSyENKSdltEv" "std::iostream::operator<() const" 38 ∷
     prints "_Z1BIJj1gEDnJiSbEEDpT_v" "unsigned int, g B<unsigned int, g, std::nullptr_t, int, std::basic_string>()" 113 ∷
     prints "_ZN1fC2I1BvS0_Iu1xEEES0_IJFVS1_DpFiEDuEiEES3_T_" "f::f<B, void, f::f<x>>(f::f<B volatile (int ()..., char8_t), int>, f::f<x>, B)" 142 ∷
@@ -38,16 +40,19 @@ rows_0 =
     prints "_ZSsIJEEDpid" "int... std::string<>(double)" 40 ∷
     prints "_ZZZGVSt4pairIS_S_EE1xIJL1x42ErvEEDpKT_DpS3_E1A_0S_" "guard variable for std::pair<std::pair, std::pair>::x<(x)42, void restrict>((x)42, void restrict)::A(std::pair)" 167 ∷
     prints "_ZeOUlrVKvcE_dCRim" "operator^=({lambda(void const volatile restrict, char)#1}, double, int& _Complex, unsigned long)" 123 ∷
+    prints "_ZZ6vectorIiEUt_S0_CR2Ã©ENSt6vectorEv" "std::vector()" 18 ∷
     prints "_ZZ1xvE1g" "x()::g" 13 ∷
     prints "_Z1fIJdVKlEcEDpT_DpT_" "double, long const volatile f<double, long const volatile, char>(double, long const volatile)" 140 ∷
     prints "_Z1fIJS_cEeEDpS_S_" "f... f<f, char, long double>(f)" 54 ∷
     prints "_Z1gIKDiS_E" "g<char32_t const, g>" 32 ∷
+    prints "_ZZ3ÿ!~ISsIJS_EEeEE1gi.0" "ÿ!~<std::string<ÿ!~>, long double>::g(int) (.0)" 71 ∷
     prints "_ZpLIJ3fooIicEEJLin7ES1_IzUt10_JXadL_Z1AIf1BES3_vEES3_VKyEEEE" "operator+=<foo<int, char>, -7, foo<int, char><..., {unnamed type#12}, &A<float, B>(), A, unsigned long long const volatile>>" 187 ∷
     prints "_ZSbIDpvES_v" "void... std::basic_string<void...>()" 49 ∷
     prints "_ZNO1fD1IXadL_Z1BIvJEEDprVKOPKA03_S0_vEEEEi1AIT_E1f" "f::~f<&B<void>()>(int, A<&B<void>()>, f) &&" 81 ∷
     prints "_Z3bargriRZTTS_IJF3barKvVN6vectorIE3barEEKA1_A_cbEgEE1AvSB_1g" "bar(__float128, int restrict, VTT for int restrict<bar (void const, vector<>::bar volatile), char const [1][], bool, __float128>::A&, void, VTT for int restrict<bar (void const, vector<>::bar volatile), char const [1][], bool, __float128>::A, g)" 356 ∷
     prints "_Z1fMwVe" "f(long double volatile wchar_t::*)" 45 ∷
     prints "_Z3barILi42E6vectorJEEPSoT0_" "std::ostream* bar<42, vector>(vector)" 57 ∷
+    prints "_ZN2Ã©IJEtE1xIigEE" "Ã©<unsigned short>::x<int, __float128>" 55 ∷
     prints "_ZZ1gtENUlwE_6vectorE_9h" "g(unsigned short)::{lambda(wchar_t)#1}::vector(unsigned char)" 79 ∷
     prints "_ZSbIJKiOS_ILb0EEEE" "std::basic_string<int const, int const<false>&&>" 70 ∷
     prints "_ZNV1BD1IS0_EET_" "B::~B<B::~B>(B::~B) volatile" 46 ∷
@@ -55,24 +60,26 @@ rows_0 =
     prints "_ZaaILDn0EEav" "signed char operator&&<nullptr>()" 42 ∷
     prints "_ZUlvE1_IDp3fooESt1Ac" "std::A {lambda()#3}<foo...>(char)" 48 ∷
     prints "_ZTh10_1xDa" "non-virtual thunk to x(auto)" 35 ∷
-    prints "_Z1fIS_ET_T_" "f f<f>(f)" 25 ∷
-    prints "_ZZZN3fooIE1gIu1gS1_EET_KDv12345678901234567890123_S0_u3barEs_9KDuE1fIEDoF1fvEu1A" "f  foo<>::g<g, foo<>::g>(foo<> __vector(12345678901234567890123) const, bar)::string literal(char8_t const)::f<>(A)() noexcept" 174 ∷
-    prints "_ZN3bar1gErVRSaIVKDv1_S_ER3fooIA1_N1B3fooIcJvEEES8_S8_ESo" "bar::g(std::allocator<bar __vector(1) const volatile>&, foo<B::foo<char, void> [1], B::foo<char, void>, B::foo<char, void>>&, std::ostream)" 215 ∷
-    prints "_ZTv03_03_N1fC33foo1AIJXadL_ZTv10_1_TVrK1_EEEJSt1BI1xILS1_10EEEES8_EET1_DpT_" "virtual thunk to std::B<x<(f::f::foo)10>> f::f::foo::A<&virtual thunk to vtable for _ const restrict, std::B<x<(f::f::foo)10>>, std::B<x<(f::f::foo)10>>>(&virtual thunk to vtable for _ const restrict)" 295 ∷
-    prints "_ZZSt1fIJDp4pairDnEKRN3fooltIPS0_EdeIVK1gIS7_IEEiOrKS4_IcEEEcEKcSt1AE3bar_1c" "std::f<pair..., std::nullptr_t, foo::operator< <pair*>::operator*<g<g<>> const volatile, int, pair*<char> const restrict&&>&, char>(std::A)::bar(char)" 223 ∷
     []
 
 right_0 : are_right rows_0 ≡ true
-unfolding digits printed_to printed in_ranges among is_in pick number_of_kind alternatives choose parts_of is_chain may_be_empty kinds productions number_of padded rule_of tree_of piece_of is_listed qualifiers_of ref_of letter_of is_there mark_of text_of signed_of adjustment_of normal is_zero signed_digits local_number part count element arguments_of before_arguments is_structor has_return_type is_open first_of length_if_pack pack_length appended is_function_type with_type with_unqualified with_prefix with_packs packs_in substituted parameter_named in_name in_types in_signature under_expansion after inside extended prefix_tree prefix_listed applied no_items named_so_far listed_so_far piece_so_far parameter_so_far index_of between is_void is_nil parameters encoding_of qualified_by listed_value discriminator_of function_of with_item reference_to signature_or operator_or_literal meaning last_token number_tested opening behind close production_at byte_of cpp first_around first_state first_tree unfold_cpp same_bytes look_up builtin_texts operator_texts abbreviation_texts special_texts literal_endings indexed argument collapsed head_with head_closed head is_reference is_funarr packs_of is_none_of is_empty text_part list_part qualifier_text ref_text blank_last begins_with source_text piece_parts prefix_item within_parts last_piece opening_text instance_parts marked_parts reference_parts qualified_left expansion_parts sign_part is_plain_integer builtin_code integer_parts member_parts array_left left_parts low_parts function_right closing_right qualified_right right_parts base_within base_parts types_of encoding_text function_bare function_full thunk_text full_parts bare_parts root_parts first_parts more_parts at_index is_below comma_before expand_rest expand_parts parts_in not_empty parts or_none pack_count weight scope_weight weight_in rank_in rank front_digits is_length_form number_at are_name_bytes is_own name_at seen_tree shape_of see read_kind read_symbol read_all same_refusal same_seen are_right
+unfolding digits printed_to printed in_ranges among is_in pick number_of_kind alternatives choose parts_of is_chain may_be_empty kinds productions number_of padded rule_of prefix_tree prefix_listed tree_of piece_of is_listed qualifiers_of ref_of letter_of is_there mark_of text_of signed_of adjustment_of normal is_zero signed_digits local_number part count element arguments_of before_arguments is_structor has_return_type is_open first_of length_if_pack pack_length appended is_function_type with_type with_unqualified with_prefix with_packs packs_in substituted parameter_named in_name in_types in_signature under_expansion after inside extended applied no_items named_so_far listed_so_far piece_so_far parameter_so_far index_of between is_void is_nil parameters encoding_of qualified_by listed_value discriminator_of function_of with_item reference_to signature_or operator_or_literal meaning last_token number_tested opening behind close production_at byte_of cpp first_around first_state first_tree unfold_cpp same_bytes look_up builtin_texts operator_texts abbreviation_texts special_texts literal_endings indexed argument collapsed head_with head_closed head is_reference is_funarr packs_of is_none_of is_empty text_part list_part qualifier_text ref_text blank_last begins_with source_text piece_parts prefix_item within_parts last_piece opening_text instance_parts marked_parts reference_parts qualified_left expansion_parts sign_part is_plain_integer builtin_code integer_parts member_parts array_left left_parts low_parts function_right closing_right qualified_right right_parts base_within base_parts types_of encoding_text function_bare function_full thunk_text full_parts bare_parts root_parts first_parts more_parts at_index is_below comma_before expand_rest expand_parts parts_in not_empty parts or_none pack_count weight scope_weight weight_in rank_in rank front_digits is_length_form number_at are_name_bytes is_own name_at seen_tree shape_of see read_kind read_symbol read_all same_refusal same_seen are_right
 right_0 = refl
 
 abbrev rows_1 : List Row
 rows_1 =
+    prints "_Z1fIS_ET_T_" "f f<f>(f)" 25 ∷
+    prints "_ZZZN3fooIE1gIu1gS1_EET_KDv12345678901234567890123_S0_u3barEs_9KDuE1fIEDoF1fvEu1A" "f  foo<>::g<g, foo<>::g>(foo<> __vector(12345678901234567890123) const, bar)::string literal(char8_t const)::f<>(A)() noexcept" 174 ∷
+    prints "_ZN3bar1gErVRSaIVKDv1_S_ER3fooIA1_N1B3fooIcJvEEES8_S8_ESo" "bar::g(std::allocator<bar __vector(1) const volatile>&, foo<B::foo<char, void> [1], B::foo<char, void>, B::foo<char, void>>&, std::ostream)" 215 ∷
+    prints "_Z3ÿ!~IDaJEEKT_KT_" "auto const ÿ!~<auto>(auto const)" 53 ∷
+    prints "_ZTv03_03_N1fC33foo1AIJXadL_ZTv10_1_TVrK1_EEEJSt1BI1xILS1_10EEEES8_EET1_DpT_" "virtual thunk to std::B<x<(f::f::foo)10>> f::f::foo::A<&virtual thunk to vtable for _ const restrict, std::B<x<(f::f::foo)10>>, std::B<x<(f::f::foo)10>>>(&virtual thunk to vtable for _ const restrict)" 295 ∷
+    prints "_ZZSt1fIJDp4pairDnEKRN3fooltIPS0_EdeIVK1gIS7_IEEiOrKS4_IcEEEcEKcSt1AE3bar_1c" "std::f<pair..., std::nullptr_t, foo::operator< <pair*>::operator*<g<g<>> const volatile, int, pair*<char> const restrict&&>&, char>(std::A)::bar(char)" 223 ∷
     prints "_ZZ4pairIDprzJ1xEEDpT0_vE4pairv" "pair<... restrict..., x>()::pair()" 55 ∷
     prints "_Z6vectorIvET_" "void vector<void>()" 30 ∷
     prints "_ZN1x1fE.$_" "x::f (.$_)" 15 ∷
     prints "_ZTv10_n00_NO6vectorIMVK1gN4pair1xEE6vectorIvS5_oEEiv" "virtual thunk to int vector<pair::x g const volatile::*>::vector<void, vector<pair::x g const volatile::*>, unsigned __int128>() &&" 169 ∷
     prints "_ZN3bar1BEv" "bar::B()" 13 ∷
+    prints "_ZZNK3ÿ!~6vectorclEEsv" "ÿ!~::vector::operator() const::string literal()" 58 ∷
     prints "_ZZSt1BiVKvSt1_IJXadL_Zli1_IPvEVKOT_EEXadL_Z3fooxEEEJS2_IVKvEEEDivE3foo_0S7_" "std::B(int, void const volatile, std::_<&operator\"\" _<void*>(), &foo(long long), void*<void const volatile>>, char32_t, void)::foo(void*<void const volatile>)" 230 ∷
     prints "_Z1BIJE6vectorXadL_ZNSoUlvE10_IJLS_1EES_bE3fooEEEEDpS1_VKT1_" "std::ostream::{lambda()#12}... B<vector, &std::ostream::{lambda()#12}<(B)1, B, bool>::foo>(&std::ostream::{lambda()#12}<(B)1, B, bool>::foo const volatile)" 221 ∷
     prints "_Z3barmVKxS_vS_S_" "bar(unsigned long, long long const volatile, long long const volatile, void, long long const volatile, long long const volatile)" 157 ∷
@@ -88,6 +95,8 @@ rows_1 =
     prints "_ZZSt3baroE10_GLOBAL__N" "std::bar(unsigned __int128)::(anonymous namespace)" 61 ∷
     prints "_ZNRStUlKtE_ES_" "std::{lambda(unsigned short const)#1}(unsigned short const) &" 75 ∷
     prints "_ZZ3foovE1gIL_Z1fIS0_IJCS_IJEERr1BIS2_EEEET_EE1BS_T_SA_UlvE_KSbv" "B foo()::g<f<f<foo()::g<> _Complex, B<foo()::g<> _Complex> restrict&>>()>(foo()::g, f<f<foo()::g<> _Complex, B<foo()::g<> _Complex> restrict&>>(), f<f<foo()::g<> _Complex, B<foo()::g<> _Complex> restrict&>>(), {lambda()#1}, std::basic_string const, void)" 408 ∷
+    prints "_Z1fIorVKgES_u3ÿ!~" "f f<unsigned __int128, __float128 const volatile restrict>(ÿ!~)" 80 ∷
+    prints "_Z4a.b$IZZNO1AD0IS0_JEE6vectorES_IStL6vectorEFxENSo3ÿ!~EE1xOPRS1_E1AEvT_" "void a.b$<A::~A<A>::vector(a.b$<std::vector>, long long (), std::ostream::ÿ!~) &&::x(A::~A&*&&)::A>(A::~A<A>::vector(a.b$<std::vector>, long long (), std::ostream::ÿ!~) &&::x(A::~A&*&&)::A)" 295 ∷
     prints "_ZNSt6vector1BplEPVKaRcbUt0_A42_PKDuNUlvE1_3barIS6_E1gIDuEE" "std::vector::B::operator+(signed char const volatile*, char&, bool, {unnamed type#2}, char8_t const* [42], {lambda()#3}::bar<char8_t const*>::g<char8_t>)" 207 ∷
     prints "_ZZNKUlvE_ISt3barE3TT_ES1_S_ENKS0_1fEDpgDsc" "std::bar::f(__float128..., char16_t, char) const" 66 ∷
     prints "_ZTv10_0_TTVDi" "virtual thunk to VTT for char32_t volatile" 49 ∷
@@ -98,6 +107,15 @@ rows_1 =
     prints "_ZTcv03_n03_hn0_TIKN4pairpl4pairE.a" "covariant return thunk to typeinfo for pair::operator+::pair const (.a)" 82 ∷
     prints "_Z1AIS_EDpS_v" "A... A<A>()" 22 ∷
     prints "_Zpli.llvm.1" "operator+(int) (.llvm.1)" 30 ∷
+    prints "_ZZSaIzEmrKDnaT_VKvDpcEN3ÿ!~IE1x4pairIEE_0iA1_cS7_" "int std::allocator<...>(std::nullptr_t const restrict, signed char, ..., void const volatile, char...)::ÿ!~<>::x::pair<>(char [1], char [1])" 192 ∷
+    []
+
+right_1 : are_right rows_1 ≡ true
+unfolding digits printed_to printed in_ranges among is_in pick number_of_kind alternatives choose parts_of is_chain may_be_empty kinds productions number_of padded rule_of prefix_tree prefix_listed tree_of piece_of is_listed qualifiers_of ref_of letter_of is_there mark_of text_of signed_of adjustment_of normal is_zero signed_digits local_number part count element arguments_of before_arguments is_structor has_return_type is_open first_of length_if_pack pack_length appended is_function_type with_type with_unqualified with_prefix with_packs packs_in substituted parameter_named in_name in_types in_signature under_expansion after inside extended applied no_items named_so_far listed_so_far piece_so_far parameter_so_far index_of between is_void is_nil parameters encoding_of qualified_by listed_value discriminator_of function_of with_item reference_to signature_or operator_or_literal meaning last_token number_tested opening behind close production_at byte_of cpp first_around first_state first_tree unfold_cpp same_bytes look_up builtin_texts operator_texts abbreviation_texts special_texts literal_endings indexed argument collapsed head_with head_closed head is_reference is_funarr packs_of is_none_of is_empty text_part list_part qualifier_text ref_text blank_last begins_with source_text piece_parts prefix_item within_parts last_piece opening_text instance_parts marked_parts reference_parts qualified_left expansion_parts sign_part is_plain_integer builtin_code integer_parts member_parts array_left left_parts low_parts function_right closing_right qualified_right right_parts base_within base_parts types_of encoding_text function_bare function_full thunk_text full_parts bare_parts root_parts first_parts more_parts at_index is_below comma_before expand_rest expand_parts parts_in not_empty parts or_none pack_count weight scope_weight weight_in rank_in rank front_digits is_length_form number_at are_name_bytes is_own name_at seen_tree shape_of see read_kind read_symbol read_all same_refusal same_seen are_right
+right_1 = refl
+
+abbrev rows_2 : List Row
+rows_2 =
     prints "_ZUlvE_RDv0_PR1xDpZ1fvEN1A1BI1fIS0_EE1fIS7_St4pairEooEDpS5_" "{lambda()#1}(x&* __vector(0)&, f()::A::B<f<x&>>::f<f<x&>, std::pair>::operator||..., f()::A::B...)" 161 ∷
     prints "_ZNStleEu1fS_" "std::operator<=(f, f)" 31 ∷
     prints "_Z4a.b$IcS_iES_T0_" "a.b$ a.b$<char, a.b$, int>(a.b$)" 52 ∷
@@ -108,14 +126,6 @@ rows_1 =
     prints "_ZGVZNSt4pairIJLDn0EEEEZNS_IvE1AEDp3fooENS_20Very_long_identifierE__0_vE1xIJvcEJEE" "guard variable for std::pair<nullptr>()::x<void, char>" 80 ∷
     prints "_ZNVUt0_1x3fooE" "{unnamed type#2}::x::foo volatile" 40 ∷
     prints "_ZSoIKiJizEEnKT_" "__int128 std::ostream<int const, int, ...>(int const const)" 88 ∷
-    []
-
-right_1 : are_right rows_1 ≡ true
-unfolding digits printed_to printed in_ranges among is_in pick number_of_kind alternatives choose parts_of is_chain may_be_empty kinds productions number_of padded rule_of tree_of piece_of is_listed qualifiers_of ref_of letter_of is_there mark_of text_of signed_of adjustment_of normal is_zero signed_digits local_number part count element arguments_of before_arguments is_structor has_return_type is_open first_of length_if_pack pack_length appended is_function_type with_type with_unqualified with_prefix with_packs packs_in substituted parameter_named in_name in_types in_signature under_expansion after inside extended prefix_tree prefix_listed applied no_items named_so_far listed_so_far piece_so_far parameter_so_far index_of between is_void is_nil parameters encoding_of qualified_by listed_value discriminator_of function_of with_item reference_to signature_or operator_or_literal meaning last_token number_tested opening behind close production_at byte_of cpp first_around first_state first_tree unfold_cpp same_bytes look_up builtin_texts operator_texts abbreviation_texts special_texts literal_endings indexed argument collapsed head_with head_closed head is_reference is_funarr packs_of is_none_of is_empty text_part list_part qualifier_text ref_text blank_last begins_with source_text piece_parts prefix_item within_parts last_piece opening_text instance_parts marked_parts reference_parts qualified_left expansion_parts sign_part is_plain_integer builtin_code integer_parts member_parts array_left left_parts low_parts function_right closing_right qualified_right right_parts base_within base_parts types_of encoding_text function_bare function_full thunk_text full_parts bare_parts root_parts first_parts more_parts at_index is_below comma_before expand_rest expand_parts parts_in not_empty parts or_none pack_count weight scope_weight weight_in rank_in rank front_digits is_length_form number_at are_name_bytes is_own name_at seen_tree shape_of see read_kind read_symbol read_all same_refusal same_seen are_right
-right_1 = refl
-
-abbrev rows_2 : List Row
-rows_2 =
     prints "_ZZ3barIA_ObESt1fvENrO1A1gEv" "bar<bool&& []>()::A::g() restrict &&" 53 ∷
     prints "_ZSbIEcPSt3foo" "char std::basic_string<>(std::foo*)" 47 ∷
     prints "_ZGVSaIA12345678901234567890123_KDoFSsIRmJ4pairIKu1_EEEvOEFvS1_EDpcE" "guard variable for std::allocator<std::string<unsigned long&, pair<_ const>> [12345678901234567890123]() const && noexcept, void (_), char...>" 185 ∷
@@ -146,6 +156,14 @@ rows_2 =
     prints "_ZN1B4pairEODa" "B::pair(auto&&)" 25 ∷
     prints "_ZdaIJEEKCS_IEv" "operator delete[]<> _Complex const operator delete[]<>()" 68 ∷
     prints "_ZNO1_3barIDpKS0_IJPcDprVKiEJcsEEJEEEDpT0_T_" " _::bar<_::bar<char*, int const volatile restrict..., char, short> const...>(_::bar<char*, int const volatile restrict..., char, short> const...) &&" 227 ∷
+    []
+
+right_2 : are_right rows_2 ≡ true
+unfolding digits printed_to printed in_ranges among is_in pick number_of_kind alternatives choose parts_of is_chain may_be_empty kinds productions number_of padded rule_of prefix_tree prefix_listed tree_of piece_of is_listed qualifiers_of ref_of letter_of is_there mark_of text_of signed_of adjustment_of normal is_zero signed_digits local_number part count element arguments_of before_arguments is_structor has_return_type is_open first_of length_if_pack pack_length appended is_function_type with_type with_unqualified with_prefix with_packs packs_in substituted parameter_named in_name in_types in_signature under_expansion after inside extended applied no_items named_so_far listed_so_far piece_so_far parameter_so_far index_of between is_void is_nil parameters encoding_of qualified_by listed_value discriminator_of function_of with_item reference_to signature_or operator_or_literal meaning last_token number_tested opening behind close production_at byte_of cpp first_around first_state first_tree unfold_cpp same_bytes look_up builtin_texts operator_texts abbreviation_texts special_texts literal_endings indexed argument collapsed head_with head_closed head is_reference is_funarr packs_of is_none_of is_empty text_part list_part qualifier_text ref_text blank_last begins_with source_text piece_parts prefix_item within_parts last_piece opening_text instance_parts marked_parts reference_parts qualified_left expansion_parts sign_part is_plain_integer builtin_code integer_parts member_parts array_left left_parts low_parts function_right closing_right qualified_right right_parts base_within base_parts types_of encoding_text function_bare function_full thunk_text full_parts bare_parts root_parts first_parts more_parts at_index is_below comma_before expand_rest expand_parts parts_in not_empty parts or_none pack_count weight scope_weight weight_in rank_in rank front_digits is_length_form number_at are_name_bytes is_own name_at seen_tree shape_of see read_kind read_symbol read_all same_refusal same_seen are_right
+right_2 = refl
+
+abbrev rows_3 : List Row
+rows_3 =
     prints "_ZZSt1xDcEUlvE_v.a" "std::x(decltype(auto))::{lambda()#1}() (.a)" 54 ∷
     prints "_ZclIbEv" "void operator()<bool>()" 32 ∷
     prints "_Z1gcMhK1gS_Ki" "g(char, g const unsigned char::*, g, int const)" 69 ∷
@@ -156,24 +174,6 @@ rows_2 =
     prints "_Z1gIFiEKSt1fIELDsn1EET0_v" "std::f<> const g<int (), std::f<> const, (char16_t)-1>()" 85 ∷
     prints "_ZN4a.b$1AIS_DpS0_JvEEEDpKUt_v" "{unnamed type#1} const... a.b$::A<a.b$, a.b$::A..., void>()" 87 ∷
     prints "_ZN1B6vectorERrS_" "B::vector(B restrict&)" 34 ∷
-    []
-
-right_2 : are_right rows_2 ≡ true
-unfolding digits printed_to printed in_ranges among is_in pick number_of_kind alternatives choose parts_of is_chain may_be_empty kinds productions number_of padded rule_of tree_of piece_of is_listed qualifiers_of ref_of letter_of is_there mark_of text_of signed_of adjustment_of normal is_zero signed_digits local_number part count element arguments_of before_arguments is_structor has_return_type is_open first_of length_if_pack pack_length appended is_function_type with_type with_unqualified with_prefix with_packs packs_in substituted parameter_named in_name in_types in_signature under_expansion after inside extended prefix_tree prefix_listed applied no_items named_so_far listed_so_far piece_so_far parameter_so_far index_of between is_void is_nil parameters encoding_of qualified_by listed_value discriminator_of function_of with_item reference_to signature_or operator_or_literal meaning last_token number_tested opening behind close production_at byte_of cpp first_around first_state first_tree unfold_cpp same_bytes look_up builtin_texts operator_texts abbreviation_texts special_texts literal_endings indexed argument collapsed head_with head_closed head is_reference is_funarr packs_of is_none_of is_empty text_part list_part qualifier_text ref_text blank_last begins_with source_text piece_parts prefix_item within_parts last_piece opening_text instance_parts marked_parts reference_parts qualified_left expansion_parts sign_part is_plain_integer builtin_code integer_parts member_parts array_left left_parts low_parts function_right closing_right qualified_right right_parts base_within base_parts types_of encoding_text function_bare function_full thunk_text full_parts bare_parts root_parts first_parts more_parts at_index is_below comma_before expand_rest expand_parts parts_in not_empty parts or_none pack_count weight scope_weight weight_in rank_in rank front_digits is_length_form number_at are_name_bytes is_own name_at seen_tree shape_of see read_kind read_symbol read_all same_refusal same_seen are_right
-right_2 = refl
-
-abbrev rows_3 : List Row
-rows_3 =
-    prints "_ZZUlPKDcE0_vEUlDnVmE10__0v" "{lambda(decltype(auto) const*)#2}()::{lambda(std::nullptr_t, unsigned long volatile)#12}()" 112 ∷
-    prints "_ZZ1fIEvDpCUlvE_e4pairwENKSt1gEh" "std::g(unsigned char) const" 35 ∷
-    prints "_ZSiInEKoS_" "unsigned __int128 const std::istream<__int128>(unsigned __int128 const)" 87 ∷
-    prints "_ZZTcvn7_00_h0_NSd1BEvKvRjEs__1_v" "covariant return thunk to std::iostream::B(void, void const, unsigned int&)::string literal()" 116 ∷
-    prints "_ZStL4pairItEDp1fcDpS_IS0_JT_T_N4pair3fooEEE" "f... std::pair<unsigned short>(char, std::pair<f, unsigned short, unsigned short, pair::foo>...)" 139 ∷
-    prints "_ZSt3barv" "std::bar()" 14 ∷
-    prints "_ZaaIE.a" "operator&&<> (.a)" 21 ∷
-    prints "_ZNUt_eqIRcEEv" "void {unnamed type#1}::operator==<char&>()" 55 ∷
-    prints "_ZN1AILDn0EXadL_ZNOL1gIJtESt1AE1xEDpnEEE4pairIS3_EEvt.0" "void A<nullptr, &g<unsigned short, std::A>::x(__int128...) &&>::pair<__int128...>(unsigned short) (.0)" 145 ∷
-    prints "_Z1BIDsrVORA_S_ZdvRZ1gDpStUl1gE_EN1xUlrVKcE1_EENStUlS8_E_IDnDpSB_EEESD_v" "std::{lambda(char const volatile restrict)#1}<std::nullptr_t, std::{lambda(char const volatile restrict)#1}...> B<char16_t, B (&)[], std::{lambda(char const volatile restrict)#1}<std::nullptr_t, std::{lambda(char const volatile restrict)#1}...>>()" 314 ∷
     prints "_Z4pairu1g" "pair(g)" 13 ∷
     prints "_ZUt10_IKS_sS_EPZL1gvENSt3fooIXadL_ZSoIJLs10EcEES0_S1_EEEEDpKi" "std::foo<&std::ostream<(short)10, char>(std::foo)>* {unnamed type#12}<{unnamed type#12} const, short, {unnamed type#12}>(int const...)" 184 ∷
     prints "_ZNStUlxE_IRS_EES0_IRUt_Ev" "std::{lambda(long long)#1}&<{unnamed type#1}&> std::{lambda(long long)#1}<std::{lambda(long long)#1}&>()" 134 ∷
@@ -207,7 +207,7 @@ rows_3 =
     []
 
 right_3 : are_right rows_3 ≡ true
-unfolding digits printed_to printed in_ranges among is_in pick number_of_kind alternatives choose parts_of is_chain may_be_empty kinds productions number_of padded rule_of tree_of piece_of is_listed qualifiers_of ref_of letter_of is_there mark_of text_of signed_of adjustment_of normal is_zero signed_digits local_number part count element arguments_of before_arguments is_structor has_return_type is_open first_of length_if_pack pack_length appended is_function_type with_type with_unqualified with_prefix with_packs packs_in substituted parameter_named in_name in_types in_signature under_expansion after inside extended prefix_tree prefix_listed applied no_items named_so_far listed_so_far piece_so_far parameter_so_far index_of between is_void is_nil parameters encoding_of qualified_by listed_value discriminator_of function_of with_item reference_to signature_or operator_or_literal meaning last_token number_tested opening behind close production_at byte_of cpp first_around first_state first_tree unfold_cpp same_bytes look_up builtin_texts operator_texts abbreviation_texts special_texts literal_endings indexed argument collapsed head_with head_closed head is_reference is_funarr packs_of is_none_of is_empty text_part list_part qualifier_text ref_text blank_last begins_with source_text piece_parts prefix_item within_parts last_piece opening_text instance_parts marked_parts reference_parts qualified_left expansion_parts sign_part is_plain_integer builtin_code integer_parts member_parts array_left left_parts low_parts function_right closing_right qualified_right right_parts base_within base_parts types_of encoding_text function_bare function_full thunk_text full_parts bare_parts root_parts first_parts more_parts at_index is_below comma_before expand_rest expand_parts parts_in not_empty parts or_none pack_count weight scope_weight weight_in rank_in rank front_digits is_length_form number_at are_name_bytes is_own name_at seen_tree shape_of see read_kind read_symbol read_all same_refusal same_seen are_right
+unfolding digits printed_to printed in_ranges among is_in pick number_of_kind alternatives choose parts_of is_chain may_be_empty kinds productions number_of padded rule_of prefix_tree prefix_listed tree_of piece_of is_listed qualifiers_of ref_of letter_of is_there mark_of text_of signed_of adjustment_of normal is_zero signed_digits local_number part count element arguments_of before_arguments is_structor has_return_type is_open first_of length_if_pack pack_length appended is_function_type with_type with_unqualified with_prefix with_packs packs_in substituted parameter_named in_name in_types in_signature under_expansion after inside extended applied no_items named_so_far listed_so_far piece_so_far parameter_so_far index_of between is_void is_nil parameters encoding_of qualified_by listed_value discriminator_of function_of with_item reference_to signature_or operator_or_literal meaning last_token number_tested opening behind close production_at byte_of cpp first_around first_state first_tree unfold_cpp same_bytes look_up builtin_texts operator_texts abbreviation_texts special_texts literal_endings indexed argument collapsed head_with head_closed head is_reference is_funarr packs_of is_none_of is_empty text_part list_part qualifier_text ref_text blank_last begins_with source_text piece_parts prefix_item within_parts last_piece opening_text instance_parts marked_parts reference_parts qualified_left expansion_parts sign_part is_plain_integer builtin_code integer_parts member_parts array_left left_parts low_parts function_right closing_right qualified_right right_parts base_within base_parts types_of encoding_text function_bare function_full thunk_text full_parts bare_parts root_parts first_parts more_parts at_index is_below comma_before expand_rest expand_parts parts_in not_empty parts or_none pack_count weight scope_weight weight_in rank_in rank front_digits is_length_form number_at are_name_bytes is_own name_at seen_tree shape_of see read_kind read_symbol read_all same_refusal same_seen are_right
 right_3 = refl
 
 abbrev rows_4 : List Row
@@ -226,6 +226,7 @@ rows_4 =
     prints "_Z6vectorPv" "vector(void*)" 21 ∷
     prints "_ZStUt_IS_LDn0ES_EvS_" "void std::{unnamed type#1}<std::{unnamed type#1}, nullptr, std::{unnamed type#1}>(std::{unnamed type#1})" 126 ∷
     prints "_ZSsIJLi12345678901234567890123EDcEErVgDpKT_" "__float128 volatile restrict std::string<12345678901234567890123, decltype(auto)>(12345678901234567890123 const, decltype(auto) const)" 168 ∷
+    prints "_ZTh7_St2S_ILPDoFNUlS_E10_IJEEUlKiE0_1fE2Ã©En42EE" "non-virtual thunk to std::S_<({lambda(std::S_)#12}<>::{lambda(int const)#2}::f (*)(Ã©) noexcept)-42>" 133 ∷
     prints "_Z1gIDpS_E1_IJS_LDn0EEJERS_IT_EEii" "_<g, nullptr, g<g...>&> g<g...>(int, int)" 82 ∷
     prints "_ZUlUlDnE_u1AE_IzJS0_ILy00EEDnKS0_EvET_v.llvm.1" "... {lambda({lambda(std::nullptr_t)#1}, A)#1}<..., A<0ull>, std::nullptr_t, A const, void>() (.llvm.1)" 143 ∷
     prints "_Z3barMZ1_u3foocvZ1BfcE3fooENS_1g3fooIS2_1BIS3_IDaES2_E12_GLOBAL__N_1EE_0DivDpS8_" "bar(char32_t foo::g::foo<foo::g::foo, B<B<auto>, foo::g::foo>, (anonymous namespace)>::*, void, char32_t foo::g::foo<foo::g::foo, B<B<auto>, foo::g::foo>, (anonymous namespace)>::*...)" 272 ∷
@@ -241,7 +242,6 @@ rows_4 =
     prints "_ZSbIJEEDpvv" "void... std::basic_string<>()" 38 ∷
     prints "_Z1xIJLn10EnEXadL_ZltIRS_IJLSt4pair10EDv7_PS_Eu1xEJrKS5_PDsEJS6_S7_EEDpT0_EEESsv" "std::string x<(__int128)10, __int128, &operator< <x<(std::pair)10, x* __vector(7), x>&, x<(std::pair)10, x* __vector(7), x> const restrict, char16_t*, x<(std::pair)10, x* __vector(7), x>&, x<(std::pair)10, x* __vector(7), x> const restrict>()>()" 379 ∷
     prints "_ZNUt0_3fooE" "{unnamed type#2}::foo" 26 ∷
-    prints "_ZZSdIEDcVsEL1fv" "std::iostream<>(short volatile)::f()" 49 ∷
     counts_badly "_ZNSbILStUlvE18446744073709551614_42EE1xEv" 9 ∷
     refers_badly "_ZUlvE_IiE1AIEOMZNS_3fooIJKT0_gEJXadL_Z3TT_EEEJVKT0_T0_EEEDpT1_Dp4pairENSb3fooEDacSD_oDpc" 27 ∷
     refers_badly "_ZZTv10_n42_1AIsEKS1_SiE1BS0_" 18 ∷
@@ -255,7 +255,7 @@ rows_4 =
     []
 
 right_4 : are_right rows_4 ≡ true
-unfolding digits printed_to printed in_ranges among is_in pick number_of_kind alternatives choose parts_of is_chain may_be_empty kinds productions number_of padded rule_of tree_of piece_of is_listed qualifiers_of ref_of letter_of is_there mark_of text_of signed_of adjustment_of normal is_zero signed_digits local_number part count element arguments_of before_arguments is_structor has_return_type is_open first_of length_if_pack pack_length appended is_function_type with_type with_unqualified with_prefix with_packs packs_in substituted parameter_named in_name in_types in_signature under_expansion after inside extended prefix_tree prefix_listed applied no_items named_so_far listed_so_far piece_so_far parameter_so_far index_of between is_void is_nil parameters encoding_of qualified_by listed_value discriminator_of function_of with_item reference_to signature_or operator_or_literal meaning last_token number_tested opening behind close production_at byte_of cpp first_around first_state first_tree unfold_cpp same_bytes look_up builtin_texts operator_texts abbreviation_texts special_texts literal_endings indexed argument collapsed head_with head_closed head is_reference is_funarr packs_of is_none_of is_empty text_part list_part qualifier_text ref_text blank_last begins_with source_text piece_parts prefix_item within_parts last_piece opening_text instance_parts marked_parts reference_parts qualified_left expansion_parts sign_part is_plain_integer builtin_code integer_parts member_parts array_left left_parts low_parts function_right closing_right qualified_right right_parts base_within base_parts types_of encoding_text function_bare function_full thunk_text full_parts bare_parts root_parts first_parts more_parts at_index is_below comma_before expand_rest expand_parts parts_in not_empty parts or_none pack_count weight scope_weight weight_in rank_in rank front_digits is_length_form number_at are_name_bytes is_own name_at seen_tree shape_of see read_kind read_symbol read_all same_refusal same_seen are_right
+unfolding digits printed_to printed in_ranges among is_in pick number_of_kind alternatives choose parts_of is_chain may_be_empty kinds productions number_of padded rule_of prefix_tree prefix_listed tree_of piece_of is_listed qualifiers_of ref_of letter_of is_there mark_of text_of signed_of adjustment_of normal is_zero signed_digits local_number part count element arguments_of before_arguments is_structor has_return_type is_open first_of length_if_pack pack_length appended is_function_type with_type with_unqualified with_prefix with_packs packs_in substituted parameter_named in_name in_types in_signature under_expansion after inside extended applied no_items named_so_far listed_so_far piece_so_far parameter_so_far index_of between is_void is_nil parameters encoding_of qualified_by listed_value discriminator_of function_of with_item reference_to signature_or operator_or_literal meaning last_token number_tested opening behind close production_at byte_of cpp first_around first_state first_tree unfold_cpp same_bytes look_up builtin_texts operator_texts abbreviation_texts special_texts literal_endings indexed argument collapsed head_with head_closed head is_reference is_funarr packs_of is_none_of is_empty text_part list_part qualifier_text ref_text blank_last begins_with source_text piece_parts prefix_item within_parts last_piece opening_text instance_parts marked_parts reference_parts qualified_left expansion_parts sign_part is_plain_integer builtin_code integer_parts member_parts array_left left_parts low_parts function_right closing_right qualified_right right_parts base_within base_parts types_of encoding_text function_bare function_full thunk_text full_parts bare_parts root_parts first_parts more_parts at_index is_below comma_before expand_rest expand_parts parts_in not_empty parts or_none pack_count weight scope_weight weight_in rank_in rank front_digits is_length_form number_at are_name_bytes is_own name_at seen_tree shape_of see read_kind read_symbol read_all same_refusal same_seen are_right
 right_4 = refl
 
 abbrev rows_5 : List Row
@@ -275,6 +275,7 @@ rows_5 =
     counts_badly "_Z1xIyEUlS0_S_IOu4pairEwE18446744073709551614_PKS2_" 7 ∷
     refers_badly "_Z1fIJOS10_EEDp6vectorv" 7 ∷
     refers_badly "_ZTch12345678901234567890123_v42_00_NS198EXBVSHGPUNUK1R_naEu1g" 37 ∷
+    refers_badly "_ZZNKS4_C2IL1_0EXadL_ZGVNS10_3ÿ!~EEEEEvENL3fooC1ImJDpKvEEEDpS_" 5 ∷
     refers_badly "_ZGVStaNISdIJ6vectorIT9999999999999999999999999_EEES1_E" 21 ∷
     refers_badly "_Z3barIJZdlvE1f_9EET_DpS1_IJEE" 19 ∷
     refers_badly "_Z1AICnET9999999999999999999999999_NT_D11BC2E" 8 ∷
@@ -282,7 +283,9 @@ rows_5 =
     refers_badly "_ZZZNSs1xE1gIDoFS_rKUlKSt1BIA_T0_VRvEnDpS0_E_IS8_S10_EeDpiEEE6vectorIA_A0_zEEsS_T0_u3foo" 30 ∷
     refers_badly "_ZSbILT0_n00EXadL_ZStgeIEOu3barvEEE1fT_ILt0EPrKzESiSt4pair" 6 ∷
     refers_badly "_ZStngRSsIJlT0_EDpSbEKS198EXBVSHGPUNUK1R_" 12 ∷
+    refers_badly "_ZZNVS198EXBVSHGPUNUK1R_IDuE3fooEvE3ÿ!~_9S_CPe" 5 ∷
     refers_badly "_ZL3fooISt1BIDoFnEEEDpNS4_1BES3_4pairiS5_IES_SZ_" 23 ∷
+    refers_badly "_ZZZUlPSt3fooS0_IEE10_vE3ÿ!~RDsENS2_3foo4pairE_0N6vectorD11gEcDpNSt1fEyS4_IJLb0ET_EE1g" 80 ∷
     refers_badly "_Z1fIT0_JA03_T0_hEES0_.$_" 5 ∷
     refers_badly "_Z1fIJKT_iEE" 7 ∷
     refers_badly "_ZSsIJrKRORT9999999999999999999999999_VKS1_EESsv" 11 ∷
@@ -297,17 +300,18 @@ rows_5 =
     refers_badly "_Z20Very_long_identifierMaDnDpKNUlA_KOVS4_E0_6vectorESaDs" 39 ∷
     refers_badly "_ZStmIrKPSaIDv7_MKS_IjJDuT2_EESt1xES1_IJEE" 18 ∷
     refers_badly "_ZmlIDiKirvES10_v" 12 ∷
-    refers_badly "_ZZNSZ_4pairEvENrKStUt0_E" 4 ∷
-    refers_badly "_ZNOSt20Very_long_identifierES10_IJiS_EEh" 29 ∷
-    counts_badly "_ZN1gUlS_3barzE18446744073709551614_ES_" 5 ∷
     []
 
 right_5 : are_right rows_5 ≡ true
-unfolding digits printed_to printed in_ranges among is_in pick number_of_kind alternatives choose parts_of is_chain may_be_empty kinds productions number_of padded rule_of tree_of piece_of is_listed qualifiers_of ref_of letter_of is_there mark_of text_of signed_of adjustment_of normal is_zero signed_digits local_number part count element arguments_of before_arguments is_structor has_return_type is_open first_of length_if_pack pack_length appended is_function_type with_type with_unqualified with_prefix with_packs packs_in substituted parameter_named in_name in_types in_signature under_expansion after inside extended prefix_tree prefix_listed applied no_items named_so_far listed_so_far piece_so_far parameter_so_far index_of between is_void is_nil parameters encoding_of qualified_by listed_value discriminator_of function_of with_item reference_to signature_or operator_or_literal meaning last_token number_tested opening behind close production_at byte_of cpp first_around first_state first_tree unfold_cpp same_bytes look_up builtin_texts operator_texts abbreviation_texts special_texts literal_endings indexed argument collapsed head_with head_closed head is_reference is_funarr packs_of is_none_of is_empty text_part list_part qualifier_text ref_text blank_last begins_with source_text piece_parts prefix_item within_parts last_piece opening_text instance_parts marked_parts reference_parts qualified_left expansion_parts sign_part is_plain_integer builtin_code integer_parts member_parts array_left left_parts low_parts function_right closing_right qualified_right right_parts base_within base_parts types_of encoding_text function_bare function_full thunk_text full_parts bare_parts root_parts first_parts more_parts at_index is_below comma_before expand_rest expand_parts parts_in not_empty parts or_none pack_count weight scope_weight weight_in rank_in rank front_digits is_length_form number_at are_name_bytes is_own name_at seen_tree shape_of see read_kind read_symbol read_all same_refusal same_seen are_right
+unfolding digits printed_to printed in_ranges among is_in pick number_of_kind alternatives choose parts_of is_chain may_be_empty kinds productions number_of padded rule_of prefix_tree prefix_listed tree_of piece_of is_listed qualifiers_of ref_of letter_of is_there mark_of text_of signed_of adjustment_of normal is_zero signed_digits local_number part count element arguments_of before_arguments is_structor has_return_type is_open first_of length_if_pack pack_length appended is_function_type with_type with_unqualified with_prefix with_packs packs_in substituted parameter_named in_name in_types in_signature under_expansion after inside extended applied no_items named_so_far listed_so_far piece_so_far parameter_so_far index_of between is_void is_nil parameters encoding_of qualified_by listed_value discriminator_of function_of with_item reference_to signature_or operator_or_literal meaning last_token number_tested opening behind close production_at byte_of cpp first_around first_state first_tree unfold_cpp same_bytes look_up builtin_texts operator_texts abbreviation_texts special_texts literal_endings indexed argument collapsed head_with head_closed head is_reference is_funarr packs_of is_none_of is_empty text_part list_part qualifier_text ref_text blank_last begins_with source_text piece_parts prefix_item within_parts last_piece opening_text instance_parts marked_parts reference_parts qualified_left expansion_parts sign_part is_plain_integer builtin_code integer_parts member_parts array_left left_parts low_parts function_right closing_right qualified_right right_parts base_within base_parts types_of encoding_text function_bare function_full thunk_text full_parts bare_parts root_parts first_parts more_parts at_index is_below comma_before expand_rest expand_parts parts_in not_empty parts or_none pack_count weight scope_weight weight_in rank_in rank front_digits is_length_form number_at are_name_bytes is_own name_at seen_tree shape_of see read_kind read_symbol read_all same_refusal same_seen are_right
 right_5 = refl
 
 abbrev rows_6 : List Row
 rows_6 =
+    refers_badly "_ZZNSZ_4pairEvENrKStUt0_E" 4 ∷
+    refers_badly "_ZNOSt20Very_long_identifierES10_IJiS_EEh" 29 ∷
+    counts_badly "_ZN1gUlS_3barzE18446744073709551614_ES_" 5 ∷
+    refers_badly "_ZZ2Ã©T_E4pairIJS0_T_rKSsEJEDpSt4pairE__42_DpcDpS_" 6 ∷
     refers_badly "_ZSiIgS_S0_E.isra.0" 6 ∷
     refers_badly "_ZSdIET9999999999999999999999999_S_v.$_" 6 ∷
     refers_badly "_ZawIdJEFS198EXBVSHGPUNUK1R_Dv10_S0_NS10_D2EEEA10_RT1_S4_" 9 ∷
@@ -344,31 +348,28 @@ rows_6 =
     refers_badly "_ZStUt_T0_e" 7 ∷
     counts_badly "_ZplZTh42_Tvn1_03_3barDaE3fooUlcoS_E18446744073709551614_gDpT0_" 29 ∷
     refers_badly "_ZrmIXadL_ZSt3TT_IEvSt1fEEvES4_Kv" 28 ∷
-    refers_badly "_ZltIUlKA_T0_au3barE1_ES03_IvEv" 10 ∷
-    refers_badly "_ZGVNSZ_pp3barE" 5 ∷
-    refers_badly "_ZaNIJEDv10_T0_Eiv" 12 ∷
-    refers_badly "_ZN3foo3fooC2D0ERDsS_1AS198EXBVSHGPUNUK1R_" 23 ∷
     []
 
 right_6 : are_right rows_6 ≡ true
-unfolding digits printed_to printed in_ranges among is_in pick number_of_kind alternatives choose parts_of is_chain may_be_empty kinds productions number_of padded rule_of tree_of piece_of is_listed qualifiers_of ref_of letter_of is_there mark_of text_of signed_of adjustment_of normal is_zero signed_digits local_number part count element arguments_of before_arguments is_structor has_return_type is_open first_of length_if_pack pack_length appended is_function_type with_type with_unqualified with_prefix with_packs packs_in substituted parameter_named in_name in_types in_signature under_expansion after inside extended prefix_tree prefix_listed applied no_items named_so_far listed_so_far piece_so_far parameter_so_far index_of between is_void is_nil parameters encoding_of qualified_by listed_value discriminator_of function_of with_item reference_to signature_or operator_or_literal meaning last_token number_tested opening behind close production_at byte_of cpp first_around first_state first_tree unfold_cpp same_bytes look_up builtin_texts operator_texts abbreviation_texts special_texts literal_endings indexed argument collapsed head_with head_closed head is_reference is_funarr packs_of is_none_of is_empty text_part list_part qualifier_text ref_text blank_last begins_with source_text piece_parts prefix_item within_parts last_piece opening_text instance_parts marked_parts reference_parts qualified_left expansion_parts sign_part is_plain_integer builtin_code integer_parts member_parts array_left left_parts low_parts function_right closing_right qualified_right right_parts base_within base_parts types_of encoding_text function_bare function_full thunk_text full_parts bare_parts root_parts first_parts more_parts at_index is_below comma_before expand_rest expand_parts parts_in not_empty parts or_none pack_count weight scope_weight weight_in rank_in rank front_digits is_length_form number_at are_name_bytes is_own name_at seen_tree shape_of see read_kind read_symbol read_all same_refusal same_seen are_right
+unfolding digits printed_to printed in_ranges among is_in pick number_of_kind alternatives choose parts_of is_chain may_be_empty kinds productions number_of padded rule_of prefix_tree prefix_listed tree_of piece_of is_listed qualifiers_of ref_of letter_of is_there mark_of text_of signed_of adjustment_of normal is_zero signed_digits local_number part count element arguments_of before_arguments is_structor has_return_type is_open first_of length_if_pack pack_length appended is_function_type with_type with_unqualified with_prefix with_packs packs_in substituted parameter_named in_name in_types in_signature under_expansion after inside extended applied no_items named_so_far listed_so_far piece_so_far parameter_so_far index_of between is_void is_nil parameters encoding_of qualified_by listed_value discriminator_of function_of with_item reference_to signature_or operator_or_literal meaning last_token number_tested opening behind close production_at byte_of cpp first_around first_state first_tree unfold_cpp same_bytes look_up builtin_texts operator_texts abbreviation_texts special_texts literal_endings indexed argument collapsed head_with head_closed head is_reference is_funarr packs_of is_none_of is_empty text_part list_part qualifier_text ref_text blank_last begins_with source_text piece_parts prefix_item within_parts last_piece opening_text instance_parts marked_parts reference_parts qualified_left expansion_parts sign_part is_plain_integer builtin_code integer_parts member_parts array_left left_parts low_parts function_right closing_right qualified_right right_parts base_within base_parts types_of encoding_text function_bare function_full thunk_text full_parts bare_parts root_parts first_parts more_parts at_index is_below comma_before expand_rest expand_parts parts_in not_empty parts or_none pack_count weight scope_weight weight_in rank_in rank front_digits is_length_form number_at are_name_bytes is_own name_at seen_tree shape_of see read_kind read_symbol read_all same_refusal same_seen are_right
 right_6 = refl
 
 abbrev rows_7 : List Row
 rows_7 =
+    refers_badly "_ZltIUlKA_T0_au3barE1_ES03_IvEv" 10 ∷
+    refers_badly "_ZGVNSZ_pp3barE" 5 ∷
+    refers_badly "_ZaNIJEDv10_T0_Eiv" 12 ∷
+    refers_badly "_ZN3foo3fooC2D0ERDsS_1AS198EXBVSHGPUNUK1R_" 23 ∷
     refers_badly "_ZStUlS1_vgE_IJEE" 6 ∷
     refers_badly "_ZNKS1_IJXadL_ZSt1fIPvEEELSd42EELN3barD1En0EE1BEv" 4 ∷
     refers_badly "_ZNK6vector1xIDpS0_EEON1fpleoclIJLSon12345678901234567890123ES_IJLT0_10EDiLb0EEEEEEv" 66 ∷
     refers_badly "_ZNSt3bar1B3barEPCS1_DaS_" 18 ∷
     refers_badly "_Z10_GLOBAL__NA0_bOT2_" 19 ∷
     refers_badly "_ZTh00_SiISZ_JSovENT0_IS_EL6vectorEET_DpSZ_" 10 ∷
-    refers_badly "_ZSteqIJFS_IOZltIEiS_EN2S_1B1gUt10_EEvEEESdcDpVKT0_T0_" 48 ∷
-    refers_badly "_ZNKT_IA_FDuvErNL3fooIJ1xDpK4pairEE1BIRiEEEpLErVKj" 4 ∷
-    refers_badly "_ZStL1AIE1xILS1_0EJEET2_" 13 ∷
-    refers_badly "_ZGVStL1xIVKS0_IR3fooIDsEEJEE" 12 ∷
     has_no_shape "_ZGVNUlDncvE_4pairID" ∷
     has_no_shape "_ZN1xC11fILb1EPZUtJIJnXadL_ZSt62ectorIbE6vectorT_EEEvEDpKT0_vE2S_E3barEv" ∷
     has_no_shape "_ZSt1BIJS_EDpK3barDpl" ∷
+    has_no_shape "_ZptIDaES_i§" ∷
     has_no_shape "_ZNO1f2S_IMS_IJKjSu_EErKNS2_L3barIDprKcjvE6vectorEJS5_S_EEltEv" ∷
     has_no_shape "_ZSaIEFfRES_IJS_S_IJyDpR_IP1BEEJEJDsiEEEJLDs03EEEDpS1_rKxSt6vector" ∷
     has_no_shape "_ZNrStlS20Very_long_ide" ∷
@@ -385,9 +386,8 @@ rows_7 =
     has_no_shape "_ZNt4pairD2ES_" ∷
     has_no_shape "_ZNLcAIr6vector4pairEltEz" ∷
     has_no_shape "_ZNSt6vectorIS_ILDu00EXadL_Z1_S_cZ1BIVKiEVS00_vEUlv" ∷
-    has_no_shape "_ZOpairIS_ETKAtOS1" ∷
     []
 
 right_7 : are_right rows_7 ≡ true
-unfolding digits printed_to printed in_ranges among is_in pick number_of_kind alternatives choose parts_of is_chain may_be_empty kinds productions number_of padded rule_of tree_of piece_of is_listed qualifiers_of ref_of letter_of is_there mark_of text_of signed_of adjustment_of normal is_zero signed_digits local_number part count element arguments_of before_arguments is_structor has_return_type is_open first_of length_if_pack pack_length appended is_function_type with_type with_unqualified with_prefix with_packs packs_in substituted parameter_named in_name in_types in_signature under_expansion after inside extended prefix_tree prefix_listed applied no_items named_so_far listed_so_far piece_so_far parameter_so_far index_of between is_void is_nil parameters encoding_of qualified_by listed_value discriminator_of function_of with_item reference_to signature_or operator_or_literal meaning last_token number_tested opening behind close production_at byte_of cpp first_around first_state first_tree unfold_cpp same_bytes look_up builtin_texts operator_texts abbreviation_texts special_texts literal_endings indexed argument collapsed head_with head_closed head is_reference is_funarr packs_of is_none_of is_empty text_part list_part qualifier_text ref_text blank_last begins_with source_text piece_parts prefix_item within_parts last_piece opening_text instance_parts marked_parts reference_parts qualified_left expansion_parts sign_part is_plain_integer builtin_code integer_parts member_parts array_left left_parts low_parts function_right closing_right qualified_right right_parts base_within base_parts types_of encoding_text function_bare function_full thunk_text full_parts bare_parts root_parts first_parts more_parts at_index is_below comma_before expand_rest expand_parts parts_in not_empty parts or_none pack_count weight scope_weight weight_in rank_in rank front_digits is_length_form number_at are_name_bytes is_own name_at seen_tree shape_of see read_kind read_symbol read_all same_refusal same_seen are_right
+unfolding digits printed_to printed in_ranges among is_in pick number_of_kind alternatives choose parts_of is_chain may_be_empty kinds productions number_of padded rule_of prefix_tree prefix_listed tree_of piece_of is_listed qualifiers_of ref_of letter_of is_there mark_of text_of signed_of adjustment_of normal is_zero signed_digits local_number part count element arguments_of before_arguments is_structor has_return_type is_open first_of length_if_pack pack_length appended is_function_type with_type with_unqualified with_prefix with_packs packs_in substituted parameter_named in_name in_types in_signature under_expansion after inside extended applied no_items named_so_far listed_so_far piece_so_far parameter_so_far index_of between is_void is_nil parameters encoding_of qualified_by listed_value discriminator_of function_of with_item reference_to signature_or operator_or_literal meaning last_token number_tested opening behind close production_at byte_of cpp first_around first_state first_tree unfold_cpp same_bytes look_up builtin_texts operator_texts abbreviation_texts special_texts literal_endings indexed argument collapsed head_with head_closed head is_reference is_funarr packs_of is_none_of is_empty text_part list_part qualifier_text ref_text blank_last begins_with source_text piece_parts prefix_item within_parts last_piece opening_text instance_parts marked_parts reference_parts qualified_left expansion_parts sign_part is_plain_integer builtin_code integer_parts member_parts array_left left_parts low_parts function_right closing_right qualified_right right_parts base_within base_parts types_of encoding_text function_bare function_full thunk_text full_parts bare_parts root_parts first_parts more_parts at_index is_below comma_before expand_rest expand_parts parts_in not_empty parts or_none pack_count weight scope_weight weight_in rank_in rank front_digits is_length_form number_at are_name_bytes is_own name_at seen_tree shape_of see read_kind read_symbol read_all same_refusal same_seen are_right
 right_7 = refl

@@ -33,6 +33,7 @@ rows_0 =
     has_no_shape "_Z1fQ" ∷
     has_no_shape "_Z5ab" ∷
     prints "_Z1fv.isra.0" "f() (.isra.0)" 16 ∷
+    prints "_ZN4fÃ¼r5cafÃ©Ev" "fÃ¼r::cafÃ©()" 18 ∷
     prints "_ZN3foo3barEN3foo3bazE" "foo::bar(foo::baz)" 28 ∷
     prints "_ZN3foo3barENS_3bazE" "foo::bar(foo::baz)" 28 ∷
     prints "_ZStlsISt11char_traitsIcEERSt13basic_ostreamIcT_ES5_PKc" "std::basic_ostream<char, std::char_traits<char>>& std::operator<< <std::char_traits<char>>(std::basic_ostream<char, std::char_traits<char>>&, char const*)" 213 ∷
@@ -59,15 +60,15 @@ rows_0 =
     prints "_Z1fM1Ai" "f(int A::*)" 20 ∷
     prints "_ZZ1fvEs" "f()::string literal" 26 ∷
     prints "_ZZ1fvE1x_0" "f()::x" 13 ∷
-    prints "_ZN1AIcE1fIiEEvT_" "void A<char>::f<int>(int)" 45 ∷
     []
 
 right_0 : are_right rows_0 ≡ true
-unfolding digits printed_to printed in_ranges among is_in pick number_of_kind alternatives choose parts_of is_chain may_be_empty kinds productions number_of padded rule_of tree_of piece_of is_listed qualifiers_of ref_of letter_of is_there mark_of text_of signed_of adjustment_of normal is_zero signed_digits local_number part count element arguments_of before_arguments is_structor has_return_type is_open first_of length_if_pack pack_length appended is_function_type with_type with_unqualified with_prefix with_packs packs_in substituted parameter_named in_name in_types in_signature under_expansion after inside extended prefix_tree prefix_listed applied no_items named_so_far listed_so_far piece_so_far parameter_so_far index_of between is_void is_nil parameters encoding_of qualified_by listed_value discriminator_of function_of with_item reference_to signature_or operator_or_literal meaning last_token number_tested opening behind close production_at byte_of cpp first_around first_state first_tree unfold_cpp same_bytes look_up builtin_texts operator_texts abbreviation_texts special_texts literal_endings indexed argument collapsed head_with head_closed head is_reference is_funarr packs_of is_none_of is_empty text_part list_part qualifier_text ref_text blank_last begins_with source_text piece_parts prefix_item within_parts last_piece opening_text instance_parts marked_parts reference_parts qualified_left expansion_parts sign_part is_plain_integer builtin_code integer_parts member_parts array_left left_parts low_parts function_right closing_right qualified_right right_parts base_within base_parts types_of encoding_text function_bare function_full thunk_text full_parts bare_parts root_parts first_parts more_parts at_index is_below comma_before expand_rest expand_parts parts_in not_empty parts or_none pack_count weight scope_weight weight_in rank_in rank front_digits is_length_form number_at are_name_bytes is_own name_at seen_tree shape_of see read_kind read_symbol read_all same_refusal same_seen are_right
+unfolding digits printed_to printed in_ranges among is_in pick number_of_kind alternatives choose parts_of is_chain may_be_empty kinds productions number_of padded rule_of prefix_tree prefix_listed tree_of piece_of is_listed qualifiers_of ref_of letter_of is_there mark_of text_of signed_of adjustment_of normal is_zero signed_digits local_number part count element arguments_of before_arguments is_structor has_return_type is_open first_of length_if_pack pack_length appended is_function_type with_type with_unqualified with_prefix with_packs packs_in substituted parameter_named in_name in_types in_signature under_expansion after inside extended applied no_items named_so_far listed_so_far piece_so_far parameter_so_far index_of between is_void is_nil parameters encoding_of qualified_by listed_value discriminator_of function_of with_item reference_to signature_or operator_or_literal meaning last_token number_tested opening behind close production_at byte_of cpp first_around first_state first_tree unfold_cpp same_bytes look_up builtin_texts operator_texts abbreviation_texts special_texts literal_endings indexed argument collapsed head_with head_closed head is_reference is_funarr packs_of is_none_of is_empty text_part list_part qualifier_text ref_text blank_last begins_with source_text piece_parts prefix_item within_parts last_piece opening_text instance_parts marked_parts reference_parts qualified_left expansion_parts sign_part is_plain_integer builtin_code integer_parts member_parts array_left left_parts low_parts function_right closing_right qualified_right right_parts base_within base_parts types_of encoding_text function_bare function_full thunk_text full_parts bare_parts root_parts first_parts more_parts at_index is_below comma_before expand_rest expand_parts parts_in not_empty parts or_none pack_count weight scope_weight weight_in rank_in rank front_digits is_length_form number_at are_name_bytes is_own name_at seen_tree shape_of see read_kind read_symbol read_all same_refusal same_seen are_right
 right_0 = refl
 
 abbrev rows_1 : List Row
 rows_1 =
+    prints "_ZN1AIcE1fIiEEvT_" "void A<char>::f<int>(int)" 45 ∷
     refers_badly "_ZN1AIiE1fET_" 11 ∷
     refers_badly "_Z1fIT_Evv" 5 ∷
     refers_badly "_Z1fIiEvT_N1AUlS0_E_E" 15 ∷
@@ -107,15 +108,15 @@ rows_1 =
     prints "_Z1fM1AKDoFviE" "f(void (A::*)(int) const noexcept)" 49 ∷
     has_no_shape "_Z1fDv_f" ∷
     has_no_shape "_Z1fDov" ∷
-    refers_badly "_Z1fS_Cd" 4 ∷
     []
 
 right_1 : are_right rows_1 ≡ true
-unfolding digits printed_to printed in_ranges among is_in pick number_of_kind alternatives choose parts_of is_chain may_be_empty kinds productions number_of padded rule_of tree_of piece_of is_listed qualifiers_of ref_of letter_of is_there mark_of text_of signed_of adjustment_of normal is_zero signed_digits local_number part count element arguments_of before_arguments is_structor has_return_type is_open first_of length_if_pack pack_length appended is_function_type with_type with_unqualified with_prefix with_packs packs_in substituted parameter_named in_name in_types in_signature under_expansion after inside extended prefix_tree prefix_listed applied no_items named_so_far listed_so_far piece_so_far parameter_so_far index_of between is_void is_nil parameters encoding_of qualified_by listed_value discriminator_of function_of with_item reference_to signature_or operator_or_literal meaning last_token number_tested opening behind close production_at byte_of cpp first_around first_state first_tree unfold_cpp same_bytes look_up builtin_texts operator_texts abbreviation_texts special_texts literal_endings indexed argument collapsed head_with head_closed head is_reference is_funarr packs_of is_none_of is_empty text_part list_part qualifier_text ref_text blank_last begins_with source_text piece_parts prefix_item within_parts last_piece opening_text instance_parts marked_parts reference_parts qualified_left expansion_parts sign_part is_plain_integer builtin_code integer_parts member_parts array_left left_parts low_parts function_right closing_right qualified_right right_parts base_within base_parts types_of encoding_text function_bare function_full thunk_text full_parts bare_parts root_parts first_parts more_parts at_index is_below comma_before expand_rest expand_parts parts_in not_empty parts or_none pack_count weight scope_weight weight_in rank_in rank front_digits is_length_form number_at are_name_bytes is_own name_at seen_tree shape_of see read_kind read_symbol read_all same_refusal same_seen are_right
+unfolding digits printed_to printed in_ranges among is_in pick number_of_kind alternatives choose parts_of is_chain may_be_empty kinds productions number_of padded rule_of prefix_tree prefix_listed tree_of piece_of is_listed qualifiers_of ref_of letter_of is_there mark_of text_of signed_of adjustment_of normal is_zero signed_digits local_number part count element arguments_of before_arguments is_structor has_return_type is_open first_of length_if_pack pack_length appended is_function_type with_type with_unqualified with_prefix with_packs packs_in substituted parameter_named in_name in_types in_signature under_expansion after inside extended applied no_items named_so_far listed_so_far piece_so_far parameter_so_far index_of between is_void is_nil parameters encoding_of qualified_by listed_value discriminator_of function_of with_item reference_to signature_or operator_or_literal meaning last_token number_tested opening behind close production_at byte_of cpp first_around first_state first_tree unfold_cpp same_bytes look_up builtin_texts operator_texts abbreviation_texts special_texts literal_endings indexed argument collapsed head_with head_closed head is_reference is_funarr packs_of is_none_of is_empty text_part list_part qualifier_text ref_text blank_last begins_with source_text piece_parts prefix_item within_parts last_piece opening_text instance_parts marked_parts reference_parts qualified_left expansion_parts sign_part is_plain_integer builtin_code integer_parts member_parts array_left left_parts low_parts function_right closing_right qualified_right right_parts base_within base_parts types_of encoding_text function_bare function_full thunk_text full_parts bare_parts root_parts first_parts more_parts at_index is_below comma_before expand_rest expand_parts parts_in not_empty parts or_none pack_count weight scope_weight weight_in rank_in rank front_digits is_length_form number_at are_name_bytes is_own name_at seen_tree shape_of see read_kind read_symbol read_all same_refusal same_seen are_right
 right_1 = refl
 
 abbrev rows_2 : List Row
 rows_2 =
+    refers_badly "_Z1fS_Cd" 4 ∷
     prints "_Z1fDv04_fDv4_f" "f(float __vector(4), float __vector(4))" 52 ∷
     prints "_Z1fPDoFvvEPFvvE" "f(void (*)() noexcept, void (*)())" 51 ∷
     prints "_ZZ1fvENSt3fooEv" "std::foo()" 15 ∷
@@ -155,15 +156,15 @@ rows_2 =
     refers_badly "_Z1fIiEvZ1gIcEvT_E1xS1_" 20 ∷
     refers_badly "_ZZ1gIiEvT_E1xS0_" 14 ∷
     prints "_Z1fIJicEJbEEvDpSt4pairIT_DpT0_E" "void f<int, char, bool>(std::pair<int, bool>, std::pair<char, bool>)" 128 ∷
-    refers_badly "_Z1fIJicEEvDp1AIT_ES2_" 19 ∷
     []
 
 right_2 : are_right rows_2 ≡ true
-unfolding digits printed_to printed in_ranges among is_in pick number_of_kind alternatives choose parts_of is_chain may_be_empty kinds productions number_of padded rule_of tree_of piece_of is_listed qualifiers_of ref_of letter_of is_there mark_of text_of signed_of adjustment_of normal is_zero signed_digits local_number part count element arguments_of before_arguments is_structor has_return_type is_open first_of length_if_pack pack_length appended is_function_type with_type with_unqualified with_prefix with_packs packs_in substituted parameter_named in_name in_types in_signature under_expansion after inside extended prefix_tree prefix_listed applied no_items named_so_far listed_so_far piece_so_far parameter_so_far index_of between is_void is_nil parameters encoding_of qualified_by listed_value discriminator_of function_of with_item reference_to signature_or operator_or_literal meaning last_token number_tested opening behind close production_at byte_of cpp first_around first_state first_tree unfold_cpp same_bytes look_up builtin_texts operator_texts abbreviation_texts special_texts literal_endings indexed argument collapsed head_with head_closed head is_reference is_funarr packs_of is_none_of is_empty text_part list_part qualifier_text ref_text blank_last begins_with source_text piece_parts prefix_item within_parts last_piece opening_text instance_parts marked_parts reference_parts qualified_left expansion_parts sign_part is_plain_integer builtin_code integer_parts member_parts array_left left_parts low_parts function_right closing_right qualified_right right_parts base_within base_parts types_of encoding_text function_bare function_full thunk_text full_parts bare_parts root_parts first_parts more_parts at_index is_below comma_before expand_rest expand_parts parts_in not_empty parts or_none pack_count weight scope_weight weight_in rank_in rank front_digits is_length_form number_at are_name_bytes is_own name_at seen_tree shape_of see read_kind read_symbol read_all same_refusal same_seen are_right
+unfolding digits printed_to printed in_ranges among is_in pick number_of_kind alternatives choose parts_of is_chain may_be_empty kinds productions number_of padded rule_of prefix_tree prefix_listed tree_of piece_of is_listed qualifiers_of ref_of letter_of is_there mark_of text_of signed_of adjustment_of normal is_zero signed_digits local_number part count element arguments_of before_arguments is_structor has_return_type is_open first_of length_if_pack pack_length appended is_function_type with_type with_unqualified with_prefix with_packs packs_in substituted parameter_named in_name in_types in_signature under_expansion after inside extended applied no_items named_so_far listed_so_far piece_so_far parameter_so_far index_of between is_void is_nil parameters encoding_of qualified_by listed_value discriminator_of function_of with_item reference_to signature_or operator_or_literal meaning last_token number_tested opening behind close production_at byte_of cpp first_around first_state first_tree unfold_cpp same_bytes look_up builtin_texts operator_texts abbreviation_texts special_texts literal_endings indexed argument collapsed head_with head_closed head is_reference is_funarr packs_of is_none_of is_empty text_part list_part qualifier_text ref_text blank_last begins_with source_text piece_parts prefix_item within_parts last_piece opening_text instance_parts marked_parts reference_parts qualified_left expansion_parts sign_part is_plain_integer builtin_code integer_parts member_parts array_left left_parts low_parts function_right closing_right qualified_right right_parts base_within base_parts types_of encoding_text function_bare function_full thunk_text full_parts bare_parts root_parts first_parts more_parts at_index is_below comma_before expand_rest expand_parts parts_in not_empty parts or_none pack_count weight scope_weight weight_in rank_in rank front_digits is_length_form number_at are_name_bytes is_own name_at seen_tree shape_of see read_kind read_symbol read_all same_refusal same_seen are_right
 right_2 = refl
 
 abbrev rows_3 : List Row
 rows_3 =
+    refers_badly "_Z1fIJicEEvDp1AIT_ES2_" 19 ∷
     counts_badly "_ZN1AUlS9_E99999999999999999999_E" 5 ∷
     prints "_Z1fILPi5EEvS0_" "void f<(int*)5>(int*)" 39 ∷
     prints "_Z1fN1AIiE1BES0_" "f(A<int>::B, A<int>)" 39 ∷
@@ -203,15 +204,15 @@ rows_3 =
     prints "_ZZ1fvENSt1A1BE" "std::A::B" 16 ∷
     prints "_Z1fIiEvZ1gvEN1AIT_E1BE" "void f<int>(g()::A<int>::B)" 51 ∷
     refers_badly "_Z1fIiEvZ1gvE1AS1_" 15 ∷
-    prints "_Z1fI1AEvN1BIT_E1CEMS3_FvvE" "void f<A>(B<A>::C, void (B<A>::*)())" 70 ∷
     []
 
 right_3 : are_right rows_3 ≡ true
-unfolding digits printed_to printed in_ranges among is_in pick number_of_kind alternatives choose parts_of is_chain may_be_empty kinds productions number_of padded rule_of tree_of piece_of is_listed qualifiers_of ref_of letter_of is_there mark_of text_of signed_of adjustment_of normal is_zero signed_digits local_number part count element arguments_of before_arguments is_structor has_return_type is_open first_of length_if_pack pack_length appended is_function_type with_type with_unqualified with_prefix with_packs packs_in substituted parameter_named in_name in_types in_signature under_expansion after inside extended prefix_tree prefix_listed applied no_items named_so_far listed_so_far piece_so_far parameter_so_far index_of between is_void is_nil parameters encoding_of qualified_by listed_value discriminator_of function_of with_item reference_to signature_or operator_or_literal meaning last_token number_tested opening behind close production_at byte_of cpp first_around first_state first_tree unfold_cpp same_bytes look_up builtin_texts operator_texts abbreviation_texts special_texts literal_endings indexed argument collapsed head_with head_closed head is_reference is_funarr packs_of is_none_of is_empty text_part list_part qualifier_text ref_text blank_last begins_with source_text piece_parts prefix_item within_parts last_piece opening_text instance_parts marked_parts reference_parts qualified_left expansion_parts sign_part is_plain_integer builtin_code integer_parts member_parts array_left left_parts low_parts function_right closing_right qualified_right right_parts base_within base_parts types_of encoding_text function_bare function_full thunk_text full_parts bare_parts root_parts first_parts more_parts at_index is_below comma_before expand_rest expand_parts parts_in not_empty parts or_none pack_count weight scope_weight weight_in rank_in rank front_digits is_length_form number_at are_name_bytes is_own name_at seen_tree shape_of see read_kind read_symbol read_all same_refusal same_seen are_right
+unfolding digits printed_to printed in_ranges among is_in pick number_of_kind alternatives choose parts_of is_chain may_be_empty kinds productions number_of padded rule_of prefix_tree prefix_listed tree_of piece_of is_listed qualifiers_of ref_of letter_of is_there mark_of text_of signed_of adjustment_of normal is_zero signed_digits local_number part count element arguments_of before_arguments is_structor has_return_type is_open first_of length_if_pack pack_length appended is_function_type with_type with_unqualified with_prefix with_packs packs_in substituted parameter_named in_name in_types in_signature under_expansion after inside extended applied no_items named_so_far listed_so_far piece_so_far parameter_so_far index_of between is_void is_nil parameters encoding_of qualified_by listed_value discriminator_of function_of with_item reference_to signature_or operator_or_literal meaning last_token number_tested opening behind close production_at byte_of cpp first_around first_state first_tree unfold_cpp same_bytes look_up builtin_texts operator_texts abbreviation_texts special_texts literal_endings indexed argument collapsed head_with head_closed head is_reference is_funarr packs_of is_none_of is_empty text_part list_part qualifier_text ref_text blank_last begins_with source_text piece_parts prefix_item within_parts last_piece opening_text instance_parts marked_parts reference_parts qualified_left expansion_parts sign_part is_plain_integer builtin_code integer_parts member_parts array_left left_parts low_parts function_right closing_right qualified_right right_parts base_within base_parts types_of encoding_text function_bare function_full thunk_text full_parts bare_parts root_parts first_parts more_parts at_index is_below comma_before expand_rest expand_parts parts_in not_empty parts or_none pack_count weight scope_weight weight_in rank_in rank front_digits is_length_form number_at are_name_bytes is_own name_at seen_tree shape_of see read_kind read_symbol read_all same_refusal same_seen are_right
 right_3 = refl
 
 abbrev rows_4 : List Row
 rows_4 =
+    prints "_Z1fI1AEvN1BIT_E1CEMS3_FvvE" "void f<A>(B<A>::C, void (B<A>::*)())" 70 ∷
     prints "_Z1fIJicEEvDpZ1gvE1AIT_E" "void f<int, char>(g()::A<int>, g()::A<char>)" 88 ∷
     prints "_Z1fIJicEJbsEEvSt1tIJDpSt1uIJDpT_T0_EEEE" "void f<int, char, bool, short>(std::t<std::u<int, char, bool>, std::u<int, char, short>>)" 176 ∷
     prints "_Z1fILi00EEvv" "void f<0>()" 20 ∷
@@ -251,15 +252,15 @@ rows_4 =
     prints "_ZTSA3_i" "typeinfo name for int [3]" 31 ∷
     has_no_shape "_ZTTN1AIiEE" ∷
     prints "_ZTv0_n8_N1A1fEv" "virtual thunk to A::f()" 29 ∷
-    prints "_Z1fz" "f(...)" 12 ∷
     []
 
 right_4 : are_right rows_4 ≡ true
-unfolding digits printed_to printed in_ranges among is_in pick number_of_kind alternatives choose parts_of is_chain may_be_empty kinds productions number_of padded rule_of tree_of piece_of is_listed qualifiers_of ref_of letter_of is_there mark_of text_of signed_of adjustment_of normal is_zero signed_digits local_number part count element arguments_of before_arguments is_structor has_return_type is_open first_of length_if_pack pack_length appended is_function_type with_type with_unqualified with_prefix with_packs packs_in substituted parameter_named in_name in_types in_signature under_expansion after inside extended prefix_tree prefix_listed applied no_items named_so_far listed_so_far piece_so_far parameter_so_far index_of between is_void is_nil parameters encoding_of qualified_by listed_value discriminator_of function_of with_item reference_to signature_or operator_or_literal meaning last_token number_tested opening behind close production_at byte_of cpp first_around first_state first_tree unfold_cpp same_bytes look_up builtin_texts operator_texts abbreviation_texts special_texts literal_endings indexed argument collapsed head_with head_closed head is_reference is_funarr packs_of is_none_of is_empty text_part list_part qualifier_text ref_text blank_last begins_with source_text piece_parts prefix_item within_parts last_piece opening_text instance_parts marked_parts reference_parts qualified_left expansion_parts sign_part is_plain_integer builtin_code integer_parts member_parts array_left left_parts low_parts function_right closing_right qualified_right right_parts base_within base_parts types_of encoding_text function_bare function_full thunk_text full_parts bare_parts root_parts first_parts more_parts at_index is_below comma_before expand_rest expand_parts parts_in not_empty parts or_none pack_count weight scope_weight weight_in rank_in rank front_digits is_length_form number_at are_name_bytes is_own name_at seen_tree shape_of see read_kind read_symbol read_all same_refusal same_seen are_right
+unfolding digits printed_to printed in_ranges among is_in pick number_of_kind alternatives choose parts_of is_chain may_be_empty kinds productions number_of padded rule_of prefix_tree prefix_listed tree_of piece_of is_listed qualifiers_of ref_of letter_of is_there mark_of text_of signed_of adjustment_of normal is_zero signed_digits local_number part count element arguments_of before_arguments is_structor has_return_type is_open first_of length_if_pack pack_length appended is_function_type with_type with_unqualified with_prefix with_packs packs_in substituted parameter_named in_name in_types in_signature under_expansion after inside extended applied no_items named_so_far listed_so_far piece_so_far parameter_so_far index_of between is_void is_nil parameters encoding_of qualified_by listed_value discriminator_of function_of with_item reference_to signature_or operator_or_literal meaning last_token number_tested opening behind close production_at byte_of cpp first_around first_state first_tree unfold_cpp same_bytes look_up builtin_texts operator_texts abbreviation_texts special_texts literal_endings indexed argument collapsed head_with head_closed head is_reference is_funarr packs_of is_none_of is_empty text_part list_part qualifier_text ref_text blank_last begins_with source_text piece_parts prefix_item within_parts last_piece opening_text instance_parts marked_parts reference_parts qualified_left expansion_parts sign_part is_plain_integer builtin_code integer_parts member_parts array_left left_parts low_parts function_right closing_right qualified_right right_parts base_within base_parts types_of encoding_text function_bare function_full thunk_text full_parts bare_parts root_parts first_parts more_parts at_index is_below comma_before expand_rest expand_parts parts_in not_empty parts or_none pack_count weight scope_weight weight_in rank_in rank front_digits is_length_form number_at are_name_bytes is_own name_at seen_tree shape_of see read_kind read_symbol read_all same_refusal same_seen are_right
 right_4 = refl
 
 abbrev rows_5 : List Row
 rows_5 =
+    prints "_Z1fz" "f(...)" 12 ∷
     prints "_Z1fiz" "f(int, ...)" 20 ∷
     prints "_Z1fvi" "f(void, int)" 21 ∷
     prints "_Z1fiv" "f(int, void)" 21 ∷
@@ -289,5 +290,5 @@ rows_5 =
     []
 
 right_5 : are_right rows_5 ≡ true
-unfolding digits printed_to printed in_ranges among is_in pick number_of_kind alternatives choose parts_of is_chain may_be_empty kinds productions number_of padded rule_of tree_of piece_of is_listed qualifiers_of ref_of letter_of is_there mark_of text_of signed_of adjustment_of normal is_zero signed_digits local_number part count element arguments_of before_arguments is_structor has_return_type is_open first_of length_if_pack pack_length appended is_function_type with_type with_unqualified with_prefix with_packs packs_in substituted parameter_named in_name in_types in_signature under_expansion after inside extended prefix_tree prefix_listed applied no_items named_so_far listed_so_far piece_so_far parameter_so_far index_of between is_void is_nil parameters encoding_of qualified_by listed_value discriminator_of function_of with_item reference_to signature_or operator_or_literal meaning last_token number_tested opening behind close production_at byte_of cpp first_around first_state first_tree unfold_cpp same_bytes look_up builtin_texts operator_texts abbreviation_texts special_texts literal_endings indexed argument collapsed head_with head_closed head is_reference is_funarr packs_of is_none_of is_empty text_part list_part qualifier_text ref_text blank_last begins_with source_text piece_parts prefix_item within_parts last_piece opening_text instance_parts marked_parts reference_parts qualified_left expansion_parts sign_part is_plain_integer builtin_code integer_parts member_parts array_left left_parts low_parts function_right closing_right qualified_right right_parts base_within base_parts types_of encoding_text function_bare function_full thunk_text full_parts bare_parts root_parts first_parts more_parts at_index is_below comma_before expand_rest expand_parts parts_in not_empty parts or_none pack_count weight scope_weight weight_in rank_in rank front_digits is_length_form number_at are_name_bytes is_own name_at seen_tree shape_of see read_kind read_symbol read_all same_refusal same_seen are_right
+unfolding digits printed_to printed in_ranges among is_in pick number_of_kind alternatives choose parts_of is_chain may_be_empty kinds productions number_of padded rule_of prefix_tree prefix_listed tree_of piece_of is_listed qualifiers_of ref_of letter_of is_there mark_of text_of signed_of adjustment_of normal is_zero signed_digits local_number part count element arguments_of before_arguments is_structor has_return_type is_open first_of length_if_pack pack_length appended is_function_type with_type with_unqualified with_prefix with_packs packs_in substituted parameter_named in_name in_types in_signature under_expansion after inside extended applied no_items named_so_far listed_so_far piece_so_far parameter_so_far index_of between is_void is_nil parameters encoding_of qualified_by listed_value discriminator_of function_of with_item reference_to signature_or operator_or_literal meaning last_token number_tested opening behind close production_at byte_of cpp first_around first_state first_tree unfold_cpp same_bytes look_up builtin_texts operator_texts abbreviation_texts special_texts literal_endings indexed argument collapsed head_with head_closed head is_reference is_funarr packs_of is_none_of is_empty text_part list_part qualifier_text ref_text blank_last begins_with source_text piece_parts prefix_item within_parts last_piece opening_text instance_parts marked_parts reference_parts qualified_left expansion_parts sign_part is_plain_integer builtin_code integer_parts member_parts array_left left_parts low_parts function_right closing_right qualified_right right_parts base_within base_parts types_of encoding_text function_bare function_full thunk_text full_parts bare_parts root_parts first_parts more_parts at_index is_below comma_before expand_rest expand_parts parts_in not_empty parts or_none pack_count weight scope_weight weight_in rank_in rank front_digits is_length_form number_at are_name_bytes is_own name_at seen_tree shape_of see read_kind read_symbol read_all same_refusal same_seen are_right
 right_5 = refl

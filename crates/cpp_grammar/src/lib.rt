@@ -1,10 +1,10 @@
-// The C++ symbols of the Itanium ABI.
+//! The C++ symbols of the Itanium ABI 5.1: their grammar as a table, what each shape stands for, and how that is shown.
 #![tactic(auto)]
 
 mod abi;
 mod kind;
 mod laws;
-mod production;
+pub mod production;
 mod table;
 
 pub use abi::Abi;
