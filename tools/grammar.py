@@ -1,6 +1,6 @@
 #!/usr/bin/env python3
 """The C++ grammar as a table. `grammar.py laws` checks its laws; `grammar.py write FOLDER` writes the files of
-crate itanium that hold the table (FOLDER is the crate's); `grammar.py markdown` prints it as a table to read."""
+crate cpp_grammar that hold the table (FOLDER is the crate's); `grammar.py markdown` prints it as a table to read."""
 import sys
 LET = "abcdefghijklmnopqrstuvwxyzABCDEFGHIJKLMNOPQRSTUVWXYZ"
 DIG = "0123456789"
@@ -257,7 +257,7 @@ def antt_symbol(s):
 
 def rust_kinds():
     out = ["// The kinds of the grammar (ABI 5.1).", "ghost use Rattle.std.specs.Prelude.{◌≡◌, slice_get};",
-           "ghost use Rattle.itanium.specs.Grammar.{kinds};", "ghost use Rattle.itanium.specs.Grammar as grammar;", "",
+           "ghost use Rattle.cpp_grammar.specs.Grammar.{kinds};", "ghost use Rattle.cpp_grammar.specs.Grammar as grammar;", "",
            "/// The kinds of the grammar: what is read as one of them is chosen by its first byte.",
            "#[derive(Clone, Copy)]", "pub enum Kind {"]
     out += [f"    {k}," for k in K] + ["}", ""]
@@ -273,7 +273,7 @@ def rust_kinds():
 
 def rust_productions():
     out = ["// The productions of the grammar (ABI 5.1), and their rules.", "ghost use Rattle.std.specs.Prelude.{◌≡◌, true, false};",
-           "ghost use Rattle.itanium.specs.Table as table;", "", "use sym_core::NumberKind;", "use sym_shape::{Rule, Sym};", "",
+           "ghost use Rattle.cpp_grammar.specs.Table as table;", "", "use sym_core::NumberKind;", "use sym_shape::{Rule, Sym};", "",
            "/// The productions of the grammar. A production has one meaning, and one rule, in whatever kind it stands.",
            "#[derive(Clone, Copy)]", "pub enum Production {"]
     out += [f"    {p}," for p in P] + ["}", ""]
@@ -303,7 +303,7 @@ def rust_table():
     U = "crate::specs::Grammar::"
     out = ["// What begins each kind: the production that is taken at a byte.",
            f"#![tactic(auto, unfolding({U}choose, {U}alternatives, {U}pick, {U}is_in, {U}among, {U}in_ranges))]", "",
-           "ghost use Rattle.std.specs.Prelude.{◌≡◌};", "ghost use Rattle.itanium.specs.Grammar.{choose};", "",
+           "ghost use Rattle.std.specs.Prelude.{◌≡◌};", "ghost use Rattle.cpp_grammar.specs.Grammar.{choose};", "",
            "use crate::kind::Kind;", "use crate::production::Production;", ""]
     for k, (e, rules) in K.items():
         out.append(f"fn begin_{snake(k)}(byte: u8) -> Option<Production>\n    ensures {{ result ≡ choose Kind.{k} byte }}\n{{\n    match byte {{")
@@ -322,8 +322,8 @@ use Prim.Native.String.{String}
 use Rattle.sym_core.specs.declared.NumberKind.TheVariants.{Decimal, Seq36, Digits}
 use Rattle.sym_shape.specs.declared.rule.Sym.{Sym}
 use Rattle.sym_shape.specs.declared.rule.Sym.TheVariants.{Kind as OfKind, Name, Number, Byte}
-use Rattle.itanium.specs.declared.kind.Kind.{Kind}
-use Rattle.itanium.specs.declared.production.Production.{Production}
+use Rattle.cpp_grammar.specs.declared.kind.Kind.{Kind}
+use Rattle.cpp_grammar.specs.declared.production.Production.{Production}
 
 -- a production, and the bytes at which it is taken: ranges, and single bytes
 pub record Alternative : Type 0 where
@@ -383,7 +383,7 @@ def antt_grammar():
 
 def antt_follow(after, depth, height):
     out = ["-- What may come after each kind, and how its trees are bounded: what the laws of a grammar ask for.",
-           "use Rattle.std.specs.Prelude.{ℕ, List, codes}", "use Rattle.itanium.specs.declared.kind.Kind.{Kind}", "",
+           "use Rattle.std.specs.Prelude.{ℕ, List, codes}", "use Rattle.cpp_grammar.specs.declared.kind.Kind.{Kind}", "",
            "-- the bytes that may come after a kind, as ranges", "unfoldable pub after_ranges : Kind → List ℕ"]
     groups = {}
     for k in K: out.append(f'after_ranges Kind.{k} = codes "{merged(after[k])}"')
@@ -396,9 +396,9 @@ def antt_follow(after, depth, height):
 BEFORE_HEAD = '''-- The grammar before vector types, noexcept function types and complex types were added.
 use Rattle.std.specs.Prelude.{ℕ, List, [], ◌∷◌, Option, codes}
 use Prim.Native.String.{String}
-use Rattle.itanium.specs.declared.kind.Kind.{Kind}
-use Rattle.itanium.specs.declared.production.Production.{Production}
-use Rattle.itanium.specs.Grammar.{Alternative, alternatives, pick}
+use Rattle.cpp_grammar.specs.declared.kind.Kind.{Kind}
+use Rattle.cpp_grammar.specs.declared.production.Production.{Production}
+use Rattle.cpp_grammar.specs.Grammar.{Alternative, alternatives, pick}
 
 abbrev on : String → Production → Alternative
 on singles production = record { ranges = []; singles = codes singles; production = production }

@@ -1,5 +1,5 @@
 #!/usr/bin/env python3
-"""Writes the rows of crate itanium that compute its definitions at single symbols.
+"""Writes the rows of crate cpp_grammar that compute its definitions at single symbols.
 usage: rows.py REFERENCE GENERATOR FOLDER
 REFERENCE is a Python module with demangle(symbol, limit, brief) that answers (answer, at, text, cost); GENERATOR is one with
 symbols(seed, count, lang, mode, size=, wild=). FOLDER is the crate's. The listed symbols stand in cpp_symbols.txt."""
@@ -12,7 +12,8 @@ HERE = os.path.dirname(os.path.abspath(__file__))
 WORDS = ("prints", "briefly", "refers_badly", "counts_badly", "has_no_shape")
 
 def quoted(text):
-    return '"' + text.decode("ascii").replace("\\", "\\\\").replace('"', '\\"') + '"'
+    """each byte as the character with its number, as `codes` reads them"""
+    return '"' + text.decode("latin-1").replace("\\", "\\\\").replace('"', '\\"') + '"'
 
 def row(reference, symbol, brief=False):
     """the row of a symbol, or None where its text is too long to be written down"""
@@ -25,7 +26,7 @@ def row(reference, symbol, brief=False):
     return None
 
 def is_plain(symbol):
-    return all(33 <= b < 127 for b in symbol)
+    return all(33 <= b < 127 or 161 <= b and b != 173 for b in symbol)
 
 def generated(reference, generator, modes):
     out, seen = [], set()
@@ -53,8 +54,8 @@ def names_in(folder):
 def write(folder, name, title, groups):
     names = names_in(folder)
     out = [f"-- {title}", "use Rattle.std.specs.Prelude.{◌≡◌, refl, true, List, [], ◌∷◌}", "use Rattle.std.specs.Fmt.{digits}", "use Rattle.sym_print.specs.Unfold.{printed_to, printed}",
-           "use Rattle.itanium.proofs.Row.{" + ", ".join(["Row"] + [w for w in WORDS if any(r.startswith(w + " ") for rows in groups for r in rows)]) + "}"]
-    out += [f"use Rattle.itanium.{module}.{{{', '.join(ns)}}}" for module, ns in names.items() if ns]
+           "use Rattle.cpp_grammar.proofs.Row.{" + ", ".join(["Row"] + [w for w in WORDS if any(r.startswith(w + " ") for rows in groups for r in rows)]) + "}"]
+    out += [f"use Rattle.cpp_grammar.{module}.{{{', '.join(ns)}}}" for module, ns in names.items() if ns]
     unfolding = "unfolding digits printed_to printed " + " ".join(n for ns in names.values() for n in ns)
     for k, rows in enumerate(groups):
         out += ["", f"rows_{k} : List Row", f"rows_{k} =", *[f"    {r} ∷" for r in rows], "    []", "", f"right_{k} : are_right rows_{k} ≡ true", unfolding, f"right_{k} = refl"]

@@ -2,7 +2,7 @@
 //! its first bad byte.
 #![tactic(auto)]
 
-use itanium::Abi;
+use cpp_grammar::Abi;
 use std::alloc::Global;
 use std::io::{self, Read};
 use sym_core::{Refusal, fits};

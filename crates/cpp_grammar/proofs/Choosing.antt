@@ -1,0 +1,79 @@
+-- The rule that the table has is that of the production that a kind takes.
+use Rattle.std.proofs.Common.{◌≡◌, ◌≢◌, ℕ, ◌<◌, ◌≤◌, List, [], ◌∷◌, ◌++◌, length, map, get_or, slice_get, cond, ◌&&◌, ◌||◌, leb, nat_eq, nat_le, Some, None, inl, inr, refl, ap, sym, ◌∙◌, arith}
+use Rattle.std.specs.Option.{option_map}
+use Rattle.std.proofs.lemmas.List.{take_all}
+use Rattle.std.proofs.lemmas.List.Folds.{list_any-append}
+use Rattle.std.proofs.lemmas.Option.{slice_get-map, get_or_from_slice_get, slice_get_cases}
+use Rattle.std.proofs.lemmas.Bool.{le-leb, lt-leb, cases_Bool, cases_order}
+use Rattle.std.proofs.lemmas.Bool.Decides.{leb_tells, eqb_tells}
+use Rattle.sym_shape.specs.Sheet.{range, in_range, classes_of, choice_at}
+use Rattle.sym_shape.specs.Sheet as sheets
+use Rattle.cpp_grammar.specs.declared.kind.Kind.{Kind}
+use Rattle.cpp_grammar.specs.Grammar.{Alternative, in_ranges, among, is_in, pick, alternatives, choose, kinds, may_be_empty}
+use Rattle.cpp_grammar.specs.Table.{rule_of, rule_taken, ranges_of, class_of, choice_of, sheet_with, blank, sheet, abi}
+
+is_above : (c byte : ℕ) → c ≤ byte → byte ≢ c → c < byte
+is_above c byte le other = elim (cases_order byte c) [ inl same ↦ absurd (other same) | inr apart ↦ elim apart [ inl below ↦ absurd (omega (arith, le, below)) | inr above ↦ above ] ]
+
+is_single : (c byte : ℕ) → in_range (range c c) byte ≡ nat_eq byte c
+is_single c byte = elim (eqb_tells byte c) [
+  | inl same ↦ ap (λ b. b && leb byte c) (le-leb c byte (omega (arith, same.1))) ∙ le-leb byte c (omega (arith, same.1)) ∙ sym same.0
+  | inr other ↦ elim (leb_tells c byte) [
+    | inl above ↦ ap (λ b. b && leb byte c) above.0 ∙ lt-leb byte c (is_above c byte above.1 other.1) ∙ sym other.0
+    | inr below ↦ ap (λ b. b && leb byte c) below.0 ∙ sym other.0
+  ]
+]
+
+in_all_ranges : (ranges : List ℕ) (byte : ℕ) → sheets.in_ranges (ranges_of ranges) byte ≡ in_ranges ranges byte
+unfolding ranges_of in_ranges
+in_all_ranges [] byte = refl
+in_all_ranges (low ∷ []) byte = refl
+in_all_ranges (low ∷ dash ∷ []) byte = refl
+in_all_ranges (low ∷ dash ∷ high ∷ rest) byte = ap (λ b. (nat_le low byte && nat_le byte high) || b) (in_all_ranges rest byte)
+
+in_singles : (singles : List ℕ) (byte : ℕ) → sheets.in_ranges (map (λ c. range c c) singles) byte ≡ among singles byte
+unfolding among
+in_singles [] byte = refl
+in_singles (c ∷ cs) byte = ap (λ b. b || sheets.in_ranges (map (λ d. range d d) cs) byte) (is_single c byte) ∙ ap (λ b. nat_eq byte c || b) (in_singles cs byte)
+
+in_class : (a : Alternative) (byte : ℕ) → sheets.in_ranges (classes_of (choice_of a)) byte ≡ is_in a byte
+unfolding choice_of class_of is_in
+in_class a byte =
+    let ranges = ranges_of a.ranges in
+    let singles = map (λ c. range c c) a.singles in
+    ap (λ class. sheets.in_ranges class byte) (take_all (length (ranges ++ singles)) (ranges ++ singles) (omega arith))
+    ∙ list_any-append (λ r. in_range r byte) ranges singles
+    ∙ ap (λ b. b || sheets.in_ranges singles byte) (in_all_ranges a.ranges byte)
+    ∙ ap (λ b. in_ranges a.ranges byte || b) (in_singles a.singles byte)
+
+pub picked : (all : List Alternative) (byte : ℕ) → choice_at (map choice_of all) byte ≡ rule_taken (pick all byte)
+unfolding pick rule_taken choice_of rule_of
+picked [] byte = refl
+picked (a ∷ rest) byte = elim (cases_Bool (is_in a byte)) [
+  | inl here ↦ ap (λ b. cond b (Some (rule_of a.production)) (choice_at (map choice_of rest) byte)) (in_class a byte ∙ here) ∙ sym (ap (λ b. rule_taken (cond b (Some a.production) (pick rest byte))) here)
+  | inr later ↦ ap (λ b. cond b (Some (rule_of a.production)) (choice_at (map choice_of rest) byte)) (in_class a byte ∙ later) ∙ picked rest byte ∙ sym (ap (λ b. rule_taken (cond b (Some a.production) (pick rest byte))) later)
+]
+
+pub sheet_at : (begins : Kind → List Alternative) (k : ℕ) (kind : Kind) → slice_get kinds k ≡ Some kind → get_or (map (sheet_with begins) kinds) k blank ≡ sheet_with begins kind
+sheet_at begins k kind at =
+    get_or_from_slice_get (map (sheet_with begins) kinds) k (sheet_with begins kind) blank
+    (slice_get-map (sheet_with begins) kinds k ∙ ap (option_map (sheet_with begins)) at)
+
+pub rule_at_kind : (k : ℕ) (kind : Kind) (byte : ℕ) → slice_get kinds k ≡ Some kind → abi.rule k byte ≡ rule_taken (choose kind byte)
+unfolding abi sheet sheet_with choose
+rule_at_kind k kind byte at = ap (λ s. choice_at s.choices byte) (sheet_at alternatives k kind at) ∙ picked (alternatives kind) byte
+
+pub empty_at_kind : (k : ℕ) (kind : Kind) → slice_get kinds k ≡ Some kind → abi.may_be_empty k ≡ may_be_empty kind
+unfolding abi sheet sheet_with
+empty_at_kind k kind at = ap (λ s. s.may_be_empty) (sheet_at alternatives k kind at)
+
+kind_count : abi.kinds ≡ length kinds
+unfolding abi sheet kinds
+kind_count = refl
+
+-- each number of the table is that of a kind
+pub is_kind : (k : ℕ) → k < abi.kinds → slice_get kinds k ≡ None → ⊥
+is_kind k lt none = elim (slice_get_cases kinds k).1 [
+  | inl there ↦ (let clash : None ≡ Some there.0 = sym none ∙ there.2 in absurd cc)
+  | inr past ↦ absurd (omega (arith, past.0, lt, kind_count))
+]

@@ -1,0 +1,566 @@
+-- In the tree of a symbol the arguments that are a scope have no free parameters.
+use Rattle.std.proofs.Common.{◌≡◌, refl, ap, sym, ◌∙◌, subst, ℕ, zero, suc, ◌+◌, ◌-◌, ◌<◌, ◌≤◌, List, [], ◌∷◌, ◌++◌, length, Bool, true, false, not, ◌&&◌, ◌||◌, cond, ◌^◌, nat_eq, nat_lt, slice_get, Option, Some, None, Result, Ok, Err, inl, inr, lit≤, arith}
+use Rattle.std.proofs.lemmas.Bool.{true≢false, false≢true, eqb-true, cases_Bool, and_parts}
+use Rattle.std.proofs.lemmas.List.{length-append}
+use Rattle.sym_core.specs.declared.refusal.Refusal.{Refusal}
+use Rattle.sym_core.specs.declared.refusal.Refusal.TheVariants.{BadValue}
+use Rattle.sym_shape.specs.declared.rule.Rule.{Rule}
+use Rattle.sym_shape.specs.declared.rule.Sym.{Sym}
+use Rattle.sym_shape.specs.declared.rule.Sym.TheVariants.{Kind as OfKind, Byte}
+use Rattle.sym_shape.specs.Table.{symbols_of}
+use Rattle.sym_shape.specs.Law.{IsSymbol, AreSymbols}
+use Rattle.sym_shape.specs.Tree.{Tree, Forest, branch, empty, token, fixed, nothing, grown, spell, spell_all, TakesRule, IsTree, AreTrees}
+use Rattle.sym_shape.proofs.Firsts.{branch_filled, taken_eats}
+use Rattle.sym_link.specs.Reading.{Found, Open, Next, ◌>>=◌}
+use Rattle.sym_link.specs.Unfold.{found, alone, standing, unfold_tree, unfold_forest}
+use Rattle.cpp_grammar.specs.declared.kind.Kind.{Kind}
+use Rattle.cpp_grammar.specs.declared.production.Production.{Production}
+use Rattle.cpp_grammar.specs.Grammar.{Alternative, is_in, pick, alternatives, choose, kinds, productions, number_of, number_of_kind, parts_of, is_chain}
+use Rattle.cpp_grammar.specs.Table.{abi, sheet, rule_of, rule_taken, padded}
+use Rattle.cpp_grammar.specs.TableLaws.{lawful}
+use Rattle.cpp_grammar.specs.Term.{Term}
+use Rattle.cpp_grammar.specs.Scope.{is_open}
+use Rattle.cpp_grammar.specs.Closed.{ScopesAreClosed}
+use Rattle.cpp_grammar.specs.Values.{Candidate, State, Around, Value, nothing_there, text, tree_of, part, local_number}
+use Rattle.cpp_grammar.specs.Between.{in_name, in_types, no_items, between}
+use Rattle.cpp_grammar.specs.Meaning.{meaning}
+use Rattle.cpp_grammar.specs.Unfolding as unfolding_
+use Rattle.cpp_grammar.specs.Unfolding.{last_token, number_tested, opening, close, production_at, byte_of, cpp, first_around, first_state, first_tree, unfold_cpp}
+use Rattle.cpp_grammar.proofs.Choosing.{rule_at_kind, is_kind}
+use Rattle.cpp_grammar.proofs.ClosedValues.{Good, AllGood, GoodPrefix, HasClosedName, held, good_tree, good_encoding, good_no_items}
+use Rattle.cpp_grammar.proofs.ClosedStates.{Bare, AllOld, AllNew, Grows, old_later, grows_same, grows_then, old_grows, ok_same, behind_bind, close_good}
+use Rattle.cpp_grammar.proofs.ClosedParts.{Fits, StaysInside, between_goes}
+
+-- ## Productions and their rules
+
+pub at_number : (p : Production) → production_at (rule_of p).number ≡ p
+unfolding production_at productions rule_of number_of
+at_number Production.Mark = refl
+at_number _ = refl
+
+pub its_symbols : (p : Production) → symbols_of (rule_of p) ≡ parts_of p
+unfolding rule_of parts_of padded number_of_kind
+its_symbols Production.Mark = refl
+its_symbols _ = refl
+
+-- the productions that begin an encoding
+unfoldable pub opens : Production → Bool
+opens Production.Encoding = true
+opens Production.Special = true
+opens Production.Guard = true
+opens _ = false
+
+pub stays : (p : Production) → opens p ≡ false → StaysInside p
+unfolding opens
+stays Production.Encoding h = absurd (true≢false h)
+stays Production.Special h = absurd (true≢false h)
+stays Production.Guard h = absurd (true≢false h)
+stays _ h = tt
+
+pub needs_no_name : (p : Production) (vs : List Value) → StaysInside p → HasClosedName p vs
+needs_no_name Production.Encoding vs h = absurd h
+needs_no_name _ vs h = tt
+
+unfoldable pub is_encoding : Sym → Bool
+is_encoding (OfKind k) = nat_eq k 4
+is_encoding _ = false
+
+unfoldable pub has_encoding : List Sym → Bool
+has_encoding [] = false
+has_encoding (x ∷ xs) = is_encoding x || has_encoding xs
+
+-- an encoding stands behind a byte
+behind_a_byte : (p : Production) → is_chain p && has_encoding (parts_of p) ≡ false
+unfolding is_chain parts_of has_encoding is_encoding number_of_kind
+behind_a_byte Production.Mark = refl
+behind_a_byte _ = refl
+
+unfoldable may_open : List Alternative → Bool
+may_open [] = false
+may_open (a ∷ rest) = opens a.production || may_open rest
+
+only_encodings : (kind : Kind) → nat_eq (number_of_kind kind) 4 || not (may_open (alternatives kind)) ≡ true
+unfolding number_of_kind alternatives may_open opens
+only_encodings Kind.Symbol = refl
+only_encodings _ = refl
+
+pub or_true : (x y : Bool) → y ≡ true → x || y ≡ true
+or_true true y k = refl
+or_true false y k = k
+
+picked_opens : (all : List Alternative) (byte : ℕ) (p : Production) → pick all byte ≡ Some p → opens p ≡ true → may_open all ≡ true
+unfolding pick may_open
+picked_opens [] byte p e h = absurd cc
+picked_opens (a ∷ rest) byte p e h = go (is_in a byte) e (λ i. picked_opens rest byte p i h)
+  where
+    go : (b : Bool) → cond b (Some a.production) (pick rest byte) ≡ Some p → (pick rest byte ≡ Some p → may_open rest ≡ true) → opens a.production || may_open rest ≡ true
+    go true i later = let same : a.production ≡ p = cc in ap (λ q. opens q || may_open rest) same ∙ ap (λ b. b || may_open rest) h
+    go false i later = or_true (opens a.production) (may_open rest) (later i)
+
+-- the kinds stand in the order of their numbers
+unfoldable pub numbered_from : ℕ → List Kind → Bool
+numbered_from n [] = true
+numbered_from n (kind ∷ rest) = nat_eq (number_of_kind kind) n && numbered_from (suc n) rest
+
+pub kinds_numbered : numbered_from 0 kinds ≡ true
+unfolding numbered_from kinds number_of_kind
+kinds_numbered = refl
+
+pub number_at : (n : ℕ) (all : List Kind) (k : ℕ) (kind : Kind) → numbered_from n all ≡ true → slice_get all k ≡ Some kind → number_of_kind kind ≡ n + k
+unfolding numbered_from
+number_at n [] k kind all at = absurd cc
+number_at n (first ∷ rest) zero kind all at =
+    let same : first ≡ kind = cc in
+    let both = and_parts (nat_eq (number_of_kind first) n) (numbered_from (suc n) rest) all in
+    omega (arith, ap number_of_kind same, eqb-true (number_of_kind first) n both.0)
+number_at n (first ∷ rest) (suc k) kind all at =
+    let both = and_parts (nat_eq (number_of_kind first) n) (numbered_from (suc n) rest) all in
+    omega (arith, number_at (suc n) rest k kind both.1 at)
+
+opens_in : (kind : Kind) (byte : ℕ) (p : Production) → choose kind byte ≡ Some p → opens p ≡ true → nat_eq (number_of_kind kind) 4 ≡ true
+unfolding choose
+opens_in kind byte p e h = go (nat_eq (number_of_kind kind) 4) (may_open (alternatives kind)) (picked_opens (alternatives kind) byte p e h) (only_encodings kind)
+  where
+    go : (a b : Bool) → b ≡ true → a || not b ≡ true → a ≡ true
+    go true b h k = refl
+    go false true h k = k
+    go false false h k = absurd (false≢true h)
+
+-- what is known of the rule of a tree
+pub record Taken (k : ℕ) (rule : Rule) : Type 0 where
+  pub production : Production
+  pub is : rule ≡ rule_of production
+  pub encoding : opens production ≡ true → nat_eq k 4 ≡ true
+
+pub same_rule : (p : Production) (rule : Rule) → ◌≡◌ {A = Option Rule} (Some (rule_of p)) (Some rule) → rule_of p ≡ rule
+same_rule p rule h = cc
+
+pub taken_rule : (k : ℕ) (rule : Rule) (taken : List ℕ) → k < abi.kinds → TakesRule abi k rule taken → Taken k rule
+unfolding rule_taken
+taken_rule k rule taken lt takes = go (slice_get kinds k) refl
+  where
+    chosen : (kind : Kind) → slice_get kinds k ≡ Some kind → (o : Option Production) → choose kind takes.byte ≡ o → rule_taken o ≡ Some rule → Taken k rule
+    chosen kind at None is h = let clash : ◌≡◌ {A = Option Rule} None (Some rule) = h in absurd cc
+    chosen kind at (Some p) is h = record {
+      production = p;
+      is = sym (same_rule p rule h);
+      encoding = λ o. (
+          let number : k ≡ number_of_kind kind = omega (arith, number_at 0 kinds k kind kinds_numbered at) in
+          ap (λ n. nat_eq n 4) number ∙ opens_in kind takes.byte p is o);
+    }
+
+    go : (o : Option Kind) → slice_get kinds k ≡ o → Taken k rule
+    go None none = absurd (is_kind k lt none)
+    go (Some kind) at = chosen kind at (choose kind takes.byte) refl (sym (rule_at_kind k kind takes.byte at) ∙ takes.found)
+
+-- ## What a part comes to
+
+pub record TreeComes (around : Around) (end : ℕ) (old : State) (r : Found (List Value) State) : Type 0 where
+  pub value : Value
+  pub is : r.value ≡ value ∷ []
+  pub good : Good (Bare around) (held value)
+  pub grows : Grows around end old r.state
+
+pub record ForestComes (around : Around) (end : ℕ) (old : State) (r : Found (List Value) State) : Type 0 where
+  pub good : AllGood (Bare around) r.value
+  pub grows : Grows around end old r.state
+
+tested_keeps : (b : Bool) (place : ℕ) (state new : State) → ◌≡◌ {A = Result State Refusal} (elim b [ true ↦ Ok state | false ↦ Err (BadValue place) ]) (Ok new) → new ≡ state
+tested_keeps true place state new e = sym (ok_same state new e)
+tested_keeps false place state new e = absurd cc
+
+pub opening_keeps : (p : Production) (f : Forest) (place : ℕ) (state new : State) → opening p f place state ≡ Ok new → new ≡ state
+unfolding opening number_tested
+opening_keeps Production.Lambda f place state new e = tested_keeps (nat_lt (local_number (last_token f [])) (2 ^ 64)) (place - 1) state new e
+opening_keeps Production.Unnamed f place state new e = tested_keeps (nat_lt (local_number (last_token f [])) (2 ^ 64)) (place - 1) state new e
+opening_keeps _ f place state new e = sym (ok_same state new e)
+
+pub all_append : (s : Type 0) (vs ws : List Value) → AllGood s vs → AllGood s ws → AllGood s (vs ++ ws)
+all_append s [] ws f g = g
+all_append s (v ∷ vs) ws f g = (f.0, all_append s vs ws f.1 g)
+
+pub good_fits : (around inner : Around) (t : Term) → Fits around inner → Good (Bare inner) t → Good (Bare around) t
+good_fits around inner t fits good = record { closed = λ bare. good.closed (fits.bare bare); scopes = good.scopes }
+
+pub old_fits : (around inner : Around) (at : ℕ) (cs : List Candidate) → Fits around inner → AllOld around at cs → AllOld inner at cs
+old_fits around inner at [] fits all = tt
+old_fits around inner at (c ∷ cs) fits all = (
+  record {
+    scopes = all.0.scopes;
+    closed = λ bare free same. all.0.closed (fits.back bare free).0 (fits.back bare free).1 (same ∙ fits.encoding);
+    place = elim all.0.place [ inl same ↦ inl (same ∙ sym fits.encoding) | inr less ↦ inr less ];
+  },
+  old_fits around inner at cs fits all.1,
+)
+
+pub new_fits : (around inner : Around) (end : ℕ) (cs : List Candidate) → Fits around inner → AllNew inner end cs → AllNew around end cs
+new_fits around inner end [] fits all = tt
+new_fits around inner end (c ∷ cs) fits all = (
+  record {
+    scopes = all.0.scopes;
+    place = elim all.0.place [
+      | inl here ↦ inl (here.0 ∙ fits.encoding, λ bare. here.1 (fits.bare bare))
+      | inr deep ↦ inr (omega (arith, fits.encoding, deep.0), deep.1)
+    ];
+  },
+  new_fits around inner end cs fits all.1,
+)
+
+pub grows_fits : (around inner : Around) (end : ℕ) (old new : State) → Fits around inner → Grows inner end old new → Grows around end old new
+grows_fits around inner end old new fits g = record { more = g.more; is = g.is; each = new_fits around inner end g.more fits g.each }
+
+-- ## Inside an encoding that begins at a place
+
+pub old_inner : (around : Around) (at : ℕ) (cs : List Candidate) → around.encoding < at → AllOld around at cs → AllOld (in_name at) at cs
+unfolding in_name
+old_inner around at [] lt all = tt
+old_inner around at (c ∷ cs) lt all =
+    let less : c.encoding < at = elim all.0.place [ inl same ↦ omega (arith, same, lt) | inr before ↦ before ] in
+    (record { scopes = all.0.scopes; closed = λ bare free same. absurd (omega (arith, same, less)); place = inr less }, old_inner around at cs lt all.1)
+
+pub old_types : (at b : ℕ) (name : Term) (cs : List Candidate) → AllOld (in_name at) b cs → AllOld (in_types at name) b cs
+unfolding in_name in_types
+old_types at b name [] all = tt
+old_types at b name (c ∷ cs) all = (record { scopes = all.0.scopes; closed = λ bare free same. all.0.closed refl refl same; place = all.0.place }, old_types at b name cs all.1)
+
+new_inner : (around inner : Around) (at end : ℕ) (cs : List Candidate) → inner.encoding ≡ at → around.encoding < at → at < end → AllNew inner end cs → AllNew around end cs
+new_inner around inner at end [] is lt more all = tt
+new_inner around inner at end (c ∷ cs) is lt more all = (
+  record {
+    scopes = all.0.scopes;
+    place = inr (elim all.0.place [
+      | inl here ↦ (omega (arith, here.0, is, lt), omega (arith, here.0, is, more))
+      | inr deep ↦ (omega (arith, deep.0, is, lt), deep.1)
+    ]);
+  },
+  new_inner around inner at end cs is lt more all.1,
+)
+
+pub grows_inner : (around inner : Around) (at end : ℕ) (old new : State) → inner.encoding ≡ at → around.encoding < at → at < end → Grows inner end old new → Grows around end old new
+grows_inner around inner at end old new is lt more g = record { more = g.more; is = g.is; each = new_inner around inner at end g.more is lt more g.each }
+
+pub one_good : (s : Type 0) (v : Value) (vs : List Value) → vs ≡ v ∷ [] → Good s (held v) → AllGood s vs
+one_good s v vs is good = subst (λ ws. AllGood s ws) (sym is) (good, tt)
+
+-- ## Trees
+
+abbrev pub TreeGood : Tree → Type 0
+TreeGood t = (x : Sym) (around : Around) (at : ℕ) (state : State) (r : Found (List Value) State) → IsSymbol abi x → IsTree abi x t → around.encoding ≤ at →
+    (is_encoding x ≡ true → around.encoding < at) → GoodPrefix (Bare around) around.prefix → AllOld around at state.candidates → unfold_tree cpp around at t state ≡ Ok r →
+    TreeComes around (at + length (spell t)) state r
+
+abbrev pub AllTreesGood : Forest → Type 0
+AllTreesGood nothing = Unit {0}
+AllTreesGood (grown t f) = TreeGood t × AllTreesGood f
+
+leaf_comes : (around : Around) (end : ℕ) (state : State) (v : Value) (r : Found (List Value) State) → Good (Bare around) (held v) → ◌≡◌ {A = Result (Found (List Value) State) Refusal} (Ok (found (v ∷ []) state)) (Ok r) →
+    TreeComes around end state r
+leaf_comes around end state v r good e =
+    subst (λ x. TreeComes around end state x) (ok_same (found (v ∷ []) state) r e) (record { value = v; is = refl; good = good; grows = grows_same around end state state refl })
+
+pub grows_on : (around : Around) (a b : ℕ) (old new : State) → a ≤ b → Grows around a old new → Grows around b old new
+grows_on around a b old new le g = grows_then around a b old new new le g (grows_same around b new new refl)
+
+pub forest_good : (f : Forest) → AllTreesGood f → (rule : Open State Around) (xs : List Sym) (vs : List Value) (at : ℕ) (state : State) (r : Found (List Value) State) →
+    StaysInside (production_at rule.rule.number) → AreSymbols abi xs → AreTrees abi xs f → rule.context.encoding ≤ at → (has_encoding xs ≡ true → rule.context.encoding < at) →
+    GoodPrefix (Bare rule.context) rule.context.prefix → AllGood (Bare rule.context) vs → AllOld rule.context at state.candidates → unfold_forest cpp rule vs at f state ≡ Ok r →
+    ForestComes rule.context (at + length (spell_all f)) state r
+unfolding cpp has_encoding
+forest_good nothing all rule xs vs at state r stays known trees le inside pre good old e =
+    subst (λ x. ForestComes rule.context (at + length (spell_all nothing)) state x) (ok_same (found vs state) r e)
+    (record { good = good; grows = grows_same rule.context (at + length (spell_all nothing)) state state refl })
+forest_good (grown t f) all rule [] vs at state r stays known trees le inside pre good old e = absurd trees
+forest_good (grown t f) all rule (x ∷ xs) vs at state r stays known trees le inside pre good old e =
+    let around = rule.context in
+    let later = at + length (spell t) in
+    let end = at + length (spell t ++ spell_all f) in
+    let b = behind_bind (between (production_at rule.rule.number) around rule.place vs state)
+    (λ next. unfold_tree cpp next.context at t next.state >>= λ part. unfold_forest cpp rule (next.values ++ part.value) (at + length (spell t)) f part.state) r e in
+    let n = b.value in
+    let g = between_goes (production_at rule.rule.number) around rule.place vs state n at stays pre good b.is in
+    let c = behind_bind (unfold_tree cpp n.context at t n.state) (λ part. unfold_forest cpp rule (n.values ++ part.value) (at + length (spell t)) f part.state) r b.next in
+    let part = c.value in
+    let old1 = old_grows around at at state n.state (omega arith) old g.grows in
+    let tree = all.0 x n.context at n.state part known.0 trees.0 (omega (arith, g.fits.encoding, le)) (λ opening. omega (arith, g.fits.encoding, inside (or_first (is_encoding x) (has_encoding xs) opening)))
+    g.fits.prefix (old_fits around n.context at n.state.candidates g.fits old1) c.is in
+    let grown1 = grows_fits around n.context later n.state part.state g.fits tree.grows in
+    let old2 = old_grows around at later n.state part.state (omega arith) old1 grown1 in
+    let good1 = one_good (Bare around) tree.value part.value tree.is (good_fits around n.context (held tree.value) g.fits tree.good) in
+    let rest = forest_good f all.1 rule xs (n.values ++ part.value) later part.state r stays known.1 trees.1 (omega (arith, le))
+    (λ opening. omega (arith, inside (or_true (is_encoding x) (has_encoding xs) opening))) pre (all_append (Bare around) n.values part.value g.values good1) old2 c.next in
+    record {
+      good = rest.good;
+      grows = grows_then around later end state part.state r.state (omega (arith, length-append (spell t) (spell_all f)))
+          (grows_then around at later state n.state part.state (omega arith) g.grows grown1)
+          (grows_on around (later + length (spell_all f)) end part.state r.state (omega (arith, length-append (spell t) (spell_all f))) rest.grows);
+    }
+  where
+    or_first : (a b : Bool) → a ≡ true → a || b ≡ true
+    or_first a b h = ap (λ c. c || b) h
+
+-- ## Encodings
+
+-- what the parts of an encoding come to
+pub record InnerComes (production : Production) (around : Around) (end : ℕ) (old : State) (r : Found (List Value) State) : Type 0 where
+  pub means : (byte : ℕ) → Good (Bare around) (held (meaning production byte around r.value))
+  pub grows : Grows around end old r.state
+
+kind_count : abi.kinds ≡ 66
+unfolding abi sheet kinds
+kind_count = refl
+
+pub known : (k : ℕ) → suc k ≤ 66 → k < abi.kinds
+known k lt = omega (arith, lt, kind_count)
+
+-- one part of an encoding, in which nothing is named
+pub name_comes : (t : Tree) → TreeGood t → (x : Sym) (at from : ℕ) (state : State) (part : Found (List Value) State) → IsSymbol abi x → IsTree abi x t → is_encoding x ≡ false → at ≤ from → AllOld (in_name at) from state.candidates →
+    unfold_tree cpp (in_name at) from t state ≡ Ok part → TreeComes (in_name at) (from + length (spell t)) state part
+unfolding in_name
+name_comes t good x at from state part known is other le old e =
+    good x (in_name at) from state part known is le (λ opening. absurd (true≢false (sym opening ∙ other))) tt old e
+
+-- a list of values that is known
+pub same_found : (vs ws known : List Value) (state : State) (r : Found (List Value) State) → ws ≡ known → ◌≡◌ {A = Result (Found (List Value) State) Refusal} (Ok (found (vs ++ ws) state)) (Ok r) → found (vs ++ known) state ≡ r
+same_found vs ws known state r is e = ap (λ us. found (vs ++ us) state) (sym is) ∙ ok_same (found (vs ++ ws) state) r e
+
+-- the next part of a rule, where it is known what goes into it
+pub record Stepped (rule : Open State Around) (n : Next Value State Around) (at : ℕ) (t : Tree) (f : Forest) (r : Found (List Value) State) : Type 0 where
+  pub part : Found (List Value) State
+  pub is : unfold_tree cpp n.context at t n.state ≡ Ok part
+  pub rest : unfold_forest cpp rule (n.values ++ part.value) (at + length (spell t)) f part.state ≡ Ok r
+
+pub stepped : (rule : Open State Around) (vs : List Value) (at : ℕ) (state : State) (t : Tree) (f : Forest) (r : Found (List Value) State) (n : Next Value State Around) →
+    between (production_at rule.rule.number) rule.context rule.place vs state ≡ Ok n → unfold_forest cpp rule vs at (grown t f) state ≡ Ok r → Stepped rule n at t f r
+unfolding cpp
+stepped rule vs at state t f r n goes e =
+    let onward : Next Value State Around → Result (Found (List Value) State) Refusal =
+    λ next. unfold_tree cpp next.context at t next.state >>= λ part. unfold_forest cpp rule (next.values ++ part.value) (at + length (spell t)) f part.state in
+    let moved : onward n ≡ Ok r = sym (ap (λ x. x >>= onward) goes) ∙ e in
+    let c = behind_bind (unfold_tree cpp n.context at t n.state) (λ part. unfold_forest cpp rule (n.values ++ part.value) (at + length (spell t)) f part.state) r moved in
+    record { part = c.value; is = c.is; rest = c.next }
+
+-- what goes into a part in which nothing is named
+pub nameless : (at : ℕ) → List Value → State → Next Value State Around
+nameless at vs state = record { context = in_name at; values = vs; state = state }
+
+pub always : (s : Type 0) (at : ℕ) (t : Term) → Good (Bare (in_name at)) t → Good s t
+unfolding in_name
+always s at t good = record { closed = λ h. good.closed refl; scopes = good.scopes }
+
+special_comes : (f : Forest) → AllTreesGood f → (rule : Open State Around) (from : ℕ) (state : State) (r : Found (List Value) State) → production_at rule.rule.number ≡ Production.Special →
+    AreTrees abi (parts_of Production.Special) f → rule.context.encoding < rule.place → rule.place ≤ from → rule.place < from + length (spell_all f) → AllOld rule.context rule.place state.candidates →
+    unfold_forest cpp rule [] from f state ≡ Ok r → InnerComes Production.Special rule.context (from + length (spell_all f)) state r
+unfolding cpp parts_of number_of_kind between meaning held is_encoding nameless part in_name
+special_comes (grown t nothing) all rule from state r is trees lt le more old e =
+    let around = rule.context in
+    let at = rule.place in
+    let s = stepped rule [] from state t nothing r (nameless at [] state) (ap (λ p. between p around at [] state) is) e in
+    let c = name_comes t all.0 (OfKind 5) at from state s.part (known 5 (lit≤ tt)) trees.0 refl le (old_later (in_name at) at from state.candidates le (old_inner around at state.candidates lt old)) s.is in
+    let same : found (c.value ∷ []) s.part.state ≡ r = same_found [] s.part.value (c.value ∷ []) s.part.state r c.is s.rest in
+    let end = from + length (spell t ++ []) in
+    subst (λ x. InnerComes Production.Special around end state x) same
+    (record {
+      means = λ byte. always (Bare around) at (held c.value) c.good;
+      grows = grows_inner around (in_name at) at end state s.part.state refl lt more
+          (grows_on (in_name at) (from + length (spell t)) end state s.part.state (omega (arith, length-append (spell t) [])) c.grows);
+    })
+special_comes nothing all rule from state r is trees lt le more old e = absurd trees
+special_comes (grown t (grown u f)) all rule from state r is trees lt le more old e = absurd trees.1
+
+guard_comes : (f : Forest) → AllTreesGood f → (rule : Open State Around) (from : ℕ) (state : State) (r : Found (List Value) State) → production_at rule.rule.number ≡ Production.Guard →
+    AreTrees abi (parts_of Production.Guard) f → rule.context.encoding < rule.place → rule.place ≤ from → rule.place < from + length (spell_all f) → AllOld rule.context rule.place state.candidates →
+    unfold_forest cpp rule [] from f state ≡ Ok r → InnerComes Production.Guard rule.context (from + length (spell_all f)) state r
+unfolding cpp parts_of number_of_kind between meaning held is_encoding nameless part in_name is_open
+guard_comes (grown t (grown u nothing)) all rule from state r is trees lt le more old e =
+    let around = rule.context in
+    let at = rule.place in
+    let first = stepped rule [] from state t (grown u nothing) r (nameless at [] state) (ap (λ p. between p around at [] state) is) e in
+    let old0 = old_later (in_name at) at from state.candidates le (old_inner around at state.candidates lt old) in
+    let c = name_comes t all.0 (Byte 86) at from state first.part (lit≤ tt) trees.0 refl le old0 first.is in
+    let next = from + length (spell t) in
+    let vs = c.value ∷ [] in
+    let onward = subst (λ ws. unfold_forest cpp rule ws next (grown u nothing) first.part.state ≡ Ok r) c.is first.rest in
+    let second = stepped rule vs next first.part.state u nothing r (nameless at vs first.part.state) (ap (λ p. between p around at vs first.part.state) is) onward in
+    let old1 = old_grows (in_name at) from next state first.part.state (omega arith) old0 c.grows in
+    let d = name_comes u all.1.0 (OfKind 8) at next first.part.state second.part (known 8 (lit≤ tt)) trees.1.0 refl (omega (arith, le)) old1 second.is in
+    let same : found (c.value ∷ d.value ∷ []) second.part.state ≡ r = same_found vs second.part.value (d.value ∷ []) second.part.state r d.is second.rest in
+    let end = from + length (spell t ++ (spell u ++ [])) in
+    let good = always (Bare around) at (tree_of d.value) (good_tree (Bare (in_name at)) d.value d.good) in
+    subst (λ x. InnerComes Production.Guard around end state x) same
+    (record {
+      means = λ byte. record { closed = λ h. refl; scopes = good.scopes };
+      grows = grows_inner around (in_name at) at end state second.part.state refl lt more
+          (grows_then (in_name at) next end state first.part.state second.part.state (omega (arith, length-append (spell t) (spell u ++ []))) c.grows
+          (grows_on (in_name at) (next + length (spell u)) end first.part.state second.part.state (omega (arith, length-append (spell t) (spell u ++ []), length-append (spell u) [])) d.grows));
+    })
+guard_comes nothing all rule from state r is trees lt le more old e = absurd trees
+guard_comes (grown t nothing) all rule from state r is trees lt le more old e = absurd trees.1
+guard_comes (grown t (grown u (grown v f))) all rule from state r is trees lt le more old e = absurd trees.1.1
+
+encoding_comes : (f : Forest) → AllTreesGood f → (rule : Open State Around) (from : ℕ) (state : State) (r : Found (List Value) State) → production_at rule.rule.number ≡ Production.Encoding →
+    AreTrees abi (parts_of Production.Encoding) f → rule.context.encoding < rule.place → rule.place ≤ from → rule.place < from + length (spell_all f) → AllOld rule.context rule.place state.candidates →
+    unfold_forest cpp rule [] from f state ≡ Ok r → InnerComes Production.Encoding rule.context (from + length (spell_all f)) state r
+unfolding cpp parts_of number_of_kind between meaning held is_encoding nameless part in_name in_types
+encoding_comes (grown t (grown u nothing)) all rule from state r is trees lt le more old e =
+    let around = rule.context in
+    let at = rule.place in
+    let first = stepped rule [] from state t (grown u nothing) r (nameless at [] state) (ap (λ p. between p around at [] state) is) e in
+    let old0 = old_later (in_name at) at from state.candidates le (old_inner around at state.candidates lt old) in
+    let c = name_comes t all.0 (OfKind 8) at from state first.part (known 8 (lit≤ tt)) trees.0 refl le old0 first.is in
+    let next = from + length (spell t) in
+    let name = tree_of c.value in
+    let named = good_tree (Bare (in_name at)) c.value c.good in
+    let vs = c.value ∷ [] in
+    let onward = subst (λ ws. unfold_forest cpp rule ws next (grown u nothing) first.part.state ≡ Ok r) c.is first.rest in
+    let types : Next Value State Around = record { context = in_types at name; values = vs; state = first.part.state } in
+    let second = stepped rule vs next first.part.state u nothing r types (ap (λ p. between p around at vs first.part.state) is) onward in
+    let old1 = old_types at next name first.part.state.candidates (old_grows (in_name at) from next state first.part.state (omega arith) old0 c.grows) in
+    let d = all.1.0 (OfKind 41) (in_types at name) next first.part.state second.part (known 41 (lit≤ tt)) trees.1.0 (omega (arith, le)) (λ opening. absurd (false≢true opening)) tt old1 second.is in
+    let same : found (c.value ∷ d.value ∷ []) second.part.state ≡ r = same_found vs second.part.value (d.value ∷ []) second.part.state r d.is second.rest in
+    let end = from + length (spell t ++ (spell u ++ [])) in
+    subst (λ x. InnerComes Production.Encoding around end state x) same
+    (record {
+      means = λ byte. good_encoding (Bare around) c.value (no_items d.value) (named.closed refl) named.scopes
+          (good_no_items (Bare (in_types at name)) d.value (good_tree (Bare (in_types at name)) d.value d.good)).scopes;
+      grows = grows_then around end end state first.part.state second.part.state (omega arith)
+          (grows_inner around (in_name at) at end state first.part.state refl lt more
+          (grows_on (in_name at) next end state first.part.state (omega (arith, length-append (spell t) (spell u ++ []))) c.grows))
+          (grows_inner around (in_types at name) at end first.part.state second.part.state refl lt more
+          (grows_on (in_types at name) (next + length (spell u)) end first.part.state second.part.state (omega (arith, length-append (spell t) (spell u ++ []), length-append (spell u) [])) d.grows));
+    })
+encoding_comes nothing all rule from state r is trees lt le more old e = absurd trees
+encoding_comes (grown t nothing) all rule from state r is trees lt le more old e = absurd trees.1
+encoding_comes (grown t (grown u (grown v f))) all rule from state r is trees lt le more old e = absurd trees.1.1
+
+-- ## Branches
+
+pub filled : (xs : List ℕ) → (xs ≡ [] → ⊥) → 0 < length xs
+filled [] h = absurd (h refl)
+filled (x ∷ xs) h = omega arith
+
+-- what an encoding's production means, and the state behind it
+pub inner_closes : (p : Production) → opens p ≡ true → (byte : ℕ) (around : Around) (place : ℕ) (began : State) (vs : List Value) (state : State) (one : Found Value State) →
+    close p byte around place began vs state ≡ Ok one → found (meaning p byte around vs) state ≡ one
+unfolding opens close unfolding_.behind
+inner_closes Production.Encoding o byte around place began vs state one e = ok_same (found (meaning Production.Encoding byte around vs) state) one e
+inner_closes Production.Special o byte around place began vs state one e = ok_same (found (meaning Production.Special byte around vs) state) one e
+inner_closes Production.Guard o byte around place began vs state one e = ok_same (found (meaning Production.Guard byte around vs) state) one e
+inner_closes Production.Mark o byte around place began vs state one e = absurd (false≢true o)
+inner_closes _ o byte around place began vs state one e = absurd (false≢true o)
+
+pub inner_comes : (p : Production) → opens p ≡ true → (f : Forest) → AllTreesGood f → (rule : Open State Around) (from : ℕ) (state : State) (r : Found (List Value) State) → production_at rule.rule.number ≡ p →
+    AreTrees abi (parts_of p) f → rule.context.encoding < rule.place → rule.place ≤ from → rule.place < from + length (spell_all f) → AllOld rule.context rule.place state.candidates →
+    unfold_forest cpp rule [] from f state ≡ Ok r → InnerComes p rule.context (from + length (spell_all f)) state r
+unfolding opens
+inner_comes Production.Encoding o = encoding_comes
+inner_comes Production.Special o = special_comes
+inner_comes Production.Guard o = guard_comes
+inner_comes Production.Mark o = absurd (false≢true o)
+inner_comes _ o = absurd (false≢true o)
+
+-- where an encoding is among the symbols of a rule, the rule takes a byte
+pub takes_byte : (p : Production) (rule : Rule) (k : ℕ) (taken : List ℕ) → rule ≡ rule_of p → TakesRule abi k rule taken → has_encoding (symbols_of rule) ≡ true → 0 < length taken
+unfolding rule_of
+takes_byte p rule k taken is takes has = go (is_chain p) refl (behind_a_byte p)
+  where
+    there : has_encoding (parts_of p) ≡ true
+    there = sym (ap has_encoding (ap symbols_of is ∙ its_symbols p)) ∙ has
+
+    go : (chains : Bool) → is_chain p ≡ chains → chains && has_encoding (parts_of p) ≡ false → 0 < length taken
+    go true e none = absurd (true≢false (sym there ∙ none))
+    go false e none = omega (arith, ap length (taken_eats abi k rule taken takes (ap (λ x. x.eats) is ∙ ap not e)))
+
+-- a rule that stands
+abbrev pub Whole : Rule → List ℕ → ℕ → Around → State → Open State Around
+Whole rule taken at around state = standing rule taken at around state
+
+pub plain_comes : (k : ℕ) (rule : Rule) (taken : List ℕ) (parts : Forest) → AllTreesGood parts → (p : Production) → rule ≡ rule_of p → opens p ≡ false → (around : Around) (at : ℕ) (state : State)
+    (inner : Found (List Value) State) (one : Found Value State) → k < abi.kinds → IsTree abi (OfKind k) (branch rule taken parts) → around.encoding ≤ at → GoodPrefix (Bare around) around.prefix →
+    AllOld around at state.candidates → unfold_forest cpp (Whole rule taken at around state) [] (at + length taken) parts state ≡ Ok inner →
+    close (production_at rule.number) (byte_of taken) around at state inner.value inner.state ≡ Ok one → TreeComes around (at + length (taken ++ spell_all parts)) state (found (one.value ∷ []) one.state)
+plain_comes k rule taken parts all p is plain around at state inner one lt tree le pre old e f =
+    let number : production_at rule.number ≡ p = ap (λ x. production_at x.number) is ∙ at_number p in
+    let inside_ : StaysInside (production_at rule.number) = subst (λ q. StaysInside q) (sym number) (stays p plain) in
+    let from = at + length taken in
+    let end = at + length (taken ++ spell_all parts) in
+    let symbols = (lawful.rule k tree.0.byte rule lt tree.0.is_byte tree.0.found).symbols in
+    let forest = forest_good parts all (Whole rule taken at around state) (symbols_of rule) [] from state inner inside_ symbols tree.1 (omega (arith, le))
+    (λ has. omega (arith, le, takes_byte p rule k taken is tree.0 has)) pre tt (old_later around at from state.candidates (omega arith) old) e in
+    let grown1 = grows_on around (from + length (spell_all parts)) end state inner.state (omega (arith, length-append taken (spell_all parts))) forest.grows in
+    let comes = close_good (production_at rule.number) (byte_of taken) around at state inner.value inner.state one end (old_grows around at end state inner.state (omega arith) old grown1) pre forest.good
+    (needs_no_name (production_at rule.number) inner.value inside_) f in
+    record { value = one.value; is = refl; good = comes.good; grows = grows_then around end end state inner.state one.state (omega arith) grown1 comes.grows }
+
+pub encoded_comes : (k : ℕ) (rule : Rule) (taken : List ℕ) (parts : Forest) → AllTreesGood parts → (p : Production) → rule ≡ rule_of p → opens p ≡ true → (around : Around) (at : ℕ) (state : State)
+    (inner : Found (List Value) State) (one : Found Value State) → k < abi.kinds → IsTree abi (OfKind k) (branch rule taken parts) → around.encoding < at →
+    AllOld around at state.candidates → unfold_forest cpp (Whole rule taken at around state) [] (at + length taken) parts state ≡ Ok inner →
+    close (production_at rule.number) (byte_of taken) around at state inner.value inner.state ≡ Ok one → TreeComes around (at + length (taken ++ spell_all parts)) state (found (one.value ∷ []) one.state)
+encoded_comes k rule taken parts all p is opening around at state inner one lt tree less old e f =
+    let number : production_at rule.number ≡ p = ap (λ x. production_at x.number) is ∙ at_number p in
+    let from = at + length taken in
+    let end = at + length (taken ++ spell_all parts) in
+    let full = filled (taken ++ spell_all parts) (branch_filled abi lawful k rule taken parts lt tree) in
+    let trees = subst (λ xs. AreTrees abi xs parts) (ap symbols_of is ∙ its_symbols p) tree.1 in
+    let comes = inner_comes p opening parts all (Whole rule taken at around state) from state inner number trees less (omega arith)
+    (omega (arith, full, length-append taken (spell_all parts))) old e in
+    let closed : close p (byte_of taken) around at state inner.value inner.state ≡ Ok one =
+    sym (ap (λ q. close q (byte_of taken) around at state inner.value inner.state) number) ∙ f in
+    let same = inner_closes p opening (byte_of taken) around at state inner.value inner.state one closed in
+    let grown1 = grows_on around (from + length (spell_all parts)) end state inner.state (omega (arith, length-append taken (spell_all parts))) comes.grows in
+    subst (λ x. TreeComes around end state (found (x.value ∷ []) x.state)) same
+    (record { value = meaning p (byte_of taken) around inner.value; is = refl; good = comes.means (byte_of taken); grows = grown1 })
+
+pub branch_good : (rule : Rule) (taken : List ℕ) (parts : Forest) → AllTreesGood parts → TreeGood (branch rule taken parts)
+unfolding cpp is_encoding
+branch_good rule taken parts all (OfKind k) around at state r lt is le inside pre old e =
+    let whole = Whole rule taken at around state in
+    let t = taken_rule k rule taken lt is.0 in
+    let from = at + length taken in
+    let begun = behind_bind (opening (production_at rule.number) parts at state)
+    (λ begun. unfold_forest cpp whole [] from parts begun >>= λ inner. close (production_at rule.number) (byte_of taken) around at state inner.value inner.state >>= alone) r e in
+    let kept = opening_keeps (production_at rule.number) parts at state begun.value begun.is in
+    let onward = subst (λ s. (unfold_forest cpp whole [] from parts s >>= λ inner. close (production_at rule.number) (byte_of taken) around at state inner.value inner.state >>= alone) ≡ Ok r) kept begun.next in
+    let inner = behind_bind (unfold_forest cpp whole [] from parts state) (λ inner. close (production_at rule.number) (byte_of taken) around at state inner.value inner.state >>= alone) r onward in
+    let ended = behind_bind (close (production_at rule.number) (byte_of taken) around at state inner.value.value inner.value.state) alone r inner.next in
+    let one = ended.value in
+    let same : found (one.value ∷ []) one.state ≡ r = ok_same (found (one.value ∷ []) one.state) r ended.next in
+    let end = at + length (taken ++ spell_all parts) in
+    subst (λ x. TreeComes around end state x) same (elim (cases_Bool (opens t.production)) [
+      | inl opening ↦ encoded_comes k rule taken parts all t.production t.is opening around at state inner.value one lt is (inside (t.encoding opening)) old inner.is ended.is
+      | inr plain ↦ plain_comes k rule taken parts all t.production t.is plain around at state inner.value one lt is le pre old inner.is ended.is
+    ])
+branch_good rule taken parts all _ around at state r lt is le inside pre old e = absurd is
+
+nothing_good : (around : Around) → Good (Bare around) (held nothing_there)
+unfolding held is_open
+nothing_good around = record { closed = λ h. refl; scopes = tt }
+
+text_good : (around : Around) (bytes : List ℕ) → Good (Bare around) (held (text bytes))
+unfolding held is_open
+text_good around bytes = record { closed = λ h. refl; scopes = tt }
+
+mutual
+  unfolding cpp
+
+  pub tree_good : (t : Tree) → TreeGood t
+  tree_good (branch rule taken parts) = branch_good rule taken parts (trees_good parts)
+  tree_good empty = λ x around at state r lt is le inside pre old e. leaf_comes around (at + length (spell empty)) state nothing_there r (nothing_good around) e
+  tree_good (token t) = λ x around at state r lt is le inside pre old e. leaf_comes around (at + length (spell (token t))) state (text t.own) r (text_good around t.own) e
+  tree_good (fixed byte) = λ x around at state r lt is le inside pre old e. leaf_comes around (at + length (spell (fixed byte))) state nothing_there r (nothing_good around) e
+
+  pub trees_good : (f : Forest) → AllTreesGood f
+  trees_good nothing = tt
+  trees_good (grown t f) = (tree_good t, trees_good f)
+
+first_good : (v : Value) (vs : List Value) → vs ≡ v ∷ [] → ScopesAreClosed (tree_of v) → ScopesAreClosed (first_tree vs)
+unfolding first_tree
+first_good v vs is good = subst (λ ws. ScopesAreClosed (first_tree ws)) (sym is) good
+
+-- In the tree that a symbol stands for the arguments that are a scope have no free parameters.
+pub scopes_are_closed : (shape : Tree) (t : Term) → IsTree abi (OfKind 0) shape → unfold_cpp shape ≡ Ok t → ScopesAreClosed t
+unfolding unfold_cpp first_around first_state first_tree is_encoding
+scopes_are_closed shape t is e =
+    let whole = behind_bind (unfold_tree cpp first_around 0 shape first_state) (λ whole. Ok (first_tree whole.value)) t e in
+    let comes = tree_good shape (OfKind 0) first_around 0 first_state whole.value (known 0 (lit≤ tt)) is (omega arith) (λ opening. absurd (false≢true opening)) tt tt whole.is in
+    let same : first_tree whole.value.value ≡ t = ok_same (first_tree whole.value.value) t whole.next in
+    subst (λ x. ScopesAreClosed x) same (first_good comes.value whole.value.value comes.is (good_tree (Bare first_around) comes.value comes.good).scopes)

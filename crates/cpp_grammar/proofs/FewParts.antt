@@ -1,0 +1,251 @@
+-- Each item has at most eight parts.
+use Rattle.std.specs.Prelude.{ℕ, zero, suc, ◌+◌, ◌≤◌, length, List, [], ◌∷◌, ◌++◌, Bool, true, false, cond, Option, Some, None, codes, decimal}
+use Prim.Native.String.{String}
+use Rattle.std.proofs.Common.{arith}
+use Rattle.std.proofs.lemmas.List.{length-append}
+use Rattle.sym_print.specs.declared.detail.Detail.{Detail}
+use Rattle.sym_print.specs.declared.detail.Detail.TheVariants.{Full, Brief}
+use Rattle.sym_print.specs.Unfold.{PartOf, text, sub}
+use Rattle.cpp_grammar.specs.Term.{Qualifiers, RefQualifier, Signed, Term, symbol, function, object, guard, alone, in_std, within, instance, local, abbreviation, parameter, source, constructor, destructor, lambda, pointer, lvalue, rvalue, array, member_pointer, function_type, qualified, expansion, integer, pack, nil, list, absent}
+use Rattle.cpp_grammar.specs.Items.{Form, root, full, bare, left, right, low, base, piece, first, more, expand, Context, Item, closed, head, is_reference, is_funarr, packs_of, is_empty}
+use Rattle.cpp_grammar.specs.Parts.{as_item, says, text_part, list_part, piece_parts, within_parts, last_piece, opening_text, instance_parts, marked_parts, reference_parts, qualified_left, blank_last, qualifier_text, expansion_parts, sign_part, is_plain_integer, integer_parts, builtin_code, member_parts, array_left, left_parts, low_parts, function_right, ref_text, closing_right, qualified_right, right_parts, base_within, base_parts, types_of, encoding_text, function_bare, function_full, full_parts, bare_parts, root_parts, first_parts, more_parts, at_index, is_below, comma_before, expand_rest, expand_parts, parts_in, not_empty, parts}
+use Rattle.cpp_grammar.specs.Texts.{look_up, literal_endings}
+
+-- at most so many parts
+abbrev HasFew : ℕ → List (PartOf Item) → Type 0
+HasFew n ps = length ps ≤ n
+
+-- ## Lists of parts
+
+append_few : (m n : ℕ) (xs ys : List (PartOf Item)) → HasFew m xs → HasFew n ys → HasFew (m + n) (xs ++ ys)
+append_few m n xs ys f g = omega (arith, length-append xs ys, f, g)
+
+text_few : (b : List ℕ) → HasFew 1 (text_part b)
+unfolding text_part
+text_few [] = omega arith
+text_few (b ∷ bs) = omega arith
+
+list_few : (form : Form) (c : Context) (t : Term) → HasFew 1 (list_part form c t)
+unfolding list_part
+list_few form c nil = omega arith
+list_few form c (list e rest) = omega arith
+list_few form c _ = omega arith
+
+choice_few : (n : ℕ) (b : Bool) (xs ys : List (PartOf Item)) → HasFew n xs → HasFew n ys → HasFew n (elim b [ true ↦ xs | false ↦ ys ])
+choice_few n true xs ys f g = f
+choice_few n false xs ys f g = g
+
+sign_few : (n : Signed) → HasFew 1 (sign_part n)
+unfolding sign_part
+sign_few n = go n.negative
+  where
+    go : (b : Bool) → HasFew 1 (cond b (says "-" ∷ []) [])
+    go true = omega arith
+    go false = omega arith
+
+comma_few : (i : ℕ) → HasFew 1 (comma_before i)
+unfolding comma_before
+comma_few zero = omega arith
+comma_few (suc i) = omega arith
+
+-- ## Forms
+
+piece_few : (c : Context) (p : Term) → HasFew 5 (piece_parts c p)
+unfolding piece_parts
+piece_few c (lambda parameters number) = omega (arith, append_few 2 3 (says "{lambda(" ∷ list_part first c parameters) (says ")#" ∷ text (decimal number) ∷ says "}" ∷ []) (omega (arith, list_few first c parameters)) (omega arith))
+piece_few c (source internal name) = omega arith
+piece_few c _ = omega arith
+
+within_few : (c : Context) (prefix p : Term) → HasFew 3 (within_parts c prefix p)
+unfolding within_parts
+within_few c prefix (constructor digit) = omega arith
+within_few c prefix (destructor digit) = omega arith
+within_few c prefix _ = omega arith
+
+instance_few : (d : Detail) (c : Context) (t arguments : Term) → HasFew 4 (instance_parts d c t arguments)
+unfolding instance_parts
+instance_few Brief c t arguments = omega arith
+instance_few Full c t arguments =
+    omega (arith, append_few 3 1 (as_item left c t ∷ text (opening_text (last_piece t)) ∷ list_part first c arguments) (says ">" ∷ []) (omega (arith, list_few first c arguments)) (omega arith))
+
+marked_few : (c : Context) (t : Term) (mark : String) → HasFew 2 (marked_parts c t mark)
+unfolding marked_parts
+marked_few c t mark = choice_few 2 (is_funarr (head c t)) _ _ (omega arith) (omega arith)
+
+reference_few : (c : Context) (form : Form) (t : Term) (mark : String) → HasFew 2 (reference_parts c form t mark)
+unfolding reference_parts
+reference_few c form t mark = choice_few 2 (is_reference (head c t)) _ _ (omega arith) (marked_few c t mark)
+
+qualified_few : (c : Context) (q : Qualifiers) (t : Term) → HasFew 2 (qualified_left c q t)
+unfolding qualified_left
+qualified_few c q (function_type c_linkage noexcept ref returned parameters) = omega arith
+qualified_few c q t = choice_few 2 (is_reference (head c t)) _ _ (omega arith)
+    (choice_few 2 (is_funarr (head c t)) _ _ (omega (arith, text_few (blank_last (qualifier_text q)))) (omega (arith, text_few (qualifier_text q))))
+
+expansion_few : (c : Context) (t : Term) (o : Option ℕ) → HasFew 3 (expansion_parts c t o)
+unfolding expansion_parts
+expansion_few c t None = omega arith
+expansion_few c t (Some zero) = omega arith
+expansion_few c t (Some (suc m)) = omega arith
+
+integer_few : (c : Context) (t : Term) (n : Signed) → HasFew 6 (integer_parts c t n)
+unfolding integer_parts
+integer_few c t n = choice_few 6 (is_plain_integer t) _ _
+    (omega (arith, append_few 1 2 (sign_part n) (text n.digits ∷ text_part (look_up (builtin_code t) literal_endings)) (sign_few n) (omega (arith, text_few (look_up (builtin_code t) literal_endings)))))
+    (omega (arith, append_few 1 1 (sign_part n) (text n.digits ∷ []) (sign_few n) (omega arith)))
+
+member_few : (c : Context) (class t : Term) → HasFew 4 (member_parts c class t)
+unfolding member_parts
+member_few c class t = choice_few 4 (is_funarr (head c t)) _ _ (omega arith) (omega arith)
+
+array_few : (c : Context) (t : Term) → HasFew 2 (array_left c t)
+unfolding array_left
+array_few c t = choice_few 2 (is_funarr (head c t)) _ _ (omega arith) (omega arith)
+
+left_few : (d : Detail) (c : Context) (t : Term) → HasFew 6 (left_parts d c t)
+unfolding left_parts
+left_few d c (alone p) = omega (arith, piece_few c p)
+left_few d c (in_std p) = omega arith
+left_few d c (within prefix p) = omega (arith, within_few c prefix p)
+left_few d c (instance t arguments) = omega (arith, instance_few d c t arguments)
+left_few d c (pointer t) = omega (arith, marked_few c t "*")
+left_few d c (lvalue t) = omega (arith, reference_few c low t "&")
+left_few d c (rvalue t) = omega (arith, reference_few c left t "&&")
+left_few d c (array digits t) = omega (arith, array_few c t)
+left_few d c (member_pointer class t) = omega (arith, member_few c class t)
+left_few d c (qualified q t) = omega (arith, qualified_few c q t)
+left_few d c (expansion t) = omega (arith, expansion_few c t (packs_of c t))
+left_few d c (pack elements) = omega (arith, list_few first c elements)
+left_few d c (integer t n) = omega (arith, integer_few c t n)
+left_few d c _ = omega arith
+
+low_few : (d : Detail) (c : Context) (t : Term) → HasFew 6 (low_parts d c t)
+unfolding low_parts
+low_few d c (lvalue t) = omega (arith, reference_few c low t "&")
+low_few d c (rvalue t) = omega (arith, reference_few c low t "&")
+low_few d c (qualified q t) = omega arith
+low_few d c (parameter k) = omega arith
+low_few d c t = left_few d c t
+
+function_right_few : (c : Context) (q : List ℕ) (ref : RefQualifier) (noexcept : Bool) (returned parameters : Term) → HasFew 5 (function_right c q ref noexcept returned parameters)
+unfolding function_right
+function_right_few c q ref noexcept returned parameters =
+    let qs = q ++ ref_text ref ++ cond noexcept (codes " noexcept") [] in
+    append_few 4 1 ((says "(" ∷ list_part first c parameters) ++ (says ")" ∷ text_part qs)) (as_item right c returned ∷ [])
+    (append_few 2 2 (says "(" ∷ list_part first c parameters) (says ")" ∷ text_part qs) (omega (arith, list_few first c parameters)) (omega (arith, text_few qs))) (omega arith)
+
+closing_few : (c : Context) (t : Term) → HasFew 2 (closing_right c t)
+unfolding closing_right
+closing_few c t = choice_few 2 (is_funarr (head c t)) _ _ (omega arith) (omega arith)
+
+qualified_right_few : (c : Context) (q : Qualifiers) (t : Term) → HasFew 5 (qualified_right c q t)
+unfolding qualified_right
+qualified_right_few c q (function_type c_linkage noexcept ref returned parameters) = function_right_few c (qualifier_text q) ref noexcept returned parameters
+qualified_right_few c q t = omega arith
+
+right_few : (c : Context) (t : Term) → HasFew 5 (right_parts c t)
+unfolding right_parts
+right_few c (pointer t) = omega (arith, closing_few c t)
+right_few c (lvalue t) = omega (arith, closing_few c t)
+right_few c (rvalue t) = omega (arith, closing_few c t)
+right_few c (member_pointer class t) = omega (arith, closing_few c t)
+right_few c (array digits t) = omega (arith, append_few 2 2 (says "[" ∷ text_part digits) (says "]" ∷ as_item right c t ∷ []) (omega (arith, text_few digits)) (omega arith))
+right_few c (function_type c_linkage noexcept ref returned parameters) = function_right_few c [] ref noexcept returned parameters
+right_few c (qualified q t) = qualified_right_few c q t
+right_few c _ = omega arith
+
+base_within_few : (c : Context) (prefix p : Term) → HasFew 5 (base_within c prefix p)
+unfolding base_within
+base_within_few c prefix (constructor digit) = omega arith
+base_within_few c prefix (destructor digit) = omega arith
+base_within_few c prefix p = piece_few c p
+
+base_few : (d : Detail) (c : Context) (t : Term) → HasFew 6 (base_parts d c t)
+unfolding base_parts
+base_few d c (alone p) = omega (arith, piece_few c p)
+base_few d c (in_std p) = omega (arith, piece_few c p)
+base_few d c (within prefix p) = omega (arith, base_within_few c prefix p)
+base_few d c (instance t arguments) = omega arith
+base_few d c (local encoding entity discriminator) = omega arith
+base_few d c (abbreviation letter) = omega arith
+base_few d c (parameter k) = omega arith
+base_few d c t = left_few d c t
+
+bare_function_few : (name : Term) (q : Qualifiers) (ref : RefQualifier) (parameters : Term) → HasFew 5 (function_bare name q ref parameters)
+unfolding function_bare
+bare_function_few name q ref parameters =
+    append_few 3 2 (as_item left closed name ∷ says "(" ∷ list_part first (types_of name) parameters) (says ")" ∷ text_part (encoding_text q ref))
+    (omega (arith, list_few first (types_of name) parameters)) (omega (arith, text_few (encoding_text q ref)))
+
+full_function_few : (name : Term) (q : Qualifiers) (ref : RefQualifier) (returned parameters : Term) → HasFew 8 (function_full name q ref returned parameters)
+unfolding function_full
+full_function_few name q ref absent parameters = omega (arith, bare_function_few name q ref parameters)
+full_function_few name q ref (symbol e suffix) parameters =
+    omega (arith, append_few 5 1 (function_bare name q ref parameters) (as_item right (types_of name) (symbol e suffix) ∷ []) (bare_function_few name q ref parameters) (omega arith))
+full_function_few name q ref returned parameters =
+    omega (arith, append_few 5 1 (function_bare name q ref parameters) (as_item right (types_of name) returned ∷ []) (bare_function_few name q ref parameters) (omega arith))
+
+full_few : (t : Term) → HasFew 8 (full_parts t)
+unfolding full_parts
+full_few (function name q ref returned parameters) = full_function_few name q ref returned parameters
+full_few (object name q ref) = omega (arith, text_few (encoding_text q ref))
+full_few (guard name q ref) = omega (arith, text_few (encoding_text q ref))
+full_few _ = omega arith
+
+bare_few : (t : Term) → HasFew 8 (bare_parts t)
+unfolding bare_parts
+bare_few (function name q ref returned parameters) = omega (arith, bare_function_few name q ref parameters)
+bare_few t = full_few t
+
+first_few : (c : Context) (t : Term) → HasFew 4 (first_parts c t)
+unfolding first_parts
+first_few c (list e rest) = choice_few 4 (is_empty c e) _ _ (omega (arith, list_few first c rest)) (omega (arith, list_few more c rest))
+first_few c _ = omega arith
+
+more_few : (c : Context) (t : Term) → HasFew 4 (more_parts c t)
+unfolding more_parts
+more_few c (list e rest) = choice_few 4 (is_empty c e) _ _ (omega (arith, list_few more c rest)) (omega (arith, list_few more c rest))
+more_few c _ = omega arith
+
+root_few : (t : Term) → HasFew 4 (root_parts t)
+unfolding root_parts
+root_few (symbol e []) = omega arith
+root_few (symbol e (b ∷ bs)) = omega arith
+root_few _ = omega arith
+
+rest_few : (c : Context) (t : Term) (i : ℕ) → HasFew 1 (expand_rest c t i)
+unfolding expand_rest
+rest_few c t i = choice_few 1 (is_below i (packs_of c t)) _ _ (omega arith) (omega arith)
+
+expand_few : (c : Context) (t : Term) (i : ℕ) → HasFew 4 (expand_parts c t i)
+unfolding expand_parts
+expand_few c t i =
+    append_few 3 1 (comma_before i ++ (as_item left (at_index i c) t ∷ as_item right (at_index i c) t ∷ [])) (expand_rest c t (i + 1))
+    (append_few 1 2 (comma_before i) (as_item left (at_index i c) t ∷ as_item right (at_index i c) t ∷ []) (comma_few i) (omega arith))
+    (rest_few c t (i + 1))
+
+forms_few : (d : Detail) (c : Context) (form : Form) (t : Term) → HasFew 8 (parts_in d c form t)
+unfolding parts_in
+forms_few d c root t = omega (arith, root_few t)
+forms_few d c full t = full_few t
+forms_few d c bare t = bare_few t
+forms_few d c left t = omega (arith, left_few d c t)
+forms_few d c right t = omega (arith, right_few c t)
+forms_few d c low t = omega (arith, low_few d c t)
+forms_few d c base t = omega (arith, base_few d c t)
+forms_few d c piece t = omega (arith, piece_few c t)
+forms_few d c first t = omega (arith, first_few c t)
+forms_few d c more t = omega (arith, more_few c t)
+forms_few d c (expand i) t = omega (arith, expand_few c t i)
+
+dropped_few : (ps : List (PartOf Item)) → length (not_empty ps) ≤ length ps
+unfolding not_empty
+dropped_few [] = omega arith
+dropped_few (text [] ∷ ps) = omega (arith, dropped_few ps)
+dropped_few (text (b ∷ bs) ∷ ps) = omega (arith, dropped_few ps)
+dropped_few (sub item ∷ ps) = omega (arith, dropped_few ps)
+
+-- Each item has at most eight parts.
+pub few_parts : (d : Detail) (item : Item) → length (parts d item) ≤ 8
+unfolding parts
+few_parts d item = omega (arith, dropped_few (parts_in d item.context item.form item.tree), forms_few d item.context item.form item.tree)

@@ -1,0 +1,7 @@
+use Rattle.std.proofs.Common.{refl}
+use Rattle.cpp_grammar.specs.Table.{abi}
+use Rattle.cpp_grammar.proofs.abi.AbiGrammar.name_class.Goals as goal
+
+pub returns : goal.returns
+unfolding abi
+returns c = refl

@@ -1,0 +1,20 @@
+-- C++'s mangling: what its symbols read as, and their answers.
+use Rattle.std.specs.Prelude.{ℕ, List, Result}
+use Rattle.sym_core.specs.declared.refusal.Refusal.{Refusal}
+use Rattle.sym_print.specs.declared.detail.Detail.{Detail}
+use Rattle.sym_demangle.specs.Mangled as demangle
+use Rattle.sym_demangle.specs.Mangled.{Mangled}
+use Rattle.cpp_grammar.specs.Table.{abi}
+use Rattle.cpp_grammar.specs.TableLaws.{lawful}
+use Rattle.cpp_grammar.specs.Term.{Term}
+use Rattle.cpp_grammar.specs.Unfolding.{unfold_cpp}
+use Rattle.cpp_grammar.specs.Answer.{shown, root_item}
+
+abbrev pub cpp_mangled : Mangled Term
+cpp_mangled = record { table = abi; unfolded = unfold_cpp; shown = λ detail t. shown detail (root_item t); lawful = lawful }
+
+abbrev pub IsAnswer : Detail → List ℕ → ℕ → Result (List ℕ) Refusal → Type 0
+IsAnswer detail s limit result = demangle.IsAnswer cpp_mangled detail s limit result
+
+abbrev pub answer : Detail → List ℕ → ℕ → Result (List ℕ) Refusal
+answer detail s limit = demangle.answer cpp_mangled detail s limit

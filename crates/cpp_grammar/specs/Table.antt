@@ -1,0 +1,66 @@
+-- The table of C++ symbols: the grammar in the form that the reader takes.
+use Rattle.std.specs.Prelude.{ℕ, zero, suc, List, [], ◌∷◌, ◌++◌, length, map, false, not, Option, Some, None}
+use Rattle.sym_shape.specs.declared.rule.Rule.{Rule}
+use Rattle.sym_core.specs.declared.NameClass.TheVariants.{Cpp}
+use Rattle.sym_shape.specs.declared.rule.Sym.{Sym}
+use Rattle.sym_shape.specs.declared.rule.Sym.TheVariants.{Byte}
+use Rattle.sym_shape.specs.declared.sheet.ByteRange.{ByteRange}
+use Rattle.sym_shape.specs.declared.sheet.Choice.{Choice}
+use Rattle.sym_shape.specs.Table.{Table}
+use Rattle.sym_shape.specs.Sheet.{KindSheet, range, table_of}
+use Rattle.cpp_grammar.specs.declared.kind.Kind.{Kind}
+use Rattle.cpp_grammar.specs.declared.production.Production.{Production}
+use Rattle.cpp_grammar.specs.Grammar.{Alternative, alternatives, parts_of, is_chain, number_of, may_be_empty, kinds}
+use Rattle.cpp_grammar.specs.Follow.{after_ranges, rank, height}
+use Rattle.cpp_grammar.specs.Before.{alternatives_before}
+
+-- five symbols, of which the last ones don't count
+unfoldable pub padded : ℕ → List Sym → List Sym
+padded zero symbols = []
+padded (suc n) [] = Byte 0 ∷ padded n []
+padded (suc n) (s ∷ symbols) = s ∷ padded n symbols
+
+-- the rule of a production
+unfoldable pub rule_of : Production → Rule
+rule_of p = record { number = number_of p; eats = not (is_chain p); count = length (parts_of p); symbols = padded 5 (parts_of p) }
+
+unfoldable pub rule_taken : Option Production → Option Rule
+rule_taken (Some p) = Some (rule_of p)
+rule_taken None = None
+
+-- ranges, each with a dash between its ends
+unfoldable pub ranges_of : List ℕ → List ByteRange
+ranges_of (low ∷ dash ∷ high ∷ rest) = range low high ∷ ranges_of rest
+ranges_of _ = []
+
+unfoldable pub class_of : Alternative → List ByteRange
+class_of a = ranges_of a.ranges ++ map (λ byte. range byte byte) a.singles
+
+unfoldable pub choice_of : Alternative → Choice
+choice_of a = record { ranges = length (class_of a); bytes = class_of a; rule = rule_of a.production }
+
+unfoldable pub sheet_with : (Kind → List Alternative) → Kind → KindSheet
+sheet_with begins kind = record {
+  choices = map choice_of (begins kind);
+  may_be_empty = may_be_empty kind;
+  after = ranges_of (after_ranges kind);
+  rank = rank kind;
+  height = height kind;
+}
+
+unfoldable pub blank : KindSheet
+blank = record { choices = []; may_be_empty = false; after = []; rank = 0; height = 0 }
+
+unfoldable pub sheet : List KindSheet
+sheet = map (sheet_with alternatives) kinds
+
+-- the table of C++ symbols
+unfoldable pub abi : Table
+abi = table_of blank sheet Cpp
+
+unfoldable pub sheet_before : List KindSheet
+sheet_before = map (sheet_with alternatives_before) kinds
+
+-- the table before vector types, noexcept function types and complex types were added
+unfoldable pub abi_before : Table
+abi_before = table_of blank sheet_before Cpp

@@ -1,0 +1,17 @@
+-- The table keeps to the laws of a grammar.
+use Rattle.std.specs.Prelude.{◌≡◌, refl, true}
+use Rattle.sym_shape.specs.Sheet.{is_lawful_sheet}
+use Rattle.sym_shape.specs.SheetLaws.{lawful_sheet}
+use Rattle.sym_shape.specs.Law.{IsLawful}
+use Rattle.sym_core.specs.declared.NameClass.TheVariants.{Cpp}
+use Rattle.cpp_grammar.specs.Grammar.{in_ranges, among, is_in, pick, number_of_kind, alternatives, choose, parts_of, is_chain, may_be_empty, kinds, productions, number_of}
+use Rattle.cpp_grammar.specs.Follow.{after_ranges, rank, height}
+use Rattle.cpp_grammar.specs.Table.{padded, rule_of, ranges_of, class_of, choice_of, sheet_with, blank, sheet, abi}
+
+is_lawful : is_lawful_sheet blank sheet Cpp ≡ true
+unfolding in_ranges among is_in pick number_of_kind alternatives choose parts_of is_chain may_be_empty kinds productions number_of after_ranges rank height padded rule_of ranges_of class_of choice_of sheet_with blank sheet abi
+is_lawful = refl
+
+pub lawful : IsLawful abi
+unfolding abi
+lawful = lawful_sheet blank sheet Cpp is_lawful

@@ -1,0 +1,54 @@
+// What holds of every C++ symbol.
+ghost use Rattle.std.specs.Prelude.{◌≤◌, ◌≡◌, ℕ, List, length, Result, Ok};
+ghost use Rattle.sym_core.specs.declared.refusal.Refusal.{Refusal};
+ghost use Rattle.sym_print.specs.declared.detail.Detail.{Detail};
+ghost use Rattle.sym_print.specs.Unfold.{RanksBelow};
+ghost use Rattle.sym_shape.specs.Decided.{AreBytes};
+ghost use Rattle.sym_shape.specs.Grown.{GrowsInto};
+ghost use Rattle.sym_shape.specs.Tree.{Tree, IsTree, AreRowsOf, IsFirstBad};
+ghost use Rattle.sym_shape.specs.declared.rule.Sym.TheVariants.{Kind};
+ghost use Rattle.sym_shape.specs.declared.rule.Row.{Row};
+ghost use Rattle.cpp_grammar.specs.Mangled.{IsAnswer, answer};
+ghost use Rattle.cpp_grammar.specs.Closed.{ScopesAreClosed};
+ghost use Rattle.cpp_grammar.specs.Items.{Item};
+ghost use Rattle.cpp_grammar.specs.Parts.{parts};
+ghost use Rattle.cpp_grammar.specs.Ranks.{rank};
+ghost use Rattle.cpp_grammar.specs.Table.{abi, abi_before};
+ghost use Rattle.cpp_grammar.specs.Term.{Term};
+ghost use Rattle.cpp_grammar.specs.Unfolding.{unfold_cpp};
+
+use crate::abi::Abi;
+use sym_shape::grown_keeps;
+
+/// Each tree of the grammar before vector types, noexcept function types and complex types were added is one of
+/// [`Abi`](crate::Abi). So a symbol that was well shaped has the rows that it had, and of one that wasn't the first bad byte
+/// isn't earlier.
+pub fn earlier_trees_stay()
+    ensures trees { GrowsInto abi_before abi }
+    ensures rows { (s : List ℕ) (before now : List Row) → AreRowsOf abi_before s before → AreRowsOf abi s now → now ≡ before }
+    ensures places { (s : List ℕ) (before now : ℕ) → IsFirstBad abi_before s before → IsFirstBad abi s now → before ≤ now }
+{
+    grown_keeps::<Abi>();
+}
+
+/// A symbol has at most one answer.
+pub fn one_answer()
+    ensures { (detail : Detail) (s : List ℕ) (limit : ℕ) (a b : Result (List ℕ) Refusal) → IsAnswer detail s limit a → IsAnswer detail s limit b → a ≡ b }
+{}
+
+/// Each list of bytes has its answer, and no other.
+pub fn each_has_an_answer()
+    ensures has { (detail : Detail) (s : List ℕ) (limit : ℕ) → AreBytes s → IsAnswer detail s limit (answer detail s limit) }
+    ensures only { (detail : Detail) (s : List ℕ) (limit : ℕ) (result : Result (List ℕ) Refusal) → AreBytes s → IsAnswer detail s limit result → result ≡ answer detail s limit }
+{}
+
+/// In the tree that a symbol stands for, the arguments that are the scope of an encoding have no free parameters.
+pub fn scopes_are_closed()
+    ensures { (shape : Tree) (t : Term) → IsTree abi (Kind 0) shape → unfold_cpp shape ≡ Ok t → ScopesAreClosed t }
+{}
+
+/// Each item has at most eight parts, and each item among them has a smaller rank, so printing ends.
+pub fn parts_are_few_and_smaller()
+    ensures few { (detail : Detail) (item : Item) → length (parts detail item) ≤ 8 }
+    ensures smaller { (detail : Detail) (item : Item) → RanksBelow rank (rank item) (parts detail item) }
+{}

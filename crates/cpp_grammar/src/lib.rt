@@ -1,0 +1,14 @@
+//! The C++ symbols of the Itanium ABI 5.1: their grammar as a table, what each shape stands for, and how that is shown.
+#![tactic(auto)]
+
+mod abi;
+mod kind;
+mod laws;
+pub mod production;
+mod table;
+
+pub use abi::Abi;
+pub use laws::{
+    each_has_an_answer, earlier_trees_stay, one_answer, parts_are_few_and_smaller,
+    scopes_are_closed,
+};

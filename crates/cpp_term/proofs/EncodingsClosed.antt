@@ -1,0 +1,311 @@
+-- In a run without arguments, the parts of a production that are encodings have no free parameters, and neither has the type of a special name.
+use Rattle.std.proofs.Common.{◌≡◌, refl, ap, sym, ◌∙◌, subst, ℕ, ◌+◌, ◌<◌, ◌≤◌, List, [], ◌∷◌, ◌++◌, length, Bool, true, false, not, ◌||◌, cond, nat_eq, slice_get, Option, Some, None, Result, Ok, lit≤, arith}
+use Rattle.std.proofs.lemmas.Bool.{true≢false, false≢true, eqb-true, and_parts}
+use Rattle.std.proofs.lemmas.List.{append-nil, append_assoc}
+use Rattle.sym_core.specs.declared.refusal.Refusal.{Refusal}
+use Rattle.sym_shape.specs.declared.rule.Rule.{Rule}
+use Rattle.sym_shape.specs.declared.rule.Sym.{Sym}
+use Rattle.sym_shape.specs.declared.rule.Sym.TheVariants.{Kind as OfKind}
+use Rattle.sym_shape.specs.Table.{symbols_of}
+use Rattle.sym_shape.specs.Law.{AreSymbols}
+use Rattle.sym_shape.specs.Tree.{Tree, Forest, branch, empty, nothing, grown, spell, TakesRule, IsTree, AreTrees}
+use Rattle.sym_link.specs.Reading.{Found, Open, Next, ◌>>=◌}
+use Rattle.sym_link.specs.Unfold.{found, alone, unfold_tree, unfold_forest}
+use Rattle.cpp_grammar.specs.declared.kind.Kind.{Kind}
+use Rattle.cpp_grammar.specs.declared.production.Production.{Production}
+use Rattle.cpp_grammar.specs.Grammar.{Alternative, is_in, pick, alternatives, choose, kinds, number_of, number_of_kind, parts_of}
+use Rattle.cpp_grammar.specs.Table.{abi, rule_of, rule_taken}
+use Rattle.cpp_grammar.specs.TableLaws.{lawful}
+use Rattle.cpp_grammar.specs.Term.{Term, function, list, absent}
+use Rattle.cpp_grammar.specs.Scope.{is_open, has_return_type}
+use Rattle.cpp_grammar.specs.Values.{State, Around, Value, nothing_there, tree_of, part, qualifiers_of, ref_of}
+use Rattle.cpp_grammar.specs.Between.{in_name, no_items, between}
+use Rattle.cpp_grammar.specs.Meaning.{meaning, encoding_of, parameters}
+use Rattle.cpp_grammar.specs.Unfolding.{opening, close, production_at, byte_of, cpp}
+use Rattle.cpp_grammar.proofs.Choosing.{rule_at_kind, is_kind}
+use Rattle.cpp_grammar.proofs.ClosedValues.{AllGood, GoodPrefix, held, good_tree}
+use Rattle.cpp_grammar.proofs.ClosedStates.{Bare, AllOld, old_later, old_grows, ok_same, behind_bind}
+use Rattle.cpp_grammar.proofs.ClosedParts.{StaysInside, between_goes}
+use Rattle.cpp_grammar.proofs.ClosedTrees.{is_encoding, has_encoding, opens, or_true, at_number, its_symbols, stays, takes_byte, Whole, same_rule, kinds_numbered, number_at, opening_keeps, all_append, good_fits, old_fits, grows_fits, old_inner, one_good, known, name_comes, same_found, stepped, inner_closes, forest_good, tree_good, trees_good}
+use Rattle.cpp_term.proofs.KindsNoted.{all_open, may_be_special, encodings_open, special_types}
+use Rattle.cpp_term.proofs.MeaningNoted.{Inside}
+
+-- ## What is chosen in a kind
+
+record Chosen (k : ℕ) (rule : Rule) : Type 0 where
+  kind : Kind
+  number : k ≡ number_of_kind kind
+  production : Production
+  is : rule ≡ rule_of production
+  byte : ℕ
+  chosen : choose kind byte ≡ Some production
+
+chosen_rule : (k : ℕ) (rule : Rule) (taken : List ℕ) → k < abi.kinds → TakesRule abi k rule taken → Chosen k rule
+unfolding rule_taken
+chosen_rule k rule taken lt takes = go (slice_get kinds k) refl
+  where
+    by : (kind : Kind) → slice_get kinds k ≡ Some kind → (o : Option Production) → choose kind takes.byte ≡ o → rule_taken o ≡ Some rule → Chosen k rule
+    by kind at None is h = let clash : ◌≡◌ {A = Option Rule} None (Some rule) = h in absurd cc
+    by kind at (Some p) is h = record { kind = kind; number = omega (arith, number_at 0 kinds k kind kinds_numbered at); production = p; is = sym (same_rule p rule h); byte = takes.byte; chosen = is }
+
+    go : (o : Option Kind) → slice_get kinds k ≡ o → Chosen k rule
+    go None none = absurd (is_kind k lt none)
+    go (Some kind) at = by kind at (choose kind takes.byte) refl (sym (rule_at_kind k kind takes.byte at) ∙ takes.found)
+
+picked_opens : (all : List Alternative) (byte : ℕ) (p : Production) → all_open all ≡ true → pick all byte ≡ Some p → opens p ≡ true
+unfolding pick all_open
+picked_opens [] byte p h e = absurd cc
+picked_opens (a ∷ rest) byte p h e =
+    let both = and_parts (opens a.production) (all_open rest) h in
+    go (is_in a byte) e both.0 (λ i. picked_opens rest byte p both.1 i)
+  where
+    go : (b : Bool) → cond b (Some a.production) (pick rest byte) ≡ Some p → opens a.production ≡ true → (pick rest byte ≡ Some p → opens p ≡ true) → opens p ≡ true
+    go true i o later = let same : a.production ≡ p = cc in sym (ap opens same) ∙ o
+    go false i o later = later i
+
+unfoldable is_special_type : Production → Bool
+is_special_type p = nat_eq (number_of p) (number_of Production.SpecialType)
+
+picked_special : (all : List Alternative) (byte : ℕ) (p : Production) → pick all byte ≡ Some p → is_special_type p ≡ true → may_be_special all ≡ true
+unfolding pick may_be_special is_special_type
+picked_special [] byte p e h = absurd cc
+picked_special (a ∷ rest) byte p e h = go (is_in a byte) e (λ i. picked_special rest byte p i h)
+  where
+    go : (b : Bool) → cond b (Some a.production) (pick rest byte) ≡ Some p → (pick rest byte ≡ Some p → may_be_special rest ≡ true) → is_special_type a.production || may_be_special rest ≡ true
+    go true i later = let same : a.production ≡ p = cc in ap (λ q. is_special_type q || may_be_special rest) same ∙ ap (λ b. b || may_be_special rest) h
+    go false i later = or_true (is_special_type a.production) (may_be_special rest) (later i)
+
+opens_in_encodings : (kind : Kind) (byte : ℕ) (p : Production) → nat_eq (number_of_kind kind) 4 ≡ true → choose kind byte ≡ Some p → opens p ≡ true
+unfolding choose
+opens_in_encodings kind byte p four e = picked_opens (alternatives kind) byte p (go (nat_eq (number_of_kind kind) 4) (all_open (alternatives kind)) four (encodings_open kind)) e
+  where
+    go : (a b : Bool) → a ≡ true → not a || b ≡ true → b ≡ true
+    go true b h k = k
+    go false b h k = absurd (false≢true h)
+
+special_in : (kind : Kind) (byte : ℕ) (p : Production) → choose kind byte ≡ Some p → is_special_type p ≡ true → nat_eq (number_of_kind kind) 5 ≡ true
+unfolding choose
+special_in kind byte p e h = go (nat_eq (number_of_kind kind) 5) (may_be_special (alternatives kind)) (picked_special (alternatives kind) byte p e h) (special_types kind)
+  where
+    go : (a b : Bool) → b ≡ true → a || not b ≡ true → a ≡ true
+    go true b h k = refl
+    go false true h k = k
+    go false false h k = absurd (false≢true h)
+
+one_production : (p q : Production) (rule : Rule) → rule ≡ rule_of p → rule ≡ rule_of q → q ≡ p
+one_production p q rule is so = sym (at_number q) ∙ ap (λ x. production_at x.number) (sym so ∙ is) ∙ at_number p
+
+special_kind : (p : Production) (k : ℕ) (rule : Rule) (taken : List ℕ) → rule ≡ rule_of p → k < abi.kinds → TakesRule abi k rule taken → is_special_type p ≡ true → nat_eq k 5 ≡ true
+special_kind p k rule taken is lt takes h =
+    let c = chosen_rule k rule taken lt takes in
+    ap (λ n. nat_eq n 5) c.number ∙ special_in c.kind c.byte c.production c.chosen (ap is_special_type (one_production p c.production rule is c.is) ∙ h)
+
+-- ## Encodings
+
+closed_encoding : (v : Value) (items : Term) → is_open (encoding_of v items) ≡ false
+unfolding encoding_of is_open
+closed_encoding v (list a b) = go (has_return_type (tree_of v))
+  where
+    go : (r : Bool) → is_open (elim r [
+      | true ↦ function (tree_of v) (qualifiers_of v) (ref_of v) a (parameters b)
+      | false ↦ function (tree_of v) (qualifiers_of v) (ref_of v) absent (parameters (list a b))
+    ]) ≡ false
+    go true = refl
+    go false = refl
+closed_encoding v _ = refl
+
+-- what goes into a part in which nothing is named
+nameless_ : (at : ℕ) → List Value → State → Next Value State Around
+nameless_ at vs state = record { context = in_name at; values = vs; state = state }
+
+special_closed : (f : Forest) (rule : Open State Around) (from : ℕ) (state : State) (r : Found (List Value) State) → production_at rule.rule.number ≡ Production.Special →
+    AreTrees abi (parts_of Production.Special) f → rule.context.encoding < rule.place → rule.place ≤ from → AllOld rule.context rule.place state.candidates →
+    unfold_forest cpp rule [] from f state ≡ Ok r → is_open (tree_of (part r.value 0)) ≡ false
+unfolding cpp parts_of number_of_kind between is_encoding nameless_ part in_name
+special_closed (grown t nothing) rule from state r is trees lt le old e =
+    let around = rule.context in
+    let at = rule.place in
+    let s = stepped rule [] from state t nothing r (nameless_ at [] state) (ap (λ p. between p around at [] state) is) e in
+    let c = name_comes t (tree_good t) (OfKind 5) at from state s.part (known 5 (lit≤ tt)) trees.0 refl le (old_later (in_name at) at from state.candidates le (old_inner around at state.candidates lt old)) s.is in
+    let same : found (c.value ∷ []) s.part.state ≡ r = same_found [] s.part.value (c.value ∷ []) s.part.state r c.is s.rest in
+    subst (λ x. is_open (tree_of (part x.value 0)) ≡ false) same ((good_tree (Bare (in_name at)) c.value c.good).closed refl)
+special_closed nothing rule from state r is trees lt le old e = absurd trees
+special_closed (grown t (grown u f)) rule from state r is trees lt le old e = absurd trees.1
+
+inner_closed : (p : Production) → opens p ≡ true → (f : Forest) (rule : Open State Around) (from : ℕ) (state : State) (r : Found (List Value) State) → production_at rule.rule.number ≡ p → AreTrees abi (parts_of p) f →
+    rule.context.encoding < rule.place → rule.place ≤ from → AllOld rule.context rule.place state.candidates → unfold_forest cpp rule [] from f state ≡ Ok r →
+    (byte : ℕ) (around : Around) → is_open (tree_of (meaning p byte around r.value)) ≡ false
+unfolding opens meaning tree_of is_open
+inner_closed Production.Encoding o f rule from state r is trees lt le old e byte around = closed_encoding (part r.value 0) (no_items (part r.value 1))
+inner_closed Production.Special o f rule from state r is trees lt le old e byte around = special_closed f rule from state r is trees lt le old e
+inner_closed Production.Guard o f rule from state r is trees lt le old e byte around = refl
+inner_closed Production.Mark o f rule from state r is trees lt le old e byte around = absurd (false≢true o)
+inner_closed _ o f rule from state r is trees lt le old e byte around = absurd (false≢true o)
+
+encoded_closed : (t : Tree) (around : Around) (at : ℕ) (state : State) (r : Found (List Value) State) → IsTree abi (OfKind 4) t → around.encoding < at → AllOld around at state.candidates →
+    unfold_tree cpp around at t state ≡ Ok r → is_open (tree_of (part r.value 0)) ≡ false
+unfolding cpp part tree_of is_open
+encoded_closed (branch rule taken parts) around at state r tree less old e =
+    let whole = Whole rule taken at around state in
+    let c = chosen_rule 4 rule taken (known 4 (lit≤ tt)) tree.0 in
+    let p = c.production in
+    let opening_ = opens_in_encodings c.kind c.byte p (sym (ap (λ n. nat_eq n 4) c.number)) c.chosen in
+    let byte = byte_of taken in
+    let from = at + length taken in
+    let begun = behind_bind (opening (production_at rule.number) parts at state)
+    (λ begun. unfold_forest cpp whole [] from parts begun >>= λ inner. close (production_at rule.number) byte around at state inner.value inner.state >>= alone) r e in
+    let kept = opening_keeps (production_at rule.number) parts at state begun.value begun.is in
+    let onward = subst (λ s. (unfold_forest cpp whole [] from parts s >>= λ inner. close (production_at rule.number) byte around at state inner.value inner.state >>= alone) ≡ Ok r) kept begun.next in
+    let inner = behind_bind (unfold_forest cpp whole [] from parts state) (λ inner. close (production_at rule.number) byte around at state inner.value inner.state >>= alone) r onward in
+    let ended = behind_bind (close (production_at rule.number) byte around at state inner.value.value inner.value.state) alone r inner.next in
+    let one = ended.value in
+    let same : found (one.value ∷ []) one.state ≡ r = ok_same (found (one.value ∷ []) one.state) r ended.next in
+    let number : production_at rule.number ≡ p = ap (λ x. production_at x.number) c.is ∙ at_number p in
+    let trees = subst (λ xs. AreTrees abi xs parts) (ap symbols_of c.is ∙ its_symbols p) tree.1 in
+    let closed = inner_closed p opening_ parts whole from state inner.value number trees less (omega arith) old inner.is byte around in
+    let ends : close p byte around at state inner.value.value inner.value.state ≡ Ok one = sym (ap (λ q. close q byte around at state inner.value.value inner.value.state) number) ∙ ended.is in
+    let means = inner_closes p opening_ byte around at state inner.value.value inner.value.state one ends in
+    subst (λ x. is_open (tree_of (part x.value 0)) ≡ false) same (subst (λ x. is_open (tree_of x.value) ≡ false) means closed)
+encoded_closed empty around at state r tree less old e = subst (λ x. is_open (tree_of (part x.value 0)) ≡ false) (ok_same (found (nothing_there ∷ []) state) r e) refl
+encoded_closed _ around at state r tree less old e = absurd tree
+
+-- ## Encodings among the parts of a production
+
+-- the values behind the parts so far are those of the next parts
+abbrev Keeps : Production → Type 0
+Keeps p = (around : Around) (place : ℕ) (vs : List Value) (state : State) (n : Next Value State Around) → between p around place vs state ≡ Ok n → n.values ≡ vs
+
+goes_on : (vs : List Value) (around : Around) (state : State) (n : Next Value State Around) →
+    ◌≡◌ {A = Result (Next Value State Around) Refusal} (Ok (record { context = around; values = vs; state = state })) (Ok n) → n.values ≡ vs
+goes_on vs around state n e = let next : Next Value State Around = record { context = around; values = vs; state = state } in ap (λ x. x.values) (sym (ok_same next n e))
+
+keeps : (p : Production) → has_encoding (parts_of p) ≡ true → Keeps p
+unfolding has_encoding is_encoding parts_of number_of_kind between
+keeps Production.Symbol h around place vs state n e = goes_on vs around state n e
+keeps Production.NonVirtualThunk h around place vs state n e = goes_on vs around state n e
+keeps Production.VirtualThunk h around place vs state n e = goes_on vs around state n e
+keeps Production.CovariantThunk h around place vs state n e = goes_on vs around state n e
+keeps Production.EncodingLiteral h around place vs state n e = goes_on vs around state n e
+keeps Production.Address h around place vs state n e = goes_on vs around state n e
+keeps Production.LocalName h around place [] state n e = goes_on [] around state n e
+keeps Production.LocalName h around place (v ∷ vs) state n e = goes_on (v ∷ vs) _ state n e
+keeps Production.LocalType h around place [] state n e = goes_on [] around state n e
+keeps Production.LocalType h around place (v ∷ vs) state n e = goes_on (v ∷ vs) _ state n e
+keeps _ h around place vs state n e = absurd (false≢true h)
+
+abbrev Encodings : List Sym → List Value → Type 0
+Encodings [] vs = Unit {0}
+Encodings (x ∷ xs) [] = Unit {0}
+Encodings (x ∷ xs) (v ∷ vs) = (is_encoding x ≡ true → is_open (tree_of v) ≡ false) × Encodings xs vs
+
+record Reads (xs : List Sym) (vs : List Value) (r : Found (List Value) State) : Type 0 where
+  more : List Value
+  is : r.value ≡ vs ++ more
+  closed : Encodings xs more
+
+as_encoding : (x : Sym) (t : Tree) → is_encoding x ≡ true → IsTree abi x t → IsTree abi (OfKind 4) t
+unfolding is_encoding
+as_encoding (OfKind k) t h is = subst (λ n. IsTree abi (OfKind n) t) (eqb-true k 4 h) is
+as_encoding _ t h is = absurd (false≢true h)
+
+forest_closed : (f : Forest) (rule : Open State Around) (xs : List Sym) (vs : List Value) (at : ℕ) (state : State) (r : Found (List Value) State) →
+    StaysInside (production_at rule.rule.number) → Keeps (production_at rule.rule.number) → AreSymbols abi xs → AreTrees abi xs f → rule.context.encoding ≤ at → (has_encoding xs ≡ true → rule.context.encoding < at) →
+    GoodPrefix (Bare rule.context) rule.context.prefix → AllGood (Bare rule.context) vs → AllOld rule.context at state.candidates → unfold_forest cpp rule vs at f state ≡ Ok r → Reads xs vs r
+unfolding cpp has_encoding part
+forest_closed nothing rule [] vs at state r stays keep known trees le inside pre good old e =
+    record { more = []; is = ap (λ x. x.value) (sym (ok_same (found vs state) r e)) ∙ sym (append-nil vs); closed = tt }
+forest_closed nothing rule (x ∷ xs) vs at state r stays keep known trees le inside pre good old e = absurd trees
+forest_closed (grown t f) rule [] vs at state r stays keep known trees le inside pre good old e = absurd trees
+forest_closed (grown t f) rule (x ∷ xs) vs at state r stays keep known trees le inside pre good old e =
+    let around = rule.context in
+    let later = at + length (spell t) in
+    let b = behind_bind (between (production_at rule.rule.number) around rule.place vs state)
+    (λ next. unfold_tree cpp next.context at t next.state >>= λ part. unfold_forest cpp rule (next.values ++ part.value) (at + length (spell t)) f part.state) r e in
+    let n = b.value in
+    let g = between_goes (production_at rule.rule.number) around rule.place vs state n at stays pre good b.is in
+    let c = behind_bind (unfold_tree cpp n.context at t n.state) (λ part. unfold_forest cpp rule (n.values ++ part.value) (at + length (spell t)) f part.state) r b.next in
+    let this = c.value in
+    let old1 = old_grows around at at state n.state (omega arith) old g.grows in
+    let old3 = old_fits around n.context at n.state.candidates g.fits old1 in
+    let tree = tree_good t x n.context at n.state this known.0 trees.0 (omega (arith, g.fits.encoding, le)) (λ opening. omega (arith, g.fits.encoding, inside (or_first (is_encoding x) (has_encoding xs) opening)))
+    g.fits.prefix old3 c.is in
+    let grown1 = grows_fits around n.context later n.state this.state g.fits tree.grows in
+    let old2 = old_grows around at later n.state this.state (omega arith) old1 grown1 in
+    let good1 = one_good (Bare around) tree.value this.value tree.is (good_fits around n.context (held tree.value) g.fits tree.good) in
+    let rest = forest_closed f rule xs (n.values ++ this.value) later this.state r stays keep known.1 trees.1 (omega (arith, le))
+    (λ opening. omega (arith, inside (or_true (is_encoding x) (has_encoding xs) opening))) pre (all_append (Bare around) n.values this.value g.values good1) old2 c.next in
+    record {
+      more = tree.value ∷ rest.more;
+      is = rest.is ∙ ap (λ us. (us ++ this.value) ++ rest.more) (keep around rule.place vs state n b.is) ∙ ap (λ us. (vs ++ us) ++ rest.more) tree.is ∙ append_assoc vs (tree.value ∷ []) rest.more;
+      closed = (
+        λ opening. subst (λ us. is_open (tree_of (part us 0)) ≡ false) tree.is
+            (encoded_closed t n.context at n.state this (as_encoding x t opening trees.0) (omega (arith, g.fits.encoding, inside (or_first (is_encoding x) (has_encoding xs) opening))) old3 c.is),
+        rest.closed,
+      );
+    }
+  where
+    or_first : (a b : Bool) → a ≡ true → a || b ≡ true
+    or_first a b h = ap (λ c. c || b) h
+
+inside_values : (p : Production) (vs : List Value) → opens p ≡ false → (has_encoding (parts_of p) ≡ true → Encodings (parts_of p) vs) → (is_special_type p ≡ true → is_open (tree_of (part vs 0)) ≡ false) → Inside p vs
+unfolding opens has_encoding is_encoding parts_of number_of_kind part tree_of is_open is_special_type number_of
+inside_values Production.Symbol (u ∷ v ∷ vs) plain all special = (all refl).1.0 refl
+inside_values Production.Symbol (v ∷ []) plain all special = refl
+inside_values Production.Symbol [] plain all special = refl
+inside_values Production.NonVirtualThunk (u ∷ v ∷ w ∷ vs) plain all special = (all refl).1.1.0 refl
+inside_values Production.NonVirtualThunk (u ∷ v ∷ []) plain all special = refl
+inside_values Production.NonVirtualThunk (v ∷ []) plain all special = refl
+inside_values Production.NonVirtualThunk [] plain all special = refl
+inside_values Production.VirtualThunk (u ∷ v ∷ w ∷ x ∷ y ∷ vs) plain all special = (all refl).1.1.1.1.0 refl
+inside_values Production.VirtualThunk (u ∷ v ∷ w ∷ x ∷ []) plain all special = refl
+inside_values Production.VirtualThunk (u ∷ v ∷ w ∷ []) plain all special = refl
+inside_values Production.VirtualThunk (u ∷ v ∷ []) plain all special = refl
+inside_values Production.VirtualThunk (v ∷ []) plain all special = refl
+inside_values Production.VirtualThunk [] plain all special = refl
+inside_values Production.CovariantThunk (u ∷ v ∷ w ∷ vs) plain all special = (all refl).1.1.0 refl
+inside_values Production.CovariantThunk (u ∷ v ∷ []) plain all special = refl
+inside_values Production.CovariantThunk (v ∷ []) plain all special = refl
+inside_values Production.CovariantThunk [] plain all special = refl
+inside_values Production.LocalName (v ∷ vs) plain all special = (all refl).0 refl
+inside_values Production.LocalName [] plain all special = refl
+inside_values Production.LocalType (v ∷ vs) plain all special = (all refl).0 refl
+inside_values Production.LocalType [] plain all special = refl
+inside_values Production.EncodingLiteral (u ∷ v ∷ vs) plain all special = (all refl).1.0 refl
+inside_values Production.EncodingLiteral (v ∷ []) plain all special = refl
+inside_values Production.EncodingLiteral [] plain all special = refl
+inside_values Production.Address (u ∷ v ∷ w ∷ vs) plain all special = (all refl).1.1.0 refl
+inside_values Production.Address (u ∷ v ∷ []) plain all special = refl
+inside_values Production.Address (v ∷ []) plain all special = refl
+inside_values Production.Address [] plain all special = refl
+inside_values Production.SpecialType vs plain all special = special refl
+inside_values Production.Encoding vs plain all special = absurd (true≢false plain)
+inside_values Production.Special vs plain all special = absurd (true≢false plain)
+inside_values Production.Guard vs plain all special = absurd (true≢false plain)
+inside_values _ vs plain all special = tt
+
+first_closed : (s : Type 0) (vs : List Value) → s → AllGood s vs → is_open (tree_of (part vs 0)) ≡ false
+unfolding part tree_of is_open
+first_closed s [] bare all = refl
+first_closed s (v ∷ vs) bare all = (good_tree s v all.0).closed bare
+
+-- Encodings among the parts of a production have no free parameters.
+pub insides : (p : Production) (rule : Rule) (taken : List ℕ) (parts : Forest) (k : ℕ) (around : Around) (at : ℕ) (state : State) (inner : Found (List Value) State) → rule ≡ rule_of p → opens p ≡ false → k < abi.kinds →
+    IsTree abi (OfKind k) (branch rule taken parts) → around.encoding ≤ at → (nat_eq k 5 ≡ true → Bare around) → GoodPrefix (Bare around) around.prefix → AllOld around at state.candidates →
+    unfold_forest cpp (Whole rule taken at around state) [] (at + length taken) parts state ≡ Ok inner → Inside p inner.value
+insides p rule taken parts k around at state inner is plain lt tree le special pre old e =
+    let whole = Whole rule taken at around state in
+    let number : production_at rule.number ≡ p = ap (λ x. production_at x.number) is ∙ at_number p in
+    let inside_ : StaysInside (production_at rule.number) = subst (λ q. StaysInside q) (sym number) (stays p plain) in
+    let from = at + length taken in
+    let symbols = (lawful.rule k tree.0.byte rule lt tree.0.is_byte tree.0.found).symbols in
+    let same : symbols_of rule ≡ parts_of p = ap symbols_of is ∙ its_symbols p in
+    let old0 = old_later around at from state.candidates (omega arith) old in
+    inside_values p inner.value plain
+    (λ has.
+    let reads = forest_closed parts whole (symbols_of rule) [] from state inner inside_ (subst (λ q. Keeps q) (sym number) (keeps p has)) symbols tree.1 (omega (arith, le))
+    (λ any. omega (arith, le, takes_byte p rule k taken is tree.0 any)) pre tt old0 e in
+    subst (λ us. Encodings (parts_of p) us) (sym reads.is) (subst (λ xs. Encodings xs reads.more) same reads.closed))
+    (λ is_type.
+    let all = forest_good parts (trees_good parts) whole (symbols_of rule) [] from state inner inside_ symbols tree.1 (omega (arith, le))
+    (λ any. omega (arith, le, takes_byte p rule k taken is tree.0 any)) pre tt old0 e in
+    first_closed (Bare around) inner.value (special (special_kind p k rule taken is lt tree.0 is_type)) all.good)

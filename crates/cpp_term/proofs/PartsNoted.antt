@@ -1,0 +1,336 @@
+-- The parts of an annotated item are those of the item.
+use Rattle.std.proofs.Common.{◌≡◌, refl, ap, sym, ◌∙◌, ℕ, zero, suc, ◌+◌, List, [], ◌∷◌, ◌++◌, Bool, true, false, cond, Option, Some, None, codes}
+use Prim.Native.String.{String}
+use Rattle.sym_print.specs.declared.detail.Detail.{Detail}
+use Rattle.sym_print.specs.declared.detail.Detail.TheVariants.{Full, Brief}
+use Rattle.sym_print.specs.Unfold.{PartOf, text, sub}
+use Rattle.cpp_grammar.specs.Term.{Qualifiers, RefQualifier, Signed, Term, symbol, function, object, guard, alone, in_std, within, instance, local, abbreviation, parameter, source, operator, constructor, destructor, lambda, builtin, pointer, lvalue, rvalue, array, member_pointer, function_type, qualified, expansion, integer, pack, nil, list, absent}
+use Rattle.cpp_grammar.specs.Scope.{arguments_of}
+use Rattle.cpp_grammar.specs.Items.{Form, root, full, bare, left, right, low, base, piece, first, more, expand, Context, Item, closed, argument, head, is_reference, is_funarr, packs_of, is_empty}
+use Rattle.cpp_grammar.specs.Parts as leaf_
+use Rattle.cpp_grammar.specs.Parts.{qualifier_text, ref_text, blank_last, encoding_text, is_below}
+use Rattle.cpp_grammar.specs.Texts.{look_up, literal_endings}
+use Rattle.cpp_term.specs.Term as term_
+use Rattle.cpp_term.specs.Items as item_
+use Rattle.cpp_term.specs.Parts as part_
+use Rattle.cpp_term.specs.Annotated.{argument_in, annotate, noted_scope, noted_context, noted_item, noted_part, noted_parts}
+use Rattle.cpp_term.proofs.Notes.{both, scope_noted, argument_noted, packs_of_noted, head_noted, empty_noted}
+
+noted_append : (xs ys : List (PartOf Item)) → noted_parts (xs ++ ys) ≡ noted_parts xs ++ noted_parts ys
+unfolding noted_parts
+noted_append [] ys = refl
+noted_append (x ∷ xs) ys = ap (λ ps. noted_part x ∷ ps) (noted_append xs ys)
+
+-- two lists of parts, one behind the other
+joins : (xs ys : List (PartOf Item)) (us ws : List (PartOf item_.Item)) → us ≡ noted_parts xs → ws ≡ noted_parts ys → us ++ ws ≡ noted_parts (xs ++ ys)
+joins xs ys us ws e g = both (λ ps qs. ps ++ qs) e g ∙ sym (noted_append xs ys)
+
+text_noted : (b : List ℕ) → part_.text_part b ≡ noted_parts (leaf_.text_part b)
+unfolding part_.text_part leaf_.text_part noted_parts noted_part
+text_noted [] = refl
+text_noted (b ∷ bs) = refl
+
+choice : (b c : Bool) (xs ys : List (PartOf Item)) (us ws : List (PartOf item_.Item)) → c ≡ b → us ≡ noted_parts xs → ws ≡ noted_parts ys →
+    ◌≡◌ {A = List (PartOf item_.Item)} (elim c [ true ↦ us | false ↦ ws ]) (noted_parts (elim b [ true ↦ xs | false ↦ ys ]))
+choice true true xs ys us ws e f g = f
+choice false false xs ys us ws e f g = g
+choice true false xs ys us ws e f g = absurd cc
+choice false true xs ys us ws e f g = absurd cc
+
+-- the scope of a context, annotated
+abbrev at : Context → Option term_.Term
+at c = noted_scope c.scope
+
+list_noted : (form : Form) (c : Context) (t : Term) → part_.list_part form (noted_context c) (annotate (at c) t) ≡ noted_parts (leaf_.list_part form c t)
+unfolding part_.list_part leaf_.list_part annotate noted_parts noted_part noted_item
+list_noted form c nil = refl
+list_noted form c _ = refl
+
+piece_noted : (c : Context) (t : Term) → part_.piece_parts (noted_context c) (annotate (at c) t) ≡ noted_parts (leaf_.piece_parts c t)
+unfolding part_.piece_parts leaf_.piece_parts annotate noted_parts noted_part noted_item
+piece_noted c (lambda parameters number) = ap (λ ps. text (codes "{lambda(") ∷ ps)
+    (joins (leaf_.list_part first c parameters) _ (part_.list_part first (noted_context c) (annotate (at c) parameters)) _ (list_noted first c parameters) refl)
+piece_noted c (source internal bytes) = refl
+piece_noted c _ = refl
+
+prefix_noted : (c : Context) (t : Term) → part_.prefix_item (noted_context c) (annotate (at c) t) ≡ noted_part (leaf_.prefix_item c t)
+unfolding part_.prefix_item leaf_.prefix_item annotate noted_part noted_item noted_context
+prefix_noted c (function name q ref returned parameters) = refl
+prefix_noted c _ = refl
+
+within_noted : (c : Context) (prefix p : Term) → part_.within_parts (noted_context c) (annotate (at c) prefix) (annotate (at c) p) ≡ noted_parts (leaf_.within_parts c prefix p)
+unfolding part_.within_parts leaf_.within_parts annotate noted_parts noted_part noted_item
+within_noted c prefix (constructor digit) = refl
+within_noted c prefix (destructor digit) = refl
+within_noted c prefix p = ap (λ i. i ∷ part_.says "::" ∷ part_.as_item piece (noted_context c) (annotate (at c) p) ∷ []) (prefix_noted c prefix)
+
+opening_noted : (s : Option term_.Term) (t : Term) → part_.opening_text (annotate s t) ≡ leaf_.opening_text t
+unfolding part_.opening_text leaf_.opening_text annotate
+opening_noted s (operator a b) = refl
+opening_noted s _ = refl
+
+last_noted : (s : Option term_.Term) (t : Term) → part_.opening_text (part_.last_piece (annotate s t)) ≡ leaf_.opening_text (leaf_.last_piece t)
+unfolding part_.last_piece leaf_.last_piece annotate
+last_noted s (alone p) = opening_noted s p
+last_noted s (in_std p) = opening_noted s p
+last_noted s (within prefix p) = opening_noted s p
+last_noted s (local encoding entity discriminator) = last_noted s entity
+last_noted s _ = opening_noted s absent
+
+instance_noted : (d : Detail) (c : Context) (t arguments : Term) → part_.instance_parts d (noted_context c) (annotate (at c) t) (annotate (at c) arguments) ≡ noted_parts (leaf_.instance_parts d c t arguments)
+unfolding part_.instance_parts leaf_.instance_parts noted_parts noted_part noted_item
+instance_noted Brief c t arguments = refl
+instance_noted Full c t arguments = both (λ b ps. part_.as_item left (noted_context c) (annotate (at c) t) ∷ text b ∷ ps) (last_noted (at c) t)
+    (joins (leaf_.list_part first c arguments) _ (part_.list_part first (noted_context c) (annotate (at c) arguments)) _ (list_noted first c arguments) refl)
+
+marked_noted : (c : Context) (t : Term) (mark : String) → part_.marked_parts (noted_context c) (annotate (at c) t) mark ≡ noted_parts (leaf_.marked_parts c t mark)
+unfolding part_.marked_parts leaf_.marked_parts noted_parts noted_part noted_item
+marked_noted c t mark = choice (is_funarr (head c t)) (is_funarr (item_.head (noted_context c) (annotate (at c) t))) _ _ _ _ (ap is_funarr (head_noted c t)) refl refl
+
+reference_noted : (c : Context) (form : Form) (t : Term) (mark : String) → part_.reference_parts (noted_context c) form (annotate (at c) t) mark ≡ noted_parts (leaf_.reference_parts c form t mark)
+unfolding part_.reference_parts leaf_.reference_parts noted_parts noted_part noted_item
+reference_noted c form t mark = choice (is_reference (head c t)) (is_reference (item_.head (noted_context c) (annotate (at c) t))) _ (leaf_.marked_parts c t mark) _ (part_.marked_parts (noted_context c) (annotate (at c) t) mark) (ap is_reference (head_noted c t)) refl (marked_noted c t mark)
+
+qualified_noted : (c : Context) (q : Qualifiers) (t : Term) → part_.qualified_left (noted_context c) q (annotate (at c) t) ≡ noted_parts (leaf_.qualified_left c q t)
+unfolding part_.qualified_left leaf_.qualified_left noted_parts noted_part noted_item annotate
+qualified_noted c q (function_type c_linkage noexcept ref returned parameters) = refl
+qualified_noted c q t = choice (is_reference (head c t)) (is_reference (item_.head (noted_context c) (annotate (at c) t))) _
+    (elim (is_funarr (head c t)) [ true ↦ leaf_.as_item left c t ∷ leaf_.text_part (blank_last (qualifier_text q)) | false ↦ leaf_.as_item left c t ∷ leaf_.text_part (qualifier_text q) ]) _ _
+    (ap is_reference (head_noted c t)) refl
+    (choice (is_funarr (head c t)) (is_funarr (item_.head (noted_context c) (annotate (at c) t))) (leaf_.as_item left c t ∷ leaf_.text_part (blank_last (qualifier_text q))) (leaf_.as_item left c t ∷ leaf_.text_part (qualifier_text q)) _ _ (ap is_funarr (head_noted c t))
+    (ap (λ ps. part_.as_item left (noted_context c) (annotate (at c) t) ∷ ps) (text_noted (blank_last (qualifier_text q))))
+    (ap (λ ps. part_.as_item left (noted_context c) (annotate (at c) t) ∷ ps) (text_noted (qualifier_text q))))
+
+expansion_noted : (c : Context) (t : Term) (m : Option ℕ) → part_.expansion_parts (noted_context c) (annotate (at c) t) m ≡ noted_parts (leaf_.expansion_parts c t m)
+unfolding part_.expansion_parts leaf_.expansion_parts noted_parts noted_part noted_item
+expansion_noted c t None = refl
+expansion_noted c t (Some zero) = refl
+expansion_noted c t (Some (suc m)) = refl
+
+sign_noted : (n : Signed) → part_.sign_part n ≡ noted_parts (leaf_.sign_part n)
+unfolding part_.sign_part leaf_.sign_part noted_parts noted_part
+sign_noted n = go n.negative
+  where
+    go : (b : Bool) → cond b (part_.says "-" ∷ []) [] ≡ noted_parts (cond b (leaf_.says "-" ∷ []) [])
+    go true = refl
+    go false = refl
+
+plain_noted : (s : Option term_.Term) (t : Term) → part_.is_plain_integer (annotate s t) ≡ leaf_.is_plain_integer t
+unfolding part_.is_plain_integer leaf_.is_plain_integer annotate
+plain_noted s (builtin []) = refl
+plain_noted s (builtin (c ∷ [])) = refl
+plain_noted s (builtin (c ∷ d ∷ ds)) = refl
+plain_noted s _ = refl
+
+code_noted : (s : Option term_.Term) (t : Term) → part_.builtin_code (annotate s t) ≡ leaf_.builtin_code t
+unfolding part_.builtin_code leaf_.builtin_code annotate
+code_noted s (builtin code) = refl
+code_noted s _ = refl
+
+integer_noted : (c : Context) (t : Term) (n : Signed) → part_.integer_parts (noted_context c) (annotate (at c) t) n ≡ noted_parts (leaf_.integer_parts c t n)
+unfolding part_.integer_parts leaf_.integer_parts noted_parts noted_part noted_item
+integer_noted c t n = choice (leaf_.is_plain_integer t) (part_.is_plain_integer (annotate (at c) t))
+    (leaf_.sign_part n ++ (text n.digits ∷ leaf_.text_part (look_up (leaf_.builtin_code t) literal_endings)))
+    ((leaf_.says "(" ∷ leaf_.as_item left c t ∷ leaf_.as_item right c t ∷ leaf_.says ")" ∷ []) ++ leaf_.sign_part n ++ (text n.digits ∷ []))
+    (part_.sign_part n ++ (text n.digits ∷ part_.text_part (look_up (part_.builtin_code (annotate (at c) t)) literal_endings)))
+    ((part_.says "(" ∷ part_.as_item left (noted_context c) (annotate (at c) t) ∷ part_.as_item right (noted_context c) (annotate (at c) t) ∷ part_.says ")" ∷ []) ++ part_.sign_part n ++ (text n.digits ∷ []))
+    (plain_noted (at c) t)
+    (joins (leaf_.sign_part n) (text n.digits ∷ leaf_.text_part (look_up (leaf_.builtin_code t) literal_endings)) (part_.sign_part n) (text n.digits ∷ part_.text_part (look_up (part_.builtin_code (annotate (at c) t)) literal_endings)) (sign_noted n)
+    (ap (λ b. text n.digits ∷ part_.text_part (look_up b literal_endings)) (code_noted (at c) t) ∙ ap (λ ps. text n.digits ∷ ps) (text_noted (look_up (leaf_.builtin_code t) literal_endings))))
+    (joins (leaf_.says "(" ∷ leaf_.as_item left c t ∷ leaf_.as_item right c t ∷ leaf_.says ")" ∷ []) (leaf_.sign_part n ++ (text n.digits ∷ [])) _ (part_.sign_part n ++ (text n.digits ∷ [])) refl
+    (joins (leaf_.sign_part n) (text n.digits ∷ []) (part_.sign_part n) (text n.digits ∷ []) (sign_noted n) refl))
+
+member_noted : (c : Context) (class t : Term) → part_.member_parts (noted_context c) (annotate (at c) class) (annotate (at c) t) ≡ noted_parts (leaf_.member_parts c class t)
+unfolding part_.member_parts leaf_.member_parts noted_parts noted_part noted_item
+member_noted c class t = choice (is_funarr (head c t)) (is_funarr (item_.head (noted_context c) (annotate (at c) t))) _ _ _ _ (ap is_funarr (head_noted c t)) refl refl
+
+array_noted : (c : Context) (t : Term) → part_.array_left (noted_context c) (annotate (at c) t) ≡ noted_parts (leaf_.array_left c t)
+unfolding part_.array_left leaf_.array_left noted_parts noted_part noted_item
+array_noted c t = choice (is_funarr (head c t)) (is_funarr (item_.head (noted_context c) (annotate (at c) t))) _ _ _ _ (ap is_funarr (head_noted c t)) refl refl
+
+named_noted : (c : Context) (form : Form) (k : ℕ) → (part_.as_item form item_.closed (item_.argument (noted_context c) (argument_in (at c) k)) ∷ []) ≡ noted_parts (leaf_.as_item form closed (argument c k) ∷ [])
+unfolding noted_parts noted_part noted_item noted_context noted_scope
+named_noted c form k = ap (λ t. part_.as_item form item_.closed t ∷ []) (argument_noted c k)
+
+left_noted : (d : Detail) (c : Context) (t : Term) → part_.left_parts d (noted_context c) (annotate (at c) t) ≡ noted_parts (leaf_.left_parts d c t)
+unfolding part_.left_parts leaf_.left_parts annotate noted_parts noted_part noted_item noted_context noted_scope
+left_noted d c (alone p) = piece_noted c p
+left_noted d c (within prefix p) = within_noted c prefix p
+left_noted d c (instance template arguments) = instance_noted d c template arguments
+left_noted d c (parameter k) = named_noted c left k
+left_noted d c (pointer t) = marked_noted c t "*"
+left_noted d c (lvalue t) = reference_noted c low t "&"
+left_noted d c (rvalue t) = reference_noted c left t "&&"
+left_noted d c (array digits t) = array_noted c t
+left_noted d c (member_pointer class t) = member_noted c class t
+left_noted d c (qualified q t) = qualified_noted c q t
+left_noted d c (expansion pattern) = ap (part_.expansion_parts (noted_context c) (annotate (at c) pattern)) (packs_of_noted c pattern) ∙ expansion_noted c pattern (packs_of c pattern)
+left_noted d c (pack elements) = list_noted first c elements
+left_noted d c (integer t n) = integer_noted c t n
+left_noted d c _ = refl
+
+low_noted : (d : Detail) (c : Context) (t : Term) → part_.low_parts d (noted_context c) (annotate (at c) t) ≡ noted_parts (leaf_.low_parts d c t)
+unfolding part_.low_parts leaf_.low_parts annotate noted_parts noted_part noted_item
+low_noted d c (lvalue t) = reference_noted c low t "&"
+low_noted d c (rvalue t) = reference_noted c low t "&"
+low_noted d c (qualified q t) = refl
+low_noted d c (parameter k) = named_noted c low k
+low_noted d c t = left_noted d c t
+
+function_noted : (c : Context) (text_ : List ℕ) (ref : RefQualifier) (noexcept : Bool) (returned parameters : Term) →
+    part_.function_right (noted_context c) text_ ref noexcept (annotate (at c) returned) (annotate (at c) parameters) ≡ noted_parts (leaf_.function_right c text_ ref noexcept returned parameters)
+unfolding part_.function_right leaf_.function_right noted_parts noted_part noted_item
+function_noted c text_ ref noexcept returned parameters =
+    let behind : List ℕ = text_ ++ ref_text ref ++ cond noexcept (codes " noexcept") [] in
+    let opened = part_.says "(" ∷ part_.list_part first (noted_context c) (annotate (at c) parameters) in
+    joins ((leaf_.says "(" ∷ leaf_.list_part first c parameters) ++ (leaf_.says ")" ∷ leaf_.text_part behind)) (leaf_.as_item right c returned ∷ [])
+    (opened ++ (part_.says ")" ∷ part_.text_part behind)) (part_.as_item right (noted_context c) (annotate (at c) returned) ∷ [])
+    (joins (leaf_.says "(" ∷ leaf_.list_part first c parameters) (leaf_.says ")" ∷ leaf_.text_part behind) opened (part_.says ")" ∷ part_.text_part behind)
+    (ap (λ ps. part_.says "(" ∷ ps) (list_noted first c parameters)) (ap (λ ps. part_.says ")" ∷ ps) (text_noted behind)))
+    refl
+
+closing_noted : (c : Context) (t : Term) → part_.closing_right (noted_context c) (annotate (at c) t) ≡ noted_parts (leaf_.closing_right c t)
+unfolding part_.closing_right leaf_.closing_right noted_parts noted_part noted_item
+closing_noted c t = choice (is_funarr (head c t)) (is_funarr (item_.head (noted_context c) (annotate (at c) t))) _ _ _ _ (ap is_funarr (head_noted c t)) refl refl
+
+qualified_right_noted : (c : Context) (q : Qualifiers) (t : Term) → part_.qualified_right (noted_context c) q (annotate (at c) t) ≡ noted_parts (leaf_.qualified_right c q t)
+unfolding part_.qualified_right leaf_.qualified_right annotate noted_parts noted_part noted_item
+qualified_right_noted c q (function_type c_linkage noexcept ref returned parameters) = function_noted c (qualifier_text q) ref noexcept returned parameters
+qualified_right_noted c q _ = refl
+
+right_noted : (c : Context) (t : Term) → part_.right_parts (noted_context c) (annotate (at c) t) ≡ noted_parts (leaf_.right_parts c t)
+unfolding part_.right_parts leaf_.right_parts annotate noted_parts noted_part noted_item
+right_noted c (pointer t) = closing_noted c t
+right_noted c (lvalue t) = closing_noted c t
+right_noted c (rvalue t) = closing_noted c t
+right_noted c (member_pointer class t) = closing_noted c t
+right_noted c (array digits t) = joins (leaf_.says "[" ∷ leaf_.text_part digits) (leaf_.says "]" ∷ leaf_.as_item right c t ∷ []) (part_.says "[" ∷ part_.text_part digits) _
+    (ap (λ ps. part_.says "[" ∷ ps) (text_noted digits)) refl
+right_noted c (function_type c_linkage noexcept ref returned parameters) = function_noted c [] ref noexcept returned parameters
+right_noted c (qualified q t) = qualified_right_noted c q t
+right_noted c (parameter k) = named_noted c right k
+right_noted c _ = refl
+
+base_within_noted : (c : Context) (prefix p : Term) → part_.base_within (noted_context c) (annotate (at c) prefix) (annotate (at c) p) ≡ noted_parts (leaf_.base_within c prefix p)
+unfolding part_.base_within leaf_.base_within annotate noted_parts noted_part noted_item
+base_within_noted c prefix (constructor digit) = refl
+base_within_noted c prefix (destructor digit) = refl
+base_within_noted c prefix p = piece_noted c p
+
+base_noted : (d : Detail) (c : Context) (t : Term) → part_.base_parts d (noted_context c) (annotate (at c) t) ≡ noted_parts (leaf_.base_parts d c t)
+unfolding part_.base_parts leaf_.base_parts annotate noted_parts noted_part noted_item
+base_noted d c (alone p) = piece_noted c p
+base_noted d c (in_std p) = piece_noted c p
+base_noted d c (within prefix p) = base_within_noted c prefix p
+base_noted d c (instance template arguments) = refl
+base_noted d c (local encoding entity discriminator) = refl
+base_noted d c (abbreviation letter) = refl
+base_noted d c (parameter k) = named_noted c base k
+base_noted d c t = left_noted d c t
+
+-- ## Encodings
+
+-- the context of an encoding's types
+types_at : (name : Term) (form : Form) (t : Term) → part_.as_item form item_.closed (annotate (noted_scope (arguments_of name)) t) ≡ noted_part (leaf_.as_item form (leaf_.types_of name) t)
+unfolding noted_part noted_item noted_context leaf_.types_of
+types_at name form t = refl
+
+bare_noted : (name : Term) (q : Qualifiers) (ref : RefQualifier) (parameters : Term) →
+    part_.function_bare (annotate None name) q ref (annotate (noted_scope (arguments_of name)) parameters) ≡ noted_parts (leaf_.function_bare name q ref parameters)
+unfolding part_.function_bare leaf_.function_bare part_.types_of leaf_.types_of noted_parts noted_part noted_item noted_context noted_scope
+bare_noted name q ref parameters =
+    joins (leaf_.as_item left closed name ∷ leaf_.says "(" ∷ leaf_.list_part first (leaf_.types_of name) parameters) (leaf_.says ")" ∷ leaf_.text_part (encoding_text q ref)) _
+    (part_.says ")" ∷ part_.text_part (encoding_text q ref))
+    (ap (λ ps. part_.as_item left item_.closed (annotate None name) ∷ part_.says "(" ∷ ps) (list_noted first (leaf_.types_of name) parameters))
+    (ap (λ ps. part_.says ")" ∷ ps) (text_noted (encoding_text q ref)))
+
+whole_noted : (name : Term) (q : Qualifiers) (ref : RefQualifier) (returned parameters : Term) →
+    part_.function_full (annotate None name) q ref (annotate (noted_scope (arguments_of name)) returned) (annotate (noted_scope (arguments_of name)) parameters)
+    ≡ noted_parts (leaf_.function_full name q ref returned parameters)
+unfolding part_.function_full leaf_.function_full annotate part_.types_of leaf_.types_of noted_parts noted_part noted_item noted_context
+whole_noted name q ref absent parameters = bare_noted name q ref parameters
+whole_noted name q ref returned parameters =
+    let types = leaf_.types_of name in
+    let s = noted_scope (arguments_of name) in
+    joins (leaf_.as_item left types returned ∷ leaf_.says " " ∷ []) (leaf_.function_bare name q ref parameters ++ (leaf_.as_item right types returned ∷ [])) _ (part_.function_bare (annotate None name) q ref (annotate s parameters) ++ (part_.as_item right item_.closed (annotate s returned) ∷ []))
+    refl
+    (joins (leaf_.function_bare name q ref parameters) (leaf_.as_item right types returned ∷ []) (part_.function_bare (annotate None name) q ref (annotate s parameters)) (part_.as_item right item_.closed (annotate s returned) ∷ []) (bare_noted name q ref parameters) refl)
+
+full_noted : (s : Option term_.Term) (t : Term) → part_.full_parts (annotate s t) ≡ noted_parts (leaf_.full_parts t)
+unfolding part_.full_parts leaf_.full_parts annotate noted_parts noted_part noted_item noted_context noted_scope
+full_noted s (function name q ref returned parameters) =
+    ap (λ r. part_.function_full (annotate None name) q ref (annotate r returned) (annotate r parameters)) (scope_noted name) ∙ whole_noted name q ref returned parameters
+full_noted s (object name q ref) = ap (λ ps. part_.as_item left item_.closed (annotate None name) ∷ ps) (text_noted (encoding_text q ref))
+full_noted s (guard name q ref) = ap (λ ps. part_.says "guard variable for " ∷ part_.as_item left item_.closed (annotate None name) ∷ ps) (text_noted (encoding_text q ref))
+full_noted s _ = refl
+
+bare_all_noted : (s : Option term_.Term) (t : Term) → part_.bare_parts (annotate s t) ≡ noted_parts (leaf_.bare_parts t)
+unfolding part_.bare_parts leaf_.bare_parts annotate
+bare_all_noted s (function name q ref returned parameters) = ap (λ r. part_.function_bare (annotate None name) q ref (annotate r parameters)) (scope_noted name) ∙ bare_noted name q ref parameters
+bare_all_noted s t = full_noted s t
+
+root_noted : (s : Option term_.Term) (t : Term) → part_.root_parts (annotate s t) ≡ noted_parts (leaf_.root_parts t)
+unfolding part_.root_parts leaf_.root_parts annotate noted_parts noted_part noted_item noted_context noted_scope
+root_noted s (symbol e []) = refl
+root_noted s (symbol e (b ∷ bs)) = refl
+root_noted s _ = refl
+
+-- ## Lists and expansions
+
+first_noted : (c : Context) (t : Term) → part_.first_parts (noted_context c) (annotate (at c) t) ≡ noted_parts (leaf_.first_parts c t)
+unfolding part_.first_parts leaf_.first_parts annotate noted_parts noted_part noted_item
+first_noted c (list e rest) = choice (is_empty c e) (item_.is_empty (noted_context c) (annotate (at c) e)) (leaf_.list_part first c rest) ((leaf_.as_item left c e ∷ leaf_.as_item right c e ∷ []) ++ leaf_.list_part more c rest)
+    (part_.list_part first (noted_context c) (annotate (at c) rest)) _ (empty_noted c e) (list_noted first c rest)
+    (joins (leaf_.as_item left c e ∷ leaf_.as_item right c e ∷ []) (leaf_.list_part more c rest) _ (part_.list_part more (noted_context c) (annotate (at c) rest)) refl (list_noted more c rest))
+first_noted c _ = refl
+
+more_noted : (c : Context) (t : Term) → part_.more_parts (noted_context c) (annotate (at c) t) ≡ noted_parts (leaf_.more_parts c t)
+unfolding part_.more_parts leaf_.more_parts annotate noted_parts noted_part noted_item
+more_noted c (list e rest) = choice (is_empty c e) (item_.is_empty (noted_context c) (annotate (at c) e)) (leaf_.list_part more c rest) ((leaf_.says ", " ∷ leaf_.as_item left c e ∷ leaf_.as_item right c e ∷ []) ++ leaf_.list_part more c rest)
+    (part_.list_part more (noted_context c) (annotate (at c) rest)) _ (empty_noted c e) (list_noted more c rest)
+    (joins (leaf_.says ", " ∷ leaf_.as_item left c e ∷ leaf_.as_item right c e ∷ []) (leaf_.list_part more c rest) _ (part_.list_part more (noted_context c) (annotate (at c) rest)) refl (list_noted more c rest))
+more_noted c _ = refl
+
+comma_noted : (i : ℕ) → part_.comma_before i ≡ noted_parts (leaf_.comma_before i)
+unfolding part_.comma_before leaf_.comma_before noted_parts noted_part
+comma_noted zero = refl
+comma_noted (suc i) = refl
+
+rest_noted : (c : Context) (t : Term) (i : ℕ) → part_.expand_rest (noted_context c) (annotate (at c) t) i ≡ noted_parts (leaf_.expand_rest c t i)
+unfolding part_.expand_rest leaf_.expand_rest noted_parts noted_part noted_item
+rest_noted c t i = choice (is_below i (packs_of c t)) (is_below i (item_.packs_of (noted_context c) (annotate (at c) t))) _ _ _ _ (ap (is_below i) (packs_of_noted c t)) refl refl
+
+expand_noted : (c : Context) (t : Term) (i : ℕ) → part_.expand_parts (noted_context c) (annotate (at c) t) i ≡ noted_parts (leaf_.expand_parts c t i)
+unfolding part_.expand_parts leaf_.expand_parts noted_parts noted_part noted_item part_.at_index leaf_.at_index noted_context
+expand_noted c t i =
+    let both_ : List (PartOf Item) = leaf_.as_item left (leaf_.at_index i c) t ∷ leaf_.as_item right (leaf_.at_index i c) t ∷ [] in
+    joins (leaf_.comma_before i ++ both_) (leaf_.expand_rest c t (i + 1)) (part_.comma_before i ++ noted_parts both_) (part_.expand_rest (noted_context c) (annotate (at c) t) (i + 1))
+    (joins (leaf_.comma_before i) both_ (part_.comma_before i) (noted_parts both_) (comma_noted i) refl) (rest_noted c t (i + 1))
+
+-- ## All forms
+
+in_noted : (d : Detail) (c : Context) (form : Form) (t : Term) → part_.parts_in d (noted_context c) form (annotate (at c) t) ≡ noted_parts (leaf_.parts_in d c form t)
+unfolding part_.parts_in leaf_.parts_in
+in_noted d c root t = root_noted (at c) t
+in_noted d c full t = full_noted (at c) t
+in_noted d c bare t = bare_all_noted (at c) t
+in_noted d c left t = left_noted d c t
+in_noted d c right t = right_noted c t
+in_noted d c low t = low_noted d c t
+in_noted d c base t = base_noted d c t
+in_noted d c piece t = piece_noted c t
+in_noted d c first t = first_noted c t
+in_noted d c more t = more_noted c t
+in_noted d c (expand i) t = expand_noted c t i
+
+kept_noted : (ps : List (PartOf Item)) → part_.not_empty (noted_parts ps) ≡ noted_parts (leaf_.not_empty ps)
+unfolding part_.not_empty leaf_.not_empty noted_parts noted_part
+kept_noted [] = refl
+kept_noted (text [] ∷ ps) = kept_noted ps
+kept_noted (text (b ∷ bs) ∷ ps) = ap (λ qs. text (b ∷ bs) ∷ qs) (kept_noted ps)
+kept_noted (sub item ∷ ps) = ap (λ qs. sub (noted_item item) ∷ qs) (kept_noted ps)
+
+-- The parts of an item whose tree carries its arguments are those of the item, annotated.
+pub parts_noted : (d : Detail) (item : Item) → part_.parts d (noted_item item) ≡ noted_parts (leaf_.parts d item)
+unfolding part_.parts leaf_.parts noted_item
+parts_noted d item = ap part_.not_empty (in_noted d item.context item.form item.tree) ∙ kept_noted (leaf_.parts_in d item.context item.form item.tree)

@@ -1,0 +1,443 @@
+-- Unfolding with arguments is unfolding without, annotated.
+use Rattle.std.proofs.Common.{◌≡◌, refl, ap, sym, ◌∙◌, subst, ℕ, ◌+◌, ◌-◌, ◌<◌, ◌≤◌, ◌^◌, List, [], ◌∷◌, ◌++◌, length, Bool, true, false, not, ◌||◌, nat_eq, nat_lt, Option, None, Result, Ok, Err, inl, inr, arith, lit≤}
+use Rattle.std.proofs.lemmas.Bool.{true≢false, false≢true, cases_Bool}
+use Rattle.sym_core.specs.declared.refusal.Refusal.{Refusal}
+use Rattle.sym_core.specs.declared.refusal.Refusal.TheVariants.{BadValue}
+use Rattle.sym_shape.specs.declared.rule.Rule.{Rule}
+use Rattle.sym_shape.specs.declared.rule.Sym.{Sym}
+use Rattle.sym_shape.specs.declared.rule.Sym.TheVariants.{Kind as OfKind, Byte}
+use Rattle.sym_shape.specs.Table.{symbols_of}
+use Rattle.sym_shape.specs.Law.{IsSymbol}
+use Rattle.sym_shape.specs.Tree.{Tree, Forest, branch, empty, token, fixed, nothing, grown, spell, IsTree, AreTrees}
+use Rattle.sym_link.specs.Reading.{Found, Open, Next, ◌>>=◌}
+use Rattle.sym_link.specs.Unfold.{found, alone, unfold_tree, unfold_forest}
+use Rattle.cpp_grammar.specs.declared.production.Production.{Production}
+use Rattle.cpp_grammar.specs.Grammar.{parts_of, number_of_kind}
+use Rattle.cpp_grammar.specs.Table.{abi, rule_of}
+use Rattle.cpp_grammar.specs.TableLaws.{lawful}
+use Rattle.cpp_grammar.specs.Term.{Term}
+use Rattle.cpp_grammar.specs.Scope.{is_open, arguments_of}
+use Rattle.cpp_grammar.specs.Values.{Candidate, State, Around, Value, tree_of, local_number, part}
+use Rattle.cpp_grammar.specs.Between.{in_name, in_types, between, no_items}
+use Rattle.cpp_grammar.specs.Meaning.{meaning}
+use Rattle.cpp_grammar.specs.Unfolding as unfolding_
+use Rattle.cpp_grammar.specs.Unfolding.{last_token, number_tested, opening, production_at, byte_of, close, cpp}
+use Rattle.cpp_grammar.proofs.ClosedValues.{GoodPrefix, held, good_tree}
+use Rattle.cpp_grammar.proofs.ClosedStates.{Bare, AllOld, AllNew, Grows, old_later, old_grows}
+use Rattle.cpp_grammar.proofs.ClosedParts.{StaysInside}
+use Rattle.cpp_grammar.proofs.ClosedTrees as trees_
+use Rattle.cpp_grammar.proofs.ClosedTrees.{is_encoding, has_encoding, opens, at_number, its_symbols, stays, takes_byte, Whole, Taken, taken_rule}
+use Rattle.sym_print.specs.declared.detail.Detail.{Detail}
+use Rattle.cpp_grammar.specs.Answer.{answer_within}
+use Rattle.cpp_term.specs.Answer.{noted_answer}
+use Rattle.cpp_term.proofs.PrintsNoted.{answer_noted}
+use Rattle.cpp_term.specs.Term as term_
+use Rattle.cpp_term.specs.Scope as scope_
+use Rattle.cpp_term.specs.Values as value_
+use Rattle.cpp_term.specs.Between as between_
+use Rattle.cpp_term.specs.Unfolding as unfolded_
+use Rattle.cpp_term.specs.Meaning as noted_
+use Rattle.cpp_term.specs.Annotated.{annotate, noted_scope, noted_value, noted_values, noted_prefix, noted_around, noted_tree}
+use Rattle.cpp_term.proofs.EncodingsClosed.{insides}
+use Rattle.cpp_term.proofs.Notes.{both, closed_noted, scope_noted}
+use Rattle.cpp_term.proofs.MeaningNoted.{Inside, part_noted, tree_noted, items_noted, encoding_noted, qualifiers_noted, ref_noted, three as three_}
+use Rattle.cpp_term.proofs.StatesNoted.{Alike, alike_bind, Same, Moves, moves_none, moves_then, same_moves, AllNoted, Comes}
+use Rattle.cpp_term.proofs.BetweenNoted.{close_noted}
+use Rattle.cpp_term.proofs.ForestNoted.{is_special, has_special, Many, TreeNoted, AllTreesNoted, noted_open, forest_noted, cancel, value_closed}
+
+-- an opening tests a number, and leaves the state
+opened : {A B : Type 0} (R : A → B → Type 0) (p : Production) (f : Forest) (place : ℕ) (x : State) (y : value_.State) (g : State → Result A Refusal) (h : value_.State → Result B Refusal) →
+    Alike R (g x) (h y) → Alike R (opening p f place x >>= g) (unfolded_.opening p f place y >>= h)
+unfolding opening unfolded_.opening number_tested unfolded_.number_tested
+opened R Production.Lambda f place x y g h r = tested (nat_lt (local_number (last_token f [])) (2 ^ 64))
+  where
+    tested : (b : Bool) → Alike R ((elim b [ true ↦ Ok x | false ↦ Err (BadValue (place - 1)) ]) >>= g) ((elim b [ true ↦ Ok y | false ↦ Err (BadValue (place - 1)) ]) >>= h)
+    tested true = r
+    tested false = refl
+opened R Production.Unnamed f place x y g h r = tested (nat_lt (local_number (last_token f [])) (2 ^ 64))
+  where
+    tested : (b : Bool) → Alike R ((elim b [ true ↦ Ok x | false ↦ Err (BadValue (place - 1)) ]) >>= g) ((elim b [ true ↦ Ok y | false ↦ Err (BadValue (place - 1)) ]) >>= h)
+    tested true = r
+    tested false = refl
+opened R _ f place x y g h r = r
+
+-- only the production of special names has a part of that kind
+plain_special : (p : Production) → opens p || not (has_special (parts_of p)) ≡ true
+unfolding opens has_special is_special parts_of number_of_kind
+plain_special Production.Mark = refl
+plain_special _ = refl
+
+no_special : (p : Production) → opens p ≡ false → has_special (parts_of p) ≡ false
+no_special p h = go (opens p) (has_special (parts_of p)) h (plain_special p)
+  where
+    go : (a b : Bool) → a ≡ false → a || not b ≡ true → b ≡ false
+    go false false h k = refl
+    go false true h k = absurd (false≢true k)
+    go true b h k = absurd (true≢false h)
+
+plain_noted : (k : ℕ) (rule : Rule) (taken : List ℕ) (parts : Forest) → AllTreesNoted parts → (p : Production) → rule ≡ rule_of p → opens p ≡ false → (around : Around) (at : ℕ) (state : State) (other : value_.State) →
+    k < abi.kinds → IsTree abi (OfKind k) (branch rule taken parts) → around.encoding ≤ at → (nat_eq k 5 ≡ true → Bare around) → GoodPrefix (Bare around) around.prefix → AllOld around at state.candidates → Same around state other →
+    Alike (Many around state other) (unfold_tree cpp around at (branch rule taken parts) state) (unfold_tree unfolded_.cpp (noted_around around) at (branch rule taken parts) other)
+unfolding cpp unfolded_.cpp noted_values
+plain_noted k rule taken parts all p is plain around at state other lt tree le special pre old same =
+    let whole = Whole rule taken at around state in
+    let noted = noted_open whole other in
+    let from = at + length taken in
+    let s = noted_scope around.scope in
+    let number : production_at rule.number ≡ p = ap (λ x. production_at x.number) is ∙ at_number p in
+    let inside_ : StaysInside (production_at rule.number) = subst (λ q. StaysInside q) (sym number) (stays p plain) in
+    let symbols = (lawful.rule k tree.0.byte rule lt tree.0.is_byte tree.0.found).symbols in
+    let none : has_special (symbols_of rule) ≡ false = ap has_special (ap symbols_of is ∙ its_symbols p) ∙ no_special p plain in
+    opened (Many around state other) (production_at rule.number) parts at state other
+    (λ begun. unfold_forest cpp whole [] from parts begun >>= λ inner. close (production_at rule.number) (byte_of taken) around at state inner.value inner.state >>= alone)
+    (λ begun. unfold_forest unfolded_.cpp noted [] from parts begun >>= λ inner. unfolded_.close (production_at rule.number) (byte_of taken) (noted_around around) at other inner.value inner.state >>= alone)
+    (alike_bind (Many around state other) (Many around state other) (unfold_forest cpp whole [] from parts state) (unfold_forest unfolded_.cpp noted [] from parts other)
+    (λ inner. close (production_at rule.number) (byte_of taken) around at state inner.value inner.state >>= alone)
+    (λ inner. unfolded_.close (production_at rule.number) (byte_of taken) (noted_around around) at other inner.value inner.state >>= alone)
+    (forest_noted parts all whole other (symbols_of rule) [] from state other inside_ symbols tree.1 (omega (arith, le)) (λ has. omega (arith, le, takes_byte p rule k taken is tree.0 has)) none pre tt
+    (old_later around at from state.candidates (omega arith) old) same)
+    (λ a b a-is many.
+    let h = insides p rule taken parts k around at state a is plain lt tree le special pre old a-is in
+    alike_bind (Comes around a.state b.state) (Many around state other) (close (production_at rule.number) (byte_of taken) around at state a.value a.state)
+    (unfolded_.close (production_at rule.number) (byte_of taken) (noted_around around) at other b.value b.state) alone alone
+    (subst (λ us. Alike (Comes around a.state b.state) (close (production_at rule.number) (byte_of taken) around at state a.value a.state)
+    (unfolded_.close (production_at rule.number) (byte_of taken) (noted_around around) at other us b.state)) (sym many.values)
+    (close_noted (production_at rule.number) (byte_of taken) around at state other a.value a.state b.state (subst (λ q. Inside q a.value) (sym number) h) (same_moves around state a.state other b.state same many.moves) same.packs))
+    (λ u v u-is comes. record { values = ap (λ w. w ∷ []) comes.value; moves = moves_then around state a.state u.state other b.state v.state many.moves comes.moves })))
+
+-- ## Encodings
+
+all_name : (around : Around) (at : ℕ) (cs : List Candidate) (ds : List value_.Candidate) → around.encoding < at → AllOld around at cs → AllNoted around cs ds → AllNoted (in_name at) cs ds
+unfolding in_name
+all_name around at [] [] lt old all = tt
+all_name around at (c ∷ cs) (d ∷ ds) lt old all =
+    let less : c.encoding < at = elim old.0.place [ inl same ↦ omega (arith, same, lt) | inr before ↦ before ] in
+    (record { encoding = all.0.encoding; opened = all.0.opened; closed = all.0.closed; here = λ h f. absurd (omega (arith, h, less)) }, all_name around at cs ds lt old.1 all.1)
+all_name around at [] (d ∷ ds) lt old all = absurd all
+all_name around at (c ∷ cs) [] lt old all = absurd all
+
+all_types : (at b : ℕ) (name : Term) (cs : List Candidate) (ds : List value_.Candidate) → AllOld (in_name at) b cs → AllNoted (in_name at) cs ds → AllNoted (in_types at name) cs ds
+unfolding in_name in_types
+all_types at b name [] [] old all = tt
+all_types at b name (c ∷ cs) (d ∷ ds) old all = (
+  record {
+    encoding = all.0.encoding;
+    opened = all.0.opened;
+    closed = all.0.closed;
+    here = λ h f. all.0.closed (old.0.closed refl refl h) ∙ closed_noted None (noted_scope (arguments_of name)) c.tree (old.0.closed refl refl h);
+  },
+  all_types at b name cs ds old.1 all.1,
+)
+all_types at b name [] (d ∷ ds) old all = absurd all
+all_types at b name (c ∷ cs) [] old all = absurd all
+
+all_out : (around inner : Around) (at end : ℕ) (cs : List Candidate) (ds : List value_.Candidate) → inner.encoding ≡ at → around.encoding < at → AllNew inner end cs → AllNoted inner cs ds → AllNoted around cs ds
+all_out around inner at end [] [] is lt new all = tt
+all_out around inner at end (c ∷ cs) (d ∷ ds) is lt new all =
+    let more : around.encoding < c.encoding = elim new.0.place [ inl here ↦ omega (arith, here.0, is, lt) | inr deep ↦ omega (arith, deep.0, is, lt) ] in
+    (record { encoding = all.0.encoding; opened = all.0.opened; closed = all.0.closed; here = λ h f. absurd (omega (arith, h, more)) }, all_out around inner at end cs ds is lt new.1 all.1)
+all_out around inner at end [] (d ∷ ds) is lt new all = absurd all
+all_out around inner at end (c ∷ cs) [] is lt new all = absurd all
+
+moves_out : (around inner : Around) (at end : ℕ) (x later : State) (y noted : value_.State) → inner.encoding ≡ at → around.encoding < at → Grows inner end x later → Moves inner x y later noted → Moves around x y later noted
+moves_out around inner at end x later y noted is lt grows m = record {
+  more = m.more;
+  others = m.others;
+  is = m.is;
+  so = m.so;
+  packs = m.packs;
+  each = all_out around inner at end m.more m.others is lt (subst (λ cs. AllNew inner end cs) (cancel x.candidates grows.more m.more (sym grows.is ∙ m.is)) grows.each) m.each;
+}
+
+-- the next part of a rule, where it is known what goes into it
+step : (Q : Found (List Value) State → Found (List value_.Value) value_.State → Type 0) (rule : Open State Around) (first : value_.State) (vs : List Value) (us : List value_.Value) (at : ℕ) (x : State) (y : value_.State)
+    (t : Tree) (f : Forest) (n : Next Value State Around) (m : Next value_.Value value_.State value_.Around) →
+    between (production_at rule.rule.number) rule.context rule.place vs x ≡ Ok n → between_.between (production_at rule.rule.number) (noted_around rule.context) rule.place us y ≡ Ok m →
+    Alike Q (unfold_tree cpp n.context at t n.state >>= λ part. unfold_forest cpp rule (n.values ++ part.value) (at + length (spell t)) f part.state)
+    (unfold_tree unfolded_.cpp m.context at t m.state >>= λ part. unfold_forest unfolded_.cpp (noted_open rule first) (m.values ++ part.value) (at + length (spell t)) f part.state) →
+    Alike Q (unfold_forest cpp rule vs at (grown t f) x) (unfold_forest unfolded_.cpp (noted_open rule first) us at (grown t f) y)
+unfolding cpp unfolded_.cpp
+step Q rule first vs us at x y t f n m e g r =
+    let onward : Next Value State Around → Result (Found (List Value) State) Refusal =
+    λ next. unfold_tree cpp next.context at t next.state >>= λ part. unfold_forest cpp rule (next.values ++ part.value) (at + length (spell t)) f part.state in
+    let other : Next value_.Value value_.State value_.Around → Result (Found (List value_.Value) value_.State) Refusal =
+    λ next. unfold_tree unfolded_.cpp next.context at t next.state >>= λ part. unfold_forest unfolded_.cpp (noted_open rule first) (next.values ++ part.value) (at + length (spell t)) f part.state in
+    subst (λ u. Alike Q (u >>= onward) (between_.between (production_at rule.rule.number) (noted_around rule.context) rule.place us y >>= other)) (sym e)
+    (subst (λ w. Alike Q (onward n) (w >>= other)) (sym g) r)
+
+-- what the parts of an encoding come to, both ways
+record Inner (p : Production) (around : Around) (x : State) (y : value_.State) (a : Found (List Value) State) (b : Found (List value_.Value) value_.State) : Type 0 where
+  means : (byte : ℕ) → noted_.meaning p byte (noted_around around) b.value ≡ noted_value (noted_scope around.scope) (meaning p byte around a.value)
+  moves : Moves around x y a.state b.state
+
+name_noted : (at : ℕ) → between_.in_name at ≡ noted_around (in_name at)
+unfolding between_.in_name in_name noted_around noted_scope noted_prefix
+name_noted at = refl
+
+-- one part of an encoding, in which nothing is named
+named_part : (t : Tree) → TreeNoted t → (x : Sym) (at from : ℕ) (state : State) (other : value_.State) → IsSymbol abi x → IsTree abi x t → is_encoding x ≡ false → at ≤ from → AllOld (in_name at) from state.candidates → Same (in_name at) state other →
+    Alike (Many (in_name at) state other) (unfold_tree cpp (in_name at) from t state) (unfold_tree unfolded_.cpp (between_.in_name at) from t other)
+unfolding in_name between_.in_name noted_around noted_scope noted_prefix
+named_part t noted x at from state other known is plain le old same =
+    noted x (in_name at) from state other known is le (λ opening. absurd (true≢false (sym opening ∙ plain))) (λ special. refl) tt old same
+
+nameless_ : (at : ℕ) → List Value → State → Next Value State Around
+nameless_ at vs state = record { context = in_name at; values = vs; state = state }
+
+noted_nameless : (at : ℕ) → List value_.Value → value_.State → Next value_.Value value_.State value_.Around
+noted_nameless at vs state = record { context = between_.in_name at; values = vs; state = state }
+
+special_noted : (f : Forest) → AllTreesNoted f → (rule : Open State Around) (first : value_.State) (from : ℕ) (x : State) (y : value_.State) → production_at rule.rule.number ≡ Production.Special → AreTrees abi (parts_of Production.Special) f →
+    rule.context.encoding < rule.place → rule.place ≤ from → AllOld rule.context rule.place x.candidates → Same rule.context x y →
+    Alike (Inner Production.Special rule.context x y) (unfold_forest cpp rule [] from f x) (unfold_forest unfolded_.cpp (noted_open rule first) [] from f y)
+unfolding parts_of number_of_kind between between_.between meaning noted_.meaning is_encoding nameless_ noted_nameless in_name noted_scope noted_values part
+special_noted nothing all rule first from x y is trees lt le old same = absurd trees
+special_noted (grown t (grown u f)) all rule first from x y is trees lt le old same = absurd trees.1
+special_noted (grown t nothing) all rule first from x y is trees lt le old same =
+    let around = rule.context in
+    let at = rule.place in
+    let old0 = old_later (in_name at) at from x.candidates le (trees_.old_inner around at x.candidates lt old) in
+    let same0 : Same (in_name at) x y = record { packs = same.packs; all = all_name around at x.candidates y.candidates lt old same.all } in
+    step (Inner Production.Special around x y) rule first [] [] from x y t nothing (nameless_ at [] x) (noted_nameless at [] y) (ap (λ p. between p around at [] x) is) (ap (λ p. between_.between p (noted_around around) at [] y) is)
+    (alike_bind (Many (in_name at) x y) (Inner Production.Special around x y) (unfold_tree cpp (in_name at) from t x) (unfold_tree unfolded_.cpp (between_.in_name at) from t y)
+    (λ part. unfold_forest cpp rule ([] ++ part.value) (from + length (spell t)) nothing part.state) (λ part. unfold_forest unfolded_.cpp (noted_open rule first) ([] ++ part.value) (from + length (spell t)) nothing part.state)
+    (named_part t all.0 (OfKind 5) at from x y (trees_.known 5 (lit≤ tt)) trees.0 refl le old0 same0)
+    (λ a b a-is many.
+    let c = trees_.name_comes t (trees_.tree_good t) (OfKind 5) at from x a (trees_.known 5 (lit≤ tt)) trees.0 refl le old0 a-is in
+    record {
+      means = λ byte. ap (λ us. value_.part us 0) many.values ∙ part_noted None a.value 0 ∙ value_closed None (noted_scope around.scope) (part a.value 0) (subst (λ vs. is_open (held (part vs 0)) ≡ false) (sym c.is) (c.good.closed refl));
+      moves = moves_out around (in_name at) at (from + length (spell t)) x a.state y b.state refl lt c.grows many.moves;
+    }))
+
+guard_made : (around : Around) (byte : ℕ) (v w : Value) →
+    noted_.meaning Production.Guard byte (noted_around around) (noted_value None v ∷ noted_value None w ∷ []) ≡ noted_value (noted_scope around.scope) (meaning Production.Guard byte around (v ∷ w ∷ []))
+unfolding meaning noted_.meaning part value_.part noted_value annotate
+guard_made around byte v w = three_ (λ x q r. value_.tree (term_.guard x q r) true) (tree_noted None w) (qualifiers_noted None w) (ref_noted None w)
+
+encoding_made : (around : Around) (byte : ℕ) (v w : Value) →
+    noted_.meaning Production.Encoding byte (noted_around around) (noted_value None v ∷ noted_value (noted_scope (arguments_of (tree_of v))) w ∷ []) ≡ noted_value (noted_scope around.scope) (meaning Production.Encoding byte around (v ∷ w ∷ []))
+unfolding meaning noted_.meaning part value_.part noted_value
+encoding_made around byte v w =
+    ap (λ t. value_.tree (noted_.encoding_of (noted_value None v) t) true) (items_noted (noted_scope (arguments_of (tree_of v))) w)
+    ∙ ap (λ t. value_.tree t true) (encoding_noted (noted_scope around.scope) v (no_items w))
+
+types_noted : (at : ℕ) (v : Value) → between_.in_types at (value_.tree_of (noted_value None v)) ≡ noted_around (in_types at (tree_of v))
+unfolding between_.in_types in_types noted_around noted_prefix
+types_noted at v = ap (λ o. between_type at o) (ap scope_.arguments_of (tree_noted None v) ∙ scope_noted (tree_of v))
+  where
+    between_type : ℕ → Option term_.Term → value_.Around
+    between_type at o = record { scope = o; encoding = at; in_lambda = false; in_expansion = false; prefix = value_.outermost }
+
+-- values of a name and of what follows it
+pair_noted : (s r : Option term_.Term) (vs : List Value) (us : List value_.Value) (ws : List Value) (zs : List value_.Value) (v w : Value) → vs ≡ v ∷ [] → ws ≡ w ∷ [] → us ≡ noted_values s vs → zs ≡ noted_values r ws →
+    us ++ zs ≡ noted_value s v ∷ noted_value r w ∷ []
+unfolding noted_values
+pair_noted s r vs us ws zs v w e g i j = both (λ a b. a ++ b) (i ∙ ap (noted_values s) e) (j ∙ ap (noted_values r) g)
+
+guard_means : (around : Around) (byte : ℕ) (vs : List Value) (us : List value_.Value) (ws : List Value) (zs : List value_.Value) (v w : Value) → vs ≡ v ∷ [] → ws ≡ w ∷ [] → is_open (tree_of w) ≡ false →
+    us ≡ noted_values None vs → zs ≡ noted_values None ws →
+    noted_.meaning Production.Guard byte (noted_around around) (us ++ zs) ≡ noted_value (noted_scope around.scope) (meaning Production.Guard byte around (vs ++ ws))
+unfolding meaning noted_.meaning part value_.part noted_value annotate
+guard_means around byte vs us ws zs v w e g closed i j =
+    ap (noted_.meaning Production.Guard byte (noted_around around)) (pair_noted None None vs us ws zs v w e g i j)
+    ∙ guard_made around byte v w
+    ∙ sym (ap (λ xs. noted_value (noted_scope around.scope) (meaning Production.Guard byte around xs)) (both (λ a b. a ++ b) e g))
+
+encoding_means : (around : Around) (byte : ℕ) (vs : List Value) (us : List value_.Value) (ws : List Value) (zs : List value_.Value) (v w : Value) → vs ≡ v ∷ [] → ws ≡ w ∷ [] →
+    us ≡ noted_values None vs → zs ≡ noted_values (noted_scope (arguments_of (tree_of v))) ws →
+    noted_.meaning Production.Encoding byte (noted_around around) (us ++ zs) ≡ noted_value (noted_scope around.scope) (meaning Production.Encoding byte around (vs ++ ws))
+encoding_means around byte vs us ws zs v w e g i j =
+    ap (noted_.meaning Production.Encoding byte (noted_around around)) (pair_noted None (noted_scope (arguments_of (tree_of v))) vs us ws zs v w e g i j)
+    ∙ encoding_made around byte v w
+    ∙ sym (ap (λ xs. noted_value (noted_scope around.scope) (meaning Production.Encoding byte around xs)) (both (λ a b. a ++ b) e g))
+
+types_next : (rule : Open State Around) (v : Value) (vs : List Value) (x : State) → production_at rule.rule.number ≡ Production.Encoding → vs ≡ v ∷ [] →
+    between (production_at rule.rule.number) rule.context rule.place vs x ≡ Ok (record { context = in_types rule.place (tree_of v); values = vs; state = x })
+unfolding between
+types_next rule v vs x is e =
+    ap (λ p. between p rule.context rule.place vs x) is ∙ ap (λ ws. between Production.Encoding rule.context rule.place ws x) e
+    ∙ sym (ap (λ ws. Ok (record { context = in_types rule.place (tree_of v); values = ws; state = x })) e)
+
+noted_types_next : (rule : Open State Around) (v : Value) (vs : List Value) (us : List value_.Value) (y : value_.State) → production_at rule.rule.number ≡ Production.Encoding → vs ≡ v ∷ [] → us ≡ noted_values None vs →
+    between_.between (production_at rule.rule.number) (noted_around rule.context) rule.place us y ≡ Ok (record { context = noted_around (in_types rule.place (tree_of v)); values = us; state = y })
+unfolding between_.between noted_values
+noted_types_next rule v vs us y is e g =
+    let one : us ≡ noted_value None v ∷ [] = g ∙ ap (noted_values None) e in
+    ap (λ p. between_.between p (noted_around rule.context) rule.place us y) is ∙ ap (λ ws. between_.between Production.Encoding (noted_around rule.context) rule.place ws y) one
+    ∙ ap (λ c. Ok (record { context = c; values = noted_value None v ∷ []; state = y })) (types_noted rule.place v)
+    ∙ sym (ap (λ ws. Ok (record { context = noted_around (in_types rule.place (tree_of v)); values = ws; state = y })) one)
+
+guard_noted : (f : Forest) → AllTreesNoted f → (rule : Open State Around) (first : value_.State) (from : ℕ) (x : State) (y : value_.State) → production_at rule.rule.number ≡ Production.Guard → AreTrees abi (parts_of Production.Guard) f →
+    rule.context.encoding < rule.place → rule.place ≤ from → AllOld rule.context rule.place x.candidates → Same rule.context x y →
+    Alike (Inner Production.Guard rule.context x y) (unfold_forest cpp rule [] from f x) (unfold_forest unfolded_.cpp (noted_open rule first) [] from f y)
+unfolding parts_of number_of_kind between between_.between is_encoding nameless_ noted_nameless in_name noted_scope noted_values
+guard_noted nothing all rule first from x y is trees lt le old same = absurd trees
+guard_noted (grown t nothing) all rule first from x y is trees lt le old same = absurd trees.1
+guard_noted (grown t (grown u (grown v f))) all rule first from x y is trees lt le old same = absurd trees.1.1
+guard_noted (grown t (grown u nothing)) all rule first from x y is trees lt le old same =
+    let around = rule.context in
+    let at = rule.place in
+    let next = from + length (spell t) in
+    let old0 = old_later (in_name at) at from x.candidates le (trees_.old_inner around at x.candidates lt old) in
+    let same0 : Same (in_name at) x y = record { packs = same.packs; all = all_name around at x.candidates y.candidates lt old same.all } in
+    step (Inner Production.Guard around x y) rule first [] [] from x y t (grown u nothing) (nameless_ at [] x) (noted_nameless at [] y) (ap (λ p. between p around at [] x) is) (ap (λ p. between_.between p (noted_around around) at [] y) is)
+    (alike_bind (Many (in_name at) x y) (Inner Production.Guard around x y) (unfold_tree cpp (in_name at) from t x) (unfold_tree unfolded_.cpp (between_.in_name at) from t y)
+    (λ part. unfold_forest cpp rule ([] ++ part.value) next (grown u nothing) part.state) (λ part. unfold_forest unfolded_.cpp (noted_open rule first) ([] ++ part.value) next (grown u nothing) part.state)
+    (named_part t all.0 (Byte 86) at from x y (lit≤ tt) trees.0 refl le old0 same0)
+    (λ a b a-is many.
+    let c = trees_.name_comes t (trees_.tree_good t) (Byte 86) at from x a (lit≤ tt) trees.0 refl le old0 a-is in
+    let old1 = old_grows (in_name at) from next x a.state (omega arith) old0 c.grows in
+    let same1 = same_moves (in_name at) x a.state y b.state same0 many.moves in
+    step (Inner Production.Guard around x y) rule first a.value b.value next a.state b.state u nothing (nameless_ at a.value a.state) (noted_nameless at b.value b.state)
+    (ap (λ p. between p around at a.value a.state) is) (ap (λ p. between_.between p (noted_around around) at b.value b.state) is)
+    (alike_bind (Many (in_name at) a.state b.state) (Inner Production.Guard around x y) (unfold_tree cpp (in_name at) next u a.state) (unfold_tree unfolded_.cpp (between_.in_name at) next u b.state)
+    (λ part. unfold_forest cpp rule (a.value ++ part.value) (next + length (spell u)) nothing part.state) (λ part. unfold_forest unfolded_.cpp (noted_open rule first) (b.value ++ part.value) (next + length (spell u)) nothing part.state)
+    (named_part u all.1.0 (OfKind 8) at next a.state b.state (trees_.known 8 (lit≤ tt)) trees.1.0 refl (omega (arith, le)) old1 same1)
+    (λ d e d-is more.
+    let g = trees_.name_comes u (trees_.tree_good u) (OfKind 8) at next a.state d (trees_.known 8 (lit≤ tt)) trees.1.0 refl (omega (arith, le)) old1 d-is in
+    record {
+      means = λ byte. guard_means around byte a.value b.value d.value e.value c.value g.value c.is g.is ((good_tree (Bare (in_name at)) g.value g.good).closed refl) many.values more.values;
+      moves = moves_then around x a.state d.state y b.state e.state (moves_out around (in_name at) at next x a.state y b.state refl lt c.grows many.moves)
+          (moves_out around (in_name at) at (next + length (spell u)) a.state d.state b.state e.state refl lt g.grows more.moves);
+    }))))
+
+encoding_noted_ : (f : Forest) → AllTreesNoted f → (rule : Open State Around) (first : value_.State) (from : ℕ) (x : State) (y : value_.State) → production_at rule.rule.number ≡ Production.Encoding → AreTrees abi (parts_of Production.Encoding) f →
+    rule.context.encoding < rule.place → rule.place ≤ from → AllOld rule.context rule.place x.candidates → Same rule.context x y →
+    Alike (Inner Production.Encoding rule.context x y) (unfold_forest cpp rule [] from f x) (unfold_forest unfolded_.cpp (noted_open rule first) [] from f y)
+unfolding parts_of number_of_kind between between_.between is_encoding is_special nameless_ noted_nameless in_name in_types noted_scope noted_values
+encoding_noted_ nothing all rule first from x y is trees lt le old same = absurd trees
+encoding_noted_ (grown t nothing) all rule first from x y is trees lt le old same = absurd trees.1
+encoding_noted_ (grown t (grown u (grown v f))) all rule first from x y is trees lt le old same = absurd trees.1.1
+encoding_noted_ (grown t (grown u nothing)) all rule first from x y is trees lt le old same =
+    let around = rule.context in
+    let at = rule.place in
+    let next = from + length (spell t) in
+    let old0 = old_later (in_name at) at from x.candidates le (trees_.old_inner around at x.candidates lt old) in
+    let same0 : Same (in_name at) x y = record { packs = same.packs; all = all_name around at x.candidates y.candidates lt old same.all } in
+    step (Inner Production.Encoding around x y) rule first [] [] from x y t (grown u nothing) (nameless_ at [] x) (noted_nameless at [] y) (ap (λ p. between p around at [] x) is) (ap (λ p. between_.between p (noted_around around) at [] y) is)
+    (alike_bind (Many (in_name at) x y) (Inner Production.Encoding around x y) (unfold_tree cpp (in_name at) from t x) (unfold_tree unfolded_.cpp (between_.in_name at) from t y)
+    (λ part. unfold_forest cpp rule ([] ++ part.value) next (grown u nothing) part.state) (λ part. unfold_forest unfolded_.cpp (noted_open rule first) ([] ++ part.value) next (grown u nothing) part.state)
+    (named_part t all.0 (OfKind 8) at from x y (trees_.known 8 (lit≤ tt)) trees.0 refl le old0 same0)
+    (λ a b a-is many.
+    let c = trees_.name_comes t (trees_.tree_good t) (OfKind 8) at from x a (trees_.known 8 (lit≤ tt)) trees.0 refl le old0 a-is in
+    let name = tree_of c.value in
+    let old1 = old_grows (in_name at) from next x a.state (omega arith) old0 c.grows in
+    let same1 = same_moves (in_name at) x a.state y b.state same0 many.moves in
+    let old2 = trees_.old_types at next name a.state.candidates old1 in
+    let same2 : Same (in_types at name) a.state b.state = record { packs = same1.packs; all = all_types at next name a.state.candidates b.state.candidates old1 same1.all } in
+    let n : Next Value State Around = record { context = in_types at name; values = a.value; state = a.state } in
+    let m : Next value_.Value value_.State value_.Around = record { context = noted_around (in_types at name); values = b.value; state = b.state } in
+    step (Inner Production.Encoding around x y) rule first a.value b.value next a.state b.state u nothing n m
+    (types_next rule c.value a.value a.state is c.is) (noted_types_next rule c.value a.value b.value b.state is c.is many.values)
+    (alike_bind (Many (in_types at name) a.state b.state) (Inner Production.Encoding around x y) (unfold_tree cpp (in_types at name) next u a.state) (unfold_tree unfolded_.cpp (noted_around (in_types at name)) next u b.state)
+    (λ part. unfold_forest cpp rule (a.value ++ part.value) (next + length (spell u)) nothing part.state) (λ part. unfold_forest unfolded_.cpp (noted_open rule first) (b.value ++ part.value) (next + length (spell u)) nothing part.state)
+    (all.1.0 (OfKind 41) (in_types at name) next a.state b.state (trees_.known 41 (lit≤ tt)) trees.1.0 (omega (arith, le)) (λ opening. absurd (false≢true opening)) (λ special. absurd (false≢true special)) tt old2 same2)
+    (λ d e d-is more.
+    let g = trees_.tree_good u (OfKind 41) (in_types at name) next a.state d (trees_.known 41 (lit≤ tt)) trees.1.0 (omega (arith, le)) (λ opening. absurd (false≢true opening)) tt old2 d-is in
+    record {
+      means = λ byte. encoding_means around byte a.value b.value d.value e.value c.value g.value c.is g.is many.values more.values;
+      moves = moves_then around x a.state d.state y b.state e.state (moves_out around (in_name at) at next x a.state y b.state refl lt c.grows many.moves)
+          (moves_out around (in_types at name) at (next + length (spell u)) a.state d.state b.state e.state refl lt g.grows more.moves);
+    }))))
+
+-- ## Trees
+
+inner_noted : (p : Production) → opens p ≡ true → (f : Forest) → AllTreesNoted f → (rule : Open State Around) (first : value_.State) (from : ℕ) (x : State) (y : value_.State) → production_at rule.rule.number ≡ p → AreTrees abi (parts_of p) f →
+    rule.context.encoding < rule.place → rule.place ≤ from → AllOld rule.context rule.place x.candidates → Same rule.context x y →
+    Alike (Inner p rule.context x y) (unfold_forest cpp rule [] from f x) (unfold_forest unfolded_.cpp (noted_open rule first) [] from f y)
+unfolding opens
+inner_noted Production.Encoding o = encoding_noted_
+inner_noted Production.Special o = special_noted
+inner_noted Production.Guard o = guard_noted
+inner_noted Production.Mark o = absurd (false≢true o)
+inner_noted _ o = absurd (false≢true o)
+
+inner_closes : (p : Production) → opens p ≡ true → (byte : ℕ) (around : Around) (place : ℕ) (began : State) (vs : List Value) (x : State) → close p byte around place began vs x ≡ Ok (found (meaning p byte around vs) x)
+unfolding opens close unfolding_.behind
+inner_closes Production.Encoding o byte around place began vs x = refl
+inner_closes Production.Special o byte around place began vs x = refl
+inner_closes Production.Guard o byte around place began vs x = refl
+inner_closes Production.Mark o byte around place began vs x = absurd (false≢true o)
+inner_closes _ o byte around place began vs x = absurd (false≢true o)
+
+noted_closes : (p : Production) → opens p ≡ true → (byte : ℕ) (around : value_.Around) (place : ℕ) (began : value_.State) (vs : List value_.Value) (x : value_.State) →
+    unfolded_.close p byte around place began vs x ≡ Ok (found (noted_.meaning p byte around vs) x)
+unfolding opens unfolded_.close unfolded_.behind
+noted_closes Production.Encoding o byte around place began vs x = refl
+noted_closes Production.Special o byte around place began vs x = refl
+noted_closes Production.Guard o byte around place began vs x = refl
+noted_closes Production.Mark o byte around place began vs x = absurd (false≢true o)
+noted_closes _ o byte around place began vs x = absurd (false≢true o)
+
+encoded_noted : (k : ℕ) (rule : Rule) (taken : List ℕ) (parts : Forest) → AllTreesNoted parts → (p : Production) → rule ≡ rule_of p → opens p ≡ true → (around : Around) (at : ℕ) (state : State) (other : value_.State) →
+    IsTree abi (OfKind k) (branch rule taken parts) → around.encoding < at → AllOld around at state.candidates → Same around state other →
+    Alike (Many around state other) (unfold_tree cpp around at (branch rule taken parts) state) (unfold_tree unfolded_.cpp (noted_around around) at (branch rule taken parts) other)
+unfolding cpp unfolded_.cpp noted_values
+encoded_noted k rule taken parts all p is opening_ around at state other tree less old same =
+    let whole = Whole rule taken at around state in
+    let noted = noted_open whole other in
+    let from = at + length taken in
+    let byte = byte_of taken in
+    let number : production_at rule.number ≡ p = ap (λ x. production_at x.number) is ∙ at_number p in
+    let trees = subst (λ xs. AreTrees abi xs parts) (ap symbols_of is ∙ its_symbols p) tree.1 in
+    opened (Many around state other) (production_at rule.number) parts at state other
+    (λ begun. unfold_forest cpp whole [] from parts begun >>= λ inner. close (production_at rule.number) byte around at state inner.value inner.state >>= alone)
+    (λ begun. unfold_forest unfolded_.cpp noted [] from parts begun >>= λ inner. unfolded_.close (production_at rule.number) byte (noted_around around) at other inner.value inner.state >>= alone)
+    (alike_bind (Inner p around state other) (Many around state other) (unfold_forest cpp whole [] from parts state) (unfold_forest unfolded_.cpp noted [] from parts other)
+    (λ inner. close (production_at rule.number) byte around at state inner.value inner.state >>= alone)
+    (λ inner. unfolded_.close (production_at rule.number) byte (noted_around around) at other inner.value inner.state >>= alone)
+    (inner_noted p opening_ parts all whole other from state other number trees less (omega arith) old same)
+    (λ a b a-is inner.
+    let e = ap (λ q. close q byte around at state a.value a.state) number ∙ inner_closes p opening_ byte around at state a.value a.state in
+    let g = ap (λ q. unfolded_.close q byte (noted_around around) at other b.value b.state) number ∙ noted_closes p opening_ byte (noted_around around) at other b.value b.state in
+    subst (λ r. Alike (Many around state other) (r >>= alone) (unfolded_.close (production_at rule.number) byte (noted_around around) at other b.value b.state >>= alone)) (sym e)
+    (subst (λ r. Alike (Many around state other) (Ok (found (meaning p byte around a.value ∷ []) a.state)) (r >>= alone)) (sym g)
+    (record { values = ap (λ w. w ∷ []) (inner.means byte); moves = inner.moves }))))
+
+branch_noted : (rule : Rule) (taken : List ℕ) (parts : Forest) → AllTreesNoted parts → TreeNoted (branch rule taken parts)
+unfolding is_encoding is_special
+branch_noted rule taken parts all (OfKind k) around at state other lt is le inside special pre old same =
+    let t = taken_rule k rule taken lt is.0 in
+    elim (cases_Bool (opens t.production)) [
+      | inl opening_ ↦ encoded_noted k rule taken parts all t.production t.is opening_ around at state other is (inside (t.encoding opening_)) old same
+      | inr plain ↦ plain_noted k rule taken parts all t.production t.is plain around at state other lt is le special pre old same
+    ]
+branch_noted rule taken parts all _ around at state other lt is le inside special pre old same = absurd is
+
+mutual
+  unfolding cpp unfolded_.cpp noted_values noted_value
+
+  tree_noted_ : (t : Tree) → TreeNoted t
+  tree_noted_ (branch rule taken parts) = branch_noted rule taken parts (trees_noted parts)
+  tree_noted_ empty = λ x around at state other lt is le inside special pre old same. record { values = refl; moves = moves_none around state state other other refl refl same.packs }
+  tree_noted_ (token t) = λ x around at state other lt is le inside special pre old same. record { values = refl; moves = moves_none around state state other other refl refl same.packs }
+  tree_noted_ (fixed byte) = λ x around at state other lt is le inside special pre old same. record { values = refl; moves = moves_none around state state other other refl refl same.packs }
+
+  trees_noted : (f : Forest) → AllTreesNoted f
+  trees_noted nothing = tt
+  trees_noted (grown t f) = (tree_noted_ t, trees_noted f)
+
+first_noted : (vs : List Value) → unfolded_.first_tree (noted_values None vs) ≡ annotate None (unfolding_.first_tree vs)
+unfolding unfolded_.first_tree unfolding_.first_tree noted_values annotate
+first_noted [] = refl
+first_noted (v ∷ vs) = tree_noted None v
+
+result_noted : (x y : State) (z : value_.State) (r : Result (Found (List Value) State) Refusal) (q : Result (Found (List value_.Value) value_.State) Refusal) → Alike (Many unfolding_.first_around x z) r q →
+    (q >>= λ whole. Ok (unfolded_.first_tree whole.value)) ≡ noted_tree (r >>= λ whole. Ok (unfolding_.first_tree whole.value))
+unfolding noted_tree unfolding_.first_around noted_scope
+result_noted x y z (Ok a) (Ok b) many = ap Ok (ap unfolded_.first_tree many.values ∙ first_noted a.value)
+result_noted x y z (Err e) (Err d) many = ap Err many
+result_noted x y z (Ok a) (Err d) many = absurd many
+result_noted x y z (Err e) (Ok b) many = absurd many
+
+-- Unfolding with arguments is unfolding without: the same refusal, or the same tree with its arguments.
+pub unfold_noted : (shape : Tree) → IsTree abi (OfKind 0) shape → unfolded_.unfold_cpp shape ≡ noted_tree (unfolding_.unfold_cpp shape)
+unfolding unfolded_.unfold_cpp unfolding_.unfold_cpp unfolding_.first_around unfolding_.first_state unfolded_.first_around unfolded_.first_state is_encoding is_special noted_around noted_scope noted_prefix
+unfold_noted shape is =
+    result_noted unfolding_.first_state unfolding_.first_state unfolded_.first_state (unfold_tree cpp unfolding_.first_around 0 shape unfolding_.first_state) (unfold_tree unfolded_.cpp unfolded_.first_around 0 shape unfolded_.first_state)
+    (tree_noted_ shape (OfKind 0) unfolding_.first_around 0 unfolding_.first_state unfolded_.first_state (trees_.known 0 (lit≤ tt)) is (omega arith) (λ opening. absurd (false≢true opening)) (λ special. absurd (false≢true special)) tt tt
+    (record { packs = refl; all = tt }))
+
+-- So the answer may be read from either.
+pub same_answer : (d : Detail) (limit : ℕ) (shape : Tree) → IsTree abi (OfKind 0) shape → noted_answer d limit (unfolded_.unfold_cpp shape) ≡ answer_within d limit (unfolding_.unfold_cpp shape)
+same_answer d limit shape is = ap (noted_answer d limit) (unfold_noted shape is) ∙ answer_noted d limit (unfolding_.unfold_cpp shape)

@@ -1,0 +1,293 @@
+-- The parts of what is printed: each item of a C++ tree has at most eight, texts that aren't empty and further items.
+use Rattle.std.specs.Prelude.{ℕ, zero, suc, ◌+◌, List, [], ◌∷◌, ◌++◌, drop, Bool, true, false, cond, ◌||◌, nat_eq, Option, Some, None, codes, decimal}
+use Rattle.cpp_grammar.specs.Parts.{qualifier_text, ref_text, blank_last, source_text, encoding_text, thunk_text, is_below}
+use Prim.Native.String.{String}
+use Rattle.sym_print.specs.declared.detail.Detail.{Detail}
+use Rattle.sym_print.specs.declared.detail.Detail.TheVariants.{Full, Brief}
+use Rattle.sym_print.specs.Unfold.{PartOf, text, sub}
+use Rattle.cpp_grammar.specs.Texts.{same_bytes, look_up, builtin_texts, operator_texts, abbreviation_texts, special_texts, literal_endings}
+use Rattle.cpp_grammar.specs.Term.{Qualifiers, RefQualifier, Signed}
+use Rattle.cpp_term.specs.Term.{Term, symbol, function, object, special, thunk, guard, alone, in_std, within, instance, local, abbreviation, parameter, source, operator, literal_operator, constructor, destructor, lambda, unnamed, string_literal, builtin, vendor, pointer, lvalue, rvalue, array, member_pointer, function_type, qualified, vector, complex, expansion, integer, boolean, null_pointer, encoding_literal, address_of, pack, nil, list, absent}
+use Rattle.cpp_grammar.specs.Items.{Form, root, full, bare, left, right, low, base, piece, first, more, expand, is_reference, is_funarr}
+use Rattle.cpp_term.specs.Items.{Context, Item, closed, argument, head, packs_of, is_empty}
+
+abbrev pub as_item : Form → Context → Term → PartOf Item
+as_item form context t = sub (record { tree = t; form = form; context = context })
+
+abbrev pub says : String → PartOf Item
+says t = text (codes t)
+
+-- an empty text isn't a part
+unfoldable pub text_part : List ℕ → List (PartOf Item)
+text_part [] = []
+text_part (b ∷ bs) = text (b ∷ bs) ∷ []
+
+-- nor is an empty list
+unfoldable pub list_part : Form → Context → Term → List (PartOf Item)
+list_part form context nil = []
+list_part form context t = as_item form context t ∷ []
+
+-- the parts of a piece of a name
+unfoldable pub piece_parts : Context → Term → List (PartOf Item)
+piece_parts context (source internal name) = text (source_text name) ∷ []
+piece_parts context (operator a b) = text (codes "operator" ++ look_up (a ∷ b ∷ []) operator_texts) ∷ []
+piece_parts context (literal_operator name) = says "operator\"\" " ∷ text name ∷ []
+piece_parts context (lambda parameters number) =
+    (says "{lambda(" ∷ list_part first context parameters) ++ (says ")#" ∷ text (decimal number) ∷ says "}" ∷ [])
+piece_parts context (unnamed number) = says "{unnamed type#" ∷ text (decimal number) ∷ says "}" ∷ []
+piece_parts context string_literal = says "string literal" ∷ []
+piece_parts context _ = []
+
+-- a prefix is a name, or the enclosing encoding, which names no parameters of what stands in it
+unfoldable pub prefix_item : Context → Term → PartOf Item
+prefix_item context (function name q r returned parameters) = as_item bare closed (function name q r returned parameters)
+prefix_item context (object name q r) = as_item bare closed (object name q r)
+prefix_item context (special letter t) = as_item bare closed (special letter t)
+prefix_item context (thunk kind e) = as_item bare closed (thunk kind e)
+prefix_item context (guard name q r) = as_item bare closed (guard name q r)
+prefix_item context t = as_item left context t
+
+unfoldable pub within_parts : Context → Term → Term → List (PartOf Item)
+within_parts context prefix (constructor digit) = as_item left context prefix ∷ says "::" ∷ as_item base context prefix ∷ []
+within_parts context prefix (destructor digit) = as_item left context prefix ∷ says "::~" ∷ as_item base context prefix ∷ []
+within_parts context prefix p = prefix_item context prefix ∷ says "::" ∷ as_item piece context p ∷ []
+
+-- The last piece of a template name. A parameter, an abbreviation or an instance has none.
+unfoldable pub last_piece : Term → Term
+last_piece (alone p) = p
+last_piece (in_std p) = p
+last_piece (within prefix p) = p
+last_piece (local encoding entity discriminator) = last_piece entity
+last_piece _ = absent
+
+-- a blank stands before the < of arguments behind the operators << and <
+unfoldable pub opening_text : Term → List ℕ
+opening_text (operator a b) = cond (same_bytes (a ∷ b ∷ []) (codes "ls") || same_bytes (a ∷ b ∷ []) (codes "lt")) (codes " <") (codes "<")
+opening_text _ = codes "<"
+
+unfoldable pub instance_parts : Detail → Context → Term → Term → List (PartOf Item)
+instance_parts Brief context template arguments = as_item left context template ∷ []
+instance_parts Full context template arguments =
+    (as_item left context template ∷ text (opening_text (last_piece template)) ∷ list_part first context arguments) ++ (says ">" ∷ [])
+
+-- the left parts of the inner type, and the mark, behind ( where that type is a function or an array
+unfoldable pub marked_parts : Context → Term → String → List (PartOf Item)
+marked_parts context t mark = elim (is_funarr (head context t)) [
+  | true ↦ as_item left context t ∷ text (codes "(" ++ codes mark) ∷ []
+  | false ↦ as_item left context t ∷ says mark ∷ []
+]
+
+unfoldable pub reference_parts : Context → Form → Term → String → List (PartOf Item)
+reference_parts context form t mark = elim (is_reference (head context t)) [
+  | true ↦ as_item form context t ∷ []
+  | false ↦ marked_parts context t mark
+]
+
+unfoldable pub qualified_left : Context → Qualifiers → Term → List (PartOf Item)
+qualified_left context q (function_type c_linkage noexcept ref returned parameters) = as_item left context (function_type c_linkage noexcept ref returned parameters) ∷ []
+qualified_left context q t = elim (is_reference (head context t)) [
+  | true ↦ as_item left context t ∷ []
+  | false ↦ elim (is_funarr (head context t)) [
+    | true ↦ as_item left context t ∷ text_part (blank_last (qualifier_text q))
+    | false ↦ as_item left context t ∷ text_part (qualifier_text q)
+  ]
+]
+
+unfoldable pub expansion_parts : Context → Term → Option ℕ → List (PartOf Item)
+expansion_parts context pattern None = as_item left context pattern ∷ as_item right context pattern ∷ says "..." ∷ []
+expansion_parts context pattern (Some zero) = []
+expansion_parts context pattern (Some (suc m)) = as_item (expand 0) context pattern ∷ []
+
+unfoldable pub sign_part : Signed → List (PartOf Item)
+sign_part n = cond n.negative (says "-" ∷ []) []
+
+-- the types whose literals need no cast
+unfoldable pub is_plain_integer : Term → Bool
+is_plain_integer (builtin (c ∷ [])) = nat_eq c 105 || nat_eq c 106 || nat_eq c 108 || nat_eq c 109 || nat_eq c 120 || nat_eq c 121
+is_plain_integer _ = false
+
+unfoldable pub builtin_code : Term → List ℕ
+builtin_code (builtin code) = code
+builtin_code _ = []
+
+unfoldable pub integer_parts : Context → Term → Signed → List (PartOf Item)
+integer_parts context t n = elim (is_plain_integer t) [
+  | true ↦ sign_part n ++ (text n.digits ∷ text_part (look_up (builtin_code t) literal_endings))
+  | false ↦ (says "(" ∷ as_item left context t ∷ as_item right context t ∷ says ")" ∷ []) ++ sign_part n ++ (text n.digits ∷ [])
+]
+
+unfoldable pub member_parts : Context → Term → Term → List (PartOf Item)
+member_parts context class t = elim (is_funarr (head context t)) [
+  | true ↦ as_item left context t ∷ says "(" ∷ as_item left context class ∷ says "::*" ∷ []
+  | false ↦ as_item left context t ∷ says " " ∷ as_item left context class ∷ says "::*" ∷ []
+]
+
+unfoldable pub array_left : Context → Term → List (PartOf Item)
+array_left context t = elim (is_funarr (head context t)) [
+  | true ↦ as_item left context t ∷ []
+  | false ↦ as_item left context t ∷ says " " ∷ []
+]
+
+unfoldable pub left_parts : Detail → Context → Term → List (PartOf Item)
+left_parts d context (alone p) = piece_parts context p
+left_parts d context (in_std p) = says "std::" ∷ as_item piece context p ∷ []
+left_parts d context (within prefix p) = within_parts context prefix p
+left_parts d context (instance template arguments) = instance_parts d context template arguments
+left_parts d context (local encoding entity discriminator) = as_item left context entity ∷ []
+left_parts d context (abbreviation letter) = text (look_up (letter ∷ []) abbreviation_texts) ∷ []
+left_parts d context (parameter k a) = as_item left closed (argument context a) ∷ []
+left_parts d context (builtin code) = text (look_up code builtin_texts) ∷ []
+left_parts d context (vendor name) = text (source_text name) ∷ []
+left_parts d context (pointer t) = marked_parts context t "*"
+left_parts d context (lvalue t) = reference_parts context low t "&"
+left_parts d context (rvalue t) = reference_parts context left t "&&"
+left_parts d context (array digits t) = array_left context t
+left_parts d context (function_type c_linkage noexcept ref returned parameters) = as_item left context returned ∷ says " " ∷ []
+left_parts d context (member_pointer class t) = member_parts context class t
+left_parts d context (qualified q t) = qualified_left context q t
+left_parts d context (vector digits t) = as_item left context t ∷ says " __vector(" ∷ text digits ∷ says ")" ∷ []
+left_parts d context (complex t) = as_item left context t ∷ says " _Complex" ∷ []
+left_parts d context (expansion pattern) = expansion_parts context pattern (packs_of context pattern)
+left_parts d context (pack elements) = list_part first context elements
+left_parts d context (integer t n) = integer_parts context t n
+left_parts d context (boolean b) = text (cond b (codes "true") (codes "false")) ∷ []
+left_parts d context null_pointer = says "nullptr" ∷ []
+left_parts d context (encoding_literal e) = as_item bare closed e ∷ []
+left_parts d context (address_of e) = says "&" ∷ as_item bare closed e ∷ []
+left_parts d context _ = []
+
+-- under a reference to it a reference is printed low, as an lvalue reference
+unfoldable pub low_parts : Detail → Context → Term → List (PartOf Item)
+low_parts d context (lvalue t) = reference_parts context low t "&"
+low_parts d context (rvalue t) = reference_parts context low t "&"
+low_parts d context (qualified q t) = as_item low context t ∷ []
+low_parts d context (parameter k a) = as_item low closed (argument context a) ∷ []
+low_parts d context t = left_parts d context t
+
+unfoldable pub function_right : Context → List ℕ → RefQualifier → Bool → Term → Term → List (PartOf Item)
+function_right context qualifiers ref noexcept returned parameters =
+    (says "(" ∷ list_part first context parameters)
+    ++ (says ")" ∷ text_part (qualifiers ++ ref_text ref ++ cond noexcept (codes " noexcept") []))
+    ++ (as_item right context returned ∷ [])
+
+unfoldable pub closing_right : Context → Term → List (PartOf Item)
+closing_right context t = elim (is_funarr (head context t)) [
+  | true ↦ says ")" ∷ as_item right context t ∷ []
+  | false ↦ as_item right context t ∷ []
+]
+
+unfoldable pub qualified_right : Context → Qualifiers → Term → List (PartOf Item)
+qualified_right context q (function_type c_linkage noexcept ref returned parameters) = function_right context (qualifier_text q) ref noexcept returned parameters
+qualified_right context q t = as_item right context t ∷ []
+
+unfoldable pub right_parts : Context → Term → List (PartOf Item)
+right_parts context (pointer t) = closing_right context t
+right_parts context (lvalue t) = closing_right context t
+right_parts context (rvalue t) = closing_right context t
+right_parts context (member_pointer class t) = closing_right context t
+right_parts context (array digits t) = (says "[" ∷ text_part digits) ++ (says "]" ∷ as_item right context t ∷ [])
+right_parts context (function_type c_linkage noexcept ref returned parameters) = function_right context [] ref noexcept returned parameters
+right_parts context (qualified q t) = qualified_right context q t
+right_parts context (vector digits t) = as_item right context t ∷ []
+right_parts context (complex t) = as_item right context t ∷ []
+right_parts context (parameter k a) = as_item right closed (argument context a) ∷ []
+right_parts context _ = []
+
+unfoldable pub base_within : Context → Term → Term → List (PartOf Item)
+base_within context prefix (constructor digit) = as_item base context prefix ∷ []
+base_within context prefix (destructor digit) = as_item base context prefix ∷ []
+base_within context prefix p = piece_parts context p
+
+-- the name of a constructor's class
+unfoldable pub base_parts : Detail → Context → Term → List (PartOf Item)
+base_parts d context (alone p) = piece_parts context p
+base_parts d context (in_std p) = piece_parts context p
+base_parts d context (within prefix p) = base_within context prefix p
+base_parts d context (instance template arguments) = as_item base context template ∷ []
+base_parts d context (local encoding entity discriminator) = as_item base context entity ∷ []
+base_parts d context (abbreviation letter) = text (drop 5 (look_up (letter ∷ []) abbreviation_texts)) ∷ []
+base_parts d context (parameter k a) = as_item base closed (argument context a) ∷ []
+base_parts d context t = left_parts d context t
+
+-- the context of the types of an encoding with this name
+unfoldable pub types_of : Term → Context
+types_of name = closed
+
+-- a function without its return type
+unfoldable pub function_bare : Term → Qualifiers → RefQualifier → Term → List (PartOf Item)
+function_bare name q ref parameters =
+    (as_item left closed name ∷ says "(" ∷ list_part first (types_of name) parameters) ++ (says ")" ∷ text_part (encoding_text q ref))
+
+unfoldable pub function_full : Term → Qualifiers → RefQualifier → Term → Term → List (PartOf Item)
+function_full name q ref absent parameters = function_bare name q ref parameters
+function_full name q ref returned parameters =
+    (as_item left (types_of name) returned ∷ says " " ∷ []) ++ function_bare name q ref parameters ++ (as_item right (types_of name) returned ∷ [])
+
+unfoldable pub full_parts : Term → List (PartOf Item)
+full_parts (function name q ref returned parameters) = function_full name q ref returned parameters
+full_parts (object name q ref) = as_item left closed name ∷ text_part (encoding_text q ref)
+full_parts (special letter t) = text (look_up (letter ∷ []) special_texts) ∷ as_item left closed t ∷ as_item right closed t ∷ []
+full_parts (thunk kind e) = text (thunk_text kind) ∷ as_item full closed e ∷ []
+full_parts (guard name q ref) = says "guard variable for " ∷ as_item left closed name ∷ text_part (encoding_text q ref)
+full_parts _ = []
+
+unfoldable pub bare_parts : Term → List (PartOf Item)
+bare_parts (function name q ref returned parameters) = function_bare name q ref parameters
+bare_parts e = full_parts e
+
+unfoldable pub root_parts : Term → List (PartOf Item)
+root_parts (symbol e []) = as_item full closed e ∷ []
+root_parts (symbol e (b ∷ bs)) = as_item full closed e ∷ says " (" ∷ text (b ∷ bs) ∷ says ")" ∷ []
+root_parts _ = []
+
+-- an empty element is passed over
+unfoldable pub first_parts : Context → Term → List (PartOf Item)
+first_parts context (list e rest) = elim (is_empty context e) [
+  | true ↦ list_part first context rest
+  | false ↦ (as_item left context e ∷ as_item right context e ∷ []) ++ list_part more context rest
+]
+first_parts context _ = []
+
+unfoldable pub more_parts : Context → Term → List (PartOf Item)
+more_parts context (list e rest) = elim (is_empty context e) [
+  | true ↦ list_part more context rest
+  | false ↦ (says ", " ∷ as_item left context e ∷ as_item right context e ∷ []) ++ list_part more context rest
+]
+more_parts context _ = []
+
+unfoldable pub at_index : ℕ → Context → Context
+at_index i context = record { index = Some i }
+
+unfoldable pub comma_before : ℕ → List (PartOf Item)
+comma_before zero = []
+comma_before (suc i) = says ", " ∷ []
+
+unfoldable pub expand_rest : Context → Term → ℕ → List (PartOf Item)
+expand_rest context pattern i = elim (is_below i (packs_of context pattern)) [ true ↦ as_item (expand i) context pattern ∷ [] | false ↦ [] ]
+
+unfoldable pub expand_parts : Context → Term → ℕ → List (PartOf Item)
+expand_parts context pattern i =
+    comma_before i ++ (as_item left (at_index i context) pattern ∷ as_item right (at_index i context) pattern ∷ []) ++ expand_rest context pattern (i + 1)
+
+unfoldable pub parts_in : Detail → Context → Form → Term → List (PartOf Item)
+parts_in d context root t = root_parts t
+parts_in d context full t = full_parts t
+parts_in d context bare t = bare_parts t
+parts_in d context left t = left_parts d context t
+parts_in d context right t = right_parts context t
+parts_in d context low t = low_parts d context t
+parts_in d context base t = base_parts d context t
+parts_in d context piece t = piece_parts context t
+parts_in d context first t = first_parts context t
+parts_in d context more t = more_parts context t
+parts_in d context (expand i) t = expand_parts context t i
+
+-- An empty text isn't a part. The texts of a symbol's tree are not empty.
+unfoldable pub not_empty : List (PartOf Item) → List (PartOf Item)
+not_empty [] = []
+not_empty (text [] ∷ ps) = not_empty ps
+not_empty (text (b ∷ bs) ∷ ps) = text (b ∷ bs) ∷ not_empty ps
+not_empty (sub item ∷ ps) = sub item ∷ not_empty ps
+
+unfoldable pub parts : Detail → Item → List (PartOf Item)
+parts d item = not_empty (parts_in d item.context item.form item.tree)

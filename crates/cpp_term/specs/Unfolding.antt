@@ -1,0 +1,80 @@
+-- From the shape of a C++ symbol to the tree that it stands for: each substitution is replaced by the tree that it names.
+-- The productions are gone through in the order of their bytes. What is around a part is inherited; the candidates run along.
+use Rattle.std.specs.Prelude.{ℕ, ◌-◌, ◌^◌, List, [], ◌∷◌, true, false, nat_lt, slice_get, None, Result, Ok, Err}
+use Rattle.cpp_grammar.specs.Unfolding.{last_token, production_at, byte_of}
+use Rattle.sym_core.specs.declared.refusal.Refusal.{Refusal}
+use Rattle.sym_core.specs.declared.refusal.Refusal.TheVariants.{BadValue}
+use Rattle.sym_core.specs.declared.NumberKind.TheVariants.{Seq36}
+use Rattle.sym_core.specs.Value.{counted_value}
+use Rattle.sym_shape.specs.Tree.{Tree, Forest}
+use Rattle.sym_link.specs.Reading.{Found, Reading, ◌>>=◌}
+use Rattle.sym_link.specs.Unfold.{found, unfold_tree}
+use Rattle.cpp_grammar.specs.declared.production.Production.{Production}
+use Rattle.cpp_term.specs.Term.{Term, absent}
+use Rattle.cpp_grammar.specs.Values.{local_number}
+use Rattle.cpp_term.specs.Values.{State, outermost, Around, Value, nothing_there, text, tree_of, text_of, part}
+use Rattle.cpp_term.specs.References.{appended, with_type, with_unqualified, substituted}
+use Rattle.cpp_term.specs.Between.{between}
+use Rattle.cpp_term.specs.Meaning.{meaning}
+
+-- ## Before the parts of a production
+
+-- The number of a lambda or an unnamed type has 64 bits. It is tested at its U, before what stands between.
+unfoldable pub number_tested : ℕ → List ℕ → State → Result State Refusal
+number_tested place digits state = elim (nat_lt (local_number digits) (2 ^ 64)) [ true ↦ Ok state | false ↦ Err (BadValue place) ]
+
+unfoldable pub opening : Production → Forest → (place : ℕ) → State → Result State Refusal
+opening Production.Lambda parts place state = number_tested (place - 1) (last_token parts []) state
+opening Production.Unnamed parts place state = number_tested (place - 1) (last_token parts []) state
+opening _ parts place state = Ok state
+
+-- ## Behind the parts of a production
+
+-- The state behind a production that began in another: types become candidates here, and behind an expansion the length of the
+-- packs around it holds again.
+unfoldable pub behind : Production → (byte : ℕ) → Around → (began : State) → List Value → State → State
+behind Production.RestrictType byte around began vs state = appended around (tree_of (meaning Production.RestrictType byte around vs)) state
+behind Production.VolatileType byte around began vs state = appended around (tree_of (meaning Production.VolatileType byte around vs)) state
+behind Production.ConstType byte around began vs state = appended around (tree_of (meaning Production.ConstType byte around vs)) state
+behind Production.ReferenceType byte around began vs state = appended around (tree_of (meaning Production.ReferenceType byte around vs)) state
+behind Production.PlainType byte around began vs state = with_type around (part vs 0) state
+behind Production.TypeWithD byte around began vs state = with_type around (part vs 0) state
+behind Production.ItemWithD byte around began vs state = with_type around (part vs 0) state
+behind Production.QualifiedPlain byte around began vs state = with_unqualified around (part vs 0) state
+behind Production.PlainWithD byte around began vs state = with_unqualified around (part vs 0) state
+behind Production.Expansion byte around began vs state = record state { packs = began.packs }
+behind _ byte around began vs state = state
+
+-- What a production stands for, that begins at a place, once its parts are read; a substitution may be refused at its S, one
+-- byte before.
+unfoldable pub close : Production → (byte : ℕ) → Around → (place : ℕ) → (began : State) → List Value → State → Result (Found Value State) Refusal
+close Production.Substitution byte around place began vs state =
+    substituted around (place - 1) (slice_get state.candidates (counted_value Seq36 (text_of (part vs 0)))) state
+close production byte around place began vs state =
+    Ok (found (meaning production byte around vs) (behind production byte around began vs state))
+
+-- ## The unfolding
+
+-- C++ as a language: each part has one value, also one with no row.
+unfoldable pub cpp : Reading Value State Around
+cpp = record {
+  rowless = nothing_there ∷ [];
+  token = λ place t state. Ok (found (text t.own) state);
+  begin = λ rule parts. opening (production_at rule.rule.number) parts rule.place rule.before;
+  between = λ rule known state. between (production_at rule.rule.number) rule.context rule.place known state;
+  close = λ rule known state. close (production_at rule.rule.number) (byte_of rule.taken) rule.context rule.place rule.before known state;
+}
+
+unfoldable pub first_around : Around
+first_around = record { scope = None; encoding = 0; in_lambda = false; in_expansion = false; prefix = outermost }
+
+unfoldable pub first_state : State
+first_state = record { candidates = []; packs = None }
+
+unfoldable pub first_tree : List Value → Term
+first_tree [] = absent
+first_tree (v ∷ vs) = tree_of v
+
+-- the tree that a symbol of this shape stands for, or the refusal at its first bad token by place
+unfoldable pub unfold_cpp : Tree → Result Term Refusal
+unfold_cpp shape = unfold_tree cpp first_around 0 shape first_state >>= λ whole. Ok (first_tree whole.value)

@@ -1,0 +1,113 @@
+-- What the parts of a C++ symbol stand for while it is unfolded, and what is known around them.
+use Rattle.std.specs.Prelude.{ℕ, zero, suc, List, [], ◌∷◌, Bool, true, false, cond, nat_eq, Option}
+use Rattle.cpp_grammar.specs.Values.{unqualified}
+use Rattle.cpp_grammar.specs.Term.{Qualifiers, RefQualifier, any_value, lvalue_only, rvalue_only, Signed, Adjustment, non_virtual}
+use Rattle.cpp_term.specs.Term.{Term, absent}
+
+-- a tree that a substitution may name, and the place where the encoding begins in which it was made
+pub record Candidate : Type 0 where
+  pub tree : Term
+  pub encoding : ℕ
+
+-- What runs along with the bytes: the candidates so far, and the length of the packs that the innermost expansion has
+-- named so far.
+pub record State : Type 0 where
+  pub candidates : List Candidate
+  pub packs : Option ℕ
+
+-- the name so far, and whether it is a candidate already or never is one
+pub data Prefix : Type 0 where
+  outermost : Prefix
+  behind : Term → (listed : Bool) → Prefix
+
+unfoldable pub prefix_tree : Prefix → Term
+prefix_tree outermost = absent
+prefix_tree (behind t listed) = t
+
+unfoldable pub prefix_listed : Prefix → Bool
+prefix_listed outermost = true
+prefix_listed (behind t listed) = listed
+
+-- What surrounds a part: the arguments that parameters name there, the place where the innermost encoding begins,
+-- whether the part stands in a lambda's signature of that encoding, or under an expansion of it, and the name so far.
+pub record Around : Type 0 where
+  pub scope : Option Term
+  pub encoding : ℕ
+  pub in_lambda : Bool
+  pub in_expansion : Bool
+  pub prefix : Prefix
+
+-- what a part stands for
+pub data Value : Type 0 where
+  nothing_there : Value
+  letter : ℕ → Value
+  text : List ℕ → Value
+  signed : Signed → Value
+  adjusted : Adjustment → Value
+  -- a tree, and whether it is a candidate already or never is one
+  tree : Term → (listed : Bool) → Value
+  -- a piece of a name, of which a name is made next
+  piece : Term → Value
+  -- the name of an encoding, with the qualifiers that belong to the encoding
+  named : Term → Qualifiers → RefQualifier → Value
+  -- the parameters of a function type, and its mark
+  signature : Term → RefQualifier → Value
+
+-- ## The parts of a value
+
+unfoldable pub tree_of : Value → Term
+tree_of (tree t listed) = t
+tree_of (named t qualifiers ref) = t
+tree_of (signature t ref) = t
+tree_of _ = absent
+
+unfoldable pub piece_of : Value → Term
+piece_of (piece p) = p
+piece_of _ = absent
+
+unfoldable pub is_listed : Value → Bool
+is_listed (tree t listed) = listed
+is_listed _ = false
+
+unfoldable pub qualifiers_of : Value → Qualifiers
+qualifiers_of (named t qualifiers ref) = qualifiers
+qualifiers_of _ = unqualified
+
+unfoldable pub ref_of : Value → RefQualifier
+ref_of (named t qualifiers ref) = ref
+ref_of (signature t ref) = ref
+ref_of _ = any_value
+
+unfoldable pub letter_of : Value → ℕ
+letter_of (letter byte) = byte
+letter_of _ = 0
+
+unfoldable pub is_there : Value → Bool
+is_there nothing_there = false
+is_there _ = true
+
+-- the mark R or O, or none
+unfoldable pub mark_of : Value → RefQualifier
+mark_of (letter byte) = cond (nat_eq byte 82) lvalue_only rvalue_only
+mark_of _ = any_value
+
+unfoldable pub text_of : Value → List ℕ
+text_of (text bytes) = bytes
+text_of _ = []
+
+unfoldable pub signed_of : Value → Signed
+signed_of (signed n) = n
+signed_of _ = record { negative = false; digits = [] }
+
+unfoldable pub adjustment_of : Value → Adjustment
+adjustment_of (adjusted a) = a
+adjustment_of _ = non_virtual (record { negative = false; digits = [] })
+
+-- ## Numbers
+
+-- ## The values of a production's parts
+
+unfoldable pub part : List Value → ℕ → Value
+part [] k = nothing_there
+part (v ∷ vs) zero = v
+part (v ∷ vs) (suc k) = part vs k

@@ -1,0 +1,36 @@
+//! C++ symbols read into trees in which a template parameter carries the argument that it stands for. A linker keeps such
+//! trees, since how long a part's packs are, and how it is shown, depend on the part alone. The laws here say that they stand
+//! for the trees of `cpp_grammar`, in which a parameter is a number.
+#![tactic(auto)]
+
+ghost use Rattle.std.specs.Prelude.{◌≡◌, ℕ};
+ghost use Rattle.sym_print.specs.declared.detail.Detail.{Detail};
+ghost use Rattle.sym_shape.specs.Tree.{Tree, IsTree};
+ghost use Rattle.sym_shape.specs.declared.rule.Sym.TheVariants.{Kind};
+ghost use Rattle.cpp_grammar.specs.Table.{abi};
+ghost use Rattle.cpp_grammar.specs.Answer.{answer_within};
+ghost use Rattle.cpp_grammar.specs.Items.{Item};
+ghost use Rattle.cpp_grammar.specs.Parts as leaf_;
+ghost use Rattle.cpp_grammar.specs.Unfolding as unfolding_;
+ghost use Rattle.cpp_term.specs.Parts as part_;
+ghost use Rattle.cpp_term.specs.Unfolding as unfolded_;
+ghost use Rattle.cpp_term.specs.Annotated.{noted_item, noted_parts, noted_tree};
+ghost use Rattle.cpp_term.specs.Answer.{noted_answer};
+
+/// What is shown of an item whose parameters carry their arguments is what is shown of the item without them: the same texts,
+/// and the same items with their arguments, in each detail and form. So texts and costs are the same.
+pub fn parts_are_annotated()
+    ensures { (detail : Detail) (item : Item) → part_.parts detail (noted_item item) ≡ noted_parts (leaf_.parts detail item) }
+{}
+
+/// A well shaped symbol read with arguments in its parameters comes to the tree of the symbol (ABI 5.1.8, 5.1.10), each free
+/// parameter with its argument; or it's refused for the same reason, at the same place.
+pub fn trees_are_annotated()
+    ensures { (shape : Tree) → IsTree abi (Kind 0) shape → unfolded_.unfold_cpp shape ≡ noted_tree (unfolding_.unfold_cpp shape) }
+{}
+
+/// The answer for a well shaped symbol is that for its tree whose parameters carry their arguments: the text where that costs
+/// at most the limit, in either detail, or the refusal with its place.
+pub fn answers_are_the_same()
+    ensures { (detail : Detail) (limit : ℕ) (shape : Tree) → IsTree abi (Kind 0) shape → noted_answer detail limit (unfolded_.unfold_cpp shape) ≡ answer_within detail limit (unfolding_.unfold_cpp shape) }
+{}
