@@ -1,5 +1,5 @@
 -- The views of a symbol's nodes.
-use Rattle.std.specs.Prelude.{◌≡◌, ℕ, ◌<◌, ◌≤◌, List, [], ◌∷◌, length, map, take, Option, Some, None, slice_get}
+use Rattle.std.specs.Prelude.{◌≡◌, ℕ, ◌<◌, ◌≤◌, List, [], ◌∷◌, length, map, take, Option, Some, None, slice_get, get_or, Bool, true, ◌==◌, ◌||◌}
 use Rattle.std.specs.List.{All}
 use Rattle.rust_tree.specs.Symbol as tree
 use Rattle.rust_tree.specs.Tree.{Tree, of_type}
@@ -7,6 +7,7 @@ use Rattle.rust_tree.specs.Nodes.{bytes_at, IsWithin}
 use Rattle.rust_tree.specs.Layout.{ReadSymbol, trees_of}
 use Rattle.rust_tree.specs.Fields.{Fields, fields, fields_of}
 use Rattle.sym_core.specs.declared.Span.{Span}
+use Rattle.rust_tree.specs.declared.tree_production.TheConstants.{NESTED, PUNYCODE_NESTED, BASIC, INTEGER}
 use Rattle.rust_tree.specs.declared.view.Node.{Node}
 use Rattle.rust_tree.specs.declared.view.Seen.{Seen}
 
@@ -24,6 +25,14 @@ pub record IsView (s : List ℕ) (view : Node) (given : Fields) : Type 0 where
   pub numbers : view.numbers ≡ given.numbers
   pub texts : map (bytes_at s) view.texts ≡ given.texts
   pub parts : view.parts ≡ length given.parts
+
+-- the first number of these productions is a letter: a namespace, or that of a type
+abbrev pub has_letter : (production : ℕ) → Bool
+has_letter production = (production == NESTED) || ((production == PUNYCODE_NESTED) || ((production == BASIC) || (production == INTEGER)))
+
+-- a letter is a byte
+abbrev pub IsLettered : Node → Type 0
+IsLettered view = has_letter view.production ≡ true → get_or view.numbers 0 0 < 256
 
 -- Two views have the same production and numbers, texts of the same bytes, and as many parts; the parts are equal in turn.
 pub record AreAlike (s t : List ℕ) (first second : Node) (one other : Tree) : Type 0 where

@@ -7,7 +7,7 @@ ghost use Rattle.rust_tree.specs.Tree.{Tree, of_path, of_arguments, of_type, of_
 ghost use Rattle.rust_tree.specs.Nodes.{is_some, tree_of, path_of, arguments_of, type_of, types_of, bounds_of, bindings_of, constant_of, symbol_of, HasParts, HasPathParts, HasArgumentsParts, HasTypeParts, HasTypesParts, HasBoundsParts, HasBindingsParts, HasConstantParts, HasSymbolParts, IsWithin};
 ghost use Rattle.rust_tree.specs.Layout.{trees_of};
 ghost use Rattle.rust_tree.specs.Fields.{fields_of, tree_from, one_if};
-ghost use Rattle.rust_tree.specs.Views.{fields_at, IsView, IsSeen, HasNoPathType, seen_of, no_text};
+ghost use Rattle.rust_tree.specs.Views.{fields_at, IsView, IsSeen, IsLettered, HasNoPathType, seen_of, no_text};
 
 use crate::node;
 use crate::node::{Abi, Arguments, Bindings, Bounds, Constant, Name, Path, Ty, Types, Whole};
@@ -102,7 +102,8 @@ fn one_if(mark: bool) -> u64
 }
 
 fn see_path(path: Path) -> Seen
-    ensures { (s text : List ℕ) (all : List Tree) → HasNoPathType all → HasPathParts s text all path → IsSeen s all result (fields_of (of_path (path_of s all path))) }
+    ensures seen { (s text : List ℕ) (all : List Tree) → HasNoPathType all → HasPathParts s text all path → IsSeen s all result (fields_of (of_path (path_of s all path))) }
+    ensures letter { IsLettered result.node }
 {
     match path {
         Path::Crate {
@@ -142,7 +143,8 @@ fn see_path(path: Path) -> Seen
 }
 
 fn see_arguments(arguments: Arguments) -> Seen
-    ensures { (s text : List ℕ) (all : List Tree) → HasNoPathType all → HasArgumentsParts all arguments → IsSeen s all result (fields_of (of_arguments (arguments_of all arguments))) }
+    ensures seen { (s text : List ℕ) (all : List Tree) → HasNoPathType all → HasArgumentsParts all arguments → IsSeen s all result (fields_of (of_arguments (arguments_of all arguments))) }
+    ensures letter { IsLettered result.node }
 {
     match arguments {
         Arguments::None => leaf(NO_ARGUMENTS, 0),
@@ -153,8 +155,9 @@ fn see_arguments(arguments: Arguments) -> Seen
 }
 
 fn see_function(binder: u16, is_unsafe: bool, abi: Abi, parameters: u32, returned: u32) -> Seen
-    ensures { (s text : List ℕ) (all : List Tree) → HasNoPathType all → HasTypeParts s text all (Ty.Function binder is_unsafe abi parameters returned)
+    ensures seen { (s text : List ℕ) (all : List Tree) → HasNoPathType all → HasTypeParts s text all (Ty.Function binder is_unsafe abi parameters returned)
         → IsSeen s all result (fields_of (of_type (type_of s all (Ty.Function binder is_unsafe abi parameters returned)))) }
+    ensures letter { IsLettered result.node }
 {
     let numbers = [binder as u64, one_if(is_unsafe)];
     let parts = [parameters, returned, 0];
@@ -169,7 +172,8 @@ fn see_function(binder: u16, is_unsafe: bool, abi: Abi, parameters: u32, returne
 }
 
 fn see_type(ty: Ty) -> Seen
-    ensures { (s text : List ℕ) (all : List Tree) → HasNoPathType all → HasTypeParts s text all ty → IsSeen s all result (fields_of (of_type (type_of s all ty))) }
+    ensures seen { (s text : List ℕ) (all : List Tree) → HasNoPathType all → HasTypeParts s text all ty → IsSeen s all result (fields_of (of_type (type_of s all ty))) }
+    ensures letter { IsLettered result.node }
 {
     match ty {
         Ty::Basic(letter) => leaf(BASIC, letter as u64),
@@ -196,7 +200,8 @@ fn see_type(ty: Ty) -> Seen
 }
 
 fn see_types(types: Types) -> Seen
-    ensures { (s text : List ℕ) (all : List Tree) → HasNoPathType all → HasTypesParts all types → IsSeen s all result (fields_of (of_types (types_of all types))) }
+    ensures seen { (s text : List ℕ) (all : List Tree) → HasNoPathType all → HasTypesParts all types → IsSeen s all result (fields_of (of_types (types_of all types))) }
+    ensures letter { IsLettered result.node }
 {
     match types {
         Types::None => leaf(NO_TYPES, 0),
@@ -205,7 +210,8 @@ fn see_types(types: Types) -> Seen
 }
 
 fn see_bounds(bounds: Bounds) -> Seen
-    ensures { (s text : List ℕ) (all : List Tree) → HasNoPathType all → HasBoundsParts all bounds → IsSeen s all result (fields_of (of_bounds (bounds_of all bounds))) }
+    ensures seen { (s text : List ℕ) (all : List Tree) → HasNoPathType all → HasBoundsParts all bounds → IsSeen s all result (fields_of (of_bounds (bounds_of all bounds))) }
+    ensures letter { IsLettered result.node }
 {
     match bounds {
         Bounds::None => leaf(NO_BOUNDS, 0),
@@ -218,7 +224,8 @@ fn see_bounds(bounds: Bounds) -> Seen
 }
 
 fn see_bindings(bindings: Bindings) -> Seen
-    ensures { (s text : List ℕ) (all : List Tree) → HasNoPathType all → HasBindingsParts s text all bindings → IsSeen s all result (fields_of (of_bindings (bindings_of s all bindings))) }
+    ensures seen { (s text : List ℕ) (all : List Tree) → HasNoPathType all → HasBindingsParts s text all bindings → IsSeen s all result (fields_of (of_bindings (bindings_of s all bindings))) }
+    ensures letter { IsLettered result.node }
 {
     match bindings {
         Bindings::None => leaf(NO_BINDINGS, 0),
@@ -234,7 +241,8 @@ fn see_bindings(bindings: Bindings) -> Seen
 }
 
 fn see_constant(constant: Constant) -> Seen
-    ensures { (s text : List ℕ) (all : List Tree) → HasNoPathType all → HasConstantParts s text constant → IsSeen s all result (fields_of (of_constant (constant_of s constant))) }
+    ensures seen { (s text : List ℕ) (all : List Tree) → HasNoPathType all → HasConstantParts s text constant → IsSeen s all result (fields_of (of_constant (constant_of s constant))) }
+    ensures letter { IsLettered result.node }
 {
     match constant {
         Constant::Integer {
@@ -256,7 +264,8 @@ fn see_constant(constant: Constant) -> Seen
 }
 
 fn see_symbol(whole: Whole) -> Seen
-    ensures { (s text : List ℕ) (all : List Tree) → HasNoPathType all → HasSymbolParts s all whole → IsSeen s all result (fields_of (of_symbol (symbol_of s all whole))) }
+    ensures seen { (s text : List ℕ) (all : List Tree) → HasNoPathType all → HasSymbolParts s all whole → IsSeen s all result (fields_of (of_symbol (symbol_of s all whole))) }
+    ensures letter { IsLettered result.node }
 {
     match whole.instantiating {
         Some(other) => view_of(SYMBOL, [0, 0], whole.suffix, 2, [whole.path, other, 0]),
@@ -265,7 +274,8 @@ fn see_symbol(whole: Whole) -> Seen
 }
 
 fn see(node: node::Node) -> Seen
-    ensures { (s text : List ℕ) (all : List Tree) → HasNoPathType all → HasParts s text all node → IsSeen s all result (fields_of (tree_of s all node)) }
+    ensures seen { (s text : List ℕ) (all : List Tree) → HasNoPathType all → HasParts s text all node → IsSeen s all result (fields_of (tree_of s all node)) }
+    ensures letter { IsLettered result.node }
 {
     match node {
         node::Node::Path(path) => see_path(path),
@@ -285,6 +295,7 @@ impl Symbol {
         requires { node < length self.now.table.nodes }
         ensures seen { IsSeen self.now.bytes (take node (trees_of self.now)) result (fields_at self.now node) }
         ensures made { (made : Tree) × (slice_get (trees_of self.now) node ≡ Some made) }
+        ensures letter { IsLettered result.node }
     {
         see(self.stored(node))
     }
@@ -299,6 +310,7 @@ impl Symbol {
         ensures tree { slice_get (trees_of self.now) node ≡ Some (tree_from (fields_at self.now node)) }
         ensures within { All (λ text. IsWithin text self.now.bytes) result.texts }
         ensures few { result.parts ≤ 3 }
+        ensures letter { IsLettered result }
     {
         self.see_at(node).node
     }
