@@ -44,7 +44,8 @@ def number_of_functions(printed):
 
 def refusals(printed):
     """The clauses that weren't proved, one line each."""
-    return [line for line in printed.splitlines() if re.match(r"\S+:\d+:\d+: error", line)] or ["nothing refused"]
+    told = [line for line in printed.splitlines() if re.match(r"(note: )?\S+:\d+:\d+: ", line)]
+    return [line for line in told if ": error" in line or "not proved" in line] or ["nothing refused"]
 
 
 def read_edit(path):
