@@ -38,7 +38,13 @@ def main():
     symfilt = [sys.argv[1]]
     reference = [sys.executable, sys.argv[2]] if sys.argv[2].endswith(".py") else [sys.argv[2]]
     text = sys.stdin.buffer.read()
-    words = [line.decode() for line in text.split(b"\n") if line.isascii() and line and not line.startswith(b"-")]
+    lines = [line for line in text.split(b"\n") if line]
+    # a command line is text, and an option begins with a dash
+    words = [line.decode() for line in lines if line.isascii() and not line.startswith(b"-")]
+    if not words:
+        sys.exit("no symbols on standard input")
+    if len(words) < len(lines):
+        print(f"{len(lines) - len(words)} lines are compared in the filtered text alone")
     differences = 0
     for options in OPTIONS:
         for first in range(0, len(words), BATCH):

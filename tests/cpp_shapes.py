@@ -15,6 +15,7 @@ def wanted(reference, table, symbol):
     return "rows"
 
 def main():
+    if len(sys.argv) < 3: sys.exit(__doc__)
     reference, generator = load(sys.argv[1]), load(sys.argv[2])
     count = int(sys.argv[3]) if len(sys.argv) > 3 else 4000
     seed = int(sys.argv[4]) if len(sys.argv) > 4 else 1

@@ -20,12 +20,17 @@ printf 'x _RNvC3foo3bar _Z1fv. (_RNvC3fo) _RNvNtC3foo3bar3baz end\n' >"$work/tex
 
 failed=0
 
-# refuse_each NAME WORD..: runs the program on the words until no allocation is left to refuse
+# refuse_each NAME STATUS WORD..: runs the program on the words until no allocation is left to refuse; the status is that
+# of a run with ample memory
 refuse_each() {
-    local name=$1 number=1 status
-    shift
+    local name=$1 wanted=$2 number=1 status
+    shift 2
     "$symfilt" "$@" <"$work/text" >"$work/whole" 2>"$work/complaints"
     local usual=$?
+    if [ "$usual" -ne "$wanted" ]; then
+        echo "$name: status $usual, not $wanted, with ample memory: is $symfilt the program?" >&2
+        exit 2
+    fi
     while :; do
         rm -f "$work/mark"
         REFUSE=$number REFUSE_MARK="$work/mark" LD_PRELOAD="$work/refuse_malloc.so" \
@@ -47,9 +52,13 @@ refuse_each() {
         fi
     done
     echo "$name: $((number - 1)) allocations refused in turn"
+    if [ "$number" -eq 1 ]; then
+        echo "$name: no allocation was seen; a program that is linked statically can't be tried so" >&2
+        failed=1
+    fi
 }
 
-refuse_each 'command line' _RNvC3foo3bar _RNvC3fo _Z1fv foo
-refuse_each 'counts' --stats _RNvC3foo3bar
-refuse_each 'filter'
+refuse_each 'command line' 1 _RNvC3foo3bar _RNvC3fo _Z1fv foo
+refuse_each 'counts' 0 --stats _RNvC3foo3bar
+refuse_each 'filter' 0
 exit "$failed"

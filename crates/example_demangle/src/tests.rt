@@ -678,26 +678,24 @@ fn texts_that_double(rt: HostRuntime) -> Result<(), Fail> {
     Ok(())
 }
 
-/// `foo` and behind it a name in Punycode of so many bytes.
-fn long_name(alloc: Global, begins: &[u8], length: usize) -> Result<Vec<u8>, AllocError> {
+/// A symbol that begins so, has `b_` so many times, and ends so.
+fn long_name(alloc: Global, begins: &[u8], pairs: u32, ends: &[u8]) -> Result<Vec<u8>, AllocError> {
     let mut symbol = Vec::from_slice(alloc, begins)?;
-    symbol.resize(begins.len() + length, b'b')?;
-    for place in begins.len()..symbol.len() {
-        if (place - begins.len()) % 2 == 1 {
-            symbol[place] = b'_';
-        }
+    for _ in 0..pairs {
+        symbol.extend_from_slice(b"b_")?;
     }
+    symbol.extend_from_slice(ends)?;
     Ok(symbol)
 }
 
 #[test]
 fn names_up_to_the_longest_that_is_decoded(rt: HostRuntime) -> Result<(), Fail> {
-    let symbol = long_name(rt.alloc(), b"_RNvC3foou2000", 2_000)?;
+    let symbol = long_name(rt.alloc(), b"_RNvC3foou2000", 1_000, b"")?;
     assert!(rt; symbol.len() <= 10_000);
     let text = demangle(rt.alloc(), &symbol, 2_004 + 3)?;
     assert_eq!(rt; text.len(), 2_004);
     assert!(rt; text.starts_with(b"foo::b_b_b_"));
-    let symbol = long_name(rt.alloc(), b"_RNvC3foou2001", 2_001)?;
+    let symbol = long_name(rt.alloc(), b"_RNvC3foou2001", 1_000, b"b")?;
     assert!(rt; symbol.len() <= 10_000);
     let text = demangle(rt.alloc(), &symbol, 2_019)?;
     assert_eq!(rt; text.len(), 2_016);
