@@ -43,7 +43,7 @@ pub enum Part {
     Symbol(u32),
 }
 
-/// A part that stands for a node which was just added.
+/// A part that stands for a node which was just added: small enough to be handed on in registers, as `Part` isn't.
 #[derive(Clone, Copy)]
 pub enum Added {
     Path(u32),

@@ -350,7 +350,7 @@ pub fn same_name(parts: &[Part]) -> Result<Part, Refusal>
     Ok(Part::Name(spelled))
 }
 
-/// The most lifetimes of a binder.
+/// The most lifetimes of a binder: `most_bound` of the logic, as the contract below says.
 const MOST_BOUND: u64 = 1_000;
 
 /// `<binder> = "G" <base-62-number>`: one lifetime more than the number.
