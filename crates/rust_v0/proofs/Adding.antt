@@ -6,14 +6,14 @@ use Rattle.rust_tree.specs.Tree.{Tree}
 use Rattle.rust_tree.specs.Nodes.{Grows, IsTable, trees, tree_of, type_of}
 use Rattle.rust_tree.specs.declared.node.Node.{Node}
 use Rattle.rust_tree.specs.declared.node.Ty.{Ty}
-use Rattle.rust_v0.specs.declared.language.Ending.{Ending}
-use Rattle.rust_v0.specs.declared.language.Linked.{Linked}
+use Rattle.rust_v0.specs.declared.nodes.Target.{Target}
+use Rattle.rust_v0.specs.declared.nodes.RustNodes.{RustNodes}
 use Rattle.rust_v0.specs.Value as value
 use Rattle.rust_v0.specs.Value.{Value}
 use Rattle.rust_v0.specs.Unfold.{At, Meaning, as_path}
-use Rattle.rust_v0.specs.Makings.{ends_tree}
-use Rattle.rust_v0.specs.Making as making
-use Rattle.rust_v0.specs.Linked.{IsNoted, AreNoted, Keeps, v0_view}
+use Rattle.rust_v0.specs.Made.{ends_tree}
+use Rattle.rust_v0.specs.CodeSemantics as semantics
+use Rattle.rust_v0.specs.RustNodes.{IsNoted, AreNoted, Keeps, v0_view}
 use Rattle.sym_link.specs.Linking.{Gives}
 use Rattle.rust_v0.proofs.Noted.{stays_noted, lists_stay, noted_added}
 
@@ -24,29 +24,29 @@ not_a_path s all (Ty.Basic letter) = refl
 not_a_path s all type = refl
 
 -- the endings behind one that may be noted at a place
-abbrev pub ended_with : Option Ending → List Ending → (place : ℕ) → List Ending
+abbrev pub ended_with : Option Target → List Target → (place : ℕ) → List Target
 ended_with None endings place = endings
 ended_with (Some ending) endings place = slice_set endings place ending
 
-module _ (at : At) (old new : Linked) (number : ℕ) (read : Meaning) (there : at.place < length old.ended.items) (keeps : Keeps at.symbol old at.ended)
+module _ (at : At) (old new : RustNodes) (number : ℕ) (read : Meaning) (there : at.place < length old.targets.items) (keeps : Keeps at.symbol old at.ended)
     (grows : Grows old.nodes new.nodes) (table : IsTable at.symbol new.nodes) where
   abbrev all : List Tree
   all = trees at.symbol old.nodes.nodes
 
-  further : AreNoted (trees at.symbol new.nodes.nodes) old.ended.items at.ended
+  further : AreNoted (trees at.symbol new.nodes.nodes) old.targets.items at.ended
   further place = stays_noted at.symbol old.nodes new.nodes grows _ _ (keeps.noted place)
 
   -- what has ended is noted
-  keeps_with : (ending : Ending) (v : Value) → IsNoted (trees at.symbol new.nodes.nodes) ending (Some v) → new.ended.items ≡ slice_set old.ended.items at.place ending
+  keeps_with : (ending : Target) (v : Value) → IsNoted (trees at.symbol new.nodes.nodes) ending (Some v) → new.targets.items ≡ slice_set old.targets.items at.place ending
       → Keeps at.symbol new (record { place = at.place; value = v } ∷ at.ended)
   keeps_with ending v is same = record {
-    places = omega (arith, keeps.places, ap (λ es. length es) same, length-set old.ended.items at.place ending);
+    places = omega (arith, keeps.places, ap (λ es. length es) same, length-set old.targets.items at.place ending);
     table = table;
     lists = lists_stay at.symbol old.nodes new.nodes grows keeps.lists;
-    noted = λ place. rw same (noted_added (trees at.symbol new.nodes.nodes) old.ended.items at.ended at.place ending v there further is place);
+    noted = λ place. rw same (noted_added (trees at.symbol new.nodes.nodes) old.targets.items at.ended at.place ending v there further is place);
   }
 
-  keeps_same : new.ended.items ≡ old.ended.items → Keeps at.symbol new at.ended
+  keeps_same : new.targets.items ≡ old.targets.items → Keeps at.symbol new at.ended
   keeps_same same = record {
     places = omega (arith, keeps.places, ap (λ es. length es) same);
     table = table;
@@ -56,11 +56,11 @@ module _ (at : At) (old new : Linked) (number : ℕ) (read : Meaning) (there : a
 
   pub added_gives : (node : Node) → read ≡ ends_tree at (tree_of at.symbol all node)
       → slice_get (trees at.symbol new.nodes.nodes) number ≡ Some (tree_of at.symbol all node)
-      → new.ended.items ≡ ended_with (making.placed node number).1 old.ended.items at.place
-      → Gives (v0_view at.symbol) new (Ok (making.part_of (making.placed node number).0)) read
-  added_gives (Node.Path path) is got same = (_, _, is, got, keeps_with (Ending.Path number) _ (_, got, inl refl) same)
-  added_gives (Node.Ty type) is got same = (_, _, is, inl got, keeps_with (Ending.Type number) _ (_, got, not_a_path at.symbol all type, refl) same)
-  added_gives (Node.Constant constant) is got same = (_, _, is, got, keeps_with (Ending.Constant number) _ (_, got, refl) same)
+      → new.targets.items ≡ ended_with (semantics.placed node number).1 old.targets.items at.place
+      → Gives (v0_view at.symbol) new (Ok (semantics.part_of (semantics.placed node number).0)) read
+  added_gives (Node.Path path) is got same = (_, _, is, got, keeps_with (Target.Path number) _ (_, got, inl refl) same)
+  added_gives (Node.Ty type) is got same = (_, _, is, inl got, keeps_with (Target.Type number) _ (_, got, not_a_path at.symbol all type, refl) same)
+  added_gives (Node.Constant constant) is got same = (_, _, is, got, keeps_with (Target.Constant number) _ (_, got, refl) same)
   added_gives (Node.Arguments arguments) is got same = (_, _, is, got, keeps_same same)
   added_gives (Node.Types types) is got same = (_, _, is, got, keeps_same same)
   added_gives (Node.Bounds bounds) is got same = (_, _, is, got, keeps_same same)

@@ -4,22 +4,22 @@ use Rattle.std.specs.Prelude.{Result, OnOk, IfErr}
 use Rattle.sym_core.specs.declared.refusal.Refusal.{Refusal}
 use Rattle.sym_core.specs.declared.refusal.Refusal.TheVariants as refusals
 use Rattle.sym_link.specs.Linking.{Adds, Gives, Puts}
-use Rattle.rust_v0.specs.declared.language.Linked.{Linked}
+use Rattle.rust_v0.specs.declared.nodes.RustNodes.{RustNodes}
 use Rattle.rust_v0.specs.declared.part.Part.{Part}
-use Rattle.rust_v0.specs.Linked.{v0_view}
+use Rattle.rust_v0.specs.RustNodes.{v0_view}
 use Rattle.rust_v0.specs.Unfold.{Meaning}
 use Rattle.rust_v0.proofs.Meanings.{goes_on_same}
 use Rattle.rust_v0.proofs.Taking.{fails_memory}
 
 -- a part that stands for what is read was put, if memory let it
-pub put_gives : (s : List ℕ) (linked : Linked) (lower new_parts : List Part) (part : Part) (result : Result (Unit {0}) Refusal) (read : Meaning)
+pub put_gives : (s : List ℕ) (linked : RustNodes) (lower new_parts : List Part) (part : Part) (result : Result (Unit {0}) Refusal) (read : Meaning)
     → OnOk result (new_parts ≡ lower ++ part ∷ []) → IfErr result (λ e. e ≡ refusals.Memory) → Gives (v0_view s) linked (Ok part) read
     → Puts (v0_view s) linked lower new_parts result read
 put_gives s linked lower new_parts part (Ok done) read items memory gives = (part, items, gives)
 put_gives s linked lower new_parts part (Err e) read items memory gives = fails_memory e read memory
 
 -- where no node was added, at most one was
-pub same_adds : (s : List ℕ) (old new : Linked) (result : Result (Unit {0}) Refusal) → new.nodes ≡ old.nodes → length new.ended.items ≡ length old.ended.items
+pub same_adds : (s : List ℕ) (old new : RustNodes) (result : Result (Unit {0}) Refusal) → new.nodes ≡ old.nodes → length new.targets.items ≡ length old.targets.items
     → OnOk result (Adds (v0_view s) old new 1 0)
 same_adds s old new (Ok done) nodes places = (goes_on_same old new nodes places, omega (arith, ap (λ t. length t.nodes) nodes))
 same_adds s old new (Err e) nodes places = tt

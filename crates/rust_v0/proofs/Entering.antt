@@ -17,9 +17,9 @@ use Rattle.rust_v0.specs.Rules.{v0_table, kinds, no_kind}
 use Rattle.rust_v0.specs.Value as value
 use Rattle.rust_v0.specs.Value.{Value, State}
 use Rattle.rust_v0.specs.Unfold.{bound_behind, binder_part, Part as Next}
-use Rattle.rust_v0.specs.Views.{Ground, IsPart, Agree}
-use Rattle.rust_v0.specs.Front as front
-use Rattle.rust_v0.proofs.Fronts.{binder_agrees}
+use Rattle.rust_v0.specs.PartValues.{Ground, IsPart, Agree}
+use Rattle.rust_v0.specs.CodeOperands as operands
+use Rattle.rust_v0.proofs.OperandLemmas.{binder_agrees}
 
 -- ## What holds of each rule of the table
 
@@ -86,7 +86,7 @@ behind_own s around held from left stands is =
 -- ## Lifetimes
 
 -- the lifetimes bound behind what a binder may have been read as, in code and in the reading
-in_code : Option Production → (b : ℕ) → front.Front ℕ → ℕ
+in_code : Option Production → (b : ℕ) → operands.Operand ℕ → ℕ
 in_code (Some rules.Function) b (Ok (n, rest)) = min (b + n) 18446744073709551615
 in_code (Some rules.Dyn) b (Ok (n, [])) = min (b + n) 18446744073709551615
 in_code _ b found = b
@@ -96,13 +96,13 @@ in_reading (Some rules.Function) b (Ok (n, rest)) = b + n
 in_reading (Some rules.Dyn) b (Ok (n, [])) = b + n
 in_reading _ b found = b
 
-code_function : (b : ℕ) (ps : List Part) → b < 2 ^ 64 → front.bound_behind (Some rules.Function) b ps ≡ in_code (Some rules.Function) b (front.binder ps)
+code_function : (b : ℕ) (ps : List Part) → b < 2 ^ 64 → operands.bound_behind (Some rules.Function) b ps ≡ in_code (Some rules.Function) b (operands.binder ps)
 unfolding in_code
 code_function b [] fits = omega (arith, fits)
 code_function b (Part.Binder m ∷ ps) fits = refl
 code_function b (p ∷ ps) fits = omega (arith, fits)
 
-code_dyn : (b : ℕ) (ps : List Part) → b < 2 ^ 64 → front.bound_behind (Some rules.Dyn) b ps ≡ in_code (Some rules.Dyn) b (front.binder ps)
+code_dyn : (b : ℕ) (ps : List Part) → b < 2 ^ 64 → operands.bound_behind (Some rules.Dyn) b ps ≡ in_code (Some rules.Dyn) b (operands.binder ps)
 unfolding in_code
 code_dyn b [] fits = omega (arith, fits)
 code_dyn b (Part.Binder m ∷ []) fits = refl
@@ -125,13 +125,13 @@ reading_dyn b (v ∷ vs) = refl
 IsBinder : ℕ → ℕ → Type 0
 IsBinder m n = (m ≡ n) × (n ≤ 1000)
 
-function_agrees : (g : Ground) (b : ℕ) → b + 1000 < 2 ^ 64 → (found : front.Front ℕ) (read : Next ℕ) → Agree g IsBinder found read
+function_agrees : (g : Ground) (b : ℕ) → b + 1000 < 2 ^ 64 → (found : operands.Operand ℕ) (read : Next ℕ) → Agree g IsBinder found read
     → (in_code (Some rules.Function) b found ≡ in_reading (Some rules.Function) b read) × (in_reading (Some rules.Function) b read ≤ b + 1000)
 unfolding in_code in_reading IsBinder
 function_agrees g b fits (Ok (m, ps)) read (n, vs, is, same, are) = rw is (omega (arith, same.0, same.1, fits), omega (arith, same.1))
 function_agrees g b fits (Err e) read is = rw is (refl, omega arith)
 
-dyn_agrees : (g : Ground) (b : ℕ) → b + 1000 < 2 ^ 64 → (found : front.Front ℕ) (read : Next ℕ) → Agree g IsBinder found read
+dyn_agrees : (g : Ground) (b : ℕ) → b + 1000 < 2 ^ 64 → (found : operands.Operand ℕ) (read : Next ℕ) → Agree g IsBinder found read
     → (in_code (Some rules.Dyn) b found ≡ in_reading (Some rules.Dyn) b read) × (in_reading (Some rules.Dyn) b read ≤ b + 1000)
 unfolding in_code in_reading IsBinder
 dyn_agrees g b fits (Ok (m, [])) read (n, [], is, same, are) = rw is (omega (arith, same.0, same.1, fits), omega (arith, same.1))
@@ -142,13 +142,13 @@ dyn_agrees g b fits (Err e) read is = rw is (refl, omega arith)
 
 -- what the code counts is what the reading says
 pub bound_agrees : (g : Ground) (o : Option Production) (b : ℕ) (ps : List Part) (vs : List Value) → AreAll (IsPart g) ps vs → b + 1000 < 2 ^ 64
-    → (front.bound_behind o b ps ≡ bound_behind o b vs) × (bound_behind o b vs ≤ b + 1000)
+    → (operands.bound_behind o b ps ≡ bound_behind o b vs) × (bound_behind o b vs ≤ b + 1000)
 unfolding IsBinder
 bound_agrees g (Some rules.Function) b ps vs are fits =
-    let both = function_agrees g b fits (front.binder ps) (binder_part vs) (binder_agrees g ps vs are) in
+    let both = function_agrees g b fits (operands.binder ps) (binder_part vs) (binder_agrees g ps vs are) in
     (code_function b ps (omega (arith, fits)) ∙ both.0 ∙ sym (reading_function b vs), omega (arith, both.1, reading_function b vs))
 bound_agrees g (Some rules.Dyn) b ps vs are fits =
-    let both = dyn_agrees g b fits (front.binder ps) (binder_part vs) (binder_agrees g ps vs are) in
+    let both = dyn_agrees g b fits (operands.binder ps) (binder_part vs) (binder_agrees g ps vs are) in
     (code_dyn b ps (omega (arith, fits)) ∙ both.0 ∙ sym (reading_dyn b vs), omega (arith, both.1, reading_dyn b vs))
 bound_agrees g o b ps vs are fits = (refl, omega arith)
 

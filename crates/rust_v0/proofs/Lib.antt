@@ -2,9 +2,9 @@ pub mod Adding
 pub mod Beginning
 pub mod Closing
 pub mod Entering
-pub mod Fronts
+pub mod OperandLemmas
 pub mod Integers
-pub mod Makings
+pub mod SemanticsLemmas
 pub mod Meanings
 pub mod Noted
 pub mod Places

@@ -11,9 +11,9 @@ use Rattle.sym_link.specs.Driving.{AreAll, Fails}
 use Rattle.sym_link.specs.Linking.{Gives}
 use Rattle.sym_link.specs.Reading.{◌>>=◌}
 use Rattle.rust_tree.proofs.Trees.{grows-same}
-use Rattle.rust_v0.specs.declared.language.Linked.{Linked}
+use Rattle.rust_v0.specs.declared.nodes.RustNodes.{RustNodes}
 use Rattle.rust_v0.specs.Made.{Made}
-use Rattle.rust_v0.specs.Linked.{v0_view, Keeps, GoesOn, IsNoted, refers_by}
+use Rattle.rust_v0.specs.RustNodes.{v0_view, Keeps, GoesOn, IsNoted, refers_by}
 use Rattle.rust_tree.specs.Symbol as tree
 use Rattle.rust_tree.specs.Tree.{of_type, of_types, of_constant}
 use Rattle.rust_tree.specs.Nodes.{Table, tree_of, type_of, types_of, constant_of, IsWithin, bytes_at, trees}
@@ -26,14 +26,14 @@ use Rattle.rust_v0.specs.declared.production.Production.TheVariants as rules
 use Rattle.rust_v0.specs.declared.part.Part.{Part}
 use Rattle.rust_v0.specs.Value.{Value, a_suffix, some_bounds, suffix_rest, letter, unsafe_mark, an_abi, minus_mark, a_truth}
 use Rattle.rust_v0.specs.Unfold.{At, Meaning, meaning, byte_at, number_part, referred}
-use Rattle.rust_v0.specs.declared.language.Ending.{Ending}
-use Rattle.rust_v0.specs.Front as front
-use Rattle.rust_v0.specs.Views.{IsPart, IsNumber, Agree}
-use Rattle.rust_v0.proofs.Fronts.{number_agrees}
-use Rattle.rust_v0.specs.Makings.{ground, HasLists, MadeGives}
-use Rattle.rust_v0.specs.Making.{is_reference}
-use Rattle.rust_v0.specs.Making as making
-use Rattle.rust_v0.proofs.Makings.{abi_gives, array_gives, binder_gives, binding_gives, bool_constant_gives, char_constant_gives, const_pointer_gives, constant_argument_gives, crate_root_gives, disambiguated_gives, disambiguator_gives, dyn_type_gives, function_gives, generic_gives, inherent_impl_gives, lifetime_argument_gives, lifetime_gives, more_bounds_gives, more_types_gives, mut_pointer_gives, mutable_reference_gives, nested_gives, plain_name_gives, punycode_name_gives, shared_reference_gives, signed_constant_gives, slice_gives, symbol_gives, trait_definition_gives, trait_impl_gives, tuple_gives, type_argument_gives, unsigned_constant_gives}
+use Rattle.rust_v0.specs.declared.nodes.Target.{Target}
+use Rattle.rust_v0.specs.CodeOperands as operands
+use Rattle.rust_v0.specs.PartValues.{IsPart, IsNumber, Agree}
+use Rattle.rust_v0.proofs.OperandLemmas.{number_agrees}
+use Rattle.rust_v0.specs.Made.{ground, HasLists, MadeGives}
+use Rattle.rust_v0.specs.CodeSemantics.{is_reference}
+use Rattle.rust_v0.specs.CodeSemantics as semantics
+use Rattle.rust_v0.proofs.SemanticsLemmas.{abi_gives, array_gives, binder_gives, binding_gives, bool_constant_gives, char_constant_gives, const_pointer_gives, constant_argument_gives, crate_root_gives, disambiguated_gives, disambiguator_gives, dyn_type_gives, function_gives, generic_gives, inherent_impl_gives, lifetime_argument_gives, lifetime_gives, more_bounds_gives, more_types_gives, mut_pointer_gives, mutable_reference_gives, nested_gives, plain_name_gives, punycode_name_gives, shared_reference_gives, signed_constant_gives, slice_gives, symbol_gives, trait_definition_gives, trait_impl_gives, tuple_gives, type_argument_gives, unsigned_constant_gives}
 
 to_end : (s : List ℕ) (place : ℕ) → place ≤ length s
     → IsWithin (record { from = place; to = length s }) s × (bytes_at s (record { from = place; to = length s }) ≡ drop place s)
@@ -53,7 +53,7 @@ placeholder_tree s table = refl
 
 pub made_gives : (table : Table) (at : At) (production : Production) (ps : List Part) (vs : List Value) → is_reference production ≡ false
     → at.place < length at.symbol → at.bound < 2 ^ 64 → HasLists (ground at.symbol table) → AreAll (IsPart (ground at.symbol table)) ps vs
-    → MadeGives at.symbol table at (making.made production at.symbol at.place at.bound ps) (meaning production at vs)
+    → MadeGives at.symbol table at (semantics.made production at.symbol at.place at.bound ps) (meaning production at vs)
 made_gives table at rules.Symbol ps vs other within fits lists are = symbol_gives at.symbol table at ps vs lists are
 made_gives table at rules.PathReference ps vs other within fits lists are = absurd (false≢true (sym other))
 made_gives table at rules.Crate ps vs other within fits lists are = crate_root_gives at.symbol table at ps vs lists are
@@ -104,7 +104,7 @@ made_gives table at rules.False ps vs other within fits lists are = (a_truth fal
 made_gives table at rules.True ps vs other within fits lists are = (a_truth true, refl, refl)
 
 -- a production that makes a part is no reference
-pub makes_no_reference : (production : Production) → making.makes_part production ≡ true → is_reference production ≡ false
+pub makes_no_reference : (production : Production) → semantics.makes_part production ≡ true → is_reference production ≡ false
 makes_no_reference rules.PathReference makes = absurd (false≢true makes)
 makes_no_reference rules.TypeReference makes = absurd (false≢true makes)
 makes_no_reference rules.ConstantReference makes = absurd (false≢true makes)
@@ -124,24 +124,24 @@ fails_same (BadReference at) read is = is
 fails_same (BadValue at) read is = is
 fails_same TooLong read is = is
 
-pub refused : (s : List ℕ) (linked : Linked) (e : Refusal) (read : Meaning) → read ≡ Err e → Gives (v0_view s) linked (Err e) read
+pub refused : (s : List ℕ) (linked : RustNodes) (e : Refusal) (read : Meaning) → read ≡ Err e → Gives (v0_view s) linked (Err e) read
 refused s linked e read is = fails_same e read is
 
 -- a part that was made, with the nodes as they were, or the refusal
-pub gives_part : (s : List ℕ) (linked : Linked) (at : At) (result : Result Part Refusal) (made : making.Making) (read : Meaning) → Keeps s linked at.ended
-    → making.of_part result ≡ made → MadeGives s linked.nodes at made read → Gives (v0_view s) linked result read
+pub gives_part : (s : List ℕ) (linked : RustNodes) (at : At) (result : Result Part Refusal) (made : semantics.Outcome) (read : Meaning) → Keeps s linked at.ended
+    → semantics.of_part result ≡ made → MadeGives s linked.nodes at made read → Gives (v0_view s) linked result read
 gives_part s linked at (Ok part) made read keeps is given = stands (rw (← is) at given)
   where
     stands : MadeGives s linked.nodes at (Ok (Made.Part part)) read → Gives (v0_view s) linked (Ok part) read
     stands (v, is, stand) = (v, _, is, stand, keeps)
 gives_part s linked at (Err e) made read keeps is given = refused s linked e read (rw (← is) at given)
 
-pub goes_on_same : (old new : Linked) → new.nodes ≡ old.nodes → length new.ended.items ≡ length old.ended.items → GoesOn old new
+pub goes_on_same : (old new : RustNodes) → new.nodes ≡ old.nodes → length new.targets.items ≡ length old.targets.items → GoesOn old new
 goes_on_same old new nodes places = record { nodes = grows-same old.nodes new.nodes nodes; places = omega (arith, places) }
 
-pub reference_gives : (at : At) (linked new : Linked) (production : Production) (ps : List Part) (known : List Value) (found : Option ℕ) (rest : List Part) (ending : Ending)
-    (result : Result Part Refusal) → is_reference production ≡ true → front.number ps ≡ Ok (found, rest) → AreAll (IsPart (ground at.symbol linked.nodes)) ps known
-    → Keeps at.symbol linked at.ended → ((n : ℕ) → IsNumber found n → ending ≡ get_or linked.ended.items (n + 2) Ending.Nothing)
+pub reference_gives : (at : At) (linked new : RustNodes) (production : Production) (ps : List Part) (known : List Value) (found : Option ℕ) (rest : List Part) (ending : Target)
+    (result : Result Part Refusal) → is_reference production ≡ true → operands.number ps ≡ Ok (found, rest) → AreAll (IsPart (ground at.symbol linked.nodes)) ps known
+    → Keeps at.symbol linked at.ended → ((n : ℕ) → IsNumber found n → ending ≡ get_or linked.targets.items (n + 2) Target.Nothing)
     → ((value : Option Value) → IsNoted (trees at.symbol linked.nodes.nodes) ending value → Gives (v0_view at.symbol) new result (refers_by production at value))
     → Gives (v0_view at.symbol) new result (meaning production at known)
 reference_gives at linked new production ps known found rest ending result is front_is are keeps ending_is give =

@@ -6,18 +6,18 @@ use Rattle.std.proofs.lemmas.Bool.{eqb-true, eq-eqb, cases_Bool, false≢true}
 use Rattle.rust_tree.specs.Tree.{Tree}
 use Rattle.rust_tree.specs.Nodes.{Grows, Table, trees}
 use Rattle.rust_tree.proofs.Trees.{tree-stays}
-use Rattle.rust_v0.specs.declared.language.Ending.{Ending}
+use Rattle.rust_v0.specs.declared.nodes.Target.{Target}
 use Rattle.rust_v0.specs.Value.{Value, Ended}
-use Rattle.rust_v0.specs.Makings.{ground, HasLists}
-use Rattle.rust_v0.specs.Linked.{IsNoted, AreNoted}
+use Rattle.rust_v0.specs.Made.{ground, HasLists}
+use Rattle.rust_v0.specs.RustNodes.{IsNoted, AreNoted}
 use Rattle.rust_v0.proofs.Places.{same_there}
 
 module _ (s : List ℕ) (old new : Table) (grows : Grows old new) where
-  pub stays_noted : (ending : Ending) (found : Option Value) → IsNoted (trees s old.nodes) ending found → IsNoted (trees s new.nodes) ending found
-  stays_noted Ending.Nothing found is = is
-  stays_noted (Ending.Path node) found (path, is, same) = (path, tree-stays s old new node _ grows is, same)
-  stays_noted (Ending.Type node) found (type, is, plain, same) = (type, tree-stays s old new node _ grows is, plain, same)
-  stays_noted (Ending.Constant node) found (constant, is, same) = (constant, tree-stays s old new node _ grows is, same)
+  pub stays_noted : (ending : Target) (found : Option Value) → IsNoted (trees s old.nodes) ending found → IsNoted (trees s new.nodes) ending found
+  stays_noted Target.Nothing found is = is
+  stays_noted (Target.Path node) found (path, is, same) = (path, tree-stays s old new node _ grows is, same)
+  stays_noted (Target.Type node) found (type, is, plain, same) = (type, tree-stays s old new node _ grows is, plain, same)
+  stays_noted (Target.Constant node) found (constant, is, same) = (constant, tree-stays s old new node _ grows is, same)
 
   pub lists_stay : HasLists (ground s old) → HasLists (ground s new)
   lists_stay lists = record {
@@ -27,18 +27,18 @@ module _ (s : List ℕ) (old new : Table) (grows : Grows old new) where
   }
 
 -- places behind those so far change nothing
-pub noted_further : (all : List Tree) (endings more : List Ending) (k : ℕ) (ended : List Ended) → more ≡ endings ++ replicate k Ending.Nothing
+pub noted_further : (all : List Tree) (endings more : List Target) (k : ℕ) (ended : List Ended) → more ≡ endings ++ replicate k Target.Nothing
     → AreNoted all endings ended → AreNoted all more ended
-noted_further all endings more k ended same noted place = rw (same, same_there endings k place Ending.Nothing) (noted place)
+noted_further all endings more k ended same noted place = rw (same, same_there endings k place Target.Nothing) (noted place)
 
 -- what ends is noted at its place
-pub noted_added : (all : List Tree) (endings : List Ending) (ended : List Ended) (place : ℕ) (ending : Ending) (v : Value) → place < length endings
+pub noted_added : (all : List Tree) (endings : List Target) (ended : List Ended) (place : ℕ) (ending : Target) (v : Value) → place < length endings
     → AreNoted all endings ended → IsNoted all ending (Some v) → AreNoted all (slice_set endings place ending) (record { place = place; value = v } ∷ ended)
 noted_added all endings ended place ending v there noted is at = elim (cases_Bool (place == at)) [
   | inl here ↦ (
       let same : place ≡ at = eqb-true place at here in
-      rw (here, ← same, get_or-set_same endings place ending Ending.Nothing there) is)
-  | inr other ↦ rw (other, get_or-set_other endings place at ending Ending.Nothing (not_here other)) (noted at)
+      rw (here, ← same, get_or-set_same endings place ending Target.Nothing there) is)
+  | inr other ↦ rw (other, get_or-set_other endings place at ending Target.Nothing (not_here other)) (noted at)
 ]
   where
     not_here : (place == at) ≡ false → at ≢ place

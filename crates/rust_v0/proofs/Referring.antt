@@ -7,22 +7,22 @@ use Rattle.rust_tree.specs.Symbol as tree
 use Rattle.rust_tree.specs.Need.{need}
 use Rattle.rust_tree.specs.Tree.{need_of_tree, of_path, of_type, of_constant}
 use Rattle.rust_tree.specs.Nodes.{trees}
-use Rattle.rust_v0.specs.declared.language.Ending.{Ending}
-use Rattle.rust_v0.specs.declared.language.Linked.{Linked}
+use Rattle.rust_v0.specs.declared.nodes.Target.{Target}
+use Rattle.rust_v0.specs.declared.nodes.RustNodes.{RustNodes}
 use Rattle.rust_v0.specs.Value as value
 use Rattle.rust_v0.specs.Value.{Value, Ended}
 use Rattle.rust_v0.specs.Unfold.{At, as_path, as_type, refers_to_path, refers_to_type, refers_to_constant}
-use Rattle.rust_v0.specs.Linked.{IsNoted, Keeps, refers_to}
+use Rattle.rust_v0.specs.RustNodes.{IsNoted, Keeps, refers_to}
 use Rattle.rust_v0.proofs.Noted.{noted_added}
 
-pub referred_keeps : (s : List ℕ) (old new : Linked) (ended : List Ended) (place : ℕ) (ending : Ending) (v : Value) → place < length old.ended.items → Keeps s old ended
-    → IsNoted (trees s old.nodes.nodes) ending (Some v) → new.nodes ≡ old.nodes → new.ended.items ≡ slice_set old.ended.items place ending
+pub referred_keeps : (s : List ℕ) (old new : RustNodes) (ended : List Ended) (place : ℕ) (ending : Target) (v : Value) → place < length old.targets.items → Keeps s old ended
+    → IsNoted (trees s old.nodes.nodes) ending (Some v) → new.nodes ≡ old.nodes → new.targets.items ≡ slice_set old.targets.items place ending
     → Keeps s new (record { place = place; value = v } ∷ ended)
 referred_keeps s old new ended place ending v there keeps is nodes same = record {
-  places = omega (arith, keeps.places, ap (λ es. length es) same, length-set old.ended.items place ending);
+  places = omega (arith, keeps.places, ap (λ es. length es) same, length-set old.targets.items place ending);
   table = rw nodes keeps.table;
   lists = rw nodes keeps.lists;
-  noted = λ at. rw (nodes, same) (noted_added (trees s old.nodes.nodes) old.ended.items ended place ending v there keeps.noted is at);
+  noted = λ at. rw (nodes, same) (noted_added (trees s old.nodes.nodes) old.targets.items ended place ending v there keeps.noted is at);
 }
 
 pub path_is : (known : Option Value) (path : tree.Path) → ((known ≡ Some (value.a_path path)) ⊎ (known ≡ Some (value.a_type (tree.path_type path)))) → as_path known ≡ Some path

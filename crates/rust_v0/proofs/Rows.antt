@@ -33,57 +33,53 @@ many = 1000000
 abbrev pub IsRow : Detail → List ℕ → ℕ → List ℕ → Type 0
 IsRow detail symbol cost text = (answer detail cost symbol ≡ Ok text) × (answer detail (cost - 1) symbol ≡ Err TooLong)
 
-row_13 : IsRow Detail.Full (codes "_RNvC6_123foo3bar") 14 (codes "123foo::bar")
+name_that_begins_with_a_digit : IsRow Detail.Full (codes "_RNvC6_123foo3bar") 14 (codes "123foo::bar")
 unfolding digits basic_text numbered_lifetime lifetime_text character_text constant_parts lifetime_parts namespace_text names_from path_parts bound_parts symbol_parts hyphenated need
-row_13 = (refl, refl)
+name_that_begins_with_a_digit = (refl, refl)
 
-row_14 : IsRow Detail.Full (codes "_RINbNbCskIICzLVDPPb_5alloc5alloc8box_freeDINbNiB4_5boxed5FnBoxuEp6OutputuEL_ECs1iopQbuBiw2_3std") 82 (codes "alloc::alloc::box_free::<dyn alloc::boxed::FnBox<(), Output = ()>>")
+dyn_with_a_binding : IsRow Detail.Full (codes "_RINbNbCskIICzLVDPPb_5alloc5alloc8box_freeDINbNiB4_5boxed5FnBoxuEp6OutputuEL_ECs1iopQbuBiw2_3std") 82 (codes "alloc::alloc::box_free::<dyn alloc::boxed::FnBox<(), Output = ()>>")
 unfolding digits basic_text numbered_lifetime lifetime_text character_text constant_parts lifetime_parts namespace_text names_from path_parts bound_parts symbol_parts hyphenated need
-row_14 = (refl, refl)
+dyn_with_a_binding = (refl, refl)
 
-row_15 : IsRow Detail.Full (codes "_RNvNtNtC7mycrateu8gdel_5qa6escher4bach") 34 (109 ∷ 121 ∷ 99 ∷ 114 ∷ 97 ∷ 116 ∷ 101 ∷ 58 ∷ 58 ∷ 103 ∷ 195 ∷ 182 ∷ 100 ∷ 101 ∷ 108 ∷ 58 ∷ 58 ∷ 101 ∷ 115 ∷ 99 ∷ 104 ∷ 101 ∷ 114 ∷ 58 ∷ 58 ∷ 98 ∷ 97 ∷ 99 ∷ 104 ∷ [])
+punycode_in_the_middle : IsRow Detail.Full (codes "_RNvNtNtC7mycrateu8gdel_5qa6escher4bach") 34 (109 ∷ 121 ∷ 99 ∷ 114 ∷ 97 ∷ 116 ∷ 101 ∷ 58 ∷ 58 ∷ 103 ∷ 195 ∷ 182 ∷ 100 ∷ 101 ∷ 108 ∷ 58 ∷ 58 ∷ 101 ∷ 115 ∷ 99 ∷ 104 ∷ 101 ∷ 114 ∷ 58 ∷ 58 ∷ 98 ∷ 97 ∷ 99 ∷ 104 ∷ [])
 unfolding digits basic_text numbered_lifetime lifetime_text character_text constant_parts lifetime_parts namespace_text names_from path_parts bound_parts symbol_parts hyphenated need decode insert_all read_integer digit_value adapt scale is_xid_continue in_ranges xid_continue_ranges encode
-row_15 = (refl, refl)
+punycode_in_the_middle = (refl, refl)
 
-row_16 : IsRow Detail.Full (codes "_RINvC3foo3barFG_RL0_hEuE") 41 (codes "foo::bar::<for<'a> fn(&'a u8)>")
+unbound_lifetime : answer Detail.Full many (codes "_RINvC3foo3barRL0_hE") ≡ Err (BadReference 15)
 unfolding digits basic_text numbered_lifetime lifetime_text character_text constant_parts lifetime_parts namespace_text names_from path_parts bound_parts symbol_parts hyphenated need
-row_16 = (refl, refl)
+unbound_lifetime = refl
 
-row_17 : answer Detail.Full many (codes "_RINvC3foo3barRL0_hE") ≡ Err (BadReference 15)
+constants : IsRow Detail.Full (codes "_RINvC3foo3barKlnf_Kb1_Kc41_E") 36 (codes "foo::bar::<-15, true, 'A'>")
 unfolding digits basic_text numbered_lifetime lifetime_text character_text constant_parts lifetime_parts namespace_text names_from path_parts bound_parts symbol_parts hyphenated need
-row_17 = refl
+constants = (refl, refl)
 
-row_18 : IsRow Detail.Full (codes "_RINvC3foo3barKlnf_Kb1_Kc41_E") 36 (codes "foo::bar::<-15, true, 'A'>")
+reference_to_an_open_path : answer Detail.Full many (codes "_RNvB_3foo") ≡ Err (BadReference 4)
 unfolding digits basic_text numbered_lifetime lifetime_text character_text constant_parts lifetime_parts namespace_text names_from path_parts bound_parts symbol_parts hyphenated need
-row_18 = (refl, refl)
+reference_to_an_open_path = refl
 
-row_19 : answer Detail.Full many (codes "_RNvB_3foo") ≡ Err (BadReference 4)
+closure : IsRow Detail.Full (codes "_RNCNvC3foo3bars_0") 25 (codes "foo::bar::{closure#1}")
 unfolding digits basic_text numbered_lifetime lifetime_text character_text constant_parts lifetime_parts namespace_text names_from path_parts bound_parts symbol_parts hyphenated need
-row_19 = refl
+closure = (refl, refl)
 
-row_20 : IsRow Detail.Full (codes "_RNCNvC3foo3bars_0") 25 (codes "foo::bar::{closure#1}")
+nested_name : IsRow Detail.Full (codes "_RNvC3foo3bar") 11 (codes "foo::bar")
 unfolding digits basic_text numbered_lifetime lifetime_text character_text constant_parts lifetime_parts namespace_text names_from path_parts bound_parts symbol_parts hyphenated need
-row_20 = (refl, refl)
+nested_name = (refl, refl)
 
-row_24 : IsRow Detail.Full (codes "_RNvC3foo3bar") 11 (codes "foo::bar")
+disambiguator_past_64 : answer Detail.Full many (codes "_RNvCszzzzzzzzzzz_3foo3bar") ≡ Err (BadValue 5)
 unfolding digits basic_text numbered_lifetime lifetime_text character_text constant_parts lifetime_parts namespace_text names_from path_parts bound_parts symbol_parts hyphenated need
-row_24 = (refl, refl)
+disambiguator_past_64 = refl
 
-row_28 : answer Detail.Full many (codes "_RNvCszzzzzzzzzzz_3foo3bar") ≡ Err (BadValue 5)
+surrogate : answer Detail.Full many (codes "_RINvC3foo3barKcd800_E") ≡ Err (BadValue 15)
 unfolding digits basic_text numbered_lifetime lifetime_text character_text constant_parts lifetime_parts namespace_text names_from path_parts bound_parts symbol_parts hyphenated need
-row_28 = refl
+surrogate = refl
 
-row_29 : answer Detail.Full many (codes "_RINvC3foo3barKcd800_E") ≡ Err (BadValue 15)
+function_shared_by_two_binders : IsRow Detail.Full (codes "_RINvC3foo3barFG_RL0_hEuFG_FG_Be_EuEuE") 84 (codes "foo::bar::<for<'a> fn(&'a u8), for<'a> fn(for<'b> fn(&'b u8))>")
 unfolding digits basic_text numbered_lifetime lifetime_text character_text constant_parts lifetime_parts namespace_text names_from path_parts bound_parts symbol_parts hyphenated need
-row_29 = refl
+function_shared_by_two_binders = (refl, refl)
 
-row_30 : IsRow Detail.Full (codes "_RINvC3foo3barFG_RL0_hEuFG_FG_Be_EuEuE") 84 (codes "foo::bar::<for<'a> fn(&'a u8), for<'a> fn(for<'b> fn(&'b u8))>")
+trait_impl : IsRow Detail.Full (codes "_RNvXC3fooNtB2_1ANtB2_1B3baz") 30 (codes "<foo::A as foo::B>::baz")
 unfolding digits basic_text numbered_lifetime lifetime_text character_text constant_parts lifetime_parts namespace_text names_from path_parts bound_parts symbol_parts hyphenated need
-row_30 = (refl, refl)
-
-row_32 : IsRow Detail.Full (codes "_RNvXC3fooNtB2_1ANtB2_1B3baz") 30 (codes "<foo::A as foo::B>::baz")
-unfolding digits basic_text numbered_lifetime lifetime_text character_text constant_parts lifetime_parts namespace_text names_from path_parts bound_parts symbol_parts hyphenated need
-row_32 = (refl, refl)
+trait_impl = (refl, refl)
 
 lifetime_is_a_text : IsRow Detail.Full (codes "_RINvC3foo3barFG_RL0_hEuE") 41 (codes "foo::bar::<for<'a> fn(&'a u8)>")
 unfolding digits basic_text numbered_lifetime lifetime_text character_text constant_parts lifetime_parts namespace_text names_from path_parts bound_parts symbol_parts hyphenated need
@@ -317,9 +313,9 @@ types_all : IsRow Detail.Full (codes "_RINvC3foo3barabcdefhijlmnopstuvxyzE") 162
 unfolding digits basic_text numbered_lifetime lifetime_text character_text constant_parts lifetime_parts namespace_text names_from path_parts bound_parts symbol_parts hyphenated need
 types_all = (refl, refl)
 
-brief_14 : IsRow Detail.Brief (codes "_RINbNbCskIICzLVDPPb_5alloc5alloc8box_freeDINbNiB4_5boxed5FnBoxuEp6OutputuEL_ECs1iopQbuBiw2_3std") 27 (codes "alloc::alloc::box_free")
+brief_dyn_with_a_binding : IsRow Detail.Brief (codes "_RINbNbCskIICzLVDPPb_5alloc5alloc8box_freeDINbNiB4_5boxed5FnBoxuEp6OutputuEL_ECs1iopQbuBiw2_3std") 27 (codes "alloc::alloc::box_free")
 unfolding digits basic_text numbered_lifetime lifetime_text character_text constant_parts lifetime_parts namespace_text names_from path_parts bound_parts symbol_parts hyphenated need
-brief_14 = (refl, refl)
+brief_dyn_with_a_binding = (refl, refl)
 
 brief_inherent : IsRow Detail.Brief (codes "_RNvMC3fooINtB2_1AhE3baz") 19 (codes "<foo::A>::baz")
 unfolding digits basic_text numbered_lifetime lifetime_text character_text constant_parts lifetime_parts namespace_text names_from path_parts bound_parts symbol_parts hyphenated need

@@ -1,11 +1,10 @@
 -- What a linker has done is what the symbol's shape stands for.
-use Rattle.std.proofs.Common.{◌≡◌, refl, sym, ap, ◌∙◌, subst, inl, inr, ℕ, ◌+◌, ◌*◌, ◌≤◌, List, [], ◌∷◌, length, Bool, true, Option, Some, None, Ok, Err, arith, cond}
-use Rattle.std.specs.Prelude.{Result, ◌⊎◌, ◌<◌, codes}
-use Rattle.std.specs.Result.{IfOk, IfErr, OnOk}
+use Rattle.std.proofs.Common.{◌≡◌, refl, sym, ap, ◌∙◌, subst, inl, inr, ℕ, ◌+◌, ◌*◌, ◌≤◌, List, [], ◌∷◌, length, Option, Some, None, Ok, Err, arith, cond}
+use Rattle.std.specs.Prelude.{Result, codes}
+use Rattle.std.specs.Result.{IfOk}
 use Rattle.std.proofs.lemmas.Bool.{cases_Bool}
 use Rattle.sym_core.specs.Number.{FitsSymbol}
 use Rattle.sym_core.specs.declared.refusal.Refusal.{Refusal}
-use Rattle.sym_core.specs.declared.refusal.Refusal.TheVariants as refusals
 use Rattle.sym_shape.specs.declared.rule.Row.{Row}
 use Rattle.sym_shape.specs.declared.rule.Rule.{Rule}
 use Rattle.sym_shape.specs.declared.rule.Sym.TheVariants.{Kind, Byte}
@@ -14,26 +13,24 @@ use Rattle.sym_shape.specs.Sheet.{choice_at, classes_of, in_ranges}
 use Rattle.sym_shape.specs.Tree.{Tree, Forest, branch, spell, IsTree}
 use Rattle.sym_link.specs.Reading.{Found, ◌>>=◌}
 use Rattle.sym_link.specs.Unfold.{found, alone, standing, unfold_tree, unfold_forest}
-use Rattle.sym_link.specs.declared.language.Frame.{Frame}
 use Rattle.sym_link.specs.Following.{IsShape, IsDone, meaning_of}
 use Rattle.sym_link.proofs.Starting.{root_of}
 use Rattle.rust_tree.specs.Symbol as tree
 use Rattle.rust_tree.specs.Counts.{IsRead}
 use Rattle.rust_tree.specs.Nodes.{IsSymbol, IsTable, trees}
-use Rattle.rust_v0.specs.declared.language.Linked.{Linked}
-use Rattle.rust_v0.specs.declared.language.Kept.{Kept}
+use Rattle.rust_v0.specs.declared.nodes.RustNodes.{RustNodes}
 use Rattle.rust_v0.specs.declared.part.Part.{Part}
 use Rattle.rust_v0.specs.declared.production.Production.{Production}
 use Rattle.rust_v0.specs.declared.production.Production.TheVariants as rules
-use Rattle.rust_v0.specs.declared.production.kind.TheConstants.{PATH, OTHER_PATH, SUFFIX}
+use Rattle.rust_v0.specs.declared.kind.TheConstants.{PATH, OTHER_PATH, SUFFIX}
 use Rattle.rust_v0.specs.Productions.{production_of}
 use Rattle.rust_v0.specs.Rules.{v0_table, takes, each}
 use Rattle.rust_v0.specs.Value as value
 use Rattle.rust_v0.specs.Value.{Value, State}
 use Rattle.rust_v0.specs.Unfold as defined
 use Rattle.rust_v0.specs.Unfold.{At, Meaning, v0, at_first, at_rule, meaning, symbol_of, unfolded, path_part, other_path_part, suffix_part}
-use Rattle.rust_v0.specs.Views.{Ground, IsPart}
-use Rattle.rust_v0.specs.Linked.{v0_view}
+use Rattle.rust_v0.specs.PartValues.{Ground, IsPart}
+use Rattle.rust_v0.specs.RustNodes.{v0_view}
 
 -- ## The root's rule makes a symbol
 
@@ -104,7 +101,7 @@ unfolded_is : (s : List ℕ) (shape : Tree) → spell shape ≡ s → unfolded s
 unfolded_is s shape spelled = ap (λ u. unfold_tree (v0 u) 0 0 shape at_first >>= λ whole. symbol_of whole.value) spelled
 
 -- the one part is the node of a symbol, for which the shape stands
-pub record HasWhole (s : List ℕ) (shape : Tree) (linked : Linked) (parts : List Part) : Type 0 where
+pub record HasWhole (s : List ℕ) (shape : Tree) (linked : RustNodes) (parts : List Part) : Type 0 where
   pub node : ℕ
   pub whole : tree.Symbol
   pub parts_are : parts ≡ Part.Symbol node ∷ []
@@ -114,7 +111,7 @@ pub record HasWhole (s : List ℕ) (shape : Tree) (linked : Linked) (parts : Lis
   pub nodes : length linked.nodes.nodes ≤ 4 * length s + 8
   pub text : length linked.nodes.text ≤ 4 * length s + 20
 
-pub has_whole : (s : List ℕ) (rows : List Row) (shape : Tree) (linked : Linked) (parts : List Part) → IsShape v0_table s rows shape
+pub has_whole : (s : List ℕ) (rows : List Row) (shape : Tree) (linked : RustNodes) (parts : List Part) → IsShape v0_table s rows shape
     → IsDone (v0_view s) s rows (meaning_of (v0_view s) shape) linked parts → HasWhole s shape linked parts
 has_whole s rows shape linked parts is done =
     let w = whole_is s shape done.value done.state is.is_tree done.means in
@@ -137,11 +134,11 @@ node_of (Part.Symbol node ∷ parts) = node
 node_of parts = 0
 
 -- the node of the one part is that of the whole
-same_node : (s : List ℕ) (shape : Tree) (linked : Linked) (parts : List Part) (w : HasWhole s shape linked parts) (node : ℕ) → parts ≡ Part.Symbol node ∷ [] → node ≡ w.node
+same_node : (s : List ℕ) (shape : Tree) (linked : RustNodes) (parts : List Part) (w : HasWhole s shape linked parts) (node : ℕ) → parts ≡ Part.Symbol node ∷ [] → node ≡ w.node
 unfolding node_of
 same_node s shape linked parts w node is = ap node_of (sym is ∙ w.parts_are)
 
-pub reads : (s : List ℕ) (shape : Tree) (linked : Linked) (parts : List Part) (w : HasWhole s shape linked parts) (node rows steps : ℕ) → parts ≡ Part.Symbol node ∷ []
+pub reads : (s : List ℕ) (shape : Tree) (linked : RustNodes) (parts : List Part) (w : HasWhole s shape linked parts) (node rows steps : ℕ) → parts ≡ Part.Symbol node ∷ []
     → FitsSymbol s → rows ≤ 4 * length s + 4 → rows ≤ steps → steps ≤ 32 * length s + 48
     → IsRead (record { bytes = s; table = linked.nodes; root = node; rows = rows; steps = steps })
 reads s shape linked parts w node rows steps is fits few each all = record {

@@ -27,7 +27,7 @@ use Rattle.rust_v0.specs.Tokens.{sort_of, value_as, IsOwn, HasZero, minus_before
 use Rattle.rust_v0.specs.Unfold.{token_of, is_minus}
 use Rattle.rust_v0.specs.Value as value
 use Rattle.rust_v0.specs.Value.{Value, State}
-use Rattle.rust_v0.specs.Views.{Ground, IsPart}
+use Rattle.rust_v0.specs.PartValues.{Ground, IsPart}
 use Rattle.rust_v0.proofs.Entering.{rule_passes, all_pass, all_kinds_pass}
 
 -- ## Tests of a rule's symbols

@@ -11,7 +11,7 @@ use Rattle.sym_shape.specs.Sheet.{KindSheet, table_of, range}
 use Rattle.sym_shape.specs.Table.{Table}
 use Rattle.rust_v0.specs.declared.production.Production.{Production}
 use Rattle.rust_v0.specs.declared.production.Production.TheVariants as rules
-use Rattle.rust_v0.specs.declared.production.kind.TheConstants.{PATH, OTHER_PATH, SUFFIX, SUFFIX_BYTE, SUFFIX_REST, NAMESPACE, DISAMBIGUATOR, IDENTIFIER, NAME, ARGUMENTS, TYPE, TYPES, SOME_LIFETIME, LIFETIME, BINDER, UNSAFE, ABI, ABI_NAME, BOUNDS, BINDINGS, CONSTANT, MINUS, TRUTH}
+use Rattle.rust_v0.specs.declared.kind.TheConstants.{PATH, OTHER_PATH, SUFFIX, SUFFIX_BYTE, SUFFIX_REST, NAMESPACE, DISAMBIGUATOR, IDENTIFIER, NAME, ARGUMENTS, TYPE, TYPES, SOME_LIFETIME, LIFETIME, BINDER, UNSAFE, ABI, ABI_NAME, BOUNDS, BINDINGS, CONSTANT, MINUS, TRUTH}
 use Rattle.rust_v0.specs.Productions.{number_of}
 
 -- symbols filled up to five
@@ -67,15 +67,19 @@ abbrev pub symbol_rules : List Choice
 symbol_rules =
     takes (each (codes "_")) rules.Symbol (Byte 82 ∷ Kind PATH ∷ Kind OTHER_PATH ∷ Kind SUFFIX ∷ []) ∷ []
 
-abbrev pub path_rules : List Choice
-path_rules =
-    takes (each (codes "B")) rules.PathReference (Number Base62 ∷ [])
-    ∷ takes (each (codes "C")) rules.Crate (Kind IDENTIFIER ∷ [])
+-- the forms of a path; its reference is told apart, since a type has one of its own
+abbrev pub path_forms : List Choice
+path_forms =
+    takes (each (codes "C")) rules.Crate (Kind IDENTIFIER ∷ [])
     ∷ takes (each (codes "M")) rules.InherentImpl (Kind DISAMBIGUATOR ∷ Kind PATH ∷ Kind TYPE ∷ [])
     ∷ takes (each (codes "X")) rules.TraitImpl (Kind DISAMBIGUATOR ∷ Kind PATH ∷ Kind TYPE ∷ Kind PATH ∷ [])
     ∷ takes (each (codes "Y")) rules.TraitDefinition (Kind TYPE ∷ Kind PATH ∷ [])
     ∷ takes (each (codes "N")) rules.Nested (Kind NAMESPACE ∷ Kind PATH ∷ Kind IDENTIFIER ∷ [])
     ∷ takes (each (codes "I")) rules.Generic (Kind PATH ∷ Kind ARGUMENTS ∷ Byte 69 ∷ []) ∷ []
+
+abbrev pub path_rules : List Choice
+path_rules =
+    takes (each (codes "B")) rules.PathReference (Number Base62 ∷ []) ∷ path_forms
 
 abbrev pub suffix_rules : List Choice
 suffix_rules =
@@ -114,17 +118,10 @@ arguments_rules =
     ∷ takes (each (codes "K")) rules.ConstantArgument (Kind CONSTANT ∷ Kind ARGUMENTS ∷ [])
     ∷ chains types rules.TypeArgument (Kind TYPE ∷ Kind ARGUMENTS ∷ []) ∷ []
 
-abbrev pub type_rules : List Choice
-type_rules =
-    takes basic_letters rules.BasicType []
-    ∷ takes (each (codes "B")) rules.TypeReference (Number Base62 ∷ [])
-    ∷ takes (each (codes "C")) rules.Crate (Kind IDENTIFIER ∷ [])
-    ∷ takes (each (codes "M")) rules.InherentImpl (Kind DISAMBIGUATOR ∷ Kind PATH ∷ Kind TYPE ∷ [])
-    ∷ takes (each (codes "X")) rules.TraitImpl (Kind DISAMBIGUATOR ∷ Kind PATH ∷ Kind TYPE ∷ Kind PATH ∷ [])
-    ∷ takes (each (codes "Y")) rules.TraitDefinition (Kind TYPE ∷ Kind PATH ∷ [])
-    ∷ takes (each (codes "N")) rules.Nested (Kind NAMESPACE ∷ Kind PATH ∷ Kind IDENTIFIER ∷ [])
-    ∷ takes (each (codes "I")) rules.Generic (Kind PATH ∷ Kind ARGUMENTS ∷ Byte 69 ∷ [])
-    ∷ takes (each (codes "A")) rules.Array (Kind TYPE ∷ Kind CONSTANT ∷ [])
+-- the forms of a type that is neither basic, nor a path or a reference
+abbrev pub type_forms : List Choice
+type_forms =
+    takes (each (codes "A")) rules.Array (Kind TYPE ∷ Kind CONSTANT ∷ [])
     ∷ takes (each (codes "S")) rules.Slice (Kind TYPE ∷ [])
     ∷ takes (each (codes "T")) rules.Tuple (Kind TYPES ∷ [])
     ∷ takes (each (codes "R")) rules.SharedReference (Kind SOME_LIFETIME ∷ Kind TYPE ∷ [])
@@ -133,6 +130,12 @@ type_rules =
     ∷ takes (each (codes "O")) rules.MutPointer (Kind TYPE ∷ [])
     ∷ takes (each (codes "F")) rules.Function (Kind BINDER ∷ Kind UNSAFE ∷ Kind ABI ∷ Kind TYPES ∷ Kind TYPE ∷ [])
     ∷ takes (each (codes "D")) rules.Dyn (Kind BINDER ∷ Kind BOUNDS ∷ Kind LIFETIME ∷ []) ∷ []
+
+abbrev pub type_rules : List Choice
+type_rules =
+    takes basic_letters rules.BasicType []
+    ∷ takes (each (codes "B")) rules.TypeReference (Number Base62 ∷ [])
+    ∷ path_forms ++ type_forms
 
 abbrev pub types_rules : List Choice
 types_rules =

@@ -12,6 +12,7 @@ use Rattle.rust_v0.specs.declared.production.Production.{Production}
 use Rattle.rust_v0.specs.declared.production.Production.TheVariants as rules
 use Rattle.rust_v0.specs.Productions.{production_of}
 use Rattle.rust_v0.specs.Value.{Value, Ended, State, Integer, number, an_integer, letter, a_name, an_identifier, a_disambiguator, a_binder, a_lifetime, unsafe_mark, an_abi, a_truth, minus_mark, a_path, a_type, a_constant, some_arguments, some_types, some_bounds, some_bindings, a_suffix, suffix_rest, a_symbol}
+use Rattle.rust_tree.specs.Nodes.{most_bound}
 use Rattle.rust_tree.specs.Symbol as tree
 use Rattle.rust_tree.specs.Need.{need, need_of_type}
 
@@ -344,7 +345,7 @@ meaning rules.Lifetime at parts = do
   lifetime_of at n.0
 meaning rules.Binder at parts = do
   n ← number_part parts
-  lifetimes ← bounded at 1000 (n.0 + 1)
+  lifetimes ← bounded at most_bound (n.0 + 1)
   plain at (a_binder lifetimes)
 meaning rules.Unsafe at parts = plain at unsafe_mark
 meaning rules.Abi at parts = do

@@ -10,10 +10,8 @@ use sym_shape::rule::Rule;
 pub struct V0;
 
 impl Grammar for V0 {
-    ghost use Rattle.std.specs.Prelude.{refl};
-    ghost use Rattle.sym_core.specs.declared.NameClass.TheVariants.{Rust};
-    ghost use Rattle.sym_shape.specs.SheetLaws.{lawful_sheet};
-    ghost use Rattle.rust_v0.specs.Rules.{v0_table, kinds, no_kind};
+    ghost use Rattle.rust_v0.specs.Rules.{v0_table};
+    ghost use Rattle.rust_v0.specs.TableLaws.{v0_lawful};
 
     ghost table = { v0_table };
 
@@ -29,5 +27,5 @@ impl Grammar for V0 {
         NameClass::Rust
     }
 
-    ghost lawful = { lawful_sheet no_kind kinds Rust refl };
+    ghost lawful = { v0_lawful };
 }

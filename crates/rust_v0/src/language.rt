@@ -1,111 +1,35 @@
-// Rust v0 symbols over shared nodes: what a rule's row, a token and the end of a rule do.
+// The four moments at which the driver asks Rust's language: at the root, and where a rule opens, a token comes and a rule
+// closes.
 
-ghost use Rattle.std.specs.Prelude.{◌≡◌, ℕ, ◌+◌, ◌<◌, ◌≤◌, ◌++◌, ◌^◌, List, [], length, drop, get_or, slice_get, slice_index, Some, Option, slice_set, replicate, true, false, Ok, IfOk, OnOk, OnErr, IfErr};
-ghost use Rattle.sym_core.specs.declared.refusal.Refusal.TheVariants as refusals;
-ghost use Rattle.rust_v0.specs.declared.language.Ending.TheVariants as endings;
-ghost use Rattle.rust_v0.specs.Made.{Made};
-ghost use Rattle.rust_v0.specs.Views.{IsNumber, IsPart};
-ghost use Rattle.rust_v0.specs.Front as front;
-ghost use Rattle.rust_v0.specs.Productions.{production_of};
-ghost use Rattle.rust_v0.specs.Unfold.{At, Meaning, meaning, value16, refers_to_path, refers_to_type, refers_to_constant, as_path, as_type, as_constant};
-ghost use Rattle.rust_v0.specs.Value.{Value};
-ghost use Rattle.rust_tree.specs.Tree.{Tree, need_of_tree};
-ghost use Rattle.rust_v0.specs.Making as making;
-ghost use Rattle.rust_v0.specs.Making.{Making, of_node};
-ghost use Rattle.rust_v0.specs.Makings.{MadeGives, ground};
-ghost use Rattle.rust_v0.specs.Linked.{v0_view, Keeps, GoesOn, IsNoted, IsPaid, first_nodes, refers_to, refers_by};
-ghost use Rattle.sym_link.specs.Linking.{Gives};
-ghost use Rattle.sym_link.specs.Driving.{AreAll};
+ghost use Rattle.std.specs.Bool.{OnTrue};
+ghost use Rattle.std.specs.Prelude.{◌≡◌, ℕ, ◌<◌, ◌≤◌, ◌++◌, ◌∷◌, [], length, drop, take, slice_index, Some, true, IfErr, OnOk};
 ghost use Rattle.sym_core.specs.Number.{FitsSymbol};
-ghost use Rattle.rust_tree.specs.Nodes.{HasNoZero, trees};
+ghost use Rattle.sym_core.specs.declared.refusal.Refusal.TheVariants as refusals;
+ghost use Rattle.sym_link.specs.Linking.{HasRoom, TakesToken, ClosesRule, Adds, Pays, owed_behind, owed_next};
+ghost use Rattle.rust_tree.specs.declared.node.Name.{Name};
+ghost use Rattle.rust_v0.specs.declared.part.Part.{Part};
+ghost use Rattle.rust_v0.specs.declared.production.Production.TheVariants as rules;
+ghost use Rattle.rust_v0.specs.RustNodes.{v0_view};
+ghost use Rattle.rust_v0.specs.Productions.{production_of};
+ghost use Rattle.rust_v0.specs.CodeOperands as operands;
+ghost use Rattle.rust_v0.specs.Tokens as tokens;
+ghost use Rattle.rust_v0.specs.CodeSemantics as semantics;
 
-use crate::front::number;
-use crate::make::{
-    Site, array, binding, bool_constant, char_constant, const_pointer, constant_argument,
-    crate_root, dyn_type, function, generic, inherent_impl, lifetime_argument, makes_part,
-    more_bounds, more_types, mut_pointer, mutable_reference, nested, part_by, shared_reference,
-    signed_constant, slice, symbol, trait_definition, trait_impl, tuple, type_argument,
-    unsigned_constant,
-};
-use crate::part::{Added, Part, STRAY};
+use crate::nodes::{BoundLifetimes, RustNodes};
+use crate::part::{Part, STRAY, part_of};
 use crate::production::{Production, numbered};
-use rust_tree::Nodes;
-use rust_tree::node::{Arguments, Bindings, Bounds, Constant, Node, Ty, Types};
-use std::alloc::Global;
-use sym_core::Refusal;
-use sym_link::language::Frame;
-
-/// What began at a place of the symbol and has ended, by its node.
-#[derive(Clone, Copy)]
-pub enum Ending {
-    Nothing,
-    Path(u32),
-    Type(u32),
-    Constant(u32),
-}
-
-/// What is kept for an open rule: how many lifetimes are bound around it.
-#[derive(Clone, Copy)]
-pub struct Kept {
-    pub bound: u64,
-}
-
-/// The nodes of a symbol, and of each place of it what began there and has ended.
-#[derive(Drop)]
-pub struct Linked {
-    pub nodes: Nodes,
-    pub ended: Vec<Ending>,
-    pub alloc: Global,
-}
-
-/// The endings of places at which nothing has ended, added at once.
-const NO_ENDINGS: [Ending; 64] = [Ending::Nothing; 64];
-
-/// Makes places for endings up to this one.
-pub fn reach(ended: &mut Vec<Ending>, place: usize) -> Result<(), Refusal>
-    requires { place < 2 ^ 32 }
-    ensures more { (k : ℕ) × (ended.new.items ≡ ended.old.items ++ replicate k endings.Nothing) }
-    ensures there { OnOk result (place < length ended.new.items) }
-    ensures memory { IfErr result (λ e. e ≡ refusals.Memory) }
-{
-    while ended.len() <= place {
-        ended.extend_from_slice(&NO_ENDINGS)?;
-    }
-    Ok(())
-}
-
-/// What ended that began at the place that a reference names, whose number counts the bytes behind `_R`.
-fn referred(ended: &[Ending], number: Option<u64>) -> Ending
-    ensures { (n : ℕ) → IsNumber number n → result ≡ get_or ended.now (n + 2) endings.Nothing }
-{
-    let Some(n) = number else {
-        return Ending::Nothing;
-    };
-    if n >= ended.len() as u64 {
-        return Ending::Nothing;
-    }
-    match ended.get(n as usize + 2) {
-        Some(ending) => *ending,
-        None => Ending::Nothing,
-    }
-}
-
-/// Notes what has ended that began at a place.
-fn note(ended: &mut Vec<Ending>, place: u32, ending: Ending)
-    ensures length { length ended.new.items ≡ length ended.old.items }
-    ensures noted { place < length ended.old.items → ended.new.items ≡ slice_set ended.old.items place ending }
-{
-    if (place as usize) < ended.len() {
-        ended[place as usize] = ending;
-    }
-}
+use crate::semantics::{Site, makes_part, nested, part_by};
+use crate::tokens::{TokenSort, sort_of};
+use sym_core::{Refusal, Span};
+use sym_link::language::{Frame, Linking};
+use sym_shape::rule::Row;
 
 /// How many lifetimes are bound around the next part of the rule of a frame, whose parts are those from its base on: a binder
 /// of a function's type holds for all behind it, one of a `dyn` type for its bounds alone.
 #[inline(always)]
-pub fn bound_behind(frame: Frame<Kept>, parts: &[Part]) -> u64
+fn bound_behind(frame: Frame<BoundLifetimes>, parts: &[Part]) -> u64
     requires { frame.base ≤ length parts.now }
-    ensures { result ≡ front.bound_behind (production_of frame.rule) frame.kept.bound (drop frame.base parts.now) }
+    ensures { result ≡ operands.bound_behind (production_of frame.rule) frame.kept.bound (drop frame.base parts.now) }
 {
     let bound = frame.kept.bound;
     match numbered(frame.rule) {
@@ -121,181 +45,35 @@ pub fn bound_behind(frame: Frame<Kept>, parts: &[Part]) -> u64
     }
 }
 
-/// The digits behind the zeros in front.
-pub fn without_zeros(digits: &[u8]) -> usize
-    ensures within { result ≤ length digits.now }
-    ensures value { value16 (drop result digits.now) ≡ value16 digits.now }
-    ensures no_zero { HasNoZero (drop result digits.now) }
-{
-    let mut zeros = 0;
-    while zeros < digits.len() && digits[zeros] == b'0' {
-        zeros += 1;
-    }
-    zeros
-}
-
-/// What a node is as a part, and how it has ended if references may name it.
-fn placed(node: Node, number: u32) -> (Added, Option<Ending>)
-    ensures { result ≡ making.placed node number }
-{
-    match node {
-        Node::Path(_) => (Added::Path(number), Some(Ending::Path(number))),
-        Node::Ty(_) => (Added::Type(number), Some(Ending::Type(number))),
-        Node::Constant(_) => (Added::Constant(number), Some(Ending::Constant(number))),
-        Node::Arguments(_) => (Added::Arguments(number), None),
-        Node::Types(_) => (Added::Types(number), None),
-        Node::Bounds(_) => (Added::Bounds(number), None),
-        Node::Bindings(_) => (Added::Bindings(number), None),
-        Node::Symbol(_) => (Added::Symbol(number), None),
-    }
-}
-
-impl Linked {
-    /// A table without nodes, which no symbol can be linked with before `restart`. It takes no memory.
-    pub fn idle(alloc: Global) -> Linked {
-        Linked {
-            nodes: Nodes::new(alloc),
-            ended: Vec::new(alloc),
-            alloc,
-        }
-    }
-
-    /// Forgets the symbol, and begins another one with the lists that have no items, and a text list with the decimal of zero
-    /// alone. The memory of the lists is kept.
-    ///
-    /// # Errors
-    ///
-    /// `Memory` where a list couldn't grow.
-    pub fn restart(&mut self, symbol: &[u8]) -> Result<(), Refusal>
-        requires { FitsSymbol symbol.now }
-        ensures keeps { OnOk result (Keeps symbol.now self.new []) }
-        ensures paid { OnOk result (IsPaid self.new 0) }
-        ensures first { OnOk result (length self.new.nodes.nodes ≡ first_nodes) }
-        ensures memory { IfErr result (λ e. e ≡ refusals.Memory) }
-    {
-        self.nodes.clear();
-        self.ended.clear();
-        reach(&mut self.ended, symbol.len())?;
-        self.nodes.push(Node::Arguments(Arguments::None))?;
-        self.nodes.push(Node::Bounds(Bounds::None))?;
-        self.nodes.push(Node::Bindings(Bindings::None))?;
-        self.nodes.push_decimal(self.alloc, 0, false)?;
-        Ok(())
-    }
-
-    /// A table for a symbol, of the lists that have no items, and a text list with the decimal of zero alone.
-    ///
-    /// # Errors
-    ///
-    /// `Memory` where a list couldn't grow.
-    pub fn new(alloc: Global, symbol: &[u8]) -> Result<Linked, Refusal>
-        requires { FitsSymbol symbol.now }
-        ensures keeps { IfOk result (λ linked. Keeps symbol.now linked []) }
-        ensures paid { IfOk result (λ linked. IsPaid linked 0) }
-        ensures first { IfOk result (λ linked. length linked.nodes.nodes ≡ first_nodes) }
-        ensures memory { IfErr result (λ e. e ≡ refusals.Memory) }
-    {
-        let mut linked = Linked::idle(alloc);
-        linked.restart(symbol)?;
-        Ok(linked)
-    }
-
-    /// Adds a node that began at a place.
-    #[inline(always)]
-    fn add(&mut self, place: u32, node: Node) -> Result<Added, Refusal>
-        requires room { length self.old.nodes.nodes + 1 < 2 ^ 32 }
-        ensures gives { (at : At) (read : Meaning) → at.place ≡ place → place < length self.old.ended.items → Keeps at.symbol self.old at.ended
-            → MadeGives at.symbol self.old.nodes at (Ok (Made.Node node)) read → Gives (v0_view at.symbol) self.new (making.as_part result) read }
-        ensures grows { GoesOn self.old self.new }
-        ensures one { length self.new.nodes.nodes ≤ length self.old.nodes.nodes + 1 }
-        ensures text { self.new.nodes.text ≡ self.old.nodes.text }
-    {
-        let number = self.nodes.push(node)?;
-        let (added, ending) = placed(node, number);
-        if let Some(ending) = ending {
-            note(&mut self.ended, place, ending);
-        }
-        Ok(added)
-    }
-
-    /// A reference at a place stands for a node, if that needs no more lifetimes than are bound there.
-    fn refer(
-        &mut self,
-        place: u32,
-        bound: u64,
-        node: u32,
-        ending: Ending,
-        part: Part,
-    ) -> Result<Part, Refusal>
-        ensures gives { (at : At) (t : Tree) (v : Value) → at.place ≡ place → at.bound ≡ bound → place < length self.old.ended.items → Keeps at.symbol self.old at.ended
-            → slice_get (trees at.symbol self.old.nodes.nodes) node ≡ Some t → IsNoted (trees at.symbol self.old.nodes.nodes) ending (Some v)
-            → IsPart (ground at.symbol self.old.nodes) part v → Gives (v0_view at.symbol) self.new result (refers_to at v (need_of_tree t)) }
-        ensures nodes { self.new.nodes ≡ self.old.nodes }
-        ensures places { length self.new.ended.items ≡ length self.old.ended.items }
-    {
-        if self.nodes.need(node) > bound {
-            return Err(Refusal::BadReference { at: place });
-        }
-        note(&mut self.ended, place, ending);
-        Ok(part)
-    }
-
-    /// A path's reference.
-    fn refer_to_path(&mut self, place: u32, bound: u64, found: Ending) -> Result<Part, Refusal>
-        ensures gives { (at : At) (known : Option Value) → at.place ≡ place → at.bound ≡ bound → place < length self.old.ended.items → Keeps at.symbol self.old at.ended
-            → IsNoted (trees at.symbol self.old.nodes.nodes) found known → Gives (v0_view at.symbol) self.new result (refers_to_path at (as_path known)) }
-        ensures nodes { self.new.nodes ≡ self.old.nodes }
-        ensures places { length self.new.ended.items ≡ length self.old.ended.items }
-    {
-        match found {
-            Ending::Path(node) => self.refer(place, bound, node, found, Part::Path(node)),
-            Ending::Nothing | Ending::Type(_) | Ending::Constant(_) => {
-                Err(Refusal::BadReference { at: place })
-            }
-        }
-    }
-
-    /// A type's reference, which may name a path.
-    fn refer_to_type(&mut self, place: u32, bound: u64, found: Ending) -> Result<Part, Refusal>
-        ensures gives { (at : At) (known : Option Value) → at.place ≡ place → at.bound ≡ bound → place < length self.old.ended.items → Keeps at.symbol self.old at.ended
-            → IsNoted (trees at.symbol self.old.nodes.nodes) found known → Gives (v0_view at.symbol) self.new result (refers_to_type at (as_type known)) }
-        ensures nodes { self.new.nodes ≡ self.old.nodes }
-        ensures places { length self.new.ended.items ≡ length self.old.ended.items }
-    {
-        match found {
-            Ending::Path(node) => self.refer(place, bound, node, found, Part::Type(node)),
-            Ending::Type(node) => self.refer(place, bound, node, found, Part::Type(node)),
-            Ending::Nothing | Ending::Constant(_) => Err(Refusal::BadReference { at: place }),
-        }
-    }
-
-    /// A constant's reference.
-    fn refer_to_constant(&mut self, place: u32, bound: u64, found: Ending) -> Result<Part, Refusal>
-        ensures gives { (at : At) (known : Option Value) → at.place ≡ place → at.bound ≡ bound → place < length self.old.ended.items → Keeps at.symbol self.old at.ended
-            → IsNoted (trees at.symbol self.old.nodes.nodes) found known → Gives (v0_view at.symbol) self.new result (refers_to_constant at (as_constant known)) }
-        ensures nodes { self.new.nodes ≡ self.old.nodes }
-        ensures places { length self.new.ended.items ≡ length self.old.ended.items }
-    {
-        match found {
-            Ending::Constant(node) => self.refer(place, bound, node, found, Part::Constant(node)),
-            Ending::Nothing | Ending::Path(_) | Ending::Type(_) => {
-                Err(Refusal::BadReference { at: place })
-            }
-        }
-    }
-}
-
 /// The symbol's length.
-pub fn end_of(symbol: &[u8]) -> u32
+fn end_of(symbol: &[u8]) -> u32
     requires { FitsSymbol symbol.now }
     ensures { result ≡ length symbol.now }
 {
     symbol.len() as u32
 }
 
+/// Where the rule of a frame stands.
+#[inline(always)]
+fn site_of(symbol: &[u8], frame: Frame<BoundLifetimes>) -> Site
+    requires fits { FitsSymbol symbol.now }
+    requires place { frame.place < length symbol.now }
+    ensures place { result.place ≡ frame.place }
+    ensures byte { result.byte ≡ slice_index symbol.now frame.place }
+    ensures end { result.end ≡ length symbol.now }
+    ensures bound { result.bound ≡ frame.kept.bound }
+{
+    Site {
+        place: frame.place,
+        byte: symbol[frame.place as usize],
+        end: end_of(symbol),
+        bound: frame.kept.bound,
+    }
+}
+
 /// Whether the production is that of a reference.
-pub fn is_reference(production: Production) -> bool
-    ensures { result ≡ making.is_reference production }
+fn is_reference(production: Production) -> bool
+    ensures { result ≡ semantics.is_reference production }
 {
     matches!(
         production,
@@ -303,117 +81,264 @@ pub fn is_reference(production: Production) -> bool
     )
 }
 
-impl Linked {
-    /// A reference at a place to what has ended.
-    fn refer_as(
-        &mut self,
-        production: Production,
-        place: u32,
-        bound: u64,
-        found: Ending,
-    ) -> Result<Part, Refusal>
-        ensures gives { (at : At) (known : Option Value) → making.is_reference production ≡ true → at.place ≡ place → at.bound ≡ bound → place < length self.old.ended.items
-            → Keeps at.symbol self.old at.ended → IsNoted (trees at.symbol self.old.nodes.nodes) found known → Gives (v0_view at.symbol) self.new result (refers_by production at known) }
-        ensures nodes { self.new.nodes ≡ self.old.nodes }
-        ensures places { length self.new.ended.items ≡ length self.old.ended.items }
-    {
-        match production {
-            Production::PathReference => self.refer_to_path(place, bound, found),
-            Production::TypeReference => self.refer_to_type(place, bound, found),
-            Production::ConstantReference => self.refer_to_constant(place, bound, found),
-            _ => Err(STRAY),
-        }
-    }
+/// Puts a part behind the others.
+#[inline(always)]
+fn push_part(parts: &mut Vec<Part>, part: Part) -> Result<(), Refusal>
+    ensures items { OnOk result (parts.new.items ≡ parts.old.items ++ part ∷ []) }
+    ensures memory { IfErr result (λ e. e ≡ refusals.Memory) }
+{
+    parts.reserve(1)?;
+    parts.push_reserved(part);
+    Ok(())
+}
 
-    /// What a reference means, whose parts are these.
-    pub fn reference(
-        &mut self,
-        production: Production,
-        site: Site,
-        parts: &[Part],
-    ) -> Result<Part, Refusal>
-        ensures gives { (at : At) (known : List Value) → making.is_reference production ≡ true → at.place ≡ site.place → at.bound ≡ site.bound
-            → site.place < length self.old.ended.items → Keeps at.symbol self.old at.ended
-            → AreAll (IsPart (ground at.symbol self.old.nodes)) parts.now known
-            → Gives (v0_view at.symbol) self.new result (meaning production at known) }
-        ensures nodes { self.new.nodes ≡ self.old.nodes }
-        ensures places { length self.new.ended.items ≡ length self.old.ended.items }
-    {
-        let (found, _) = number(parts)?;
-        let ending = referred(&self.ended, found);
-        self.refer_as(production, site.place, site.bound, ending)
-    }
+/// Puts a part in the place of those from the base on.
+#[inline(always)]
+fn put(parts: &mut Vec<Part>, base: usize, part: Part) -> Result<(), Refusal>
+    requires { base ≤ length parts.old.items }
+    ensures items { OnOk result (parts.new.items ≡ take base parts.old.items ++ part ∷ []) }
+    ensures memory { IfErr result (λ e. e ≡ refusals.Memory) }
+{
+    parts.truncate(base);
+    push_part(parts, part)
+}
 
-    /// Adds the node that a rule at a place has made, if it has made one.
+/// Whether the parts are one name.
+fn is_name(parts: &[Part]) -> bool
+    ensures { OnTrue result ((name : Name) × (parts.now ≡ Part.Name name ∷ [])) }
+{
+    matches!(parts, [Part::Name(_)])
+}
+
+impl RustNodes {
+    /// Takes a token of a sort in the rule of a frame.
     #[inline(always)]
-    pub fn add_made(&mut self, place: u32, made: Result<Node, Refusal>) -> Result<Added, Refusal>
-        requires room { length self.old.nodes.nodes + 1 < 2 ^ 32 }
-        ensures gives { (at : At) (read : Meaning) (meant : Making) → of_node made ≡ meant → at.place ≡ place → place < length self.old.ended.items → Keeps at.symbol self.old at.ended
-            → MadeGives at.symbol self.old.nodes at meant read → Gives (v0_view at.symbol) self.new (making.as_part result) read }
-        ensures grows { GoesOn self.old self.new }
-        ensures one { length self.new.nodes.nodes ≤ length self.old.nodes.nodes + 1 }
-        ensures text { self.new.nodes.text ≡ self.old.nodes.text }
+    fn take_as(
+        &mut self,
+        symbol: &[u8],
+        sort: TokenSort,
+        frame: Frame<BoundLifetimes>,
+        parts: &mut Vec<Part>,
+        row: Row,
+    ) -> Result<(), Refusal>
+        requires sort { sort ≡ tokens.sort_of (production_of frame.rule) }
+        requires room { HasRoom (v0_view symbol.now) symbol.now self.old (owed_behind (v0_view symbol.now) frame parts.old.items) }
+        requires base { frame.base ≤ length parts.old.items }
+        requires from { row.from ≤ row.to }
+        requires to { row.to ≤ length symbol.now }
+        ensures takes { TakesToken (v0_view symbol.now) symbol.now self.old self.new frame parts.old.items parts.new.items row result }
+        ensures adds { OnOk result (Adds (v0_view symbol.now) self.old self.new (owed_behind (v0_view symbol.now) frame parts.old.items) (owed_behind (v0_view symbol.now) frame parts.new.items)) }
+        ensures pays { OnOk result ((at : ℕ) → at ≤ row.from → (length parts.old.items ≡ frame.base → at ≤ frame.place)
+            → Pays (v0_view symbol.now) self.old self.new at row.to) }
     {
-        match made {
-            Ok(node) => self.add(place, node),
-            Err(refusal) => Err(refusal),
+        let own = Span {
+            from: row.from,
+            to: row.to,
+        };
+        let part = self.token_part(symbol, sort, frame.place, &parts[frame.base..], own)?;
+        push_part(parts, part)?;
+        Ok(())
+    }
+
+    /// Takes a token in the rule of a frame.
+    #[inline(never)]
+    fn take_any(
+        &mut self,
+        symbol: &[u8],
+        frame: Frame<BoundLifetimes>,
+        parts: &mut Vec<Part>,
+        row: Row,
+    ) -> Result<(), Refusal>
+        requires room { HasRoom (v0_view symbol.now) symbol.now self.old (owed_behind (v0_view symbol.now) frame parts.old.items) }
+        requires base { frame.base ≤ length parts.old.items }
+        requires from { row.from ≤ row.to }
+        requires to { row.to ≤ length symbol.now }
+        ensures takes { TakesToken (v0_view symbol.now) symbol.now self.old self.new frame parts.old.items parts.new.items row result }
+        ensures adds { OnOk result (Adds (v0_view symbol.now) self.old self.new (owed_behind (v0_view symbol.now) frame parts.old.items) (owed_behind (v0_view symbol.now) frame parts.new.items)) }
+        ensures pays { OnOk result ((at : ℕ) → at ≤ row.from → (length parts.old.items ≡ frame.base → at ≤ frame.place)
+            → Pays (v0_view symbol.now) self.old self.new at row.to) }
+    {
+        self.take_as(symbol, sort_of(frame.rule), frame, parts, row)
+    }
+
+    /// Closes the rule of a frame, whose production makes a part of its parts and no node.
+    #[inline(always)]
+    fn close_part(
+        &mut self,
+        symbol: &[u8],
+        production: Production,
+        frame: Frame<BoundLifetimes>,
+        parts: &mut Vec<Part>,
+    ) -> Result<(), Refusal>
+        requires production { production_of frame.rule ≡ Some production }
+        requires part { semantics.makes_part production ≡ true }
+        requires room { HasRoom (v0_view symbol.now) symbol.now self.old (owed_behind (v0_view symbol.now) frame parts.old.items) }
+        requires base { frame.base ≤ length parts.old.items }
+        requires place { frame.place < length symbol.now }
+        ensures closes { ClosesRule (v0_view symbol.now) symbol.now self.old self.new frame parts.old.items parts.new.items result }
+        ensures adds { OnOk result (Adds (v0_view symbol.now) self.old self.new (owed_behind (v0_view symbol.now) frame parts.old.items) 0) }
+        ensures pays { OnOk result ((at : ℕ) → Pays (v0_view symbol.now) self.old self.new at at) }
+    {
+        let site = site_of(symbol, frame);
+        let part = part_by(production, site, &parts[frame.base..])?;
+        put(parts, frame.base, part)
+    }
+
+    /// Closes the rule of a frame, which is that of a name in a path.
+    #[inline(always)]
+    fn close_nested(
+        &mut self,
+        symbol: &[u8],
+        frame: Frame<BoundLifetimes>,
+        parts: &mut Vec<Part>,
+    ) -> Result<(), Refusal>
+        requires production { production_of frame.rule ≡ Some rules.Nested }
+        requires room { HasRoom (v0_view symbol.now) symbol.now self.old (owed_behind (v0_view symbol.now) frame parts.old.items) }
+        requires base { frame.base ≤ length parts.old.items }
+        requires place { frame.place < length symbol.now }
+        ensures closes { ClosesRule (v0_view symbol.now) symbol.now self.old self.new frame parts.old.items parts.new.items result }
+        ensures adds { OnOk result (Adds (v0_view symbol.now) self.old self.new (owed_behind (v0_view symbol.now) frame parts.old.items) 0) }
+        ensures pays { OnOk result ((at : ℕ) → Pays (v0_view symbol.now) self.old self.new at at) }
+    {
+        let made = nested(&parts[frame.base..]);
+        let added = self.add_made(frame.place, made)?;
+        put(parts, frame.base, part_of(added))
+    }
+
+    /// Closes the rule of a frame.
+    #[inline(never)]
+    fn close_any(
+        &mut self,
+        symbol: &[u8],
+        frame: Frame<BoundLifetimes>,
+        parts: &mut Vec<Part>,
+    ) -> Result<(), Refusal>
+        requires room { HasRoom (v0_view symbol.now) symbol.now self.old (owed_behind (v0_view symbol.now) frame parts.old.items) }
+        requires base { frame.base ≤ length parts.old.items }
+        requires place { frame.place < length symbol.now }
+        ensures closes { ClosesRule (v0_view symbol.now) symbol.now self.old self.new frame parts.old.items parts.new.items result }
+        ensures adds { OnOk result (Adds (v0_view symbol.now) self.old self.new (owed_behind (v0_view symbol.now) frame parts.old.items) 0) }
+        ensures pays { OnOk result ((at : ℕ) → Pays (v0_view symbol.now) self.old self.new at at) }
+    {
+        let Some(production) = numbered(frame.rule) else {
+            return Err(STRAY);
+        };
+        let site = site_of(symbol, frame);
+        let own = &parts[frame.base..];
+        if is_reference(production) {
+            let part = self.reference(production, site, own)?;
+            return put(parts, frame.base, part);
+        }
+        if makes_part(production) {
+            let part = part_by(production, site, own)?;
+            return put(parts, frame.base, part);
+        }
+        let added = self.add_by(production, site, own)?;
+        put(parts, frame.base, part_of(added))
+    }
+}
+
+impl Linking for RustNodes {
+    ghost use Rattle.std.specs.Prelude.{◌≡◌, ℕ, ◌+◌, ◌<◌, ◌≤◌, [], List, length, take, drop, OnOk};
+    ghost use Rattle.sym_link.specs.Linking.{View, IsLinking, HasRoom, OpensRoot, Opens, TakesToken, ClosesRule, Adds, Pays, owed_behind, owed_next};
+    ghost use Rattle.rust_v0.specs.Value.{Value, State};
+    ghost use Rattle.rust_v0.specs.RustNodes.{v0_view};
+    ghost use Rattle.rust_v0.specs.LanguageLaws.{v0_laws};
+
+    type Part = Part;
+
+    type Kept = BoundLifetimes;
+
+    ghost Value = { Value };
+
+    ghost State = { State };
+
+    ghost Context = { ℕ };
+
+    ghost view = { v0_view };
+
+    fn root(&mut self, symbol: &[u8], _rows: &[Row], row: Row) -> Result<BoundLifetimes, Refusal>
+        requires room { HasRoom (v0_view symbol.now) symbol.now self.old 0 }
+        requires end { row.end ≤ length _rows.now }
+        ensures opens { OpensRoot (v0_view symbol.now) symbol.now _rows.now self.old self.new row result }
+        ensures adds { OnOk result (Adds (v0_view symbol.now) self.old self.new 0 0) }
+        ensures pays { OnOk result (Pays (v0_view symbol.now) self.old self.new 0 0) }
+    {
+        Ok(BoundLifetimes { bound: 0 })
+    }
+
+    fn enter(
+        &mut self,
+        symbol: &[u8],
+        _rows: &[Row],
+        frame: Frame<BoundLifetimes>,
+        parts: &mut Vec<Part>,
+        row: Row,
+    ) -> Result<BoundLifetimes, Refusal>
+        requires room { HasRoom (v0_view symbol.now) symbol.now self.old (owed_behind (v0_view symbol.now) frame parts.old.items) }
+        requires base { frame.base ≤ length parts.old.items }
+        requires place { row.from < length symbol.now }
+        requires end { row.end ≤ length _rows.now }
+        ensures opens { Opens (v0_view symbol.now) symbol.now _rows.now self.old self.new frame parts.old.items parts.new.items row result }
+        ensures adds { OnOk result (Adds (v0_view symbol.now) self.old self.new (owed_behind (v0_view symbol.now) frame parts.old.items) (owed_next (v0_view symbol.now) frame parts.new.items)) }
+        ensures pays { OnOk result ((at : ℕ) → at ≤ row.from → Pays (v0_view symbol.now) self.old self.new at row.from) }
+    {
+        let bound = bound_behind(frame, parts);
+        Ok(BoundLifetimes { bound })
+    }
+
+    #[inline(always)]
+    fn token(
+        &mut self,
+        symbol: &[u8],
+        frame: Frame<BoundLifetimes>,
+        parts: &mut Vec<Part>,
+        row: Row,
+    ) -> Result<(), Refusal>
+        requires room { HasRoom (v0_view symbol.now) symbol.now self.old (owed_behind (v0_view symbol.now) frame parts.old.items) }
+        requires base { frame.base ≤ length parts.old.items }
+        requires from { row.from ≤ row.to }
+        requires to { row.to ≤ length symbol.now }
+        ensures takes { TakesToken (v0_view symbol.now) symbol.now self.old self.new frame parts.old.items parts.new.items row result }
+        ensures adds { OnOk result (Adds (v0_view symbol.now) self.old self.new (owed_behind (v0_view symbol.now) frame parts.old.items) (owed_behind (v0_view symbol.now) frame parts.new.items)) }
+        ensures pays { OnOk result ((at : ℕ) → at ≤ row.from → (length parts.old.items ≡ frame.base → at ≤ frame.place)
+            → Pays (v0_view symbol.now) self.old self.new at row.to) }
+    {
+        match numbered(frame.rule) {
+            // the token of most rules
+            Some(Production::PlainName) => {
+                self.take_as(symbol, TokenSort::PlainName, frame, parts, row)
+            }
+            // a frame and a row of their own for the call let the others stay in registers
+            _ => self.take_any(symbol, Frame { ..frame }, parts, Row { ..row }),
         }
     }
 
-    /// Adds the node that a rule makes of these parts.
     #[inline(always)]
-    pub fn add_by(
+    fn close(
         &mut self,
-        production: Production,
-        site: Site,
-        parts: &[Part],
-    ) -> Result<Added, Refusal>
-        requires room { length self.old.nodes.nodes + 1 < 2 ^ 32 }
-        ensures gives { (at : At) (read : Meaning) → making.is_reference production ≡ false → making.makes_part production ≡ false
-            → at.place ≡ site.place → site.byte ≡ slice_index at.symbol at.place → site.place < length self.old.ended.items → Keeps at.symbol self.old at.ended
-            → MadeGives at.symbol self.old.nodes at (making.made production at.symbol at.place at.bound parts.now) read → Gives (v0_view at.symbol) self.new (making.as_part result) read }
-        ensures grows { GoesOn self.old self.new }
-        ensures one { length self.new.nodes.nodes ≤ length self.old.nodes.nodes + 1 }
-        ensures text { self.new.nodes.text ≡ self.old.nodes.text }
+        symbol: &[u8],
+        frame: Frame<BoundLifetimes>,
+        parts: &mut Vec<Part>,
+    ) -> Result<(), Refusal>
+        requires room { HasRoom (v0_view symbol.now) symbol.now self.old (owed_behind (v0_view symbol.now) frame parts.old.items) }
+        requires base { frame.base ≤ length parts.old.items }
+        requires place { frame.place < length symbol.now }
+        ensures closes { ClosesRule (v0_view symbol.now) symbol.now self.old self.new frame parts.old.items parts.new.items result }
+        ensures adds { OnOk result (Adds (v0_view symbol.now) self.old self.new (owed_behind (v0_view symbol.now) frame parts.old.items) 0) }
+        ensures pays { OnOk result ((at : ℕ) → Pays (v0_view symbol.now) self.old self.new at at) }
     {
-        let place = site.place;
-        match production {
-            Production::Symbol => self.add_made(place, symbol(parts)),
-            Production::Crate => self.add_made(place, crate_root(parts)),
-            Production::InherentImpl => self.add_made(place, inherent_impl(parts)),
-            Production::TraitImpl => self.add_made(place, trait_impl(parts)),
-            Production::TraitDefinition => self.add_made(place, trait_definition(parts)),
-            Production::Nested => self.add_made(place, nested(parts)),
-            Production::Generic => self.add_made(place, generic(parts)),
-            Production::LifetimeArgument => self.add_made(place, lifetime_argument(parts)),
-            Production::ConstantArgument => self.add_made(place, constant_argument(parts)),
-            Production::TypeArgument => self.add_made(place, type_argument(parts)),
-            Production::BasicType => self.add(place, Node::Ty(Ty::Basic(site.byte))),
-            Production::Array => self.add_made(place, array(parts)),
-            Production::Slice => self.add_made(place, slice(parts)),
-            Production::Tuple => self.add_made(place, tuple(parts)),
-            Production::SharedReference => self.add_made(place, shared_reference(parts)),
-            Production::MutableReference => self.add_made(place, mutable_reference(parts)),
-            Production::ConstPointer => self.add_made(place, const_pointer(parts)),
-            Production::MutPointer => self.add_made(place, mut_pointer(parts)),
-            Production::Function => self.add_made(place, function(parts)),
-            Production::Dyn => self.add_made(place, dyn_type(parts)),
-            Production::TypesEnd => self.add(place, Node::Types(Types::None)),
-            Production::TypesMore => self.add_made(place, more_types(parts)),
-            Production::BoundsMore => self.add_made(place, more_bounds(parts)),
-            Production::Binding => self.add_made(place, binding(parts)),
-            Production::SignedConstant => self.add_made(
-                place,
-                signed_constant(place, site.byte, parts),
-            ),
-            Production::UnsignedConstant => self.add_made(
-                place,
-                unsigned_constant(place, site.byte, parts),
-            ),
-            Production::BoolConstant => self.add_made(place, bool_constant(parts)),
-            Production::CharConstant => self.add_made(place, char_constant(place, parts)),
-            Production::Placeholder => self.add(place, Node::Constant(Constant::Placeholder)),
-            _ => Err(STRAY),
+        match numbered(frame.rule) {
+            // the name is what the rule means: it stays
+            Some(Production::PlainName) if is_name(&parts[frame.base..]) => Ok(()),
+            Some(Production::Namespace) => {
+                self.close_part(symbol, Production::Namespace, frame, parts)
+            }
+            Some(Production::Nested) => self.close_nested(symbol, frame, parts),
+            // a frame of its own for the call lets the others stay in registers
+            _ => self.close_any(symbol, Frame { ..frame }, parts),
         }
     }
+
+    ghost laws = { v0_laws };
 }

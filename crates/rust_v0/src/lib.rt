@@ -2,14 +2,15 @@
 #![tactic(auto)]
 
 mod demangling;
-mod front;
 mod grammar;
+pub mod kind;
 mod language;
-mod linking;
-mod make;
 mod mangling;
+mod nodes;
+mod operands;
 pub mod part;
 pub mod production;
+mod semantics;
 mod table;
 pub mod tokens;
 

@@ -9,12 +9,12 @@ ghost use Rattle.sym_demangle.specs.Standing.{Begins, IsLinked};
 ghost use Rattle.rust_tree.specs.Layout.{MayCome, unshared_of};
 ghost use Rattle.rust_tree.specs.Shown.{symbol_parts};
 ghost use Rattle.rust_v0.specs.declared.part.Part.TheVariants as part;
-ghost use Rattle.rust_v0.specs.Linked.{v0_view};
+ghost use Rattle.rust_v0.specs.RustNodes.{v0_view};
 ghost use Rattle.rust_v0.specs.Mangled.{whole_of};
 ghost use Rattle.rust_v0.specs.Unfold.{unfolded};
 
 use crate::grammar::V0;
-use crate::language::Linked;
+use crate::nodes::RustNodes;
 use crate::part::Part;
 use rust_tree::{Context, Detail, Nodes, Symbol};
 use std::alloc::Global;
@@ -39,7 +39,7 @@ impl Mangling for V0 {
     ghost use Rattle.rust_tree.specs.Symbol as tree;
     ghost use Rattle.rust_v0.specs.Mangled.{v0_mangled, v0_fails, whole_of};
 
-    type Linked = Linked;
+    type Linked = RustNodes;
 
     type Symbol = Symbol;
 
@@ -59,11 +59,11 @@ impl Mangling for V0 {
         V0
     }
 
-    fn idle(alloc: Global) -> Linked {
-        Linked::idle(alloc)
+    fn idle(alloc: Global) -> RustNodes {
+        RustNodes::idle(alloc)
     }
 
-    fn restart(linked: &mut Linked, symbol: &[u8]) -> Result<(), Refusal>
+    fn restart(linked: &mut RustNodes, symbol: &[u8]) -> Result<(), Refusal>
         requires { FitsSymbol symbol.now }
         ensures begins { OnOk result (Begins (v0_view symbol.now) linked.new) }
         ensures memory { IfErr result (λ e. e ≡ refusals.Memory) }
@@ -73,7 +73,7 @@ impl Mangling for V0 {
 
     fn finish(
         bytes: Vec<u8>,
-        linked: &mut Linked,
+        linked: &mut RustNodes,
         parts: &[Part],
         rows: u32,
         steps: u32,
@@ -96,7 +96,7 @@ impl Mangling for V0 {
         symbol.root_as(detail)
     }
 
-    fn recycle(linked: &mut Linked, symbol: Symbol) -> Vec<u8> {
+    fn recycle(linked: &mut RustNodes, symbol: Symbol) -> Vec<u8> {
         let (bytes, nodes) = symbol.into_lists();
         linked.nodes = nodes;
         bytes

@@ -1,7 +1,7 @@
 // What the parts of a rule stand for, in terms of nodes.
 
 ghost use Rattle.std.specs.Prelude.{◌≡◌};
-ghost use Rattle.rust_v0.specs.Making as making;
+ghost use Rattle.rust_v0.specs.CodeSemantics as semantics;
 
 use rust_tree::node::{Abi, Name};
 use sym_core::{Refusal, Span};
@@ -43,7 +43,7 @@ pub enum Part {
     Symbol(u32),
 }
 
-/// A part that stands for a node which was just added.
+/// A part that stands for a node which was just added: small enough to be handed on in registers, as `Part` isn't.
 #[derive(Clone, Copy)]
 pub enum Added {
     Path(u32),
@@ -58,7 +58,7 @@ pub enum Added {
 
 /// The part of an added node.
 pub fn part_of(added: Added) -> Part
-    ensures { result ≡ making.part_of added }
+    ensures { result ≡ semantics.part_of added }
 {
     match added {
         Added::Path(node) => Part::Path(node),

@@ -3,12 +3,12 @@
 ghost use Rattle.std.specs.Prelude.{◌≡◌};
 ghost use Rattle.rust_v0.specs.Rules.{v0_table};
 
-use crate::production::Production;
-use crate::production::kind::{
+use crate::kind::{
     self, ABI, ABI_NAME, ARGUMENTS, BINDER, BINDINGS, BOUNDS, CONSTANT, DISAMBIGUATOR, IDENTIFIER,
     LIFETIME, MINUS, NAME, NAMESPACE, OTHER_PATH, PATH, SOME_LIFETIME, SUFFIX, SUFFIX_BYTE,
     SUFFIX_REST, TRUTH, TYPE, TYPES, UNSAFE,
 };
+use crate::production::Production;
 use sym_core::NumberKind;
 use sym_shape::rule::Rule;
 use sym_shape::rule::Sym::{self, Byte, Kind, Name, Number};

@@ -1,22 +1,22 @@
 // What a token is as a part of its rule.
 
-ghost use Rattle.std.specs.Prelude.{◌≡◌, ℕ, ◌+◌, ◌-◌, ◌*◌, ◌<◌, ◌≤◌, ◌^◌, ◌&&◌, Bool, List, length, true, IfOk, OnOk, OnErr, IfErr, nat_lt};
+ghost use Rattle.std.specs.Prelude.{◌≡◌, ℕ, ◌+◌, ◌-◌, ◌*◌, ◌<◌, ◌≤◌, ◌^◌, ◌&&◌, Bool, List, drop, length, true, IfOk, OnOk, OnErr, IfErr, nat_lt};
 ghost use Rattle.sym_core.specs.Number.{AreDigitsOf, FitsSymbol};
 ghost use Rattle.sym_core.specs.Printed.{signed_text};
 ghost use Rattle.sym_core.specs.Token.{AreNameBytes};
 ghost use Rattle.sym_core.specs.declared.NameClass.TheVariants.{Rust};
 ghost use Rattle.sym_core.specs.declared.NumberKind.TheVariants.{Base62, Hex};
 ghost use Rattle.sym_core.specs.declared.refusal.Refusal.TheVariants as refusals;
-ghost use Rattle.rust_tree.specs.Nodes.{IsTable, Grows, IsWithin, bytes_at};
+ghost use Rattle.rust_tree.specs.Nodes.{HasNoZero, IsTable, Grows, IsWithin, bytes_at};
 ghost use Rattle.rust_v0.specs.Productions.{production_of};
 ghost use Rattle.rust_v0.specs.Tokens as tokens;
 ghost use Rattle.rust_v0.specs.Tokens.{IsOwn, HasZero, value_as, minus_before};
 ghost use Rattle.rust_v0.specs.Unfold.{value16 as value_of_hex, value62 as value_of_base62, an_integer_of};
 ghost use Rattle.rust_v0.specs.Value.{a_name};
-ghost use Rattle.rust_v0.specs.Views.{IsNumber, IsPart};
-ghost use Rattle.rust_v0.specs.Makings.{ground};
+ghost use Rattle.rust_v0.specs.PartValues.{IsNumber, IsPart};
+ghost use Rattle.rust_v0.specs.Made.{ground};
 
-use crate::language::{Linked, without_zeros};
+use crate::nodes::RustNodes;
 use crate::part::{Integer, Part, STRAY};
 use crate::production::{Production, numbered};
 use rust_tree::node::Name;
@@ -98,7 +98,20 @@ fn is_negative(minus: bool, magnitude: u128) -> bool
     minus && magnitude > 0
 }
 
-impl Linked {
+/// The digits behind the zeros in front.
+fn without_zeros(digits: &[u8]) -> usize
+    ensures within { result ≤ length digits.now }
+    ensures value { value_of_hex (drop result digits.now) ≡ value_of_hex digits.now }
+    ensures no_zero { HasNoZero (drop result digits.now) }
+{
+    let mut zeros = 0;
+    while zeros < digits.len() && digits[zeros] == b'0' {
+        zeros += 1;
+    }
+    zeros
+}
+
+impl RustNodes {
     /// The span of an integer's decimal in the text list, which begins with that of zero.
     fn print_integer(&mut self, magnitude: u128, minus: bool) -> Result<Span, Refusal>
         requires room { length self.old.nodes.text + 40 < 2 ^ 32 }
@@ -106,7 +119,7 @@ impl Linked {
         ensures within { IfOk result (λ span. IsWithin span self.new.nodes.text) }
         ensures printed { IfOk result (λ span. bytes_at self.new.nodes.text span ≡ signed_text (minus && nat_lt 0 magnitude) magnitude) }
         ensures nodes { self.new.nodes.nodes ≡ self.old.nodes.nodes }
-        ensures ended { self.new.ended.items ≡ self.old.ended.items }
+        ensures ended { self.new.targets.items ≡ self.old.targets.items }
         ensures grows { Grows self.old.nodes self.new.nodes }
         ensures stays { (s : List ℕ) → IsTable s self.old.nodes → IsTable s self.new.nodes }
         ensures none { OnOk result (magnitude ≡ 0 → self.new.nodes.text ≡ self.old.nodes.text) }
@@ -128,7 +141,7 @@ impl Linked {
         ensures part { IfOk result (λ part. IsPart (ground symbol.now self.new.nodes) part (an_integer_of minus (value_of_hex (bytes_at symbol.now own)))) }
         ensures memory { AreDigitsOf Hex (bytes_at symbol.now own) → IfErr result (λ e. e ≡ refusals.Memory) }
         ensures nodes { self.new.nodes.nodes ≡ self.old.nodes.nodes }
-        ensures ended { self.new.ended.items ≡ self.old.ended.items }
+        ensures ended { self.new.targets.items ≡ self.old.targets.items }
         ensures grows { Grows self.old.nodes self.new.nodes }
         ensures stays { (s : List ℕ) → IsTable s self.old.nodes → IsTable s self.new.nodes }
         ensures few { OnOk result (length self.new.nodes.text ≤ length self.old.nodes.text + 4 * (own.to - own.from)) }
@@ -161,7 +174,7 @@ impl Linked {
         ensures part { IfOk result (λ part. IsPart (ground symbol.now self.new.nodes) part (a_name (record { punycode = true; bytes = bytes_at symbol.now own }))) }
         ensures memory { AreNameBytes Rust (bytes_at symbol.now own) → IfErr result (λ e. e ≡ refusals.Memory) }
         ensures nodes { self.new.nodes.nodes ≡ self.old.nodes.nodes }
-        ensures ended { self.new.ended.items ≡ self.old.ended.items }
+        ensures ended { self.new.targets.items ≡ self.old.targets.items }
         ensures grows { Grows self.old.nodes self.new.nodes }
         ensures stays { (s : List ℕ) → IsTable s self.old.nodes → IsTable s self.new.nodes }
         ensures few { OnOk result (length self.new.nodes.text ≤ length self.old.nodes.text + 4 * (own.to - own.from) + 8) }
@@ -195,7 +208,7 @@ impl Linked {
             → IfOk result (λ part. IsPart (ground symbol.now self.new.nodes) part (value_as sort (minus_before parts.now) (bytes_at symbol.now own))) }
         ensures memory { IsOwn sort (bytes_at symbol.now own) (length parts.now) place own.from → IfErr result (λ e. e ≡ refusals.Memory) }
         ensures nodes { self.new.nodes.nodes ≡ self.old.nodes.nodes }
-        ensures ended { self.new.ended.items ≡ self.old.ended.items }
+        ensures ended { self.new.targets.items ≡ self.old.targets.items }
         ensures grows { Grows self.old.nodes self.new.nodes }
         ensures stays { (s : List ℕ) → IsTable s self.old.nodes → IsTable s self.new.nodes }
         ensures few { OnOk result ((at : ℕ) → at ≤ own.from → (length parts.now ≡ 0 → at ≤ place) → length self.old.nodes.text ≤ 4 * at + 20

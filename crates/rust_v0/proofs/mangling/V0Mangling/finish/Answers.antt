@@ -1,4 +1,3 @@
-use Rattle.rust_v0.specs.Linked.{v0_view}
 use Rattle.rust_v0.proofs.Standing.{has_whole, reads}
 use Rattle.rust_v0.proofs.mangling.V0Mangling.finish.Goals as goal
 

@@ -1,9 +1,0 @@
-use Rattle.std.proofs.Common.{◌≡◌, ◌-◌, ◌≤◌, length, drop}
-use Rattle.rust_v0.specs.Unfold.{value16}
-use Rattle.rust_v0.proofs.language.without_zeros.Given as goal
-
-abbrev pub invariant-loop-zeros : goal.invariant-loop-zeros
-invariant-loop-zeros l = (l.zeros ≤ length l.digits) × (value16 (drop l.zeros l.digits) ≡ value16 l.digits)
-
-abbrev pub decreases-loop-zeros : goal.decreases-loop-zeros
-decreases-loop-zeros l = length l.digits - l.zeros

@@ -1,0 +1,87 @@
+-- How the nodes that have been made are what the reading of a symbol says.
+use Rattle.std.specs.Prelude.{◌≡◌, ◌⊎◌, ℕ, ◌+◌, ◌-◌, ◌*◌, ◌≤◌, ◌<◌, List, length, get_or, slice_get, Option, Some, None, Err, nat_le, if◌then◌else◌}
+use Rattle.sym_link.specs.Linking.{View}
+use Rattle.rust_tree.specs.Symbol as tree
+use Rattle.rust_tree.specs.Tree.{Tree, of_type}
+use Rattle.rust_tree.specs.Nodes.{most_bound, IsTable, Grows, IsPath, IsConstant}
+use Rattle.sym_core.specs.declared.refusal.Refusal.TheVariants.{BadReference}
+use Rattle.rust_v0.specs.declared.production.Production.{Production}
+use Rattle.rust_v0.specs.declared.production.Production.TheVariants as rules
+use Rattle.rust_v0.specs.declared.nodes.Target.{Target}
+use Rattle.rust_v0.specs.declared.nodes.BoundLifetimes.{BoundLifetimes}
+use Rattle.rust_v0.specs.declared.nodes.RustNodes.{RustNodes}
+use Rattle.rust_v0.specs.declared.part.Part.{Part}
+use Rattle.rust_v0.specs.Rules.{v0_table}
+use Rattle.rust_v0.specs.Value as value
+use Rattle.rust_v0.specs.Value.{Value, State, Ended}
+use Rattle.rust_v0.specs.Unfold.{v0, at_first, ended_at, as_path, as_type, as_constant, At, Meaning, ends, stray, refers_to_path, refers_to_type, refers_to_constant}
+use Rattle.rust_v0.specs.PartValues.{IsPart}
+use Rattle.rust_v0.specs.Made.{ground, HasLists}
+use Rattle.rust_v0.specs.Tokens.{HasZero}
+
+-- what is noted of a place is what ended that began there; a path may have ended as a type
+abbrev pub IsNoted : List Tree → Target → Option Value → Type 0
+IsNoted all Target.Nothing found = found ≡ None
+IsNoted all (Target.Path node) found =
+    (path : tree.Path) × IsPath all node path × ((found ≡ Some (value.a_path path)) ⊎ (found ≡ Some (value.a_type (tree.path_type path))))
+IsNoted all (Target.Type node) found =
+    (type : tree.Ty) × (slice_get all node ≡ Some (of_type type)) × (as_path (Some (value.a_type type)) ≡ None) × (found ≡ Some (value.a_type type))
+IsNoted all (Target.Constant node) found = (constant : tree.Constant) × IsConstant all node constant × (found ≡ Some (value.a_constant constant))
+
+abbrev pub AreNoted : List Tree → List Target → List Ended → Type 0
+AreNoted all targets ended = (place : ℕ) → IsNoted all (get_or targets place Target.Nothing) (ended_at ended place)
+
+-- the nodes are a table of the symbol, begun with the lists that have no items, and what has ended is noted by its place in the symbol
+pub record Keeps (s : List ℕ) (linked : RustNodes) (ended : List Ended) : Type 0 where
+  pub places : length s < length linked.targets.items
+  pub table : IsTable s linked.nodes
+  pub lists : HasLists (ground s linked.nodes)
+  pub noted : AreNoted (ground s linked.nodes).all linked.targets.items ended
+
+-- how many nodes the table has before the first row
+abbrev pub first_nodes : ℕ
+first_nodes = 3
+
+-- So many lifetimes are bound around the rule: at most as a symbol can bind in front of its place.
+pub record IsKept (linked : RustNodes) (kept : BoundLifetimes) (place bound : ℕ) : Type 0 where
+  pub is : kept.bound ≡ bound
+  pub few : bound ≤ most_bound * place
+  pub there : place < length linked.targets.items
+
+-- one table of nodes goes on another
+pub record GoesOn (old new : RustNodes) : Type 0 where
+  pub nodes : Grows old.nodes new.nodes
+  pub places : length old.targets.items ≤ length new.targets.items
+
+-- the text list is paid for by so many bytes, and begins with the decimal of zero
+pub record IsPaid (linked : RustNodes) (bytes : ℕ) : Type 0 where
+  pub begun : first_nodes ≤ length linked.nodes.nodes
+  pub text : length linked.nodes.text ≤ 4 * bytes + 20
+  pub zero : HasZero linked.nodes.text
+
+abbrev pub v0_view : List ℕ → View RustNodes Part BoundLifetimes Value State ℕ
+v0_view s = record {
+  table = v0_table;
+  reading = v0 s;
+  around = 0;
+  first = at_first;
+  IsPart = λ linked part value. IsPart (ground s linked.nodes) part value;
+  IsKept = λ linked kept rule. IsKept linked kept rule.place rule.context;
+  Holds = λ linked state. Keeps s linked state.ended;
+  Grows = GoesOn;
+  size = λ linked. length linked.nodes.nodes - first_nodes;
+  owes = λ number held. 1;
+  most = λ bytes. 4 * bytes + 4;
+  IsPaid = IsPaid;
+}
+
+-- a reference to what has ended, which needs so many lifetimes
+abbrev pub refers_to : At → Value → (need : ℕ) → Meaning
+refers_to at v need = if nat_le need at.bound then ends at v else Err (BadReference at.place)
+
+-- a reference of a production to what has ended
+abbrev pub refers_by : Production → At → Option Value → Meaning
+refers_by rules.PathReference at known = refers_to_path at (as_path known)
+refers_by rules.TypeReference at known = refers_to_type at (as_type known)
+refers_by rules.ConstantReference at known = refers_to_constant at (as_constant known)
+refers_by _ at known = Err stray

@@ -1,0 +1,507 @@
+// What a rule means, from its parts: a part, or a node that is to be added. Above each function stand the productions of
+// RFC 2603, "Syntax of mangled names", whose rules it closes.
+
+ghost use Rattle.std.specs.Prelude.{◌≡◌, ◌≤◌, ℕ, List, length, slice_index, true};
+ghost use Rattle.rust_v0.specs.CodeSemantics as semantics;
+ghost use Rattle.rust_v0.specs.CodeSemantics.{of_part, of_node};
+ghost use Rattle.rust_v0.specs.Unfold.{is_scalar as scalar};
+
+use crate::operands::{
+    EMPTY_BOUNDS, abi, abi_value, arguments, binder, bindings, bounds, constant, disambiguator,
+    identifier, integer, letter, lifetime, minus, name, number, other_path, path, some_lifetime,
+    suffix, truth, type_node, types, unsafe_mark,
+};
+use crate::part::{Integer, Part, STRAY};
+use crate::production::Production;
+use rust_tree::node::{Abi, Arguments, Bindings, Bounds, Constant, Node, Path, Ty, Types, Whole};
+use sym_core::{Refusal, Span};
+
+/// Where a rule stands: its place, the byte there, the symbol's length, and how many lifetimes are bound around it.
+#[derive(Clone, Copy)]
+pub struct Site {
+    pub place: u32,
+    pub byte: u8,
+    pub end: u32,
+    pub bound: u64,
+}
+
+/// `<path> = "C" <identifier>`: the root of a crate.
+pub fn crate_root(parts: &[Part]) -> Result<Node, Refusal>
+    ensures { of_node result ≡ semantics.crate_root parts.now }
+{
+    let (spelled, _) = identifier(parts)?;
+    Ok(Node::Path(Path::Crate {
+        name: spelled.0,
+        disambiguator: spelled.1,
+    }))
+}
+
+/// `<path> = "M" <impl-path> <type>`: an inherent implementation.
+pub fn inherent_impl(parts: &[Part]) -> Result<Node, Refusal>
+    ensures { of_node result ≡ semantics.inherent_impl parts.now }
+{
+    let (count, parts) = disambiguator(parts)?;
+    let (parent, parts) = path(parts)?;
+    let (inner, _) = type_node(parts)?;
+    Ok(Node::Path(Path::InherentImpl {
+        disambiguator: count,
+        path: parent,
+        self_type: inner,
+    }))
+}
+
+/// `<path> = "X" <impl-path> <type> <path>`: the implementation of a trait.
+pub fn trait_impl(parts: &[Part]) -> Result<Node, Refusal>
+    ensures { of_node result ≡ semantics.trait_impl parts.now }
+{
+    let (count, parts) = disambiguator(parts)?;
+    let (parent, parts) = path(parts)?;
+    let (inner, parts) = type_node(parts)?;
+    let (implemented, _) = path(parts)?;
+    Ok(Node::Path(Path::TraitImpl {
+        disambiguator: count,
+        path: parent,
+        self_type: inner,
+        implemented: implemented,
+    }))
+}
+
+/// `<path> = "Y" <type> <path>`: a trait as a type has it.
+pub fn trait_definition(parts: &[Part]) -> Result<Node, Refusal>
+    ensures { of_node result ≡ semantics.trait_definition parts.now }
+{
+    let (inner, parts) = type_node(parts)?;
+    let (implemented, _) = path(parts)?;
+    Ok(Node::Path(Path::TraitDefinition {
+        self_type: inner,
+        implemented: implemented,
+    }))
+}
+
+/// `<path> = "N" <namespace> <path> <identifier>`: a name in a path.
+pub fn nested(parts: &[Part]) -> Result<Node, Refusal>
+    ensures { of_node result ≡ semantics.nested parts.now }
+{
+    let (namespace, parts) = letter(parts)?;
+    let (parent, parts) = path(parts)?;
+    let (spelled, _) = identifier(parts)?;
+    Ok(Node::Path(Path::Nested {
+        namespace: namespace,
+        parent: parent,
+        name: spelled.0,
+        disambiguator: spelled.1,
+    }))
+}
+
+/// `<path> = "I" <path> {<generic-arg>} "E"`: a path with its generic arguments.
+pub fn generic(parts: &[Part]) -> Result<Node, Refusal>
+    ensures { of_node result ≡ semantics.generic parts.now }
+{
+    let (parent, parts) = path(parts)?;
+    let (given, _) = arguments(parts)?;
+    Ok(Node::Path(Path::Generic {
+        parent: parent,
+        arguments: given,
+    }))
+}
+
+/// `<generic-arg> = <lifetime>`, and the arguments behind it.
+pub fn lifetime_argument(parts: &[Part]) -> Result<Node, Refusal>
+    ensures { of_node result ≡ semantics.lifetime_argument parts.now }
+{
+    let (reach, parts) = lifetime(parts)?;
+    let (given, _) = arguments(parts)?;
+    Ok(Node::Arguments(Arguments::Lifetime {
+        lifetime: reach,
+        rest: given,
+    }))
+}
+
+/// `<generic-arg> = "K" <const>`, and the arguments behind it.
+pub fn constant_argument(parts: &[Part]) -> Result<Node, Refusal>
+    ensures { of_node result ≡ semantics.constant_argument parts.now }
+{
+    let (size, parts) = constant(parts)?;
+    let (given, _) = arguments(parts)?;
+    Ok(Node::Arguments(Arguments::Constant {
+        constant: size,
+        rest: given,
+    }))
+}
+
+/// `<generic-arg> = <type>`, and the arguments behind it.
+pub fn type_argument(parts: &[Part]) -> Result<Node, Refusal>
+    ensures { of_node result ≡ semantics.type_argument parts.now }
+{
+    let (inner, parts) = type_node(parts)?;
+    let (given, _) = arguments(parts)?;
+    Ok(Node::Arguments(Arguments::Ty {
+        argument: inner,
+        rest: given,
+    }))
+}
+
+/// `<type> = "A" <type> <const>`: an array.
+pub fn array(parts: &[Part]) -> Result<Node, Refusal>
+    ensures { of_node result ≡ semantics.array parts.now }
+{
+    let (inner, parts) = type_node(parts)?;
+    let (size, _) = constant(parts)?;
+    Ok(Node::Ty(Ty::Array {
+        element: inner,
+        size: size,
+    }))
+}
+
+/// `<type> = "S" <type>`: a slice.
+pub fn slice(parts: &[Part]) -> Result<Node, Refusal>
+    ensures { of_node result ≡ semantics.slice parts.now }
+{
+    let (inner, _) = type_node(parts)?;
+    Ok(Node::Ty(Ty::Slice(inner)))
+}
+
+/// `<type> = "T" {<type>} "E"`: a tuple.
+pub fn tuple(parts: &[Part]) -> Result<Node, Refusal>
+    ensures { of_node result ≡ semantics.tuple parts.now }
+{
+    let (list, _) = types(parts)?;
+    Ok(Node::Ty(Ty::Tuple(list)))
+}
+
+/// `<type> = "R" [<lifetime>] <type>`: a shared reference.
+pub fn shared_reference(parts: &[Part]) -> Result<Node, Refusal>
+    ensures { of_node result ≡ semantics.shared_reference parts.now }
+{
+    let (reach, parts) = some_lifetime(parts)?;
+    let (inner, _) = type_node(parts)?;
+    Ok(Node::Ty(Ty::SharedReference {
+        lifetime: reach,
+        referent: inner,
+    }))
+}
+
+/// `<type> = "Q" [<lifetime>] <type>`: a mutable reference.
+pub fn mutable_reference(parts: &[Part]) -> Result<Node, Refusal>
+    ensures { of_node result ≡ semantics.mutable_reference parts.now }
+{
+    let (reach, parts) = some_lifetime(parts)?;
+    let (inner, _) = type_node(parts)?;
+    Ok(Node::Ty(Ty::MutableReference {
+        lifetime: reach,
+        referent: inner,
+    }))
+}
+
+/// `<type> = "P" <type>`: a `*const` pointer.
+pub fn const_pointer(parts: &[Part]) -> Result<Node, Refusal>
+    ensures { of_node result ≡ semantics.const_pointer parts.now }
+{
+    let (inner, _) = type_node(parts)?;
+    Ok(Node::Ty(Ty::ConstPointer(inner)))
+}
+
+/// `<type> = "O" <type>`: a `*mut` pointer.
+pub fn mut_pointer(parts: &[Part]) -> Result<Node, Refusal>
+    ensures { of_node result ≡ semantics.mut_pointer parts.now }
+{
+    let (inner, _) = type_node(parts)?;
+    Ok(Node::Ty(Ty::MutPointer(inner)))
+}
+
+/// `<type> = "F" [<binder>] ["U"] ["K" <abi>] {<type>} "E" <type>`: a function pointer.
+pub fn function(parts: &[Part]) -> Result<Node, Refusal>
+    ensures { of_node result ≡ semantics.function parts.now }
+{
+    let (bound, parts) = binder(parts)?;
+    let (is_unsafe, parts) = unsafe_mark(parts)?;
+    let (calling, parts) = abi(parts)?;
+    let (list, parts) = types(parts)?;
+    let (inner, _) = type_node(parts)?;
+    Ok(Node::Ty(Ty::Function {
+        binder: bound,
+        is_unsafe: is_unsafe,
+        abi: calling,
+        parameters: list,
+        returned: inner,
+    }))
+}
+
+/// `<type> = "D" <dyn-bounds> <lifetime>`, where `<dyn-bounds> = [<binder>] {<dyn-trait>} "E"`: a `dyn` type.
+pub fn dyn_type(parts: &[Part]) -> Result<Node, Refusal>
+    ensures { of_node result ≡ semantics.dyn_type parts.now }
+{
+    let (bound, parts) = binder(parts)?;
+    let (list, parts) = bounds(parts)?;
+    let (reach, _) = lifetime(parts)?;
+    Ok(Node::Ty(Ty::Dyn {
+        binder: bound,
+        bounds: list,
+        lifetime: reach,
+    }))
+}
+
+/// `{<type>}`: a type, and those behind it.
+pub fn more_types(parts: &[Part]) -> Result<Node, Refusal>
+    ensures { of_node result ≡ semantics.more_types parts.now }
+{
+    let (inner, parts) = type_node(parts)?;
+    let (list, _) = types(parts)?;
+    Ok(Node::Types(Types::More {
+        first: inner,
+        rest: list,
+    }))
+}
+
+/// `<dyn-trait> = <path> {<dyn-trait-assoc-binding>}`, and the bounds behind it.
+pub fn more_bounds(parts: &[Part]) -> Result<Node, Refusal>
+    ensures { of_node result ≡ semantics.more_bounds parts.now }
+{
+    let (parent, parts) = path(parts)?;
+    let (bound, parts) = bindings(parts)?;
+    let (list, _) = bounds(parts)?;
+    Ok(Node::Bounds(Bounds::More {
+        path: parent,
+        bindings: bound,
+        rest: list,
+    }))
+}
+
+/// `<dyn-trait-assoc-binding> = "p" <undisambiguated-identifier> <type>`, and the bindings behind it.
+pub fn binding(parts: &[Part]) -> Result<Node, Refusal>
+    ensures { of_node result ≡ semantics.binding parts.now }
+{
+    let (spelled, parts) = name(parts)?;
+    let (inner, parts) = type_node(parts)?;
+    let (bound, _) = bindings(parts)?;
+    Ok(Node::Bindings(Bindings::More {
+        name: spelled,
+        bound_type: inner,
+        rest: bound,
+    }))
+}
+
+/// `<const> = "b" <const-data>`: false or true.
+pub fn bool_constant(parts: &[Part]) -> Result<Node, Refusal>
+    ensures { of_node result ≡ semantics.bool_constant parts.now }
+{
+    let (truth_value, _) = truth(parts)?;
+    Ok(Node::Constant(Constant::Boolean(truth_value)))
+}
+
+/// `<symbol-name> = "_R" <path> [<instantiating-crate>] [<vendor-specific-suffix>]`.
+pub fn symbol(parts: &[Part]) -> Result<Node, Refusal>
+    ensures { of_node result ≡ semantics.symbol parts.now }
+{
+    let (shown, parts) = path(parts)?;
+    let (other, parts) = other_path(parts)?;
+    let (behind, _) = suffix(parts)?;
+    let none = Span { from: 0, to: 0 };
+    Ok(Node::Symbol(Whole {
+        path: shown,
+        instantiating: other,
+        suffix: behind.unwrap_or(none),
+    }))
+}
+
+/// One more than a number, where 64 bits hold that.
+fn counted(place: u32, number: Option<u64>) -> Result<u64, Refusal>
+    ensures { result ≡ semantics.counted place number }
+{
+    match number {
+        Some(n) => {
+            if n < u64::MAX {
+                Ok(n + 1)
+            } else {
+                Err(Refusal::BadValue { at: place })
+            }
+        }
+        None => Err(Refusal::BadValue { at: place }),
+    }
+}
+
+/// `<disambiguator> = "s" <base-62-number>`, where it stands before a path: one more than the number.
+pub fn disambiguated_by(place: u32, parts: &[Part]) -> Result<Part, Refusal>
+    ensures { of_part result ≡ semantics.disambiguator place parts.now }
+{
+    let (found, _) = number(parts)?;
+    let count = counted(place, found)?;
+    Ok(Part::Disambiguator(count))
+}
+
+/// `<identifier> = [<disambiguator>] <undisambiguated-identifier>`, with a disambiguator.
+pub fn disambiguated_identifier(place: u32, parts: &[Part]) -> Result<Part, Refusal>
+    ensures { of_part result ≡ semantics.disambiguated place parts.now }
+{
+    let (found, parts) = number(parts)?;
+    let (spelled, _) = name(parts)?;
+    let count = counted(place, found)?;
+    Ok(Part::Identifier {
+        name: spelled,
+        disambiguator: count,
+    })
+}
+
+/// `<undisambiguated-identifier> = ["u"] <decimal-number> ["_"] <bytes>`: its token is the name.
+pub fn same_name(parts: &[Part]) -> Result<Part, Refusal>
+    ensures { of_part result ≡ semantics.same_name parts.now }
+{
+    let (spelled, _) = name(parts)?;
+    Ok(Part::Name(spelled))
+}
+
+/// The most lifetimes of a binder: `most_bound` of the logic, as the contract below says.
+const MOST_BOUND: u64 = 1_000;
+
+/// `<binder> = "G" <base-62-number>`: one lifetime more than the number.
+pub fn lifetimes_bound(place: u32, parts: &[Part]) -> Result<Part, Refusal>
+    ensures { of_part result ≡ semantics.binder place parts.now }
+{
+    let (found, _) = number(parts)?;
+    match found {
+        Some(n) => {
+            if n < MOST_BOUND {
+                Ok(Part::Binder(n as u16 + 1))
+            } else {
+                Err(Refusal::BadValue { at: place })
+            }
+        }
+        None => Err(Refusal::BadValue { at: place }),
+    }
+}
+
+/// `<lifetime> = "L" <base-62-number>`: erased, or one of those that are bound.
+pub fn lifetime_reached(place: u32, bound: u64, parts: &[Part]) -> Result<Part, Refusal>
+    ensures { of_part result ≡ semantics.lifetime place bound parts.now }
+{
+    let (found, _) = number(parts)?;
+    match found {
+        Some(n) => {
+            if n <= bound {
+                Ok(Part::Lifetime(n))
+            } else {
+                Err(Refusal::BadReference { at: place })
+            }
+        }
+        None => Err(Refusal::BadReference { at: place }),
+    }
+}
+
+/// `<abi> = "C" | <undisambiguated-identifier>`.
+pub fn calling_convention(parts: &[Part]) -> Result<Part, Refusal>
+    ensures { of_part result ≡ semantics.abi parts.now }
+{
+    let (calling, _) = abi_value(parts)?;
+    Ok(Part::Abi(calling))
+}
+
+/// A constant of a number type, if 128 bits hold its number.
+fn integer_node(place: u32, letter: u8, found: Option<Integer>) -> Result<Node, Refusal>
+    ensures { of_node result ≡ semantics.integer_node place letter found }
+{
+    match found {
+        Some(found) => Ok(Node::Constant(Constant::Integer {
+            letter,
+            minus: found.minus,
+            digits: found.digits,
+            printed: found.printed,
+        })),
+        None => Err(Refusal::BadValue { at: place }),
+    }
+}
+
+/// `<const> = <type> <const-data>` of a signed type, where `<const-data> = ["n"] {<hex-digit>} "_"`.
+pub fn signed_constant(place: u32, letter: u8, parts: &[Part]) -> Result<Node, Refusal>
+    ensures { of_node result ≡ semantics.signed_constant place letter parts.now }
+{
+    let (_, parts) = minus(parts)?;
+    let (found, _) = integer(parts)?;
+    integer_node(place, letter, found)
+}
+
+/// `<const> = <type> <const-data>` of an unsigned type.
+pub fn unsigned_constant(place: u32, letter: u8, parts: &[Part]) -> Result<Node, Refusal>
+    ensures { of_node result ≡ semantics.unsigned_constant place letter parts.now }
+{
+    let (found, _) = integer(parts)?;
+    integer_node(place, letter, found)
+}
+
+/// Whether the number is that of a character.
+fn is_scalar(n: u64) -> bool
+    ensures { result ≡ scalar n }
+{
+    n < 0xD800 || (0xE000 <= n && n < 0x11_0000)
+}
+
+/// `<const> = "c" <const-data>`: the code of a character.
+pub fn char_constant(place: u32, parts: &[Part]) -> Result<Node, Refusal>
+    ensures { of_node result ≡ semantics.char_constant place parts.now }
+{
+    let (found, _) = number(parts)?;
+    match found {
+        Some(n) => {
+            if is_scalar(n) {
+                Ok(Node::Constant(Constant::Character(n as u32)))
+            } else {
+                Err(Refusal::BadValue { at: place })
+            }
+        }
+        None => Err(Refusal::BadValue { at: place }),
+    }
+}
+
+/// Whether the production makes a part of its parts, and no node.
+pub fn makes_part(production: Production) -> bool
+    ensures { result ≡ semantics.makes_part production }
+{
+    matches!(
+        production,
+        Production::Suffix
+            | Production::SuffixByte
+            | Production::Namespace
+            | Production::Disambiguator
+            | Production::DisambiguatedIdentifier
+            | Production::PunycodeName
+            | Production::PlainName
+            | Production::Lifetime
+            | Production::Binder
+            | Production::Unsafe
+            | Production::Abi
+            | Production::AbiC
+            | Production::BoundsEnd
+            | Production::Minus
+            | Production::False
+            | Production::True
+    )
+}
+
+/// What a rule makes of its parts where it makes no node.
+#[inline(always)]
+pub fn part_by(production: Production, at: Site, parts: &[Part]) -> Result<Part, Refusal>
+    ensures { (s : List ℕ) → semantics.makes_part production ≡ true → at.byte ≡ slice_index s at.place → at.end ≡ length s
+        → of_part result ≡ semantics.made production s at.place at.bound parts.now }
+{
+    match production {
+        Production::Suffix => Ok(Part::Suffix(Span {
+            from: at.place,
+            to: at.end,
+        })),
+        Production::SuffixByte => Ok(Part::SuffixRest),
+        Production::Namespace => Ok(Part::Letter(at.byte)),
+        Production::Disambiguator => disambiguated_by(at.place, parts),
+        Production::DisambiguatedIdentifier => disambiguated_identifier(at.place, parts),
+        Production::PunycodeName => same_name(parts),
+        Production::PlainName => same_name(parts),
+        Production::Lifetime => lifetime_reached(at.place, at.bound, parts),
+        Production::Binder => lifetimes_bound(at.place, parts),
+        Production::Unsafe => Ok(Part::Unsafe),
+        Production::Abi => calling_convention(parts),
+        Production::AbiC => Ok(Part::Abi(Abi::C)),
+        Production::BoundsEnd => Ok(Part::Bounds(EMPTY_BOUNDS)),
+        Production::Minus => Ok(Part::Minus),
+        Production::False => Ok(Part::Truth(false)),
+        Production::True => Ok(Part::Truth(true)),
+        _ => Err(STRAY),
+    }
+}
