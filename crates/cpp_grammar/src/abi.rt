@@ -4,27 +4,12 @@ ghost use Rattle.cpp_grammar.specs.Table.{abi};
 ghost use Rattle.cpp_grammar.specs.TableLaws.{lawful};
 
 use crate::kind::{kind_of, may_be_empty};
-use crate::production::rule_of;
-use crate::table::chosen;
+use crate::table;
 use sym_core::NameClass;
 use sym_shape::{Grammar, Rule};
 
 /// The grammar of C++ symbols (Itanium C++ ABI 5.1), with vector types, noexcept function types and complex types.
 pub struct Abi;
-
-/// The rule that a kind takes at a byte.
-fn rule_at(kind: u16, byte: u8) -> Option<Rule>
-    requires { kind < abi.kinds }
-    ensures { result ≡ abi.rule kind byte }
-{
-    match kind_of(kind) {
-        Some(kind) => match chosen(kind, byte) {
-            Some(production) => Some(rule_of(production)),
-            None => None,
-        },
-        None => None,
-    }
-}
 
 /// Whether a kind may be empty.
 fn is_optional(kind: u16) -> bool
@@ -41,7 +26,7 @@ impl Grammar for Abi {
     ghost table = { abi };
 
     fn rule(&self, kind: u16, byte: u8) -> Option<Rule> {
-        rule_at(kind, byte)
+        table::rule(kind, byte)
     }
 
     fn may_be_empty(&self, kind: u16) -> bool {
