@@ -1,5 +1,5 @@
 -- Components that are apart, each the tree of a node, are at most as many as the nodes.
-use Rattle.std.proofs.Common.{◌≡◌, ℕ, zero, suc, ◌+◌, ◌≤◌, length, List, [], ◌∷◌, slice_get, Option, Some, None, true, false, refl, ap, arith, sym, subst, ◌∙◌}
+use Rattle.std.proofs.Common.{◌≡◌, ℕ, zero, suc, ◌+◌, ◌≤◌, length, List, [], ◌∷◌, slice_get, Some, None, true, false, ap, arith, sym, subst, ◌∙◌}
 use Rattle.rust_tree.specs.Tree.{Tree, of_symbol}
 use Rattle.rust_tree.specs.Symbol as tree
 use Rattle.rust_tree.specs.Layout.{ReadSymbol, trees_of}
