@@ -9,7 +9,8 @@ use Rattle.rust_v0.specs.Mangled.{whole_of}
 use Rattle.sym_press.specs.Same.{same_tree}
 use Rattle.sym_press.specs.Pressing.{Component}
 use Rattle.sym_press.specs.Apart.{IsNew, AreApart, spelled_components}
-use Rattle.sym_press.specs.Tasks.{AreOfNodes, HasFewComponents, press_root, press_some, press_tree}
+use Rattle.sym_press.specs.Tasks.{AreOfNodes, press_root, press_some, press_tree}
+use Rattle.sym_press.specs.OfRead.{HasFewComponents}
 use Rattle.sym_press.proofs.PressApart.{components-apart}
 
 -- ## The other nodes
