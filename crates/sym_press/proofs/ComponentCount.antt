@@ -1,5 +1,5 @@
 -- Components that are apart, each the tree of a node, are at most as many as the nodes.
-use Rattle.std.proofs.Common.{◌≡◌, ℕ, zero, suc, ◌+◌, ◌≤◌, length, List, [], ◌∷◌, slice_get, Option, Some, None, true, false, refl, ap, arith, sym, subst, ◌∙◌}
+use Rattle.std.proofs.Common.{◌≡◌, ℕ, zero, suc, ◌+◌, ◌≤◌, length, List, [], ◌∷◌, slice_get, Some, None, true, false, ap, arith, sym, subst, ◌∙◌}
 use Rattle.rust_tree.specs.Tree.{Tree, of_symbol}
 use Rattle.rust_tree.specs.Symbol as tree
 use Rattle.rust_tree.specs.Layout.{ReadSymbol, trees_of}
@@ -9,7 +9,8 @@ use Rattle.rust_v0.specs.Mangled.{whole_of}
 use Rattle.sym_press.specs.Same.{same_tree}
 use Rattle.sym_press.specs.Pressing.{Component}
 use Rattle.sym_press.specs.Apart.{IsNew, AreApart, spelled_components}
-use Rattle.sym_press.specs.Tasks.{AreOfNodes, HasFewComponents, press_root, press_some, press_tree}
+use Rattle.sym_press.specs.Tasks.{AreOfNodes, press_root, press_some, press_tree}
+use Rattle.sym_press.specs.OfRead.{HasFewComponents}
 use Rattle.sym_press.proofs.PressApart.{components-apart}
 
 -- ## The other nodes
