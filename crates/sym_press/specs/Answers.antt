@@ -5,7 +5,8 @@ use Rattle.sym_core.specs.declared.refusal.Refusal.TheVariants.{Malformed}
 use Rattle.sym_shape.specs.Decided.{AreBytes}
 use Rattle.sym_shape.proofs.Deciding.{outcome}
 use Rattle.rust_tree.specs.Symbol as tree
-use Rattle.rust_v0.specs.Mangled.{v0_lawful, IsReading}
+use Rattle.rust_v0.specs.Mangled.{IsReading}
+use Rattle.rust_v0.specs.TableLaws.{v0_lawful}
 use Rattle.rust_v0.specs.Rules.{v0_table}
 use Rattle.rust_v0.specs.Unfold.{unfolded}
 use Rattle.sym_press.specs.Pressing.{pressed}
