@@ -3,7 +3,7 @@ use Rattle.std.proofs.Common.{Err, ap, sym, ◌∙◌}
 use Rattle.sym_core.specs.declared.refusal.Refusal.TheVariants.{Malformed}
 use Rattle.sym_shape.proofs.Deciding.{outcome_shaped, outcome_malformed}
 use Rattle.sym_demangle.specs.Mangled.{misshapen, well_shaped}
-use Rattle.rust_v0.specs.Mangled.{v0_lawful}
+use Rattle.rust_v0.specs.TableLaws.{v0_lawful}
 use Rattle.rust_v0.specs.Rules.{v0_table}
 use Rattle.rust_v0.specs.Unfold.{unfolded}
 use Rattle.sym_press.specs.Answers.{pressed_if_read, pressed_answer, ReadingIsPressed}
