@@ -1,7 +1,7 @@
 // What a rule means, from its parts: a part, or a node that is to be added. Above each function stand the productions of
 // RFC 2603, "Syntax of mangled names", whose rules it closes.
 
-ghost use Rattle.std.specs.Prelude.{◌≡◌, ◌≤◌, ℕ, List, length, slice_index, true};
+ghost use Rattle.std.specs.Prelude.{◌≡◌, ℕ, List, length, slice_index, true};
 ghost use Rattle.rust_v0.specs.CodeSemantics as semantics;
 ghost use Rattle.rust_v0.specs.CodeSemantics.{of_part, of_node};
 ghost use Rattle.rust_v0.specs.Unfold.{is_scalar as scalar};
