@@ -5,7 +5,7 @@ of its must-fail edits over the work that those before it kept, at one job, as `
     tools/gate_times.py CRATE [EDIT..]
 
 With names of edits it leaves out the proof and the tests, and says of each edit what the prover refuses. It works on a
-copy of the repository, with the kept work that the crates have: check the crates below the one that is timed before.
+copy of the crate and those below it, with the kept work that they have: check these before.
 A crate of 60 functions takes some five minutes, and `rt` (the toolchain's command) has to be on the path.
 """
 import os
@@ -61,13 +61,15 @@ def read_edit(path):
     return file, pairs
 
 
+def lines_of_crates():
+    """The line of each crate in `crates.txt`."""
+    lines = (ROOT / "crates.txt").read_text().splitlines()
+    return {line.split(":")[0].split()[0]: line for line in lines if line.partition("#")[0].strip()}
+
+
 def below(name):
     """The repository's crates that a crate stands on, lowest first."""
-    uses = {}
-    for line in (ROOT / "crates.txt").read_text().splitlines():
-        head, _, tail = line.partition("#")[0].partition(":")
-        if head.strip():
-            uses[head.split()[0]] = tail.split()
+    uses = {crate: line.partition(":")[2].split() for crate, line in lines_of_crates().items()}
     found = []
 
     def visit(crate):
@@ -110,7 +112,11 @@ def main():
     name, chosen = sys.argv[1], sys.argv[2:]
     with tempfile.TemporaryDirectory(prefix="gate-times-") as work:
         copy = pathlib.Path(work) / "copy"
-        shutil.copytree(ROOT, copy, ignore=shutil.ignore_patterns(".git"))
+        needed = [*below(name), name]
+        for other in needed:
+            shutil.copytree(ROOT / "crates" / other, copy / "crates" / other)
+        lines = lines_of_crates()
+        (copy / "crates.txt").write_text("".join(lines[other] + "\n" for other in needed))
         crate = copy / "crates" / name
         for other in below(name):
             timed(copy / "crates" / other, "rt", "lib")

@@ -297,7 +297,7 @@ disambiguator_gives s table at ps vs lists are =
     (λ found n ns hn na. lift_count s table at found.0 n hn _ _ (λ count. (a_disambiguator count, refl, refl)))
 
 pub disambiguated_gives : (s : List ℕ) (table : Table) (at : At) (ps : List Part) (vs : List Value) → HasLists (ground s table) → AreAll (IsPart (ground s table)) ps vs
-    → MadeGives s table at (semantics.disambiguated at.place ps) (meaning rules.DisambiguatedIdentifier at vs)
+    → MadeGives s table at (semantics.disambiguated_identifier at.place ps) (meaning rules.DisambiguatedIdentifier at vs)
 disambiguated_gives s table at ps vs lists are =
     lift (ground s table) s table at _ _ _ (number_agrees (ground s table) ps vs are) _ _
     (λ found n ns hn na.

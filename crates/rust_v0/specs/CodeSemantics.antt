@@ -195,8 +195,8 @@ disambiguator place parts = do
   count ← counted place found.0
   Ok (Made.Part (Part.Disambiguator count))
 
-abbrev pub disambiguated : (place : ℕ) → List Part → Outcome
-disambiguated place parts = do
+abbrev pub disambiguated_identifier : (place : ℕ) → List Part → Outcome
+disambiguated_identifier place parts = do
   found ← operands.number parts
   spelled ← operands.name found.1
   count ← counted place found.0
@@ -269,7 +269,7 @@ made rules.Suffix s place bound parts = Ok (Made.Part (Part.Suffix (record { fro
 made rules.SuffixByte s place bound parts = Ok (Made.Part Part.SuffixRest)
 made rules.Namespace s place bound parts = Ok (Made.Part (Part.Letter (slice_index s place)))
 made rules.Disambiguator s place bound parts = disambiguator place parts
-made rules.DisambiguatedIdentifier s place bound parts = disambiguated place parts
+made rules.DisambiguatedIdentifier s place bound parts = disambiguated_identifier place parts
 made rules.PunycodeName s place bound parts = same_name parts
 made rules.PlainName s place bound parts = same_name parts
 made rules.LifetimeArgument s place bound parts = lifetime_argument parts

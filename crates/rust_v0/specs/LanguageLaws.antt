@@ -11,7 +11,7 @@ use Rattle.rust_v0.specs.declared.part.Integer.{Integer}
 use Rattle.rust_v0.specs.declared.nodes.RustNodes.{RustNodes}
 use Rattle.rust_v0.specs.Value as value
 use Rattle.rust_v0.specs.Value.{Value}
-use Rattle.rust_v0.specs.TableLaws.{v0_lawful}
+use Rattle.rust_v0.specs.TableLaws as laws
 use Rattle.rust_v0.specs.PartValues.{IsPart, IsSomeInteger}
 use Rattle.rust_v0.specs.Made.{ground}
 use Rattle.rust_v0.specs.RustNodes.{v0_view, GoesOn}
@@ -60,7 +60,7 @@ module _ (s : List ℕ) (old new : RustNodes) (grows : GoesOn old new) where
 
 pub v0_laws : (s : List ℕ) → IsLinking (v0_view s)
 v0_laws s = record {
-  lawful = v0_lawful;
+  lawful = laws.lawful;
   starts = refl;
   part_stays = λ old new part v grows is. stays s old new grows part v is;
   kept_stays = λ old new kept rule grows is. record { is = is.is; few = is.few; there = omega (arith, grows.places, is.there) };

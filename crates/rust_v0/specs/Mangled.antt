@@ -4,6 +4,7 @@ use Rattle.std.specs.Prelude.{slice_get}
 use Rattle.sym_core.specs.declared.refusal.Refusal.{Refusal}
 use Rattle.sym_core.specs.declared.refusal.Refusal.TheVariants as refusals
 use Rattle.sym_print.specs.declared.detail.Detail.{Detail}
+use Rattle.sym_shape.specs.Law.{IsLawful}
 use Rattle.sym_shape.specs.Tree.{Tree, spell}
 use Rattle.sym_link.specs.Driving.{Fails}
 use Rattle.sym_link.specs.Following.{meaning_of}
@@ -15,9 +16,12 @@ use Rattle.rust_tree.specs.Layout.{ReadSymbol, trees_of}
 use Rattle.rust_tree.specs.Nodes.{symbol_in}
 use Rattle.rust_tree.specs.Shown.{symbol_parts}
 use Rattle.rust_v0.specs.Rules.{v0_table}
-use Rattle.rust_v0.specs.TableLaws.{v0_lawful}
+use Rattle.rust_v0.specs.TableLaws.{lawful}
 use Rattle.rust_v0.specs.Unfold.{unfolded, symbol_of}
 use Rattle.rust_v0.specs.RustNodes.{v0_view}
+
+pub v0_lawful : IsLawful v0_table
+v0_lawful = lawful
 
 abbrev pub v0_mangled : Mangled tree.Symbol
 v0_mangled = record { table = v0_table; unfolded = unfolded; shown = symbol_parts; lawful = v0_lawful }

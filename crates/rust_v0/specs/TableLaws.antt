@@ -5,5 +5,5 @@ use Rattle.sym_shape.specs.Law.{IsLawful}
 use Rattle.sym_shape.specs.SheetLaws.{lawful_sheet}
 use Rattle.rust_v0.specs.Rules.{v0_table, kinds, no_kind}
 
-pub v0_lawful : IsLawful v0_table
-v0_lawful = lawful_sheet no_kind kinds Rust refl
+pub lawful : IsLawful v0_table
+lawful = lawful_sheet no_kind kinds Rust refl

@@ -11,7 +11,7 @@ pub struct V0;
 
 impl Grammar for V0 {
     ghost use Rattle.rust_v0.specs.Rules.{v0_table};
-    ghost use Rattle.rust_v0.specs.TableLaws.{v0_lawful};
+    ghost use Rattle.rust_v0.specs.TableLaws as laws;
 
     ghost table = { v0_table };
 
@@ -27,5 +27,5 @@ impl Grammar for V0 {
         NameClass::Rust
     }
 
-    ghost lawful = { v0_lawful };
+    ghost lawful = { laws.lawful };
 }

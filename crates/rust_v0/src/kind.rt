@@ -1,15 +1,15 @@
 // The kinds of the grammar (its nonterminals), by number (RFC 2603, "Syntax of mangled names"). Kind 0 is that of whole symbols.
 
-/// A whole symbol.
+/// `<symbol-name>`: a whole symbol.
 pub const SYMBOL: u16 = 0;
 
-/// A path.
+/// `<path>`.
 pub const PATH: u16 = 1;
 
-/// The instantiating crate's path, or none.
+/// `[<instantiating-crate>]`: a path, or none.
 pub const OTHER_PATH: u16 = 2;
 
-/// A suffix, or none.
+/// `[<vendor-specific-suffix>]`: a suffix with its dot, or none.
 pub const SUFFIX: u16 = 3;
 
 /// The first byte of a suffix behind its dot.
@@ -18,56 +18,56 @@ pub const SUFFIX_BYTE: u16 = 4;
 /// The other bytes of a suffix.
 pub const SUFFIX_REST: u16 = 5;
 
-/// The letter of a namespace.
+/// `<namespace>`: its letter.
 pub const NAMESPACE: u16 = 6;
 
-/// A disambiguator, or none.
+/// `[<disambiguator>]`.
 pub const DISAMBIGUATOR: u16 = 7;
 
-/// A name with a disambiguator or none.
+/// `<identifier>`: a name with a disambiguator or none.
 pub const IDENTIFIER: u16 = 8;
 
-/// A name.
+/// `<undisambiguated-identifier>`: a name.
 pub const NAME: u16 = 9;
 
-/// The arguments of a generic path.
+/// `{<generic-arg>}`: the arguments of a generic path.
 pub const ARGUMENTS: u16 = 10;
 
-/// A type.
+/// `<type>`.
 pub const TYPE: u16 = 11;
 
-/// Types up to their `E`.
+/// `{<type>} "E"`: types up to their `E`.
 pub const TYPES: u16 = 12;
 
-/// A lifetime, or none.
+/// `[<lifetime>]`.
 pub const SOME_LIFETIME: u16 = 13;
 
-/// A lifetime.
+/// `<lifetime>`.
 pub const LIFETIME: u16 = 14;
 
-/// A binder, or none.
+/// `[<binder>]`.
 pub const BINDER: u16 = 15;
 
-/// A mark that a function is unsafe, or none.
+/// `["U"]`: the mark of an unsafe function, or none.
 pub const UNSAFE: u16 = 16;
 
-/// The ABI of a function, or none.
+/// `["K" <abi>]`.
 pub const ABI: u16 = 17;
 
-/// The name of an ABI.
+/// `<abi>`.
 pub const ABI_NAME: u16 = 18;
 
-/// The bounds of a `dyn` type.
+/// `{<dyn-trait>} "E"`: the bounds of a `dyn` type.
 pub const BOUNDS: u16 = 19;
 
-/// The bindings of a bound.
+/// `{<dyn-trait-assoc-binding>}`: the bindings of a bound.
 pub const BINDINGS: u16 = 20;
 
-/// A constant.
+/// `<const>`.
 pub const CONSTANT: u16 = 21;
 
-/// A minus, or none.
+/// `["n"]`: a minus, or none.
 pub const MINUS: u16 = 22;
 
-/// A truth value.
+/// The data of a bool constant, `0` or `1`.
 pub const TRUTH: u16 = 23;

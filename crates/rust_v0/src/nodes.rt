@@ -1,12 +1,12 @@
 // The table of the nodes that a symbol is linked to: how it begins, what is added where a rule closes, and what references
 // stand for.
 
-ghost use Rattle.std.specs.Prelude.{◌≡◌, ℕ, ◌+◌, ◌<◌, ◌≤◌, ◌++◌, ◌^◌, List, [], length, drop, get_or, slice_get, slice_index, Some, Option, slice_set, replicate, true, false, Ok, IfOk, OnOk, OnErr, IfErr};
+ghost use Rattle.std.specs.Prelude.{◌≡◌, ℕ, ◌+◌, ◌<◌, ◌≤◌, ◌++◌, ◌^◌, List, [], length, get_or, slice_get, slice_index, Some, Option, slice_set, replicate, true, false, Ok, IfOk, OnOk, IfErr};
 ghost use Rattle.sym_core.specs.declared.refusal.Refusal.TheVariants as refusals;
 ghost use Rattle.rust_v0.specs.declared.nodes.Target.TheVariants as target;
 ghost use Rattle.rust_v0.specs.Made.{Made};
 ghost use Rattle.rust_v0.specs.PartValues.{IsNumber, IsPart};
-ghost use Rattle.rust_v0.specs.Unfold.{At, Meaning, meaning, value16, refers_to_path, refers_to_type, refers_to_constant, as_path, as_type, as_constant};
+ghost use Rattle.rust_v0.specs.Unfold.{At, Meaning, meaning, refers_to_path, refers_to_type, refers_to_constant, as_path, as_type, as_constant};
 ghost use Rattle.rust_v0.specs.Value.{Value};
 ghost use Rattle.rust_tree.specs.Tree.{Tree, need_of_tree};
 ghost use Rattle.rust_v0.specs.CodeSemantics as semantics;

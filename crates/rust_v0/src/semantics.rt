@@ -1,16 +1,12 @@
 // What a rule means, from its parts: a part, or a node that is to be added. Above each function stand the productions of
 // RFC 2603, "Syntax of mangled names", whose rules it closes.
 
-ghost use Rattle.std.specs.Prelude.{◌≡◌, ◌≤◌, ℕ, List, length, slice_index, true};
+ghost use Rattle.std.specs.Prelude.{◌≡◌, ℕ, List, length, slice_index, true};
 ghost use Rattle.rust_v0.specs.CodeSemantics as semantics;
 ghost use Rattle.rust_v0.specs.CodeSemantics.{of_part, of_node};
 ghost use Rattle.rust_v0.specs.Unfold.{is_scalar as scalar};
 
-use crate::operands::{
-    EMPTY_BOUNDS, abi, abi_value, arguments, binder, bindings, bounds, constant, disambiguator,
-    identifier, integer, letter, lifetime, minus, name, number, other_path, path, some_lifetime,
-    suffix, truth, type_node, types, unsafe_mark,
-};
+use crate::operands::{self, EMPTY_BOUNDS};
 use crate::part::{Integer, Part, STRAY};
 use crate::production::Production;
 use rust_tree::node::{Abi, Arguments, Bindings, Bounds, Constant, Node, Path, Ty, Types, Whole};
@@ -29,7 +25,7 @@ pub struct Site {
 pub fn crate_root(parts: &[Part]) -> Result<Node, Refusal>
     ensures { of_node result ≡ semantics.crate_root parts.now }
 {
-    let (spelled, _) = identifier(parts)?;
+    let (spelled, _) = operands::identifier(parts)?;
     Ok(Node::Path(Path::Crate {
         name: spelled.0,
         disambiguator: spelled.1,
@@ -40,13 +36,13 @@ pub fn crate_root(parts: &[Part]) -> Result<Node, Refusal>
 pub fn inherent_impl(parts: &[Part]) -> Result<Node, Refusal>
     ensures { of_node result ≡ semantics.inherent_impl parts.now }
 {
-    let (count, parts) = disambiguator(parts)?;
-    let (parent, parts) = path(parts)?;
-    let (inner, _) = type_node(parts)?;
+    let (disambiguator, parts) = operands::disambiguator(parts)?;
+    let (path, parts) = operands::path(parts)?;
+    let (self_type, _) = operands::type_node(parts)?;
     Ok(Node::Path(Path::InherentImpl {
-        disambiguator: count,
-        path: parent,
-        self_type: inner,
+        disambiguator,
+        path,
+        self_type,
     }))
 }
 
@@ -54,15 +50,15 @@ pub fn inherent_impl(parts: &[Part]) -> Result<Node, Refusal>
 pub fn trait_impl(parts: &[Part]) -> Result<Node, Refusal>
     ensures { of_node result ≡ semantics.trait_impl parts.now }
 {
-    let (count, parts) = disambiguator(parts)?;
-    let (parent, parts) = path(parts)?;
-    let (inner, parts) = type_node(parts)?;
-    let (implemented, _) = path(parts)?;
+    let (disambiguator, parts) = operands::disambiguator(parts)?;
+    let (path, parts) = operands::path(parts)?;
+    let (self_type, parts) = operands::type_node(parts)?;
+    let (implemented, _) = operands::path(parts)?;
     Ok(Node::Path(Path::TraitImpl {
-        disambiguator: count,
-        path: parent,
-        self_type: inner,
-        implemented: implemented,
+        disambiguator,
+        path,
+        self_type,
+        implemented,
     }))
 }
 
@@ -70,11 +66,11 @@ pub fn trait_impl(parts: &[Part]) -> Result<Node, Refusal>
 pub fn trait_definition(parts: &[Part]) -> Result<Node, Refusal>
     ensures { of_node result ≡ semantics.trait_definition parts.now }
 {
-    let (inner, parts) = type_node(parts)?;
-    let (implemented, _) = path(parts)?;
+    let (self_type, parts) = operands::type_node(parts)?;
+    let (implemented, _) = operands::path(parts)?;
     Ok(Node::Path(Path::TraitDefinition {
-        self_type: inner,
-        implemented: implemented,
+        self_type,
+        implemented,
     }))
 }
 
@@ -82,12 +78,12 @@ pub fn trait_definition(parts: &[Part]) -> Result<Node, Refusal>
 pub fn nested(parts: &[Part]) -> Result<Node, Refusal>
     ensures { of_node result ≡ semantics.nested parts.now }
 {
-    let (namespace, parts) = letter(parts)?;
-    let (parent, parts) = path(parts)?;
-    let (spelled, _) = identifier(parts)?;
+    let (namespace, parts) = operands::letter(parts)?;
+    let (parent, parts) = operands::path(parts)?;
+    let (spelled, _) = operands::identifier(parts)?;
     Ok(Node::Path(Path::Nested {
-        namespace: namespace,
-        parent: parent,
+        namespace,
+        parent,
         name: spelled.0,
         disambiguator: spelled.1,
     }))
@@ -97,133 +93,112 @@ pub fn nested(parts: &[Part]) -> Result<Node, Refusal>
 pub fn generic(parts: &[Part]) -> Result<Node, Refusal>
     ensures { of_node result ≡ semantics.generic parts.now }
 {
-    let (parent, parts) = path(parts)?;
-    let (given, _) = arguments(parts)?;
-    Ok(Node::Path(Path::Generic {
-        parent: parent,
-        arguments: given,
-    }))
+    let (parent, parts) = operands::path(parts)?;
+    let (arguments, _) = operands::arguments(parts)?;
+    Ok(Node::Path(Path::Generic { parent, arguments }))
 }
 
 /// `<generic-arg> = <lifetime>`, and the arguments behind it.
 pub fn lifetime_argument(parts: &[Part]) -> Result<Node, Refusal>
     ensures { of_node result ≡ semantics.lifetime_argument parts.now }
 {
-    let (reach, parts) = lifetime(parts)?;
-    let (given, _) = arguments(parts)?;
-    Ok(Node::Arguments(Arguments::Lifetime {
-        lifetime: reach,
-        rest: given,
-    }))
+    let (lifetime, parts) = operands::lifetime(parts)?;
+    let (rest, _) = operands::arguments(parts)?;
+    Ok(Node::Arguments(Arguments::Lifetime { lifetime, rest }))
 }
 
 /// `<generic-arg> = "K" <const>`, and the arguments behind it.
 pub fn constant_argument(parts: &[Part]) -> Result<Node, Refusal>
     ensures { of_node result ≡ semantics.constant_argument parts.now }
 {
-    let (size, parts) = constant(parts)?;
-    let (given, _) = arguments(parts)?;
-    Ok(Node::Arguments(Arguments::Constant {
-        constant: size,
-        rest: given,
-    }))
+    let (constant, parts) = operands::constant(parts)?;
+    let (rest, _) = operands::arguments(parts)?;
+    Ok(Node::Arguments(Arguments::Constant { constant, rest }))
 }
 
 /// `<generic-arg> = <type>`, and the arguments behind it.
 pub fn type_argument(parts: &[Part]) -> Result<Node, Refusal>
     ensures { of_node result ≡ semantics.type_argument parts.now }
 {
-    let (inner, parts) = type_node(parts)?;
-    let (given, _) = arguments(parts)?;
-    Ok(Node::Arguments(Arguments::Ty {
-        argument: inner,
-        rest: given,
-    }))
+    let (argument, parts) = operands::type_node(parts)?;
+    let (rest, _) = operands::arguments(parts)?;
+    Ok(Node::Arguments(Arguments::Ty { argument, rest }))
 }
 
 /// `<type> = "A" <type> <const>`: an array.
 pub fn array(parts: &[Part]) -> Result<Node, Refusal>
     ensures { of_node result ≡ semantics.array parts.now }
 {
-    let (inner, parts) = type_node(parts)?;
-    let (size, _) = constant(parts)?;
-    Ok(Node::Ty(Ty::Array {
-        element: inner,
-        size: size,
-    }))
+    let (element, parts) = operands::type_node(parts)?;
+    let (size, _) = operands::constant(parts)?;
+    Ok(Node::Ty(Ty::Array { element, size }))
 }
 
 /// `<type> = "S" <type>`: a slice.
 pub fn slice(parts: &[Part]) -> Result<Node, Refusal>
     ensures { of_node result ≡ semantics.slice parts.now }
 {
-    let (inner, _) = type_node(parts)?;
-    Ok(Node::Ty(Ty::Slice(inner)))
+    let (element, _) = operands::type_node(parts)?;
+    Ok(Node::Ty(Ty::Slice(element)))
 }
 
 /// `<type> = "T" {<type>} "E"`: a tuple.
 pub fn tuple(parts: &[Part]) -> Result<Node, Refusal>
     ensures { of_node result ≡ semantics.tuple parts.now }
 {
-    let (list, _) = types(parts)?;
-    Ok(Node::Ty(Ty::Tuple(list)))
+    let (elements, _) = operands::types(parts)?;
+    Ok(Node::Ty(Ty::Tuple(elements)))
 }
 
 /// `<type> = "R" [<lifetime>] <type>`: a shared reference.
 pub fn shared_reference(parts: &[Part]) -> Result<Node, Refusal>
     ensures { of_node result ≡ semantics.shared_reference parts.now }
 {
-    let (reach, parts) = some_lifetime(parts)?;
-    let (inner, _) = type_node(parts)?;
-    Ok(Node::Ty(Ty::SharedReference {
-        lifetime: reach,
-        referent: inner,
-    }))
+    let (lifetime, parts) = operands::some_lifetime(parts)?;
+    let (referent, _) = operands::type_node(parts)?;
+    Ok(Node::Ty(Ty::SharedReference { lifetime, referent }))
 }
 
 /// `<type> = "Q" [<lifetime>] <type>`: a mutable reference.
 pub fn mutable_reference(parts: &[Part]) -> Result<Node, Refusal>
     ensures { of_node result ≡ semantics.mutable_reference parts.now }
 {
-    let (reach, parts) = some_lifetime(parts)?;
-    let (inner, _) = type_node(parts)?;
-    Ok(Node::Ty(Ty::MutableReference {
-        lifetime: reach,
-        referent: inner,
-    }))
+    let (lifetime, parts) = operands::some_lifetime(parts)?;
+    let (referent, _) = operands::type_node(parts)?;
+    Ok(Node::Ty(Ty::MutableReference { lifetime, referent }))
 }
 
 /// `<type> = "P" <type>`: a `*const` pointer.
 pub fn const_pointer(parts: &[Part]) -> Result<Node, Refusal>
     ensures { of_node result ≡ semantics.const_pointer parts.now }
 {
-    let (inner, _) = type_node(parts)?;
-    Ok(Node::Ty(Ty::ConstPointer(inner)))
+    let (pointee, _) = operands::type_node(parts)?;
+    Ok(Node::Ty(Ty::ConstPointer(pointee)))
 }
 
 /// `<type> = "O" <type>`: a `*mut` pointer.
 pub fn mut_pointer(parts: &[Part]) -> Result<Node, Refusal>
     ensures { of_node result ≡ semantics.mut_pointer parts.now }
 {
-    let (inner, _) = type_node(parts)?;
-    Ok(Node::Ty(Ty::MutPointer(inner)))
+    let (pointee, _) = operands::type_node(parts)?;
+    Ok(Node::Ty(Ty::MutPointer(pointee)))
 }
 
 /// `<type> = "F" [<binder>] ["U"] ["K" <abi>] {<type>} "E" <type>`: a function pointer.
 pub fn function(parts: &[Part]) -> Result<Node, Refusal>
     ensures { of_node result ≡ semantics.function parts.now }
 {
-    let (bound, parts) = binder(parts)?;
-    let (is_unsafe, parts) = unsafe_mark(parts)?;
-    let (calling, parts) = abi(parts)?;
-    let (list, parts) = types(parts)?;
-    let (inner, _) = type_node(parts)?;
+    let (binder, parts) = operands::binder(parts)?;
+    let (is_unsafe, parts) = operands::unsafe_mark(parts)?;
+    let (abi, parts) = operands::abi(parts)?;
+    let (parameters, parts) = operands::types(parts)?;
+    let (returned, _) = operands::type_node(parts)?;
     Ok(Node::Ty(Ty::Function {
-        binder: bound,
-        is_unsafe: is_unsafe,
-        abi: calling,
-        parameters: list,
-        returned: inner,
+        binder,
+        is_unsafe,
+        abi,
+        parameters,
+        returned,
     }))
 }
 
@@ -231,13 +206,13 @@ pub fn function(parts: &[Part]) -> Result<Node, Refusal>
 pub fn dyn_type(parts: &[Part]) -> Result<Node, Refusal>
     ensures { of_node result ≡ semantics.dyn_type parts.now }
 {
-    let (bound, parts) = binder(parts)?;
-    let (list, parts) = bounds(parts)?;
-    let (reach, _) = lifetime(parts)?;
+    let (binder, parts) = operands::binder(parts)?;
+    let (bounds, parts) = operands::bounds(parts)?;
+    let (lifetime, _) = operands::lifetime(parts)?;
     Ok(Node::Ty(Ty::Dyn {
-        binder: bound,
-        bounds: list,
-        lifetime: reach,
+        binder,
+        bounds,
+        lifetime,
     }))
 }
 
@@ -245,25 +220,22 @@ pub fn dyn_type(parts: &[Part]) -> Result<Node, Refusal>
 pub fn more_types(parts: &[Part]) -> Result<Node, Refusal>
     ensures { of_node result ≡ semantics.more_types parts.now }
 {
-    let (inner, parts) = type_node(parts)?;
-    let (list, _) = types(parts)?;
-    Ok(Node::Types(Types::More {
-        first: inner,
-        rest: list,
-    }))
+    let (first, parts) = operands::type_node(parts)?;
+    let (rest, _) = operands::types(parts)?;
+    Ok(Node::Types(Types::More { first, rest }))
 }
 
 /// `<dyn-trait> = <path> {<dyn-trait-assoc-binding>}`, and the bounds behind it.
 pub fn more_bounds(parts: &[Part]) -> Result<Node, Refusal>
     ensures { of_node result ≡ semantics.more_bounds parts.now }
 {
-    let (parent, parts) = path(parts)?;
-    let (bound, parts) = bindings(parts)?;
-    let (list, _) = bounds(parts)?;
+    let (path, parts) = operands::path(parts)?;
+    let (bindings, parts) = operands::bindings(parts)?;
+    let (rest, _) = operands::bounds(parts)?;
     Ok(Node::Bounds(Bounds::More {
-        path: parent,
-        bindings: bound,
-        rest: list,
+        path,
+        bindings,
+        rest,
     }))
 }
 
@@ -271,13 +243,13 @@ pub fn more_bounds(parts: &[Part]) -> Result<Node, Refusal>
 pub fn binding(parts: &[Part]) -> Result<Node, Refusal>
     ensures { of_node result ≡ semantics.binding parts.now }
 {
-    let (spelled, parts) = name(parts)?;
-    let (inner, parts) = type_node(parts)?;
-    let (bound, _) = bindings(parts)?;
+    let (name, parts) = operands::name(parts)?;
+    let (bound_type, parts) = operands::type_node(parts)?;
+    let (rest, _) = operands::bindings(parts)?;
     Ok(Node::Bindings(Bindings::More {
-        name: spelled,
-        bound_type: inner,
-        rest: bound,
+        name,
+        bound_type,
+        rest,
     }))
 }
 
@@ -285,7 +257,7 @@ pub fn binding(parts: &[Part]) -> Result<Node, Refusal>
 pub fn bool_constant(parts: &[Part]) -> Result<Node, Refusal>
     ensures { of_node result ≡ semantics.bool_constant parts.now }
 {
-    let (truth_value, _) = truth(parts)?;
+    let (truth_value, _) = operands::truth(parts)?;
     Ok(Node::Constant(Constant::Boolean(truth_value)))
 }
 
@@ -293,13 +265,13 @@ pub fn bool_constant(parts: &[Part]) -> Result<Node, Refusal>
 pub fn symbol(parts: &[Part]) -> Result<Node, Refusal>
     ensures { of_node result ≡ semantics.symbol parts.now }
 {
-    let (shown, parts) = path(parts)?;
-    let (other, parts) = other_path(parts)?;
-    let (behind, _) = suffix(parts)?;
+    let (path, parts) = operands::path(parts)?;
+    let (instantiating, parts) = operands::other_path(parts)?;
+    let (behind, _) = operands::suffix(parts)?;
     let none = Span { from: 0, to: 0 };
     Ok(Node::Symbol(Whole {
-        path: shown,
-        instantiating: other,
+        path,
+        instantiating,
         suffix: behind.unwrap_or(none),
     }))
 }
@@ -321,20 +293,20 @@ fn counted(place: u32, number: Option<u64>) -> Result<u64, Refusal>
 }
 
 /// `<disambiguator> = "s" <base-62-number>`, where it stands before a path: one more than the number.
-pub fn disambiguated_by(place: u32, parts: &[Part]) -> Result<Part, Refusal>
+pub fn disambiguator(place: u32, parts: &[Part]) -> Result<Part, Refusal>
     ensures { of_part result ≡ semantics.disambiguator place parts.now }
 {
-    let (found, _) = number(parts)?;
+    let (found, _) = operands::number(parts)?;
     let count = counted(place, found)?;
     Ok(Part::Disambiguator(count))
 }
 
 /// `<identifier> = [<disambiguator>] <undisambiguated-identifier>`, with a disambiguator.
 pub fn disambiguated_identifier(place: u32, parts: &[Part]) -> Result<Part, Refusal>
-    ensures { of_part result ≡ semantics.disambiguated place parts.now }
+    ensures { of_part result ≡ semantics.disambiguated_identifier place parts.now }
 {
-    let (found, parts) = number(parts)?;
-    let (spelled, _) = name(parts)?;
+    let (found, parts) = operands::number(parts)?;
+    let (spelled, _) = operands::name(parts)?;
     let count = counted(place, found)?;
     Ok(Part::Identifier {
         name: spelled,
@@ -343,10 +315,10 @@ pub fn disambiguated_identifier(place: u32, parts: &[Part]) -> Result<Part, Refu
 }
 
 /// `<undisambiguated-identifier> = ["u"] <decimal-number> ["_"] <bytes>`: its token is the name.
-pub fn same_name(parts: &[Part]) -> Result<Part, Refusal>
+pub fn undisambiguated_identifier(parts: &[Part]) -> Result<Part, Refusal>
     ensures { of_part result ≡ semantics.same_name parts.now }
 {
-    let (spelled, _) = name(parts)?;
+    let (spelled, _) = operands::name(parts)?;
     Ok(Part::Name(spelled))
 }
 
@@ -354,10 +326,10 @@ pub fn same_name(parts: &[Part]) -> Result<Part, Refusal>
 const MOST_BOUND: u64 = 1_000;
 
 /// `<binder> = "G" <base-62-number>`: one lifetime more than the number.
-pub fn lifetimes_bound(place: u32, parts: &[Part]) -> Result<Part, Refusal>
+pub fn binder(place: u32, parts: &[Part]) -> Result<Part, Refusal>
     ensures { of_part result ≡ semantics.binder place parts.now }
 {
-    let (found, _) = number(parts)?;
+    let (found, _) = operands::number(parts)?;
     match found {
         Some(n) => {
             if n < MOST_BOUND {
@@ -371,10 +343,10 @@ pub fn lifetimes_bound(place: u32, parts: &[Part]) -> Result<Part, Refusal>
 }
 
 /// `<lifetime> = "L" <base-62-number>`: erased, or one of those that are bound.
-pub fn lifetime_reached(place: u32, bound: u64, parts: &[Part]) -> Result<Part, Refusal>
+pub fn lifetime(place: u32, bound: u64, parts: &[Part]) -> Result<Part, Refusal>
     ensures { of_part result ≡ semantics.lifetime place bound parts.now }
 {
-    let (found, _) = number(parts)?;
+    let (found, _) = operands::number(parts)?;
     match found {
         Some(n) => {
             if n <= bound {
@@ -388,10 +360,10 @@ pub fn lifetime_reached(place: u32, bound: u64, parts: &[Part]) -> Result<Part, 
 }
 
 /// `<abi> = "C" | <undisambiguated-identifier>`.
-pub fn calling_convention(parts: &[Part]) -> Result<Part, Refusal>
+pub fn abi(parts: &[Part]) -> Result<Part, Refusal>
     ensures { of_part result ≡ semantics.abi parts.now }
 {
-    let (calling, _) = abi_value(parts)?;
+    let (calling, _) = operands::abi_value(parts)?;
     Ok(Part::Abi(calling))
 }
 
@@ -414,8 +386,8 @@ fn integer_node(place: u32, letter: u8, found: Option<Integer>) -> Result<Node, 
 pub fn signed_constant(place: u32, letter: u8, parts: &[Part]) -> Result<Node, Refusal>
     ensures { of_node result ≡ semantics.signed_constant place letter parts.now }
 {
-    let (_, parts) = minus(parts)?;
-    let (found, _) = integer(parts)?;
+    let (_, parts) = operands::minus(parts)?;
+    let (found, _) = operands::integer(parts)?;
     integer_node(place, letter, found)
 }
 
@@ -423,7 +395,7 @@ pub fn signed_constant(place: u32, letter: u8, parts: &[Part]) -> Result<Node, R
 pub fn unsigned_constant(place: u32, letter: u8, parts: &[Part]) -> Result<Node, Refusal>
     ensures { of_node result ≡ semantics.unsigned_constant place letter parts.now }
 {
-    let (found, _) = integer(parts)?;
+    let (found, _) = operands::integer(parts)?;
     integer_node(place, letter, found)
 }
 
@@ -438,7 +410,7 @@ fn is_scalar(n: u64) -> bool
 pub fn char_constant(place: u32, parts: &[Part]) -> Result<Node, Refusal>
     ensures { of_node result ≡ semantics.char_constant place parts.now }
 {
-    let (found, _) = number(parts)?;
+    let (found, _) = operands::number(parts)?;
     match found {
         Some(n) => {
             if is_scalar(n) {
@@ -489,14 +461,14 @@ pub fn part_by(production: Production, at: Site, parts: &[Part]) -> Result<Part,
         })),
         Production::SuffixByte => Ok(Part::SuffixRest),
         Production::Namespace => Ok(Part::Letter(at.byte)),
-        Production::Disambiguator => disambiguated_by(at.place, parts),
+        Production::Disambiguator => disambiguator(at.place, parts),
         Production::DisambiguatedIdentifier => disambiguated_identifier(at.place, parts),
-        Production::PunycodeName => same_name(parts),
-        Production::PlainName => same_name(parts),
-        Production::Lifetime => lifetime_reached(at.place, at.bound, parts),
-        Production::Binder => lifetimes_bound(at.place, parts),
+        Production::PunycodeName => undisambiguated_identifier(parts),
+        Production::PlainName => undisambiguated_identifier(parts),
+        Production::Lifetime => lifetime(at.place, at.bound, parts),
+        Production::Binder => binder(at.place, parts),
         Production::Unsafe => Ok(Part::Unsafe),
-        Production::Abi => calling_convention(parts),
+        Production::Abi => abi(parts),
         Production::AbiC => Ok(Part::Abi(Abi::C)),
         Production::BoundsEnd => Ok(Part::Bounds(EMPTY_BOUNDS)),
         Production::Minus => Ok(Part::Minus),

@@ -29,7 +29,8 @@ const LAST: u8 = b'z';
 /// What stands in `LETTERS` where a kind takes no rule.
 const BLANK: u8 = b' ';
 
-// For each kind a row: for each byte from `$` to `z` the letter of the rule that the kind takes there.
+// For each kind a row: for each byte from `$` to `z` the letter of the rule that the kind takes there. A rule has one letter,
+// so that a row is one string to be read below the bytes, and one byte a place in memory.
 static LETTERS: [[u8; 87]; 24] = [
     // $%&'()*+,-./0123456789:;<=>?@ABCDEFGHIJKLMNOPQRSTUVWXYZ[\]^_`abcdefghijklmnopqrstuvwxyz
     *b"                                                           Z                           ", // SYMBOL

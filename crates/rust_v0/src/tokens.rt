@@ -1,6 +1,6 @@
 // What a token is as a part of its rule.
 
-ghost use Rattle.std.specs.Prelude.{◌≡◌, ℕ, ◌+◌, ◌-◌, ◌*◌, ◌<◌, ◌≤◌, ◌^◌, ◌&&◌, Bool, List, drop, length, true, IfOk, OnOk, OnErr, IfErr, nat_lt};
+ghost use Rattle.std.specs.Prelude.{◌≡◌, ℕ, ◌+◌, ◌-◌, ◌*◌, ◌<◌, ◌≤◌, ◌^◌, ◌&&◌, List, drop, length, true, IfOk, OnOk, IfErr, nat_lt};
 ghost use Rattle.sym_core.specs.Number.{AreDigitsOf, FitsSymbol};
 ghost use Rattle.sym_core.specs.Printed.{signed_text};
 ghost use Rattle.sym_core.specs.Token.{AreNameBytes};
@@ -8,7 +8,6 @@ ghost use Rattle.sym_core.specs.declared.NameClass.TheVariants.{Rust};
 ghost use Rattle.sym_core.specs.declared.NumberKind.TheVariants.{Base62, Hex};
 ghost use Rattle.sym_core.specs.declared.refusal.Refusal.TheVariants as refusals;
 ghost use Rattle.rust_tree.specs.Nodes.{HasNoZero, IsTable, Grows, IsWithin, bytes_at};
-ghost use Rattle.rust_v0.specs.Productions.{production_of};
 ghost use Rattle.rust_v0.specs.Tokens as tokens;
 ghost use Rattle.rust_v0.specs.Tokens.{IsOwn, HasZero, value_as, minus_before};
 ghost use Rattle.rust_v0.specs.Unfold.{value16 as value_of_hex, value62 as value_of_base62, an_integer_of};
@@ -18,7 +17,7 @@ ghost use Rattle.rust_v0.specs.Made.{ground};
 
 use crate::nodes::RustNodes;
 use crate::part::{Integer, Part, STRAY};
-use crate::production::{Production, numbered};
+use crate::production::Production;
 use rust_tree::node::Name;
 use sym_core::{
     NameClass, NumberKind, Refusal, Span, are_digits, are_name_bytes, value16, value62,
@@ -35,11 +34,11 @@ pub enum TokenSort {
     CountedNumber,
 }
 
-/// The sort of the token of a rule.
-pub fn sort_of(rule: u16) -> TokenSort
-    ensures { result ≡ tokens.sort_of (production_of rule) }
+/// The sort of the token of a production's rule.
+pub fn sort_of(production: Option<Production>) -> TokenSort
+    ensures { result ≡ tokens.sort_of production }
 {
-    match numbered(rule) {
+    match production {
         Some(Production::PlainName) => TokenSort::PlainName,
         Some(Production::PunycodeName) => TokenSort::PunycodeName,
         Some(Production::SignedConstant) => TokenSort::SignedInteger,
