@@ -292,7 +292,11 @@ impl<L: Linking> Driver<L> {
             → IsDriving (L.view symbol.now) symbol.now rows.now tree language.new self.new.steps self.new.refused self.new.next self.new.frames.items self.new.parts.items }
         ensures done { (tree : Tree) → IsShape (L.view symbol.now).table symbol.now rows.now tree
             → IsDriving (L.view symbol.now) symbol.now rows.now tree language.old self.old.steps self.old.refused self.old.next self.old.frames.items self.old.parts.items
-            → OnOk result (IsDone (L.view symbol.now) symbol.now rows.now (meaning_of (L.view symbol.now) tree) language.new self.new.parts.items × (self.new.steps ≡ link_steps tree)) }
+            → OnOk result (IsDone (L.view symbol.now) symbol.now rows.now (meaning_of (L.view symbol.now) tree) language.new self.new.parts.items) }
+        // The steps are those of the tree, however many of them were taken before.
+        ensures counted { (tree : Tree) → IsShape (L.view symbol.now).table symbol.now rows.now tree
+            → IsDriving (L.view symbol.now) symbol.now rows.now tree language.old self.old.steps self.old.refused self.old.next self.old.frames.items self.old.parts.items
+            → OnOk result (self.new.steps ≡ link_steps tree) }
         ensures open { OnOk result (self.new.refused ≡ None) }
         ensures kept { IfErr result (λ refusal. self.new.refused ≡ Some refusal) }
         ensures again { IfSome self.old.refused (λ refusal. result ≡ Err refusal) }

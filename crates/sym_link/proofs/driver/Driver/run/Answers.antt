@@ -38,8 +38,14 @@ returns-in-None-clause-driving g c tree is driving =
 pub returns-in-None-clause-done : goal.returns-in-None-clause-done
 returns-in-None-clause-done g c tree is driving =
     let on = c.moves.invariant.2 tree is driving in
-    step_done (g.L.Linking.view c.args.symbol.now) c.args.symbol.now c.args.rows.now tree c.moves.steps c.advance-moved.new.language c.advance-moved.new.frames.items c.advance-moved.new.parts.items
-    c.advance-moved.result c.in-Ok.behind c.in-Ok.is c.in-None.is (c.advance-moved.ensures.moves tree c.moves.steps is on.0)
+    (step_done (g.L.Linking.view c.args.symbol.now) c.args.symbol.now c.args.rows.now tree c.moves.steps c.advance-moved.new.language c.advance-moved.new.frames.items c.advance-moved.new.parts.items
+    c.advance-moved.result c.in-Ok.behind c.in-Ok.is c.in-None.is (c.advance-moved.ensures.moves tree c.moves.steps is on.0)).0
+
+pub returns-in-None-clause-counted : goal.returns-in-None-clause-counted
+returns-in-None-clause-counted g c tree is driving =
+    let on = c.moves.invariant.2 tree is driving in
+    (step_done (g.L.Linking.view c.args.symbol.now) c.args.symbol.now c.args.rows.now tree c.moves.steps c.advance-moved.new.language c.advance-moved.new.frames.items c.advance-moved.new.parts.items
+    c.advance-moved.result c.in-Ok.behind c.in-Ok.is c.in-None.is (c.advance-moved.ensures.moves tree c.moves.steps is on.0)).1
 
 pub returns-in-Err-clause-driving : goal.returns-in-Err-clause-driving
 returns-in-Err-clause-driving g c tree is driving =
