@@ -78,6 +78,7 @@ impl Symbol {
         ensures steps_bound { result.steps ≤ 32 * length self.now.bytes + 48 }
         ensures text_bound { length self.now.table.text ≤ 4 * length self.now.bytes + 20 }
         ensures counted { result.rows ≤ result.steps }
+        ensures read { IsRead self.now }
     {
         Counts {
             rows: self.rows,

@@ -5,6 +5,8 @@ use Rattle.sym_core.specs.declared.refusal.Refusal.TheVariants.{Malformed}
 use Rattle.sym_print.specs.declared.detail.Detail.{Detail}
 use Rattle.sym_shape.specs.declared.rule.Row.{Row}
 use Rattle.sym_shape.specs.Tree.{AreRowsOf}
+use Rattle.sym_demangle.specs.Standing.{AreStepsInAll}
+use Rattle.rust_tree.specs.Counts.{IsRead}
 use Rattle.rust_tree.specs.Layout.{ReadSymbol}
 use Rattle.rust_v0.specs.Mangled.{answer, IsReading, whole_of}
 use Rattle.rust_v0.specs.Rules.{v0_table}
@@ -17,8 +19,8 @@ abbrev pub answer_of : ℕ → Detail → Lang → List ℕ → Result (List ℕ
 answer_of limit detail Cpp symbol = Err (Malformed 1)
 answer_of limit detail Rust symbol = answer detail symbol limit
 
--- The counts of a Rust symbol that is read: the rows of its one shape, the nodes of a table in which it stands for its tree, and
--- at least a step for each row, but no more steps than its bytes allow.
+-- The counts of a Rust symbol that is read: the rows and steps of its one shape, and the nodes of a symbol that was read and
+-- stands for its tree. There is at least a step for each row, and no more of each than its bytes allow.
 pub record AreCounts (symbol : List ℕ) (counts : Counts) : Type 0 where
   pub shape : List Row
   pub are_rows : AreRowsOf v0_table symbol shape
@@ -26,7 +28,9 @@ pub record AreCounts (symbol : List ℕ) (counts : Counts) : Type 0 where
   pub read : ReadSymbol
   pub is_read : IsReading symbol (Ok (whole_of read))
   pub nodes : counts.nodes ≡ length read.table.nodes
+  pub known : IsRead read
   pub nodes_few : counts.nodes ≤ 4 * length symbol + 8
+  pub steps : AreStepsInAll v0_table symbol counts.steps
   pub steps_few : counts.steps ≤ 32 * length symbol + 48
   pub steps_enough : counts.rows ≤ counts.steps
 

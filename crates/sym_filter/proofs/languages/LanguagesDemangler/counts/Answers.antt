@@ -1,6 +1,8 @@
-use Rattle.std.proofs.Common.{ℕ, ◌+◌, ◌*◌, ◌<◌, ◌≤◌, ◌∙◌, List, length, get_or, subst, rules}
+use Rattle.std.proofs.Common.{ℕ, ◌+◌, ◌*◌, ◌<◌, ◌≤◌, ◌∙◌, List, length, get_or, subst, sym, rules}
 use Rattle.std.proofs.lemmas.Result.{err_from_is_err_and}
+use Rattle.sym_demangle.specs.Standing.{AreStepsInAll}
 use Rattle.rust_v0.specs.Mangled.{whole_of}
+use Rattle.rust_v0.specs.Rules.{v0_table}
 use Rattle.sym_filter.proofs.LanguageLemmas.{reading_refused, reading_answered, rust_counts}
 use Rattle.sym_filter.proofs.languages.LanguagesDemangler.counts.Goals as goal
 
@@ -35,7 +37,9 @@ returns-in_ok-read-in-Rust-clause-counts c =
       read = read;
       is_read = known.symbol;
       nodes = counted.nodes;
+      known = counted.read;
       nodes_few = subst (λ (t : List ℕ). c.counts-counts.result.nodes ≤ 4 * length t + 8) known.bytes counted.nodes_bound;
+      steps = subst (λ n. AreStepsInAll v0_table symbol n) (sym counted.steps) known.steps;
       steps_few = subst (λ (t : List ℕ). c.counts-counts.result.steps ≤ 32 * length t + 48) known.bytes counted.steps_bound;
       steps_enough = counted.counted;
     })
