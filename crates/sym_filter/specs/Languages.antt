@@ -5,10 +5,11 @@ use Rattle.sym_core.specs.declared.refusal.Refusal.TheVariants.{Malformed}
 use Rattle.sym_print.specs.declared.detail.Detail.{Detail}
 use Rattle.sym_shape.specs.declared.rule.Row.{Row}
 use Rattle.sym_shape.specs.Tree.{AreRowsOf}
+use Rattle.rust_tree.specs.Counts.{IsRead}
 use Rattle.rust_tree.specs.Layout.{ReadSymbol}
 use Rattle.rust_v0.specs.Mangled.{answer, IsReading, whole_of}
 use Rattle.rust_v0.specs.Rules.{v0_table}
-use Rattle.sym_filter.specs.declared.demangler.Counts.{Counts}
+use Rattle.sym_core.specs.declared.counts.Counts.{Counts}
 use Rattle.sym_filter.specs.declared.kinds.Lang.{Lang}
 use Rattle.sym_filter.specs.declared.kinds.Lang.TheVariants.{Cpp, Rust}
 
@@ -17,14 +18,16 @@ abbrev pub answer_of : ℕ → Detail → Lang → List ℕ → Result (List ℕ
 answer_of limit detail Cpp symbol = Err (Malformed 1)
 answer_of limit detail Rust symbol = answer detail symbol limit
 
--- The counts of a Rust symbol that is read: the rows of its one shape, the nodes of a table in which it stands for its tree, and
--- at least a step for each row, but no more steps than its bytes allow.
+-- The counts of a Rust symbol that is read: the rows of its one shape, the nodes of its table of nodes, in which it stands for
+-- its tree, and at least a step for each row, but no more steps than its bytes allow.
 pub record AreCounts (symbol : List ℕ) (counts : Counts) : Type 0 where
   pub shape : List Row
   pub are_rows : AreRowsOf v0_table symbol shape
   pub rows : counts.rows ≡ length shape
   pub read : ReadSymbol
-  pub is_read : IsReading symbol (Ok (whole_of read))
+  pub is_read : IsRead read
+  pub bytes : read.bytes ≡ symbol
+  pub stands : IsReading symbol (Ok (whole_of read))
   pub nodes : counts.nodes ≡ length read.table.nodes
   pub nodes_few : counts.nodes ≤ 4 * length symbol + 8
   pub steps_few : counts.steps ≤ 32 * length symbol + 48
