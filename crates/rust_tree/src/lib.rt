@@ -21,5 +21,5 @@ pub use context::Context;
 pub use laws::{equal_trees_have_equal_views, fields_make_the_tree};
 pub use nodes::Nodes;
 pub use sym_print::Detail;
-pub use symbol::{Counts, Symbol};
+pub use symbol::Symbol;
 pub use view::Node;

@@ -13,7 +13,7 @@ use crate::node::{Arguments, Bindings, Bounds, Constant, Node, Path, Ty, Types, 
 use crate::nodes::Nodes;
 use std::alloc::Global;
 use std::marker::Model;
-use sym_core::Span;
+use sym_core::{Counts, Span};
 
 /// A symbol that was read: its bytes, its nodes, and what reading it took.
 #[derive(Drop)]
@@ -34,14 +34,6 @@ impl Model for Symbol {
     ghost view = { λ s. record { bytes = s.bytes.items; table = s.nodes; root = s.root; rows = s.rows; steps = s.steps } };
 
     ghost invariant = { λ s. IsRead (record { bytes = s.bytes.items; table = s.nodes; root = s.root; rows = s.rows; steps = s.steps }) };
-}
-
-/// How much reading took.
-#[derive(Clone, Copy, Debug, PartialEq, Eq)]
-pub struct Counts {
-    pub rows: u32,
-    pub nodes: u32,
-    pub steps: u32,
 }
 
 impl Symbol {
@@ -78,7 +70,7 @@ impl Symbol {
         ensures steps_bound { result.steps ≤ 32 * length self.now.bytes + 48 }
         ensures text_bound { length self.now.table.text ≤ 4 * length self.now.bytes + 20 }
         ensures counted { result.rows ≤ result.steps }
-        ensures read { IsRead self.now }
+        ensures is_read { IsRead self.now }
     {
         Counts {
             rows: self.rows,

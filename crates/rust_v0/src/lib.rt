@@ -17,9 +17,9 @@ pub mod tokens;
 pub use demangling::{demangle, demangle_as, read, read_fed};
 pub use grammar::V0;
 pub use rust_tree::{
-    Counts, Detail, Node, Symbol, equal_trees_have_equal_views, fields_make_the_tree,
-    tree_production,
+    Detail, Node, Symbol, equal_trees_have_equal_views, fields_make_the_tree, tree_production,
 };
+pub use sym_core::Counts;
 pub use sym_demangle::{each_has_an_answer, each_refusal_has_a_reason, one_answer, read_answers};
 pub use sym_shape::Reader;
 

@@ -4,6 +4,7 @@
 ghost use Rattle.std.specs.Prelude.{◌≡◌, ◌↔◌, ◌≤◌, IsTrue, length};
 ghost use Rattle.sym_core.specs.Number.{FitsSymbol};
 
+pub mod counts;
 mod names;
 mod numbers;
 pub mod refusal;
@@ -12,6 +13,7 @@ mod tests;
 mod tokens;
 mod values;
 
+pub use counts::Counts;
 pub use names::{push_decimal, push_name};
 pub use numbers::{are_digits, number};
 pub use refusal::Refusal;

@@ -1,60 +1,80 @@
--- What the languages answer, by their laws.
-use Rattle.std.proofs.Common.{◌≡◌, ◌≢◌, ◌⊎◌, inl, inr, ℕ, true, List, ◌++◌, Result, Ok, Err, refl, ap, sym, subst, ◌∙◌}
+-- What is answered for a Rust symbol, by the laws of its answers.
+use Rattle.std.proofs.Common.{◌≡◌, ◌≢◌, ◌⊎◌, inl, inr, ℕ, List, ◌++◌, length, Result, Ok, Err, sym, ap, ◌∙◌, subst, arith}
 use Rattle.std.specs.Prelude.{OnOk, IfErr}
+use Rattle.sym_core.specs.declared.counts.Counts.{Counts}
 use Rattle.sym_core.specs.declared.refusal.Refusal.{Refusal}
 use Rattle.sym_core.specs.declared.refusal.Refusal.TheVariants.{Memory, TooLong}
 use Rattle.sym_print.specs.declared.detail.Detail.{Detail}
-use Rattle.rust_v0.specs.Mangled.{IsAnswer, answer, IsReading}
+use Rattle.sym_shape.specs.declared.rule.Row.{Row}
+use Rattle.sym_shape.specs.Tree.{AreRowsOf}
+use Rattle.sym_demangle.specs.Standing.{AreStepsInAll}
+use Rattle.rust_tree.specs.Counts.{IsRead}
+use Rattle.rust_tree.specs.Layout.{ReadSymbol}
+use Rattle.rust_v0.specs.Mangled.{IsAnswer, answer, IsReading, whole_of}
+use Rattle.rust_v0.specs.Rules.{v0_table}
+use Rattle.sym_filter.specs.Demangled.{IsDemangled}
+use Rattle.sym_filter.specs.Languages.{answer_of, AreCounts, AreCountsOf}
+use Rattle.sym_filter.specs.declared.demangler.Demangled.{Demangled}
 use Rattle.sym_filter.specs.declared.kinds.Lang.{Lang}
 use Rattle.sym_filter.specs.declared.kinds.Lang.TheVariants.{Rust}
-use Rattle.sym_filter.specs.declared.demangler.Counts.{Counts}
-use Rattle.sym_filter.specs.Languages.{answer_of, AreCounts, AreCountsOf}
-use Rattle.sym_filter.specs.Runs.{is_read}
 
 -- the law that an answer to a symbol is the definition's
 abbrev pub IsGiven : ℕ → Detail → List ℕ → Type 0
 IsGiven limit detail symbol = (result : Result (List ℕ) Refusal) → IsAnswer detail symbol limit result → result ≡ answer detail symbol limit
 
-rust_answered : (limit : ℕ) (detail : Detail) (lang : Lang) (symbol : List ℕ) (result : Result (List ℕ) Refusal) → lang ≡ Rust
-    → IsGiven limit detail symbol → IsAnswer detail symbol limit result → answer_of limit detail lang symbol ≡ result
-rust_answered limit detail lang symbol result rust given is =
-    ap (λ l. answer_of limit detail l symbol) rust ∙ sym (given result is)
+-- the text that was appended is the answer's
+text_given : (limit : ℕ) (detail : Detail) (symbol old new : List ℕ) → IsGiven limit detail symbol
+    → (text : List ℕ) × (new ≡ old ++ text) × IsAnswer detail symbol limit (Ok text)
+    → (text : List ℕ) × (answer detail symbol limit ≡ Ok text) × (new ≡ old ++ text)
+text_given limit detail symbol old new given (text, appended, is) = (text, sym (given (Ok text) is), appended)
 
-rust_refused : (limit : ℕ) (detail : Detail) (lang : Lang) (symbol : List ℕ) (refusal : Refusal) → lang ≡ Rust
-    → IsGiven limit detail symbol → (refusal ≡ Memory) ⊎ IsAnswer detail symbol limit (Err refusal) → refusal ≢ Memory → answer_of limit detail lang symbol ≡ Err refusal
-rust_refused limit detail lang symbol refusal rust given (inl memory) other = absurd (other memory)
-rust_refused limit detail lang symbol refusal rust given (inr is) other = rust_answered limit detail lang symbol (Err refusal) rust given is
-
--- the same of a call's outcome
-pub rust_text : {A : Type 0} (limit : ℕ) (detail : Detail) (lang : Lang) (symbol old new : List ℕ) (result : Result A Refusal) → lang ≡ Rust
+pub text_answered : {A : Type 0} (limit : ℕ) (detail : Detail) (symbol old new : List ℕ) (result : Result A Refusal) (done : A) → result ≡ Ok done
     → IsGiven limit detail symbol → OnOk result ((text : List ℕ) × (new ≡ old ++ text) × IsAnswer detail symbol limit (Ok text))
-    → OnOk result ((text : List ℕ) × (answer_of limit detail lang symbol ≡ Ok text) × (new ≡ old ++ text))
-rust_text limit detail lang symbol old new (Ok done) rust given (text, appended, is) =
-    (text, rust_answered limit detail lang symbol (Ok text) rust given is, appended)
-rust_text limit detail lang symbol old new (Err refusal) rust given is = tt
+    → (text : List ℕ) × (answer detail symbol limit ≡ Ok text) × (new ≡ old ++ text)
+text_answered limit detail symbol old new result done there given is =
+    text_given limit detail symbol old new given (subst (λ r. OnOk r ((text : List ℕ) × (new ≡ old ++ text) × IsAnswer detail symbol limit (Ok text))) there is)
 
-pub rust_refusal : {A : Type 0} (limit : ℕ) (detail : Detail) (lang : Lang) (symbol : List ℕ) (result : Result A Refusal) → lang ≡ Rust
-    → IsGiven limit detail symbol → IfErr result (λ refusal. (refusal ≡ Memory) ⊎ IsAnswer detail symbol limit (Err refusal))
-    → IfErr result (λ refusal. refusal ≢ Memory → answer_of limit detail lang symbol ≡ Err refusal)
-rust_refusal limit detail lang symbol (Ok done) rust given is = tt
-rust_refusal limit detail lang symbol (Err refusal) rust given is = rust_refused limit detail lang symbol refusal rust given is
+-- a text that is refused for its cost
+pub too_long_answered : {A : Type 0} (limit : ℕ) (detail : Detail) (symbol : List ℕ) (result : Result A Refusal) (refusal : Refusal) → result ≡ Err refusal → refusal ≡ TooLong
+    → IsGiven limit detail symbol → IfErr result (λ e. (e ≡ Memory) ⊎ IsAnswer detail symbol limit (Err e))
+    → answer detail symbol limit ≡ Err TooLong
+too_long_answered limit detail symbol result refusal there same given is =
+    let refused : Refusal → Result (List ℕ) Refusal = λ r. Err r in
+    elim (subst (λ r. IfErr r (λ e. (e ≡ Memory) ⊎ IsAnswer detail symbol limit (Err e))) there is) [
+      | inl memory ↦ absurd (let other : TooLong ≡ Memory = sym same ∙ memory in cc)
+      | inr answered ↦ sym (given (Err refusal) answered) ∙ ap refused same
+    ]
 
-pub reading_refused : (limit : ℕ) (detail : Detail) (lang : Lang) (symbol : List ℕ) (refusal : Refusal) → lang ≡ Rust
+-- a symbol that isn't read
+pub unread_answered : (limit : ℕ) (detail : Detail) (symbol : List ℕ) (refusal : Refusal)
     → (IsReading symbol (Err refusal) → (answer detail symbol limit ≡ Err refusal) × (refusal ≢ TooLong))
-    → (refusal ≡ Memory) ⊎ IsReading symbol (Err refusal) → refusal ≢ Memory → (answer_of limit detail lang symbol ≡ Err refusal) × (refusal ≢ TooLong)
-reading_refused limit detail lang symbol refusal rust law (inl memory) other = absurd (other memory)
-reading_refused limit detail lang symbol refusal rust law (inr is) other =
-    let refused = law is in
-    (ap (λ l. answer_of limit detail l symbol) rust ∙ refused.0, refused.1)
+    → (refusal ≡ Memory) ⊎ IsReading symbol (Err refusal) → refusal ≢ Memory → (answer detail symbol limit ≡ Err refusal) × (refusal ≢ TooLong)
+unread_answered limit detail symbol refusal law (inl memory) other = absurd (other memory)
+unread_answered limit detail symbol refusal law (inr is) other = law is
 
-read_or_too_long : (result : Result (List ℕ) Refusal) → IfErr result (λ refusal. refusal ≡ TooLong) → is_read result ≡ true
-read_or_too_long (Ok text) is = refl
-read_or_too_long (Err refusal) is = ap (λ r. is_read (Err r)) is
+-- the counts that a symbol answers
+pub read_counts : (symbol : List ℕ) (read : ReadSymbol) (counts : Counts) → (shape : List Row) × AreRowsOf v0_table symbol shape × (read.rows ≡ length shape)
+    → IsRead read → read.bytes ≡ symbol → IsReading symbol (Ok (whole_of read)) → AreStepsInAll v0_table symbol read.steps
+    → counts.rows ≡ read.rows → counts.nodes ≡ length read.table.nodes → counts.steps ≡ read.steps → AreCounts symbol counts
+read_counts symbol read counts (shape, are_rows, same) is_read bytes stands counted rows nodes steps =
+    let size : length read.bytes ≡ length symbol = ap length bytes in record {
+      shape = shape;
+      are_rows = are_rows;
+      rows = rows ∙ same;
+      read = read;
+      is_read = is_read;
+      bytes = bytes;
+      stands = stands;
+      nodes = nodes;
+      nodes_few = omega (arith, is_read.nodes, nodes, size);
+      steps_few = omega (arith, is_read.steps, steps, size);
+      steps = subst (λ n. AreStepsInAll v0_table symbol n) (sym steps) counted;
+      steps_enough = omega (arith, is_read.counted, rows, steps);
+    }
 
-pub reading_answered : (limit : ℕ) (detail : Detail) (lang : Lang) (symbol : List ℕ) → lang ≡ Rust
-    → IfErr (answer detail symbol limit) (λ refusal. refusal ≡ TooLong) → is_read (answer_of limit detail lang symbol) ≡ true
-reading_answered limit detail lang symbol rust is =
-    ap (λ l. is_read (answer_of limit detail l symbol)) rust ∙ read_or_too_long (answer detail symbol limit) is
-
-pub rust_counts : (lang : Lang) (symbol : List ℕ) (counts : Counts) → lang ≡ Rust → AreCounts symbol counts → AreCountsOf lang symbol counts
-rust_counts lang symbol counts rust are = subst (λ l. AreCountsOf l symbol counts) (sym rust) are
+-- what was done with a Rust symbol, as one of either mangling
+pub rust_demangled : (limit : ℕ) (detail : Detail) (lang : Lang) (symbol old new : List ℕ) (demangled : Demangled) → lang ≡ Rust
+    → IsDemangled (answer detail symbol limit) (AreCounts symbol) old new demangled
+    → IsDemangled (answer_of limit detail lang symbol) (AreCountsOf lang symbol) old new demangled
+rust_demangled limit detail lang symbol old new demangled rust is =
+    subst (λ l. IsDemangled (answer_of limit detail l symbol) (AreCountsOf l symbol) old new demangled) (sym rust) is

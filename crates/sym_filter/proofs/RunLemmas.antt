@@ -12,6 +12,7 @@ use Rattle.std.proofs.Math.Bool.{and-true}
 use Rattle.sym_filter.specs.Runs.{Answering, is_run_byte, first_run, later_runs, with_later_runs, with_runs, replaced, is_named, named_runs, text_for, word_or_text, word_of, dots_behind}
 use Rattle.sym_filter.specs.declared.kinds.Kind.{Kind}
 use Rattle.sym_filter.specs.Kinds.{kind_of, kind_by_beginning, symbol_of}
+use Rattle.sym_filter.specs.declared.kinds.TheConstants.{LONGEST_WORD}
 
 abbrev pub is_dot : ℕ → Bool
 is_dot byte = eqb byte 46
@@ -179,10 +180,10 @@ word_of-longer (byte ∷ run) rest =
     longer-step byte run rest _ _ refl refl (λ h. list_all-append is_dot (byte ∷ run) rest ∙ and_left (list_all is_dot (byte ∷ run)) (list_all is_dot rest) h) (word_of-longer run rest)
 
 -- a run that is too long names no symbol, however it goes on
-pub kind_of-long : (run rest : List ℕ) → 65536 < length (word_of run) → kind_of (word_of (run ++ rest)) ≡ None
+pub kind_of-long : (run rest : List ℕ) → LONGEST_WORD < length (word_of run) → kind_of (word_of (run ++ rest)) ≡ None
 kind_of-long run rest long =
     let far = word_of-longer run rest in
-    cond-false _ _ _ (lt-leb (length (word_of (run ++ rest))) 65536 (omega arith))
+    cond-false _ _ _ (lt-leb (length (word_of (run ++ rest))) LONGEST_WORD (omega arith))
 
 -- nor does one that doesn't begin with an underscore
 cond_none : (b : Bool) (kind : Option Kind) → kind ≡ None → cond b kind None ≡ None
@@ -196,7 +197,7 @@ kind_by_beginning-other byte word other =
 
 kind_of-step : (byte : ℕ) (word : List ℕ) (b : Bool) → (byte ≡ 95 → ⊥) → kind_of (cond b [] (byte ∷ word)) ≡ None
 kind_of-step byte word true other = refl
-kind_of-step byte word false other = cond_none (leb (length (byte ∷ word)) 65536) _ (kind_by_beginning-other byte word other)
+kind_of-step byte word false other = cond_none (leb (length (byte ∷ word)) LONGEST_WORD) _ (kind_by_beginning-other byte word other)
 
 pub kind_of-other : (byte : ℕ) (more : List ℕ) → (byte ≡ 95 → ⊥) → kind_of (word_of (byte ∷ more)) ≡ None
 kind_of-other byte more other = kind_of-step byte (word_of more) (list_all is_dot (byte ∷ more)) other
@@ -215,6 +216,10 @@ text_for-named answers word kind answer h is = rw (h, is) refl
 
 pub named_runs-run : (run : List ℕ) → list_all is_run_byte run ≡ true → named_runs (run ++ []) ≡ filter is_named (run ∷ [])
 named_runs-run run h = named_runs-append run [] h ∙ ap (λ (t : List ℕ). filter is_named (t ∷ [])) (append-nil run)
+
+-- the symbol of a word, by its answer
+pub text_of-symbol : (answers : Answering) (word symbol : List ℕ) (kind : Kind) (answer : Result (List ℕ) Refusal) → kind_of word ≡ Some kind → symbol ≡ symbol_of kind word → answers kind.lang symbol ≡ answer → text_for answers word ≡ result_ok answer
+text_of-symbol answers word symbol kind answer named same is = text_for-named answers word kind answer named (ap (answers kind.lang) (sym same) ∙ is)
 
 pub text_for-unnamed : (answers : Answering) (word : List ℕ) → kind_of word ≡ None → text_for answers word ≡ None
 unfolding text_for

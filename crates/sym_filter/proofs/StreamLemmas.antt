@@ -11,6 +11,7 @@ use Rattle.sym_filter.specs.Words.{rest_after, Takes}
 use Rattle.sym_filter.specs.Streams.{BeginsWith, Puts, PutsFront, write_failures, reader_faults}
 use Rattle.sym_filter.specs.declared.streams.FilterFault.{FilterFault}
 use Rattle.sym_filter.specs.declared.streams.FilterFault.TheVariants.{Read, Write, Memory}
+use Rattle.sym_filter.specs.declared.filtering.TheConstants.{READ_SIZE}
 
 pub Appends-none : (known : Option (List ℕ)) → Appends known known []
 Appends-none None = tt
@@ -85,7 +86,7 @@ pub room-back : (new items : List ℕ) (len : ℕ) → length new ≡ len → ta
 room-back new items len h = ap (λ n. take n (new ++ drop (length new) items)) (sym h) ∙ take-append_seam new (drop (length new) items)
 
 -- each read brings at most 65,536 dots, so their count has room
-pub dots-step : (dots dots' left left' count : ℕ) (bytes piece : List ℕ) → dots + 65536 * left < 2 ^ 64 * 65536 → left' < left → dots' ≤ dots + length piece → take count bytes ≡ piece → length bytes ≡ 65536 → dots' + 65536 * left' < 2 ^ 64 * 65536
+pub dots-step : (dots dots' left left' count : ℕ) (bytes piece : List ℕ) → dots + READ_SIZE * left < 2 ^ 64 * READ_SIZE → left' < left → dots' ≤ dots + length piece → take count bytes ≡ piece → length bytes ≡ READ_SIZE → dots' + READ_SIZE * left' < 2 ^ 64 * READ_SIZE
 dots-step dots dots' left left' count bytes piece room fewer more same whole =
     let short : length piece ≡ min count (length bytes) = ap length (sym same) ∙ length-take count bytes in omega arith
 

@@ -17,6 +17,7 @@ use Rattle.sym_filter.specs.Words.{held_of, rest_of, named_of, rest_after, tally
 use Rattle.sym_filter.specs.Plain.{is_plain, is_in_run}
 use Rattle.sym_filter.proofs.TallyLemmas.{tally_with-append, tally_with-none, tally_with-same, tally_with_word-named, tally_with_word-unnamed}
 use Rattle.sym_filter.proofs.RunLemmas.{is_dot, with_runs-ends, with_runs-append, with_runs-run, named_runs-ends, named_runs-append, named_runs-run, replaced-unnamed, list_all-held, replaced-held, is_named-held, word_of-held, word_or_text-unnamed, kind_of-other, kind_of-long, word_of-part, word_of-word, list_all-word_of, word_and_dots}
+use Rattle.sym_filter.specs.declared.kinds.TheConstants.{LONGEST_WORD}
 
 -- `&xs[k..]`
 pub slice_from : (xs : List ℕ) (k : ℕ) → take (length xs - k) (drop k xs) ≡ drop k xs
@@ -151,7 +152,7 @@ Takes-held answers old new part holds holds' held counted dots =
     }
 
 -- a run is passed on from a part on
-pub Takes-passes : (answers : Answering) (old new : Words) (part : List ℕ) → old.passes ≡ false → new.passes ≡ true → list_all is_run_byte part ≡ true → 65536 < length (word_of (held_of old ++ part)) → new.tally ≡ old.tally → new.dots ≤ old.dots + length part → Takes answers old new part (old.held.items ++ (replicate old.dots 46 ++ part))
+pub Takes-passes : (answers : Answering) (old new : Words) (part : List ℕ) → old.passes ≡ false → new.passes ≡ true → list_all is_run_byte part ≡ true → LONGEST_WORD < length (word_of (held_of old ++ part)) → new.tally ≡ old.tally → new.dots ≤ old.dots + length part → Takes answers old new part (old.held.items ++ (replicate old.dots 46 ++ part))
 Takes-passes answers old new part holds passes in_run long counted dots =
     let front = held_of old ++ part in
     let all_front : list_all is_run_byte front ≡ true = list_all-append is_run_byte (held_of old) part ∙ and_from _ _ (all_held old) in_run in
@@ -219,7 +220,7 @@ not_dots part end word some within = not_dots-step part (list_all is_dot part) r
 word_length : (part : List ℕ) (end : ℕ) → take end part ≡ word_of part → end ≤ length part → length (word_of part) ≡ end
 word_length part end word within = ap length (sym word) ∙ omega (arith, length-take end part)
 
-pub IsHeld-part : (held : List ℕ) (dots dots' : ℕ) (part : List ℕ) (end : ℕ) (passes : Bool) → IsHeld held dots passes → list_all is_run_byte part ≡ true → take end part ≡ word_of part → (end ≡ 0 → ⊥) → end ≤ length part → length held + dots + end ≤ 65536 → passes ≡ false → IsHeld (held ++ replicate dots 46 ++ take end part) dots' passes
+pub IsHeld-part : (held : List ℕ) (dots dots' : ℕ) (part : List ℕ) (end : ℕ) (passes : Bool) → IsHeld held dots passes → list_all is_run_byte part ≡ true → take end part ≡ word_of part → (end ≡ 0 → ⊥) → end ≤ length part → length held + dots + end ≤ LONGEST_WORD → passes ≡ false → IsHeld (held ++ replicate dots 46 ++ take end part) dots' passes
 IsHeld-part held dots dots' part end passes h in_run word some within short holds =
     let front = held ++ replicate dots 46 in
     let other : list_all is_dot (take end part) ≡ false = ap (list_all is_dot) word ∙ list_all-word_of part ∙ not_dots part end word some within in record {
@@ -243,7 +244,7 @@ held_of-dots held part dots end word none =
     let part_is : part ≡ replicate (length part) 46 = word_and_dots part ∙ ap (λ (t : List ℕ). t ++ replicate (length part - length t) 46) no_word ∙ ap (λ n. replicate n 46) whole_length in
     ap (λ (t : List ℕ). held ++ t) (sym (replicate-append-replicate dots (length part) 46)) ∙ sym (append_assoc held (replicate dots 46) (replicate (length part) 46)) ∙ ap (λ (t : List ℕ). (held ++ replicate dots 46) ++ t) (sym part_is)
 
-pub long-part : (held part : List ℕ) (dots end : ℕ) → take end part ≡ word_of part → (end ≡ 0 → ⊥) → end ≤ length part → 65536 < length held + dots + end → 65536 < length (word_of ((held ++ replicate dots 46) ++ part))
+pub long-part : (held part : List ℕ) (dots end : ℕ) → take end part ≡ word_of part → (end ≡ 0 → ⊥) → end ≤ length part → LONGEST_WORD < length held + dots + end → LONGEST_WORD < length (word_of ((held ++ replicate dots 46) ++ part))
 long-part held part dots end word some within long =
     let front = held ++ replicate dots 46 in
     let size = word_length part end word within in
@@ -258,7 +259,7 @@ Takes-first answers old new text count dots some none other same counted nothing
     (subst (λ (t : List ℕ). Takes answers old new t (word_or_text answers old.held.items ++ (replicate old.dots 46 ++ t))) (sym first) (Takes-ends answers old new (get_or text 0 0) ends counted nothing no_dots holds))
 
 -- a part of a run is held, or the run is passed on from it on
-pub Takes-hold : (answers : Answering) (old new : Words) (text out out' : List ℕ) (count : ℕ) (taken : Taken) (b : Bool) → taken.stay ≡ b → count ≤ length text → list_all is_run_byte (take count text) ≡ true → old.passes ≡ false → new.tally ≡ old.tally → new.dots ≤ old.dots + length (take count text) → taken.count ≡ length (take count text) → (taken.stay ≡ false → (new.passes ≡ false) × (taken.dots ≡ 0) × (held_of new ≡ held_of old ++ take count text) × (out' ≡ out)) → (taken.stay ≡ true → (new.passes ≡ true) × (taken.dots ≡ old.dots) × (out' ≡ out ++ old.held.items) × (65536 < length (word_of (held_of old ++ take count text)))) → (bytes : List ℕ) × (out' ≡ out ++ bytes) × Takes answers old new (take taken.count text) (bytes ++ behind taken (take taken.count text))
+pub Takes-hold : (answers : Answering) (old new : Words) (text out out' : List ℕ) (count : ℕ) (taken : Taken) (b : Bool) → taken.stay ≡ b → count ≤ length text → list_all is_run_byte (take count text) ≡ true → old.passes ≡ false → new.tally ≡ old.tally → new.dots ≤ old.dots + length (take count text) → taken.count ≡ length (take count text) → (taken.stay ≡ false → (new.passes ≡ false) × (taken.dots ≡ 0) × (held_of new ≡ held_of old ++ take count text) × (out' ≡ out)) → (taken.stay ≡ true → (new.passes ≡ true) × (taken.dots ≡ old.dots) × (out' ≡ out ++ old.held.items) × (LONGEST_WORD < length (word_of (held_of old ++ take count text)))) → (bytes : List ℕ) × (out' ≡ out ++ bytes) × Takes answers old new (take taken.count text) (bytes ++ behind taken (take taken.count text))
 Takes-hold answers old new text out out' count taken false stay within in_run holds counted dots count_is held passes =
     let h = held stay in
     let part = take count text in

@@ -3,6 +3,7 @@ use Rattle.std.specs.Prelude.{ℕ, List, drop, length, codes, Option, Some, None
 use Rattle.std.specs.List.{starts_with}
 use Rattle.sym_filter.specs.declared.kinds.Lang.TheVariants.{Cpp, Rust}
 use Rattle.sym_filter.specs.declared.kinds.Kind.{Kind}
+use Rattle.sym_filter.specs.declared.kinds.TheConstants.{LONGEST_WORD}
 
 -- the kind of a word by how it begins, whatever its length
 abbrev pub kind_by_beginning : List ℕ → Option Kind
@@ -13,9 +14,9 @@ kind_by_beginning word =
     else (if starts_with nat_eq word (codes "__R") then Some (record { lang = Rust; skip = 1 })
     else None)))
 
--- the kind of a word: a word of at most 65,536 bytes that begins as a symbol does
+-- the kind of a word that isn't too long and begins as a symbol does
 abbrev pub kind_of : List ℕ → Option Kind
-kind_of word = if nat_le (length word) 65536 then kind_by_beginning word else None
+kind_of word = if nat_le (length word) LONGEST_WORD then kind_by_beginning word else None
 
 -- the symbol in a word: all of it, or all but its first byte
 abbrev pub symbol_of : Kind → List ℕ → List ℕ

@@ -10,7 +10,7 @@ use Rattle.rust_tree.specs.Counts.{IsRead}
 use Rattle.rust_tree.specs.Layout.{ReadSymbol}
 use Rattle.rust_v0.specs.Mangled.{answer, IsReading, whole_of}
 use Rattle.rust_v0.specs.Rules.{v0_table}
-use Rattle.sym_filter.specs.declared.demangler.Counts.{Counts}
+use Rattle.sym_core.specs.declared.counts.Counts.{Counts}
 use Rattle.sym_filter.specs.declared.kinds.Lang.{Lang}
 use Rattle.sym_filter.specs.declared.kinds.Lang.TheVariants.{Cpp, Rust}
 
@@ -26,9 +26,10 @@ pub record AreCounts (symbol : List ℕ) (counts : Counts) : Type 0 where
   pub are_rows : AreRowsOf v0_table symbol shape
   pub rows : counts.rows ≡ length shape
   pub read : ReadSymbol
-  pub is_read : IsReading symbol (Ok (whole_of read))
+  pub is_read : IsRead read
+  pub bytes : read.bytes ≡ symbol
+  pub stands : IsReading symbol (Ok (whole_of read))
   pub nodes : counts.nodes ≡ length read.table.nodes
-  pub known : IsRead read
   pub nodes_few : counts.nodes ≤ 4 * length symbol + 8
   pub steps : AreStepsInAll v0_table symbol counts.steps
   pub steps_few : counts.steps ≤ 32 * length symbol + 48

@@ -1,3 +1,4 @@
+pub mod Demangled
 pub mod Held
 pub mod Kinds
 pub mod Languages

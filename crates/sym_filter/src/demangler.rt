@@ -1,20 +1,24 @@
 // What the filter and the command ask of the languages below them.
-ghost use Rattle.std.specs.Prelude.{◌≡◌, ◌≢◌, ◌≤◌, ◌++◌, ℕ, List, Ok, Err, Result, OnOk, IfOk, IfErr, OnErr, length, true};
-ghost use Rattle.sym_filter.specs.Runs.{is_read};
-ghost use Rattle.sym_filter.specs.declared.demangler.Counts.{Counts as Counts-type};
-ghost use Rattle.sym_filter.specs.declared.kinds.Lang.{Lang as Lang-type};
+ghost use Rattle.std.specs.Prelude.{◌≤◌, List, ℕ, Result, length};
+ghost use Rattle.sym_core.specs.declared.counts.Counts.{Counts as Counts-type};
 ghost use Rattle.sym_core.specs.declared.refusal.Refusal.{Refusal as Refusal-type};
+ghost use Rattle.sym_filter.specs.Demangled.{IsDemangled};
+ghost use Rattle.sym_filter.specs.declared.kinds.Lang.{Lang as Lang-type};
+ghost use Rattle.sym_filter.specs.declared.kinds.TheConstants.{LONGEST_WORD};
 
 use crate::kinds::Lang;
 use std::alloc::{AllocError, Global};
-use sym_core::Refusal;
+use sym_core::{Counts, Refusal};
 
-/// How much work a symbol made: its rows, its nodes, and the counted steps that read it.
+/// What became of a symbol. One that is read has counts, whether its text keeps to the limit or not.
 #[derive(Clone, Copy, Debug, PartialEq, Eq)]
-pub struct Counts {
-    pub rows: u32,
-    pub nodes: u32,
-    pub steps: u32,
+pub enum Demangled {
+    /// Its text was appended.
+    Text(Counts),
+    /// It is read, and its text costs more than the limit.
+    TooLong(Counts),
+    /// It isn't read, or memory ran out.
+    Refused(Refusal),
 }
 
 /// Gives the text of a symbol, or refuses it, at a limit and a detail of its own.
@@ -32,28 +36,16 @@ pub trait Demangler {
 
     /// Reads what is there of a symbol that may go on. What is answered for it is the same without this call.
     fn read_ahead(&self, lists: &mut Self::Lists, lang: Lang, front: &[u8])
-        requires { length front.now ≤ 65536 };
+        requires { length front.now ≤ LONGEST_WORD };
 
-    /// Appends the symbol's text. A refusal leaves the output as it was; want of memory may refuse any symbol.
+    /// Appends the symbol's text, where it has one, else nothing. Want of memory may refuse any symbol.
     fn demangle(
         &self,
         lists: &mut Self::Lists,
         lang: Lang,
         symbol: &[u8],
         out: &mut Vec<u8>,
-    ) -> Result<(), Refusal>
-        requires { length symbol.now ≤ 65536 }
-        ensures text { OnOk result ((text : List ℕ) × (answer self.now lang symbol.now ≡ Ok text)
-            × (out.new.items ≡ out.old.items ++ text)) }
-        ensures refused { IfErr result (λ refusal. refusal ≢ Refusal.Memory
-            → answer self.now lang symbol.now ≡ Err refusal) }
-        ensures unchanged { OnErr result (out.new.items ≡ out.old.items) };
-
-    /// The counts of a symbol that is read, whether its text keeps to the limit or not.
-    fn counts(&self, lists: &mut Self::Lists, lang: Lang, symbol: &[u8]) -> Result<Counts, Refusal>
-        requires { length symbol.now ≤ 65536 }
-        ensures counts { IfOk result (λ counts. are_counts self.now lang symbol.now counts) }
-        ensures read { OnOk result (is_read (answer self.now lang symbol.now) ≡ true) }
-        ensures refused { IfErr result (λ refusal. refusal ≢ Refusal.Memory
-            → (answer self.now lang symbol.now ≡ Err refusal) × (refusal ≢ Refusal.TooLong)) };
+    ) -> Demangled
+        requires { length symbol.now ≤ LONGEST_WORD }
+        ensures { IsDemangled (answer self.now lang symbol.now) (are_counts self.now lang symbol.now) out.old.items out.new.items result };
 }

@@ -3,16 +3,17 @@ ghost use Rattle.std.specs.Prelude.{◌≡◌, ◌≢◌, ◌+◌, ◌-◌, ◌^
 ghost use Rattle.sym_filter.specs.Languages.{answer_of};
 ghost use Rattle.sym_filter.specs.Streams.{reader_faults, writer_faults, Puts, PutsFront, FiltersAll, FiltersFront};
 ghost use Rattle.sym_filter.specs.Words.{rest_after, tally_after, behind, Takes};
+ghost use Rattle.sym_filter.specs.declared.filtering.TheConstants.{READ_SIZE};
 
 use crate::demangler::Demangler;
 use crate::languages::Languages;
-use crate::streams::{FilterFault, Sink, Source, write_all};
+use crate::streams::{FilterFault, Sink, Source, write_out};
 use crate::words::{Taken, Tally, Words};
 use std::alloc::{AllocError, Global};
 use sym_print::Detail;
 
 /// How many bytes are read at a time, and from how many on they are written.
-const ROOM: usize = 65_536;
+const READ_SIZE: usize = 65_536;
 
 /// Reads all that the source gives, and writes it with each word that names a symbol replaced by the symbol's whole text,
 /// where that costs at most the limit.
@@ -92,9 +93,9 @@ pub fn filter_with<R: Source, W: Sink, D: Demangler>(
 
 /// Room for the bytes of one read.
 fn room_for_reads(alloc: Global) -> Result<Vec<u8>, AllocError>
-    ensures { IfOk result (λ room. vec_len room ≡ 65536) }
+    ensures { IfOk result (λ room. vec_len room ≡ READ_SIZE) }
 {
-    vec![in alloc; 0u8; ROOM]
+    vec![in alloc; 0u8; READ_SIZE]
 }
 
 /// Takes a piece of the text, and writes what is known of the filtered text by it.
@@ -194,28 +195,14 @@ fn write_dots<W: Sink>(writer: &mut W, out: &mut Vec<u8>, dots: u128) -> Result<
 fn write_when_full<W: Sink>(writer: &mut W, out: &mut Vec<u8>) -> Result<(), FilterFault>
     requires failures { W.failure_count writer.old < 2 ^ 64 - 1 }
     ensures ok { OnOk result (Puts (W.taken writer.old) (W.taken writer.new) out.old.items out.new.items []) }
-    ensures few_wait { OnOk result (length out.new.items < 65536) }
+    ensures few_wait { OnOk result (length out.new.items < READ_SIZE) }
     ensures err { IfErr result (λ fault. (fault ≢ FilterFault.Read)
         × PutsFront (W.taken writer.old) (W.taken writer.new) out.old.items []) }
     ensures failures { W.failure_count writer.new ≡ W.failure_count writer.old + writer_faults result }
 {
-    if out.len() < ROOM {
+    if out.len() < READ_SIZE {
         return Ok(());
     }
     write_out(writer, out)?;
-    Ok(())
-}
-
-/// Writes the bytes that wait.
-fn write_out<W: Sink>(writer: &mut W, out: &mut Vec<u8>) -> Result<(), FilterFault>
-    requires failures { W.failure_count writer.old < 2 ^ 64 - 1 }
-    ensures ok { OnOk result (Puts (W.taken writer.old) (W.taken writer.new) out.old.items out.new.items []) }
-    ensures nothing_waits { OnOk result (out.new.items ≡ []) }
-    ensures err { IfErr result (λ fault. (fault ≢ FilterFault.Read)
-        × PutsFront (W.taken writer.old) (W.taken writer.new) out.old.items []) }
-    ensures failures { W.failure_count writer.new ≡ W.failure_count writer.old + writer_faults result }
-{
-    write_all(writer, out)?;
-    out.clear();
     Ok(())
 }

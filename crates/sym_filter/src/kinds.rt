@@ -1,6 +1,7 @@
 // Which words are symbols, and of which language.
-ghost use Rattle.std.specs.Prelude.{◌≡◌};
-ghost use Rattle.sym_filter.specs.Kinds.{kind_of};
+ghost use Rattle.std.specs.Prelude.{◌≡◌, ◌≤◌, Some, length};
+ghost use Rattle.sym_filter.specs.Kinds.{kind_of, symbol_of};
+ghost use Rattle.sym_filter.specs.declared.kinds.TheConstants.{LONGEST_WORD};
 
 /// The longest word that is read as a symbol, in bytes.
 pub const LONGEST_WORD: usize = 65_536;
@@ -17,6 +18,17 @@ pub enum Lang {
 pub struct Kind {
     pub lang: Lang,
     pub skip: u32,
+}
+
+impl Kind {
+    /// The symbol of a word of this kind.
+    pub fn symbol_of(self, word: &[u8]) -> &[u8]
+        requires { kind_of word.now ≡ Some self }
+        ensures symbol { result.now ≡ symbol_of self word.now }
+        ensures short { length result.now ≤ LONGEST_WORD }
+    {
+        &word[self.skip as usize..]
+    }
 }
 
 /// The kind of a word that names a symbol, by its length and how it begins.

@@ -1,7 +1,11 @@
 // The demangler over both manglings.
-ghost use Rattle.sym_filter.specs.Languages.{answer_of, AreCountsOf};
+ghost use Rattle.std.specs.Prelude.{◌≤◌, length};
+ghost use Rattle.rust_v0.specs.Mangled.{answer};
+ghost use Rattle.sym_filter.specs.Demangled.{IsDemangled};
+ghost use Rattle.sym_filter.specs.Languages.{answer_of, AreCounts, AreCountsOf};
+ghost use Rattle.sym_filter.specs.declared.kinds.TheConstants.{LONGEST_WORD};
 
-use crate::demangler::{Counts, Demangler};
+use crate::demangler::{Demangled, Demangler};
 use crate::kinds::Lang;
 use rust_v0::{V0, Workspace, one_answer, read_answers};
 use std::alloc::{AllocError, Global};
@@ -50,32 +54,40 @@ impl Demangler for Languages {
         lang: Lang,
         symbol: &[u8],
         out: &mut Vec<u8>,
-    ) -> Result<(), Refusal> {
+    ) -> Demangled {
         match lang {
-            Lang::Cpp => Err(UNREAD),
-            Lang::Rust => {
-                one_answer::<V0>();
-                lists
-                    .rust
-                    .demangle_into(symbol, self.limit, self.detail, out)
-            }
+            Lang::Cpp => Demangled::Refused(UNREAD),
+            Lang::Rust => demangle_rust(&mut lists.rust, symbol, self.limit, self.detail, out),
         }
     }
+}
 
-    fn counts(&self, lists: &mut Lists, lang: Lang, symbol: &[u8]) -> Result<Counts, Refusal> {
-        match lang {
-            Lang::Cpp => Err(UNREAD),
-            Lang::Rust => {
-                read_answers::<V0>();
-                let read = lists.rust.read(symbol)?;
-                let counts = read.counts();
-                lists.rust.recycle(read);
-                Ok(Counts {
-                    rows: counts.rows,
-                    nodes: counts.nodes,
-                    steps: counts.steps,
-                })
-            }
-        }
+/// Appends the text of a Rust symbol, where it has one.
+fn demangle_rust(
+    workspace: &mut Workspace,
+    symbol: &[u8],
+    limit: u32,
+    detail: Detail,
+    out: &mut Vec<u8>,
+) -> Demangled
+    requires { length symbol.now ≤ LONGEST_WORD }
+    ensures { IsDemangled (answer detail symbol.now limit) (AreCounts symbol.now) out.old.items out.new.items result }
+{
+    one_answer::<V0>();
+    read_answers::<V0>();
+    let read = match workspace.read(symbol) {
+        Ok(read) => read,
+        Err(refusal) => return Demangled::Refused(refusal),
+    };
+    let counts = read.counts();
+    let printed = workspace.print(&read, limit, detail, out);
+    workspace.recycle(read);
+    match printed {
+        Ok(()) => Demangled::Text(counts),
+        Err(refusal) => match refusal {
+            Refusal::TooLong => Demangled::TooLong(counts),
+            // want of memory is all else that printing is refused for
+            _ => Demangled::Refused(Refusal::Memory),
+        },
     }
 }

@@ -10,11 +10,11 @@ pub mod standard;
 pub mod streams;
 pub mod words;
 
-pub use demangler::{Counts, Demangler};
+pub use demangler::{Demangled, Demangler};
 pub use filtering::{filter, filter_as, filter_with};
 pub use kinds::{Kind, Lang, kind_of};
 pub use languages::Languages;
 pub use laws::filtered_by_splits;
-pub use standard::{ReaderSource, WriterSink};
-pub use streams::{FilterFault, Sink, Source};
+pub use standard::{ListSink, ReaderSource, WriterSink};
+pub use streams::{FilterFault, Sink, Source, write_all, write_out};
 pub use words::Tally;

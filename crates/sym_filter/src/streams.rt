@@ -1,7 +1,7 @@
 // Where the filter's bytes come from and go to.
-ghost use Rattle.std.specs.Prelude.{◌≡◌, ◌+◌, ◌-◌, ◌^◌, ◌<◌, ◌≤◌, ℕ, List, length, take, Option, IsSome, IfSome, IfNone, OnOk, IfErr};
+ghost use Rattle.std.specs.Prelude.{◌≡◌, ◌≢◌, ◌+◌, ◌-◌, ◌^◌, ◌<◌, ◌≤◌, ℕ, List, [], length, take, Option, IsSome, IfSome, IfNone, OnOk, IfErr};
 ghost use Rattle.std.specs.Io.KnownBytes.{Appends, Consumes, Keeps, IsAtEnd};
-ghost use Rattle.sym_filter.specs.Streams.{read_failures, write_failures, writer_faults, BeginsWith};
+ghost use Rattle.sym_filter.specs.Streams.{read_failures, write_failures, writer_faults, BeginsWith, Puts, PutsFront};
 
 use std::alloc::{AllocError, AllocFailed};
 use thiserror::Error;
@@ -104,5 +104,19 @@ pub fn write_all<W: Sink>(writer: &mut W, bytes: &[u8]) -> Result<(), FilterFaul
         }
         written += count;
     }
+    Ok(())
+}
+
+/// Writes the bytes that wait, and clears them.
+pub fn write_out<W: Sink>(writer: &mut W, out: &mut Vec<u8>) -> Result<(), FilterFault>
+    requires failures { W.failure_count writer.old < 2 ^ 64 - 1 }
+    ensures ok { OnOk result (Puts (W.taken writer.old) (W.taken writer.new) out.old.items out.new.items []) }
+    ensures nothing_waits { OnOk result (out.new.items ≡ []) }
+    ensures err { IfErr result (λ fault. (fault ≢ FilterFault.Read)
+        × PutsFront (W.taken writer.old) (W.taken writer.new) out.old.items []) }
+    ensures failures { W.failure_count writer.new ≡ W.failure_count writer.old + writer_faults result }
+{
+    write_all(writer, out)?;
+    out.clear();
     Ok(())
 }

@@ -5,8 +5,9 @@ ghost use Rattle.sym_filter.specs.Runs.{is_run_byte, text_for, word_of, word_or_
 ghost use Rattle.sym_filter.specs.Kinds.{kind_of};
 ghost use Rattle.sym_filter.specs.Held.{IsHeld};
 ghost use Rattle.sym_filter.specs.Plain.{is_plain, is_in_run};
+ghost use Rattle.sym_filter.specs.declared.kinds.TheConstants.{LONGEST_WORD};
 
-use crate::demangler::Demangler;
+use crate::demangler::{Demangled, Demangler};
 use crate::kinds::{Kind, LONGEST_WORD, kind_of};
 use std::alloc::{AllocError, Global};
 use sym_core::Refusal;
@@ -195,7 +196,7 @@ impl Words {
     /// Lets the demangler read what is there of the word that is held, if it names a symbol.
     pub fn read_ahead<D: Demangler>(&self, demangler: &D, lists: &mut D::Lists) {
         if let Some(kind) = kind_of(&self.held) {
-            demangler.read_ahead(lists, kind.lang, &self.held[kind.skip as usize..]);
+            demangler.read_ahead(lists, kind.lang, kind.symbol_of(&self.held));
         }
     }
 
@@ -251,7 +252,7 @@ impl Words {
             × (held_of self.new ≡ held_of self.old ++ part.now) × (out.new.items ≡ out.old.items)) }
         ensures passes { IfOk result (λ taken. taken.stay ≡ true → (self.new.passes ≡ true)
             × (taken.dots ≡ self.old.dots) × (out.new.items ≡ out.old.items ++ self.old.held.items)
-            × (65536 < length (word_of (held_of self.old ++ part.now)))) }
+            × (LONGEST_WORD < length (word_of (held_of self.old ++ part.now)))) }
     {
         let end = word_end(part);
         let dots = self.dots;
@@ -327,16 +328,16 @@ fn push_text<D: Demangler>(
     ensures text { OnOk result (out.new.items ≡ out.old.items ++ word_or_text (D.answer demangler.now) word.now) }
     ensures has_text { IfOk result (λ has_text. has_text ≡ is_some (text_for (D.answer demangler.now) word.now)) }
 {
-    match demangler.demangle(lists, kind.lang, &word[kind.skip as usize..], out) {
-        Ok(()) => Ok(true),
-        Err(refusal) => match refusal {
-            Refusal::Memory => Err(AllocError),
-            _ => {
-                out.extend_from_slice(word)?;
-                Ok(false)
-            }
+    match demangler.demangle(lists, kind.lang, kind.symbol_of(word), out) {
+        Demangled::Text(_) => return Ok(true),
+        Demangled::TooLong(_) => {}
+        Demangled::Refused(refusal) => match refusal {
+            Refusal::Memory => return Err(AllocError),
+            _ => {}
         },
     }
+    out.extend_from_slice(word)?;
+    Ok(false)
 }
 
 /// The place behind the last byte of a run's part that is no dot, 0 where there is none.
@@ -356,7 +357,7 @@ fn word_end(part: &[u8]) -> usize
 
 /// Appends dots and a part of a word behind them, or nothing.
 fn push_word(held: &mut Vec<u8>, dots: usize, part: &[u8]) -> Result<(), AllocError>
-    requires { length held.old.items + dots + length part.now ≤ 65536 }
+    requires { length held.old.items + dots + length part.now ≤ LONGEST_WORD }
     ensures ok { OnOk result (held.new.items ≡ held.old.items ++ replicate dots 46 ++ part.now) }
     ensures unchanged { OnErr result (held.new.items ≡ held.old.items) }
 {

@@ -1,8 +1,7 @@
 -- The lines of words.
-use Rattle.std.proofs.Common.{◌≡◌, ℕ, ◌+◌, ◌-◌, ◌<◌, Bool, true, false, cond, ◌&&◌, List, [], ◌∷◌, ◌++◌, length, take, drop, get_or, map, sym, ap, ◌∙◌, append_assoc, refl, subst, Bor, Some, None, Err, Result}
+use Rattle.std.proofs.Common.{◌≡◌, ℕ, ◌+◌, ◌<◌, Bool, true, false, cond, ◌&&◌, List, [], ◌∷◌, ◌++◌, length, take, get_or, map, sym, ap, ◌∙◌, append_assoc, refl, subst, Bor, Some, None, Err, Result}
 use Rattle.std.specs.Prelude.{is_some, unwrap_or}
-use Rattle.std.specs.List.{flat_map, list_all}
-use Rattle.std.proofs.lemmas.Grind.{flat_map-append}
+use Rattle.std.specs.List.{list_all}
 use Rattle.std.proofs.lemmas.List.{append-nil, map-append, take_more}
 use Rattle.std.proofs.lemmas.List.Folds.{list_all-append}
 use Rattle.std.proofs.Math.Bool.{and-true}
@@ -11,8 +10,8 @@ use Rattle.sym_filter.specs.declared.kinds.Kind.{Kind}
 use Rattle.sym_filter.specs.Kinds.{kind_of, symbol_of}
 use Rattle.sym_filter.specs.Runs.{Answering, is_read, text_for}
 use Rattle.sym_core.specs.declared.refusal.Refusal.TheVariants.{Malformed, BadReference, BadValue, TooLong, Memory}
-use Rattle.symfilt.specs.Lines.{answer_for, is_read_word, line_of, status_of, Counting, AreCountsFor, IsCountsLine, IsBehindLine, AreLines}
-use Rattle.sym_filter.proofs.WordLemmas.{slice_from}
+use Rattle.sym_core.specs.declared.counts.Counts.{Counts}
+use Rattle.symfilt.specs.Lines.{answer_for, is_read_word, line_of, counts_text, status_of, Counting, AreCountsFor, IsCountsLine, IsBehindLine, AreLines}
 
 pub answer_for-named : (answers : Answering) (word : List ℕ) (kind : Kind) (answer : Result (List ℕ) Refusal) → kind_of word ≡ Some kind → answers kind.lang (symbol_of kind word) ≡ answer → answer_for answers word ≡ Some answer
 unfolding answer_for
@@ -21,10 +20,6 @@ answer_for-named answers word kind answer h is = rw (h, is) refl
 pub answer_for-unnamed : (answers : Answering) (word : List ℕ) → kind_of word ≡ None → answer_for answers word ≡ None
 unfolding answer_for
 answer_for-unnamed answers word h = rw h refl
-
--- the symbol in a word's bytes
-pub symbol_in : (answers : Answering) (word bytes : List ℕ) (kind : Kind) (answer : Result (List ℕ) Refusal) → bytes ≡ word → answers kind.lang (take (length bytes - kind.skip) (drop kind.skip bytes)) ≡ answer → answers kind.lang (symbol_of kind word) ≡ answer
-symbol_in answers word bytes kind answer same is = ap (answers kind.lang) (ap (drop kind.skip) (sym same) ∙ sym (slice_from bytes kind.skip)) ∙ is
 
 -- the line of a word that has a text
 pub text-line : (answers : Answering) (word out mid new text : List ℕ) → text_for answers word ≡ Some text → mid ≡ out ++ text → new ≡ mid ++ 10 ∷ [] → new ≡ out ++ line_of answers word
@@ -43,11 +38,6 @@ said-line err bytes said new same pushed = pushed ∙ append_assoc err bytes (10
 pub words-more : (words : List (Bor (List ℕ))) (i : ℕ) (d : Bor (List ℕ)) → i < length words → map (λ word. word.now) (take (i + 1) words) ≡ map (λ word. word.now) (take i words) ++ (get_or words i d).now ∷ []
 words-more words i d h = ap (map (λ (word : Bor (List ℕ)). word.now)) (take_more words i d h) ∙ map-append (λ (word : Bor (List ℕ)). word.now) (take i words) (get_or words i d ∷ [])
 
-pub complaints-more : (f : List ℕ → List ℕ) (before out new : List ℕ) (done all : List (List ℕ)) (word : List ℕ) → all ≡ done ++ word ∷ [] → out ≡ before ++ flat_map f done → new ≡ out ++ f word → new ≡ before ++ flat_map f all
-complaints-more f before out new done all word e so_far pushed =
-    let more : flat_map f all ≡ flat_map f done ++ f word = ap (flat_map f) e ∙ flat_map-append f done (word ∷ []) ∙ ap (λ (t : List ℕ). flat_map f done ++ t) (append-nil (f word)) in
-    pushed ∙ ap (λ (t : List ℕ). t ++ f word) so_far ∙ append_assoc before (flat_map f done) (f word) ∙ ap (λ (t : List ℕ). before ++ t) (sym more)
-
 -- the lines of one word more
 pub AreLines-more : (answers : Answering) (counting : Counting) (stats : Bool) (words : List (List ℕ)) (word lines behind : List ℕ) → AreLines answers counting stats words lines → IsBehindLine (AreCountsFor counting word) (stats && is_read_word (answer_for answers word)) behind → AreLines answers counting stats (words ++ word ∷ []) (lines ++ (line_of answers word ++ behind))
 AreLines-more answers counting stats [] word lines behind none here = (behind, [], here, refl, ap (λ (t : List ℕ). t ++ (line_of answers word ++ behind)) none ∙ sym (append-nil (line_of answers word ++ behind)))
@@ -56,17 +46,21 @@ AreLines-more answers counting stats (first ∷ words) word lines behind h here 
     let more = line_of answers word ++ behind in
     (h.0, h.1 ++ more, h.2, rest, ap (λ (t : List ℕ). t ++ more) h.4 ∙ append_assoc (line_of answers first ++ h.0) h.1 more)
 
-pub lines-joined : (before out new lines line behind : List ℕ) → out ≡ before ++ lines → new ≡ out ++ line ++ behind → new ≡ before ++ (lines ++ (line ++ behind))
-lines-joined before out new lines line behind so_far pushed =
-    pushed ∙ append_assoc out line behind ∙ ap (λ (t : List ℕ). t ++ (line ++ behind)) so_far ∙ append_assoc before lines (line ++ behind)
-
 -- what stands behind a word's line
 pub nothing-behind : (answers : Answering) (counting : Counting) (stats : Bool) (word : List ℕ) → kind_of word ≡ None → IsBehindLine (AreCountsFor counting word) (stats && is_read_word (answer_for answers word)) []
 nothing-behind answers counting true word none = subst (λ (b : Bool). IsBehindLine (AreCountsFor counting word) b []) (sym (ap is_read_word (answer_for-unnamed answers word none))) refl
 nothing-behind answers counting false word none = refl
 
-pub counts-behind : (answers : Answering) (counting : Counting) (word line : List ℕ) (kind : Kind) → kind_of word ≡ Some kind → is_read (answers kind.lang (symbol_of kind word)) ≡ true → IsCountsLine (AreCountsFor counting word) line → IsBehindLine (AreCountsFor counting word) (is_read_word (answer_for answers word)) line
-counts-behind answers counting word line kind named read counted = subst (λ (b : Bool). IsBehindLine (AreCountsFor counting word) b line) (sym (ap is_read_word (answer_for-named answers word kind (answers kind.lang (symbol_of kind word)) named refl) ∙ read)) counted
+-- the answer of a word's symbol
+pub answer_of-symbol : (answers : Answering) (word symbol : List ℕ) (kind : Kind) (answer : Result (List ℕ) Refusal) → kind_of word ≡ Some kind → symbol ≡ symbol_of kind word → answers kind.lang symbol ≡ answer → answer_for answers word ≡ Some answer
+answer_of-symbol answers word symbol kind answer named same is = answer_for-named answers word kind answer named (ap (answers kind.lang) (sym same) ∙ is)
+
+pub counts-behind : (answers : Answering) (counting : Counting) (stats : Bool) (word symbol : List ℕ) (kind : Kind) (answer : Result (List ℕ) Refusal) (counts : Counts) → kind_of word ≡ Some kind → symbol ≡ symbol_of kind word → answer_for answers word ≡ Some answer → is_read answer ≡ true → counting kind.lang symbol counts → IsBehindLine (AreCountsFor counting word) (stats && is_read_word (answer_for answers word)) (cond stats (counts_text counts.rows counts.nodes counts.steps ++ 10 ∷ []) [])
+counts-behind answers counting true word symbol kind answer counts named same answered read are =
+    let text = counts_text counts.rows counts.nodes counts.steps ++ 10 ∷ [] in
+    let counted : IsCountsLine (AreCountsFor counting word) text = record { counts = counts; are = (kind, named, subst (λ (t : List ℕ). counting kind.lang t counts) same are); is = refl } in
+    subst (λ (b : Bool). IsBehindLine (AreCountsFor counting word) b text) (sym (ap is_read_word answered ∙ read)) counted
+counts-behind answers counting false word symbol kind answer counts named same answered read are = refl
 
 not-read : (refusal : Refusal) → (refusal ≡ TooLong → ⊥) → is_read (Err refusal) ≡ false
 not-read (Malformed at) h = refl
@@ -75,8 +69,9 @@ not-read (BadValue at) h = refl
 not-read TooLong h = absurd (h refl)
 not-read Memory h = refl
 
-pub refused-behind : (answers : Answering) (counting : Counting) (word : List ℕ) (kind : Kind) (refusal : Refusal) → kind_of word ≡ Some kind → answers kind.lang (symbol_of kind word) ≡ Err refusal → (refusal ≡ TooLong → ⊥) → IsBehindLine (AreCountsFor counting word) (is_read_word (answer_for answers word)) []
-refused-behind answers counting word kind refusal named is other = subst (λ (b : Bool). IsBehindLine (AreCountsFor counting word) b []) (sym (ap is_read_word (answer_for-named answers word kind (Err refusal) named is) ∙ not-read refusal other)) refl
+pub refused-behind : (answers : Answering) (counting : Counting) (stats : Bool) (word : List ℕ) (refusal : Refusal) → answer_for answers word ≡ Some (Err refusal) → (refusal ≡ TooLong → ⊥) → IsBehindLine (AreCountsFor counting word) (stats && is_read_word (answer_for answers word)) []
+refused-behind answers counting true word refusal answered other = subst (λ (b : Bool). IsBehindLine (AreCountsFor counting word) b []) (sym (ap is_read_word answered ∙ not-read refusal other)) refl
+refused-behind answers counting false word refusal answered other = refl
 
 status-step : (all word : Bool) (old new : ℕ) → old ≡ cond all 0 1 → new ≡ cond word old 1 → new ≡ cond (all && word) 0 1
 status-step true true old new h e = e ∙ h

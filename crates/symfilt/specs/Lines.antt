@@ -4,7 +4,7 @@ use Rattle.std.specs.List.{list_all}
 use Rattle.std.specs.Fmt.{decimal}
 use Rattle.sym_core.specs.declared.refusal.Refusal.{Refusal}
 use Rattle.sym_core.specs.declared.refusal.Refusal.TheVariants.{Malformed, BadReference, BadValue, TooLong, Memory}
-use Rattle.sym_filter.specs.declared.demangler.Counts.{Counts}
+use Rattle.sym_core.specs.declared.counts.Counts.{Counts}
 use Rattle.sym_filter.specs.declared.kinds.Kind.{Kind}
 use Rattle.sym_filter.specs.declared.kinds.Lang.{Lang}
 use Rattle.sym_filter.specs.Kinds.{kind_of, symbol_of}

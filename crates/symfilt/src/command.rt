@@ -1,40 +1,80 @@
 // The command line.
-ghost use Rattle.std.specs.Prelude.{◌≡◌, ◌≢◌, List, ℕ, [], ◌∷◌, ◌++◌, ◌&&◌, OnOk, OnErr, IfOk, Some, is_some, map, string_bytes};
-ghost use Rattle.sym_filter.specs.Kinds.{kind_of};
-ghost use Rattle.sym_filter.specs.Runs.{text_for};
-ghost use Rattle.std.specs.List.{flat_map};
-ghost use Rattle.symfilt.specs.Lines.{answer_for, is_read_word, line_of, AreCountsFor, IsBehindLine, reason_of, complaint_with, complaint_of, status_of, AreLines};
-ghost use Rattle.sym_filter.specs.Streams.{BeginsWith};
+ghost use Rattle.std.specs.Prelude.{◌≡◌, ◌≢◌, ◌⊎◌, ◌+◌, ◌-◌, ◌^◌, ◌<◌, List, ℕ, ◌++◌, OnOk, OnErr, IfOk, IfErr, map};
+ghost use Rattle.sym_filter.specs.Streams.{writer_faults};
+ghost use Rattle.symfilt.specs.Command.{Took, Says, AnswersWords, AnswersFront, IsRun, IsStopped};
 ghost use Rattle.symfilt.specs.declared.outcome.Run.{Run as Run-type};
 
+use crate::lines::answer_word;
 use crate::outcome::Run;
+use crate::page::Page;
 use clap::error::ErrorKind;
 use clap::{Arg, ArgAction, ArgMatches, Command, Error};
-use std::alloc::{AllocError, Global};
-use sym_core::Refusal;
-use sym_filter::{Counts, Demangler, Kind, Languages, kind_of};
+use std::alloc::Global;
+use std::mem;
+use sym_filter::{Demangler, FilterFault, Languages, ListSink, Sink, write_all};
 use sym_print::Detail;
 
+/// The status where each word has a text.
 const ANSWERED: u8 = 0;
 
+/// The status where a word has none.
 const REFUSED: u8 = 1;
 
+/// The status of a command line that was refused, or asked for help.
 const WRONG_USE: u8 = 2;
 
-const FAULT: u8 = 3;
+/// The status where reading, writing or memory failed.
+pub const FAULT: u8 = 3;
 
 /// The greatest cost of a text where no other limit is asked for.
-const USUAL_LIMIT: u32 = 1_000_000;
+const DEFAULT_LIMIT: u32 = 1_000_000;
+
+const VERSION: &str = "0.1.0 (Rust v0 by RFC 2603; proved with rattle-kit-13b)";
+
+/// How symbols are answered.
+#[derive(Clone, Copy, Debug, PartialEq, Eq)]
+pub struct Options {
+    pub limit: u32,
+    pub detail: Detail,
+    pub stats: bool,
+}
 
 /// Appends the lines for the words of a command line, the program's name first, and says what the program is to do.
-/// Where memory runs out, each list got a beginning of its lines.
+/// Where memory runs out, each list got a beginning of its lines, and the status is 3.
 pub fn run(alloc: Global, words: &[&str], out: &mut Vec<u8>, err: &mut Vec<u8>) -> Run
-    ensures out { BeginsWith out.new.items out.old.items }
-    ensures err { BeginsWith err.new.items err.old.items }
+    ensures { (lines said : List ℕ) × (out.new.items ≡ out.old.items ++ lines) × (err.new.items ≡ err.old.items ++ said)
+        × (IsRun result lines said ⊎ ((result ≡ Run-type.Done 3) × IsStopped lines said)) }
+{
+    let mut out_sink = ListSink::new(mem::replace(out, Vec::new(alloc)));
+    let mut err_sink = ListSink::new(mem::replace(err, Vec::new(alloc)));
+    let outcome = run_to(alloc, words, &mut out_sink, &mut err_sink);
+    *out = out_sink.into_list();
+    *err = err_sink.into_list();
+    match outcome {
+        Ok(run) => run,
+        Err(_) => Run::Done(FAULT),
+    }
+}
+
+/// Writes the lines for the words of a command line, the program's name first, and says what the program is to do. A word's lines
+/// wait until they are some kilobytes with those before, so that the words need the memory of the dearest.
+pub fn run_to<W: Sink, E: Sink>(
+    alloc: Global,
+    words: &[&str],
+    out: &mut W,
+    err: &mut E,
+) -> Result<Run, FilterFault>
+    requires out_failures { W.failure_count out.old < 2 ^ 64 - 1 }
+    requires err_failures { E.failure_count err.old < 2 ^ 64 - 1 }
+    ensures ok { IfOk result (λ run. Took (W.taken out.old) (W.taken out.new) (E.taken err.old) (E.taken err.new) (IsRun run)) }
+    ensures err { OnErr result (Took (W.taken out.old) (W.taken out.new) (E.taken err.old) (E.taken err.new) IsStopped) }
+    ensures fault { IfErr result (λ fault. fault ≢ FilterFault.Read) }
+    ensures failures { W.failure_count out.new + E.failure_count err.new
+        ≡ W.failure_count out.old + E.failure_count err.old + writer_faults result }
 {
     match command_line(alloc, words) {
-        Ok(matches) => answer_all(alloc, &matches, out, err).unwrap_or(Run::Done(FAULT)),
-        Err(error) => refuse(alloc, &error, err).unwrap_or(Run::Done(FAULT)),
+        Ok(matches) => answer_all(alloc, &matches, out, err),
+        Err(error) => refuse(alloc, &error, err),
     }
 }
 
@@ -44,16 +84,20 @@ fn command_line<'a>(alloc: Global, words: &'a [&'a str]) -> Result<ArgMatches<'a
         .long("limit")
         .value_name("N")
         .value_parser(clap::value_parser!(u32))
-        .default_value("1000000")
-        .help("The greatest cost of a text");
+        .help(
+            "The greatest cost of a text, 0 to 4294967295 [default: 1000000]. A text costs its bytes, and 1 for each item that it is put together from",
+        );
     let stats = flag(alloc, "stats").help("Show the rows, nodes and steps of each symbol");
-    let brief = flag(alloc, "brief").help("Leave out template and generic arguments");
+    let brief = flag(alloc, "brief").help("Leave out generic arguments");
     let symbols = Arg::new(alloc, "SYMBOL")
         .num_args(0..)
         .action(ArgAction::Append)
         .help("Symbols; with none, standard input is filtered");
     Command::new(alloc, "symfilt")
-        .about("Prints C++ and Rust symbols")
+        .version(VERSION)
+        .about(
+            "Prints Rust (v0) symbols. C++ symbols pass through the filter as they are, and are refused as arguments",
+        )
         .arg(limit)?
         .arg(stats)?
         .arg(brief)?
@@ -65,195 +109,124 @@ fn flag<'a>(alloc: Global, name: &'a str) -> Arg<'a> {
     Arg::new(alloc, name).long(name).action(ArgAction::SetTrue)
 }
 
-/// Appends what the command line's parser says of an error or a wish for help.
-fn refuse(alloc: Global, error: &Error, err: &mut Vec<u8>) -> Result<Run, AllocError>
-    ensures err { BeginsWith err.new.items err.old.items }
+/// Writes what the command line's parser says of an error, or a wish for help or the version.
+fn refuse<E: Sink>(alloc: Global, error: &Error, err: &mut E) -> Result<Run, FilterFault>
+    requires err_failures { E.failure_count err.old < 2 ^ 64 - 1 }
+    ensures says { Says (E.taken err.old) (E.taken err.new) }
     ensures wrong_use { IfOk result (λ run. run ≡ Run-type.Done 2) }
+    ensures fault { IfErr result (λ fault. fault ≢ FilterFault.Read) }
+    ensures failures { E.failure_count err.new ≡ E.failure_count err.old + writer_faults result }
 {
     if error.kind() == ErrorKind::OutOfMemory {
-        return Err(AllocError);
+        return Err(FilterFault::Memory);
     }
     let text = format!(in alloc; "{error}")?;
-    err.extend_from_slice(text.as_bytes())?;
-    Ok(Run::Done(WRONG_USE))
+    refuse_with(err, text.as_bytes())
 }
 
-/// Appends the lines of each symbol, or says that standard input is to be filtered.
-fn answer_all(
-    alloc: Global,
-    matches: &ArgMatches<'_>,
-    out: &mut Vec<u8>,
-    err: &mut Vec<u8>,
-) -> Result<Run, AllocError>
-    ensures out { BeginsWith out.new.items out.old.items }
-    ensures err { BeginsWith err.new.items err.old.items }
+/// Writes why a command line is refused.
+pub fn refuse_with<E: Sink>(err: &mut E, why: &[u8]) -> Result<Run, FilterFault>
+    requires err_failures { E.failure_count err.old < 2 ^ 64 - 1 }
+    ensures says { Says (E.taken err.old) (E.taken err.new) }
+    ensures wrong_use { IfOk result (λ run. run ≡ Run-type.Done 2) }
+    ensures fault { IfErr result (λ fault. fault ≢ FilterFault.Read) }
+    ensures failures { E.failure_count err.new ≡ E.failure_count err.old + writer_faults result }
 {
-    let limit = matches.get_one::<u32>("limit").unwrap_or(USUAL_LIMIT);
+    match write_all(err, why) {
+        Ok(()) => Ok(Run::Done(WRONG_USE)),
+        Err(fault) => Err(fault),
+    }
+}
+
+/// The options of a command line.
+fn options_of(matches: &ArgMatches<'_>) -> Options {
     let detail = if matches.get_flag("brief") {
         Detail::Brief
     } else {
         Detail::Full
     };
-    let stats = matches.get_flag("stats");
-    let Some(symbols) = matches.get_strs("SYMBOL") else {
-        if stats {
-            err.extend_from_slice(b"symfilt: --press and --stats need a symbol\n")?;
-            return Ok(Run::Done(WRONG_USE));
-        }
-        return Ok(Run::Filter { limit, detail });
-    };
-    let languages = Languages { limit, detail };
-    let status = answer_words(alloc, &languages, stats, symbols, out, err)?;
-    Ok(Run::Done(status))
+    Options {
+        limit: matches.get_one::<u32>("limit").unwrap_or(DEFAULT_LIMIT),
+        detail,
+        stats: matches.get_flag("stats"),
+    }
 }
 
-/// Appends the lines of words, and answers the status: whether each has a text.
-pub fn answer_words<D: Demangler>(
+/// Writes the lines of each symbol, or says that standard input is to be filtered.
+fn answer_all<W: Sink, E: Sink>(
+    alloc: Global,
+    matches: &ArgMatches<'_>,
+    out: &mut W,
+    err: &mut E,
+) -> Result<Run, FilterFault>
+    requires out_failures { W.failure_count out.old < 2 ^ 64 - 1 }
+    requires err_failures { E.failure_count err.old < 2 ^ 64 - 1 }
+    ensures ok { IfOk result (λ run. Took (W.taken out.old) (W.taken out.new) (E.taken err.old) (E.taken err.new) (IsRun run)) }
+    ensures err { OnErr result (Took (W.taken out.old) (W.taken out.new) (E.taken err.old) (E.taken err.new) IsStopped) }
+    ensures fault { IfErr result (λ fault. fault ≢ FilterFault.Read) }
+    ensures failures { W.failure_count out.new + E.failure_count err.new
+        ≡ W.failure_count out.old + E.failure_count err.old + writer_faults result }
+{
+    let Options {
+        limit,
+        detail,
+        stats,
+    } = options_of(matches);
+    let symbols = matches.get_strs("SYMBOL").unwrap_or_default();
+    if !symbols.is_empty() {
+        let languages = Languages { limit, detail };
+        let status = answer_words(alloc, &languages, stats, symbols, out, err)?;
+        return Ok(Run::Done(status));
+    }
+    if stats {
+        return refuse_with(err, b"symfilt: --press and --stats need a symbol\n");
+    }
+    Ok(Run::Filter { limit, detail })
+}
+
+/// Writes the lines of words, and answers the status: whether each has a text.
+pub fn answer_words<D: Demangler, W: Sink, E: Sink>(
     alloc: Global,
     demangler: &D,
     stats: bool,
     words: &[&str],
-    out: &mut Vec<u8>,
-    err: &mut Vec<u8>,
-) -> Result<u8, AllocError>
-    ensures lines { OnOk result ((lines : List ℕ) × (out.new.items ≡ out.old.items ++ lines)
-        × AreLines (D.answer demangler.now) (D.are_counts demangler.now) stats (map (λ word. word.now) words.now) lines) }
-    ensures complaints { OnOk result (err.new.items ≡ err.old.items
-        ++ flat_map (complaint_of (D.answer demangler.now)) (map (λ word. word.now) words.now)) }
-    ensures status { IfOk result (λ status. status
-        ≡ status_of (D.answer demangler.now) (map (λ word. word.now) words.now)) }
-    ensures out { BeginsWith out.new.items out.old.items }
-    ensures err { BeginsWith err.new.items err.old.items }
+    out: &mut W,
+    err: &mut E,
+) -> Result<u8, FilterFault>
+    requires out_failures { W.failure_count out.old < 2 ^ 64 - 1 }
+    requires err_failures { E.failure_count err.old < 2 ^ 64 - 1 }
+    ensures ok { IfOk result (λ status. Took (W.taken out.old) (W.taken out.new) (E.taken err.old) (E.taken err.new)
+        (AnswersWords (D.answer demangler.now) (D.are_counts demangler.now) stats (map (λ word. word.now) words.now) status)) }
+    ensures err { OnErr result (Took (W.taken out.old) (W.taken out.new) (E.taken err.old) (E.taken err.new)
+        (AnswersFront (D.answer demangler.now) (D.are_counts demangler.now) stats (map (λ word. word.now) words.now))) }
+    ensures fault { IfErr result (λ fault. fault ≢ FilterFault.Read) }
+    ensures failures { W.failure_count out.new + E.failure_count err.new
+        ≡ W.failure_count out.old + E.failure_count err.old + writer_faults result }
 {
     let mut lists = demangler.lists(alloc)?;
+    let mut page = Page::new(alloc);
     let mut status = ANSWERED;
-    for word in words {
-        if !answer_word(alloc, demangler, &mut lists, stats, word, out, err)? {
+    'words: for word in words {
+        let has_text = match answer_word(
+            alloc,
+            demangler,
+            &mut lists,
+            stats,
+            word,
+            &mut page.out,
+            &mut page.err,
+        ) {
+            Ok(has_text) => has_text,
+            Err(_) => {
+                page.write(out, err)?;
+                return Err(FilterFault::Memory);
+            }
+        };
+        if !has_text {
             status = REFUSED;
         }
+        page.write_when_full(out, err)?;
     }
+    page.write(out, err)?;
     Ok(status)
-}
-
-/// Appends the lines of one word, and says whether it has a text.
-fn answer_word<D: Demangler>(
-    alloc: Global,
-    demangler: &D,
-    lists: &mut D::Lists,
-    stats: bool,
-    word: &str,
-    out: &mut Vec<u8>,
-    err: &mut Vec<u8>,
-) -> Result<bool, AllocError>
-    ensures line { OnOk result ((behind : List ℕ)
-        × (out.new.items ≡ out.old.items ++ line_of (D.answer demangler.now) word.now ++ behind)
-        × IsBehindLine (AreCountsFor (D.are_counts demangler.now) word.now) (stats && is_read_word (answer_for (D.answer demangler.now) word.now)) behind) }
-    ensures complaint { OnOk result (err.new.items ≡ err.old.items ++ complaint_of (D.answer demangler.now) word.now) }
-    ensures has_text { IfOk result (λ has_text. has_text
-        ≡ is_some (text_for (D.answer demangler.now) word.now)) }
-    ensures out { BeginsWith out.new.items out.old.items }
-    ensures err { BeginsWith err.new.items err.old.items }
-{
-    let Some(kind) = kind_of(word.as_bytes()) else {
-        push_line(out, word.as_bytes())?;
-        let complaint = format!(in alloc; "symfilt: {word}: not a symbol")?;
-        push_line(err, complaint.as_bytes())?;
-        return Ok(false);
-    };
-    let has_text = push_answer(alloc, demangler, lists, word, kind, out, err)?;
-    if !stats {
-        return Ok(has_text);
-    }
-    push_counts(alloc, demangler, lists, word, kind, out)?;
-    Ok(has_text)
-}
-
-/// Appends the text of a word's symbol, or the word and why it has none, and says whether it has one.
-fn push_answer<D: Demangler>(
-    alloc: Global,
-    demangler: &D,
-    lists: &mut D::Lists,
-    word: &str,
-    kind: Kind,
-    out: &mut Vec<u8>,
-    err: &mut Vec<u8>,
-) -> Result<bool, AllocError>
-    requires { kind_of word.now ≡ Some kind }
-    ensures line { OnOk result (out.new.items ≡ out.old.items ++ line_of (D.answer demangler.now) word.now) }
-    ensures complaint { OnOk result (err.new.items ≡ err.old.items ++ complaint_of (D.answer demangler.now) word.now) }
-    ensures has_text { IfOk result (λ has_text. has_text
-        ≡ is_some (text_for (D.answer demangler.now) word.now)) }
-    ensures out { BeginsWith out.new.items out.old.items }
-    ensures err { BeginsWith err.new.items err.old.items }
-{
-    let symbol = &word.as_bytes()[kind.skip as usize..];
-    match demangler.demangle(lists, kind.lang, symbol, out) {
-        Ok(()) => {
-            out.push(b'\n')?;
-            Ok(true)
-        }
-        Err(refusal) => {
-            let complaint = complaint(alloc, word, refusal)?;
-            push_line(out, word.as_bytes())?;
-            push_line(err, complaint.as_bytes())?;
-            Ok(false)
-        }
-    }
-}
-
-/// Appends the line of the counts of a word's symbol, where it is read.
-fn push_counts<D: Demangler>(
-    alloc: Global,
-    demangler: &D,
-    lists: &mut D::Lists,
-    word: &str,
-    kind: Kind,
-    out: &mut Vec<u8>,
-) -> Result<(), AllocError>
-    requires { kind_of word.now ≡ Some kind }
-    ensures line { OnOk result ((line : List ℕ) × (out.new.items ≡ out.old.items ++ line)
-        × IsBehindLine (AreCountsFor (D.are_counts demangler.now) word.now) (is_read_word (answer_for (D.answer demangler.now) word.now)) line) }
-    ensures out { BeginsWith out.new.items out.old.items }
-{
-    let symbol = &word.as_bytes()[kind.skip as usize..];
-    match demangler.counts(lists, kind.lang, symbol) {
-        Ok(Counts { rows, nodes, steps }) => {
-            let line = format!(in alloc; "rows {rows} nodes {nodes} steps {steps}")?;
-            push_line(out, line.as_bytes())?;
-            Ok(())
-        }
-        Err(refusal) => match refusal {
-            Refusal::Memory => Err(AllocError),
-            _ => Ok(()),
-        },
-    }
-}
-
-/// Says why a word is refused.
-fn complaint(alloc: Global, word: &str, refusal: Refusal) -> Result<String, AllocError>
-    ensures said { IfOk result (λ text. string_bytes text ≡ complaint_with word.now (reason_of refusal)) }
-    ensures memory { OnOk result (refusal ≢ Refusal.Memory) }
-{
-    match refusal {
-        Refusal::Malformed { at } => format!(in alloc; "symfilt: {word}: malformed at {at}"),
-        Refusal::BadReference { at } => format!(in alloc; "symfilt: {word}: bad reference at {at}"),
-        Refusal::BadValue { at } => format!(in alloc; "symfilt: {word}: bad value at {at}"),
-        Refusal::TooLong => format!(in alloc; "symfilt: {word}: too long"),
-        Refusal::Memory => Err(AllocError),
-    }
-}
-
-/// Appends a line, or nothing.
-fn push_line(lines: &mut Vec<u8>, line: &[u8]) -> Result<(), AllocError>
-    ensures ok { OnOk result (lines.new.items ≡ lines.old.items ++ line.now ++ 10 ∷ []) }
-    ensures begins { BeginsWith lines.new.items lines.old.items }
-    ensures whole { OnErr result (lines.new.items ≡ lines.old.items) }
-{
-    let len = lines.len();
-    lines.extend_from_slice(line)?;
-    if lines.push(b'\n').is_err() {
-        lines.truncate(len);
-        return Err(AllocError);
-    }
-    Ok(())
 }

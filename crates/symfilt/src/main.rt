@@ -2,7 +2,9 @@
 #![tactic(auto)]
 
 mod command;
+mod lines;
 mod outcome;
+mod page;
 mod program;
 #[cfg(test)]
 mod rows;
@@ -11,7 +13,7 @@ mod scripted;
 #[cfg(test)]
 mod tests;
 
-pub use command::run;
+pub use command::{Options, run, run_to};
 pub use outcome::Run;
 use std::process::ExitCode;
 

@@ -1,43 +1,38 @@
 // The program: symbols on the command line, or standard input filtered to standard output.
-ghost use Rattle.std.specs.Prelude.{◌≡◌, ◌⊎◌};
+ghost use Rattle.std.specs.Prelude.{◌≡◌, ◌⊎◌, ◌^◌, ◌-◌, ◌<◌, IfOk, vec_len};
+ghost use Rattle.symfilt.specs.declared.program.TheConstants.{LONGEST_ARGUMENT};
 
-use crate::command::run;
+use crate::command::{FAULT, refuse_with, run_to};
 use crate::outcome::Run;
-use std::alloc::AllocError;
+use std::alloc::{AllocError, Global};
 use std::rt::Env;
-use std::{env, io};
-use sym_filter::{FilterFault, ReaderSource, WriterSink, filter_as};
+use std::{env, io, str};
+use sym_filter::{FilterFault, ReaderSource, Sink, WriterSink, filter_as};
 use sym_print::Detail;
 
-const WRONG_USE: u8 = 2;
-
-const FAULT: u8 = 3;
+/// No argument is longer, in bytes (Linux's bound on one argument).
+const LONGEST_ARGUMENT: usize = 131_072;
 
 /// Runs the program, and answers its exit status.
 pub fn program<R: Env + Input + Print + AllocGlobal, E: Print>(rt: &R, errors: &E) -> u8 {
-    let mut out = Vec::new(rt.alloc());
-    let mut err = Vec::new(rt.alloc());
-    match outcome_of(rt, &mut out, &mut err) {
-        Ok(Run::Done(status)) => finish(rt, errors, &out, &err, status),
+    match answer(rt, errors) {
+        Ok(Run::Done(status)) => status,
         Ok(Run::Filter { limit, detail }) => filter_input(rt, errors, limit, detail),
-        Err(_) => finish(rt, errors, &out, &err, FAULT),
+        Err(error) => fault(errors, error),
     }
 }
 
-/// Runs the command on the words that the program was called with.
-fn outcome_of<R: Env + AllocGlobal>(
-    rt: &R,
-    out: &mut Vec<u8>,
-    err: &mut Vec<u8>,
-) -> Result<Run, AllocError> {
+/// Answers the words that the program was called with.
+fn answer<R: Env + Print + AllocGlobal, E: Print>(rt: &R, errors: &E) -> Result<Run, FilterFault> {
+    let mut out = WriterSink::new(io::writer(rt));
+    let mut err = WriterSink::new(io::writer(errors));
     let args = match env::args(rt) {
         Ok(args) => args,
         Err(error) => {
             if error.kind() == io::ErrorKind::OutOfMemory {
-                return Err(AllocError);
+                return Err(FilterFault::Memory);
             }
-            err.extend_from_slice(b"symfilt: the command line is no text\n")?;
-            return Ok(Run::Done(WRONG_USE));
+            return refuse_argument(rt, &mut err);
         }
     };
     let words: Vec<String> = args.collect(rt.alloc())?;
@@ -45,23 +40,35 @@ fn outcome_of<R: Env + AllocGlobal>(
     for word in &words {
         texts.push(word.as_str())?;
     }
-    Ok(run(rt.alloc(), texts.as_slice(), out, err))
+    run_to(rt.alloc(), texts.as_slice(), &mut out, &mut err)
 }
 
-/// Prints both lists, and says what went wrong where they don't.
-fn finish<R: Print, E: Print>(rt: &R, errors: &E, out: &[u8], err: &[u8], status: u8) -> u8
-    ensures { (result ≡ status) ⊎ (result ≡ 3) }
+/// Names the first argument that isn't valid UTF-8.
+fn refuse_argument<R: Env + AllocGlobal, E: Sink>(rt: &R, err: &mut E) -> Result<Run, FilterFault>
+    requires { E.failure_count err.old < 2 ^ 64 - 1 }
 {
-    if rt.write_all(out).is_err() {
-        return fault(errors, FilterFault::Write);
+    let alloc = rt.alloc();
+    let mut room = room_for_argument(alloc)?;
+    let mut line = Vec::from_slice(alloc, b"symfilt: ")?;
+    for i in 0..usize::MAX {
+        let Ok(len) = rt.arg(i, &mut room) else {
+            break;
+        };
+        let word = room.get(..len).unwrap_or_default();
+        if str::from_utf8(word).is_err() {
+            line.extend_from_slice(word)?;
+            break;
+        }
     }
-    if errors.write_all(err).is_err() {
-        return fault(errors, FilterFault::Write);
-    }
-    if status == FAULT {
-        return fault(errors, FilterFault::Memory);
-    }
-    status
+    line.extend_from_slice(b": not valid UTF-8\n")?;
+    refuse_with(err, &line)
+}
+
+/// Room for the bytes of one argument.
+fn room_for_argument(alloc: Global) -> Result<Vec<u8>, AllocError>
+    ensures { IfOk result (λ room. vec_len room ≡ LONGEST_ARGUMENT) }
+{
+    vec![in alloc; 0u8; LONGEST_ARGUMENT]
 }
 
 /// Filters standard input to standard output.

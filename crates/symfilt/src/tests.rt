@@ -119,25 +119,25 @@ fn a_source_with_no_read_left_fails(rt: HostRuntime) {
 #[test]
 fn answers_words(rt: HostRuntime) -> Result<(), Fail> {
     let alloc = rt.alloc();
-    let mut out = Vec::new(alloc);
-    let mut err = Vec::new(alloc);
     let languages = Languages {
         limit: LIMIT,
         detail: Detail::Full,
     };
+    let mut out = ScriptedSink::new(alloc, &[]);
+    let mut err = ScriptedSink::new(alloc, &[]);
     let words = ["_Z1fQ", "__RC1a", "foo"];
-    let status = answer_words(alloc, &languages, true, &words, &mut out, &mut err)?;
-    assert_eq!(rt; status, 1);
-    assert!(rt; holds(&out, b"_Z1fQ\na\nrows 4 nodes 5 steps 15\nfoo\n"));
+    let status = answer_words(alloc, &languages, true, &words, &mut out, &mut err);
+    assert!(rt; status == Ok(1));
+    assert!(rt; holds(out.bytes(), b"_Z1fQ\na\nrows 4 nodes 5 steps 15\nfoo\n"));
     assert!(rt;
         holds(
-            &err,
+            err.bytes(),
             b"symfilt: _Z1fQ: malformed at 1\nsymfilt: foo: not a symbol\n"
         )
     );
-    out.clear();
-    let status = answer_words(alloc, &languages, false, &["_RC1a"], &mut out, &mut err)?;
-    assert!(rt; status == 0 && holds(&out, b"a\n"));
+    let mut out = ScriptedSink::new(alloc, &[]);
+    let status = answer_words(alloc, &languages, false, &["_RC1a"], &mut out, &mut err);
+    assert!(rt; status == Ok(0) && holds(out.bytes(), b"a\n"));
     Ok(())
 }
 

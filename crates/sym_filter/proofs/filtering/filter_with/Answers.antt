@@ -5,6 +5,7 @@ use Rattle.sym_filter.specs.Runs.{filtered, tally_of}
 use Rattle.sym_filter.specs.Words.{rest_after, tally_after}
 use Rattle.sym_filter.specs.Streams.{Puts}
 use Rattle.sym_filter.proofs.StreamLemmas.{Consumes-join, Consumes-keeps, next-text, next-counts, Puts-join, Puts-all, PutsFront-of, PutsFront-join, PutsFront-same, IfErr-from_and, reader_faults-other, take-none, room-back, dots-step}
+use Rattle.sym_filter.specs.declared.filtering.TheConstants.{READ_SIZE}
 use Rattle.sym_filter.proofs.filtering.filter_with.Goals as goal
 
 pub loop-count-preserved : goal.loop-count-preserved
@@ -15,7 +16,7 @@ loop-count-preserved g c =
     let answers = g.D.Demangler.answer c.args.demangler.now in
     let piece = take c.in-Some.count c.deref.result.now in
     let same : take c.in-Some.count c.read.new.room ≡ piece = ap (λ (t : List ℕ). take c.in-Some.count t) (sym (c.deref.ensures.value ∙ room-back c.read.new.room c.loop-count.room.items c.loop-count.room.len (c.read.auto.room ∙ c.deref_mut.ensures.len))) in
-    let whole_room : length c.read.new.room ≡ 65536 = c.read.auto.room ∙ ap length c.deref_mut.ensures.value ∙ so_far.room in record {
+    let whole_room : length c.read.new.room ≡ READ_SIZE = c.read.auto.room ∙ ap length c.deref_mut.ensures.value ∙ so_far.room in record {
       text = so_far.text ++ piece;
       bytes = so_far.bytes ++ taken.ok.0;
       reads = Consumes-join _ _ _ so_far.text piece so_far.reads (subst (λ (t : List ℕ). Consumes (g.R.Source.coming c.loop-count.reader) (g.R.Source.coming c.read.new.self) t) same read.bytes);
@@ -96,7 +97,7 @@ returns-clause-ok g c =
     record {
       text = so_far.text ++ [];
       reads = subst (λ (t : List ℕ). Consumes (g.R.Source.coming c.args.reader.now) (g.R.Source.coming c.read.new.self) t) none (Consumes-join _ _ _ so_far.text (take c.in-Some.count c.read.new.room) so_far.reads c.in-Some.ensures.bytes);
-      ends = c.in-Some.ensures.end c.if-count-eq0.true (let whole_room : length c.read.new.room ≡ 65536 = c.read.auto.room ∙ ap length c.deref_mut.ensures.value ∙ so_far.room in omega arith);
+      ends = c.in-Some.ensures.end c.if-count-eq0.true (let whole_room : length c.read.new.room ≡ READ_SIZE = c.read.auto.room ∙ ap length c.deref_mut.ensures.value ∙ so_far.room in omega arith);
       writes = subst (λ (t : List ℕ). Appends (g.W.Sink.taken c.args.writer.now) (g.W.Sink.taken c.end_text.new.writer) t) (sym (so_far.rest [])) all;
       counts = c.tally.ensures ∙ c.in_ok-end_text.ensures.counts ∙ sym (so_far.counts []);
     }

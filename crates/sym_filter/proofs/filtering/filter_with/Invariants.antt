@@ -3,6 +3,7 @@ use Rattle.std.specs.Io.KnownBytes.{Consumes}
 use Rattle.sym_filter.specs.Runs.{filtered, tally_of}
 use Rattle.sym_filter.specs.Streams.{Puts}
 use Rattle.sym_filter.specs.Words.{rest_after, tally_after}
+use Rattle.sym_filter.specs.declared.filtering.TheConstants.{READ_SIZE}
 use Rattle.sym_filter.proofs.filtering.filter_with.Given as goal
 
 abbrev pub invariant-loop-count : goal.invariant-loop-count
@@ -13,11 +14,11 @@ invariant-loop-count g l = let answers = g.D.Demangler.answer l.demangler in rec
   puts : Puts (g.W.Sink.taken l.fn.writer) (g.W.Sink.taken l.writer) [] [] bytes;
   read_failures : g.R.Source.failure_count l.reader ≡ g.R.Source.failure_count l.fn.reader;
   write_failures : g.W.Sink.failure_count l.writer ≡ g.W.Sink.failure_count l.fn.writer;
-  room : length l.room.items ≡ 65536;
+  room : length l.room.items ≡ READ_SIZE;
   nothing_waits : l.out.items ≡ [];
   rest : (more : List ℕ) → filtered answers (text ++ more) ≡ bytes ++ rest_after answers l.words more;
   counts : (more : List ℕ) → tally_of answers (text ++ more) ≡ tally_after answers l.words more;
-  dots : l.words.dots + 65536 * g.R.Source.reads_left l.reader < 2 ^ 64 * 65536;
+  dots : l.words.dots + READ_SIZE * g.R.Source.reads_left l.reader < 2 ^ 64 * READ_SIZE;
 }
 
 abbrev pub decreases-loop-count : goal.decreases-loop-count

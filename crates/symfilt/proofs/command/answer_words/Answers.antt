@@ -1,28 +1,123 @@
-use Rattle.std.proofs.Common.{◌≡◌, ◌++◌, cond, sym, subst, ◌∙◌, List, [], ℕ, get_or, Bor}
+use Rattle.std.proofs.Common.{◌≡◌, ◌+◌, cond, sym, ◌∙◌, List, [], ℕ, get_or, map, take, drop, Bor, refl, arith}
 use Rattle.std.proofs.lemmas.Bool.{cond-true, cond-false}
-use Rattle.symfilt.specs.Lines.{line_of, complaint_of, AreLines}
-use Rattle.symfilt.proofs.LineLemmas.{words-more, complaints-more, lines-joined, AreLines-more, status-more}
-use Rattle.sym_filter.proofs.StreamLemmas.{BeginsWith_trans}
+use Rattle.symfilt.proofs.LineLemmas.{words-more, status-more}
+use Rattle.symfilt.proofs.PageLemmas.{SoFar-begin, SoFar-word, SoFar-written, SoFar-stopped, PutsFront-none, PutsFront-all, PutsFront-from, OnErr-anyway, words-split}
 use Rattle.symfilt.proofs.command.answer_words.Goals as goal
-use Rattle.symfilt.proofs.command.answer_words.Goals.{then-not-branch, else-not-branch}
+use Rattle.symfilt.proofs.command.answer_words.Goals.{then-not-has_text, else-not-has_text}
 
-pub loop-word-preserved : goal.loop-word-preserved
-loop-word-preserved g c =
+pub returns-in_err-lists-clause-err : goal.returns-in_err-lists-clause-err
+returns-in_err-lists-clause-err g c =
     let answers = g.D.Demangler.answer c.args.demangler.now in
     let counting = g.D.Demangler.are_counts c.args.demangler.now in
-    let so_far = c.loop-word.invariant in
-    let answered = c.in_ok-answer_word.ensures in
-    let has_text = c.in_ok-answer_word.field-0 in
+    let now : Bor (List ℕ) → List ℕ = λ word. word.now in
+    let words = c.args.words.now in
+    let out = g.W.Sink.taken c.args.out.now in
+    let err = g.E.Sink.taken c.args.err.now in
+    OnErr-anyway c.from_residual.result _ (SoFar-stopped answers counting c.args.stats [] (map now words) (map now words) out out out err err err [] []
+    (SoFar-begin answers counting c.args.stats out err [] [] refl refl) refl (PutsFront-none out []) (PutsFront-none err []))
+
+pub returns-in_err-write-in-Err-clause-err : goal.returns-in_err-write-in-Err-clause-err
+returns-in_err-write-in-Err-clause-err g c =
+    let answers = g.D.Demangler.answer c.args.demangler.now in
+    let counting = g.D.Demangler.are_counts c.args.demangler.now in
+    let now : Bor (List ℕ) → List ℕ = λ word. word.now in
+    let words = c.args.words.now in
+    let out = g.W.Sink.taken c.args.out.now in
+    let err = g.E.Sink.taken c.args.err.now in
+    let i = c.words.word-index in
+    let mid = g.W.Sink.taken c.words.out in
+    let mid' = g.E.Sink.taken c.words.err in
+    let lines = c.words.page.out.items in
+    let said = c.words.page.err.items in
+    let so_far = c.words.invariant.so_far in
+    let wrote = c.in_err-write-in-Err.ensures in
+    OnErr-anyway c.from_residual-in_err-write-in-Err.result _ (SoFar-stopped answers counting c.args.stats (map now (take i words)) (map now words) (map now (drop i words)) out mid (g.W.Sink.taken c.write.new.out) err mid' (g.E.Sink.taken c.write.new.err) lines said so_far (words-split words i)
+    (PutsFront-from mid (g.W.Sink.taken c.write.new.out) lines c.answer_word.new.out.items c.in-Err.ensures.same_out wrote.out_front)
+    (PutsFront-from mid' (g.E.Sink.taken c.write.new.err) said c.answer_word.new.err.items c.in-Err.ensures.same_err wrote.err_front))
+
+pub returns-in-Err-clause-err : goal.returns-in-Err-clause-err
+returns-in-Err-clause-err g c =
+    let answers = g.D.Demangler.answer c.args.demangler.now in
+    let counting = g.D.Demangler.are_counts c.args.demangler.now in
+    let now : Bor (List ℕ) → List ℕ = λ word. word.now in
+    let words = c.args.words.now in
+    let out = g.W.Sink.taken c.args.out.now in
+    let err = g.E.Sink.taken c.args.err.now in
+    let i = c.words.word-index in
+    let mid = g.W.Sink.taken c.words.out in
+    let mid' = g.E.Sink.taken c.words.err in
+    let lines = c.words.page.out.items in
+    let said = c.words.page.err.items in
+    let so_far = c.words.invariant.so_far in
+    let wrote = c.in_ok-write-in-Err.ensures in
+    SoFar-stopped answers counting c.args.stats (map now (take i words)) (map now words) (map now (drop i words)) out mid (g.W.Sink.taken c.write.new.out) err mid' (g.E.Sink.taken c.write.new.err) lines said so_far (words-split words i)
+    (PutsFront-from mid (g.W.Sink.taken c.write.new.out) lines c.answer_word.new.out.items c.in-Err.ensures.same_out (PutsFront-all mid (g.W.Sink.taken c.write.new.out) c.answer_word.new.out.items [] wrote.out))
+    (PutsFront-from mid' (g.E.Sink.taken c.write.new.err) said c.answer_word.new.err.items c.in-Err.ensures.same_err (PutsFront-all mid' (g.E.Sink.taken c.write.new.err) c.answer_word.new.err.items [] wrote.err))
+
+pub returns-in_err-write_when_full-clause-err : goal.returns-in_err-write_when_full-clause-err
+returns-in_err-write_when_full-clause-err g c =
+    let answers = g.D.Demangler.answer c.args.demangler.now in
+    let counting = g.D.Demangler.are_counts c.args.demangler.now in
+    let now : Bor (List ℕ) → List ℕ = λ word. word.now in
+    let words = c.args.words.now in
+    let out = g.W.Sink.taken c.args.out.now in
+    let err = g.E.Sink.taken c.args.err.now in
+    let i = c.words.word-index in
+    let mid = g.W.Sink.taken c.words.out in
+    let mid' = g.E.Sink.taken c.words.err in
+    let lines = c.words.page.out.items in
+    let said = c.words.page.err.items in
+    let so_far = c.words.invariant.so_far in
     let none : Bor (List ℕ) = record { ref_ptr = (0, 0); now = [] } in
-    let word = (get_or c.args.words.now c.loop-word.word-index none).now in
-    let e = words-more c.args.words.now c.loop-word.word-index none c.loop-word-test.true in
-    let behind = answered.line.0 in
-    let chosen : c.if-not-branch.status ≡ cond has_text c.loop-word.status 1 = elim c.if-not-branch.branch [ then-not-branch w ↦ (let t = w.if-not-branch.true in w.status-is ∙ sym (cond-false has_text _ _ t)) | else-not-branch w ↦ (let t = w.if-not-branch.false in w.status-is ∙ sym (cond-true has_text _ _ t)) ] in record {
-      lines = so_far.lines ++ (line_of answers word ++ behind);
-      has_lines = lines-joined _ _ _ so_far.lines (line_of answers word) behind so_far.has_lines answered.line.1;
-      are_lines = subst (λ (words : List (List ℕ)). AreLines answers counting c.args.stats words (so_far.lines ++ (line_of answers word ++ behind))) (sym e) (AreLines-more answers counting c.args.stats _ word so_far.lines behind so_far.are_lines answered.line.2);
-      complaints = complaints-more (complaint_of answers) _ _ _ _ _ _ e so_far.complaints answered.complaint;
-      status = status-more answers _ _ _ c.loop-word.status c.if-not-branch.status has_text e so_far.status answered.has_text chosen;
-      out = BeginsWith_trans _ _ _ so_far.out c.answer_word.ensures.out;
-      err = BeginsWith_trans _ _ _ so_far.err c.answer_word.ensures.err;
+    let word = (get_or words i none).now in
+    let e = words-more words i none c.words-test.true in
+    let answered = c.in-Ok.ensures in
+    let with_word = SoFar-word answers counting c.args.stats (map now (take i words)) (map now (take (i + 1) words)) word out mid err mid' lines c.answer_word.new.out.items said c.answer_word.new.err.items answered.line.0 so_far e answered.line.1 answered.line.2 answered.complaint in
+    let wrote = c.in_err-write_when_full.ensures in
+    OnErr-anyway c.from_residual-in_err-write_when_full.result _ (SoFar-stopped answers counting c.args.stats (map now (take (i + 1) words)) (map now words) (map now (drop (i + 1) words)) out mid (g.W.Sink.taken c.write_when_full.new.out) err mid' (g.E.Sink.taken c.write_when_full.new.err) c.answer_word.new.out.items c.answer_word.new.err.items with_word (words-split words (i + 1)) wrote.out_front wrote.err_front)
+
+pub words-preserved : goal.words-preserved
+words-preserved g c =
+    let answers = g.D.Demangler.answer c.args.demangler.now in
+    let counting = g.D.Demangler.are_counts c.args.demangler.now in
+    let now : Bor (List ℕ) → List ℕ = λ word. word.now in
+    let words = c.args.words.now in
+    let out = g.W.Sink.taken c.args.out.now in
+    let err = g.E.Sink.taken c.args.err.now in
+    let i = c.words.word-index in
+    let mid = g.W.Sink.taken c.words.out in
+    let mid' = g.E.Sink.taken c.words.err in
+    let lines = c.words.page.out.items in
+    let said = c.words.page.err.items in
+    let so_far = c.words.invariant.so_far in
+    let none : Bor (List ℕ) = record { ref_ptr = (0, 0); now = [] } in
+    let word = (get_or words i none).now in
+    let e = words-more words i none c.words-test.true in
+    let answered = c.in-Ok.ensures in
+    let with_word = SoFar-word answers counting c.args.stats (map now (take i words)) (map now (take (i + 1) words)) word out mid err mid' lines c.answer_word.new.out.items said c.answer_word.new.err.items answered.line.0 so_far e answered.line.1 answered.line.2 answered.complaint in
+    let wrote = c.in_ok-write_when_full.ensures in
+    let has_text = c.in-Ok.has_text in
+    let chosen : c.if-not-has_text.status ≡ cond has_text c.words.status 1 = elim c.if-not-has_text.branch [ then-not-has_text w ↦ (let t = w.if-not-has_text.true in w.status-is ∙ sym (cond-false has_text _ _ t)) | else-not-has_text w ↦ (let t = w.if-not-has_text.false in w.status-is ∙ sym (cond-true has_text _ _ t)) ] in
+    let before = c.words.invariant in record {
+      so_far = SoFar-written answers counting c.args.stats (map now (take (i + 1) words)) out mid (g.W.Sink.taken c.write_when_full.new.out) err mid' (g.E.Sink.taken c.write_when_full.new.err) c.answer_word.new.out.items c.write_when_full.new.self.out.items c.answer_word.new.err.items c.write_when_full.new.self.err.items with_word wrote.out wrote.err;
+      status = status-more answers (map now (take i words)) (map now (take (i + 1) words)) word c.words.status c.if-not-has_text.status c.in-Ok.has_text e before.status answered.has_text chosen;
+      out_fails = wrote.out_fails ∙ before.out_fails;
+      err_fails = omega (arith, wrote.failures, wrote.out_fails, before.err_fails);
     }
+
+pub returns-in_err-write-clause-err : goal.returns-in_err-write-clause-err
+returns-in_err-write-clause-err g c =
+    let answers = g.D.Demangler.answer c.args.demangler.now in
+    let counting = g.D.Demangler.are_counts c.args.demangler.now in
+    let now : Bor (List ℕ) → List ℕ = λ word. word.now in
+    let words = c.args.words.now in
+    let out = g.W.Sink.taken c.args.out.now in
+    let err = g.E.Sink.taken c.args.err.now in
+    let i = c.words.word-index in
+    let mid = g.W.Sink.taken c.words.out in
+    let mid' = g.E.Sink.taken c.words.err in
+    let lines = c.words.page.out.items in
+    let said = c.words.page.err.items in
+    let so_far = c.words.invariant.so_far in
+    let wrote = c.in_err-write.ensures in
+    OnErr-anyway c.from_residual-in_err-write.result _ (SoFar-stopped answers counting c.args.stats (map now (take i words)) (map now words) (map now (drop i words)) out mid (g.W.Sink.taken c.write-2.new.out) err mid' (g.E.Sink.taken c.write-2.new.err) lines said so_far (words-split words i) wrote.out_front wrote.err_front)

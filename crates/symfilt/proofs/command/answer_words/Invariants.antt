@@ -1,19 +1,15 @@
-use Rattle.std.proofs.Common.{◌≡◌, ◌++◌, List, ℕ, take, map}
-use Rattle.std.specs.List.{flat_map}
-use Rattle.symfilt.specs.Lines.{complaint_of, status_of, AreLines}
-use Rattle.sym_filter.specs.Streams.{BeginsWith}
+use Rattle.std.proofs.Common.{◌≡◌, take, map}
+use Rattle.symfilt.specs.Lines.{status_of}
+use Rattle.symfilt.proofs.PageLemmas.{SoFar}
 use Rattle.symfilt.proofs.command.answer_words.Given as goal
 
-abbrev pub invariant-loop-word : goal.invariant-loop-word
-invariant-loop-word g l =
+abbrev pub invariant-words : goal.invariant-words
+invariant-words g l =
     let answers = g.D.Demangler.answer l.demangler in
     let counting = g.D.Demangler.are_counts l.demangler in
     let words = map (λ word. word.now) (take l.word-index l.words) in record {
-      lines : List ℕ;
-      has_lines : l.out.items ≡ l.fn.out.items ++ lines;
-      are_lines : AreLines answers counting l.stats words lines;
-      complaints : l.err.items ≡ l.fn.err.items ++ flat_map (complaint_of answers) words;
+      so_far : SoFar answers counting l.stats words (g.W.Sink.taken l.fn.out) (g.W.Sink.taken l.out) (g.E.Sink.taken l.fn.err) (g.E.Sink.taken l.err) l.page.out.items l.page.err.items;
       status : l.status ≡ status_of answers words;
-      out : BeginsWith l.out.items l.fn.out.items;
-      err : BeginsWith l.err.items l.fn.err.items;
+      out_fails : g.W.Sink.failure_count l.out ≡ g.W.Sink.failure_count l.fn.out;
+      err_fails : g.E.Sink.failure_count l.err ≡ g.E.Sink.failure_count l.fn.err;
     }

@@ -1,0 +1,63 @@
+-- What a command line did to its two streams.
+use Rattle.std.specs.Prelude.{◌≡◌, ◌≢◌, ◌⊎◌, ℕ, List, [], ◌++◌, Bool, Option}
+use Rattle.std.specs.List.{flat_map}
+use Rattle.std.specs.Io.KnownBytes.{Appends}
+use Rattle.sym_filter.specs.Languages.{answer_of, AreCountsOf}
+use Rattle.sym_filter.specs.Runs.{Answering}
+use Rattle.sym_filter.specs.Streams.{BeginsWith}
+use Rattle.symfilt.specs.Lines.{Counting, AreLines, complaint_of, status_of}
+use Rattle.symfilt.specs.declared.command.Options.{Options}
+use Rattle.symfilt.specs.declared.outcome.Run.{Run}
+use Rattle.symfilt.specs.declared.outcome.Run.TheVariants.{Done, Filter}
+
+-- a stream took some bytes
+abbrev pub Says : Option (List ℕ) → Option (List ℕ) → Type 0
+Says old new = (said : List ℕ) × Appends old new said
+
+-- two streams took bytes of which this holds
+pub record Took (out out' err err' : Option (List ℕ)) (holds : List ℕ → List ℕ → Type 0) : Type 0 where
+  pub lines : List ℕ
+  pub said : List ℕ
+  pub to_out : Appends out out' lines
+  pub to_err : Appends err err' said
+  pub held : holds lines said
+
+-- the words are answered: by their lines, what is said of those that have no text, and the status
+pub record AnswersWords (answers : Answering) (counting : Counting) (stats : Bool) (words : List (List ℕ)) (status : ℕ) (lines said : List ℕ) : Type 0 where
+  pub are_lines : AreLines answers counting stats words lines
+  pub complaints : said ≡ flat_map (complaint_of answers) words
+  pub ends : status ≡ status_of answers words
+
+-- what was written are beginnings of the lines of the first words, and of what is said of them
+pub record AnswersFront (answers : Answering) (counting : Counting) (stats : Bool) (words : List (List ℕ)) (lines said : List ℕ) : Type 0 where
+  pub first : List (List ℕ)
+  pub rest : List (List ℕ)
+  pub are_first : words ≡ first ++ rest
+  pub whole : List ℕ
+  pub are_lines : AreLines answers counting stats first whole
+  pub lines_begin : BeginsWith whole lines
+  pub said_begin : BeginsWith (flat_map (complaint_of answers) first) said
+
+-- Words, and how they are answered. Which words and options a command line has is its parser's to say.
+pub record AreAnswered (status : ℕ) (lines said : List ℕ) : Type 0 where
+  pub options : Options
+  pub words : List (List ℕ)
+  pub some : words ≢ []
+  pub answered : AnswersWords (answer_of options.limit options.detail) AreCountsOf options.stats words status lines said
+
+-- a command line with words has answered them, one that was refused or asked for help has written no line for them, and one that
+-- asks for the filter has written nothing
+abbrev pub IsRun : Run → List ℕ → List ℕ → Type 0
+IsRun (Done status) lines said = AreAnswered status lines said ⊎ ((status ≡ 2) × (lines ≡ []))
+IsRun (Filter limit detail) lines said = (lines ≡ []) × (said ≡ [])
+
+-- beginnings of the lines of some words
+pub record AreBegun (lines said : List ℕ) : Type 0 where
+  pub options : Options
+  pub words : List (List ℕ)
+  pub front : AnswersFront (answer_of options.limit options.detail) AreCountsOf options.stats words lines said
+
+-- A command line that a fault stopped has written beginnings of the lines of some words, or, before it knew them, nothing but
+-- what its parser says.
+abbrev pub IsStopped : List ℕ → List ℕ → Type 0
+IsStopped lines said = AreBegun lines said ⊎ (lines ≡ [])

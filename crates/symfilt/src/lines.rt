@@ -1,0 +1,152 @@
+// The lines of a word: its answer, and what is said of one that has no text.
+ghost use Rattle.std.specs.Prelude.{◌≡◌, ◌≢◌, List, ℕ, [], ◌∷◌, ◌++◌, ◌&&◌, OnOk, OnErr, IfOk, Some, is_some, string_bytes, if◌then◌else◌};
+ghost use Rattle.sym_filter.specs.Kinds.{kind_of};
+ghost use Rattle.sym_filter.specs.Runs.{text_for};
+ghost use Rattle.sym_filter.specs.Streams.{BeginsWith};
+ghost use Rattle.symfilt.specs.Lines.{answer_for, is_read_word, line_of, counts_text, AreCountsFor, IsBehindLine, reason_of, complaint_with, complaint_of};
+
+use std::alloc::{AllocError, Global};
+use sym_core::{Counts, Refusal};
+use sym_filter::{Demangled, Demangler, kind_of};
+
+/// Appends the lines of one word, and says whether it has a text. Where memory runs out, nothing is appended.
+pub fn answer_word<D: Demangler>(
+    alloc: Global,
+    demangler: &D,
+    lists: &mut D::Lists,
+    stats: bool,
+    word: &str,
+    out: &mut Vec<u8>,
+    err: &mut Vec<u8>,
+) -> Result<bool, AllocError>
+    ensures line { OnOk result ((behind : List ℕ)
+        × (out.new.items ≡ out.old.items ++ line_of (D.answer demangler.now) word.now ++ behind)
+        × IsBehindLine (AreCountsFor (D.are_counts demangler.now) word.now) (stats && is_read_word (answer_for (D.answer demangler.now) word.now)) behind) }
+    ensures complaint { OnOk result (err.new.items ≡ err.old.items ++ complaint_of (D.answer demangler.now) word.now) }
+    ensures has_text { IfOk result (λ has_text. has_text
+        ≡ is_some (text_for (D.answer demangler.now) word.now)) }
+    ensures same_out { OnErr result (out.new.items ≡ out.old.items) }
+    ensures same_err { OnErr result (err.new.items ≡ err.old.items) }
+{
+    let out_len = out.len();
+    let err_len = err.len();
+    match push_lines(alloc, demangler, lists, stats, word, out, err) {
+        Ok(has_text) => Ok(has_text),
+        Err(error) => {
+            out.truncate(out_len);
+            err.truncate(err_len);
+            Err(error)
+        }
+    }
+}
+
+/// Appends the lines of one word, or a beginning of them, and says whether it has a text.
+fn push_lines<D: Demangler>(
+    alloc: Global,
+    demangler: &D,
+    lists: &mut D::Lists,
+    stats: bool,
+    word: &str,
+    out: &mut Vec<u8>,
+    err: &mut Vec<u8>,
+) -> Result<bool, AllocError>
+    ensures line { OnOk result ((behind : List ℕ)
+        × (out.new.items ≡ out.old.items ++ line_of (D.answer demangler.now) word.now ++ behind)
+        × IsBehindLine (AreCountsFor (D.are_counts demangler.now) word.now) (stats && is_read_word (answer_for (D.answer demangler.now) word.now)) behind) }
+    ensures complaint { OnOk result (err.new.items ≡ err.old.items ++ complaint_of (D.answer demangler.now) word.now) }
+    ensures has_text { IfOk result (λ has_text. has_text
+        ≡ is_some (text_for (D.answer demangler.now) word.now)) }
+    ensures out { BeginsWith out.new.items out.old.items }
+    ensures err { BeginsWith err.new.items err.old.items }
+{
+    let Some(kind) = kind_of(word.as_bytes()) else {
+        push_line(out, word.as_bytes())?;
+        let complaint = format!(in alloc; "symfilt: {word}: not a symbol")?;
+        push_line(err, complaint.as_bytes())?;
+        return Ok(false);
+    };
+    match demangler.demangle(lists, kind.lang, kind.symbol_of(word.as_bytes()), out) {
+        Demangled::Text(counts) => {
+            out.push(b'\n')?;
+            push_counts(alloc, stats, counts, out)?;
+            Ok(true)
+        }
+        Demangled::TooLong(counts) => {
+            push_refused(alloc, word, Refusal::TooLong, out, err)?;
+            push_counts(alloc, stats, counts, out)?;
+            Ok(false)
+        }
+        Demangled::Refused(refusal) => {
+            push_refused(alloc, word, refusal, out, err)?;
+            Ok(false)
+        }
+    }
+}
+
+/// Appends the line of counts, where they are asked for.
+fn push_counts(
+    alloc: Global,
+    stats: bool,
+    counts: Counts,
+    out: &mut Vec<u8>,
+) -> Result<(), AllocError>
+    ensures line { OnOk result (out.new.items ≡ out.old.items
+        ++ (if stats then counts_text counts.rows counts.nodes counts.steps ++ 10 ∷ [] else [])) }
+    ensures out { BeginsWith out.new.items out.old.items }
+{
+    if !stats {
+        return Ok(());
+    }
+    let Counts { rows, nodes, steps } = counts;
+    let line = format!(in alloc; "rows {rows} nodes {nodes} steps {steps}")?;
+    push_line(out, line.as_bytes())
+}
+
+/// Appends a word that is refused, and says why.
+fn push_refused(
+    alloc: Global,
+    word: &str,
+    refusal: Refusal,
+    out: &mut Vec<u8>,
+    err: &mut Vec<u8>,
+) -> Result<(), AllocError>
+    ensures line { OnOk result (out.new.items ≡ out.old.items ++ word.now ++ 10 ∷ []) }
+    ensures complaint { OnOk result (err.new.items ≡ err.old.items ++ (complaint_with word.now (reason_of refusal) ++ 10 ∷ [])) }
+    ensures memory { OnOk result (refusal ≢ Refusal.Memory) }
+    ensures out { BeginsWith out.new.items out.old.items }
+    ensures err { BeginsWith err.new.items err.old.items }
+{
+    let complaint = complaint(alloc, word, refusal)?;
+    push_line(out, word.as_bytes())?;
+    push_line(err, complaint.as_bytes())?;
+    Ok(())
+}
+
+/// Says why a word is refused.
+fn complaint(alloc: Global, word: &str, refusal: Refusal) -> Result<String, AllocError>
+    ensures said { IfOk result (λ text. string_bytes text ≡ complaint_with word.now (reason_of refusal)) }
+    ensures memory { OnOk result (refusal ≢ Refusal.Memory) }
+{
+    match refusal {
+        Refusal::Malformed { at } => format!(in alloc; "symfilt: {word}: malformed at {at}"),
+        Refusal::BadReference { at } => format!(in alloc; "symfilt: {word}: bad reference at {at}"),
+        Refusal::BadValue { at } => format!(in alloc; "symfilt: {word}: bad value at {at}"),
+        Refusal::TooLong => format!(in alloc; "symfilt: {word}: too long"),
+        Refusal::Memory => Err(AllocError),
+    }
+}
+
+/// Appends a line, or nothing.
+fn push_line(lines: &mut Vec<u8>, line: &[u8]) -> Result<(), AllocError>
+    ensures ok { OnOk result (lines.new.items ≡ lines.old.items ++ line.now ++ 10 ∷ []) }
+    ensures begins { BeginsWith lines.new.items lines.old.items }
+    ensures whole { OnErr result (lines.new.items ≡ lines.old.items) }
+{
+    let len = lines.len();
+    lines.extend_from_slice(line)?;
+    if lines.push(b'\n').is_err() {
+        lines.truncate(len);
+        return Err(AllocError);
+    }
+    Ok(())
+}
