@@ -92,6 +92,8 @@ impl<M: Mangling> Linker<M> {
         ensures refused { IfErr result (IsRefused M.mangled self.old.bytes) }
         ensures kept { IfErr result (λ e. self.new.refused ≡ Some e) }
         ensures again { IfSome self.old.refused (λ e. (result ≡ Err e) × (self.new ≡ self.old)) }
+        // One that has answered true answers true again, and doesn't change.
+        ensures done_again { self.old.done ≡ true → self.old.refused ≡ None → (result ≡ Ok true) × (self.new ≡ self.old) }
         ensures few { AreFewInAll self.new }
     {
         if let Some(refusal) = self.driver.refused {
@@ -128,6 +130,10 @@ impl<M: Mangling> Linker<M> {
         ensures refused { IfErr result (IsRefused M.mangled self.old.bytes) }
         ensures kept { IfErr result (λ e. self.new.refused ≡ Some e) }
         ensures again { IfSome self.old.refused (λ e. (result ≡ Err e) × (self.new ≡ self.old)) }
+        // One that is done doesn't change.
+        ensures done_again { self.old.done ≡ true → self.old.refused ≡ None → (result ≡ Ok tt) × (self.new ≡ self.old) }
+        // Steps are counted, refused or not.
+        ensures counted { self.old.steps ≤ self.new.steps }
         ensures few { AreFewInAll self.new }
     {
         if let Some(refusal) = self.driver.refused {

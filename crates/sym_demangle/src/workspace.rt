@@ -1,6 +1,6 @@
 // Symbols that are read and printed one after the other with the same lists.
 
-ghost use Rattle.std.specs.Prelude.{◌≡◌, ◌≢◌, ◌⊎◌, ◌++◌, ◌+◌, ◌<◌, ◌≤◌, ℕ, List, length, false, true, None, Ok, Err, OnOk, OnErr, IfOk, IfErr};
+ghost use Rattle.std.specs.Prelude.{◌≡◌, ◌≢◌, ◌⊎◌, ◌++◌, ◌+◌, ◌<◌, ◌≤◌, ℕ, List, length, false, true, None, Some, Ok, Err, OnOk, OnErr, IfOk, IfErr};
 ghost use Rattle.sym_core.specs.Number.{FitsSymbol};
 ghost use Rattle.sym_core.specs.declared.refusal.Refusal.TheVariants as refusals;
 ghost use Rattle.sym_print.specs.Unshared.{text_of, cost_of};
@@ -35,6 +35,8 @@ pub struct Workspace<M: Mangling> {
     // what was read ahead of a symbol, whose end isn't told
     ahead: Reader<M>,
     ghost ahead_is_open: { ahead.ended ≡ false },
+    // and for which there was memory
+    ghost ahead_has_memory: { ahead.refused ≢ Some refusals.Memory },
 }
 
 /// Feeds a reader more bytes, if there are any.
@@ -45,11 +47,41 @@ fn feed_more<M: Mangling>(reader: &mut Reader<M>, more: &[u8]) -> Result<(), Ref
     ensures refusal { OnOk result (reader.new.refused ≡ reader.old.refused) }
     ensures open { reader.new.ended ≡ false }
     ensures memory { reader.old.refused ≡ None → IfErr result (λ e. e ≡ refusals.Memory) }
+    ensures kept { IfErr result (λ e. reader.new.refused ≡ Some e) }
 {
     if more.is_empty() {
         return Ok(());
     }
     reader.feed(more)
+}
+
+/// Gives up what was fed to a reader that refuses for want of memory: what there is no room for now isn't refused later.
+fn forget_memory<M: Mangling>(reader: &mut Reader<M>, refusal: Refusal)
+    requires open { reader.old.ended ≡ false }
+    requires kept { reader.old.refused ≡ Some refusal }
+    ensures open { reader.new.ended ≡ false }
+    ensures memory { reader.new.refused ≢ Some refusals.Memory }
+{
+    match refusal {
+        Refusal::Memory => reader.reset(),
+        _ => {}
+    }
+}
+
+/// Feeds a reader more bytes, and reads what is there.
+fn read_more<M: Mangling>(reader: &mut Reader<M>, more: &[u8])
+    requires open { reader.old.ended ≡ false }
+    requires room { length reader.old.bytes + length more.now ≤ 16777216 }
+    ensures open { reader.new.ended ≡ false }
+    ensures memory { reader.new.refused ≢ Some refusals.Memory }
+{
+    if let Err(refusal) = feed_more(reader, more) {
+        forget_memory(reader, refusal);
+        return;
+    }
+    if let Err(refusal) = reader.run(&M::grammar()) {
+        forget_memory(reader, refusal);
+    }
 }
 
 /// Tells a reader the rest of its symbol's bytes and their end, and reads them.
@@ -99,9 +131,7 @@ impl<M: Mangling> Workspace<M> {
                 front
             }
         };
-        if feed_more(&mut self.ahead, more).is_ok() {
-            let _known = self.ahead.run(&M::grammar());
-        }
+        read_more(&mut self.ahead, more);
     }
 
     /// Reads the symbol that was read ahead, to whose bytes these come.

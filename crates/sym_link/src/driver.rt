@@ -300,6 +300,7 @@ impl<L: Linking> Driver<L> {
         ensures open { OnOk result (self.new.refused ≡ None) }
         ensures kept { IfErr result (λ refusal. self.new.refused ≡ Some refusal) }
         ensures again { IfSome self.old.refused (λ refusal. result ≡ Err refusal) }
+        ensures steps { self.old.steps ≤ self.new.steps }
     {
         if let Some(refusal) = self.refused {
             return Err(refusal);

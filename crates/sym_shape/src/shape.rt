@@ -99,8 +99,16 @@ pub fn read_into<G: Grammar>(shape: &mut Shape, grammar: &G, s: &[u8]) -> Result
     ensures rows { OnOk result (AreRowsOf G.table s.now shape.new.rows) }
     ensures steps { OnOk result (AreStepsOf G.table s.now shape.new.steps) }
     ensures refused { IfErr result (IsMalformedOrMemory G.table s.now) }
+    ensures no_rows { OnErr result (shape.new.rows ≡ []) }
+    ensures no_steps { OnErr result (shape.new.steps ≡ 0) }
     ensures few { AreFew shape.new.steps (length shape.new.rows) (length s.now) }
 {
     shape.parse.restart();
-    shape.parse.run(grammar, s, true)
+    match shape.parse.run(grammar, s, true) {
+        Ok(()) => Ok(()),
+        Err(refusal) => {
+            shape.parse.restart();
+            Err(refusal)
+        }
+    }
 }

@@ -1,4 +1,4 @@
-use Rattle.std.proofs.Common.{◌∙◌, ap, Ok, None}
+use Rattle.std.proofs.Common.{◌∙◌, ap, Ok, None, arith}
 use Rattle.sym_link.proofs.Driving.{driving_none, driving_same, step_moved, step_smaller, step_done, step_refused, none_open}
 use Rattle.sym_link.proofs.driver.Driver.run.Goals as goal
 
@@ -24,6 +24,7 @@ moves-preserved g c =
           step_moved (g.L.Linking.view c.args.symbol.now) c.args.symbol.now c.args.rows.now tree c.advance-moved.new.language c.moves.steps None c.moves.next c.in-Some-behind.place
           c.moves.self.frames.items c.advance-moved.new.frames.items c.advance-moved.new.parts.items c.advance-moved.result c.in-Ok.behind c.in-Ok.is c.in-Some-behind.is
           none_open on.1 on.3 (c.advance-moved.ensures.moves tree c.moves.steps is on.0) c.advance-moved.ensures.counts,
+      omega (arith, c.moves.invariant.3),
     )
 
 pub returns-in-None-clause-driving : goal.returns-in-None-clause-driving

@@ -1,5 +1,5 @@
 -- The driver is on its way, its rows and steps are those of the local variables, and it has kept no refusal.
-use Rattle.std.proofs.Common.{◌≡◌, ◌+◌, ◌-◌, ◌*◌, length, None}
+use Rattle.std.proofs.Common.{◌≡◌, ◌+◌, ◌-◌, ◌*◌, ◌≤◌, length, None}
 use Rattle.sym_shape.specs.Tree.{Tree}
 use Rattle.sym_link.specs.Following.{IsShape, IsDriving}
 use Rattle.sym_link.proofs.driver.Driver.run.Given as goal
@@ -12,6 +12,7 @@ invariant-moves g l =
     × ((tree : Tree) → IsShape (g.L.Linking.view l.symbol).table l.symbol l.rows tree
     → IsDriving (g.L.Linking.view l.symbol) l.symbol l.rows tree l.fn.language l.fn.self.steps l.fn.self.refused l.fn.self.next l.fn.self.frames.items l.fn.self.parts.items
     → IsDriving (g.L.Linking.view l.symbol) l.symbol l.rows tree l.language l.steps None l.next l.self.frames.items l.self.parts.items)
+    × (l.fn.self.steps ≤ l.steps)
 
 abbrev pub decreases-moves : goal.decreases-moves
 decreases-moves g l = 2 * (length l.rows - l.next) + length l.self.frames.items
