@@ -4,7 +4,6 @@ use Rattle.std.specs.Prelude.{slice_get}
 use Rattle.sym_core.specs.declared.refusal.Refusal.{Refusal}
 use Rattle.sym_core.specs.declared.refusal.Refusal.TheVariants as refusals
 use Rattle.sym_print.specs.declared.detail.Detail.{Detail}
-use Rattle.sym_shape.specs.Law.{IsLawful}
 use Rattle.sym_shape.specs.Tree.{Tree, spell}
 use Rattle.sym_link.specs.Driving.{Fails}
 use Rattle.sym_link.specs.Following.{meaning_of}
@@ -20,11 +19,8 @@ use Rattle.rust_v0.specs.TableLaws.{lawful}
 use Rattle.rust_v0.specs.Unfold.{unfolded, symbol_of}
 use Rattle.rust_v0.specs.RustNodes.{v0_view}
 
-pub v0_lawful : IsLawful v0_table
-v0_lawful = lawful
-
 abbrev pub v0_mangled : Mangled tree.Symbol
-v0_mangled = record { table = v0_table; unfolded = unfolded; shown = symbol_parts; lawful = v0_lawful }
+v0_mangled = record { table = v0_table; unfolded = unfolded; shown = symbol_parts; lawful = lawful }
 
 -- the tree of a symbol that was read
 abbrev pub whole_of : ReadSymbol → tree.Symbol

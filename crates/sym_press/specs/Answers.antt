@@ -6,7 +6,7 @@ use Rattle.sym_shape.specs.Decided.{AreBytes}
 use Rattle.sym_shape.proofs.Deciding.{outcome}
 use Rattle.rust_tree.specs.Symbol as tree
 use Rattle.rust_v0.specs.Mangled.{IsReading}
-use Rattle.rust_v0.specs.TableLaws.{v0_lawful}
+use Rattle.rust_v0.specs.TableLaws.{lawful}
 use Rattle.rust_v0.specs.Rules.{v0_table}
 use Rattle.rust_v0.specs.Unfold.{unfolded}
 use Rattle.sym_press.specs.Pressing.{pressed}
@@ -18,7 +18,7 @@ pressed_if_read (Err refusal) = Err refusal
 
 -- The answer to a Rust symbol. A list of which an item is no byte is refused at once.
 unfoldable pub pressed_answer : List ℕ → Result (List ℕ) Refusal
-pressed_answer s = outcome v0_table v0_lawful (λ shape. pressed_if_read (unfolded shape)) (λ at. Err (Malformed at)) (Err (Malformed 0)) s
+pressed_answer s = outcome v0_table lawful (λ shape. pressed_if_read (unfolded shape)) (λ at. Err (Malformed at)) (Err (Malformed 0)) s
 
 -- what a symbol reads as decides its answer
 abbrev pub ReadingIsPressed : Type 0
