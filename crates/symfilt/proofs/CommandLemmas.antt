@@ -1,5 +1,5 @@
 -- What a command line's parts did, as what the command line did.
-use Rattle.std.proofs.Common.{◌≡◌, ◌≢◌, ℕ, Bool, true, false, ap, List, [], ◌∷◌, Option, Result, Ok, Err, Bor, map, length, refl, sym, subst, inl, inr, arith}
+use Rattle.std.proofs.Common.{◌≡◌, ◌≢◌, ℕ, Bool, true, false, ap, List, [], ◌∷◌, Option, Result, Ok, Err, Bor, map, length, refl, sym, subst, inl, inr}
 use Rattle.std.specs.Prelude.{IfOk, OnErr}
 use Rattle.sym_filter.specs.Languages.{answer_of, pressed_of, AreCountsOf}
 use Rattle.sym_filter.specs.Runs.{Answering}
@@ -7,7 +7,7 @@ use Rattle.sym_filter.specs.declared.streams.FilterFault.{FilterFault}
 use Rattle.symfilt.specs.Command.{answers_of, Took, Says, AnswersWords, AnswersFront, IsRun, IsStopped}
 use Rattle.symfilt.specs.declared.command.Options.{Options}
 use Rattle.symfilt.specs.declared.outcome.Run.{Run}
-use Rattle.symfilt.specs.declared.outcome.Run.TheVariants.{Done, Filter}
+use Rattle.symfilt.specs.declared.outcome.Run.TheVariants.{Done}
 use Rattle.symfilt.proofs.PageLemmas.{Took-as, Took-said, OnErr-anyway}
 
 -- a command line that is refused

@@ -1,4 +1,4 @@
-use Rattle.std.proofs.Common.{◌≡◌, List, ℕ, Bor, map, length, eqb, sym, ap, ◌∙◌, true, false}
+use Rattle.std.proofs.Common.{List, ℕ, Bor, map, eqb, sym, ap, ◌∙◌}
 use Rattle.std.proofs.lemmas.Bool.{true≢false}
 use Rattle.symfilt.proofs.PageLemmas.{OnErr-anyway}
 use Rattle.symfilt.proofs.CommandLemmas.{refused-run, refused-stopped, words-run, words-stopped, some-words}

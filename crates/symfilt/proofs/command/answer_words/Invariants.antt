@@ -1,4 +1,4 @@
-use Rattle.std.proofs.Common.{◌≡◌, List, ℕ, take, map}
+use Rattle.std.proofs.Common.{◌≡◌, take, map}
 use Rattle.symfilt.specs.Lines.{status_of}
 use Rattle.symfilt.proofs.PageLemmas.{SoFar}
 use Rattle.symfilt.proofs.command.answer_words.Given as goal
