@@ -140,17 +140,15 @@ impl RustNodes {
         Ok(())
     }
 
-    /// Takes a token in the rule of a frame, whose production was looked up.
+    /// Takes a token in the rule of a frame.
     #[inline(never)]
     fn take_any(
         &mut self,
         symbol: &[u8],
-        production: Option<Production>,
         frame: Frame<BoundLifetimes>,
         parts: &mut Vec<Part>,
         row: Row,
     ) -> Result<(), Refusal>
-        requires production { production ≡ production_of frame.rule }
         requires room { HasRoom (v0_view symbol.now) symbol.now self.old (owed_behind (v0_view symbol.now) frame parts.old.items) }
         requires base { frame.base ≤ length parts.old.items }
         requires from { row.from ≤ row.to }
@@ -160,7 +158,7 @@ impl RustNodes {
         ensures pays { OnOk result ((at : ℕ) → at ≤ row.from → (length parts.old.items ≡ frame.base → at ≤ frame.place)
             → Pays (v0_view symbol.now) self.old self.new at row.to) }
     {
-        self.take_as(symbol, sort_of(production), frame, parts, row)
+        self.take_as(symbol, sort_of(frame.rule), frame, parts, row)
     }
 
     /// Closes the rule of a frame, whose production makes a part of its parts and no node.
@@ -207,16 +205,14 @@ impl RustNodes {
         put(parts, frame.base, part_of(added))
     }
 
-    /// Closes the rule of a frame, whose production was looked up.
+    /// Closes the rule of a frame.
     #[inline(never)]
     fn close_any(
         &mut self,
         symbol: &[u8],
-        production: Option<Production>,
         frame: Frame<BoundLifetimes>,
         parts: &mut Vec<Part>,
     ) -> Result<(), Refusal>
-        requires production { production ≡ production_of frame.rule }
         requires room { HasRoom (v0_view symbol.now) symbol.now self.old (owed_behind (v0_view symbol.now) frame parts.old.items) }
         requires base { frame.base ≤ length parts.old.items }
         requires place { frame.place < length symbol.now }
@@ -224,7 +220,7 @@ impl RustNodes {
         ensures adds { OnOk result (Adds (v0_view symbol.now) self.old self.new (owed_behind (v0_view symbol.now) frame parts.old.items) 0) }
         ensures pays { OnOk result ((at : ℕ) → Pays (v0_view symbol.now) self.old self.new at at) }
     {
-        let Some(production) = production else {
+        let Some(production) = numbered(frame.rule) else {
             return Err(STRAY);
         };
         let site = site_of(symbol, frame);
@@ -308,14 +304,13 @@ impl Linking for RustNodes {
         ensures pays { OnOk result ((at : ℕ) → at ≤ row.from → (length parts.old.items ≡ frame.base → at ≤ frame.place)
             → Pays (v0_view symbol.now) self.old self.new at row.to) }
     {
-        let production = numbered(frame.rule);
-        match production {
+        match numbered(frame.rule) {
             // the token of most rules
             Some(Production::PlainName) => {
                 self.take_as(symbol, TokenSort::PlainName, frame, parts, row)
             }
             // a frame and a row of their own for the call let the others stay in registers
-            _ => self.take_any(symbol, production, Frame { ..frame }, parts, Row { ..row }),
+            _ => self.take_any(symbol, Frame { ..frame }, parts, Row { ..row }),
         }
     }
 
@@ -333,8 +328,7 @@ impl Linking for RustNodes {
         ensures adds { OnOk result (Adds (v0_view symbol.now) self.old self.new (owed_behind (v0_view symbol.now) frame parts.old.items) 0) }
         ensures pays { OnOk result ((at : ℕ) → Pays (v0_view symbol.now) self.old self.new at at) }
     {
-        let production = numbered(frame.rule);
-        match production {
+        match numbered(frame.rule) {
             // the name is what the rule means: it stays
             Some(Production::PlainName) if is_name(&parts[frame.base..]) => Ok(()),
             Some(Production::Namespace) => {
@@ -342,7 +336,7 @@ impl Linking for RustNodes {
             }
             Some(Production::Nested) => self.close_nested(symbol, frame, parts),
             // a frame of its own for the call lets the others stay in registers
-            _ => self.close_any(symbol, production, Frame { ..frame }, parts),
+            _ => self.close_any(symbol, Frame { ..frame }, parts),
         }
     }
 

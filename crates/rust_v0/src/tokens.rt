@@ -8,6 +8,7 @@ ghost use Rattle.sym_core.specs.declared.NameClass.TheVariants.{Rust};
 ghost use Rattle.sym_core.specs.declared.NumberKind.TheVariants.{Base62, Hex};
 ghost use Rattle.sym_core.specs.declared.refusal.Refusal.TheVariants as refusals;
 ghost use Rattle.rust_tree.specs.Nodes.{HasNoZero, IsTable, Grows, IsWithin, bytes_at};
+ghost use Rattle.rust_v0.specs.Productions.{production_of};
 ghost use Rattle.rust_v0.specs.Tokens as tokens;
 ghost use Rattle.rust_v0.specs.Tokens.{IsOwn, HasZero, value_as, minus_before};
 ghost use Rattle.rust_v0.specs.Unfold.{value16 as value_of_hex, value62 as value_of_base62, an_integer_of};
@@ -17,7 +18,7 @@ ghost use Rattle.rust_v0.specs.Made.{ground};
 
 use crate::nodes::RustNodes;
 use crate::part::{Integer, Part, STRAY};
-use crate::production::Production;
+use crate::production::{Production, numbered};
 use rust_tree::node::Name;
 use sym_core::{
     NameClass, NumberKind, Refusal, Span, are_digits, are_name_bytes, value16, value62,
@@ -34,11 +35,11 @@ pub enum TokenSort {
     CountedNumber,
 }
 
-/// The sort of the token of a production's rule.
-pub fn sort_of(production: Option<Production>) -> TokenSort
-    ensures { result ≡ tokens.sort_of production }
+/// The sort of the token of a rule.
+pub fn sort_of(rule: u16) -> TokenSort
+    ensures { result ≡ tokens.sort_of (production_of rule) }
 {
-    match production {
+    match numbered(rule) {
         Some(Production::PlainName) => TokenSort::PlainName,
         Some(Production::PunycodeName) => TokenSort::PunycodeName,
         Some(Production::SignedConstant) => TokenSort::SignedInteger,

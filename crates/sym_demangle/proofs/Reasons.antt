@@ -1,6 +1,6 @@
 -- Each refusal has its reason in the symbol.
 use Rattle.std.proofs.Common.{◌≡◌, sym, subst, inl, inr, ◌∙◌, ℕ, List, Bool, true, false, Ok, Err}
-use Rattle.std.specs.Prelude.{Result, ◌≢◌, IfErr, nat_le}
+use Rattle.std.specs.Prelude.{Result, ◌≢◌, IfOk, IfErr, nat_le}
 use Rattle.sym_core.specs.declared.refusal.Refusal.{Refusal}
 use Rattle.sym_core.specs.declared.refusal.Refusal.TheVariants.{Malformed, BadReference, BadValue, TooLong, Memory}
 use Rattle.sym_shape.specs.Tree.{IsWellShaped}
@@ -53,6 +53,11 @@ module _ {W : Type 0} (m : Mangled W) (refuses : RefusesBadTokens m) where
   answer_reason detail s limit refusal (malformed at bad same) = subst (λ (r : Result (List ℕ) Refusal). IfErr r (HasReason m.table s)) (sym same) bad
   answer_reason detail s limit refusal (shaped shape is spelled same) =
       subst (λ (r : Result (List ℕ) Refusal). IfErr r (HasReason m.table s)) (sym same) (symbol_reason detail s limit (m.unfolded shape) (shape, is, spelled) (refuses shape is))
+
+  -- what is linked is what is read
+  pub links_read : {T : Type 0} (whole : T → W) (s bytes : List ℕ) (result : Result T Refusal) → s ≡ bytes → IfOk result (λ x. StandsFor m s (Ok (whole x))) → IfOk result (λ x. IsReading m bytes (Ok (whole x)))
+  links_read whole s bytes (Ok x) same stands = well_shaped (subst (λ b. StandsFor m b (Ok (whole x))) same stands)
+  links_read whole s bytes (Err e) same stands = tt
 
   -- nor does a link that gives something else
   pub links_not_too_long : {T : Type 0} (s : List ℕ) (result : Result T Refusal) → IfErr result (IsRefused m s) → IfErr result (λ e. e ≢ TooLong)

@@ -1,11 +1,21 @@
 -- What a linker has done is what the symbol's shape stands for.
-use Rattle.std.proofs.Common.{◌≡◌, ℕ, ◌+◌, List, length, Bool, true, Option, arith}
+use Rattle.std.proofs.Common.{◌≡◌, refl, sym, ◌∙◌, ap, subst, inl, inr, ℕ, ◌+◌, List, length, Bool, true, Option, Some, Result, Ok, arith}
 use Rattle.sym_core.specs.declared.refusal.Refusal.{Refusal}
+use Rattle.sym_core.specs.declared.refusal.Refusal.TheVariants as refusals
 use Rattle.sym_shape.specs.declared.rule.Row.{Row}
+use Rattle.sym_shape.specs.declared.rule.Sym.TheVariants.{Kind}
+use Rattle.sym_shape.specs.Law.{IsLawful}
+use Rattle.sym_shape.specs.Table.{Table}
+use Rattle.sym_shape.specs.Tree.{Tree, IsTree, spell, AreStepsOf}
+use Rattle.sym_shape.proofs.Uniqueness.{one_tree}
 use Rattle.sym_link.specs.declared.language.Frame.{Frame}
 use Rattle.sym_link.specs.Linking.{View}
+use Rattle.sym_link.specs.Driving.{Fails}
+use Rattle.sym_link.specs.Stepping.{link_steps}
+use Rattle.sym_link.specs.Following.{IsShape, IsDriving, IsStepTo, meaning_of}
 use Rattle.sym_link.proofs.Starting.{driving_few}
-use Rattle.sym_demangle.specs.Standing.{IsLinker, IsLinked}
+use Rattle.sym_demangle.specs.Mangled.{Mangled, IsRefused}
+use Rattle.sym_demangle.specs.Standing.{IsLinker, IsLinked, AreLinkSteps, AreStepsInAll}
 
 -- a linker that is done has linked its symbol
 pub linked_of : {N P K V S C : Type 0} (view : View N P K V S C) (s : List ℕ) (rows : List Row) (read_steps : ℕ) (nodes : N) (steps : ℕ) (refused : Option Refusal) (next : ℕ)
@@ -21,3 +31,33 @@ linked_of view s rows read_steps nodes steps refused next frames parts done is c
   each = omega (arith, counted, total, is.few.each);
   steps_few = omega (arith, total, driving_few view s rows is.shape nodes steps refused next frames parts is.driving, is.few.steps_few, is.few.rows_few);
 }
+
+-- the steps of a symbol's tree are those of its one tree
+pub shape_steps : (g own : Table) (lawful : IsLawful g) (s bytes : List ℕ) (rows : List Row) (shape : Tree) (steps : ℕ) → own ≡ g → IsShape own s rows shape → s ≡ bytes → steps ≡ link_steps shape → AreLinkSteps g bytes steps
+shape_steps g own lawful s bytes rows shape steps same is there counted = λ tree is_tree spelled.
+    counted ∙ ap link_steps (one_tree g lawful shape tree (subst (λ t. IsTree t (Kind 0) shape) same is.is_tree) is_tree (is.spelled ∙ there ∙ sym spelled))
+
+-- and with them the reader's
+pub steps_in_all : (g : Table) (s bytes : List ℕ) (read linked all : ℕ) → s ≡ bytes → all ≡ read + linked → AreStepsOf g s read → AreLinkSteps g s linked → AreStepsInAll g bytes all
+steps_in_all g s bytes read linked all there sum reads links = λ tree is spelled. omega (arith, sum, reads tree is (spelled ∙ sym there), links tree is (spelled ∙ sym there))
+
+-- a step that finds nothing left to do
+pub done_steps : {N P K V S C : Type 0} (view : View N P K V S C) (s : List ℕ) (rows : List Row) (shape : Tree) (nodes : N) (steps new_steps : ℕ) (refused new_refused : Option Refusal) (parts : List P)
+    (result : Result Bool Refusal) (done : Bool) → result ≡ Ok done → (let answered : Bool → Result Bool Refusal = λ b. Ok b in answered done ≡ answered true)
+    → IsStepTo view s rows shape nodes steps new_steps refused new_refused parts result → new_steps ≡ link_steps shape
+done_steps view s rows shape nodes steps new_steps refused new_refused parts result done is over to =
+    let answer = subst (λ r. IsStepTo view s rows shape nodes steps new_steps refused new_refused parts r) (is ∙ over) to in
+    omega (arith, answer.1, answer.3)
+
+-- what a driver that keeps a refusal shows
+pub driving_fails : {N P K V S C : Type 0} (view : View N P K V S C) (s : List ℕ) (rows : List Row) (shape : Tree) (nodes : N) (steps : ℕ) (refused : Option Refusal) (next : ℕ)
+    (frames : List (Frame K)) (parts : List P) (e : Refusal) → IsDriving view s rows shape nodes steps refused next frames parts → refused ≡ Some e → Fails e (meaning_of view shape)
+driving_fails view s rows shape nodes steps refused next frames parts e driving kept =
+    (subst (λ r. IsDriving view s rows shape nodes steps r next frames parts) kept driving).0
+
+pub refused_of : {W : Type 0} (m : Mangled W) (shape : Tree) (s : List ℕ) (e : Refusal) → IsTree m.table (Kind 0) shape → spell shape ≡ s → Fails e (m.unfolded shape) → IsRefused m s e
+refused_of m shape s refusals.Memory is spelled fails = inl refl
+refused_of m shape s (refusals.Malformed at) is spelled fails = inr (shape, is, spelled, sym fails)
+refused_of m shape s (refusals.BadReference at) is spelled fails = inr (shape, is, spelled, sym fails)
+refused_of m shape s (refusals.BadValue at) is spelled fails = inr (shape, is, spelled, sym fails)
+refused_of m shape s refusals.TooLong is spelled fails = inr (shape, is, spelled, sym fails)

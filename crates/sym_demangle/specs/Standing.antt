@@ -4,9 +4,12 @@ use Rattle.sym_core.specs.Number.{FitsSymbol}
 use Rattle.sym_core.specs.declared.refusal.Refusal.{Refusal}
 use Rattle.sym_shape.specs.declared.rule.Row.{Row}
 use Rattle.sym_shape.specs.Reader.{AreFew}
-use Rattle.sym_shape.specs.Tree.{Tree}
+use Rattle.sym_shape.specs.declared.rule.Sym.TheVariants.{Kind}
+use Rattle.sym_shape.specs.Table.{Table}
+use Rattle.sym_shape.specs.Tree.{Tree, IsTree, spell, read_steps}
 use Rattle.sym_link.specs.declared.language.Frame.{Frame}
 use Rattle.sym_link.specs.Linking.{View}
+use Rattle.sym_link.specs.Stepping.{link_steps}
 use Rattle.sym_link.specs.Following.{Fits, IsShape, IsDone, IsDriving, meaning_of}
 
 -- How far a symbol is linked: its bytes, how many rows its shape has and how many steps the reader took, the linker's own steps,
@@ -28,6 +31,14 @@ pub record AreFewInAll (progress : Progress) : Type 0 where
   pub steps : progress.read_steps + progress.steps ≤ 32 * length progress.bytes + 48
   pub rows : progress.rows ≤ 4 * length progress.bytes + 4
 
+-- so many steps a linker takes for the one tree that spells the symbol
+abbrev pub AreLinkSteps : Table → List ℕ → ℕ → Type 0
+AreLinkSteps g s steps = (tree : Tree) → IsTree g (Kind 0) tree → spell tree ≡ s → steps ≡ link_steps tree
+
+-- so many steps reading the symbol takes, those of the reader and of the linker
+abbrev pub AreStepsInAll : Table → List ℕ → ℕ → Type 0
+AreStepsInAll g s steps = (tree : Tree) → IsTree g (Kind 0) tree → spell tree ≡ s → steps ≡ read_steps tree + link_steps tree
+
 -- a table of nodes with which a symbol begins
 pub record Begins {N P K V S C : Type 0} (view : View N P K V S C) (nodes : N) : Type 0 where
   pub size : view.size nodes ≡ 0
@@ -35,14 +46,15 @@ pub record Begins {N P K V S C : Type 0} (view : View N P K V S C) (nodes : N) :
   pub paid : view.IsPaid nodes 0
 
 -- A linker of the rows of a symbol's one tree is on its way, or at its end.
-pub record IsLinker {N P K V S C : Type 0} (view : View N P K V S C) (s : List ℕ) (rows : List Row) (read_steps : ℕ) (nodes : N) (steps : ℕ)
+pub record IsLinker {N P K V S C : Type 0} (view : View N P K V S C) (s : List ℕ) (rows : List Row) (read : ℕ) (nodes : N) (steps : ℕ)
     (refused : Option Refusal) (next : ℕ) (frames : List (Frame K)) (parts : List P) (done : Bool) : Type 0 where
   pub shape : Tree
   pub is_shape : IsShape view.table s rows shape
   pub fits : Fits s rows
-  pub few : AreFew read_steps (length rows) (length s)
+  pub few : AreFew read (length rows) (length s)
   pub driving : IsDriving view s rows shape nodes steps refused next frames parts
   pub ended : done ≡ true → IsDone view s rows (meaning_of view shape) nodes parts
+  pub all_steps : done ≡ true → steps ≡ link_steps shape
 
 -- A symbol is linked: its nodes and its one part are what its shape means, and rows and steps are few.
 pub record IsLinked {N P K V S C : Type 0} (view : View N P K V S C) (s : List ℕ) (nodes : N) (parts : List P) (count steps : ℕ) (shape : Tree) : Type 0 where

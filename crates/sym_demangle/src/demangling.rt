@@ -5,9 +5,10 @@ ghost use Rattle.sym_core.specs.Number.{FitsSymbol};
 ghost use Rattle.sym_core.specs.declared.refusal.Refusal.TheVariants as refusals;
 ghost use Rattle.sym_print.specs.declared.detail.Detail.{Detail};
 ghost use Rattle.sym_shape.specs.Reader.{AreFew};
-ghost use Rattle.sym_shape.specs.Tree.{AreRowsOf};
+ghost use Rattle.sym_shape.specs.Tree.{AreRowsOf, AreStepsOf};
 ghost use Rattle.sym_shape.specs.declared.rule.Row.{Row};
 ghost use Rattle.sym_demangle.specs.Mangled.{IsReading, IsAnswer};
+ghost use Rattle.sym_demangle.specs.Standing.{AreStepsInAll};
 
 use crate::linker::Linker;
 use crate::mangling::Mangling;
@@ -20,10 +21,12 @@ use sym_shape::{Reader, Shape};
 fn link<M: Mangling>(alloc: Global, bytes: Vec<u8>, shape: Shape) -> Result<M::Symbol, Refusal>
     requires fits { FitsSymbol bytes.items }
     requires rows { AreRowsOf M.mangled.table bytes.items shape.rows }
+    requires steps { AreStepsOf M.mangled.table bytes.items shape.steps }
     requires few { AreFew shape.steps (length shape.rows) (length bytes.items) }
     ensures bytes { IfOk result (λ symbol. M.bytes_of symbol ≡ bytes.items) }
     ensures symbol { IfOk result (λ symbol. IsReading M.mangled bytes.items (Ok (M.whole_of symbol))) }
     ensures rows { IfOk result (λ symbol. M.rows_of symbol ≡ length shape.rows) }
+    ensures steps { IfOk result (λ symbol. AreStepsInAll M.mangled.table bytes.items (M.steps_of symbol)) }
     ensures refused { IfErr result (λ e. (e ≡ refusals.Memory) ⊎ IsReading M.mangled bytes.items (Err e)) }
     ensures never_too_long { IfErr result (λ e. e ≢ refusals.TooLong) }
 {
@@ -43,8 +46,9 @@ pub fn read<M: Mangling>(alloc: Global, s: &[u8]) -> Result<M::Symbol, Refusal>
     requires { FitsSymbol s.now }
     ensures bytes { IfOk result (λ symbol. M.bytes_of symbol ≡ s.now) }
     ensures symbol { IfOk result (λ symbol. IsReading M.mangled s.now (Ok (M.whole_of symbol))) }
-    // The rows that are counted are those of the symbol's one shape.
+    // The rows and steps that are counted are those of the symbol's one tree.
     ensures rows { IfOk result (λ symbol. (rows : List Row) × AreRowsOf M.mangled.table s.now rows × (M.rows_of symbol ≡ length rows)) }
+    ensures steps { IfOk result (λ symbol. AreStepsInAll M.mangled.table s.now (M.steps_of symbol)) }
     ensures refused { IfErr result (λ e. (e ≡ refusals.Memory) ⊎ IsReading M.mangled s.now (Err e)) }
     ensures never_too_long { IfErr result (λ e. e ≢ refusals.TooLong) }
 {
@@ -63,8 +67,9 @@ pub fn read_fed<M: Mangling>(alloc: Global, mut reader: Reader<M>) -> Result<M::
     requires { reader.ended ≡ true }
     ensures bytes { IfOk result (λ symbol. M.bytes_of symbol ≡ reader.bytes) }
     ensures symbol { IfOk result (λ symbol. IsReading M.mangled reader.bytes (Ok (M.whole_of symbol))) }
-    // The rows that are counted are those of the symbol's one shape.
+    // The rows and steps that are counted are those of the symbol's one tree.
     ensures rows { IfOk result (λ symbol. (rows : List Row) × AreRowsOf M.mangled.table reader.bytes rows × (M.rows_of symbol ≡ length rows)) }
+    ensures steps { IfOk result (λ symbol. AreStepsInAll M.mangled.table reader.bytes (M.steps_of symbol)) }
     ensures refused { IfErr result (λ e. (e ≡ refusals.Memory) ⊎ IsReading M.mangled reader.bytes (Err e)) }
     ensures never_too_long { IfErr result (λ e. e ≢ refusals.TooLong) }
 {

@@ -6,7 +6,7 @@ ghost use Rattle.sym_core.specs.declared.refusal.Refusal.TheVariants as refusals
 ghost use Rattle.sym_shape.specs.Tree.{AreRowsOf};
 ghost use Rattle.sym_shape.specs.Reader.{AreFew};
 ghost use Rattle.sym_demangle.specs.Mangled.{StandsFor, IsRefused};
-ghost use Rattle.sym_demangle.specs.Standing.{Progress, unlinked, AreFewInAll};
+ghost use Rattle.sym_demangle.specs.Standing.{Progress, unlinked, AreFewInAll, AreLinkSteps};
 
 use crate::mangling::Mangling;
 use std::alloc::Global;
@@ -85,6 +85,8 @@ impl<M: Mangling> Linker<M> {
         // Nothing is left to do, and nothing was done.
         ensures done { result ≡ Ok true → self.new.done ≡ true }
         ensures same { result ≡ Ok true → self.new.steps ≡ self.old.steps }
+        // The steps so far are then those of the symbol's one tree.
+        ensures all_steps { result ≡ Ok true → AreLinkSteps M.mangled.table self.old.bytes self.new.steps }
         ensures open { OnOk result (self.new.refused ≡ None) }
         // A refusal has its reason, is kept, and is answered again.
         ensures refused { IfErr result (IsRefused M.mangled self.old.bytes) }
@@ -120,6 +122,8 @@ impl<M: Mangling> Linker<M> {
         ensures rows { self.new.rows ≡ self.old.rows }
         ensures read_steps { self.new.read_steps ≡ self.old.read_steps }
         ensures done { OnOk result (self.new.done ≡ true) }
+        // The steps are then those of the symbol's one tree, by `step` or by `run`.
+        ensures all_steps { OnOk result (AreLinkSteps M.mangled.table self.old.bytes self.new.steps) }
         ensures open { OnOk result (self.new.refused ≡ None) }
         ensures refused { IfErr result (IsRefused M.mangled self.old.bytes) }
         ensures kept { IfErr result (λ e. self.new.refused ≡ Some e) }
@@ -151,6 +155,7 @@ impl<M: Mangling> Linker<M> {
         ensures stands { StandsFor M.mangled self.bytes (Ok (M.whole_of result)) }
         ensures rows { M.rows_of result ≡ self.rows }
         ensures steps { M.steps_of result ≡ self.read_steps + self.steps }
+        ensures all_steps { AreLinkSteps M.mangled.table self.bytes self.steps }
     {
         let Linker {
             bytes,

@@ -5,9 +5,10 @@ ghost use Rattle.sym_core.specs.Number.{FitsSymbol};
 ghost use Rattle.sym_core.specs.declared.refusal.Refusal.TheVariants as refusals;
 ghost use Rattle.sym_print.specs.Unshared.{text_of, cost_of};
 ghost use Rattle.sym_shape.specs.Reader.{AreFew};
-ghost use Rattle.sym_shape.specs.Tree.{AreRowsOf};
+ghost use Rattle.sym_shape.specs.Tree.{AreRowsOf, AreStepsOf};
 ghost use Rattle.sym_shape.specs.declared.rule.Row.{Row};
 ghost use Rattle.sym_demangle.specs.Mangled.{IsReading, IsAnswer, StandsFor, IsRefused};
+ghost use Rattle.sym_demangle.specs.Standing.{AreStepsInAll};
 
 use crate::mangling::Mangling;
 use std::alloc::Global;
@@ -109,6 +110,7 @@ impl<M: Mangling> Workspace<M> {
         ensures bytes { IfOk result (λ symbol. M.bytes_of symbol ≡ self.old.ahead.bytes ++ rest.now) }
         ensures symbol { IfOk result (λ symbol. IsReading M.mangled (self.old.ahead.bytes ++ rest.now) (Ok (M.whole_of symbol))) }
         ensures rows { IfOk result (λ symbol. (rows : List Row) × AreRowsOf M.mangled.table (self.old.ahead.bytes ++ rest.now) rows × (M.rows_of symbol ≡ length rows)) }
+        ensures steps { IfOk result (λ symbol. AreStepsInAll M.mangled.table (self.old.ahead.bytes ++ rest.now) (M.steps_of symbol)) }
         ensures refused { IfErr result (λ e. (e ≡ refusals.Memory) ⊎ IsReading M.mangled (self.old.ahead.bytes ++ rest.now) (Err e)) }
         ensures never_too_long { IfErr result (λ e. e ≢ refusals.TooLong) }
     {
@@ -132,10 +134,12 @@ impl<M: Mangling> Workspace<M> {
     fn link(&mut self) -> Result<M::Symbol, Refusal>
         requires fits { FitsSymbol self.old.bytes.items }
         requires rows { AreRowsOf M.mangled.table self.old.bytes.items self.old.shape.rows }
+        requires steps { AreStepsOf M.mangled.table self.old.bytes.items self.old.shape.steps }
         requires few { AreFew self.old.shape.steps (length self.old.shape.rows) (length self.old.bytes.items) }
         ensures bytes { IfOk result (λ symbol. M.bytes_of symbol ≡ self.old.bytes.items) }
         ensures stands { IfOk result (λ symbol. StandsFor M.mangled self.old.bytes.items (Ok (M.whole_of symbol))) }
         ensures rows { IfOk result (λ symbol. M.rows_of symbol ≡ length self.old.shape.rows) }
+        ensures steps { IfOk result (λ symbol. AreStepsInAll M.mangled.table self.old.bytes.items (M.steps_of symbol)) }
         ensures refused { IfErr result (IsRefused M.mangled self.old.bytes.items) }
     {
         M::restart(&mut self.linked, &self.bytes)?;
@@ -158,8 +162,9 @@ impl<M: Mangling> Workspace<M> {
         requires { FitsSymbol s.now }
         ensures bytes { IfOk result (λ symbol. M.bytes_of symbol ≡ s.now) }
         ensures symbol { IfOk result (λ symbol. IsReading M.mangled s.now (Ok (M.whole_of symbol))) }
-        // The rows that are counted are those of the symbol's one shape.
+        // The rows and steps that are counted are those of the symbol's one tree.
         ensures rows { IfOk result (λ symbol. (rows : List Row) × AreRowsOf M.mangled.table s.now rows × (M.rows_of symbol ≡ length rows)) }
+        ensures steps { IfOk result (λ symbol. AreStepsInAll M.mangled.table s.now (M.steps_of symbol)) }
         ensures refused { IfErr result (λ e. (e ≡ refusals.Memory) ⊎ IsReading M.mangled s.now (Err e)) }
         ensures never_too_long { IfErr result (λ e. e ≢ refusals.TooLong) }
     {

@@ -7,6 +7,7 @@ use Rattle.sym_core.specs.declared.refusal.Refusal.TheVariants.{Memory, TooLong}
 use Rattle.sym_print.specs.declared.detail.Detail.{Detail}
 use Rattle.sym_shape.specs.declared.rule.Row.{Row}
 use Rattle.sym_shape.specs.Tree.{AreRowsOf}
+use Rattle.sym_demangle.specs.Standing.{AreStepsInAll}
 use Rattle.rust_tree.specs.Counts.{IsRead}
 use Rattle.rust_tree.specs.Layout.{ReadSymbol}
 use Rattle.rust_v0.specs.Mangled.{IsAnswer, answer, IsReading, whole_of}
@@ -56,9 +57,9 @@ unread_answered limit detail symbol refusal law (inr is) other = law is
 
 -- the counts that a symbol answers
 pub read_counts : (symbol : List ℕ) (read : ReadSymbol) (counts : Counts) → (shape : List Row) × AreRowsOf v0_table symbol shape × (read.rows ≡ length shape)
-    → IsRead read → read.bytes ≡ symbol → IsReading symbol (Ok (whole_of read))
+    → IsRead read → read.bytes ≡ symbol → IsReading symbol (Ok (whole_of read)) → AreStepsInAll v0_table symbol read.steps
     → counts.rows ≡ read.rows → counts.nodes ≡ length read.table.nodes → counts.steps ≡ read.steps → AreCounts symbol counts
-read_counts symbol read counts (shape, are_rows, same) is_read bytes stands rows nodes steps =
+read_counts symbol read counts (shape, are_rows, same) is_read bytes stands counted rows nodes steps =
     let size : length read.bytes ≡ length symbol = ap length bytes in record {
       shape = shape;
       are_rows = are_rows;
@@ -70,6 +71,7 @@ read_counts symbol read counts (shape, are_rows, same) is_read bytes stands rows
       nodes = nodes;
       nodes_few = omega (arith, is_read.nodes, nodes, size);
       steps_few = omega (arith, is_read.steps, steps, size);
+      steps = subst (λ n. AreStepsInAll v0_table symbol n) (sym steps) counted;
       steps_enough = omega (arith, is_read.counted, rows, steps);
     }
 

@@ -5,6 +5,7 @@ use Rattle.sym_core.specs.declared.refusal.Refusal.TheVariants.{Malformed}
 use Rattle.sym_print.specs.declared.detail.Detail.{Detail}
 use Rattle.sym_shape.specs.declared.rule.Row.{Row}
 use Rattle.sym_shape.specs.Tree.{AreRowsOf}
+use Rattle.sym_demangle.specs.Standing.{AreStepsInAll}
 use Rattle.rust_tree.specs.Counts.{IsRead}
 use Rattle.rust_tree.specs.Layout.{ReadSymbol}
 use Rattle.rust_v0.specs.Mangled.{answer, IsReading, whole_of}
@@ -41,8 +42,8 @@ pressed_language Rust skip symbol = behind_front (underscore_of skip) (pressed_a
 abbrev pub pressed_of : Kind → List ℕ → Result (List ℕ) Refusal
 pressed_of kind symbol = pressed_language kind.lang kind.skip symbol
 
--- The counts of a Rust symbol that is read: the rows of its one shape, the nodes of its table of nodes, in which it stands for
--- its tree, and at least a step for each row, but no more steps than its bytes allow.
+-- The counts of a Rust symbol that is read: the rows and steps of its one shape, and the nodes of a symbol that was read and
+-- stands for its tree. There is at least a step for each row, and no more of each than its bytes allow.
 pub record AreCounts (symbol : List ℕ) (counts : Counts) : Type 0 where
   pub shape : List Row
   pub are_rows : AreRowsOf v0_table symbol shape
@@ -53,6 +54,7 @@ pub record AreCounts (symbol : List ℕ) (counts : Counts) : Type 0 where
   pub stands : IsReading symbol (Ok (whole_of read))
   pub nodes : counts.nodes ≡ length read.table.nodes
   pub nodes_few : counts.nodes ≤ 4 * length symbol + 8
+  pub steps : AreStepsInAll v0_table symbol counts.steps
   pub steps_few : counts.steps ≤ 32 * length symbol + 48
   pub steps_enough : counts.rows ≤ counts.steps
 

@@ -12,11 +12,13 @@ use Rattle.sym_link.specs.Parts.{Stands}
 use Rattle.sym_link.specs.Driving.{AreAll, Fails}
 use Rattle.sym_link.specs.Linking.{View, IsLinking, IsInside, owed_behind, Gives}
 use Rattle.sym_link.specs.Owing.{owed}
+use Rattle.sym_link.specs.Stepping.{Due, waiting, IsDue, CountsClose}
 use Rattle.sym_link.specs.Following.{HoldsAll, left_from, Nests, IsEarly, Follows}
 use Rattle.sym_link.proofs.Cases.{as_many}
 use Rattle.sym_link.proofs.Closing.{ended_outcome}
 use Rattle.sym_link.proofs.Lists.{all_push, all_stay, snoc_last, snoc_front, no_last, dropped_front, taken_front}
 use Rattle.sym_link.proofs.Standing.{no_rows}
+use Rattle.sym_link.proofs.Stepping.{close_due}
 
 -- ## Frames and parts
 
@@ -73,7 +75,7 @@ holds_push view s nodes (top ∷ frames) known row codes parts part value (one, 
 -- ## The innermost rule
 
 -- What is known of the innermost rule: its frame is the last one, and its parts are those from the frame's base on.
-pub record Innermost {N P K V S C : Type 0} (view : View N P K V S C) (s : List ℕ) (shape : List Row) (whole : Result (Found (List V) S) Refusal)
+pub record Innermost {N P K V S C : Type 0} (view : View N P K V S C) (s : List ℕ) (shape : List Row) (whole : Result (Found (List V) S) Refusal) (due : Due)
     (nodes : N) (next : ℕ) (lower : List (Frame K)) (code : Frame K) (parts : List P) : Type 0 where
   pub top : machine.Frame V S C
   pub frames : List (machine.Frame V S C)
@@ -92,19 +94,20 @@ pub record Innermost {N P K V S C : Type 0} (view : View N P K V S C) (s : List 
   pub reached : ℕ
   pub before : reached ≤ top.from
   pub early : length known ≡ 0 → reached ≤ top.rule.place
+  pub is_due : IsDue due (top ∷ frames)
   pub paid : view.IsPaid nodes reached
 
-innermost_on : {N P K V S C : Type 0} (view : View N P K V S C) (s : List ℕ) (shape : List Row) (whole : Result (Found (List V) S) Refusal)
+innermost_on : {N P K V S C : Type 0} (view : View N P K V S C) (s : List ℕ) (shape : List Row) (whole : Result (Found (List V) S) Refusal) (due : Due)
     (nodes : N) (next : ℕ) (codes lower : List (Frame K)) (code : Frame K) (parts : List P)
     (frames : List (machine.Frame V S C)) (known : List V) (state : S) (reached : ℕ)
     → machine.outcome_of view.reading frames known state ≡ whole → drop next shape ≡ machine.pending frames next → next ≤ length shape
     → HoldsAll view s nodes frames known 0 next codes parts → view.Holds nodes state → Nests (length s) frames
     → view.size nodes + owed view.owes frames (length known) ≤ view.most (length s)
-    → reached ≤ left_from (length s) frames → IsEarly reached frames known → view.IsPaid nodes reached
-    → codes ≡ lower ++ code ∷ [] → Innermost view s shape whole nodes next lower code parts
-innermost_on view s shape whole nodes next codes lower code parts [] known state reached coming rows within (none, are) keeps nests size before early paid ends =
+    → reached ≤ left_from (length s) frames → IsEarly reached frames known → IsDue due frames → view.IsPaid nodes reached
+    → codes ≡ lower ++ code ∷ [] → Innermost view s shape whole due nodes next lower code parts
+innermost_on view s shape whole due nodes next codes lower code parts [] known state reached coming rows within (none, are) keeps nests size before early is_due paid ends =
     absurd (no_last lower code (sym none ∙ ends))
-innermost_on view s shape whole nodes next codes lower code parts (top ∷ frames) known state reached coming rows within (one, holds) keeps nests size before early paid ends =
+innermost_on view s shape whole due nodes next codes lower code parts (top ∷ frames) known state reached coming rows within (one, holds) keeps nests size before early is_due paid ends =
     let same : one.code ≡ code = snoc_last one.lower lower one.code code (sym one.codes_are ∙ ends) in
     let same_lower : one.lower ≡ lower = snoc_front one.lower lower one.code code (sym one.codes_are ∙ ends) in
     let base_is : code.base ≡ length one.below = ap (λ f. f.base) (sym same) ∙ one.base in
@@ -138,23 +141,24 @@ innermost_on view s shape whole nodes next codes lower code parts (top ∷ frame
       reached = reached;
       before = before;
       early = early;
+      is_due = is_due;
       paid = paid;
     }
 
-pub innermost : {N P K V S C : Type 0} (view : View N P K V S C) (s : List ℕ) (shape : List Row) (whole : Result (Found (List V) S) Refusal)
+pub innermost : {N P K V S C : Type 0} (view : View N P K V S C) (s : List ℕ) (shape : List Row) (whole : Result (Found (List V) S) Refusal) (due : Due)
     (nodes : N) (next : ℕ) (codes lower : List (Frame K)) (code : Frame K) (parts : List P)
-    → Follows view s shape whole nodes next codes parts → codes ≡ lower ++ code ∷ [] → Innermost view s shape whole nodes next lower code parts
-innermost view s shape whole nodes next codes lower code parts f ends =
-    innermost_on view s shape whole nodes next codes lower code parts f.frames f.known f.state f.reached f.coming f.rows f.within f.holds f.keeps f.nests f.size f.before f.early f.paid ends
+    → Follows view s shape whole due nodes next codes parts → codes ≡ lower ++ code ∷ [] → Innermost view s shape whole due nodes next lower code parts
+innermost view s shape whole due nodes next codes lower code parts f ends =
+    innermost_on view s shape whole due nodes next codes lower code parts f.frames f.known f.state f.reached f.coming f.rows f.within f.holds f.keeps f.nests f.size f.before f.early f.is_due f.paid ends
 
 -- ## A rule closes
 
 -- where the innermost rule has no rows left
-pub close_outcome : {N P K V S C : Type 0} (view : View N P K V S C) (s : List ℕ) (shape : List Row) (whole : Result (Found (List V) S) Refusal)
-    (nodes : N) (next : ℕ) (lower : List (Frame K)) (code : Frame K) (parts : List P) (i : Innermost view s shape whole nodes next lower code parts)
+pub close_outcome : {N P K V S C : Type 0} (view : View N P K V S C) (s : List ℕ) (shape : List Row) (whole : Result (Found (List V) S) Refusal) (due : Due)
+    (nodes : N) (next : ℕ) (lower : List (Frame K)) (code : Frame K) (parts : List P) (i : Innermost view s shape whole due nodes next lower code parts)
     → row_count_all i.top.left ≡ 0
     → (machine.ended view.reading i.top.rule i.known i.top.from i.top.left i.state >>= λ w. machine.outcome_of view.reading i.frames (i.top.outer ++ w.value ∷ []) w.state) ≡ whole
-close_outcome view s shape whole nodes next lower code parts i none =
+close_outcome view s shape whole due nodes next lower code parts i none =
     ended_outcome view.reading i.top i.frames i.known i.state none ∙ i.coming
 
 early_push : {V S C : Type 0} (reached : ℕ) (frames : List (machine.Frame V S C)) (known : List V) (value : V) → IsEarly reached frames (known ++ value ∷ [])
@@ -162,19 +166,19 @@ early_push reached [] known value = tt
 early_push reached (top ∷ frames) known value = λ none. absurd (omega (arith, none, length-append known (value ∷ [])))
 
 -- A driver that closes its innermost rule behind that rule's last row stays on its way.
-pub close_follows : {N P K V S C : Type 0} (view : View N P K V S C) (s : List ℕ) (shape : List Row) (whole : Result (Found (List V) S) Refusal)
+pub close_follows : {N P K V S C : Type 0} (view : View N P K V S C) (s : List ℕ) (shape : List Row) (whole : Result (Found (List V) S) Refusal) (due : Due)
     (old new : N) (next : ℕ) (lower : List (Frame K)) (code : Frame K) (parts : List P) (part : P) → IsLinking view → view.Grows old new
-    → (i : Innermost view s shape whole old next lower code parts) → row_count_all i.top.left ≡ 0
+    → (i : Innermost view s shape whole due old next lower code parts) → row_count_all i.top.left ≡ 0
     → Gives view new (Ok part) (machine.ended view.reading i.top.rule i.known i.top.from i.top.left i.state)
-    → view.size new + 0 ≤ view.size old + owed_behind view code parts → view.IsPaid new i.reached
-    → Follows view s shape whole new next lower (take code.base parts ++ part ∷ [])
-close_follows view s shape whole old new next lower code parts part laws grows i none (value, state, read, is_part, holds) added paid =
+    → view.size new + 0 ≤ view.size old + owed_behind view code parts → view.IsPaid new i.reached → (left : ℕ) → CountsClose due left
+    → Follows view s shape whole (waiting left) new next lower (take code.base parts ++ part ∷ [])
+close_follows view s shape whole due old new next lower code parts part laws grows i none (value, state, read, is_part, holds) added paid left counts =
     let row_is : next + row_count_all i.top.left ≡ next = omega (arith, none) in
     record {
       frames = i.frames;
       known = i.top.outer ++ value ∷ [];
       state = state;
-      coming = rw read at (close_outcome view s shape whole old next lower code parts i none);
+      coming = rw read at (close_outcome view s shape whole due old next lower code parts i none);
       rows = i.rows ∙ ap (λ rs. rs ++ machine.pending i.frames (next + row_count_all i.top.left)) (no_rows i.top.left i.top.from next none)
           ∙ ap (λ n. machine.pending i.frames n) row_is;
       within = i.within;
@@ -193,6 +197,7 @@ close_follows view s shape whole old new next lower code parts part laws grows i
       reached = i.reached;
       before = omega (arith, i.before, i.nests.0);
       early = early_push i.reached i.frames i.top.outer value;
+      is_due = close_due due i.top i.frames left i.is_due none counts;
       paid = paid;
     }
 
@@ -206,11 +211,11 @@ fails_carried refusals.TooLong read k whole fails coming = sym (rw fails at comi
 fails_carried refusals.Memory read k whole fails coming = tt
 
 -- Where the innermost rule is refused, so is the whole.
-pub close_fails : {N P K V S C : Type 0} (view : View N P K V S C) (s : List ℕ) (shape : List Row) (whole : Result (Found (List V) S) Refusal)
+pub close_fails : {N P K V S C : Type 0} (view : View N P K V S C) (s : List ℕ) (shape : List Row) (whole : Result (Found (List V) S) Refusal) (due : Due)
     (nodes : N) (next : ℕ) (lower : List (Frame K)) (code : Frame K) (parts : List P) (e : Refusal)
-    → (i : Innermost view s shape whole nodes next lower code parts) → row_count_all i.top.left ≡ 0
+    → (i : Innermost view s shape whole due nodes next lower code parts) → row_count_all i.top.left ≡ 0
     → Fails e (machine.ended view.reading i.top.rule i.known i.top.from i.top.left i.state) → Fails e whole
-close_fails view s shape whole nodes next lower code parts e i none fails =
+close_fails view s shape whole due nodes next lower code parts e i none fails =
     fails_carried e (machine.ended view.reading i.top.rule i.known i.top.from i.top.left i.state)
     (λ w. machine.outcome_of view.reading i.frames (i.top.outer ++ w.value ∷ []) w.state) whole fails
-    (close_outcome view s shape whole nodes next lower code parts i none)
+    (close_outcome view s shape whole due nodes next lower code parts i none)

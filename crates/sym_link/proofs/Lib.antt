@@ -5,6 +5,7 @@ pub mod Lists
 pub mod Standing
 pub mod Opening
 pub mod Closing
+pub mod Stepping
 pub mod Following
 pub mod Taking
 pub mod Starting

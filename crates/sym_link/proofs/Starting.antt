@@ -18,11 +18,13 @@ use Rattle.sym_link.specs.Parts.{Stands}
 use Rattle.sym_link.specs.Driving.{AreAll}
 use Rattle.sym_link.specs.Linking.{View, IsLinking, HasRoom, owed_behind, Begun, begun, Begins}
 use Rattle.sym_link.specs.Owing.{cost, owed}
+use Rattle.sym_link.specs.Stepping.{link_steps, Due, waiting, starting, IsDue}
 use Rattle.sym_link.specs.Following.{IsShape, meaning_of, HoldsAll, left_from, Follows, IsDone, IsDriving}
 use Rattle.sym_link.proofs.Lists.{no_last}
 use Rattle.sym_link.proofs.Results.{ok_any}
 use Rattle.sym_link.proofs.Opening.{root_outcome}
 use Rattle.sym_link.proofs.Standing.{stands_end, rows_length}
+use Rattle.sym_link.proofs.Stepping.{root_due}
 use Rattle.sym_link.proofs.Following.{Innermost}
 use Rattle.sym_link.proofs.Taking.{dropped_next, of_ok}
 
@@ -67,9 +69,9 @@ pub root_follows : {N P K V S C : Type 0} (view : View N P K V S C) (s : List �
     (old new : N) (opened : Frame K) → IsLinking view → IsShape view.table s shape tree → length shape ≤ 4 * length s + 4 → (r : IsRoot view.table tree) → view.size old ≡ 0
     → opened.rule ≡ r.rule.number → opened.place ≡ 0 → opened.end ≡ 0 + 1 + row_count_all r.inner → opened.base ≡ 0
     → Begins view new [] [] (Ok opened.kept) (begun view.reading r.rule r.taken 0 r.inner (record { context = view.around; values = []; state = view.first }))
-    → view.size new + 0 ≤ view.size old + 0 → view.IsPaid new 0
-    → Follows view s shape (meaning_of view tree) new (0 + 1) (opened ∷ []) []
-root_follows view s shape tree old new opened laws is fits r no_node number place end base (b, read, is_kept, holds, own, parts_are, are) added paid =
+    → view.size new + 0 ≤ view.size old + 0 → view.IsPaid new 0 → (left : ℕ) → link_steps tree ≡ left + 1
+    → Follows view s shape (meaning_of view tree) (starting left) new (0 + 1) (opened ∷ []) []
+root_follows view s shape tree old new opened laws is fits r no_node number place end base (b, read, is_kept, holds, own, parts_are, are) added paid left steps =
     let n = length view.reading.rowless in
     let count = of_ok (begun view.reading r.rule r.taken 0 r.inner (record { context = view.around; values = []; state = view.first })) b (BeginsRoot r.rule r.taken) read
     (root_count view.reading view.around view.first r.rule r.taken r.inner) in
@@ -122,6 +124,7 @@ root_follows view s shape tree old new opened laws is fits r no_node number plac
         ap (λ t. cost view.owes t) r.tree_is,
         ap (λ o. view.owes o.rule.number 0) count.1.2,
       );
+      is_due = root_due left r.rule r.taken r.inner (sym (ap link_steps r.tree_is) ∙ steps);
       reached = 0;
       before = omega arith;
       early = λ none. omega arith;
@@ -131,10 +134,10 @@ root_follows view s shape tree old new opened laws is fits r no_node number plac
 -- ## Rooms
 
 -- the language may take the next row, or close the innermost rule
-pub room_inside : {N P K V S C : Type 0} (view : View N P K V S C) (s : List ℕ) (shape : List Row) (whole : Result (Found (List V) S) Refusal)
+pub room_inside : {N P K V S C : Type 0} (view : View N P K V S C) (s : List ℕ) (shape : List Row) (whole : Result (Found (List V) S) Refusal) (due : Due)
     (nodes : N) (next : ℕ) (lower : List (Frame K)) (code : Frame K) (parts : List P) → IsLinking view → FitsSymbol s
-    → Innermost view s shape whole nodes next lower code parts → HasRoom view s nodes (owed_behind view code parts)
-room_inside view s shape whole nodes next lower code parts laws fits i = record {
+    → Innermost view s shape whole due nodes next lower code parts → HasRoom view s nodes (owed_behind view code parts)
+room_inside view s shape whole due nodes next lower code parts laws fits i = record {
   fits = fits;
   size = omega (arith, i.size, i.owes);
   paid = laws.paid_more nodes i.reached (length s)
@@ -188,31 +191,34 @@ done_on : {N P K V S C : Type 0} (view : View N P K V S C) (s : List ℕ) (shape
     → IsLinking view → IsRoot view.table tree → (frames : List (machine.Frame V S C)) (known : List V) (state : S) (reached : ℕ)
     → machine.outcome_of view.reading frames known state ≡ meaning_of view tree → next ≤ length shape
     → HoldsAll view s nodes frames known 0 next codes parts → view.Holds nodes state
-    → view.size nodes + owed view.owes frames (length known) ≤ view.most (length s) → reached ≤ left_from (length s) frames → view.IsPaid nodes reached
-    → codes ≡ [] → IsDone view s shape (meaning_of view tree) nodes parts
-done_on view s shape tree nodes next codes parts laws r [] known state reached coming within (none, are) keeps size before paid no_frame =
+    → view.size nodes + owed view.owes frames (length known) ≤ view.most (length s) → reached ≤ left_from (length s) frames → view.IsPaid nodes reached → (steps : ℕ) → IsDue (waiting steps) frames
+    → codes ≡ [] → IsDone view s shape (meaning_of view tree) nodes parts × (steps ≡ 0)
+done_on view s shape tree nodes next codes parts laws r [] known state reached coming within (none, are) keeps size before paid steps due no_frame =
     let one = one_value view.reading view.around view.first r.rule r.taken r.inner known state
     (ap (λ t. unfold_tree view.reading view.around 0 t view.first) (sym r.tree_is) ∙ sym coming) in
     let part = one_part (view.IsPart nodes) parts one.0 (subst (λ vs. AreAll (view.IsPart nodes) parts vs) one.1 are) in
-    record {
-      part = part.0;
-      value = one.0;
-      state = state;
-      parts_are = part.1;
-      means = sym coming ∙ ap (λ vs. Ok (found vs state)) one.1;
-      is_part = part.2;
-      holds = keeps;
-      size = omega (arith, size);
-      paid = laws.paid_more nodes reached (length s) before paid;
-    }
-done_on view s shape tree nodes next codes parts laws r (top ∷ frames) known state reached coming within (one, holds) keeps size before paid no_frame =
+    (
+      record {
+        part = part.0;
+        value = one.0;
+        state = state;
+        parts_are = part.1;
+        means = sym coming ∙ ap (λ vs. Ok (found vs state)) one.1;
+        is_part = part.2;
+        holds = keeps;
+        size = omega (arith, size);
+        paid = laws.paid_more nodes reached (length s) before paid;
+      },
+      sym due,
+    )
+done_on view s shape tree nodes next codes parts laws r (top ∷ frames) known state reached coming within (one, holds) keeps size before paid steps due no_frame =
     absurd (no_last one.lower one.code (sym no_frame ∙ one.codes_are))
 
-pub done : {N P K V S C : Type 0} (view : View N P K V S C) (s : List ℕ) (shape : List Row) (tree : Tree) (nodes : N) (next : ℕ) (codes : List (Frame K)) (parts : List P)
-    → IsLinking view → IsRoot view.table tree → Follows view s shape (meaning_of view tree) nodes next codes parts → codes ≡ []
-    → IsDone view s shape (meaning_of view tree) nodes parts
-done view s shape tree nodes next codes parts laws r f no_frame =
-    done_on view s shape tree nodes next codes parts laws r f.frames f.known f.state f.reached f.coming f.within f.holds f.keeps f.size f.before f.paid no_frame
+pub done : {N P K V S C : Type 0} (view : View N P K V S C) (s : List ℕ) (shape : List Row) (tree : Tree) (steps : ℕ) (nodes : N) (next : ℕ) (codes : List (Frame K)) (parts : List P)
+    → IsLinking view → IsRoot view.table tree → Follows view s shape (meaning_of view tree) (waiting steps) nodes next codes parts → codes ≡ []
+    → IsDone view s shape (meaning_of view tree) nodes parts × (steps ≡ 0)
+done view s shape tree steps nodes next codes parts laws r f no_frame =
+    done_on view s shape tree nodes next codes parts laws r f.frames f.known f.state f.reached f.coming f.within f.holds f.keeps f.size f.before f.paid steps f.is_due no_frame
 
 -- ## For a language's own linker
 
@@ -220,7 +226,7 @@ done view s shape tree nodes next codes parts laws r f no_frame =
 pub driving_starts : {N P K V S C : Type 0} (view : View N P K V S C) (s : List ℕ) (shape : List Row) (tree : Tree) (nodes : N)
     → view.size nodes ≡ 0 → view.Holds nodes view.first → view.IsPaid nodes 0 → IsDriving view s shape tree nodes 0 None 0 [] []
 driving_starts view s shape tree nodes none holds paid = (
-  inl (record { next_is = refl; no_frame = refl; no_part = refl; no_node = none; holds = holds; paid = paid }),
+  inl (record { next_is = refl; no_frame = refl; no_part = refl; no_node = none; holds = holds; paid = paid }, refl),
   omega arith,
   omega arith,
   omega arith,

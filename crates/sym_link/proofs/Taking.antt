@@ -16,10 +16,12 @@ use Rattle.sym_link.specs.Parts.{skipped, skipped_from, values_in, Stands}
 use Rattle.sym_link.specs.Driving.{AreAll, Fails}
 use Rattle.sym_link.specs.Linking.{View, IsLinking, IsRuleRow, IsTokenRow, owed_behind, owed_next, next_of, begun, taken_in, Begins, Takes}
 use Rattle.sym_link.specs.Owing.{cost_all}
+use Rattle.sym_link.specs.Stepping.{Due, waiting, starting, CountsToken}
 use Rattle.sym_link.specs.Following.{HoldsAll, Follows}
 use Rattle.sym_link.proofs.Opening.{machine_in, entering_outcome, machine_at, token_outcome, BeginsBehind, begun_count, taken_count}
 use Rattle.sym_link.proofs.Standing.{passed_by, skip_split, skip_from, skip_rows, skip_count, skip_cost, joined_spell, stands_skip, stands_take, stands_left, stands_inner, token_own}
 use Rattle.sym_link.proofs.Cases.{as_many}
+use Rattle.sym_link.proofs.Stepping.{token_due, enter_due}
 use Rattle.sym_link.proofs.Following.{Innermost, holds_stays, fails_carried}
 
 pub dropped_one : {A : Type 0} (xs more : List A) (n : ℕ) (x d : A) → drop n xs ≡ x ∷ more → (drop (n + 1) xs ≡ more) × (n < length xs) × (slice_index_or xs n d ≡ x)
@@ -91,8 +93,8 @@ own_count Is parts new_parts own values base within are_parts are =
 -- ## A rule begins
 
 -- the row of a rule that stands next
-pub the_rule_row : {N P K V S C : Type 0} (view : View N P K V S C) (s : List ℕ) (shape : List Row) (whole : Result (Found (List V) S) Refusal)
-    (nodes : N) (next : ℕ) (lower : List (Frame K)) (code : Frame K) (parts : List P) (i : Innermost view s shape whole nodes next lower code parts)
+pub the_rule_row : {N P K V S C : Type 0} (view : View N P K V S C) (s : List ℕ) (shape : List Row) (whole : Result (Found (List V) S) Refusal) (due : Due)
+    (nodes : N) (next : ℕ) (lower : List (Frame K)) (code : Frame K) (parts : List P) (i : Innermost view s shape whole due nodes next lower code parts)
     (rule : Rule) (taken : List ℕ) (inner rest : Forest) → skipped i.top.left ≡ grown (branch rule taken inner) rest
     → drop next shape ≡ record {
       rule = rule.number;
@@ -102,7 +104,7 @@ pub the_rule_row : {N P K V S C : Type 0} (view : View N P K V S C) (s : List �
     }
     ∷ (rows_of_all inner (skipped_from i.top.from i.top.left + length taken) (next + 1)
     ++ machine.pending (machine.frame i.top.rule (skipped_from i.top.from i.top.left + length (taken ++ spell_all inner)) rest i.top.outer ∷ i.frames) (next + 1 + row_count_all inner))
-the_rule_row view s shape whole nodes next lower code parts i rule taken inner rest left_is =
+the_rule_row view s shape whole due nodes next lower code parts i rule taken inner rest left_is =
     let place = skipped_from i.top.from i.top.left in
     i.rows ∙ skipped_rows i.top i.frames next (grown (branch rule taken inner) rest) left_is
     ∙ rule_pending i.top i.frames place next rule taken inner rest
@@ -126,23 +128,23 @@ rule_row_is shape next place rule taken inner more row d rows row_is =
     }
 
 -- A driver in which a rule begins stays on its way.
-pub enter_follows : {N P K V S C : Type 0} (view : View N P K V S C) (s : List ℕ) (shape : List Row) (whole : Result (Found (List V) S) Refusal)
+pub enter_follows : {N P K V S C : Type 0} (view : View N P K V S C) (s : List ℕ) (shape : List Row) (whole : Result (Found (List V) S) Refusal) (left : ℕ)
     (old new : N) (next : ℕ) (lower : List (Frame K)) (code opened : Frame K) (parts new_parts : List P) → IsLinking view → view.Grows old new
-    → (i : Innermost view s shape whole old next lower code parts) (rule : Rule) (taken : List ℕ) (inner rest : Forest)
+    → (i : Innermost view s shape whole (waiting (left + 1)) old next lower code parts) (rule : Rule) (taken : List ℕ) (inner rest : Forest)
     → skipped i.top.left ≡ grown (branch rule taken inner) rest
     → opened.rule ≡ rule.number → opened.place ≡ skipped_from i.top.from i.top.left → opened.end ≡ next + 1 + row_count_all inner → opened.base ≡ length new_parts
     → Begins view new (take code.base parts) new_parts (Ok opened.kept)
     (next_of view.reading i.top.rule i.known i.top.from i.top.left i.state >>= begun view.reading rule taken (skipped_from i.top.from i.top.left) inner)
     → view.size new + owed_next view code new_parts ≤ view.size old + owed_behind view code parts → view.IsPaid new (skipped_from i.top.from i.top.left)
-    → Follows view s shape whole new (next + 1) ((lower ++ code ∷ []) ++ opened ∷ []) new_parts
-enter_follows view s shape whole old new next lower code opened parts new_parts laws grows i rule taken inner rest left_is number place_is end base
+    → Follows view s shape whole (starting left) new (next + 1) ((lower ++ code ∷ []) ++ opened ∷ []) new_parts
+enter_follows view s shape whole left old new next lower code opened parts new_parts laws grows i rule taken inner rest left_is number place_is end base
     (b, read, is_kept, holds, own, parts_are, are) added paid =
     let n = length view.reading.rowless in
     let place = skipped_from i.top.from i.top.left in
     let behind = place + length (taken ++ spell_all inner) in
     let reading = next_of view.reading i.top.rule i.known i.top.from i.top.left i.state >>= begun view.reading rule taken place inner in
     let count = of_ok reading b (BeginsBehind view.reading i.known i.top.left rule taken place) read (begun_count view.reading laws.keeps_count i.top.rule i.known i.top.from i.top.left i.state rule taken place inner) in
-    let row = dropped_next shape _ next _ (the_rule_row view s shape whole old next lower code parts i rule taken inner rest left_is) in
+    let row = dropped_next shape _ next _ (the_rule_row view s shape whole (waiting (left + 1)) old next lower code parts i rule taken inner rest left_is) in
     let left_count : row_count_all i.top.left ≡ 1 + row_count_all inner + row_count_all rest = sym (skip_count i.top.left) ∙ ap row_count_all left_is in
     let owed_is : owed_next view code new_parts ≡ view.owes i.top.rule.rule.number (length b.values + 1) =
     ap (λ n. view.owes n (length new_parts - code.base + 1)) i.inside.number
@@ -217,19 +219,20 @@ enter_follows view s shape whole old new next lower code opened parts new_parts 
         ap (λ r. view.owes r.rule.number 0) count.1.2,
         owed_is,
       );
+      is_due = enter_due i.top i.frames left rule taken inner rest i.is_due left_is;
       reached = place;
       before = omega arith;
       early = λ none. omega (arith, ap (λ r. r.place) count.1.2);
       paid = paid;
     }
 
-pub enter_fails : {N P K V S C : Type 0} (view : View N P K V S C) (s : List ℕ) (shape : List Row) (whole : Result (Found (List V) S) Refusal)
+pub enter_fails : {N P K V S C : Type 0} (view : View N P K V S C) (s : List ℕ) (shape : List Row) (whole : Result (Found (List V) S) Refusal) (due : Due)
     (nodes : N) (next : ℕ) (lower : List (Frame K)) (code : Frame K) (parts : List P) (e : Refusal)
-    → (i : Innermost view s shape whole nodes next lower code parts) (rule : Rule) (taken : List ℕ) (inner rest : Forest)
+    → (i : Innermost view s shape whole due nodes next lower code parts) (rule : Rule) (taken : List ℕ) (inner rest : Forest)
     → skipped i.top.left ≡ grown (branch rule taken inner) rest
     → Fails e (next_of view.reading i.top.rule i.known i.top.from i.top.left i.state >>= begun view.reading rule taken (skipped_from i.top.from i.top.left) inner)
     → Fails e whole
-enter_fails view s shape whole nodes next lower code parts e i rule taken inner rest left_is fails =
+enter_fails view s shape whole due nodes next lower code parts e i rule taken inner rest left_is fails =
     let place = skipped_from i.top.from i.top.left in
     fails_carried e (next_of view.reading i.top.rule i.known i.top.from i.top.left i.state >>= begun view.reading rule taken place inner)
     (λ b. machine.outcome view.reading (machine_in i.top i.frames (place + length taken) (place + length (spell (branch rule taken inner))) inner rest b)) whole fails
@@ -238,8 +241,8 @@ enter_fails view s shape whole nodes next lower code parts e i rule taken inner 
 -- ## A token is taken
 
 -- the row of a token that stands next
-pub the_token_row : {N P K V S C : Type 0} (view : View N P K V S C) (s : List ℕ) (shape : List Row) (whole : Result (Found (List V) S) Refusal)
-    (nodes : N) (next : ℕ) (lower : List (Frame K)) (code : Frame K) (parts : List P) (i : Innermost view s shape whole nodes next lower code parts)
+pub the_token_row : {N P K V S C : Type 0} (view : View N P K V S C) (s : List ℕ) (shape : List Row) (whole : Result (Found (List V) S) Refusal) (due : Due)
+    (nodes : N) (next : ℕ) (lower : List (Frame K)) (code : Frame K) (parts : List P) (i : Innermost view s shape whole due nodes next lower code parts)
     (t : Token) (rest : Forest) → skipped i.top.left ≡ grown (token t) rest
     → drop next shape ≡ record {
       rule = 65535;
@@ -248,17 +251,17 @@ pub the_token_row : {N P K V S C : Type 0} (view : View N P K V S C) (s : List �
       end = next + 1;
     }
     ∷ machine.pending (machine.frame i.top.rule (skipped_from i.top.from i.top.left + length (bytes_of t)) rest i.top.outer ∷ i.frames) (next + 1)
-the_token_row view s shape whole nodes next lower code parts i t rest left_is =
+the_token_row view s shape whole due nodes next lower code parts i t rest left_is =
     i.rows ∙ skipped_rows i.top i.frames next (grown (token t) rest) left_is
     ∙ token_pending i.top i.frames (skipped_from i.top.from i.top.left) next t rest
 
 -- a token that is the next part stands in the symbol
-pub token_stands : {N P K V S C : Type 0} (view : View N P K V S C) (s : List ℕ) (shape : List Row) (whole : Result (Found (List V) S) Refusal)
-    (nodes : N) (next : ℕ) (lower : List (Frame K)) (code : Frame K) (parts : List P) (i : Innermost view s shape whole nodes next lower code parts)
+pub token_stands : {N P K V S C : Type 0} (view : View N P K V S C) (s : List ℕ) (shape : List Row) (whole : Result (Found (List V) S) Refusal) (due : Due)
+    (nodes : N) (next : ℕ) (lower : List (Frame K)) (code : Frame K) (parts : List P) (i : Innermost view s shape whole due nodes next lower code parts)
     (t : Token) (rest : Forest) → skipped i.top.left ≡ grown (token t) rest
     → Stands view.table s (length view.reading.rowless) i.top.rule (length i.known + values_in (length view.reading.rowless) (passed_by i.top.left))
     (skipped_from i.top.from i.top.left) (grown (token t) rest)
-token_stands view s shape whole nodes next lower code parts i t rest left_is =
+token_stands view s shape whole due nodes next lower code parts i t rest left_is =
     let n = length view.reading.rowless in
     subst (λ f. Stands view.table s n i.top.rule (length i.known + values_in n (passed_by i.top.left)) (skipped_from i.top.from i.top.left) f) left_is
     (stands_skip view.table s n i.top.rule (length i.known) i.top.from i.top.left i.inside.stands)
@@ -280,26 +283,26 @@ token_row_is s shape next place t more row d g n rule held rest rows row_is stan
     }
 
 -- A driver in which a token is taken stays on its way.
-pub token_follows : {N P K V S C : Type 0} (view : View N P K V S C) (s : List ℕ) (shape : List Row) (whole : Result (Found (List V) S) Refusal)
+pub token_follows : {N P K V S C : Type 0} (view : View N P K V S C) (s : List ℕ) (shape : List Row) (whole : Result (Found (List V) S) Refusal) (due : Due)
     (old new : N) (next : ℕ) (lower : List (Frame K)) (code : Frame K) (parts new_parts : List P) → IsLinking view → view.Grows old new
-    → (i : Innermost view s shape whole old next lower code parts) (t : Token) (rest : Forest) (to : ℕ)
+    → (i : Innermost view s shape whole due old next lower code parts) (t : Token) (rest : Forest) (to : ℕ)
     → skipped i.top.left ≡ grown (token t) rest
     → to ≡ skipped_from i.top.from i.top.left + length t.before + length t.own
     → Takes view new (take code.base parts) new_parts (Ok tt)
     (next_of view.reading i.top.rule i.known i.top.from i.top.left i.state >>= taken_in view.reading t (skipped_from i.top.from i.top.left))
-    → view.size new + owed_behind view code new_parts ≤ view.size old + owed_behind view code parts → view.IsPaid new to
-    → Follows view s shape whole new (next + 1) (lower ++ code ∷ []) new_parts
-token_follows view s shape whole old new next lower code parts new_parts laws grows i t rest to left_is to_is
-    (known, state, read, holds, own, parts_are, are) added paid =
+    → view.size new + owed_behind view code new_parts ≤ view.size old + owed_behind view code parts → view.IsPaid new to → (left : ℕ) → CountsToken due (row_count_all rest) left
+    → Follows view s shape whole (waiting left) new (next + 1) (lower ++ code ∷ []) new_parts
+token_follows view s shape whole due old new next lower code parts new_parts laws grows i t rest to left_is to_is
+    (known, state, read, holds, own, parts_are, are) added paid left counts =
     let n = length view.reading.rowless in
     let place = skipped_from i.top.from i.top.left in
     let reading = next_of view.reading i.top.rule i.known i.top.from i.top.left i.state >>= taken_in view.reading t place in
     let count : length known ≡ length i.known + values_in n (passed_by i.top.left) + 1 =
     of_ok reading (found known state) (λ f. length f.value ≡ length i.known + values_in n (passed_by i.top.left) + 1) read
     (taken_count view.reading laws.keeps_count i.top.rule i.known i.top.from i.top.left i.state t place) in
-    let row = dropped_next shape _ next _ (the_token_row view s shape whole old next lower code parts i t rest left_is) in
+    let row = dropped_next shape _ next _ (the_token_row view s shape whole due old next lower code parts i t rest left_is) in
     let left_count : row_count_all i.top.left ≡ 1 + row_count_all rest = sym (skip_count i.top.left) ∙ ap row_count_all left_is in
-    let skip = token_stands view s shape whole old next lower code parts i t rest left_is in
+    let skip = token_stands view s shape whole due old next lower code parts i t rest left_is in
     let owed_is : owed_behind view code new_parts ≡ view.owes i.top.rule.rule.number (length known) =
     ap (λ n. view.owes n (length new_parts - code.base)) i.inside.number
     ∙ ap (λ k. view.owes i.top.rule.rule.number k) (own_count (view.IsPart new) parts new_parts own known code.base i.base parts_are are) in
@@ -335,18 +338,19 @@ token_follows view s shape whole old new next lower code parts new_parts laws gr
       keeps = holds;
       nests = (omega (arith, skipped_end i.top.from i.top.left (grown (token t) rest) left_is, length-append (bytes_of t) (spell_all rest), i.nests.0), i.nests.1);
       size = omega (arith, i.size, i.owes, added, sym (skip_cost view.owes i.top.left) ∙ ap (λ f. cost_all view.owes f) left_is, owed_is);
+      is_due = token_due due i.top i.frames left t rest i.is_due left_is counts;
       reached = to;
       before = omega (arith, to_is, bytes);
       early = λ none. absurd (omega (arith, none, count));
       paid = paid;
     }
 
-pub token_fails : {N P K V S C : Type 0} (view : View N P K V S C) (s : List ℕ) (shape : List Row) (whole : Result (Found (List V) S) Refusal)
+pub token_fails : {N P K V S C : Type 0} (view : View N P K V S C) (s : List ℕ) (shape : List Row) (whole : Result (Found (List V) S) Refusal) (due : Due)
     (nodes : N) (next : ℕ) (lower : List (Frame K)) (code : Frame K) (parts : List P) (e : Refusal)
-    → (i : Innermost view s shape whole nodes next lower code parts) (t : Token) (rest : Forest) → skipped i.top.left ≡ grown (token t) rest
+    → (i : Innermost view s shape whole due nodes next lower code parts) (t : Token) (rest : Forest) → skipped i.top.left ≡ grown (token t) rest
     → Fails e (next_of view.reading i.top.rule i.known i.top.from i.top.left i.state >>= taken_in view.reading t (skipped_from i.top.from i.top.left))
     → Fails e whole
-token_fails view s shape whole nodes next lower code parts e i t rest left_is fails =
+token_fails view s shape whole due nodes next lower code parts e i t rest left_is fails =
     let place = skipped_from i.top.from i.top.left in
     fails_carried e (next_of view.reading i.top.rule i.known i.top.from i.top.left i.state >>= taken_in view.reading t place)
     (λ f. machine.outcome view.reading (machine_at i.top i.frames (place + length (spell (token t))) rest f)) whole fails

@@ -14,6 +14,7 @@ use Rattle.sym_link.specs.Parts.{Stands}
 use Rattle.sym_link.specs.Driving.{AreAll, Fails}
 use Rattle.sym_link.specs.Linking.{View}
 use Rattle.sym_link.specs.Owing.{owed}
+use Rattle.sym_link.specs.Stepping.{link_steps, Due, waiting, starting, IsDue}
 
 -- these are the rows of a tree that spells the symbol
 pub record IsShape (g : Table) (s : List ℕ) (rows : List Row) (tree : Tree) : Type 0 where
@@ -66,9 +67,9 @@ abbrev pub IsEarly : {V S C : Type 0} → (reached : ℕ) → List (machine.Fram
 IsEarly reached [] known = Unit {0}
 IsEarly reached (top ∷ frames) known = length known ≡ 0 → reached ≤ top.rule.place
 
--- A driver is on the way to what comes of the whole. The open rules with the parts that they have left are known to
--- proofs alone, and so is the place up to which the bytes have paid.
-pub record Follows {N P K V S C : Type 0} (view : View N P K V S C) (s : List ℕ) (shape : List Row) (whole : Result (Found (List V) S) Refusal)
+-- A driver is on the way to what comes of the whole, in so many steps. The open rules with the parts that they have left
+-- are known to proofs alone, and so is the place up to which the bytes have paid.
+pub record Follows {N P K V S C : Type 0} (view : View N P K V S C) (s : List ℕ) (shape : List Row) (whole : Result (Found (List V) S) Refusal) (due : Due)
     (nodes : N) (next : ℕ) (codes : List (Frame K)) (parts : List P) : Type 0 where
   pub frames : List (machine.Frame V S C)
   pub known : List V
@@ -83,19 +84,20 @@ pub record Follows {N P K V S C : Type 0} (view : View N P K V S C) (s : List �
   pub reached : ℕ
   pub before : reached ≤ left_from (length s) frames
   pub early : IsEarly reached frames known
+  pub is_due : IsDue due frames
   pub paid : view.IsPaid nodes reached
 
--- behind a move the driver is on the way still, or what was to come is the refusal
-abbrev pub FollowsAfter : {N P K V S C A : Type 0} → View N P K V S C → (s : List ℕ) → (shape : List Row) → Result (Found (List V) S) Refusal
+-- behind a move the driver is on the way still, with so many steps left, or what was to come is the refusal
+abbrev pub FollowsAfter : {N P K V S C A : Type 0} → View N P K V S C → (s : List ℕ) → (shape : List Row) → Result (Found (List V) S) Refusal → (steps : ℕ)
     → (nodes : N) → (next : ℕ) → List (Frame K) → List P → Result A Refusal → Type 0
-FollowsAfter view s shape whole nodes next codes parts (Ok done) = Follows view s shape whole nodes next codes parts
-FollowsAfter view s shape whole nodes next codes parts (Err e) = Fails e whole
+FollowsAfter view s shape whole steps nodes next codes parts (Ok done) = Follows view s shape whole (waiting steps) nodes next codes parts
+FollowsAfter view s shape whole steps nodes next codes parts (Err e) = Fails e whole
 
--- behind a move the driver is on the way to this row, or what was to come is the refusal
-abbrev pub FollowsOn : {N P K V S C : Type 0} → View N P K V S C → (s : List ℕ) → (shape : List Row) → (whole : Result (Found (List V) S) Refusal)
+-- behind a move the driver is on the way to this row, with so many steps left, or what was to come is the refusal
+abbrev pub FollowsOn : {N P K V S C : Type 0} → View N P K V S C → (s : List ℕ) → (shape : List Row) → (whole : Result (Found (List V) S) Refusal) → (steps : ℕ)
     → (nodes : N) → List (Frame K) → List P → Result ℕ Refusal → Type 0
-FollowsOn view s shape whole nodes codes parts (Ok next) = Follows view s shape whole nodes next codes parts
-FollowsOn view s shape whole nodes codes parts (Err e) = Fails e whole
+FollowsOn view s shape whole steps nodes codes parts (Ok next) = Follows view s shape whole (waiting steps) nodes next codes parts
+FollowsOn view s shape whole steps nodes codes parts (Err e) = Fails e whole
 
 -- this is the last item
 abbrev pub EndsWith : {A : Type 0} → List A → A → Type 0
@@ -110,22 +112,24 @@ pub record Fits (s : List ℕ) (shape : List Row) : Type 0 where
 pub record CanClose {N P K V S C : Type 0} (view : View N P K V S C) (s : List ℕ) (nodes : N) (frame : Frame K) (parts : List P) : Type 0 where
   pub whole : Result (Found (List V) S) Refusal
   pub shape : List Row
+  pub due : Due
   pub lower : List (Frame K)
   pub next : ℕ
-  pub follows : Follows view s shape whole nodes next (lower ++ frame ∷ []) parts
+  pub follows : Follows view s shape whole due nodes next (lower ++ frame ∷ []) parts
   pub ends : frame.end ≡ next
   pub fits : Fits s shape
 
 -- The rule of the frame is the innermost one of a driver that is on its way, and may end in front of the next row or behind it.
 pub record CanSettle {N P K V S C : Type 0} (view : View N P K V S C) (s : List ℕ) (shape : List Row) (nodes : N) (next : ℕ) (lower : List (Frame K)) (frame : Frame K) (parts : List P) : Type 0 where
   pub whole : Result (Found (List V) S) Refusal
-  pub follows : Follows view s shape whole nodes next (lower ++ frame ∷ []) parts
+  pub steps : ℕ
+  pub follows : Follows view s shape whole (starting steps) nodes next (lower ++ frame ∷ []) parts
   pub fits : Fits s shape
 
 -- The rule of the frame is the innermost one of a driver that is on its way, and the next row isn't behind it.
-pub record CanTake {N P K V S C : Type 0} (view : View N P K V S C) (s : List ℕ) (shape : List Row) (nodes : N) (next : ℕ) (codes : List (Frame K)) (frame : Frame K) (parts : List P) : Type 0 where
+pub record CanTake {N P K V S C : Type 0} (view : View N P K V S C) (s : List ℕ) (shape : List Row) (due : Due) (nodes : N) (next : ℕ) (codes : List (Frame K)) (frame : Frame K) (parts : List P) : Type 0 where
   pub whole : Result (Found (List V) S) Refusal
-  pub follows : Follows view s shape whole nodes next codes parts
+  pub follows : Follows view s shape whole due nodes next codes parts
   pub last : EndsWith codes frame
   pub open_still : frame.end ≢ next
   pub fits : Fits s shape
@@ -146,16 +150,18 @@ pub record CanBegin {N P K V S C : Type 0} (view : View N P K V S C) (s : List �
   pub fresh : IsFresh view nodes next codes parts
   pub fits : Fits s shape
 
--- a driver is on the way to what a tree means, from its beginning on
-abbrev pub IsOnWay : {N P K V S C : Type 0} → View N P K V S C → (s : List ℕ) → (shape : List Row) → Tree → (nodes : N) → (next : ℕ) → List (Frame K) → List P → Type 0
-IsOnWay view s shape tree nodes next codes parts =
-    IsFresh view nodes next codes parts ⊎ Follows view s shape (meaning_of view tree) nodes next codes parts
+-- a driver that took so many steps is on the way to what a tree means, from its beginning on, with the rest of the tree's steps left
+abbrev pub IsOnWay : {N P K V S C : Type 0} → View N P K V S C → (s : List ℕ) → (shape : List Row) → Tree → (taken : ℕ) → (nodes : N) → (next : ℕ) → List (Frame K) → List P → Type 0
+IsOnWay view s shape tree taken nodes next codes parts =
+    (IsFresh view nodes next codes parts × (taken ≡ 0))
+    ⊎ ((left : ℕ) × (taken + left ≡ link_steps tree) × Follows view s shape (meaning_of view tree) (waiting left) nodes next codes parts)
 
 -- A driver of such a symbol is on its way.
 pub record CanMove {N P K V S C : Type 0} (view : View N P K V S C) (s : List ℕ) (shape : List Row) (nodes : N) (next : ℕ) (codes : List (Frame K)) (parts : List P) : Type 0 where
   pub tree : Tree
   pub is_shape : IsShape view.table s shape tree
-  pub on_way : IsOnWay view s shape tree nodes next codes parts
+  pub taken : ℕ
+  pub on_way : IsOnWay view s shape tree taken nodes next codes parts
   pub fits : Fits s shape
 
 -- The one part stands for what the whole means.
@@ -171,11 +177,11 @@ pub record IsDone {N P K V S C : Type 0} (view : View N P K V S C) (s : List ℕ
   pub size : view.size nodes ≤ view.most (length s)
   pub paid : view.IsPaid nodes (length s)
 
--- A move goes on to the next row or comes to another one, or nothing is left to do.
-abbrev pub Moves : {N P K V S C : Type 0} → View N P K V S C → (s : List ℕ) → (shape : List Row) → Tree → (nodes : N) → List (Frame K) → List P → Result (Option ℕ) Refusal → Type 0
-Moves view s shape tree nodes codes parts (Ok (Some next)) = Follows view s shape (meaning_of view tree) nodes next codes parts
-Moves view s shape tree nodes codes parts (Ok None) = IsDone view s shape (meaning_of view tree) nodes parts
-Moves view s shape tree nodes codes parts (Err e) = Fails e (meaning_of view tree)
+-- A move goes on to the next row or comes to another one, and is one step; or nothing is left to do, and all steps are taken.
+abbrev pub Moves : {N P K V S C : Type 0} → View N P K V S C → (s : List ℕ) → (shape : List Row) → Tree → (taken : ℕ) → (nodes : N) → List (Frame K) → List P → Result (Option ℕ) Refusal → Type 0
+Moves view s shape tree taken nodes codes parts (Ok (Some next)) = (left : ℕ) × (taken + 1 + left ≡ link_steps tree) × Follows view s shape (meaning_of view tree) (waiting left) nodes next codes parts
+Moves view s shape tree taken nodes codes parts (Ok None) = IsDone view s shape (meaning_of view tree) nodes parts × (taken ≡ link_steps tree)
+Moves view s shape tree taken nodes codes parts (Err e) = Fails e (meaning_of view tree)
 
 -- A move takes at most two rows. One that takes a row leaves at most one open rule more, one that takes two leaves none more, and one
 -- that takes none closes a rule. So, with the open rules, the moves so far are at most two for each row, and at least one for two rows.
@@ -184,18 +190,19 @@ CountsMove rows next before after (Ok (Some behind)) = (2 * next + after + 1 ≤
 CountsMove rows next before after (Ok None) = Unit {0}
 CountsMove rows next before after (Err e) = 2 * next + 1 ≤ 2 * rows + before
 
--- A driver that took so many steps is on its way, or what the symbol means is the refusal that it keeps.
+-- A driver that took so many steps is on its way, and has as many left as the tree takes in all; or what the symbol means is
+-- the refusal that it keeps.
 abbrev pub IsDriving : {N P K V S C : Type 0} → View N P K V S C → (s : List ℕ) → (shape : List Row) → Tree → (nodes : N) → (steps : ℕ) → Option Refusal
     → (next : ℕ) → List (Frame K) → List P → Type 0
 IsDriving view s shape tree nodes steps None next codes parts =
-    IsOnWay view s shape tree nodes next codes parts × (steps + length codes ≤ 2 * next) × (next ≤ length shape) × (next ≤ 2 * steps)
+    IsOnWay view s shape tree steps nodes next codes parts × (steps + length codes ≤ 2 * next) × (next ≤ length shape) × (next ≤ 2 * steps)
 IsDriving view s shape tree nodes steps (Some e) next codes parts = Fails e (meaning_of view tree) × (steps ≤ 2 * length shape)
 
--- What a step comes to: all is done, and nothing was to do; or it moved on, and is counted; or a refusal, which is kept.
+-- What a step comes to: all is done, in as many steps as the tree takes, and nothing was to do; or it moved on, and is counted; or a refusal, which is kept.
 abbrev pub IsStepTo : {N P K V S C : Type 0} → View N P K V S C → (s : List ℕ) → (shape : List Row) → Tree → (nodes : N) → (steps new_steps : ℕ) → (refused new_refused : Option Refusal)
     → List P → Result Bool Refusal → Type 0
 IsStepTo view s shape tree nodes steps new_steps refused new_refused parts (Ok true) =
-    IsDone view s shape (meaning_of view tree) nodes parts × (new_steps ≡ steps) × (new_refused ≡ None)
+    IsDone view s shape (meaning_of view tree) nodes parts × (new_steps ≡ steps) × (new_refused ≡ None) × (steps ≡ link_steps tree)
 IsStepTo view s shape tree nodes steps new_steps refused new_refused parts (Ok false) = (new_steps ≡ steps + 1) × (new_refused ≡ None)
 IsStepTo view s shape tree nodes steps new_steps None new_refused parts (Err e) =
     Fails e (meaning_of view tree) × (new_steps ≡ steps + 1) × (new_refused ≡ Some e)

@@ -11,6 +11,7 @@ pub mod OwingLaws
 pub mod Paying
 pub mod PayingLaws
 pub mod Linking
+pub mod Stepping
 pub mod Following
 pub mod Counting
 pub mod CountingLaws

@@ -3,6 +3,7 @@
 ghost use Rattle.std.specs.Prelude.{◌≡◌, ◌≢◌, ℕ, ◌+◌, ◌-◌, ◌*◌, ◌<◌, ◌≤◌, ◌++◌, ◌∷◌, [], List, length, take, Ok, Err, Some, None, true, Result, IfSome, IfNone, IfOk, IfErr, OnOk};
 ghost use Rattle.sym_shape.specs.Tree.{Tree};
 ghost use Rattle.sym_link.specs.Reading.{Found};
+ghost use Rattle.sym_link.specs.Stepping.{link_steps, Due, waiting, starting};
 ghost use Rattle.sym_link.specs.Following.{IsShape, Follows, FollowsAfter, FollowsOn, EndsWith, CanClose, CanSettle, CanTake, CanBegin, CanMove, IsOnWay, Moves, CountsMove, Fits, IsDriving, IsStepTo, IsDone, meaning_of};
 
 use crate::language::{Frame, Linking};
@@ -31,9 +32,9 @@ fn leave<L: Linking>(
     frame: Frame<L::Kept>,
 ) -> Result<(), Refusal>
     requires { CanClose (L.view symbol.now) symbol.now language.old frame parts.old.items }
-    ensures follows { (whole : Result (Found (List L.Value) L.State) Refusal) (shape : List Row) (lower : List (Frame L.Kept)) (next : ℕ)
-        → Follows (L.view symbol.now) symbol.now shape whole language.old next (lower ++ frame ∷ []) parts.old.items → frame.end ≡ next
-        → FollowsAfter (L.view symbol.now) symbol.now shape whole language.new next lower parts.new.items result }
+    ensures follows { (whole : Result (Found (List L.Value) L.State) Refusal) (shape : List Row) (lower : List (Frame L.Kept)) (next left : ℕ)
+        → Follows (L.view symbol.now) symbol.now shape whole (waiting (left + 1)) language.old next (lower ++ frame ∷ []) parts.old.items → frame.end ≡ next
+        → FollowsAfter (L.view symbol.now) symbol.now shape whole left language.new next lower parts.new.items result }
     ensures lower { frames.new.items ≡ take (length frames.old.items - 1) frames.old.items }
 {
     frames.pop();
@@ -53,9 +54,9 @@ fn settle<L: Linking>(
     frame: Frame<L::Kept>,
 ) -> Result<u32, Refusal>
     requires { CanSettle (L.view symbol.now) symbol.now rows.now language.old next frames.old.items frame parts.old.items }
-    ensures follows { (whole : Result (Found (List L.Value) L.State) Refusal)
-        → Follows (L.view symbol.now) symbol.now rows.now whole language.old next (frames.old.items ++ frame ∷ []) parts.old.items
-        → FollowsOn (L.view symbol.now) symbol.now rows.now whole language.new frames.new.items parts.new.items result }
+    ensures follows { (whole : Result (Found (List L.Value) L.State) Refusal) (left : ℕ)
+        → Follows (L.view symbol.now) symbol.now rows.now whole (starting left) language.old next (frames.old.items ++ frame ∷ []) parts.old.items
+        → FollowsOn (L.view symbol.now) symbol.now rows.now whole left language.new frames.new.items parts.new.items result }
     ensures counts { IfOk result (λ behind. (2 * next + length frames.new.items ≤ 2 * behind + length frames.old.items + 1) × (behind ≤ next + 1)) }
 {
     if frame.end == next {
@@ -82,10 +83,10 @@ fn take<L: Linking>(
     parts: &mut Vec<L::Part>,
     frame: Frame<L::Kept>,
 ) -> Result<u32, Refusal>
-    requires { CanTake (L.view symbol.now) symbol.now rows.now language.old next frames.old.items frame parts.old.items }
-    ensures follows { (whole : Result (Found (List L.Value) L.State) Refusal)
-        → Follows (L.view symbol.now) symbol.now rows.now whole language.old next frames.old.items parts.old.items
-        → FollowsOn (L.view symbol.now) symbol.now rows.now whole language.new frames.new.items parts.new.items result }
+    requires { (left : ℕ) × CanTake (L.view symbol.now) symbol.now rows.now (waiting (left + 1)) language.old next frames.old.items frame parts.old.items }
+    ensures follows { (whole : Result (Found (List L.Value) L.State) Refusal) (left : ℕ)
+        → Follows (L.view symbol.now) symbol.now rows.now whole (waiting (left + 1)) language.old next frames.old.items parts.old.items
+        → FollowsOn (L.view symbol.now) symbol.now rows.now whole left language.new frames.new.items parts.new.items result }
     ensures counts { IfOk result (λ behind. (2 * next + length frames.new.items + 1 ≤ 2 * behind + length frames.old.items) × (behind ≤ next + 2)) }
     ensures more { next < length rows.now }
 {
@@ -114,8 +115,8 @@ fn begin<L: Linking>(
     parts: &mut Vec<L::Part>,
 ) -> Result<u32, Refusal>
     requires { CanBegin (L.view symbol.now) symbol.now rows.now language.old 0 frames.old.items parts.old.items }
-    ensures follows { (tree : Tree) → IsShape (L.view symbol.now).table symbol.now rows.now tree
-        → FollowsOn (L.view symbol.now) symbol.now rows.now (meaning_of (L.view symbol.now) tree) language.new frames.new.items parts.new.items result }
+    ensures follows { (tree : Tree) (left : ℕ) → IsShape (L.view symbol.now).table symbol.now rows.now tree → link_steps tree ≡ left + 1
+        → FollowsOn (L.view symbol.now) symbol.now rows.now (meaning_of (L.view symbol.now) tree) left language.new frames.new.items parts.new.items result }
     ensures counts { IfOk result (λ behind. (length frames.new.items + 1 ≤ 2 * behind) × (behind ≤ 2)) }
     ensures more { 0 < length rows.now }
 {
@@ -142,9 +143,9 @@ fn advance<L: Linking>(
     parts: &mut Vec<L::Part>,
 ) -> Result<Option<u32>, Refusal>
     requires { CanMove (L.view symbol.now) symbol.now rows.now language.old next frames.old.items parts.old.items }
-    ensures moves { (tree : Tree) → IsShape (L.view symbol.now).table symbol.now rows.now tree
-        → IsOnWay (L.view symbol.now) symbol.now rows.now tree language.old next frames.old.items parts.old.items
-        → Moves (L.view symbol.now) symbol.now rows.now tree language.new frames.new.items parts.new.items result }
+    ensures moves { (tree : Tree) (taken : ℕ) → IsShape (L.view symbol.now).table symbol.now rows.now tree
+        → IsOnWay (L.view symbol.now) symbol.now rows.now tree taken language.old next frames.old.items parts.old.items
+        → Moves (L.view symbol.now) symbol.now rows.now tree taken language.new frames.new.items parts.new.items result }
     ensures counts { CountsMove (length rows.now) next (length frames.old.items) (length frames.new.items) result }
     ensures language { result ≡ Ok None → language.new ≡ language.old }
     ensures frames { result ≡ Ok None → frames.new.items ≡ frames.old.items }
@@ -292,6 +293,10 @@ impl<L: Linking> Driver<L> {
         ensures done { (tree : Tree) → IsShape (L.view symbol.now).table symbol.now rows.now tree
             → IsDriving (L.view symbol.now) symbol.now rows.now tree language.old self.old.steps self.old.refused self.old.next self.old.frames.items self.old.parts.items
             → OnOk result (IsDone (L.view symbol.now) symbol.now rows.now (meaning_of (L.view symbol.now) tree) language.new self.new.parts.items) }
+        // The steps are those of the tree, however many of them were taken before.
+        ensures counted { (tree : Tree) → IsShape (L.view symbol.now).table symbol.now rows.now tree
+            → IsDriving (L.view symbol.now) symbol.now rows.now tree language.old self.old.steps self.old.refused self.old.next self.old.frames.items self.old.parts.items
+            → OnOk result (self.new.steps ≡ link_steps tree) }
         ensures open { OnOk result (self.new.refused ≡ None) }
         ensures kept { IfErr result (λ refusal. self.new.refused ≡ Some refusal) }
         ensures again { IfSome self.old.refused (λ refusal. result ≡ Err refusal) }

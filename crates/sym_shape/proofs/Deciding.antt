@@ -8,15 +8,16 @@ use Rattle.sym_shape.specs.declared.rule.Rule.{Rule}
 use Rattle.sym_shape.specs.declared.rule.Row.{Row}
 use Rattle.sym_shape.specs.declared.rule.Sym.{Sym}
 use Rattle.sym_shape.specs.declared.rule.Sym.TheVariants.{Kind, Name, Number, Byte}
-use Rattle.sym_shape.specs.Table.{Table}
+use Rattle.sym_shape.specs.Table.{Table, symbols_of}
 use Rattle.sym_shape.specs.Tree.{Tree, IsTree, spell, IsWellShaped, BeginsWellShaped, IsFirstBad, IsMalformed}
 use Rattle.sym_shape.specs.Law.{IsLawful}
 use Rattle.sym_shape.specs.Reading.{Entry, Symbol, Close, closed, TakesNone, open_row, place_behind, place_row, rule_stack}
 use Rattle.sym_shape.specs.Reader.{IsParse, FindsToken}
 use Rattle.sym_shape.specs.Decided.{AreBytes, Decided}
 use Rattle.sym_shape.proofs.Lists.{true_or}
+use Rattle.sym_shape.proofs.Moves.{beginning}
 use Rattle.sym_shape.proofs.Uniqueness.{one_tree}
-use Rattle.sym_shape.proofs.Steps.{first_parse, step_close, step_byte, step_empty, step_rule, step_token, refuse_behind, refuse_byte, refuse_kind, refuse_token, whole_read, takes_none, at_most_steps}
+use Rattle.sym_shape.proofs.Steps.{first_parse, step_close, step_byte, step_empty, step_rule, step_leaf, step_token, refuse_behind, refuse_byte, refuse_kind, refuse_token, whole_read, takes_none, at_most_steps}
 
 -- a parse that has so many steps left to take ends
 abbrev Ends : Table → List ℕ → ℕ → Type 0
@@ -55,10 +56,15 @@ at_kind g lawful s bytes n below steps at k stack rows left h = elim (cases_lt a
   | inr ended ↦ at_no_rule g lawful s n below steps at k stack rows left (takes_none g k true s at (inr refl) (λ lt. absurd (omega arith))) h
 ]
   where
+    at_symbols : at < length s → (rule : Rule) → g.rule k (get_or s at 0) ≡ Some rule → (xs : List Sym) → symbols_of rule ≡ xs → Decided g s
+    at_symbols more rule e [] none =
+        below (steps + 1) (place_behind rule at) stack (rows ++ open_row rule at (place_behind rule at) (length rows + 1) ∷ []) (omega arith) (step_leaf g lawful true s steps at k (get_or s at 0) rule stack rows none more refl (bytes at) e h)
+    at_symbols more rule e (x ∷ xs) some =
+        below (steps + 1) (place_behind rule at) (rule_stack stack (length rows) rule) (rows ++ open_row rule at at 0 ∷ []) (omega arith) (step_rule g lawful true s steps at k (get_or s at 0) 0 rule stack rows (ap beginning some) more refl (bytes at) e h)
+
     at_rule : at < length s → (found : Option Rule) → g.rule k (get_or s at 0) ≡ found → Decided g s
     at_rule more None e = at_no_rule g lawful s n below steps at k stack rows left (takes_none g k true s at (inr refl) (λ lt. e)) h
-    at_rule more (Some rule) e =
-        below (steps + 1) (place_behind rule at) (rule_stack stack (length rows) rule) (rows ++ open_row rule at at 0 ∷ []) (omega arith) (step_rule g lawful true s steps at k (get_or s at 0) 0 rule stack rows more refl (bytes at) e h)
+    at_rule more (Some rule) e = at_symbols more rule e (symbols_of rule) refl
 
 -- a name or a number
 at_token : (g : Table) (lawful : IsLawful g) (s : List ℕ) (n : ℕ) → Ends g s n → (steps at : ℕ) (x : Sym) (stack : List Entry) (rows : List Row) → 14 + 18 * length s ≤ steps + suc n → (found : Result TokenPlace ℕ) → FindsToken g.names x s at found → IsParse g true s steps at (Symbol x ∷ stack) rows → Decided g s

@@ -12,12 +12,12 @@ use Rattle.sym_core.specs.Number.{FitsSymbol}
 use Rattle.sym_shape.specs.declared.rule.Sym.TheVariants.{Kind}
 use Rattle.sym_shape.specs.Reading.{Entry, Symbol}
 use Rattle.sym_shape.specs.Law.{IsLawful}
-use Rattle.sym_shape.specs.Tree.{IsMalformed, BeginsWellShaped, AreRowsOf}
+use Rattle.sym_shape.specs.Tree.{IsMalformed, BeginsWellShaped, AreRowsOf, AreStepsOf}
 use Rattle.sym_shape.specs.Fed.{Fed, IsFed, IsOver, IsReason, IsMalformedSoFar}
 use Rattle.sym_shape.specs.Reader.{to_do, IsParse, IsParsing, IsAdvance, IsRun, AreSpent}
 use Rattle.sym_shape.proofs.Fronts.{front_begins}
 use Rattle.sym_shape.proofs.Runs.{few_stepped}
-use Rattle.sym_shape.proofs.Steps.{both_not, same_start, whole_read}
+use Rattle.sym_shape.proofs.Steps.{both_not, same_start, whole_read, whole_steps}
 
 -- what goes on with the next byte of more goes on with that of less
 agrees_less : (q piece w : List ℕ) → Agrees false (q ++ piece) w → Agrees false q w
@@ -28,7 +28,7 @@ agrees_open : (q w : List ℕ) → Agrees true q w → Agrees false q w
 agrees_open [] w h = λ told. cc
 agrees_open (b ∷ q) w h = h
 
-fed_reading : (g : Table) (p q piece : List ℕ) (es : List Entry) (rows : List Row) → IsReading g false p q es rows → IsReading g false p (q ++ piece) es rows
+fed_reading : {n : ℕ} (g : Table) (p q piece : List ℕ) (es : List Entry) (rows : List Row) → IsReading g n false p q es rows → IsReading g n false p (q ++ piece) es rows
 fed_reading g p q piece es rows r = record {
   known = r.known;
   followed = r.followed;
@@ -37,7 +37,7 @@ fed_reading g p q piece es rows r = record {
   complete = λ w agrees whole. r.complete w (agrees_less q piece w agrees) whole;
 }
 
-told_reading : (g : Table) (p q : List ℕ) (es : List Entry) (rows : List Row) → IsReading g false p q es rows → IsReading g true p q es rows
+told_reading : {n : ℕ} (g : Table) (p q : List ℕ) (es : List Entry) (rows : List Row) → IsReading g n false p q es rows → IsReading g n true p q es rows
 told_reading g p q es rows r = record {
   known = r.known;
   followed = r.followed;
@@ -50,8 +50,8 @@ told_reading g p q es rows r = record {
 pub fed : (g : Table) (bytes piece : List ℕ) (steps at : ℕ) (stack : List Entry) (rows : List Row) → IsParse g false bytes steps at stack rows → IsParse g false (bytes ++ piece) steps at stack rows
 fed g bytes piece steps at stack rows h = record {
   within = omega (arith, h.within, length-append bytes piece);
-  reading = subst (λ p. IsReading g false p (drop at (bytes ++ piece)) stack rows) (sym (take-append-le at bytes piece h.within))
-      (subst (λ q. IsReading g false (take at bytes) q stack rows) (sym (drop-append-le at bytes piece h.within)) (fed_reading g (take at bytes) (drop at bytes) piece stack rows h.reading));
+  reading = subst (λ p. IsReading g steps false p (drop at (bytes ++ piece)) stack rows) (sym (take-append-le at bytes piece h.within))
+      (subst (λ q. IsReading g steps false (take at bytes) q stack rows) (sym (drop-append-le at bytes piece h.within)) (fed_reading g (take at bytes) (drop at bytes) piece stack rows h.reading));
   counted = h.counted;
 }
 
@@ -157,6 +157,15 @@ fed_rows g bytes ended ready refused parse going done h =
     let over = open_parsing g bytes ended ready refused parse going h in
     let end = over.1 done in
     whole_read g ended bytes parse.steps parse.at (to_do parse) parse.rows.items parse.rows.items over.0 end.1 end.2 refl
+
+pub fed_steps : (g : Table) (lawful : IsLawful g) (bytes : List ℕ) (ended ready : Bool) (refused : Option Refusal) (parse : Parse) → refused ≡ None → ready ≡ true → IsFed g bytes ended ready refused parse → AreStepsOf g bytes parse.steps
+fed_steps g lawful bytes ended ready refused parse going done h =
+    let over = open_parsing g bytes ended ready refused parse going h in
+    let end = over.1 done in
+    whole_steps g lawful ended bytes parse.steps parse.at (to_do parse) parse.rows.items over.0 end.1 end.2
+
+pub same_steps : (g : Table) (s t : List ℕ) (steps made : ℕ) → s ≡ t → made ≡ steps → AreStepsOf g s steps → AreStepsOf g t made
+same_steps g s t steps made p q h = λ tree is spelled. q ∙ h tree is (spelled ∙ sym p)
 
 pub fed_begins : (g : Table) (bytes : List ℕ) (ended ready : Bool) (refused : Option Refusal) (parse : Parse) → refused ≡ None → ready ≡ true → IsFed g bytes ended ready refused parse → BeginsWellShaped g bytes
 fed_begins g bytes ended ready refused parse going done h =

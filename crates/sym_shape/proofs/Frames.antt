@@ -14,8 +14,8 @@ use Rattle.sym_shape.specs.Law.{IsLawful}
 use Rattle.sym_shape.specs.Reading.{Entry, Symbol, Close, entries_of, closed, IsKnown, TakesNone, place_behind, rule_stack, open_row, place_row, lone_rows}
 use Rattle.sym_shape.specs.Frame.{left_of, passed, HasNext, HasLast, rule_frame, unfolded, IsTaken}
 use Rattle.sym_shape.specs.Reader.{IsParse, ReadsToken, BreaksToken, IsWholeToken}
-use Rattle.sym_shape.proofs.Moves.{closed_at}
-use Rattle.sym_shape.proofs.Steps.{step_close, step_byte, step_empty, step_rule, step_token, refuse_behind, refuse_byte, refuse_kind, refuse_token, found_waits, broken_waits, token_within}
+use Rattle.sym_shape.proofs.Moves.{closed_at, beginning}
+use Rattle.sym_shape.proofs.Steps.{step_close, step_byte, step_empty, step_rule, step_leaf, step_token, refuse_behind, refuse_byte, refuse_kind, refuse_token, found_waits, broken_waits, token_within}
 
 -- the parse with these frames
 abbrev pub IsFramed : Table → Bool → List ℕ → ℕ → ℕ → Frame → List Frame → List Row → Type 0
@@ -68,41 +68,23 @@ pub frame_empty : (g : Table) (lawful : IsLawful g) (ended : Bool) (bytes : List
 frame_empty g lawful ended bytes steps at k top below rows h next bare none =
     step_empty g lawful ended bytes steps at k (unfolded (passed top) (reverse below)) rows bare none (asks g ended bytes steps at top below rows (Kind k) h next)
 
--- fewer steps are as well counted, if there are enough for the rows
-fewer_steps : (g : Table) (ended : Bool) (bytes : List ℕ) (steps less at : ℕ) (es : List Entry) (rows : List Row) → less ≤ steps → length rows ≤ less → IsParse g ended bytes steps at es rows → IsParse g ended bytes less at es rows
-fewer_steps g ended bytes steps less at es rows le enough h = record {
-  within = h.within;
-  reading = h.reading;
-  counted = record {
-    chains = h.counted.chains;
-    few = h.counted.few;
-    stands = h.counted.stands;
-    spent = omega (arith, h.counted.spent);
-    made = h.counted.made;
-    each = enough;
-  };
-}
+some_begins : (xs : List Sym) → 0 < length xs → beginning xs ≡ 1
+some_begins [] lt = absurd (omega arith)
+some_begins (x ∷ xs) lt = refl
 
 pub frame_rule : (g : Table) (lawful : IsLawful g) (ended : Bool) (bytes : List ℕ) (steps at k b : ℕ) (rule : Rule) (top frame : Frame) (below deeper : List Frame) (rows made : List Row) → IsFramed g ended bytes steps at top below rows → HasNext top (Kind k) → at < length bytes → get_or bytes at 0 ≡ b → b < 256 → g.rule k b ≡ Some rule → IsTaken rule (passed top) at below rows frame deeper made → IsFramed g ended bytes (steps + 1) (place_behind rule at) frame deeper made
 frame_rule g lawful ended bytes steps at k b rule top frame below deeper rows made h next lt found byte chosen (inl entered) =
     let under = unfolded (passed top) (reverse below) in
-    let read = step_rule g lawful ended bytes steps at k b 0 rule under rows lt found byte chosen (asks g ended bytes steps at top below rows (Kind k) h next) in
+    let read = step_rule g lawful ended bytes steps at k b 0 rule under rows (some_begins (symbols_of rule) entered.3) lt found byte chosen (asks g ended bytes steps at top below rows (Kind k) h next) in
     let frames : unfolded frame (reverse deeper) ≡ rule_stack under (length rows) rule =
     ap₂ (λ f fs. unfolded f (reverse fs)) entered.1 entered.0 ∙ ap (λ fs. unfolded (rule_frame rule (length rows)) fs) (reverse_last below (passed top)) in
     subst (λ rs. IsFramed g ended bytes (steps + 1) (place_behind rule at) frame deeper rs) (sym entered.2) (subst (λ es. IsParse g ended bytes (steps + 1) (place_behind rule at) es (rows ++ open_row rule at at 0 ∷ [])) (sym frames) read)
 frame_rule g lawful ended bytes steps at k b rule top frame below deeper rows made h next lt found byte chosen (inr leaf) =
     let under = unfolded (passed top) (reverse below) in
     let place = place_behind rule at in
-    let opened = rows ++ open_row rule at at 0 ∷ [] in
     let ended_row = rows ++ open_row rule at place (length rows + 1) ∷ [] in
-    let count : length opened ≡ length rows + 1 = length-append rows (open_row rule at at 0 ∷ []) in
-    let size : length ended_row ≡ length rows + 1 = length-append rows (open_row rule at place (length rows + 1) ∷ []) in
-    let read = step_rule g lawful ended bytes steps at k b 0 rule under rows lt found byte chosen (asks g ended bytes steps at top below rows (Kind k) h next) in
     let none : symbols_of rule ≡ [] = ap (λ n. take n rule.symbols) leaf.0 in
-    let bare = subst (λ xs. IsParse g ended bytes (steps + 1) place (entries_of xs ++ Close (length rows) ∷ under) opened) none read in
-    let closes = step_close g ended bytes (steps + 1) place (length rows) under opened bare in
-    let row : closed opened (length rows) place (length opened) ≡ ended_row = closed_at rows (open_row rule at at 0) [] place (length opened) ∙ ap (λ n. rows ++ open_row rule at place n ∷ []) count in
-    let whole = fewer_steps g ended bytes (steps + 1 + 1) (steps + 1) place under ended_row (omega arith) (omega (arith, size, h.counted.each)) (subst (λ rs. IsParse g ended bytes (steps + 1 + 1) place under rs) row closes) in
+    let whole = step_leaf g lawful ended bytes steps at k b rule under rows none lt found byte chosen (asks g ended bytes steps at top below rows (Kind k) h next) in
     subst (λ rs. IsFramed g ended bytes (steps + 1) place frame deeper rs) (sym leaf.3) (subst (λ f. IsFramed g ended bytes (steps + 1) place f deeper ended_row) (sym leaf.2) (subst (λ fs. IsFramed g ended bytes (steps + 1) place (passed top) fs ended_row) (sym leaf.1) whole))
 
 pub frame_token : (g : Table) (lawful : IsLawful g) (ended : Bool) (bytes : List ℕ) (steps at : ℕ) (x : Sym) (place : TokenPlace) (top : Frame) (below : List Frame) (rows made : List Row) → IsFramed g ended bytes steps at top below rows → HasNext top x → ReadsToken g.names x (drop at bytes) at place → IsKnown ended bytes place.end → made ≡ rows ++ place_row place (length rows) ∷ [] → IsFramed g ended bytes (steps + 1) place.end (passed top) below made
@@ -129,7 +111,7 @@ frame_lone g lawful ended bytes steps at k b rule x place top below rows made h 
     let opened = rows ++ open_row rule at at 0 ∷ [] in
     let count : length opened ≡ number + 1 = length-append rows (open_row rule at at 0 ∷ []) in
     let token = place_row place (length opened) in
-    let taken = step_rule g lawful ended bytes steps at k b 0 rule under rows lt found byte chosen (asks g ended bytes steps at top below rows (Kind k) h next) in
+    let taken = step_rule g lawful ended bytes steps at k b 0 rule under rows (ap beginning lone) lt found byte chosen (asks g ended bytes steps at top below rows (Kind k) h next) in
     let asked = subst (λ xs. IsParse g ended bytes (steps + 1) (place_behind rule at) (entries_of xs ++ Close number ∷ under) opened) lone taken in
     let read = step_token g lawful ended bytes (steps + 1) (place_behind rule at) x place (Close number ∷ under) opened whole.0 whole.1 asked in
     let closes = step_close g ended bytes (steps + 1 + 1) place.end number under (opened ++ token ∷ []) read in

@@ -8,9 +8,9 @@ use Rattle.sym_shape.specs.declared.rule.Sym.{Sym}
 use Rattle.sym_shape.specs.declared.rule.Sym.TheVariants.{Kind, Name, Number, Byte}
 use Rattle.sym_shape.specs.Reading.{Entry, Symbol, Close}
 use Rattle.sym_shape.specs.Table.{Table, Token, symbols_of, bytes_of, IsToken}
-use Rattle.sym_shape.specs.Tree.{branch, empty, token, fixed, Forest, nothing, grown, spell, spell_all, IsTree, AreTrees, TakesRule, rows_of, rows_of_all, row_count, row_count_all, IsWellShaped}
+use Rattle.sym_shape.specs.Tree.{branch, empty, token, fixed, Forest, nothing, grown, spell, spell_all, IsTree, AreTrees, TakesRule, rows_of, rows_of_all, row_count, row_count_all, read_steps, read_steps_all, IsWellShaped}
 use Rattle.sym_shape.specs.Law.{AreSymbols, IsLawful}
-use Rattle.sym_shape.specs.Reading.{symbols_in, entries_of, closed, finished, AreOpen, IsFollowed, Agrees, IsReading, IsCompleted, Spell, open_row, TakesNone}
+use Rattle.sym_shape.specs.Reading.{symbols_in, entries_of, closed, finished, steps_left, AreOpen, IsFollowed, Agrees, IsReading, IsCompleted, Spell, open_row, TakesNone}
 use Rattle.sym_shape.proofs.Lists.{true_or, filled}
 use Rattle.sym_shape.proofs.Forests.{joined, spell_all-joined, AreTrees-joined, halves, length-rows_of, length-rows_of_all}
 use Rattle.sym_shape.proofs.Tokens.{MayFollow}
@@ -62,8 +62,26 @@ finished-pushed g (x ∷ xs) es (grown t parts) f at rows p =
 finished-pushed g [] es (grown t parts) f at rows p = absurd p
 finished-pushed g (x ∷ xs) es nothing f at rows p = absurd p
 
+steps_left-pushed : (g : Table) (xs : List Sym) (es : List Entry) (parts f : Forest) → AreTrees g xs parts → steps_left (entries_of xs ++ es) (joined parts f) ≡ read_steps_all parts + steps_left es f
+steps_left-pushed g [] es nothing f p = omega arith
+steps_left-pushed g (x ∷ xs) es (grown t parts) f p = omega (arith, steps_left-pushed g xs es parts f p.1)
+steps_left-pushed g [] es (grown t parts) f p = absurd p
+steps_left-pushed g (x ∷ xs) es nothing f p = absurd p
+
+-- a step begins a rule that has symbols, and none one that has none
+abbrev pub beginning : List Sym → ℕ
+beginning [] = 0
+beginning (x ∷ xs) = 1
+
+rule_steps : (g : Table) (rule : Rule) (taken : List ℕ) (xs : List Sym) (es : List Entry) (i n : ℕ) (front back : Forest) → AreTrees g xs front →
+    n + beginning xs + steps_left (entries_of xs ++ Close i ∷ es) (joined front back) ≡ n + steps_left (Symbol (Kind 0) ∷ es) (grown (branch rule taken front) back)
+rule_steps g rule taken [] es i n nothing back p = omega arith
+rule_steps g rule taken (x ∷ xs) es i n (grown t front) back p = omega (arith, steps_left-pushed g xs (Close i ∷ es) front back p.1)
+rule_steps g rule taken [] es i n (grown t front) back p = absurd p
+rule_steps g rule taken (x ∷ xs) es i n nothing back p = absurd p
+
 -- the start
-pub started : (g : Table) (lawful : IsLawful g) (ended : Bool) (q : List ℕ) → IsReading g ended [] q (Symbol (Kind 0) ∷ []) []
+pub started : (g : Table) (lawful : IsLawful g) (ended : Bool) (q : List ℕ) → IsReading g 0 ended [] q (Symbol (Kind 0) ∷ []) []
 started g lawful ended q = record {
   known = (lawful.start, tt);
   followed = ((λ b lt first. absurd (false≢true first)), tt);
@@ -72,18 +90,21 @@ started g lawful ended q = record {
   complete = λ w agrees whole. (grown whole.0 nothing, (whole.1, tt), append-nil (spell whole.0) ∙ whole.2);
 }
   where
-    sound : (f : Forest) → AreTrees g (Kind 0 ∷ []) f → IsCompleted g [] (spell_all f) (finished (Symbol (Kind 0) ∷ []) f 0 [])
-    sound (grown t nothing) p = (t, p.0, sym (append-nil (spell t)), refl)
+    sound : (f : Forest) → AreTrees g (Kind 0 ∷ []) f → IsCompleted g [] (spell_all f) (finished (Symbol (Kind 0) ∷ []) f 0 []) (0 + steps_left (Symbol (Kind 0) ∷ []) f)
+    sound (grown t nothing) p = (t, p.0, sym (append-nil (spell t)), refl, omega arith)
     sound (grown t (grown s f)) p = absurd p.1
     sound nothing p = absurd p
 
+recounted : (g : Table) (p w : List ℕ) (rows : List Row) (m n : ℕ) → n ≡ m → IsCompleted g p w rows m → IsCompleted g p w rows n
+recounted g p w rows m n same old = (old.0, old.1, old.2, old.3, same ∙ old.4)
+
 -- a row is ended
-pub closes : (g : Table) (ended : Bool) (p q : List ℕ) (i : ℕ) (es : List Entry) (rows : List Row) → IsReading g ended p q (Close i ∷ es) rows → IsReading g ended p q es (closed rows i (length p) (length rows))
-closes g ended p q i es rows r = record {
+pub closes : (g : Table) (n : ℕ) (ended : Bool) (p q : List ℕ) (i : ℕ) (es : List Entry) (rows : List Row) → IsReading g n ended p q (Close i ∷ es) rows → IsReading g (n + 1) ended p q es (closed rows i (length p) (length rows))
+closes g n ended p q i es rows r = record {
   known = r.known;
   followed = r.followed;
   opened = subst (λ n. AreOpen es n) (sym (length-closed rows i (length p) (length rows))) r.opened.1;
-  sound = r.sound;
+  sound = λ f trees. recounted g p (spell_all f) _ _ _ (omega arith) (r.sound f trees);
   complete = r.complete;
 }
 
@@ -92,9 +113,9 @@ agrees_behind ended [] q w h = h
 agrees_behind ended (b ∷ c) q w h = (c ++ w, refl)
 
 -- a tree is read whose bytes were c and whose rows are made
-completed : (g : Table) (p c w : List ℕ) (es : List Entry) (f : Forest) (rows made : List Row) → IsCompleted g p (c ++ w) (finished es f (length p + length c) (rows ++ made)) → IsCompleted g (p ++ c) w (finished es f (length (p ++ c)) (rows ++ made))
-completed g p c w es f rows made old =
-    (old.0, old.1, old.2 ∙ sym (append_assoc p c w), same_finished es f _ _ _ _ (length-append p c) refl ∙ old.3)
+completed : (g : Table) (p c w : List ℕ) (es : List Entry) (f : Forest) (rows made : List Row) (m n : ℕ) → n ≡ m → IsCompleted g p (c ++ w) (finished es f (length p + length c) (rows ++ made)) m → IsCompleted g (p ++ c) w (finished es f (length (p ++ c)) (rows ++ made)) n
+completed g p c w es f rows made m n same old =
+    (old.0, old.1, old.2 ∙ sym (append_assoc p c w), same_finished es f _ _ _ _ (length-append p c) refl ∙ old.3, same ∙ old.4)
 
 byte_continues : (g : Table) (c : ℕ) (xs : List Sym) (f : Forest) (w : List ℕ) → AreTrees g (Byte c ∷ xs) f → spell_all f ≡ c ∷ w → Spell g xs w
 byte_continues g c xs (grown (fixed d) f) w p e = (f, p.1, cc)
@@ -104,14 +125,14 @@ byte_continues g c xs (grown (token t) f) w p e = absurd p.0
 byte_continues g c xs nothing w p e = absurd p
 
 -- a fixed byte is read
-pub takes_byte : (g : Table) (ended : Bool) (p q : List ℕ) (c : ℕ) (es : List Entry) (rows : List Row) → IsReading g ended p (c ∷ q) (Symbol (Byte c) ∷ es) rows → IsReading g ended (p ++ c ∷ []) q es rows
-takes_byte g ended p q c es rows r = record {
+pub takes_byte : (g : Table) (n : ℕ) (ended : Bool) (p q : List ℕ) (c : ℕ) (es : List Entry) (rows : List Row) → IsReading g n ended p (c ∷ q) (Symbol (Byte c) ∷ es) rows → IsReading g (n + 1) ended (p ++ c ∷ []) q es rows
+takes_byte g n ended p q c es rows r = record {
   known = r.known.1;
   followed = r.followed.1;
   opened = r.opened;
   sound = λ f trees. (
       let old = r.sound (grown (fixed c) f) (refl, trees) in
-      subst (λ rs. IsCompleted g (p ++ c ∷ []) (spell_all f) (finished es f (length (p ++ c ∷ [])) rs)) (append-nil rows) (completed g p (c ∷ []) (spell_all f) es f rows [] old));
+      subst (λ rs. IsCompleted g (p ++ c ∷ []) (spell_all f) (finished es f (length (p ++ c ∷ [])) rs) (n + 1 + steps_left es f)) (append-nil rows) (completed g p (c ∷ []) (spell_all f) es f rows [] (n + (1 + steps_left es f)) (n + 1 + steps_left es f) (omega arith) old));
   complete = λ w agrees whole. (
       let old = r.complete (c ∷ w) (w, refl) (subst (λ v. IsWellShaped g v) (append_assoc p (c ∷ []) w) whole) in
       byte_continues g c (symbols_in es) old.0 w old.1 old.2);
@@ -139,14 +160,14 @@ abbrev pub token_row : Token → ℕ → ℕ → Row
 token_row t at number = record { rule = 65535; from = at + length t.before; to = at + length t.before + length t.own; end = number + 1 }
 
 -- a token is read
-pub takes_token : (g : Table) (lawful : IsLawful g) (ended : Bool) (p q : List ℕ) (x : Sym) (t : Token) (es : List Entry) (rows : List Row) → IsToken g.names x t → IsSettled g ended x t q → IsReading g ended p (bytes_of t ++ q) (Symbol x ∷ es) rows → IsReading g ended (p ++ bytes_of t) q es (rows ++ token_row t (length p) (length rows) ∷ [])
-takes_token g lawful ended p q x t es rows is settled r = record {
+pub takes_token : (g : Table) (n : ℕ) (lawful : IsLawful g) (ended : Bool) (p q : List ℕ) (x : Sym) (t : Token) (es : List Entry) (rows : List Row) → IsToken g.names x t → IsSettled g ended x t q → IsReading g n ended p (bytes_of t ++ q) (Symbol x ∷ es) rows → IsReading g (n + 1) ended (p ++ bytes_of t) q es (rows ++ token_row t (length p) (length rows) ∷ [])
+takes_token g n lawful ended p q x t es rows is settled r = record {
   known = r.known.1;
   followed = r.followed.1;
   opened = AreOpen-more es _ _ (omega (arith, length-append rows (token_row t (length p) (length rows) ∷ []))) r.opened;
   sound = λ f trees. (
       let old = r.sound (grown (token t) f) (tree_of x is, trees) in
-      completed g p (bytes_of t) (spell_all f) es f rows (token_row t (length p) (length rows) ∷ []) old);
+      completed g p (bytes_of t) (spell_all f) es f rows (token_row t (length p) (length rows) ∷ []) (n + (1 + steps_left es f)) (n + 1 + steps_left es f) (omega arith) old);
   complete = λ w agrees whole. (
       let old = r.complete (bytes_of t ++ w) (agrees_behind ended (bytes_of t) q w agrees) (subst (λ v. IsWellShaped g v) (append_assoc p (bytes_of t) w) whole) in
       token_continues g lawful ended x t (symbols_in es) old.0 q w r.known r.followed is settled agrees old.1 old.2);
@@ -175,14 +196,14 @@ only_empty g lawful ended k xs (grown (fixed c) f) q w known none agrees p e = a
 only_empty g lawful ended k xs nothing q w known none agrees p e = absurd p
 
 -- an empty kind is left
-pub takes_nothing : (g : Table) (lawful : IsLawful g) (ended : Bool) (p q : List ℕ) (k : ℕ) (es : List Entry) (rows : List Row) → g.may_be_empty k ≡ true → TakesNone g k ended q → IsReading g ended p q (Symbol (Kind k) ∷ es) rows → IsReading g ended p q es rows
-takes_nothing g lawful ended p q k es rows bare none r = record {
+pub takes_nothing : (g : Table) (n : ℕ) (lawful : IsLawful g) (ended : Bool) (p q : List ℕ) (k : ℕ) (es : List Entry) (rows : List Row) → g.may_be_empty k ≡ true → TakesNone g k ended q → IsReading g n ended p q (Symbol (Kind k) ∷ es) rows → IsReading g (n + 1) ended p q es rows
+takes_nothing g n lawful ended p q k es rows bare none r = record {
   known = r.known.1;
   followed = r.followed.1;
   opened = r.opened;
   sound = λ f trees. (
       let old = r.sound (grown empty f) (bare, trees) in
-      (old.0, old.1, old.2, same_finished es f _ _ _ _ (omega arith) (sym (append-nil rows)) ∙ old.3));
+      (old.0, old.1, old.2, same_finished es f _ _ _ _ (omega arith) (sym (append-nil rows)) ∙ old.3, omega (arith, old.4)));
   complete = λ w agrees whole. (
       let old = r.complete w agrees whole in
       (only_empty g lawful ended k (symbols_in es) old.0 q w r.known none agrees old.1 old.2).1);
@@ -245,8 +266,8 @@ rule_rows g rule taken es front back at to end rows p =
     read ∙ same_finished es back _ _ _ _ reach ended
 
 -- a rule is taken
-pub takes_rule : (g : Table) (lawful : IsLawful g) (ended : Bool) (p q : List ℕ) (k b to end : ℕ) (rule : Rule) (es : List Entry) (rows : List Row) → b < 256 → g.rule k b ≡ Some rule → ((rest : List ℕ) × (taken_by rule b ++ q ≡ b ∷ rest)) → IsReading g ended p (taken_by rule b ++ q) (Symbol (Kind k) ∷ es) rows → IsReading g ended (p ++ taken_by rule b) q (entries_of (symbols_of rule) ++ Close (length rows) ∷ es) (rows ++ open_row rule (length p) to end ∷ [])
-takes_rule g lawful ended p q k b to end rule es rows is_byte found begins r =
+pub takes_rule : (g : Table) (n : ℕ) (lawful : IsLawful g) (ended : Bool) (p q : List ℕ) (k b to end : ℕ) (rule : Rule) (es : List Entry) (rows : List Row) → b < 256 → g.rule k b ≡ Some rule → ((rest : List ℕ) × (taken_by rule b ++ q ≡ b ∷ rest)) → IsReading g n ended p (taken_by rule b ++ q) (Symbol (Kind k) ∷ es) rows → IsReading g (n + beginning (symbols_of rule)) ended (p ++ taken_by rule b) q (entries_of (symbols_of rule) ++ Close (length rows) ∷ es) (rows ++ open_row rule (length p) to end ∷ [])
+takes_rule g n lawful ended p q k b to end rule es rows is_byte found begins r =
     let law = lawful.rule k b rule r.known.0 is_byte found in
     let path = sym (symbols_in-pushed (symbols_of rule) (length rows) es) in
     let counted : length (rows ++ open_row rule (length p) to end ∷ []) ≡ length rows + 1 = length-append rows (open_row rule (length p) to end ∷ []) in
@@ -264,7 +285,9 @@ takes_rule g lawful ended p q k b to end rule es rows is_byte found begins r =
           let made = ap (λ h. finished (entries_of (symbols_of rule) ++ Close (length rows) ∷ es) h (length (p ++ taken_by rule b)) (rows ++ open_row rule (length p) to end ∷ [])) parts.is
           ∙ same_finished (entries_of (symbols_of rule) ++ Close (length rows) ∷ es) _ _ _ _ _ (length-append p (taken_by rule b)) refl
           ∙ rule_rows g rule (taken_by rule b) es parts.front parts.back (length p) to end rows parts.fronts in
-          (old.0, old.1, text, made ∙ old.3));
+          let counted = ap (λ h. n + beginning (symbols_of rule) + steps_left (entries_of (symbols_of rule) ++ Close (length rows) ∷ es) h) parts.is
+          ∙ rule_steps g rule (taken_by rule b) (symbols_of rule) es (length rows) n parts.front parts.back parts.fronts in
+          (old.0, old.1, text, made ∙ old.3, counted ∙ old.4));
       complete = λ w agrees whole. (
           let begun = begins_so rule b q w ended agrees begins in
           let old = r.complete (taken_by rule b ++ w) (agrees_behind ended (taken_by rule b) q w agrees) (subst (λ v. IsWellShaped g v) (append_assoc p (taken_by rule b) w) whole) in
@@ -273,5 +296,5 @@ takes_rule g lawful ended p q k b to end rule es rows is_byte found begins r =
     }
 
 -- all is read
-pub read_whole : (g : Table) (ended : Bool) (p : List ℕ) (q : List ℕ) (rows : List Row) → IsReading g ended p q [] rows → IsCompleted g p [] rows
-read_whole g ended p q rows r = r.sound nothing tt
+pub read_whole : (g : Table) (n : ℕ) (ended : Bool) (p : List ℕ) (q : List ℕ) (rows : List Row) → IsReading g n ended p q [] rows → IsCompleted g p [] rows n
+read_whole g n ended p q rows r = recounted g p [] rows _ _ (omega arith) (r.sound nothing tt)

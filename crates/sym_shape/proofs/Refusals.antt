@@ -34,14 +34,14 @@ malformed g ended c q front none told = record {
         never (b ∷ whole.0) (whole.0, refl) (subst (λ u. IsWellShaped g u) (ap (λ u. u ++ whole.0) cut ∙ append_assoc c (b ∷ []) whole.0) whole.1)
 
 -- what was read begins a well shaped symbol
-pub begins_here : (g : Table) (lawful : IsLawful g) (ended : Bool) (p q : List ℕ) (es : List Entry) (rows : List Row) → IsReading g ended p q es rows → BeginsWellShaped g p
+pub begins_here : {n : ℕ} (g : Table) (lawful : IsLawful g) (ended : Bool) (p q : List ℕ) (es : List Entry) (rows : List Row) → IsReading g n ended p q es rows → BeginsWellShaped g p
 begins_here g lawful ended p q es rows r =
     let some = some_forest g lawful (symbols_in es) r.known in
     let made = r.sound some.0 some.1 in
     (spell_all some.0, (made.0, made.1, made.2))
 
 -- nothing that the stack spells goes on with the next byte
-pub refused_here : (g : Table) (lawful : IsLawful g) (ended : Bool) (p q : List ℕ) (es : List Entry) (rows : List Row) → IsReading g ended p q es rows → ((w : List ℕ) → Agrees ended q w → Spell g (symbols_in es) w → ⊥) → (q ≡ [] → ended ≡ true) → IsMalformed g (p ++ q) (length p)
+pub refused_here : {n : ℕ} (g : Table) (lawful : IsLawful g) (ended : Bool) (p q : List ℕ) (es : List Entry) (rows : List Row) → IsReading g n ended p q es rows → ((w : List ℕ) → Agrees ended q w → Spell g (symbols_in es) w → ⊥) → (q ≡ [] → ended ≡ true) → IsMalformed g (p ++ q) (length p)
 refused_here g lawful ended p q es rows r none told =
     malformed g ended p q (begins_here g lawful ended p q es rows r) (λ w agrees whole. none w agrees (r.complete w agrees whole)) told
 
@@ -63,7 +63,7 @@ no_spelling g ended (Number kind) xs nothing c q w s is none agrees p e = p
 no_spelling g ended x xs (grown s f) c q w t is none agrees p e = p.0
 
 -- what is read and the front of a token begin a well shaped symbol
-pub token_front : (g : Table) (lawful : IsLawful g) (ended : Bool) (p q c : List ℕ) (x : Sym) (es : List Entry) (rows : List Row) → IsReading g ended p q (Symbol x ∷ es) rows → BeginsToken g x c → BeginsWellShaped g (p ++ c)
+pub token_front : {n : ℕ} (g : Table) (lawful : IsLawful g) (ended : Bool) (p q c : List ℕ) (x : Sym) (es : List Entry) (rows : List Row) → IsReading g n ended p q (Symbol x ∷ es) rows → BeginsToken g x c → BeginsWellShaped g (p ++ c)
 token_front g lawful ended p q c x es rows r begun =
     let some = some_forest g lawful (symbols_in es) r.known.1 in
     let made = r.sound (grown (token begun.0) some.0) (tree_of x begun.2, some.1) in
@@ -78,7 +78,7 @@ token_front g lawful ended p q c x es rows r begun =
     tree_of (Byte b) h = absurd h
 
 -- a token breaks off behind c
-pub refused_token : (g : Table) (lawful : IsLawful g) (ended : Bool) (p c q : List ℕ) (x : Sym) (es : List Entry) (rows : List Row) → IsReading g ended p (c ++ q) (Symbol x ∷ es) rows → BeginsToken g x c → IsNoToken g ended x c q → (q ≡ [] → ended ≡ true) → IsMalformed g ((p ++ c) ++ q) (length (p ++ c))
+pub refused_token : {n : ℕ} (g : Table) (lawful : IsLawful g) (ended : Bool) (p c q : List ℕ) (x : Sym) (es : List Entry) (rows : List Row) → IsReading g n ended p (c ++ q) (Symbol x ∷ es) rows → BeginsToken g x c → IsNoToken g ended x c q → (q ≡ [] → ended ≡ true) → IsMalformed g ((p ++ c) ++ q) (length (p ++ c))
 refused_token g lawful ended p c q x es rows r begun none told = malformed g ended (p ++ c) q (token_front g lawful ended p (c ++ q) c x es rows r begun) never told
   where
     never : (w : List ℕ) → Agrees ended q w → IsWellShaped g ((p ++ c) ++ w) → ⊥
@@ -87,7 +87,7 @@ refused_token g lawful ended p c q x es rows r begun none told = malformed g end
         no_spelling g ended x (symbols_in es) old.0 c q w begun.0 begun.2 none agrees old.1 old.2
 
 -- the end of the stack, and bytes behind it
-pub refused_behind : (g : Table) (lawful : IsLawful g) (ended : Bool) (p : List ℕ) (b : ℕ) (q : List ℕ) (rows : List Row) → IsReading g ended p (b ∷ q) [] rows → IsMalformed g (p ++ b ∷ q) (length p)
+pub refused_behind : {n : ℕ} (g : Table) (lawful : IsLawful g) (ended : Bool) (p : List ℕ) (b : ℕ) (q : List ℕ) (rows : List Row) → IsReading g n ended p (b ∷ q) [] rows → IsMalformed g (p ++ b ∷ q) (length p)
 refused_behind g lawful ended p b q rows r = refused_here g lawful ended p (b ∷ q) [] rows r none (λ e. cc)
   where
     none_of : (w : List ℕ) (f : Forest) → AreTrees g [] f → spell_all f ≡ b ∷ w → ⊥
@@ -98,7 +98,7 @@ refused_behind g lawful ended p b q rows r = refused_here g lawful ended p (b �
     none w agrees spelled = none_of agrees.0 spelled.0 spelled.1 (spelled.2 ∙ agrees.1)
 
 -- another byte than the one that is wanted, or the end
-pub refused_byte : (g : Table) (lawful : IsLawful g) (ended : Bool) (p : List ℕ) (c : ℕ) (q : List ℕ) (es : List Entry) (rows : List Row) → IsReading g ended p q (Symbol (Byte c) ∷ es) rows → (q ≡ [] → ended ≡ true) → ((r : List ℕ) → q ≡ c ∷ r → ⊥) → IsMalformed g (p ++ q) (length p)
+pub refused_byte : {n : ℕ} (g : Table) (lawful : IsLawful g) (ended : Bool) (p : List ℕ) (c : ℕ) (q : List ℕ) (es : List Entry) (rows : List Row) → IsReading g n ended p q (Symbol (Byte c) ∷ es) rows → (q ≡ [] → ended ≡ true) → ((r : List ℕ) → q ≡ c ∷ r → ⊥) → IsMalformed g (p ++ q) (length p)
 refused_byte g lawful ended p c q es rows r told other = refused_here g lawful ended p q (Symbol (Byte c) ∷ es) rows r (λ w agrees spelled. none q other told w agrees spelled.0 spelled.1 spelled.2) told
   where
     byte_of : (f : Forest) → AreTrees g (Byte c ∷ symbols_in es) f → (v : List ℕ) × (spell_all f ≡ c ∷ v)
@@ -117,7 +117,7 @@ refused_byte g lawful ended p c q es rows r told other = refused_here g lawful e
         wrong u (ap (λ d. d ∷ u) same)
 
 -- no rule of the kind may be taken, and it isn't empty
-pub refused_kind : (g : Table) (lawful : IsLawful g) (ended : Bool) (p : List ℕ) (k : ℕ) (q : List ℕ) (es : List Entry) (rows : List Row) → IsReading g ended p q (Symbol (Kind k) ∷ es) rows → TakesNone g k ended q → g.may_be_empty k ≡ false → IsMalformed g (p ++ q) (length p)
+pub refused_kind : {n : ℕ} (g : Table) (lawful : IsLawful g) (ended : Bool) (p : List ℕ) (k : ℕ) (q : List ℕ) (es : List Entry) (rows : List Row) → IsReading g n ended p q (Symbol (Kind k) ∷ es) rows → TakesNone g k ended q → g.may_be_empty k ≡ false → IsMalformed g (p ++ q) (length p)
 refused_kind g lawful ended p k q es rows r none full =
     refused_here g lawful ended p q (Symbol (Kind k) ∷ es) rows r
     (λ w agrees spelled. (let bare = (only_empty g lawful ended k (symbols_in es) spelled.0 q w r.known none agrees spelled.1 spelled.2).0 in cc))

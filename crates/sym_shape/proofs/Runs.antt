@@ -3,9 +3,10 @@ use Rattle.std.proofs.Common.{◌≡◌, ℕ, ◌+◌, ◌≤◌, Bool, true, Li
 use Rattle.sym_core.specs.declared.refusal.Refusal.{Refusal}
 use Rattle.sym_shape.specs.declared.parse.Parse.{Parse}
 use Rattle.sym_shape.specs.Table.{Table}
-use Rattle.sym_shape.specs.Tree.{AreRowsOf}
+use Rattle.sym_shape.specs.Tree.{AreRowsOf, AreStepsOf}
+use Rattle.sym_shape.specs.Law.{IsLawful}
 use Rattle.sym_shape.specs.Reader.{to_do, IsParsing, IsRun, AreFew}
-use Rattle.sym_shape.proofs.Steps.{at_most_steps, at_most_rows, whole_read}
+use Rattle.sym_shape.proofs.Steps.{at_most_steps, at_most_rows, whole_read, whole_steps}
 
 -- the counts of a parse, with one step and one row more
 pub few_more : (g : Table) (ended : Bool) (bytes : List ℕ) (old : Parse) (steps rows : ℕ) → IsParsing g ended bytes old → steps ≤ old.steps + 1 → rows ≤ length old.rows.items + 1 → rows ≤ steps → AreFew steps rows (length bytes)
@@ -24,3 +25,10 @@ run_rows g bytes old new (Ok done) run =
     let end = run.read refl in
     whole_read g true bytes new.steps new.at (to_do new) new.rows.items new.rows.items run.parsing end.0 end.1 refl
 run_rows g bytes old new (Err refusal) run = tt
+
+-- and counts its steps
+pub run_steps : (g : Table) (lawful : IsLawful g) (bytes : List ℕ) (old new : Parse) (r : Result (Unit {0}) Refusal) → IsRun g true bytes old new r → OnOk r (AreStepsOf g bytes new.steps)
+run_steps g lawful bytes old new (Ok done) run =
+    let end = run.read refl in
+    whole_steps g lawful true bytes new.steps new.at (to_do new) new.rows.items run.parsing end.0 end.1
+run_steps g lawful bytes old new (Err refusal) run = tt

@@ -9,7 +9,7 @@ use Rattle.sym_shape.specs.declared.rule.Sym.TheVariants.{Kind, Byte}
 use Rattle.sym_shape.specs.Reading.{Entry, Symbol, Close}
 use Rattle.sym_core.specs.declared.TokenPlace.{TokenPlace}
 use Rattle.sym_shape.specs.Table.{Table, symbols_of, bytes_of}
-use Rattle.sym_shape.specs.Tree.{IsMalformed, AreRowsOf, BeginsWellShaped}
+use Rattle.sym_shape.specs.Tree.{IsMalformed, AreRowsOf, AreStepsOf, BeginsWellShaped, read_steps}
 use Rattle.sym_shape.specs.Law.{IsChain, IsLawfulRule, IsLawful}
 use Rattle.sym_shape.specs.Reading.{entries_of, closed, IsReading, IsCounted, StandsOn, IsKnown, TakesNone, place_behind, rule_stack, open_row, place_row}
 use Rattle.sym_shape.specs.Reader.{IsParse, ReadsToken, BreaksToken, IsStep, MakesRow}
@@ -18,8 +18,9 @@ use Rattle.sym_core.specs.declared.refusal.Refusal.TheVariants.{Memory}
 use Rattle.sym_shape.specs.declared.parse.Parse.{Parse}
 use Rattle.sym_shape.specs.Reading.{Agrees}
 use Rattle.sym_shape.proofs.Lists.{true_or, compared}
+use Rattle.sym_shape.proofs.Uniqueness.{one_tree}
 use Rattle.sym_shape.proofs.Tokens.{settled, token_filled}
-use Rattle.sym_shape.proofs.Moves.{closes, takes_byte, takes_token, takes_nothing, takes_rule, started, read_whole, taken_by, token_row, IsSettled, length-closed}
+use Rattle.sym_shape.proofs.Moves.{closes, takes_byte, takes_token, takes_nothing, takes_rule, started, read_whole, taken_by, token_row, IsSettled, length-closed, closed_at, beginning}
 use Rattle.sym_shape.proofs.Refusals.{begins_here, token_front, BeginsToken, refused_behind, refused_byte, refused_kind, refused_token, IsNoToken}
 
 -- where the next bytes of a list end
@@ -61,6 +62,17 @@ eat_entry g steps at size e es rows more c some one = record {
   each = omega (arith, c.each);
 }
 
+-- an entry is taken off by the step that put it there
+leaf_counted : (g : Table) (steps at : ℕ) (e : Entry) (es : List Entry) (rows made : ℕ) → (c : IsCounted g steps at (e ∷ es) rows) → c.chains ≡ 0 → made ≡ rows → IsCounted g steps at es made
+leaf_counted g steps at e es rows made c none same = record {
+  chains = 0;
+  few = omega arith;
+  stands = tt;
+  spent = omega (arith, c.spent, none);
+  made = omega (arith, c.made, none, same);
+  each = omega (arith, c.each, same);
+}
+
 no_chains_closed : (g : Table) (n i : ℕ) (es : List Entry) → StandsOn g n (Close i ∷ es) → n ≡ 0
 no_chains_closed g zero i es h = refl
 no_chains_closed g (suc n) i es h = absurd h
@@ -71,29 +83,29 @@ no_chains_empty g (suc n) k es bare h = (let full = h.0 in cc)
 
 pub step_close : (g : Table) (ended : Bool) (bytes : List ℕ) (steps at i : ℕ) (stack : List Entry) (rows : List Row) → IsParse g ended bytes steps at (Close i ∷ stack) rows → IsParse g ended bytes (steps + 1) at stack (closed rows i at (length rows))
 step_close g ended bytes steps at i stack rows h =
-    let reading : IsReading g ended (take at bytes) (drop at bytes) (Close i ∷ stack) rows = h.reading in
+    let reading : IsReading g steps ended (take at bytes) (drop at bytes) (Close i ∷ stack) rows = h.reading in
     let counted : IsCounted g steps at (Close i ∷ stack) (length rows) = h.counted in
     let place : length (take at bytes) ≡ at = length-take-le at bytes h.within in
     record {
       within = h.within;
-      reading = subst (λ n. IsReading g ended (take at bytes) (drop at bytes) stack (closed rows i n (length rows))) place (closes g ended (take at bytes) (drop at bytes) i stack rows reading);
+      reading = subst (λ n. IsReading g (steps + 1) ended (take at bytes) (drop at bytes) stack (closed rows i n (length rows))) place (closes g steps ended (take at bytes) (drop at bytes) i stack rows reading);
       counted = subst (λ n. IsCounted g (steps + 1) at stack n) (sym (length-closed rows i at (length rows))) (drop_entry g steps at (Close i) stack (length rows) counted (no_chains_closed g counted.chains i stack counted.stands));
     }
 
 -- reading goes on behind the next bytes
-goes_on : (g : Table) (ended : Bool) (bytes : List ℕ) (at : ℕ) (c rest : List ℕ) (es : List Entry) (rows : List Row) → Cut bytes at c rest → IsReading g ended (take at bytes ++ c) rest es rows → IsReading g ended (take (at + length c) bytes) (drop (at + length c) bytes) es rows
-goes_on g ended bytes at c rest es rows k r =
-    subst (λ u. IsReading g ended u (drop (at + length c) bytes) es rows) (sym k.front) (subst (λ u. IsReading g ended (take at bytes ++ c) u es rows) (sym k.back) r)
+goes_on : {count : ℕ} (g : Table) (ended : Bool) (bytes : List ℕ) (at : ℕ) (c rest : List ℕ) (es : List Entry) (rows : List Row) → Cut bytes at c rest → IsReading g count ended (take at bytes ++ c) rest es rows → IsReading g count ended (take (at + length c) bytes) (drop (at + length c) bytes) es rows
+goes_on {count = count} g ended bytes at c rest es rows k r =
+    subst (λ u. IsReading g count ended u (drop (at + length c) bytes) es rows) (sym k.front) (subst (λ u. IsReading g count ended (take at bytes ++ c) u es rows) (sym k.back) r)
 
 pub step_byte : (g : Table) (ended : Bool) (bytes : List ℕ) (steps at b : ℕ) (stack : List Entry) (rows : List Row) → at < length bytes → get_or bytes at 0 ≡ b → IsParse g ended bytes steps at (Symbol (Byte b) ∷ stack) rows → IsParse g ended bytes (steps + 1) (at + 1) stack rows
 step_byte g ended bytes steps at b stack rows lt found h =
     let split : drop at bytes ≡ (b ∷ []) ++ drop (at + 1) bytes = drop_more bytes at 0 lt ∙ ap (λ v. v ∷ drop (at + 1) bytes) found in
     let k = cut bytes at (b ∷ []) (drop (at + 1) bytes) h.within split in
-    let reading = subst (λ u. IsReading g ended (take at bytes) u (Symbol (Byte b) ∷ stack) rows) split h.reading in
+    let reading = subst (λ u. IsReading g steps ended (take at bytes) u (Symbol (Byte b) ∷ stack) rows) split h.reading in
     let counted = eat_entry g steps at 1 (Symbol (Byte b)) stack (length rows) 0 h.counted (omega arith) (omega arith) in
     record {
       within = omega arith;
-      reading = goes_on g ended bytes at (b ∷ []) (drop (at + 1) bytes) stack rows k (takes_byte g ended (take at bytes) (drop (at + 1) bytes) b stack rows reading);
+      reading = goes_on g ended bytes at (b ∷ []) (drop (at + 1) bytes) stack rows k (takes_byte g steps ended (take at bytes) (drop (at + 1) bytes) b stack rows reading);
       counted = subst (λ n. IsCounted g (steps + 1) (at + 1) stack n) (omega arith) counted;
     }
 
@@ -102,7 +114,7 @@ step_empty g lawful ended bytes steps at k stack rows bare none h =
     let counted = h.counted in
     record {
       within = h.within;
-      reading = takes_nothing g lawful ended (take at bytes) (drop at bytes) k stack rows bare none h.reading;
+      reading = takes_nothing g steps lawful ended (take at bytes) (drop at bytes) k stack rows bare none h.reading;
       counted = drop_entry g steps at (Symbol (Kind k)) stack (length rows) counted (no_chains_empty g counted.chains k stack bare counted.stands);
     }
 
@@ -142,11 +154,17 @@ count_chain g lawful k rule steps at close xs es rows known chain c =
       each = omega (arith, c.each);
     }
 
-pub step_rule : (g : Table) (lawful : IsLawful g) (ended : Bool) (bytes : List ℕ) (steps at k b end : ℕ) (rule : Rule) (stack : List Entry) (rows : List Row) → at < length bytes → get_or bytes at 0 ≡ b → b < 256 → g.rule k b ≡ Some rule → IsParse g ended bytes steps at (Symbol (Kind k) ∷ stack) rows → IsParse g ended bytes (steps + 1) (place_behind rule at) (rule_stack stack (length rows) rule) (rows ++ open_row rule at at end ∷ [])
-step_rule g lawful ended bytes steps at k b end rule stack rows lt is byte found h =
+-- A rule is begun: the row of one that has symbols ends at a step of its own.
+record IsBegun (g : Table) (ended : Bool) (bytes : List ℕ) (begun steps at : ℕ) (stack : List Entry) (rows : List Row) : Type 0 where
+  pub within : at ≤ length bytes
+  pub reading : IsReading g begun ended (take at bytes) (drop at bytes) stack rows
+  pub counted : IsCounted g steps at stack (length rows)
+
+begin_rule : (g : Table) (lawful : IsLawful g) (ended : Bool) (bytes : List ℕ) (steps at k b end : ℕ) (rule : Rule) (stack : List Entry) (rows : List Row) → at < length bytes → get_or bytes at 0 ≡ b → b < 256 → g.rule k b ≡ Some rule → IsParse g ended bytes steps at (Symbol (Kind k) ∷ stack) rows → IsBegun g ended bytes (steps + beginning (symbols_of rule)) (steps + 1) (place_behind rule at) (rule_stack stack (length rows) rule) (rows ++ open_row rule at at end ∷ [])
+begin_rule g lawful ended bytes steps at k b end rule stack rows lt is byte found h =
     elim (true_or rule.eats) [ inl eats ↦ eaten eats | inr chains ↦ chained chains ]
   where
-    reading : IsReading g ended (take at bytes) (drop at bytes) (Symbol (Kind k) ∷ stack) rows
+    reading : IsReading g steps ended (take at bytes) (drop at bytes) (Symbol (Kind k) ∷ stack) rows
     reading = h.reading
 
     counted : IsCounted g steps at (Symbol (Kind k) ∷ stack) (length rows)
@@ -164,38 +182,68 @@ step_rule g lawful ended bytes steps at k b end rule stack rows lt is byte found
     more : length (rows ++ open_row rule at at end ∷ []) ≡ length rows + 1
     more = length-append rows (open_row rule at at end ∷ [])
 
-    moved : (q : List ℕ) → drop at bytes ≡ taken_by rule b ++ q → IsReading g ended (take at bytes ++ taken_by rule b) q (rule_stack stack (length rows) rule) (rows ++ open_row rule at at end ∷ [])
+    moved : (q : List ℕ) → drop at bytes ≡ taken_by rule b ++ q → IsReading g (steps + beginning (symbols_of rule)) ended (take at bytes ++ taken_by rule b) q (rule_stack stack (length rows) rule) (rows ++ open_row rule at at end ∷ [])
     moved q e =
         let begins : (rest : List ℕ) × (taken_by rule b ++ q ≡ b ∷ rest) = (drop (at + 1) bytes, sym e ∙ split) in
-        let read = takes_rule g lawful ended (take at bytes) q k b at end rule stack rows byte found begins (subst (λ u. IsReading g ended (take at bytes) u (Symbol (Kind k) ∷ stack) rows) e reading) in
-        subst (λ n. IsReading g ended (take at bytes ++ taken_by rule b) q (entries_of (symbols_of rule) ++ Close (length rows) ∷ stack) (rows ++ open_row rule n at end ∷ [])) place read
+        let read = takes_rule g steps lawful ended (take at bytes) q k b at end rule stack rows byte found begins (subst (λ u. IsReading g steps ended (take at bytes) u (Symbol (Kind k) ∷ stack) rows) e reading) in
+        subst (λ n. IsReading g (steps + beginning (symbols_of rule)) ended (take at bytes ++ taken_by rule b) q (entries_of (symbols_of rule) ++ Close (length rows) ∷ stack) (rows ++ open_row rule n at end ∷ [])) place read
 
-    eaten : rule.eats ≡ true → IsParse g ended bytes (steps + 1) (place_behind rule at) (rule_stack stack (length rows) rule) (rows ++ open_row rule at at end ∷ [])
+    eaten : rule.eats ≡ true → IsBegun g ended bytes (steps + beginning (symbols_of rule)) (steps + 1) (place_behind rule at) (rule_stack stack (length rows) rule) (rows ++ open_row rule at at end ∷ [])
     eaten eats =
         let takes : taken_by rule b ≡ b ∷ [] = ap (λ c. cond c (b ∷ []) []) eats in
         let to : place_behind rule at ≡ at + 1 = ap (λ c. cond c (at + 1) at) eats in
         let piece = cut bytes at (b ∷ []) (drop (at + 1) bytes) h.within split in
         let read = moved (drop (at + 1) bytes) (split ∙ ap (λ v. v ++ drop (at + 1) bytes) (sym takes)) in
-        let read_one = subst (λ v. IsReading g ended (take at bytes ++ v) (drop (at + 1) bytes) (rule_stack stack (length rows) rule) (rows ++ open_row rule at at end ∷ [])) takes read in
+        let read_one = subst (λ v. IsReading g (steps + beginning (symbols_of rule)) ended (take at bytes ++ v) (drop (at + 1) bytes) (rule_stack stack (length rows) rule) (rows ++ open_row rule at at end ∷ [])) takes read in
         let count = count_eats g steps at (Symbol (Kind k)) (Close (length rows)) (symbols_of rule) stack (length rows) counted (omega (arith, law.count, length-take rule.count rule.symbols)) in
-        subst (λ n. IsParse g ended bytes (steps + 1) n (rule_stack stack (length rows) rule) (rows ++ open_row rule at at end ∷ [])) (sym to) (record {
+        subst (λ n. IsBegun g ended bytes (steps + beginning (symbols_of rule)) (steps + 1) n (rule_stack stack (length rows) rule) (rows ++ open_row rule at at end ∷ [])) (sym to) (record {
           within = omega arith;
           reading = goes_on g ended bytes at (b ∷ []) (drop (at + 1) bytes) _ _ piece read_one;
           counted = subst (λ n. IsCounted g (steps + 1) (at + 1) (rule_stack stack (length rows) rule) n) (sym more) count;
         })
 
-    chained : rule.eats ≡ false → IsParse g ended bytes (steps + 1) (place_behind rule at) (rule_stack stack (length rows) rule) (rows ++ open_row rule at at end ∷ [])
+    chained : rule.eats ≡ false → IsBegun g ended bytes (steps + beginning (symbols_of rule)) (steps + 1) (place_behind rule at) (rule_stack stack (length rows) rule) (rows ++ open_row rule at at end ∷ [])
     chained chains =
         let takes : taken_by rule b ≡ [] = ap (λ c. cond c (b ∷ []) []) chains in
         let to : place_behind rule at ≡ at = ap (λ c. cond c (at + 1) at) chains in
         let read = moved (drop at bytes) (ap (λ v. v ++ drop at bytes) (sym takes)) in
-        let read_none = subst (λ v. IsReading g ended v (drop at bytes) (rule_stack stack (length rows) rule) (rows ++ open_row rule at at end ∷ [])) (ap (λ v. take at bytes ++ v) takes ∙ append-nil (take at bytes)) read in
+        let read_none = subst (λ v. IsReading g (steps + beginning (symbols_of rule)) ended v (drop at bytes) (rule_stack stack (length rows) rule) (rows ++ open_row rule at at end ∷ [])) (ap (λ v. take at bytes ++ v) takes ∙ append-nil (take at bytes)) read in
         let count = count_chain g lawful k rule steps at (Close (length rows)) (symbols_of rule) stack (length rows) reading.known.0 (law.chain chains) counted in
-        subst (λ n. IsParse g ended bytes (steps + 1) n (rule_stack stack (length rows) rule) (rows ++ open_row rule at at end ∷ [])) (sym to) (record {
+        subst (λ n. IsBegun g ended bytes (steps + beginning (symbols_of rule)) (steps + 1) n (rule_stack stack (length rows) rule) (rows ++ open_row rule at at end ∷ [])) (sym to) (record {
           within = h.within;
           reading = read_none;
           counted = subst (λ n. IsCounted g (steps + 1) at (rule_stack stack (length rows) rule) n) (sym more) count;
         })
+
+-- a rule that has symbols is taken
+pub step_rule : (g : Table) (lawful : IsLawful g) (ended : Bool) (bytes : List ℕ) (steps at k b end : ℕ) (rule : Rule) (stack : List Entry) (rows : List Row) → beginning (symbols_of rule) ≡ 1 → at < length bytes → get_or bytes at 0 ≡ b → b < 256 → g.rule k b ≡ Some rule → IsParse g ended bytes steps at (Symbol (Kind k) ∷ stack) rows → IsParse g ended bytes (steps + 1) (place_behind rule at) (rule_stack stack (length rows) rule) (rows ++ open_row rule at at end ∷ [])
+step_rule g lawful ended bytes steps at k b end rule stack rows some lt is byte found h =
+    let begun = begin_rule g lawful ended bytes steps at k b end rule stack rows lt is byte found h in
+    record {
+      within = begun.within;
+      reading = subst (λ n. IsReading g (steps + n) ended (take (place_behind rule at) bytes) (drop (place_behind rule at) bytes) (rule_stack stack (length rows) rule) (rows ++ open_row rule at at end ∷ [])) some begun.reading;
+      counted = begun.counted;
+    }
+
+-- a rule without symbols is taken, and its row ends at once
+pub step_leaf : (g : Table) (lawful : IsLawful g) (ended : Bool) (bytes : List ℕ) (steps at k b : ℕ) (rule : Rule) (stack : List Entry) (rows : List Row) → symbols_of rule ≡ [] → at < length bytes → get_or bytes at 0 ≡ b → b < 256 → g.rule k b ≡ Some rule → IsParse g ended bytes steps at (Symbol (Kind k) ∷ stack) rows → IsParse g ended bytes (steps + 1) (place_behind rule at) stack (rows ++ open_row rule at (place_behind rule at) (length rows + 1) ∷ [])
+step_leaf g lawful ended bytes steps at k b rule stack rows none lt is byte found h =
+    let place = place_behind rule at in
+    let opened = rows ++ open_row rule at at 0 ∷ [] in
+    let count : length opened ≡ length rows + 1 = length-append rows (open_row rule at at 0 ∷ []) in
+    let begun = begin_rule g lawful ended bytes steps at k b 0 rule stack rows lt is byte found h in
+    let bare = subst (λ xs. IsReading g (steps + beginning xs) ended (take place bytes) (drop place bytes) (entries_of xs ++ Close (length rows) ∷ stack) opened) none begun.reading in
+    let reached : length (take place bytes) ≡ place = length-take-le place bytes begun.within in
+    let row : closed opened (length rows) (length (take place bytes)) (length opened) ≡ rows ++ open_row rule at place (length rows + 1) ∷ [] = closed_at rows (open_row rule at at 0) [] (length (take place bytes)) (length opened) ∙ ap₂ (λ m n. rows ++ open_row rule at m n ∷ []) reached count in
+    let size : length (rows ++ open_row rule at place (length rows + 1) ∷ []) ≡ length rows + 1 = length-append rows (open_row rule at place (length rows + 1) ∷ []) in
+    let ends = closes g (steps + 0) ended (take place bytes) (drop place bytes) (length rows) stack opened bare in
+    let counted : IsCounted g (steps + 1) place (entries_of [] ++ Close (length rows) ∷ stack) (length opened) = subst (λ xs. IsCounted g (steps + 1) place (entries_of xs ++ Close (length rows) ∷ stack) (length opened)) none begun.counted in
+    record {
+      within = begun.within;
+      reading = subst (λ n. IsReading g n ended (take place bytes) (drop place bytes) stack (rows ++ open_row rule at place (length rows + 1) ∷ [])) (omega arith)
+          (subst (λ rs. IsReading g (steps + 0 + 1) ended (take place bytes) (drop place bytes) stack rs) row ends);
+      counted = leaf_counted g (steps + 1) place (Close (length rows)) stack (length opened) (length (rows ++ open_row rule at place (length rows + 1) ∷ [])) counted (no_chains_closed g counted.chains (length rows) stack counted.stands) (omega (arith, size, count));
+    }
 
 told_at : (ended : Bool) (bytes : List ℕ) (at : ℕ) (rest : List ℕ) → IsKnown ended bytes at → drop at bytes ≡ rest → rest ≡ [] → ended ≡ true
 told_at ended bytes at rest known e nil = elim known [
@@ -212,17 +260,17 @@ step_token g lawful ended bytes steps at x place stack rows r known h =
     let piece = cut bytes at (bytes_of r.token) r.rest h.within r.split in
     let behind : drop place.end bytes ≡ r.rest = ap (λ n. drop n bytes) r.end ∙ piece.back in
     let only : IsSettled g ended x r.token r.rest = settled g ended x r.token r.rest r.is (told_at ended bytes place.end r.rest known behind) (λ other more is e. r.longest other more is (r.split ∙ e)) in
-    let reading = subst (λ u. IsReading g ended (take at bytes) u (Symbol x ∷ stack) rows) r.split h.reading in
+    let reading = subst (λ u. IsReading g steps ended (take at bytes) u (Symbol x ∷ stack) rows) r.split h.reading in
     let counted = eat_entry g steps at (length (bytes_of r.token)) (Symbol x) stack (length rows) 1 h.counted (some_bytes (bytes_of r.token) (token_filled g x r.token r.is)) (omega arith) in
-    let read = goes_on g ended bytes at (bytes_of r.token) r.rest stack _ piece (takes_token g lawful ended (take at bytes) r.rest x r.token stack rows r.is only reading) in
+    let read = goes_on g ended bytes at (bytes_of r.token) r.rest stack _ piece (takes_token g steps lawful ended (take at bytes) r.rest x r.token stack rows r.is only reading) in
     let start : length (take at bytes) ≡ at = length-take-le at bytes h.within in
     let row : token_row r.token (length (take at bytes)) (length rows) ≡ place_row place (length rows) =
     ap (λ n. token_row r.token n (length rows)) start ∙ ap₂ (λ m n. record { rule = 65535; from = m; to = n; end = length rows + 1 }) (sym r.from) (sym r.to) in
     let made : length (rows ++ place_row place (length rows) ∷ []) ≡ length rows + 1 = length-append rows (place_row place (length rows) ∷ []) in
     record {
       within = omega (arith, piece.within, r.end);
-      reading = subst (λ n. IsReading g ended (take n bytes) (drop n bytes) stack (rows ++ place_row place (length rows) ∷ [])) (sym r.end)
-          (subst (λ v. IsReading g ended (take (at + length (bytes_of r.token)) bytes) (drop (at + length (bytes_of r.token)) bytes) stack (rows ++ v ∷ [])) row read);
+      reading = subst (λ n. IsReading g (steps + 1) ended (take n bytes) (drop n bytes) stack (rows ++ place_row place (length rows) ∷ [])) (sym r.end)
+          (subst (λ v. IsReading g (steps + 1) ended (take (at + length (bytes_of r.token)) bytes) (drop (at + length (bytes_of r.token)) bytes) stack (rows ++ v ∷ [])) row read);
       counted = subst (λ n. IsCounted g (steps + 1) n stack (length (rows ++ place_row place (length rows) ∷ []))) (sym r.end) (subst (λ n. IsCounted g (steps + 1) (at + length (bytes_of r.token)) stack n) (sym made) counted);
     }
 
@@ -234,7 +282,7 @@ refused_at g bytes at le h =
 pub refuse_behind : (g : Table) (lawful : IsLawful g) (ended : Bool) (bytes : List ℕ) (steps at : ℕ) (rows : List Row) → at < length bytes → IsParse g ended bytes steps at [] rows → IsMalformed g bytes at
 refuse_behind g lawful ended bytes steps at rows lt h =
     let split : drop at bytes ≡ get_or bytes at 0 ∷ drop (at + 1) bytes = drop_more bytes at 0 lt in
-    let refused = refused_behind g lawful ended (take at bytes) (get_or bytes at 0) (drop (at + 1) bytes) rows (subst (λ u. IsReading g ended (take at bytes) u [] rows) split h.reading) in
+    let refused = refused_behind g lawful ended (take at bytes) (get_or bytes at 0) (drop (at + 1) bytes) rows (subst (λ u. IsReading g steps ended (take at bytes) u [] rows) split h.reading) in
     refused_at g bytes at h.within (subst (λ u. IsMalformed g (take at bytes ++ u) (length (take at bytes))) (sym split) refused)
 
 pub refuse_byte : (g : Table) (lawful : IsLawful g) (ended : Bool) (bytes : List ℕ) (steps at b : ℕ) (stack : List Entry) (rows : List Row) → IsKnown ended bytes at → (at < length bytes → get_or bytes at 0 ≡ b → ⊥) → IsParse g ended bytes steps at (Symbol (Byte b) ∷ stack) rows → IsMalformed g bytes at
@@ -255,7 +303,7 @@ refuse_token g lawful ended bytes steps at bad x stack rows le k known h =
     let reach : at + length k.front ≡ bad = omega (arith, k.size_is) in
     let behind : drop bad bytes ≡ k.rest = ap (λ n. drop n bytes) (sym reach) ∙ piece.back in
     let told = told_at ended bytes bad k.rest known behind in
-    let reading = subst (λ u. IsReading g ended (take at bytes) u (Symbol x ∷ stack) rows) k.split h.reading in
+    let reading = subst (λ u. IsReading g steps ended (take at bytes) u (Symbol x ∷ stack) rows) k.split h.reading in
     let refused = refused_token g lawful ended (take at bytes) k.front k.rest x stack rows reading (k.begun, k.more, k.begins, k.begins_so) (none told) told in
     let whole : (take at bytes ++ k.front) ++ k.rest ≡ bytes = append_assoc (take at bytes) k.front k.rest ∙ ap (λ u. take at bytes ++ u) (sym k.split) ∙ take-append-drop at bytes in
     let place : length (take at bytes ++ k.front) ≡ bad = omega (arith, length-append (take at bytes) k.front, length-take-le at bytes h.within, reach) in
@@ -333,9 +381,17 @@ same_start g lawful ended bytes steps at stack rows p q r s =
 pub whole_read : (g : Table) (ended : Bool) (bytes : List ℕ) (steps at : ℕ) (stack : List Entry) (rows made : List Row) → IsParse g ended bytes steps at stack rows → stack ≡ [] → at ≡ length bytes → made ≡ rows → AreRowsOf g bytes made
 whole_read g ended bytes steps at stack rows made h bare end same =
     let all = subst (λ es. IsParse g ended bytes steps at es rows) bare h in
-    let read = read_whole g ended (take at bytes) (drop at bytes) rows all.reading in
+    let read = read_whole g steps ended (take at bytes) (drop at bytes) rows all.reading in
     let text : take at bytes ++ [] ≡ bytes = append-nil (take at bytes) ∙ take_all at bytes (omega (arith, end)) in
     (read.0, read.1, read.2 ∙ text, same ∙ read.3)
+
+-- all is read, in so many steps
+pub whole_steps : (g : Table) (lawful : IsLawful g) (ended : Bool) (bytes : List ℕ) (steps at : ℕ) (stack : List Entry) (rows : List Row) → IsParse g ended bytes steps at stack rows → stack ≡ [] → at ≡ length bytes → AreStepsOf g bytes steps
+whole_steps g lawful ended bytes steps at stack rows h bare end =
+    let all = subst (λ es. IsParse g ended bytes steps at es rows) bare h in
+    let read = read_whole g steps ended (take at bytes) (drop at bytes) rows all.reading in
+    let text : take at bytes ++ [] ≡ bytes = append-nil (take at bytes) ∙ take_all at bytes (omega (arith, end)) in
+    λ tree is spelled. read.4 ∙ ap read_steps (one_tree g lawful read.0 tree read.1 is (read.2 ∙ text ∙ sym spelled))
 
 -- all bytes that are known are read: they begin a well shaped symbol
 pub all_begins : (g : Table) (lawful : IsLawful g) (ended : Bool) (bytes : List ℕ) (steps at : ℕ) (stack : List Entry) (rows : List Row) → IsParse g ended bytes steps at stack rows → length bytes ≤ at → BeginsWellShaped g bytes

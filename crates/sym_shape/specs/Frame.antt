@@ -4,6 +4,7 @@ use Rattle.sym_shape.specs.declared.rule.Rule.{Rule}
 use Rattle.sym_shape.specs.declared.rule.Row.{Row}
 use Rattle.sym_shape.specs.declared.rule.Sym.{Sym}
 use Rattle.sym_shape.specs.declared.frame.Frame.{Frame}
+use Rattle.sym_shape.specs.Table.{symbols_of}
 use Rattle.sym_shape.specs.Reading.{Entry, Close, entries_of, open_row, place_behind}
 
 -- the symbols of a frame that are still to be read
@@ -35,5 +36,5 @@ HasLast frames frame = (front : List Frame) × (frames ≡ front ++ frame ∷ []
 -- A rule is taken behind whose kind the top frame goes on: its frame is then on top, or it is a leaf, whose row has ended.
 abbrev pub IsTaken : Rule → Frame → ℕ → List Frame → List Row → Frame → List Frame → List Row → Type 0
 IsTaken rule top at below rows frame deeper made =
-    ((deeper ≡ below ++ top ∷ []) × (frame ≡ rule_frame rule (length rows)) × (made ≡ rows ++ open_row rule at at 0 ∷ []))
+    ((deeper ≡ below ++ top ∷ []) × (frame ≡ rule_frame rule (length rows)) × (made ≡ rows ++ open_row rule at at 0 ∷ []) × (0 < length (symbols_of rule)))
     ⊎ ((rule.count ≡ 0) × (deeper ≡ below) × (frame ≡ top) × (made ≡ rows ++ open_row rule at (place_behind rule at) (length rows + 1) ∷ []))

@@ -44,7 +44,7 @@ HasNoRule g k bytes at = at < length bytes → g.rule k (get_or bytes at 0) ≡ 
 -- `at` of the bytes are read, and this is still to be done
 pub record IsParse (g : Table) (ended : Bool) (bytes : List ℕ) (steps at : ℕ) (stack : List Entry) (rows : List Row) : Type 0 where
   pub within : at ≤ length bytes
-  pub reading : IsReading g ended (take at bytes) (drop at bytes) stack rows
+  pub reading : IsReading g steps ended (take at bytes) (drop at bytes) stack rows
   pub counted : IsCounted g steps at stack (length rows)
 
 -- what a parse still has to do

@@ -6,7 +6,7 @@ use Rattle.sym_shape.specs.declared.rule.Sym.{Sym}
 use Rattle.sym_shape.specs.declared.rule.Sym.TheVariants.{Kind}
 use Rattle.sym_core.specs.declared.TokenPlace.{TokenPlace}
 use Rattle.sym_shape.specs.Table.{Table, symbols_of}
-use Rattle.sym_shape.specs.Tree.{Tree, Forest, nothing, grown, spell, spell_all, IsTree, AreTrees, rows_of, IsWellShaped}
+use Rattle.sym_shape.specs.Tree.{Tree, Forest, nothing, grown, spell, spell_all, IsTree, AreTrees, rows_of, read_steps, IsWellShaped}
 use Rattle.sym_shape.specs.Law.{begins, can_be_empty, may_follow, AreSymbols, rank_of}
 
 -- what is still to be done: read a symbol, or end the row of a rule all of whose symbols are read
@@ -58,6 +58,13 @@ finished (Close i ∷ es) f at rows = finished es f at (closed rows i at (length
 finished (Symbol x ∷ es) nothing at rows = rows
 finished (Symbol x ∷ es) (grown t f) at rows = finished es f (at + length (spell t)) (rows ++ rows_of t at (length rows))
 
+-- the steps to take where these trees are read for the symbols on the stack
+abbrev pub steps_left : List Entry → Forest → ℕ
+steps_left [] f = 0
+steps_left (Close i ∷ es) f = 1 + steps_left es f
+steps_left (Symbol x ∷ es) nothing = 0
+steps_left (Symbol x ∷ es) (grown t f) = read_steps t + steps_left es f
+
 -- each row that is to be ended is there
 abbrev pub AreOpen : List Entry → ℕ → Type 0
 AreOpen [] n = ⊤
@@ -79,9 +86,9 @@ abbrev pub Agrees : Bool → List ℕ → List ℕ → Type 0
 Agrees ended [] w = ended ≡ true → w ≡ []
 Agrees ended (b ∷ q) w = (rest : List ℕ) × (w ≡ b ∷ rest)
 
--- a tree of the start kind spells p and then what the forest spells, and these are its rows
-abbrev pub IsCompleted : Table → List ℕ → List ℕ → List Row → Type 0
-IsCompleted g p w rows = (tree : Tree) × IsTree g (Kind 0) tree × (spell tree ≡ p ++ w) × (rows ≡ rows_of tree 0 0)
+-- a tree of the start kind spells p and then what the forest spells, and these are its rows and its steps
+abbrev pub IsCompleted : Table → List ℕ → List ℕ → List Row → ℕ → Type 0
+IsCompleted g p w rows steps = (tree : Tree) × IsTree g (Kind 0) tree × (spell tree ≡ p ++ w) × (rows ≡ rows_of tree 0 0) × (steps ≡ read_steps tree)
 
 -- these symbols spell the bytes
 abbrev pub Spell : Table → List Sym → List ℕ → Type 0
@@ -102,14 +109,14 @@ abbrev pub TakesNone : Table → ℕ → Bool → List ℕ → Type 0
 TakesNone g k ended [] = ended ≡ true
 TakesNone g k ended (b ∷ q) = g.rule k b ≡ None
 
--- p is read, q is known of what follows (all of it, if the end is told), and the stack and the rows fit:
--- whatever the symbols on the stack spell completes p, with these rows; and each well shaped symbol that goes
--- on with the next byte is completed so.
-pub record IsReading (g : Table) (ended : Bool) (p q : List ℕ) (es : List Entry) (rows : List Row) : Type 0 where
+-- p is read in so many steps, q is known of what follows (all of it, if the end is told), and the stack and the
+-- rows fit: whatever the symbols on the stack spell completes p, with these rows and steps; and each well shaped
+-- symbol that goes on with the next byte is completed so.
+pub record IsReading (g : Table) (steps : ℕ) (ended : Bool) (p q : List ℕ) (es : List Entry) (rows : List Row) : Type 0 where
   pub known : AreSymbols g (symbols_in es)
   pub followed : IsFollowed g (symbols_in es)
   pub opened : AreOpen es (length rows)
-  pub sound : (f : Forest) → AreTrees g (symbols_in es) f → IsCompleted g p (spell_all f) (finished es f (length p) rows)
+  pub sound : (f : Forest) → AreTrees g (symbols_in es) f → IsCompleted g p (spell_all f) (finished es f (length p) rows) (steps + steps_left es f)
   pub complete : (w : List ℕ) → Agrees ended q w → IsWellShaped g (p ++ w) → Spell g (symbols_in es) w
 
 -- so many chains stand on one another here

@@ -84,6 +84,19 @@ abbrev mutual
   row_count_all nothing = 0
   row_count_all (grown tree rest) = row_count tree + row_count_all rest
 
+-- how many steps the reader takes for a tree: it begins each rule and ends it, at once where the rule has no symbols
+abbrev mutual
+  pub read_steps : Tree → ℕ
+  read_steps (branch rule taken nothing) = 1
+  read_steps (branch rule taken (grown first rest)) = 2 + (read_steps first + read_steps_all rest)
+  read_steps empty = 1
+  read_steps (token t) = 1
+  read_steps (fixed byte) = 1
+
+  pub read_steps_all : Forest → ℕ
+  read_steps_all nothing = 0
+  read_steps_all (grown tree rest) = read_steps tree + read_steps_all rest
+
 -- the rows of a tree that begins at a place, the first of them with this number
 abbrev mutual
   pub rows_of : Tree → ℕ → ℕ → List Row
@@ -99,6 +112,10 @@ abbrev mutual
   rows_of_all nothing at number = []
   rows_of_all (grown tree rest) at number =
       rows_of tree at number ++ rows_of_all rest (at + length (spell tree)) (number + row_count tree)
+
+-- so many steps the reader takes for the one tree that spells the symbol
+abbrev pub AreStepsOf : Table → List ℕ → ℕ → Type 0
+AreStepsOf g s steps = (tree : Tree) → IsTree g (Kind 0) tree → spell tree ≡ s → steps ≡ read_steps tree
 
 -- these are the rows of the one tree that spells the symbol
 abbrev pub AreRowsOf : Table → List ℕ → List Row → Type 0

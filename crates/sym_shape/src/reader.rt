@@ -1,7 +1,7 @@
 // A reader that is fed in pieces.
 ghost use Rattle.std.specs.Prelude.{◌≡◌, ◌+◌, ◌≤◌, ◌&&◌, [], ◌++◌, length, true, false, None, Some, Ok, Err, OnOk, OnErr, IfOk, IfErr, IfSome};
 ghost use Rattle.sym_core.specs.Number.{FitsSymbol};
-ghost use Rattle.sym_shape.specs.Tree.{AreRowsOf, BeginsWellShaped};
+ghost use Rattle.sym_shape.specs.Tree.{AreRowsOf, AreStepsOf, BeginsWellShaped};
 ghost use Rattle.sym_shape.specs.Reader.{IsMalformedOrMemory};
 ghost use Rattle.sym_shape.specs.Fed.{Fed, unfed, refusing, with_piece, is_answer, IsReason, IsWithinBounds};
 
@@ -243,6 +243,8 @@ impl<G: Grammar> Reader<G> {
         ensures bytes { IfOk result (λ read. read.0.items ≡ self.bytes) }
         ensures fits { FitsSymbol self.bytes }
         ensures rows { IfOk result (λ read. AreRowsOf G.table self.bytes read.1.rows) }
+        // The steps are those of the one tree of these bytes, by `step` or by `run`.
+        ensures steps { IfOk result (λ read. AreStepsOf G.table self.bytes read.1.steps) }
         ensures row_count { IfOk result (λ read. length read.1.rows ≡ self.rows) }
         ensures step_count { IfOk result (λ read. read.1.steps ≡ self.steps) }
         ensures open { OnOk result (self.refused ≡ None) }

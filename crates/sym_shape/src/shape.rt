@@ -1,7 +1,7 @@
 // Shapes, and reading a whole symbol.
 ghost use Rattle.std.specs.Prelude.{◌≡◌, ◌≤◌, ◌+◌, ◌*◌, [], length, IfOk, IfErr, OnOk, OnErr};
 ghost use Rattle.sym_core.specs.Number.{FitsSymbol};
-ghost use Rattle.sym_shape.specs.Tree.{AreRowsOf};
+ghost use Rattle.sym_shape.specs.Tree.{AreRowsOf, AreStepsOf};
 ghost use Rattle.sym_shape.specs.Reader.{IsMalformedOrMemory, AreFew};
 
 use crate::grammar::Grammar;
@@ -73,8 +73,9 @@ impl Shape {
 /// `Malformed` at the first bad byte: the length of the longest front that begins some well shaped symbol. `Memory`.
 pub fn read<G: Grammar>(alloc: Global, grammar: &G, s: &[u8]) -> Result<Shape, Refusal>
     requires { FitsSymbol s.now }
-    // What is read is spelled by a tree, and these are its rows.
+    // What is read is spelled by a tree, and these are its rows and its steps.
     ensures rows { IfOk result (λ shape. AreRowsOf G.table s.now shape.rows) }
+    ensures steps { IfOk result (λ shape. AreStepsOf G.table s.now shape.steps) }
     // What isn't read isn't well shaped, and the place is that of its first bad byte, unless memory runs out.
     ensures refused { IfErr result (IsMalformedOrMemory G.table s.now) }
     ensures row_count { IfOk result (λ shape. length shape.rows ≤ 4 * length s.now + 4) }
@@ -96,6 +97,7 @@ pub fn read<G: Grammar>(alloc: Global, grammar: &G, s: &[u8]) -> Result<Shape, R
 pub fn read_into<G: Grammar>(shape: &mut Shape, grammar: &G, s: &[u8]) -> Result<(), Refusal>
     requires { FitsSymbol s.now }
     ensures rows { OnOk result (AreRowsOf G.table s.now shape.new.rows) }
+    ensures steps { OnOk result (AreStepsOf G.table s.now shape.new.steps) }
     ensures refused { IfErr result (IsMalformedOrMemory G.table s.now) }
     ensures few { AreFew shape.new.steps (length shape.new.rows) (length s.now) }
 {

@@ -1,3 +1,5 @@
+use Rattle.std.proofs.Common.{refl, ◌+◌}
+use Rattle.sym_link.specs.Stepping.{waiting}
 use Rattle.sym_link.proofs.Driving.{closing_room, closing_place, closing_base, closed}
 use Rattle.sym_link.proofs.driver.leave.Goals as goal
 
@@ -14,7 +16,7 @@ close-requires-clause-place g c =
     closing_place (g.L.Linking.view c.args.symbol.now) c.args.symbol.now c.args.language.now c.args.frame c.args.parts.now.items (g.met.L.Linking.laws c.args.symbol.now) c.requires
 
 pub returns-clause-follows : goal.returns-clause-follows
-returns-clause-follows g c whole shape lower next follows ends =
-    closed (g.L.Linking.view c.args.symbol.now) c.args.symbol.now shape whole c.args.language.now c.close.new.self next lower c.args.frame
+returns-clause-follows g c whole shape lower next left follows ends =
+    closed (g.L.Linking.view c.args.symbol.now) c.args.symbol.now shape whole (waiting (left + 1)) c.args.language.now c.close.new.self next lower c.args.frame
     c.args.parts.now.items c.close.new.parts.items c.close.result (g.met.L.Linking.laws c.args.symbol.now) follows ends
-    c.close.ensures.closes c.close.ensures.adds c.close.ensures.pays
+    c.close.ensures.closes c.close.ensures.adds c.close.ensures.pays left refl

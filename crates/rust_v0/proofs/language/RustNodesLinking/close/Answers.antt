@@ -18,8 +18,7 @@ returns-in-Some-PlainName-clause-closes c rule known from left state is none =
     let own = drop c.args.frame.base c.args.parts.now.items in
     let one = c.if-is_name.ensures in
     let own_is : own ≡ Part.Name one.0 ∷ [] = sym (rest_all c.args.parts.now.items c.args.frame.base) ∙ (rw c.deref.ensures.value at one.1) in
-    let named : c.in-Some-PlainName.field-0 ≡ rules.PlainName = rw c.in-Some-PlainName.is at c.in-Some-PlainName.field-0-is in
-    let production_is : production_of rule.rule.number ≡ Some rules.PlainName = rw (← is.number) (sym c.numbered-production.ensures ∙ c.in-Some-PlainName.is ∙ ap (λ p. Some p) named) in
+    let production_is : production_of rule.rule.number ≡ Some rules.PlainName = rw (← is.number) (sym c.numbered.ensures ∙ c.in-Some-PlainName.is ∙ ap (λ p. Some p) c.in-Some-PlainName.field-0-is) in
     let fits : rule.context < 2 ^ 64 = omega (arith, is.kept.few, is.place, c.requires.place, c.requires.room.fits) in
     let made_is : of_part (Ok (Part.Name one.0)) ≡ semantics.made rules.PlainName s rule.place rule.context own = rw own_is refl in
     rw (v0_ended s rule known from left state none, production_is) (

@@ -18,14 +18,14 @@ no_production (Some production) never = absurd (never production refl)
 
 pub returns-in_default-clause-closes : goal.returns-in_default-clause-closes
 returns-in_default-clause-closes c rule known from left state is none =
-    let production_is : production_of rule.rule.number ≡ None = rw (← is.number) (sym c.requires.production ∙ no_production c.args.production c.in_default.not-Some) in
+    let production_is : production_of rule.rule.number ≡ None = rw (← is.number) (sym c.numbered.ensures ∙ no_production c.numbered.result c.in_default.not-Some) in
     rw (v0_ended c.args.symbol.now rule known from left state none, production_is) refl
 
 pub returns-in_err-part-clause-closes : goal.returns-in_err-part-clause-closes
 returns-in_err-part-clause-closes c rule known from left state is none =
     let s = c.args.symbol.now in
     let at = at_rule s rule state in
-    let production_is : production_of rule.rule.number ≡ Some c.in-Some.production = rw (← is.number) (sym c.requires.production ∙ c.in-Some.is) in
+    let production_is : production_of rule.rule.number ≡ Some c.in-Some.production = rw (← is.number) (sym c.numbered.ensures ∙ c.in-Some.is) in
     let p = err_from_is_err_and c.from_residual.result c.from_residual.ensures.1 in
     rw (p.1, p.2, v0_ended s rule known from left state none, production_is)
     (c.in_err-part.ensures.gives at known (sym c.is_reference.ensures ∙ c.if-is_reference.true) (sym (c.site_of-site.ensures.place ∙ is.place)) (sym (c.site_of-site.ensures.bound ∙ is.kept.is))
@@ -35,7 +35,7 @@ pub returns-then-is_reference-clause-closes : goal.returns-then-is_reference-cla
 returns-then-is_reference-clause-closes c rule known from left state is none =
     let s = c.args.symbol.now in
     let at = at_rule s rule state in
-    let production_is : production_of rule.rule.number ≡ Some c.in-Some.production = rw (← is.number) (sym c.requires.production ∙ c.in-Some.is) in
+    let production_is : production_of rule.rule.number ≡ Some c.in-Some.production = rw (← is.number) (sym c.numbered.ensures ∙ c.in-Some.is) in
     rw (v0_ended s rule known from left state none, production_is)
     (put_gives s c.reference.new.self (take c.args.frame.base c.args.parts.now.items) c.put.new.parts.items c.in_ok-part.part c.put.result _ c.put.ensures.items c.put.ensures.memory
     (c.in_ok-part.ensures.gives at known (sym c.is_reference.ensures ∙ c.if-is_reference.true) (sym (c.site_of-site.ensures.place ∙ is.place)) (sym (c.site_of-site.ensures.bound ∙ is.kept.is))
@@ -48,7 +48,7 @@ pub returns-in_err-part-2-clause-closes : goal.returns-in_err-part-2-clause-clos
 returns-in_err-part-2-clause-closes c rule known from left state is none =
     let s = c.args.symbol.now in
     let at = at_rule s rule state in
-    let production_is : production_of rule.rule.number ≡ Some c.in-Some.production = rw (← is.number) (sym c.requires.production ∙ c.in-Some.is) in
+    let production_is : production_of rule.rule.number ≡ Some c.in-Some.production = rw (← is.number) (sym c.numbered.ensures ∙ c.in-Some.is) in
     let fits : rule.context < 2 ^ 64 = omega (arith, is.kept.few, is.place, c.requires.place, c.requires.room.fits) in
     let own = drop c.args.frame.base c.args.parts.now.items in
     let made_is : of_part (Err c.in_err-part-2.field-0.0) ≡ semantics.made c.in-Some.production s rule.place rule.context own =
@@ -63,7 +63,7 @@ pub returns-then-makes_part-clause-closes : goal.returns-then-makes_part-clause-
 returns-then-makes_part-clause-closes c rule known from left state is none =
     let s = c.args.symbol.now in
     let at = at_rule s rule state in
-    let production_is : production_of rule.rule.number ≡ Some c.in-Some.production = rw (← is.number) (sym c.requires.production ∙ c.in-Some.is) in
+    let production_is : production_of rule.rule.number ≡ Some c.in-Some.production = rw (← is.number) (sym c.numbered.ensures ∙ c.in-Some.is) in
     let fits : rule.context < 2 ^ 64 = omega (arith, is.kept.few, is.place, c.requires.place, c.requires.room.fits) in
     let own = drop c.args.frame.base c.args.parts.now.items in
     let made_is : of_part (Ok c.in_ok-part-2.part) ≡ semantics.made c.in-Some.production s rule.place rule.context own =
@@ -82,7 +82,7 @@ pub returns-in_err-added-clause-closes : goal.returns-in_err-added-clause-closes
 returns-in_err-added-clause-closes c rule known from left state is none =
     let s = c.args.symbol.now in
     let at = at_rule s rule state in
-    let production_is : production_of rule.rule.number ≡ Some c.in-Some.production = rw (← is.number) (sym c.requires.production ∙ c.in-Some.is) in
+    let production_is : production_of rule.rule.number ≡ Some c.in-Some.production = rw (← is.number) (sym c.numbered.ensures ∙ c.in-Some.is) in
     let fits : rule.context < 2 ^ 64 = omega (arith, is.kept.few, is.place, c.requires.place, c.requires.room.fits) in
     let own = drop c.args.frame.base c.args.parts.now.items in
     let p = err_from_is_err_and c.from_residual-in_err-added.result c.from_residual-in_err-added.ensures.1 in
@@ -96,7 +96,7 @@ pub returns-clause-closes : goal.returns-clause-closes
 returns-clause-closes c rule known from left state is none =
     let s = c.args.symbol.now in
     let at = at_rule s rule state in
-    let production_is : production_of rule.rule.number ≡ Some c.in-Some.production = rw (← is.number) (sym c.requires.production ∙ c.in-Some.is) in
+    let production_is : production_of rule.rule.number ≡ Some c.in-Some.production = rw (← is.number) (sym c.numbered.ensures ∙ c.in-Some.is) in
     let fits : rule.context < 2 ^ 64 = omega (arith, is.kept.few, is.place, c.requires.place, c.requires.room.fits) in
     let own = drop c.args.frame.base c.args.parts.now.items in
     rw (v0_ended s rule known from left state none, production_is)

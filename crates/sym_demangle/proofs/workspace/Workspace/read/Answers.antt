@@ -1,9 +1,9 @@
-use Rattle.std.proofs.Common.{subst}
+use Rattle.std.proofs.Common.{subst, ap, ◌∙◌, ◌++◌}
 use Rattle.std.proofs.lemmas.Result.{err_from_is_err_and}
 use Rattle.sym_shape.specs.Reader.{IsMalformedOrMemory}
 use Rattle.sym_demangle.proofs.Feeding.{behind_prefix}
 use Rattle.sym_demangle.proofs.Answering.{shape_refused}
-use Rattle.sym_demangle.proofs.Reasons.{links_not_too_long}
+use Rattle.sym_demangle.proofs.Reasons.{links_not_too_long, links_read}
 use Rattle.sym_demangle.proofs.workspace.Workspace.read.Goals as goal
 
 pub returns-in_err-read_into-clause-refused : goal.returns-in_err-read_into-clause-refused
@@ -34,3 +34,12 @@ pub returns-clause-refused : goal.returns-clause-refused
 returns-clause-refused g c =
     let is = behind_prefix c.args.s.now c.bytes.result.now c.args.self.now.ahead.bytes c.strip_prefix.result c.in-Some.rest c.strip_prefix.ensures.cases c.in-Some.is c.bytes.ensures in
     rw is c.read_on.ensures.refused
+
+pub returns-clause-steps : goal.returns-clause-steps
+returns-clause-steps g c =
+    let is = behind_prefix c.args.s.now c.bytes.result.now c.args.self.now.ahead.bytes c.strip_prefix.result c.in-Some.rest c.strip_prefix.ensures.cases c.in-Some.is c.bytes.ensures in
+    rw is c.read_on.ensures.steps
+
+pub returns-2-clause-symbol : goal.returns-2-clause-symbol
+returns-2-clause-symbol g c =
+    links_read g.M.Mangling.mangled c.refuses_bad_tokens.ensures g.M.Mangling.whole_of _ c.args.s.now c.link.result (c.in_ok-extend_from_slice.ensures.items ∙ ap (λ xs. xs ++ c.args.s.now) c.clear.ensures.items) c.link.ensures.stands

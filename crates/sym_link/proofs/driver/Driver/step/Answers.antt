@@ -8,17 +8,15 @@ returns-in-Some-behind-clause-driving g c tree is driving =
     c.args.self.now.frames.items c.args.self.now.parts.items c.in_default.not-Some driving in
     step_moved (g.L.Linking.view c.args.symbol.now) c.args.symbol.now c.args.rows.now tree c.advance-moved.new.language c.args.self.now.steps c.args.self.now.refused c.args.self.now.next c.in-Some-behind.next
     c.args.self.now.frames.items c.advance-moved.new.frames.items c.advance-moved.new.parts.items c.advance-moved.result c.in-Ok.behind c.in-Ok.is c.in-Some-behind.is
-    c.in_default.not-Some on.1 on.3 (c.advance-moved.ensures.moves tree is on.0) c.advance-moved.ensures.counts
+    c.in_default.not-Some on.1 on.3 (c.advance-moved.ensures.moves tree c.args.self.now.steps is on.0) c.advance-moved.ensures.counts
 
 pub returns-in-None-clause-answers : goal.returns-in-None-clause-answers
 returns-in-None-clause-answers g c tree is driving =
     let on = driving_on (g.L.Linking.view c.args.symbol.now) c.args.symbol.now c.args.rows.now tree c.args.language.now c.args.self.now.steps c.args.self.now.refused c.args.self.now.next
-    c.args.self.now.frames.items c.args.self.now.parts.items c.in_default.not-Some driving in (
-      step_done (g.L.Linking.view c.args.symbol.now) c.args.symbol.now c.args.rows.now tree c.advance-moved.new.language c.advance-moved.new.frames.items c.advance-moved.new.parts.items
-          c.advance-moved.result c.in-Ok.behind c.in-Ok.is c.in-None.is (c.advance-moved.ensures.moves tree is on.0),
-      refl,
-      none_kept c.args.self.now.refused c.in_default.not-Some,
-    )
+    c.args.self.now.frames.items c.args.self.now.parts.items c.in_default.not-Some driving in
+    let over = step_done (g.L.Linking.view c.args.symbol.now) c.args.symbol.now c.args.rows.now tree c.args.self.now.steps c.advance-moved.new.language c.advance-moved.new.frames.items c.advance-moved.new.parts.items
+          c.advance-moved.result c.in-Ok.behind c.in-Ok.is c.in-None.is (c.advance-moved.ensures.moves tree c.args.self.now.steps is on.0) in
+    (over.0, refl, none_kept c.args.self.now.refused c.in_default.not-Some, over.1)
 
 pub returns-in-Err-clause-driving : goal.returns-in-Err-clause-driving
 returns-in-Err-clause-driving g c tree is driving =
@@ -26,7 +24,7 @@ returns-in-Err-clause-driving g c tree is driving =
     c.args.self.now.frames.items c.args.self.now.parts.items c.in_default.not-Some driving in
     rw (c.refuse.ensures.steps, c.refuse.ensures.refused)
     (step_refused (g.L.Linking.view c.args.symbol.now) c.args.symbol.now c.args.rows.now tree c.advance-moved.new.language c.args.self.now.steps c.args.self.now.next c.args.self.now.frames.items
-    c.advance-moved.new.frames.items c.advance-moved.new.parts.items c.advance-moved.result c.in-Err.refusal c.in-Err.is on.1 (c.advance-moved.ensures.moves tree is on.0) c.advance-moved.ensures.counts)
+    c.advance-moved.new.frames.items c.advance-moved.new.parts.items c.advance-moved.result c.in-Err.refusal c.in-Err.is on.1 (c.advance-moved.ensures.moves tree c.args.self.now.steps is on.0) c.advance-moved.ensures.counts)
 
 pub returns-in-Err-clause-answers : goal.returns-in-Err-clause-answers
 returns-in-Err-clause-answers g c tree is driving =
@@ -35,4 +33,4 @@ returns-in-Err-clause-answers g c tree is driving =
     refused_answer (g.L.Linking.view c.args.symbol.now) c.args.symbol.now c.args.rows.now tree c.advance-moved.new.language c.args.self.now.steps c.refuse.new.self.steps c.args.self.now.refused c.refuse.new.self.refused c.refuse.new.self.parts.items c.in-Err.refusal
     c.in_default.not-Some c.refuse.ensures.steps c.refuse.ensures.refused
     (step_refused (g.L.Linking.view c.args.symbol.now) c.args.symbol.now c.args.rows.now tree c.advance-moved.new.language c.args.self.now.steps c.args.self.now.next c.args.self.now.frames.items
-    c.advance-moved.new.frames.items c.advance-moved.new.parts.items c.advance-moved.result c.in-Err.refusal c.in-Err.is on.1 (c.advance-moved.ensures.moves tree is on.0) c.advance-moved.ensures.counts).0
+    c.advance-moved.new.frames.items c.advance-moved.new.parts.items c.advance-moved.result c.in-Err.refusal c.in-Err.is on.1 (c.advance-moved.ensures.moves tree c.args.self.now.steps is on.0) c.advance-moved.ensures.counts).0

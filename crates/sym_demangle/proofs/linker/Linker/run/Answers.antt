@@ -1,0 +1,35 @@
+use Rattle.std.proofs.Common.{refl, sym, ◌∙◌, subst, ap}
+use Rattle.sym_shape.specs.declared.rule.Sym.TheVariants.{Kind}
+use Rattle.sym_shape.specs.Tree.{IsTree, spell}
+use Rattle.sym_link.specs.Driving.{Fails}
+use Rattle.sym_link.specs.Following.{meaning_of}
+use Rattle.sym_demangle.specs.Mangled.{IsRefused}
+use Rattle.sym_demangle.specs.Standing.{Progress, AreLinkSteps}
+use Rattle.sym_demangle.proofs.Standing.{shape_steps, driving_fails, refused_of}
+use Rattle.sym_demangle.proofs.linker.Linker.run.Goals as goal
+
+pub returns-then-self-clause-all_steps : goal.returns-then-self-clause-all_steps
+returns-then-self-clause-all_steps g c =
+    let i = c.self.inside in
+    let inv = c.self.invariant in
+    subst (λ (v : Progress). AreLinkSteps g.M.Mangling.mangled.table v.bytes v.steps) c.self.view_is
+    (shape_steps g.M.Mangling.mangled.table _ g.M.Mangling.mangled.lawful i.bytes.items i.bytes.items i.shape.rows inv.shape i.driver.steps (g.met.M.Mangling.view_table i.bytes.items) inv.is_shape refl (inv.all_steps c.if-self.true))
+
+pub returns-in-Ok-clause-all_steps : goal.returns-in-Ok-clause-all_steps
+returns-in-Ok-clause-all_steps g c =
+    let i = c.self.inside in
+    let inv = c.self.invariant in
+    shape_steps g.M.Mangling.mangled.table _ g.M.Mangling.mangled.lawful i.bytes.items c.args.self.now.bytes i.shape.rows inv.shape c.run.new.self.steps (g.met.M.Mangling.view_table i.bytes.items) inv.is_shape
+    (ap (λ (v : Progress). v.bytes) c.self.view_is)
+    (c.in-Ok.ensures.counted inv.shape (rw (c.deref.ensures.value, c.rows.ensures) inv.is_shape) (rw (c.deref.ensures.value, c.rows.ensures) inv.driving))
+
+pub returns-in-Err-clause-refused : goal.returns-in-Err-clause-refused
+returns-in-Err-clause-refused g c =
+    let i = c.self.inside in
+    let inv = c.self.invariant in
+    let e = c.in-Err.refusal in
+    let driven = c.in-Err.ensures.driving inv.shape (rw (c.deref.ensures.value, c.rows.ensures) inv.is_shape) (rw (c.deref.ensures.value, c.rows.ensures) inv.driving) in
+    let fails : Fails e (meaning_of (g.M.Linked.Linking.view (spell inv.shape)) inv.shape) = subst (λ b. Fails e (meaning_of (g.M.Linked.Linking.view b) inv.shape)) (c.deref.ensures.value ∙ sym inv.is_shape.spelled)
+    (driving_fails (g.M.Linked.Linking.view c.deref.result.now) c.deref.result.now c.rows.result.now inv.shape _ _ _ _ _ _ e driven c.in-Err.ensures.kept) in
+    subst (λ (v : Progress). IsRefused g.M.Mangling.mangled v.bytes e) c.self.view_is
+    (refused_of g.M.Mangling.mangled inv.shape i.bytes.items e (subst (λ t. IsTree t (Kind 0) inv.shape) (g.met.M.Mangling.view_table i.bytes.items) inv.is_shape.is_tree) inv.is_shape.spelled (g.met.M.Mangling.fails inv.shape e fails))

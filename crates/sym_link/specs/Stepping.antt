@@ -1,0 +1,59 @@
+-- How many steps a driver takes for a tree, and how many are left to take.
+use Rattle.std.specs.Prelude.{◌≡◌, ℕ, ◌+◌, List, [], ◌∷◌, Bool, true, false, if◌then◌else◌}
+use Rattle.sym_shape.specs.Tree.{Tree, Forest, branch, empty, token, fixed, nothing, grown}
+use Rattle.sym_link.specs.Machine.{Frame}
+
+-- none of the parts has a row
+abbrev pub no_part_has_row : Forest → Bool
+no_part_has_row nothing = true
+no_part_has_row (grown empty rest) = no_part_has_row rest
+no_part_has_row (grown (fixed byte) rest) = no_part_has_row rest
+no_part_has_row (grown (token t) rest) = false
+no_part_has_row (grown (branch rule taken parts) rest) = false
+
+-- A rule with such parts closes in the step that begins it: none of them has a row, or a token alone has one.
+abbrev pub closes_at_once : Forest → Bool
+closes_at_once nothing = true
+closes_at_once (grown empty rest) = closes_at_once rest
+closes_at_once (grown (fixed byte) rest) = closes_at_once rest
+closes_at_once (grown (token t) rest) = no_part_has_row rest
+closes_at_once (grown (branch rule taken parts) rest) = false
+
+-- how many steps the driver takes for a tree: it begins each rule and closes it, at once where it can, and takes each token
+abbrev mutual
+  pub link_steps : Tree → ℕ
+  link_steps (branch rule taken parts) = if closes_at_once parts then 1 else (2 + link_steps_all parts)
+  link_steps empty = 0
+  link_steps (token t) = 1
+  link_steps (fixed byte) = 0
+
+  pub link_steps_all : Forest → ℕ
+  link_steps_all nothing = 0
+  link_steps_all (grown tree rest) = link_steps tree + link_steps_all rest
+
+-- the steps that are left: between two steps, or within the one in which the innermost rule begins
+pub data Due : Type 0 where
+  waiting : ℕ → Due
+  starting : ℕ → Due
+
+-- for the parts that open rules have left, and to close these
+abbrev pub steps_ahead : {V S C : Type 0} → List (Frame V S C) → ℕ
+steps_ahead [] = 0
+steps_ahead (top ∷ frames) = link_steps_all top.left + 1 + steps_ahead frames
+
+-- so many steps are left with these open rules
+abbrev pub IsDue : {V S C : Type 0} → Due → List (Frame V S C) → Type 0
+IsDue (waiting n) frames = steps_ahead frames ≡ n
+IsDue (starting n) [] = ⊥
+IsDue (starting n) (top ∷ frames) = (if closes_at_once top.left then 0 else (link_steps_all top.left + 1)) + steps_ahead frames ≡ n
+
+-- where a rule closes, so many steps are left behind it
+abbrev pub CountsClose : Due → ℕ → Type 0
+CountsClose (waiting m) n = m ≡ n + 1
+CountsClose (starting m) n = m ≡ n
+
+-- Where a token is taken, behind which so many rows stand in its rule, so many steps are left. One that is alone in a rule that
+-- begins takes none, and the rule is then still to close.
+abbrev pub CountsToken : Due → (behind : ℕ) → ℕ → Type 0
+CountsToken (waiting m) behind n = m ≡ n + 1
+CountsToken (starting m) behind n = (n ≡ m + 1) × (behind ≡ 0)
