@@ -19,7 +19,7 @@ returns-in-Ok-push_behind_underscore c =
     let bytes : (i : ℕ) → get_or symbol i 0 < 256 = λ i. search (rules, c.type_inv.symbol i) in
     let known = c.in-Ok.ensures in
     let counted = c.counts-counts.ensures in (
-      read_counts symbol c.in-Ok.read c.counts-counts.result known.rows counted.is_read known.bytes known.symbol counted.rows counted.nodes counted.steps,
+      read_counts symbol c.in-Ok.read c.counts-counts.result known.rows counted.is_read known.bytes known.symbol known.steps counted.rows counted.nodes counted.steps,
       pressed_given (underscore_of c.args.skip) symbol c.args.out.now.items c.push_behind_underscore.new.out.items c.deref.result.now c.in-Ok.read
           (c.reading_is_pressed.ensures symbol (Ok (whole_of c.in-Ok.read)) bytes known.symbol)
           (c.deref.ensures.value ∙ c.in-Ok-pressed.ensures.pressed) c.in-Ok-push_behind_underscore.ensures.pushed,
