@@ -13,7 +13,10 @@ use Rattle.rust_tree.specs.Layout.{ReadSymbol}
 use Rattle.rust_v0.specs.Mangled.{IsAnswer, answer, IsReading, whole_of}
 use Rattle.rust_v0.specs.Rules.{v0_table}
 use Rattle.sym_filter.specs.Demangled.{IsDemangled}
-use Rattle.sym_filter.specs.Languages.{answer_of, AreCounts, AreCountsOf}
+use Rattle.sym_press.specs.Answers.{pressed_answer}
+use Rattle.sym_press.specs.OfRead.{pressed_symbol}
+use Rattle.sym_press.specs.Pressing.{pressed}
+use Rattle.sym_filter.specs.Languages.{language_answer, behind_front, AreCounts, AreCountsOf}
 use Rattle.sym_filter.specs.declared.demangler.Demangled.{Demangled}
 use Rattle.sym_filter.specs.declared.kinds.Lang.{Lang}
 use Rattle.sym_filter.specs.declared.kinds.Lang.TheVariants.{Rust}
@@ -75,6 +78,20 @@ read_counts symbol read counts (shape, are_rows, same) is_read bytes stands coun
 -- what was done with a Rust symbol, as one of either mangling
 pub rust_demangled : (limit : ℕ) (detail : Detail) (lang : Lang) (symbol old new : List ℕ) (demangled : Demangled) → lang ≡ Rust
     → IsDemangled (answer detail symbol limit) (AreCounts symbol) old new demangled
-    → IsDemangled (answer_of limit detail lang symbol) (AreCountsOf lang symbol) old new demangled
+    → IsDemangled (language_answer limit detail lang symbol) (AreCountsOf lang symbol) old new demangled
 rust_demangled limit detail lang symbol old new demangled rust is =
-    subst (λ l. IsDemangled (answer_of limit detail l symbol) (AreCountsOf l symbol) old new demangled) (sym rust) is
+    subst (λ l. IsDemangled (language_answer limit detail l symbol) (AreCountsOf l symbol) old new demangled) (sym rust) is
+
+-- ## Symbols that are pressed
+
+pub unread_pressed : (front symbol : List ℕ) (refusal : Refusal) → (IsReading symbol (Err refusal) → pressed_answer symbol ≡ Err refusal) → refusal ≢ TooLong
+    → (refusal ≡ Memory) ⊎ IsReading symbol (Err refusal) → refusal ≢ Memory → (behind_front front (pressed_answer symbol) ≡ Err refusal) × (refusal ≢ TooLong)
+unread_pressed front symbol refusal law short (inl memory) other = absurd (other memory)
+unread_pressed front symbol refusal law short (inr is) other = (ap (behind_front front) (law is), short)
+
+pub pressed_given : (front symbol old new bytes : List ℕ) (read : ReadSymbol) → pressed_answer symbol ≡ Ok (pressed (whole_of read)) → bytes ≡ pressed_symbol read
+    → new ≡ old ++ (front ++ bytes) → (text : List ℕ) × (behind_front front (pressed_answer symbol) ≡ Ok text) × (new ≡ old ++ text)
+unfolding pressed_symbol
+pressed_given front symbol old new bytes read law is pushed =
+    let answered : List ℕ → Result (List ℕ) Refusal = λ text. Ok text in
+    (front ++ bytes, ap (behind_front front) (law ∙ ap answered (sym is)), pushed)

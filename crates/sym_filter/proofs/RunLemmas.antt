@@ -210,7 +210,7 @@ pub named_runs-append : (run more : List ℕ) → list_all is_run_byte run ≡ t
 named_runs-append run more h = ap₂ (λ (a : List ℕ) (b : List (List ℕ)). filter is_named (a ∷ b)) (first_run-append run more h) (later_runs-append run more h)
 
 -- the text of a word is its symbol's
-pub text_for-named : (answers : Answering) (word : List ℕ) (kind : Kind) (answer : Result (List ℕ) Refusal) → kind_of word ≡ Some kind → answers kind.lang (symbol_of kind word) ≡ answer → text_for answers word ≡ result_ok answer
+pub text_for-named : (answers : Answering) (word : List ℕ) (kind : Kind) (answer : Result (List ℕ) Refusal) → kind_of word ≡ Some kind → answers kind (symbol_of kind word) ≡ answer → text_for answers word ≡ result_ok answer
 unfolding text_for
 text_for-named answers word kind answer h is = rw (h, is) refl
 
@@ -218,8 +218,8 @@ pub named_runs-run : (run : List ℕ) → list_all is_run_byte run ≡ true → 
 named_runs-run run h = named_runs-append run [] h ∙ ap (λ (t : List ℕ). filter is_named (t ∷ [])) (append-nil run)
 
 -- the symbol of a word, by its answer
-pub text_of-symbol : (answers : Answering) (word symbol : List ℕ) (kind : Kind) (answer : Result (List ℕ) Refusal) → kind_of word ≡ Some kind → symbol ≡ symbol_of kind word → answers kind.lang symbol ≡ answer → text_for answers word ≡ result_ok answer
-text_of-symbol answers word symbol kind answer named same is = text_for-named answers word kind answer named (ap (answers kind.lang) (sym same) ∙ is)
+pub text_of-symbol : (answers : Answering) (word symbol : List ℕ) (kind : Kind) (answer : Result (List ℕ) Refusal) → kind_of word ≡ Some kind → symbol ≡ symbol_of kind word → answers kind symbol ≡ answer → text_for answers word ≡ result_ok answer
+text_of-symbol answers word symbol kind answer named same is = text_for-named answers word kind answer named (ap (answers kind) (sym same) ∙ is)
 
 pub text_for-unnamed : (answers : Answering) (word : List ℕ) → kind_of word ≡ None → text_for answers word ≡ None
 unfolding text_for

@@ -1,5 +1,5 @@
 -- What is answered for a symbol of each mangling.
-use Rattle.std.specs.Prelude.{◌≡◌, ℕ, ◌+◌, ◌*◌, ◌≤◌, List, length, Result, Ok, Err}
+use Rattle.std.specs.Prelude.{◌≡◌, ℕ, ◌+◌, ◌*◌, ◌≤◌, List, [], ◌∷◌, ◌++◌, length, Result, Ok, Err, ◌==◌, if◌then◌else◌}
 use Rattle.sym_core.specs.declared.refusal.Refusal.{Refusal}
 use Rattle.sym_core.specs.declared.refusal.Refusal.TheVariants.{Malformed}
 use Rattle.sym_print.specs.declared.detail.Detail.{Detail}
@@ -11,13 +11,36 @@ use Rattle.rust_tree.specs.Layout.{ReadSymbol}
 use Rattle.rust_v0.specs.Mangled.{answer, IsReading, whole_of}
 use Rattle.rust_v0.specs.Rules.{v0_table}
 use Rattle.sym_core.specs.declared.counts.Counts.{Counts}
+use Rattle.sym_press.specs.Answers.{pressed_answer}
+use Rattle.sym_filter.specs.declared.kinds.Kind.{Kind}
 use Rattle.sym_filter.specs.declared.kinds.Lang.{Lang}
 use Rattle.sym_filter.specs.declared.kinds.Lang.TheVariants.{Cpp, Rust}
 
 -- At a limit and a detail. No C++ symbol is read yet.
-abbrev pub answer_of : ℕ → Detail → Lang → List ℕ → Result (List ℕ) Refusal
-answer_of limit detail Cpp symbol = Err (Malformed 1)
-answer_of limit detail Rust symbol = answer detail symbol limit
+abbrev pub language_answer : ℕ → Detail → Lang → List ℕ → Result (List ℕ) Refusal
+language_answer limit detail Cpp symbol = Err (Malformed 1)
+language_answer limit detail Rust symbol = answer detail symbol limit
+
+-- the text is the same whether an underscore was dropped or not
+abbrev pub answer_of : ℕ → Detail → Kind → List ℕ → Result (List ℕ) Refusal
+answer_of limit detail kind symbol = language_answer limit detail kind.lang symbol
+
+-- the underscore that a word has before its symbol
+abbrev pub underscore_of : (skip : ℕ) → List ℕ
+underscore_of skip = if skip == 0 then [] else 95 ∷ []
+
+-- what stands before an answer that isn't a refusal
+abbrev pub behind_front : List ℕ → Result (List ℕ) Refusal → Result (List ℕ) Refusal
+behind_front front (Ok text) = Ok (front ++ text)
+behind_front front (Err refusal) = Err refusal
+
+-- Where symbols are pressed: the pressed spelling, behind the underscore that was dropped. No C++ symbol is read yet.
+abbrev pub pressed_language : Lang → (skip : ℕ) → List ℕ → Result (List ℕ) Refusal
+pressed_language Cpp skip symbol = Err (Malformed 1)
+pressed_language Rust skip symbol = behind_front (underscore_of skip) (pressed_answer symbol)
+
+abbrev pub pressed_of : Kind → List ℕ → Result (List ℕ) Refusal
+pressed_of kind symbol = pressed_language kind.lang kind.skip symbol
 
 -- The counts of a Rust symbol that is read: the rows and steps of its one shape, and the nodes of a symbol that was read and
 -- stands for its tree. There is at least a step for each row, and no more of each than its bytes allow.

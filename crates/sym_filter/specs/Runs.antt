@@ -4,7 +4,7 @@ use Rattle.std.specs.List.{list_all}
 use Rattle.std.specs.Result.{result_ok}
 use Rattle.sym_core.specs.declared.refusal.Refusal.{Refusal}
 use Rattle.sym_core.specs.declared.refusal.Refusal.TheVariants.{TooLong}
-use Rattle.sym_filter.specs.declared.kinds.Lang.{Lang}
+use Rattle.sym_filter.specs.declared.kinds.Kind.{Kind}
 use Rattle.sym_filter.specs.declared.words.Tally.{Tally}
 use Rattle.sym_filter.specs.Kinds.{kind_of, symbol_of}
 
@@ -50,9 +50,9 @@ word_of (byte ∷ bytes) = if list_all (λ other. other == 46) (byte ∷ bytes) 
 abbrev pub dots_behind : List ℕ → List ℕ
 dots_behind run = drop (length (word_of run)) run
 
--- what is answered for the symbols of each language: a text, or why there is none
+-- what is answered for the symbols of words of each kind: a text, or why there is none
 abbrev pub Answering : Type 0
-Answering = Lang → List ℕ → Result (List ℕ) Refusal
+Answering = Kind → List ℕ → Result (List ℕ) Refusal
 
 -- a symbol is read: it has a text, or one that costs more than the limit
 abbrev pub is_read : Result (List ℕ) Refusal → Bool
@@ -62,7 +62,7 @@ is_read (Err refusal) = false
 
 -- the text that stands for a word: that of its symbol, where the word names one and it has a text
 unfoldable pub text_for : Answering → List ℕ → Option (List ℕ)
-text_for answers word = option_and_then (λ kind. result_ok (answers kind.lang (symbol_of kind word))) (kind_of word)
+text_for answers word = option_and_then (λ kind. result_ok (answers kind (symbol_of kind word))) (kind_of word)
 
 -- the text that stands for a word, or the word where there is none
 abbrev pub word_or_text : Answering → List ℕ → List ℕ

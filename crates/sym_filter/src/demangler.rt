@@ -3,10 +3,11 @@ ghost use Rattle.std.specs.Prelude.{◌≤◌, List, ℕ, Result, length};
 ghost use Rattle.sym_core.specs.declared.counts.Counts.{Counts as Counts-type};
 ghost use Rattle.sym_core.specs.declared.refusal.Refusal.{Refusal as Refusal-type};
 ghost use Rattle.sym_filter.specs.Demangled.{IsDemangled};
+ghost use Rattle.sym_filter.specs.declared.kinds.Kind.{Kind as Kind-type};
 ghost use Rattle.sym_filter.specs.declared.kinds.Lang.{Lang as Lang-type};
 ghost use Rattle.sym_filter.specs.declared.kinds.TheConstants.{LONGEST_WORD};
 
-use crate::kinds::Lang;
+use crate::kinds::{Kind, Lang};
 use std::alloc::{AllocError, Global};
 use sym_core::{Counts, Refusal};
 
@@ -26,8 +27,8 @@ pub trait Demangler {
     /// The lists that it works on, kept from one symbol to the next.
     type Lists: Drop;
 
-    // what it answers for a symbol of a language: its text, or why it has none
-    ghost answer: { Self → Lang-type → List ℕ → Result (List ℕ) Refusal-type };
+    // what it answers for the symbol of a word of a kind: its text, or why it has none
+    ghost answer: { Self → Kind-type → List ℕ → Result (List ℕ) Refusal-type };
     // which counts are those of a symbol of a language that is read
     ghost are_counts: { Self → Lang-type → List ℕ → Counts-type → Type 0 };
 
@@ -38,14 +39,14 @@ pub trait Demangler {
     fn read_ahead(&self, lists: &mut Self::Lists, lang: Lang, front: &[u8])
         requires { length front.now ≤ LONGEST_WORD };
 
-    /// Appends the symbol's text, where it has one, else nothing. Want of memory may refuse any symbol.
+    /// Appends the text of the symbol of a word of a kind, where it has one, else nothing. Want of memory may refuse any symbol.
     fn demangle(
         &self,
         lists: &mut Self::Lists,
-        lang: Lang,
+        kind: Kind,
         symbol: &[u8],
         out: &mut Vec<u8>,
     ) -> Demangled
         requires { length symbol.now ≤ LONGEST_WORD }
-        ensures { IsDemangled (answer self.now lang symbol.now) (are_counts self.now lang symbol.now) out.old.items out.new.items result };
+        ensures { IsDemangled (answer self.now kind symbol.now) (are_counts self.now kind.lang symbol.now) out.old.items out.new.items result };
 }

@@ -6,14 +6,14 @@ ghost use Rattle.sym_filter.specs.Languages.{answer_of, AreCounts, AreCountsOf};
 ghost use Rattle.sym_filter.specs.declared.kinds.TheConstants.{LONGEST_WORD};
 
 use crate::demangler::{Demangled, Demangler};
-use crate::kinds::Lang;
+use crate::kinds::{Kind, Lang};
 use rust_v0::{V0, Workspace, one_answer, read_answers};
 use std::alloc::{AllocError, Global};
 use sym_core::Refusal;
 use sym_print::Detail;
 
 /// No symbol of C++ is read yet.
-const UNREAD: Refusal = Refusal::Malformed { at: 1 };
+pub const UNREAD: Refusal = Refusal::Malformed { at: 1 };
 
 /// Both manglings, at a limit on the cost of a text and a detail.
 #[derive(Clone, Copy, Drop)]
@@ -25,37 +25,50 @@ pub struct Languages {
 /// The lists of both languages.
 #[derive(Drop)]
 pub struct Lists {
-    rust: Workspace,
+    pub rust: Workspace,
+}
+
+impl Lists {
+    pub fn new(alloc: Global) -> Lists {
+        Lists {
+            rust: Workspace::new(alloc),
+        }
+    }
+
+    /// Reads what is there of a symbol that may go on.
+    pub fn read_ahead(&mut self, lang: Lang, front: &[u8])
+        requires { length front.now ≤ LONGEST_WORD }
+    {
+        match lang {
+            Lang::Cpp => {}
+            Lang::Rust => self.rust.read_ahead(front),
+        }
+    }
 }
 
 impl Demangler for Languages {
     type Lists = Lists;
 
-    ghost answer = { λ languages lang symbol. answer_of languages.limit languages.detail lang symbol };
+    ghost answer = { λ languages kind symbol. answer_of languages.limit languages.detail kind symbol };
 
     ghost are_counts = { λ languages lang symbol counts. AreCountsOf lang symbol counts };
 
     fn lists(&self, alloc: Global) -> Result<Lists, AllocError> {
-        Ok(Lists {
-            rust: Workspace::new(alloc),
-        })
+        Ok(Lists::new(alloc))
     }
 
     fn read_ahead(&self, lists: &mut Lists, lang: Lang, front: &[u8]) {
-        match lang {
-            Lang::Cpp => {}
-            Lang::Rust => lists.rust.read_ahead(front),
-        }
+        lists.read_ahead(lang, front);
     }
 
     fn demangle(
         &self,
         lists: &mut Lists,
-        lang: Lang,
+        kind: Kind,
         symbol: &[u8],
         out: &mut Vec<u8>,
     ) -> Demangled {
-        match lang {
+        match kind.lang {
             Lang::Cpp => Demangled::Refused(UNREAD),
             Lang::Rust => demangle_rust(&mut lists.rust, symbol, self.limit, self.detail, out),
         }

@@ -13,7 +13,7 @@ use Rattle.sym_core.specs.declared.refusal.Refusal.TheVariants.{Malformed, BadRe
 use Rattle.sym_core.specs.declared.counts.Counts.{Counts}
 use Rattle.symfilt.specs.Lines.{answer_for, is_read_word, line_of, counts_text, status_of, Counting, AreCountsFor, IsCountsLine, IsBehindLine, AreLines}
 
-pub answer_for-named : (answers : Answering) (word : List ℕ) (kind : Kind) (answer : Result (List ℕ) Refusal) → kind_of word ≡ Some kind → answers kind.lang (symbol_of kind word) ≡ answer → answer_for answers word ≡ Some answer
+pub answer_for-named : (answers : Answering) (word : List ℕ) (kind : Kind) (answer : Result (List ℕ) Refusal) → kind_of word ≡ Some kind → answers kind (symbol_of kind word) ≡ answer → answer_for answers word ≡ Some answer
 unfolding answer_for
 answer_for-named answers word kind answer h is = rw (h, is) refl
 
@@ -52,8 +52,8 @@ nothing-behind answers counting true word none = subst (λ (b : Bool). IsBehindL
 nothing-behind answers counting false word none = refl
 
 -- the answer of a word's symbol
-pub answer_of-symbol : (answers : Answering) (word symbol : List ℕ) (kind : Kind) (answer : Result (List ℕ) Refusal) → kind_of word ≡ Some kind → symbol ≡ symbol_of kind word → answers kind.lang symbol ≡ answer → answer_for answers word ≡ Some answer
-answer_of-symbol answers word symbol kind answer named same is = answer_for-named answers word kind answer named (ap (answers kind.lang) (sym same) ∙ is)
+pub answer_of-symbol : (answers : Answering) (word symbol : List ℕ) (kind : Kind) (answer : Result (List ℕ) Refusal) → kind_of word ≡ Some kind → symbol ≡ symbol_of kind word → answers kind symbol ≡ answer → answer_for answers word ≡ Some answer
+answer_of-symbol answers word symbol kind answer named same is = answer_for-named answers word kind answer named (ap (answers kind) (sym same) ∙ is)
 
 pub counts-behind : (answers : Answering) (counting : Counting) (stats : Bool) (word symbol : List ℕ) (kind : Kind) (answer : Result (List ℕ) Refusal) (counts : Counts) → kind_of word ≡ Some kind → symbol ≡ symbol_of kind word → answer_for answers word ≡ Some answer → is_read answer ≡ true → counting kind.lang symbol counts → IsBehindLine (AreCountsFor counting word) (stats && is_read_word (answer_for answers word)) (cond stats (counts_text counts.rows counts.nodes counts.steps ++ 10 ∷ []) [])
 counts-behind answers counting true word symbol kind answer counts named same answered read are =

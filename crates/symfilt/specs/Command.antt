@@ -1,8 +1,8 @@
 -- What a command line did to its two streams.
-use Rattle.std.specs.Prelude.{◌≡◌, ◌≢◌, ◌⊎◌, ℕ, List, [], ◌++◌, Bool, Option}
+use Rattle.std.specs.Prelude.{◌≡◌, ◌≢◌, ◌⊎◌, ℕ, List, [], ◌++◌, Bool, true, false, Option}
 use Rattle.std.specs.List.{flat_map}
 use Rattle.std.specs.Io.KnownBytes.{Appends}
-use Rattle.sym_filter.specs.Languages.{answer_of, AreCountsOf}
+use Rattle.sym_filter.specs.Languages.{answer_of, pressed_of, AreCountsOf}
 use Rattle.sym_filter.specs.Runs.{Answering}
 use Rattle.sym_filter.specs.Streams.{BeginsWith}
 use Rattle.symfilt.specs.Lines.{Counting, AreLines, complaint_of, status_of}
@@ -38,12 +38,16 @@ pub record AnswersFront (answers : Answering) (counting : Counting) (stats : Boo
   pub lines_begin : BeginsWith whole lines
   pub said_begin : BeginsWith (flat_map (complaint_of answers) first) said
 
+-- what the options ask of each symbol: its pressed spelling, or its text at the limit and in the detail
+abbrev pub answers_of : Options → Answering
+answers_of options = elim options.press [ true ↦ pressed_of | false ↦ answer_of options.limit options.detail ]
+
 -- Words, and how they are answered. Which words and options a command line has is its parser's to say.
 pub record AreAnswered (status : ℕ) (lines said : List ℕ) : Type 0 where
   pub options : Options
   pub words : List (List ℕ)
   pub some : words ≢ []
-  pub answered : AnswersWords (answer_of options.limit options.detail) AreCountsOf options.stats words status lines said
+  pub answered : AnswersWords (answers_of options) AreCountsOf options.stats words status lines said
 
 -- a command line with words has answered them, one that was refused or asked for help has written no line for them, and one that
 -- asks for the filter has written nothing
@@ -55,7 +59,7 @@ IsRun (Filter limit detail) lines said = (lines ≡ []) × (said ≡ [])
 pub record AreBegun (lines said : List ℕ) : Type 0 where
   pub options : Options
   pub words : List (List ℕ)
-  pub front : AnswersFront (answer_of options.limit options.detail) AreCountsOf options.stats words lines said
+  pub front : AnswersFront (answers_of options) AreCountsOf options.stats words lines said
 
 -- A command line that a fault stopped has written beginnings of the lines of some words, or, before it knew them, nothing but
 -- what its parser says.

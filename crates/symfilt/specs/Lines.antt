@@ -12,7 +12,7 @@ use Rattle.sym_filter.specs.Runs.{Answering, is_read, text_for, word_or_text}
 
 -- what is answered for a word's symbol, where it names one
 unfoldable pub answer_for : Answering → List ℕ → Option (Result (List ℕ) Refusal)
-answer_for answers word = option_map (λ kind. answers kind.lang (symbol_of kind word)) (kind_of word)
+answer_for answers word = option_map (λ kind. answers kind (symbol_of kind word)) (kind_of word)
 
 -- whether a word's symbol is read
 abbrev pub is_read_word : Option (Result (List ℕ) Refusal) → Bool

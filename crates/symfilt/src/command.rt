@@ -1,7 +1,8 @@
 // The command line.
 ghost use Rattle.std.specs.Prelude.{◌≡◌, ◌≢◌, ◌⊎◌, ◌+◌, ◌-◌, ◌^◌, ◌<◌, List, ℕ, ◌++◌, OnOk, OnErr, IfOk, IfErr, map};
 ghost use Rattle.sym_filter.specs.Streams.{writer_faults};
-ghost use Rattle.symfilt.specs.Command.{Took, Says, AnswersWords, AnswersFront, IsRun, IsStopped};
+ghost use Rattle.sym_filter.specs.Languages.{AreCountsOf};
+ghost use Rattle.symfilt.specs.Command.{Took, answers_of, Says, AnswersWords, AnswersFront, IsRun, IsStopped};
 ghost use Rattle.symfilt.specs.declared.outcome.Run.{Run as Run-type};
 
 use crate::lines::answer_word;
@@ -11,7 +12,7 @@ use clap::error::ErrorKind;
 use clap::{Arg, ArgAction, ArgMatches, Command, Error};
 use std::alloc::Global;
 use std::mem;
-use sym_filter::{Demangler, FilterFault, Languages, ListSink, Sink, write_all};
+use sym_filter::{Demangler, FilterFault, Languages, ListSink, Pressing, Sink, write_all};
 use sym_print::Detail;
 
 /// The status where each word has a text.
@@ -37,6 +38,7 @@ pub struct Options {
     pub limit: u32,
     pub detail: Detail,
     pub stats: bool,
+    pub press: bool,
 }
 
 /// Appends the lines for the words of a command line, the program's name first, and says what the program is to do.
@@ -88,6 +90,8 @@ fn command_line<'a>(alloc: Global, words: &'a [&'a str]) -> Result<ArgMatches<'a
             "The greatest cost of a text, 0 to 4294967295 [default: 1000000]. A text costs its bytes, and 1 for each item that it is put together from",
         );
     let stats = flag(alloc, "stats").help("Show the rows, nodes and steps of each symbol");
+    let press = flag(alloc, "press")
+        .help("Spell each symbol again with its repeated parts as references, in place of printing it");
     let brief = flag(alloc, "brief").help("Leave out generic arguments");
     let symbols = Arg::new(alloc, "SYMBOL")
         .num_args(0..)
@@ -100,6 +104,7 @@ fn command_line<'a>(alloc: Global, words: &'a [&'a str]) -> Result<ArgMatches<'a
         )
         .arg(limit)?
         .arg(stats)?
+        .arg(press)?
         .arg(brief)?
         .arg(symbols)?
         .try_get_matches_from(words)
@@ -149,6 +154,7 @@ fn options_of(matches: &ArgMatches<'_>) -> Options {
         limit: matches.get_one::<u32>("limit").unwrap_or(DEFAULT_LIMIT),
         detail,
         stats: matches.get_flag("stats"),
+        press: matches.get_flag("press"),
     }
 }
 
@@ -167,21 +173,50 @@ fn answer_all<W: Sink, E: Sink>(
     ensures failures { W.failure_count out.new + E.failure_count err.new
         ≡ W.failure_count out.old + E.failure_count err.old + writer_faults result }
 {
+    let options = options_of(matches);
+    let symbols = matches.get_strs("SYMBOL").unwrap_or_default();
+    if !symbols.is_empty() {
+        let status = answer_symbols(alloc, options, symbols, out, err)?;
+        return Ok(Run::Done(status));
+    }
+    if options.stats || options.press {
+        return refuse_with(err, b"symfilt: --press and --stats need a symbol\n");
+    }
+    Ok(Run::Filter {
+        limit: options.limit,
+        detail: options.detail,
+    })
+}
+
+/// Writes the lines of words as the options ask, and answers the status.
+fn answer_symbols<W: Sink, E: Sink>(
+    alloc: Global,
+    options: Options,
+    words: &[&str],
+    out: &mut W,
+    err: &mut E,
+) -> Result<u8, FilterFault>
+    requires out_failures { W.failure_count out.old < 2 ^ 64 - 1 }
+    requires err_failures { E.failure_count err.old < 2 ^ 64 - 1 }
+    ensures ok { IfOk result (λ status. Took (W.taken out.old) (W.taken out.new) (E.taken err.old) (E.taken err.new)
+        (AnswersWords (answers_of options) AreCountsOf options.stats (map (λ word. word.now) words.now) status)) }
+    ensures err { OnErr result (Took (W.taken out.old) (W.taken out.new) (E.taken err.old) (E.taken err.new)
+        (AnswersFront (answers_of options) AreCountsOf options.stats (map (λ word. word.now) words.now))) }
+    ensures fault { IfErr result (λ fault. fault ≢ FilterFault.Read) }
+    ensures failures { W.failure_count out.new + E.failure_count err.new
+        ≡ W.failure_count out.old + E.failure_count err.old + writer_faults result }
+{
     let Options {
         limit,
         detail,
         stats,
-    } = options_of(matches);
-    let symbols = matches.get_strs("SYMBOL").unwrap_or_default();
-    if !symbols.is_empty() {
-        let languages = Languages { limit, detail };
-        let status = answer_words(alloc, &languages, stats, symbols, out, err)?;
-        return Ok(Run::Done(status));
+        press,
+    } = options;
+    if press {
+        return answer_words(alloc, &Pressing, stats, words, out, err);
     }
-    if stats {
-        return refuse_with(err, b"symfilt: --press and --stats need a symbol\n");
-    }
-    Ok(Run::Filter { limit, detail })
+    let languages = Languages { limit, detail };
+    answer_words(alloc, &languages, stats, words, out, err)
 }
 
 /// Writes the lines of words, and answers the status: whether each has a text.

@@ -65,7 +65,7 @@ fn push_lines<D: Demangler>(
         push_line(err, complaint.as_bytes())?;
         return Ok(false);
     };
-    match demangler.demangle(lists, kind.lang, kind.symbol_of(word.as_bytes()), out) {
+    match demangler.demangle(lists, kind, kind.symbol_of(word.as_bytes()), out) {
         Demangled::Text(counts) => {
             out.push(b'\n')?;
             push_counts(alloc, stats, counts, out)?;

@@ -98,6 +98,18 @@ static REFUSED: [(&str, &str); 12] = [
     ("_R", "malformed at 2"),
 ];
 
+/// Symbols and their pressed spellings.
+static PRESSED: [(&str, &str); 5] = [
+    (
+        "_RNvXC3fooNtC3foo1ANtC3foo1B3baz",
+        "_RNvXC3fooNtB2_1ANtB2_1B3baz",
+    ),
+    ("_RINvC3foo3barRL_hE", "_RINvC3foo3barRhE"),
+    ("_RINvC3foo3barKj03_Kj_E", "_RINvC3foo3barKj3_Kj0_E"),
+    ("_RINvC3foo3barhBb_E", "_RINvC3foo3barhhE"),
+    ("__RINvC3foo3barRL_hE", "__RINvC3foo3barRhE"),
+];
+
 /// Whether the command answers a symbol with a line on standard output, and with another on standard error or none.
 fn answers<'a>(
     alloc: Global,
@@ -188,6 +200,15 @@ fn texts_in_brief(rt: HostRuntime) -> Result<(), Fail> {
             ""
         )?
     );
+    Ok(())
+}
+
+#[test]
+fn pressed_spellings(rt: HostRuntime) -> Result<(), Fail> {
+    for (symbol, pressed) in &PRESSED {
+        assert!(rt; answers(rt.alloc(), "symfilt", "--press", symbol, pressed, "")?, "{symbol}");
+        assert!(rt; answers(rt.alloc(), "symfilt", "--press", pressed, pressed, "")?, "{pressed}");
+    }
     Ok(())
 }
 

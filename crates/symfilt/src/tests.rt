@@ -170,7 +170,7 @@ fn reads_command_lines(rt: HostRuntime) {
     };
     assert!(rt; runs(alloc, &["symfilt", "--limit=4294967295", "--brief"]) == (most, false));
     assert!(rt; runs(alloc, &["symfilt", "--limit", "4294967296"]) == (Run::Done(2), true));
-    assert!(rt; runs(alloc, &["symfilt", "--press", "_Z1fv"]) == (Run::Done(2), true));
+    assert!(rt; runs(alloc, &["symfilt", "--press"]) == (Run::Done(2), true));
     assert!(rt; runs(alloc, &["symfilt", "--help"]) == (Run::Done(2), true));
 }
 
