@@ -2,37 +2,36 @@
 #![tactic(auto)]
 
 ghost use Rattle.std.specs.Prelude.{◌≡◌, ℕ, ◌+◌, ◌-◌, ◌*◌, ◌<◌, ◌≤◌, ◌^◌, ◌++◌, ◌∷◌, [], List, length, take, slice_get, codes, nat_le, true, false, if◌then◌else◌};
-ghost use Rattle.arrayvec.specs.ArrayVec.{array_vec_len};
+ghost use Rattle.sym_print.specs.Held.{Held};
 ghost use Rattle.sym_print.specs.Unshared.{Unshared, done};
 ghost use Rattle.sym_print.specs.Building.{◌then◌, ◌also◌, ◌perhaps◌};
 ghost use Rattle.rust_tree.specs.Symbol as tree;
 ghost use Rattle.rust_tree.specs.Nodes.{IsPath, IsArguments, IsType, IsTypes, IsBounds, IsBindings, IsConstant, IsSymbol, HasName, HasAbi, HasTypeParts, name_of, identifier_of, abi_of, type_of, path_in, arguments_in, type_in, types_in, bounds_in, bindings_in, constant_in, symbol_in, bytes_at, IsWithin};
 ghost use Rattle.rust_tree.specs.Shown.{path_parts, type_parts, arguments_from, types_from, bounds_from, bindings_from, bound_parts, constant_parts, lifetime_parts, symbol_parts, suffix_parts, argument_list, nested_name, reference_opening, dyn_lifetime, for_binder, signature_opening, returned_parts, closing_tuple, is_unit, basic_text};
-ghost use Rattle.rust_tree.specs.Layout.{ReadSymbol, trees_of, HasDepth, Shows, Fills, parts_in, lifetime_in, binder_in, signature_in, names_in, bound_in};
+ghost use Rattle.rust_tree.specs.Layout.{ReadSymbol, trees_of, HasDepth, Shows, parts_in, lifetime_in, binder_in, signature_in, names_in, bound_in};
 
 use crate::context::Context;
 use crate::form::Form;
 use crate::node::{Abi, Arguments, Bindings, Bounds, Constant, Name, Node, Path, Ty, Types};
 use crate::symbol::Symbol;
 use crate::texts;
-use arrayvec::ArrayVec;
 use sym_core::Span;
-use sym_print::{Detail, Part};
+use sym_print::{Detail, PartList};
 
 impl Symbol {
     /// Adds a name by its namespace.
     #[inline(always)]
-    pub(crate) fn push_nested(
+    pub(crate) fn push_nested<S: PartList<Context>>(
         &self,
-        parts: &mut ArrayVec<Part<Context>, 8>,
+        parts: &mut S,
         namespace: u8,
         name: Name,
         disambiguator: u64,
     )
-        requires { array_vec_len parts.old + 7 ≤ 8 }
-        ensures shows { (so_far : Unshared → Unshared) → Shows self.now parts.old.items so_far → HasName self.now.bytes self.now.table.text name
-            → Shows self.now parts.new.items (λ rest. so_far (nested_name (nat_le 97 namespace) namespace (identifier_of self.now.bytes name disambiguator) rest)) }
-        ensures len { array_vec_len parts.new ≤ array_vec_len parts.old + 7 }
+        requires { 7 ≤ S.room parts.old }
+        ensures shows { (below : Held Context) (so_far : Unshared) → Shows self.now below (S.held parts.old) so_far → HasName self.now.bytes self.now.table.text name
+            → Shows self.now below (S.held parts.new) (nested_name (nat_le 97 namespace) namespace (identifier_of self.now.bytes name disambiguator) so_far) }
+        ensures room { S.room parts.old ≤ S.room parts.new + 7 }
     {
         if namespace >= b'a' {
             self.push_name_behind(parts, texts::COLONS, name);
@@ -42,31 +41,32 @@ impl Symbol {
     }
 
     /// Adds the implementation of a trait by a type.
-    pub(crate) fn push_as(
+    pub(crate) fn push_as<S: PartList<Context>>(
         &self,
-        parts: &mut ArrayVec<Part<Context>, 8>,
+        parts: &mut S,
         self_type: u32,
         implemented: u32,
         ctx: Context,
     )
-        requires { array_vec_len parts.old + 5 ≤ 8 }
-        ensures shows { (so_far : Unshared → Unshared) → Shows self.now parts.old.items so_far → ((t : tree.Ty) × IsType (trees_of self.now) self_type t) → HasDepth Form.PlainPath self_type ctx.bound → ((p : tree.Path) × IsPath (trees_of self.now) implemented p) → HasDepth Form.PlainPath implemented ctx.bound
-            → Shows self.now parts.new.items (λ rest. so_far (codes "<" then type_parts ctx.detail ctx.bound (type_in (slice_get (trees_of self.now) self_type)) also codes " as " then path_parts ctx.detail ctx.bound false (path_in (slice_get (trees_of self.now) implemented)) also codes ">" then rest)) }
-        ensures len { array_vec_len parts.new ≤ array_vec_len parts.old + 5 }
+        requires { 5 ≤ S.room parts.old }
+        ensures shows { (below : Held Context) (so_far : Unshared) → Shows self.now below (S.held parts.old) so_far → ((t : tree.Ty) × IsType (trees_of self.now) self_type t) → HasDepth Form.PlainPath self_type ctx.bound → ((p : tree.Path) × IsPath (trees_of self.now) implemented p) → HasDepth Form.PlainPath implemented ctx.bound
+            → Shows self.now below (S.held parts.new) (codes "<" then type_parts ctx.detail ctx.bound (type_in (slice_get (trees_of self.now) self_type)) also codes " as " then path_parts ctx.detail ctx.bound false (path_in (slice_get (trees_of self.now) implemented)) also codes ">" then so_far) }
+        ensures room { S.room parts.old ≤ S.room parts.new + 5 }
     {
-        self.push_text(parts, texts::LESS);
-        self.push_item(parts, self_type, Form::Ty, 0, ctx);
-        self.push_text(parts, texts::AS);
-        self.push_path(parts, implemented, false, ctx);
         self.push_text(parts, texts::GREATER);
+        self.push_path(parts, implemented, false, ctx);
+        self.push_text(parts, texts::AS);
+        self.push_item(parts, self_type, Form::Ty, 0, ctx);
+        self.push_text(parts, texts::LESS);
     }
 
     /// Adds what stands before arguments.
-    pub(crate) fn push_less(&self, parts: &mut ArrayVec<Part<Context>, 8>, value: bool)
-        requires { array_vec_len parts.old + 1 ≤ 8 }
-        ensures shows { (so_far : Unshared → Unshared) → Shows self.now parts.old.items so_far
-            → Shows self.now parts.new.items (λ rest. so_far ((if value then codes "::<" else codes "<") then rest)) }
-        ensures len { array_vec_len parts.new ≤ array_vec_len parts.old + 1 }
+    #[inline(always)]
+    pub(crate) fn push_less<S: PartList<Context>>(&self, parts: &mut S, value: bool)
+        requires { 1 ≤ S.room parts.old }
+        ensures shows { (below : Held Context) (so_far : Unshared) → Shows self.now below (S.held parts.old) so_far
+            → Shows self.now below (S.held parts.new) ((if value then codes "::<" else codes "<") then so_far) }
+        ensures room { S.room parts.old ≤ S.room parts.new + 1 }
     {
         if value {
             self.push_text(parts, texts::COLONS_LESS);
@@ -76,24 +76,25 @@ impl Symbol {
     }
 
     /// Adds arguments, unless it is in brief.
-    pub(crate) fn push_argument_list(
+    #[inline(always)]
+    pub(crate) fn push_argument_list<S: PartList<Context>>(
         &self,
-        parts: &mut ArrayVec<Part<Context>, 8>,
+        parts: &mut S,
         arguments: u32,
         value: bool,
         ctx: Context,
     )
-        requires room { array_vec_len parts.old + 3 ≤ 8 }
+        requires room { 3 ≤ S.room parts.old }
         requires arguments { (a : tree.Arguments) × IsArguments (trees_of self.now) arguments a }
-        ensures shows { (so_far : Unshared → Unshared) → Shows self.now parts.old.items so_far → HasDepth Form.PlainPath arguments ctx.bound
-            → Shows self.now parts.new.items (λ rest. so_far (argument_list ctx.detail value (arguments_from ctx.detail ctx.bound [] (arguments_in (slice_get (trees_of self.now) arguments))) rest)) }
-        ensures len { array_vec_len parts.new ≤ array_vec_len parts.old + 3 }
+        ensures shows { (below : Held Context) (so_far : Unshared) → Shows self.now below (S.held parts.old) so_far → HasDepth Form.PlainPath arguments ctx.bound
+            → Shows self.now below (S.held parts.new) (argument_list ctx.detail value (arguments_from ctx.detail ctx.bound [] (arguments_in (slice_get (trees_of self.now) arguments))) so_far) }
+        ensures room { S.room parts.old ≤ S.room parts.new + 3 }
     {
         match ctx.detail {
             Detail::Full => {
-                self.push_less(parts, value);
-                self.push_arguments(parts, arguments, true, ctx);
                 self.push_text(parts, texts::GREATER);
+                self.push_arguments(parts, arguments, true, ctx);
+                self.push_less(parts, value);
             }
             Detail::Brief => {}
         }
@@ -101,24 +102,25 @@ impl Symbol {
 
     /// The parts of a path.
     #[inline(always)]
-    pub(crate) fn fill_path(
+    pub(crate) fn fill_path<S: PartList<Context>>(
         &self,
-        parts: &mut ArrayVec<Part<Context>, 8>,
+        parts: &mut S,
         node: u32,
         value: bool,
         ctx: Context,
     )
         requires path { (p : tree.Path) × IsPath (trees_of self.now) node p }
         requires depth { HasDepth Form.PlainPath node ctx.bound }
-        requires empty { parts.old.items ≡ [] }
-        ensures { Fills self.now parts.new.items (path_parts ctx.detail ctx.bound value (path_in (slice_get (trees_of self.now) node))) }
+        requires room { 8 ≤ S.room parts.old }
+        ensures shows { Shows self.now (S.held parts.old) (S.held parts.new) (path_parts ctx.detail ctx.bound value (path_in (slice_get (trees_of self.now) node))) }
+        ensures room { S.room parts.old ≤ S.room parts.new + 8 }
     {
         match *self.path(node) {
             Path::Crate { name, .. } => self.push_name(parts, name),
             Path::InherentImpl { self_type, .. } => {
-                self.push_text(parts, texts::LESS);
-                self.push_item(parts, self_type, Form::Ty, 0, ctx);
                 self.push_text(parts, texts::GREATER);
+                self.push_item(parts, self_type, Form::Ty, 0, ctx);
+                self.push_text(parts, texts::LESS);
             }
             Path::TraitImpl {
                 self_type,
@@ -135,107 +137,112 @@ impl Symbol {
                 name,
                 disambiguator,
             } => {
-                self.push_path(parts, parent, value, ctx);
                 self.push_nested(parts, namespace, name, disambiguator);
+                self.push_path(parts, parent, value, ctx);
             }
             Path::Generic { parent, arguments } => {
-                self.push_path(parts, parent, value, ctx);
                 self.push_argument_list(parts, arguments, value, ctx);
+                self.push_path(parts, parent, value, ctx);
             }
         }
     }
 
     /// The parts of arguments from one on.
-    pub(crate) fn fill_arguments(
+    #[inline(always)]
+    pub(crate) fn fill_arguments<S: PartList<Context>>(
         &self,
-        parts: &mut ArrayVec<Part<Context>, 8>,
+        parts: &mut S,
         node: u32,
         first: bool,
         ctx: Context,
     )
         requires arguments { (a : tree.Arguments) × IsArguments (trees_of self.now) node a }
         requires depth { HasDepth Form.PlainPath node ctx.bound }
-        requires empty { parts.old.items ≡ [] }
-        ensures { Fills self.now parts.new.items (parts_in (arguments_from ctx.detail ctx.bound (if first then [] else codes ", ") (arguments_in (slice_get (trees_of self.now) node)))) }
+        requires room { 8 ≤ S.room parts.old }
+        ensures shows { Shows self.now (S.held parts.old) (S.held parts.new) (parts_in (arguments_from ctx.detail ctx.bound (if first then [] else codes ", ") (arguments_in (slice_get (trees_of self.now) node)))) }
+        ensures room { S.room parts.old ≤ S.room parts.new + 8 }
     {
         match self.arguments(node) {
             Arguments::None => {}
             Arguments::Lifetime { rest, .. } => {
-                self.push_separator(parts, first, texts::COMMA);
-                self.push_item(parts, node, Form::Lifetime, 0, ctx);
                 self.push_arguments(parts, rest, false, ctx);
+                self.push_item(parts, node, Form::Lifetime, 0, ctx);
+                self.push_separator(parts, first, texts::COMMA);
             }
             Arguments::Constant { constant, rest } => {
-                self.push_separator(parts, first, texts::COMMA);
-                self.push_item(parts, constant, Form::Constant, 0, ctx);
                 self.push_arguments(parts, rest, false, ctx);
+                self.push_item(parts, constant, Form::Constant, 0, ctx);
+                self.push_separator(parts, first, texts::COMMA);
             }
             Arguments::Ty { argument, rest } => {
-                self.push_separator(parts, first, texts::COMMA);
-                self.push_item(parts, argument, Form::Ty, 0, ctx);
                 self.push_arguments(parts, rest, false, ctx);
+                self.push_item(parts, argument, Form::Ty, 0, ctx);
+                self.push_separator(parts, first, texts::COMMA);
             }
         }
     }
 
     /// The parts of types from one on.
-    pub(crate) fn fill_types(
+    pub(crate) fn fill_types<S: PartList<Context>>(
         &self,
-        parts: &mut ArrayVec<Part<Context>, 8>,
+        parts: &mut S,
         node: u32,
         first: bool,
         ctx: Context,
     )
         requires types { (ts : tree.Tys) × IsTypes (trees_of self.now) node ts }
         requires depth { HasDepth Form.PlainPath node ctx.bound }
-        requires empty { parts.old.items ≡ [] }
-        ensures { Fills self.now parts.new.items (parts_in (types_from ctx.detail ctx.bound (if first then [] else codes ", ") (types_in (slice_get (trees_of self.now) node)))) }
+        requires room { 8 ≤ S.room parts.old }
+        ensures shows { Shows self.now (S.held parts.old) (S.held parts.new) (parts_in (types_from ctx.detail ctx.bound (if first then [] else codes ", ") (types_in (slice_get (trees_of self.now) node)))) }
+        ensures room { S.room parts.old ≤ S.room parts.new + 8 }
     {
         match self.types(node) {
             Types::None => {}
             Types::More { first: ty, rest } => {
-                self.push_separator(parts, first, texts::COMMA);
-                self.push_item(parts, ty, Form::Ty, 0, ctx);
                 self.push_types(parts, rest, false, ctx);
+                self.push_item(parts, ty, Form::Ty, 0, ctx);
+                self.push_separator(parts, first, texts::COMMA);
             }
         }
     }
 
     /// The parts of bounds from one on.
-    pub(crate) fn fill_bounds(
+    pub(crate) fn fill_bounds<S: PartList<Context>>(
         &self,
-        parts: &mut ArrayVec<Part<Context>, 8>,
+        parts: &mut S,
         node: u32,
         first: bool,
         ctx: Context,
     )
         requires bounds { (bs : tree.Bounds) × IsBounds (trees_of self.now) node bs }
         requires depth { HasDepth Form.PlainPath node ctx.bound }
-        requires empty { parts.old.items ≡ [] }
-        ensures { Fills self.now parts.new.items (parts_in (bounds_from ctx.detail ctx.bound (if first then [] else codes " + ") (bounds_in (slice_get (trees_of self.now) node)))) }
+        requires room { 8 ≤ S.room parts.old }
+        ensures shows { Shows self.now (S.held parts.old) (S.held parts.new) (parts_in (bounds_from ctx.detail ctx.bound (if first then [] else codes " + ") (bounds_in (slice_get (trees_of self.now) node)))) }
+        ensures room { S.room parts.old ≤ S.room parts.new + 8 }
     {
         match self.bounds(node) {
             Bounds::None => {}
             Bounds::More { rest, .. } => {
-                self.push_separator(parts, first, texts::PLUS);
-                self.push_item(parts, node, Form::Bound, 0, ctx);
                 self.push_bounds(parts, rest, false, ctx);
+                self.push_item(parts, node, Form::Bound, 0, ctx);
+                self.push_separator(parts, first, texts::PLUS);
             }
         }
     }
 
     /// The parts of bindings from one on.
-    pub(crate) fn fill_bindings(
+    pub(crate) fn fill_bindings<S: PartList<Context>>(
         &self,
-        parts: &mut ArrayVec<Part<Context>, 8>,
+        parts: &mut S,
         node: u32,
         first: bool,
         ctx: Context,
     )
         requires bindings { (b : tree.Bindings) × IsBindings (trees_of self.now) node b }
         requires depth { HasDepth Form.PlainPath node ctx.bound }
-        requires empty { parts.old.items ≡ [] }
-        ensures { Fills self.now parts.new.items (parts_in (bindings_from ctx.detail ctx.bound (if first then [] else codes ", ") (bindings_in (slice_get (trees_of self.now) node)))) }
+        requires room { 8 ≤ S.room parts.old }
+        ensures shows { Shows self.now (S.held parts.old) (S.held parts.new) (parts_in (bindings_from ctx.detail ctx.bound (if first then [] else codes ", ") (bindings_in (slice_get (trees_of self.now) node)))) }
+        ensures room { S.room parts.old ≤ S.room parts.new + 8 }
     {
         match self.bindings(node) {
             Bindings::None => {}
@@ -244,26 +251,27 @@ impl Symbol {
                 bound_type,
                 rest,
             } => {
-                self.push_separator(parts, first, texts::COMMA);
-                self.push_name(parts, name);
-                self.push_text(parts, texts::EQUALS);
-                self.push_item(parts, bound_type, Form::Ty, 0, ctx);
                 self.push_bindings(parts, rest, false, ctx);
+                self.push_item(parts, bound_type, Form::Ty, 0, ctx);
+                self.push_text(parts, texts::EQUALS);
+                self.push_name(parts, name);
+                self.push_separator(parts, first, texts::COMMA);
             }
         }
     }
 
     /// The parts of a lifetime argument.
-    pub(crate) fn fill_lifetime(
+    pub(crate) fn fill_lifetime<S: PartList<Context>>(
         &self,
-        parts: &mut ArrayVec<Part<Context>, 8>,
+        parts: &mut S,
         node: u32,
         ctx: Context,
     )
         requires arguments { (a : tree.Arguments) × IsArguments (trees_of self.now) node a }
         requires depth { HasDepth Form.PlainPath node ctx.bound }
-        requires empty { parts.old.items ≡ [] }
-        ensures { Fills self.now parts.new.items (lifetime_parts ctx.bound (lifetime_in (arguments_in (slice_get (trees_of self.now) node)))) }
+        requires room { 8 ≤ S.room parts.old }
+        ensures shows { Shows self.now (S.held parts.old) (S.held parts.new) (lifetime_parts ctx.bound (lifetime_in (arguments_in (slice_get (trees_of self.now) node)))) }
+        ensures room { S.room parts.old ≤ S.room parts.new + 8 }
     {
         match self.arguments(node) {
             Arguments::Lifetime { lifetime, .. } => self.push_lifetime(parts, ctx.bound, lifetime),
@@ -274,37 +282,38 @@ impl Symbol {
     }
 
     /// Adds a suffix, if there is one.
-    pub(crate) fn push_suffix(&self, parts: &mut ArrayVec<Part<Context>, 8>, suffix: Span)
-        requires { array_vec_len parts.old + 3 ≤ 8 }
-        ensures shows { (so_far : Unshared → Unshared) → Shows self.now parts.old.items so_far → IsWithin suffix self.now.bytes
-            → Shows self.now parts.new.items (λ rest. so_far (suffix_parts (bytes_at self.now.bytes suffix) rest)) }
-        ensures len { array_vec_len parts.new ≤ array_vec_len parts.old + 3 }
+    pub(crate) fn push_suffix<S: PartList<Context>>(&self, parts: &mut S, suffix: Span)
+        requires { 3 ≤ S.room parts.old }
+        ensures shows { (below : Held Context) (so_far : Unshared) → Shows self.now below (S.held parts.old) so_far → IsWithin suffix self.now.bytes
+            → Shows self.now below (S.held parts.new) (suffix_parts (bytes_at self.now.bytes suffix) so_far) }
+        ensures room { S.room parts.old ≤ S.room parts.new + 3 }
     {
         if suffix.from < suffix.to {
-            self.push_text(parts, texts::BLANK_LEFT);
-            self.push_bytes(parts, suffix);
             self.push_text(parts, texts::RIGHT);
+            self.push_bytes(parts, suffix);
+            self.push_text(parts, texts::BLANK_LEFT);
         }
     }
 
     /// The parts of a whole symbol.
-    pub(crate) fn fill_symbol(
+    pub(crate) fn fill_symbol<S: PartList<Context>>(
         &self,
-        parts: &mut ArrayVec<Part<Context>, 8>,
+        parts: &mut S,
         node: u32,
         ctx: Context,
     )
         requires symbol { (w : tree.Symbol) × IsSymbol (trees_of self.now) node w }
         requires depth { HasDepth Form.PlainPath node ctx.bound }
-        requires empty { parts.old.items ≡ [] }
-        ensures { Fills self.now parts.new.items (symbol_parts ctx.detail (symbol_in (slice_get (trees_of self.now) node))) }
+        requires room { 8 ≤ S.room parts.old }
+        ensures shows { Shows self.now (S.held parts.old) (S.held parts.new) (symbol_parts ctx.detail (symbol_in (slice_get (trees_of self.now) node))) }
+        ensures room { S.room parts.old ≤ S.room parts.new + 8 }
     {
         let whole = self.whole(node);
         let top = Context {
             bound: 0,
             detail: ctx.detail,
         };
-        self.push_path(parts, whole.path, true, top);
         self.push_suffix(parts, whole.suffix);
+        self.push_path(parts, whole.path, true, top);
     }
 }

@@ -2,28 +2,28 @@
 #![tactic(auto)]
 
 ghost use Rattle.std.specs.Prelude.{◌≡◌, ℕ, ◌+◌, ◌-◌, ◌*◌, ◌<◌, ◌≤◌, ◌^◌, ◌++◌, ◌∷◌, [], List, length, slice_get, codes, nat_le, decimal, if◌then◌else◌};
-ghost use Rattle.arrayvec.specs.ArrayVec.{array_vec_len};
+ghost use Rattle.sym_print.specs.Held.{Held};
 ghost use Rattle.sym_print.specs.Unshared.{Unshared, done};
 ghost use Rattle.sym_print.specs.Building.{◌then◌, ◌also◌, ◌perhaps◌};
 ghost use Rattle.rust_tree.specs.Symbol as tree;
 ghost use Rattle.rust_tree.specs.Nodes.{IsPath, IsArguments, IsType, IsTypes, IsBounds, IsBindings, IsConstant, IsSymbol, HasName, IsWithin, bytes_at, name_of, identifier_of, path_in, arguments_in, type_in, types_in, bounds_in, bindings_in, constant_in, symbol_in, most_bound};
 ghost use Rattle.rust_tree.specs.Shown.{path_parts, type_parts, arguments_from, types_from, bounds_from, bindings_from, bound_parts, constant_parts, lifetime_parts, lifetime_text, numbered_lifetime, name_text, name_behind, namespace_text, special_name, generic_parts};
 ghost use Rattle.rust_tree.specs.Texts.{fixed_text};
-ghost use Rattle.rust_tree.specs.Layout.{ReadSymbol, trees_of, shown, HasForm, HasDepth, Shows, Fills, any_arguments, any_types, any_bounds, any_bindings, item_if, is_empty};
+ghost use Rattle.rust_tree.specs.Layout.{ReadSymbol, trees_of, shown, HasForm, HasDepth, Shows, any_arguments, any_types, any_bounds, any_bindings, item_if, is_empty};
 
 use crate::context::Context;
 use crate::form::Form;
 use crate::node::{Abi, Arguments, Bindings, Bounds, Constant, Name, Node, Path, Ty, Types};
 use crate::symbol::Symbol;
 use crate::texts;
-use arrayvec::ArrayVec;
 use itoa::Buffer;
 use sym_core::Span;
-use sym_print::{Detail, Part};
+use sym_print::{Detail, PartList};
 
 impl Symbol {
     /// Whether the list has something.
     #[tactic(auto, unfolding(crate::specs::Nodes::arguments_of))]
+    #[inline(always)]
     pub(crate) fn any_arguments(&self, node: u32) -> bool
         requires { (a : tree.Arguments) × IsArguments (trees_of self.now) node a }
         ensures { result ≡ any_arguments (arguments_in (slice_get (trees_of self.now) node)) }
@@ -38,6 +38,7 @@ impl Symbol {
 
     /// Whether the list has something.
     #[tactic(auto, unfolding(crate::specs::Nodes::types_of))]
+    #[inline(always)]
     pub(crate) fn any_types(&self, node: u32) -> bool
         requires { (ts : tree.Tys) × IsTypes (trees_of self.now) node ts }
         ensures { result ≡ any_types (types_in (slice_get (trees_of self.now) node)) }
@@ -73,18 +74,19 @@ impl Symbol {
     }
 
     /// Adds an item, if it is to be added.
-    pub(crate) fn push_item_if(
+    #[inline(always)]
+    pub(crate) fn push_item_if<S: PartList<Context>>(
         &self,
         any: bool,
-        parts: &mut ArrayVec<Part<Context>, 8>,
+        parts: &mut S,
         node: u32,
         form: Form,
         ctx: Context,
     )
-        requires { array_vec_len parts.old + 1 ≤ 8 }
-        ensures shows { (so_far : Unshared → Unshared) → Shows self.now parts.old.items so_far → HasForm (trees_of self.now) node form → HasDepth form node ctx.bound
-            → Shows self.now parts.new.items (λ rest. so_far (item_if any (shown form (slice_get (trees_of self.now) node) 0 ctx) rest)) }
-        ensures len { array_vec_len parts.new ≤ array_vec_len parts.old + 1 }
+        requires { 1 ≤ S.room parts.old }
+        ensures shows { (below : Held Context) (so_far : Unshared) → Shows self.now below (S.held parts.old) so_far → HasForm (trees_of self.now) node form → HasDepth form node ctx.bound
+            → Shows self.now below (S.held parts.new) (item_if any (shown form (slice_get (trees_of self.now) node) 0 ctx) so_far) }
+        ensures room { S.room parts.old ≤ S.room parts.new + 1 }
     {
         if any {
             self.push_item(parts, node, form, 0, ctx);
@@ -92,17 +94,18 @@ impl Symbol {
     }
 
     /// Adds a path in this style.
-    pub(crate) fn push_path(
+    #[inline(always)]
+    pub(crate) fn push_path<S: PartList<Context>>(
         &self,
-        parts: &mut ArrayVec<Part<Context>, 8>,
+        parts: &mut S,
         node: u32,
         value: bool,
         ctx: Context,
     )
-        requires { array_vec_len parts.old + 1 ≤ 8 }
-        ensures shows { (so_far : Unshared → Unshared) → Shows self.now parts.old.items so_far → ((p : tree.Path) × IsPath (trees_of self.now) node p) → HasDepth Form.PlainPath node ctx.bound
-            → Shows self.now parts.new.items (λ rest. so_far (path_parts ctx.detail ctx.bound value (path_in (slice_get (trees_of self.now) node)) also rest)) }
-        ensures len { array_vec_len parts.new ≤ array_vec_len parts.old + 1 }
+        requires { 1 ≤ S.room parts.old }
+        ensures shows { (below : Held Context) (so_far : Unshared) → Shows self.now below (S.held parts.old) so_far → ((p : tree.Path) × IsPath (trees_of self.now) node p) → HasDepth Form.PlainPath node ctx.bound
+            → Shows self.now below (S.held parts.new) (path_parts ctx.detail ctx.bound value (path_in (slice_get (trees_of self.now) node)) also so_far) }
+        ensures room { S.room parts.old ≤ S.room parts.new + 1 }
     {
         if value {
             self.push_item(parts, node, Form::ValuePath, 0, ctx);
@@ -112,18 +115,19 @@ impl Symbol {
     }
 
     /// Adds the list's item, if the list has something.
-    pub(crate) fn push_arguments(
+    #[inline(always)]
+    pub(crate) fn push_arguments<S: PartList<Context>>(
         &self,
-        parts: &mut ArrayVec<Part<Context>, 8>,
+        parts: &mut S,
         node: u32,
         first: bool,
         ctx: Context,
     )
-        requires room { array_vec_len parts.old + 1 ≤ 8 }
+        requires room { 1 ≤ S.room parts.old }
         requires arguments { (a : tree.Arguments) × IsArguments (trees_of self.now) node a }
-        ensures shows { (so_far : Unshared → Unshared) → Shows self.now parts.old.items so_far → HasDepth Form.PlainPath node ctx.bound
-            → Shows self.now parts.new.items (λ rest. so_far (arguments_from ctx.detail ctx.bound (if first then [] else codes ", ") (arguments_in (slice_get (trees_of self.now) node)) perhaps rest)) }
-        ensures len { array_vec_len parts.new ≤ array_vec_len parts.old + 1 }
+        ensures shows { (below : Held Context) (so_far : Unshared) → Shows self.now below (S.held parts.old) so_far → HasDepth Form.PlainPath node ctx.bound
+            → Shows self.now below (S.held parts.new) (arguments_from ctx.detail ctx.bound (if first then [] else codes ", ") (arguments_in (slice_get (trees_of self.now) node)) perhaps so_far) }
+        ensures room { S.room parts.old ≤ S.room parts.new + 1 }
     {
         let any = self.any_arguments(node);
         if first {
@@ -134,18 +138,19 @@ impl Symbol {
     }
 
     /// Adds the list's item, if the list has something.
-    pub(crate) fn push_types(
+    #[inline(always)]
+    pub(crate) fn push_types<S: PartList<Context>>(
         &self,
-        parts: &mut ArrayVec<Part<Context>, 8>,
+        parts: &mut S,
         node: u32,
         first: bool,
         ctx: Context,
     )
-        requires room { array_vec_len parts.old + 1 ≤ 8 }
+        requires room { 1 ≤ S.room parts.old }
         requires types { (ts : tree.Tys) × IsTypes (trees_of self.now) node ts }
-        ensures shows { (so_far : Unshared → Unshared) → Shows self.now parts.old.items so_far → HasDepth Form.PlainPath node ctx.bound
-            → Shows self.now parts.new.items (λ rest. so_far (types_from ctx.detail ctx.bound (if first then [] else codes ", ") (types_in (slice_get (trees_of self.now) node)) perhaps rest)) }
-        ensures len { array_vec_len parts.new ≤ array_vec_len parts.old + 1 }
+        ensures shows { (below : Held Context) (so_far : Unshared) → Shows self.now below (S.held parts.old) so_far → HasDepth Form.PlainPath node ctx.bound
+            → Shows self.now below (S.held parts.new) (types_from ctx.detail ctx.bound (if first then [] else codes ", ") (types_in (slice_get (trees_of self.now) node)) perhaps so_far) }
+        ensures room { S.room parts.old ≤ S.room parts.new + 1 }
     {
         let any = self.any_types(node);
         if first {
@@ -156,18 +161,18 @@ impl Symbol {
     }
 
     /// Adds the list's item, if the list has something.
-    pub(crate) fn push_bounds(
+    pub(crate) fn push_bounds<S: PartList<Context>>(
         &self,
-        parts: &mut ArrayVec<Part<Context>, 8>,
+        parts: &mut S,
         node: u32,
         first: bool,
         ctx: Context,
     )
-        requires room { array_vec_len parts.old + 1 ≤ 8 }
+        requires room { 1 ≤ S.room parts.old }
         requires bounds { (bs : tree.Bounds) × IsBounds (trees_of self.now) node bs }
-        ensures shows { (so_far : Unshared → Unshared) → Shows self.now parts.old.items so_far → HasDepth Form.PlainPath node ctx.bound
-            → Shows self.now parts.new.items (λ rest. so_far (bounds_from ctx.detail ctx.bound (if first then [] else codes " + ") (bounds_in (slice_get (trees_of self.now) node)) perhaps rest)) }
-        ensures len { array_vec_len parts.new ≤ array_vec_len parts.old + 1 }
+        ensures shows { (below : Held Context) (so_far : Unshared) → Shows self.now below (S.held parts.old) so_far → HasDepth Form.PlainPath node ctx.bound
+            → Shows self.now below (S.held parts.new) (bounds_from ctx.detail ctx.bound (if first then [] else codes " + ") (bounds_in (slice_get (trees_of self.now) node)) perhaps so_far) }
+        ensures room { S.room parts.old ≤ S.room parts.new + 1 }
     {
         let any = self.any_bounds(node);
         if first {
@@ -178,18 +183,18 @@ impl Symbol {
     }
 
     /// Adds the list's item, if the list has something.
-    pub(crate) fn push_bindings(
+    pub(crate) fn push_bindings<S: PartList<Context>>(
         &self,
-        parts: &mut ArrayVec<Part<Context>, 8>,
+        parts: &mut S,
         node: u32,
         first: bool,
         ctx: Context,
     )
-        requires room { array_vec_len parts.old + 1 ≤ 8 }
+        requires room { 1 ≤ S.room parts.old }
         requires bindings { (b : tree.Bindings) × IsBindings (trees_of self.now) node b }
-        ensures shows { (so_far : Unshared → Unshared) → Shows self.now parts.old.items so_far → HasDepth Form.PlainPath node ctx.bound
-            → Shows self.now parts.new.items (λ rest. so_far (bindings_from ctx.detail ctx.bound (if first then [] else codes ", ") (bindings_in (slice_get (trees_of self.now) node)) perhaps rest)) }
-        ensures len { array_vec_len parts.new ≤ array_vec_len parts.old + 1 }
+        ensures shows { (below : Held Context) (so_far : Unshared) → Shows self.now below (S.held parts.old) so_far → HasDepth Form.PlainPath node ctx.bound
+            → Shows self.now below (S.held parts.new) (bindings_from ctx.detail ctx.bound (if first then [] else codes ", ") (bindings_in (slice_get (trees_of self.now) node)) perhaps so_far) }
+        ensures room { S.room parts.old ≤ S.room parts.new + 1 }
     {
         let any = self.any_bindings(node);
         if first {
@@ -200,17 +205,18 @@ impl Symbol {
     }
 
     /// Adds a separator, unless it is the first of its list.
-    pub(crate) fn push_separator(
+    #[inline(always)]
+    pub(crate) fn push_separator<S: PartList<Context>>(
         &self,
-        parts: &mut ArrayVec<Part<Context>, 8>,
+        parts: &mut S,
         first: bool,
         number: u16,
     )
-        requires room { array_vec_len parts.old + 1 ≤ 8 }
+        requires room { 1 ≤ S.room parts.old }
         requires text { 0 < length (fixed_text number) }
-        ensures shows { (so_far : Unshared → Unshared) → Shows self.now parts.old.items so_far
-            → Shows self.now parts.new.items (λ rest. so_far ((if first then [] else fixed_text number) then rest)) }
-        ensures len { array_vec_len parts.new ≤ array_vec_len parts.old + 1 }
+        ensures shows { (below : Held Context) (so_far : Unshared) → Shows self.now below (S.held parts.old) so_far
+            → Shows self.now below (S.held parts.new) ((if first then [] else fixed_text number) then so_far) }
+        ensures room { S.room parts.old ≤ S.room parts.new + 1 }
     {
         if !first {
             self.push_text(parts, number);
@@ -218,11 +224,11 @@ impl Symbol {
     }
 
     /// Adds a decimal.
-    pub(crate) fn push_decimal(&self, parts: &mut ArrayVec<Part<Context>, 8>, number: u64)
-        requires { array_vec_len parts.old + 1 ≤ 8 }
-        ensures shows { (so_far : Unshared → Unshared) → Shows self.now parts.old.items so_far
-            → Shows self.now parts.new.items (λ rest. so_far (decimal number then rest)) }
-        ensures len { array_vec_len parts.new ≤ array_vec_len parts.old + 1 }
+    pub(crate) fn push_decimal<S: PartList<Context>>(&self, parts: &mut S, number: u64)
+        requires { 1 ≤ S.room parts.old }
+        ensures shows { (below : Held Context) (so_far : Unshared) → Shows self.now below (S.held parts.old) so_far
+            → Shows self.now below (S.held parts.new) (decimal number then so_far) }
+        ensures room { S.room parts.old ≤ S.room parts.new + 1 }
     {
         let mut buffer = Buffer::new();
         let digits = buffer.format(number);
@@ -230,11 +236,11 @@ impl Symbol {
     }
 
     /// Adds the name of a lifetime, the outermost bound one being number 0.
-    pub(crate) fn push_numbered(&self, parts: &mut ArrayVec<Part<Context>, 8>, number: u64)
-        requires { array_vec_len parts.old + 1 ≤ 8 }
-        ensures shows { (so_far : Unshared → Unshared) → Shows self.now parts.old.items so_far
-            → Shows self.now parts.new.items (λ rest. so_far (numbered_lifetime number then rest)) }
-        ensures len { array_vec_len parts.new ≤ array_vec_len parts.old + 1 }
+    pub(crate) fn push_numbered<S: PartList<Context>>(&self, parts: &mut S, number: u64)
+        requires { 1 ≤ S.room parts.old }
+        ensures shows { (below : Held Context) (so_far : Unshared) → Shows self.now below (S.held parts.old) so_far
+            → Shows self.now below (S.held parts.new) (numbered_lifetime number then so_far) }
+        ensures room { S.room parts.old ≤ S.room parts.new + 1 }
     {
         if number < 26 {
             self.push_own(parts, b"'", &[b'a' + number as u8], b"");
@@ -246,16 +252,16 @@ impl Symbol {
     }
 
     /// Adds a lifetime where so many are bound.
-    pub(crate) fn push_lifetime(
+    pub(crate) fn push_lifetime<S: PartList<Context>>(
         &self,
-        parts: &mut ArrayVec<Part<Context>, 8>,
+        parts: &mut S,
         bound: u64,
         lifetime: u64,
     )
-        requires { array_vec_len parts.old + 1 ≤ 8 }
-        ensures shows { (so_far : Unshared → Unshared) → Shows self.now parts.old.items so_far
-            → Shows self.now parts.new.items (λ rest. so_far (lifetime_text bound lifetime then rest)) }
-        ensures len { array_vec_len parts.new ≤ array_vec_len parts.old + 1 }
+        requires { 1 ≤ S.room parts.old }
+        ensures shows { (below : Held Context) (so_far : Unshared) → Shows self.now below (S.held parts.old) so_far
+            → Shows self.now below (S.held parts.new) (lifetime_text bound lifetime then so_far) }
+        ensures room { S.room parts.old ≤ S.room parts.new + 1 }
     {
         match lifetime {
             0 => self.push_own(parts, b"'_", b"", b""),
@@ -264,56 +270,58 @@ impl Symbol {
     }
 
     /// Adds a text and bytes of the symbol behind it, unless there are none of these.
-    pub(crate) fn push_bytes_behind(
+    #[inline(always)]
+    pub(crate) fn push_bytes_behind<S: PartList<Context>>(
         &self,
-        parts: &mut ArrayVec<Part<Context>, 8>,
+        parts: &mut S,
         number: u16,
         span: Span,
     )
-        requires room { array_vec_len parts.old + 2 ≤ 8 }
+        requires room { 2 ≤ S.room parts.old }
         requires text { 0 < length (fixed_text number) }
-        ensures shows { (so_far : Unshared → Unshared) → Shows self.now parts.old.items so_far → IsWithin span self.now.bytes
-            → Shows self.now parts.new.items (λ rest. so_far (name_behind (fixed_text number) (bytes_at self.now.bytes span) rest)) }
-        ensures len { array_vec_len parts.new ≤ array_vec_len parts.old + 2 }
+        ensures shows { (below : Held Context) (so_far : Unshared) → Shows self.now below (S.held parts.old) so_far → IsWithin span self.now.bytes
+            → Shows self.now below (S.held parts.new) (name_behind (fixed_text number) (bytes_at self.now.bytes span) so_far) }
+        ensures room { S.room parts.old ≤ S.room parts.new + 2 }
     {
         if !prints_nothing(span) {
-            self.push_text(parts, number);
             self.push_bytes(parts, span);
+            self.push_text(parts, number);
         }
     }
 
     /// Adds a text and bytes of the text list behind it, unless there are none of these.
-    pub(crate) fn push_printed_behind(
+    #[inline(always)]
+    pub(crate) fn push_printed_behind<S: PartList<Context>>(
         &self,
-        parts: &mut ArrayVec<Part<Context>, 8>,
+        parts: &mut S,
         number: u16,
         span: Span,
     )
-        requires room { array_vec_len parts.old + 2 ≤ 8 }
+        requires room { 2 ≤ S.room parts.old }
         requires text { 0 < length (fixed_text number) }
-        ensures shows { (so_far : Unshared → Unshared) → Shows self.now parts.old.items so_far → IsWithin span self.now.table.text
-            → Shows self.now parts.new.items (λ rest. so_far (name_behind (fixed_text number) (bytes_at self.now.table.text span) rest)) }
-        ensures len { array_vec_len parts.new ≤ array_vec_len parts.old + 2 }
+        ensures shows { (below : Held Context) (so_far : Unshared) → Shows self.now below (S.held parts.old) so_far → IsWithin span self.now.table.text
+            → Shows self.now below (S.held parts.new) (name_behind (fixed_text number) (bytes_at self.now.table.text span) so_far) }
+        ensures room { S.room parts.old ≤ S.room parts.new + 2 }
     {
         if !prints_nothing(span) {
-            self.push_text(parts, number);
             self.push_printed(parts, span);
+            self.push_text(parts, number);
         }
     }
 
     /// Adds a text and a name behind it, unless the name prints nothing.
     #[inline(always)]
-    pub(crate) fn push_name_behind(
+    pub(crate) fn push_name_behind<S: PartList<Context>>(
         &self,
-        parts: &mut ArrayVec<Part<Context>, 8>,
+        parts: &mut S,
         number: u16,
         name: Name,
     )
-        requires room { array_vec_len parts.old + 2 ≤ 8 }
+        requires room { 2 ≤ S.room parts.old }
         requires text { 0 < length (fixed_text number) }
-        ensures shows { (so_far : Unshared → Unshared) → Shows self.now parts.old.items so_far → HasName self.now.bytes self.now.table.text name
-            → Shows self.now parts.new.items (λ rest. so_far (name_behind (fixed_text number) (name_text (name_of self.now.bytes name)) rest)) }
-        ensures len { array_vec_len parts.new ≤ array_vec_len parts.old + 2 }
+        ensures shows { (below : Held Context) (so_far : Unshared) → Shows self.now below (S.held parts.old) so_far → HasName self.now.bytes self.now.table.text name
+            → Shows self.now below (S.held parts.new) (name_behind (fixed_text number) (name_text (name_of self.now.bytes name)) so_far) }
+        ensures room { S.room parts.old ≤ S.room parts.new + 2 }
     {
         match name.decoded {
             None => self.push_bytes_behind(parts, number, name.bytes),
@@ -322,11 +330,11 @@ impl Symbol {
     }
 
     /// Adds how a namespace is named.
-    pub(crate) fn push_namespace(&self, parts: &mut ArrayVec<Part<Context>, 8>, namespace: u8)
-        requires { array_vec_len parts.old + 1 ≤ 8 }
-        ensures shows { (so_far : Unshared → Unshared) → Shows self.now parts.old.items so_far
-            → Shows self.now parts.new.items (λ rest. so_far (namespace_text namespace then rest)) }
-        ensures len { array_vec_len parts.new ≤ array_vec_len parts.old + 1 }
+    pub(crate) fn push_namespace<S: PartList<Context>>(&self, parts: &mut S, namespace: u8)
+        requires { 1 ≤ S.room parts.old }
+        ensures shows { (below : Held Context) (so_far : Unshared) → Shows self.now below (S.held parts.old) so_far
+            → Shows self.now below (S.held parts.new) (namespace_text namespace then so_far) }
+        ensures room { S.room parts.old ≤ S.room parts.new + 1 }
     {
         match namespace {
             b'C' => self.push_text(parts, texts::CLOSURE),
@@ -337,24 +345,24 @@ impl Symbol {
 
     /// Adds a name in a namespace that is an upper-case letter.
     #[inline(never)]
-    pub(crate) fn push_special(
+    pub(crate) fn push_special<S: PartList<Context>>(
         &self,
-        parts: &mut ArrayVec<Part<Context>, 8>,
+        parts: &mut S,
         namespace: u8,
         name: Name,
         disambiguator: u64,
     )
-        requires { array_vec_len parts.old + 7 ≤ 8 }
-        ensures shows { (so_far : Unshared → Unshared) → Shows self.now parts.old.items so_far → HasName self.now.bytes self.now.table.text name
-            → Shows self.now parts.new.items (λ rest. so_far (special_name namespace (identifier_of self.now.bytes name disambiguator) rest)) }
-        ensures len { array_vec_len parts.new ≤ array_vec_len parts.old + 7 }
+        requires { 7 ≤ S.room parts.old }
+        ensures shows { (below : Held Context) (so_far : Unshared) → Shows self.now below (S.held parts.old) so_far → HasName self.now.bytes self.now.table.text name
+            → Shows self.now below (S.held parts.new) (special_name namespace (identifier_of self.now.bytes name disambiguator) so_far) }
+        ensures room { S.room parts.old ≤ S.room parts.new + 7 }
     {
-        self.push_text(parts, texts::COLONS_BRACE);
-        self.push_namespace(parts, namespace);
-        self.push_name_behind(parts, texts::COLON, name);
-        self.push_text(parts, texts::NUMBER_SIGN);
-        self.push_decimal(parts, disambiguator);
         self.push_text(parts, texts::RIGHT_BRACE);
+        self.push_decimal(parts, disambiguator);
+        self.push_text(parts, texts::NUMBER_SIGN);
+        self.push_name_behind(parts, texts::COLON, name);
+        self.push_namespace(parts, namespace);
+        self.push_text(parts, texts::COLONS_BRACE);
     }
 }
 

@@ -2,7 +2,7 @@
 #![tactic(auto)]
 
 ghost use Rattle.std.specs.Prelude.{◌≡◌, ℕ, ◌+◌, ◌<◌, ◌≤◌, ◌++◌, ◌∷◌, [], List, length, take, codes, decimal, slice_get};
-ghost use Rattle.arrayvec.specs.ArrayVec.{array_vec_len};
+ghost use Rattle.sym_print.specs.Held.{Held};
 ghost use Rattle.sym_print.specs.Unshared.{Unshared};
 ghost use Rattle.sym_print.specs.Building.{◌then◌, ◌also◌};
 ghost use Rattle.rust_tree.specs.Nodes.{HasName, name_of, bytes_at, IsWithin};
@@ -15,10 +15,9 @@ use crate::form::Form;
 use crate::node::Name;
 use crate::symbol::Symbol;
 use crate::texts;
-use arrayvec::ArrayVec;
 use itoa::Buffer;
 use sym_core::Span;
-use sym_print::{Item, Part};
+use sym_print::{Item, Part, PartList};
 
 /// Writes a text at a place, and answers the place behind it.
 fn put(bytes: &mut [u8; 24], at: usize, text: &[u8]) -> usize
@@ -45,21 +44,22 @@ pub(crate) fn own(front: &[u8], text: &[u8], back: &[u8]) -> Part<Context>
 
 impl Symbol {
     /// Adds an item.
-    pub(crate) fn push_item(
+    #[inline(always)]
+    pub(crate) fn push_item<S: PartList<Context>>(
         &self,
-        parts: &mut ArrayVec<Part<Context>, 8>,
+        parts: &mut S,
         node: u32,
         form: Form,
         at: u32,
         ctx: Context,
     )
-        requires { array_vec_len parts.old < 8 }
-        ensures shows { (so_far : Unshared → Unshared) → Shows self.now parts.old.items so_far
+        requires { 0 < S.room parts.old }
+        ensures shows { (below : Held Context) (so_far : Unshared) → Shows self.now below (S.held parts.old) so_far
             → HasForm (trees_of self.now) node form → HasDepth form node ctx.bound
-            → Shows self.now parts.new.items (λ rest. so_far (shown form (slice_get (trees_of self.now) node) at ctx also rest)) }
-        ensures len { array_vec_len parts.new ≡ array_vec_len parts.old + 1 }
+            → Shows self.now below (S.held parts.new) (shown form (slice_get (trees_of self.now) node) at ctx also so_far) }
+        ensures room { S.room parts.new + 1 ≡ S.room parts.old }
     {
-        parts.push(Part::Sub(Item {
+        parts.push_part(Part::Sub(Item {
             node,
             form: form.number(),
             at,
@@ -68,48 +68,51 @@ impl Symbol {
     }
 
     /// Adds a fixed text.
-    pub(crate) fn push_text(&self, parts: &mut ArrayVec<Part<Context>, 8>, number: u16)
-        requires room { array_vec_len parts.old < 8 }
+    #[inline(always)]
+    pub(crate) fn push_text<S: PartList<Context>>(&self, parts: &mut S, number: u16)
+        requires room { 0 < S.room parts.old }
         requires text { 0 < length (fixed_text number) }
-        ensures shows { (so_far : Unshared → Unshared) → Shows self.now parts.old.items so_far
-            → Shows self.now parts.new.items (λ rest. so_far (fixed_text number then rest)) }
-        ensures len { array_vec_len parts.new ≡ array_vec_len parts.old + 1 }
+        ensures shows { (below : Held Context) (so_far : Unshared) → Shows self.now below (S.held parts.old) so_far
+            → Shows self.now below (S.held parts.new) (fixed_text number then so_far) }
+        ensures room { S.room parts.new + 1 ≡ S.room parts.old }
     {
-        parts.push(Part::Fixed(number));
+        parts.push_part(Part::Fixed(number));
     }
 
     /// Adds bytes of the symbol, if there are any.
-    pub(crate) fn push_bytes(&self, parts: &mut ArrayVec<Part<Context>, 8>, span: Span)
-        requires { array_vec_len parts.old < 8 }
-        ensures shows { (so_far : Unshared → Unshared) → Shows self.now parts.old.items so_far → IsWithin span self.now.bytes
-            → Shows self.now parts.new.items (λ rest. so_far (bytes_at self.now.bytes span then rest)) }
-        ensures len { array_vec_len parts.new ≤ array_vec_len parts.old + 1 }
+    #[inline(always)]
+    pub(crate) fn push_bytes<S: PartList<Context>>(&self, parts: &mut S, span: Span)
+        requires { 0 < S.room parts.old }
+        ensures shows { (below : Held Context) (so_far : Unshared) → Shows self.now below (S.held parts.old) so_far → IsWithin span self.now.bytes
+            → Shows self.now below (S.held parts.new) (bytes_at self.now.bytes span then so_far) }
+        ensures room { S.room parts.old ≤ S.room parts.new + 1 }
     {
         if span.from < span.to {
-            parts.push(Part::Symbol(span));
+            parts.push_part(Part::Symbol(span));
         }
     }
 
     /// Adds bytes of the text list, if there are any.
-    pub(crate) fn push_printed(&self, parts: &mut ArrayVec<Part<Context>, 8>, span: Span)
-        requires { array_vec_len parts.old < 8 }
-        ensures shows { (so_far : Unshared → Unshared) → Shows self.now parts.old.items so_far → IsWithin span self.now.table.text
-            → Shows self.now parts.new.items (λ rest. so_far (bytes_at self.now.table.text span then rest)) }
-        ensures len { array_vec_len parts.new ≤ array_vec_len parts.old + 1 }
+    #[inline(always)]
+    pub(crate) fn push_printed<S: PartList<Context>>(&self, parts: &mut S, span: Span)
+        requires { 0 < S.room parts.old }
+        ensures shows { (below : Held Context) (so_far : Unshared) → Shows self.now below (S.held parts.old) so_far → IsWithin span self.now.table.text
+            → Shows self.now below (S.held parts.new) (bytes_at self.now.table.text span then so_far) }
+        ensures room { S.room parts.old ≤ S.room parts.new + 1 }
     {
         if span.from < span.to {
-            parts.push(Part::List(span));
+            parts.push_part(Part::List(span));
         }
     }
 
     /// Adds what a name prints, if that is something.
     #[inline(always)]
-    pub(crate) fn push_name(&self, parts: &mut ArrayVec<Part<Context>, 8>, name: Name)
-        requires { array_vec_len parts.old < 8 }
-        ensures shows { (so_far : Unshared → Unshared) → Shows self.now parts.old.items so_far
+    pub(crate) fn push_name<S: PartList<Context>>(&self, parts: &mut S, name: Name)
+        requires { 0 < S.room parts.old }
+        ensures shows { (below : Held Context) (so_far : Unshared) → Shows self.now below (S.held parts.old) so_far
             → HasName self.now.bytes self.now.table.text name
-            → Shows self.now parts.new.items (λ rest. so_far (name_text (name_of self.now.bytes name) then rest)) }
-        ensures len { array_vec_len parts.new ≤ array_vec_len parts.old + 1 }
+            → Shows self.now below (S.held parts.new) (name_text (name_of self.now.bytes name) then so_far) }
+        ensures room { S.room parts.old ≤ S.room parts.new + 1 }
     {
         match name.decoded {
             None => self.push_bytes(parts, name.bytes),
@@ -118,20 +121,20 @@ impl Symbol {
     }
 
     /// Adds bytes of the part's own.
-    pub(crate) fn push_own(
+    pub(crate) fn push_own<S: PartList<Context>>(
         &self,
-        parts: &mut ArrayVec<Part<Context>, 8>,
+        parts: &mut S,
         front: &[u8],
         text: &[u8],
         back: &[u8],
     )
-        requires room { array_vec_len parts.old < 8 }
+        requires room { 0 < S.room parts.old }
         requires few { length front.now + (length text.now + length back.now) ≤ 24 }
         requires some { 0 < length front.now + (length text.now + length back.now) }
-        ensures shows { (so_far : Unshared → Unshared) → Shows self.now parts.old.items so_far
-            → Shows self.now parts.new.items (λ rest. so_far ((front.now ++ (text.now ++ back.now)) then rest)) }
-        ensures len { array_vec_len parts.new ≡ array_vec_len parts.old + 1 }
+        ensures shows { (below : Held Context) (so_far : Unshared) → Shows self.now below (S.held parts.old) so_far
+            → Shows self.now below (S.held parts.new) ((front.now ++ (text.now ++ back.now)) then so_far) }
+        ensures room { S.room parts.new + 1 ≡ S.room parts.old }
     {
-        parts.push(own(front, text, back));
+        parts.push_part(own(front, text, back));
     }
 }

@@ -1,14 +1,15 @@
 // A symbol as a layout, and its text.
 #![tactic(auto)]
 
-ghost use Rattle.std.specs.Prelude.{◌≡◌, ℕ, ◌+◌, ◌<◌, ◌≤◌, [], List, length, IfOk, IfErr, OnOk, OnErr, ◌⊎◌, Err};
+ghost use Rattle.std.specs.Prelude.{◌≡◌, ℕ, ◌+◌, ◌<◌, ◌≤◌, [], List, length, vec_len, vec_capacity, IfOk, IfErr, OnOk, OnErr, ◌⊎◌, Err};
 ghost use Rattle.std.specs.List.{All};
 ghost use Rattle.sym_core.specs.declared.Refusal.{Refusal};
 ghost use Rattle.sym_print.specs.declared.layout.Part.{Part};
 ghost use Rattle.sym_print.specs.declared.detail.Detail.{Detail};
 ghost use Rattle.sym_print.specs.Unshared.{text_of, cost_of};
 ghost use Rattle.sym_print.specs.Joined.{joined};
-ghost use Rattle.rust_tree.specs.Layout.{unshared_of, bytes_of_part, MayCome, shown_symbol};
+ghost use Rattle.sym_print.specs.Stacked.{Stacked};
+ghost use Rattle.rust_tree.specs.Layout.{unshared_of, bytes_of_part, MayCome, Shows, shown_symbol};
 
 use crate::context::Context;
 use crate::form::Form;
@@ -16,7 +17,7 @@ use crate::symbol::Symbol;
 use crate::texts;
 use arrayvec::ArrayVec;
 use sym_core::Refusal;
-use sym_print::{Detail, Item, Layout, Part, print};
+use sym_print::{Detail, Item, Layout, Part, PartList, print};
 
 impl Layout for Symbol {
     ghost use Rattle.std.proofs.Common.{lit≤};
@@ -35,6 +36,44 @@ impl Layout for Symbol {
         requires empty { parts.old.items ≡ [] }
         ensures parts { unshared_of self.now item ≡ joined (unshared_of self.now) (bytes_of_part self.now) parts.new.items }
         ensures may_come { All (MayCome self.now) parts.new.items }
+    {
+        self.add_parts(parts, item);
+        parts.as_mut_slice().reverse();
+    }
+
+    #[inline(always)]
+    fn push_parts(&self, item: Item<Context>, stack: &mut Vec<Part<Context>>)
+        requires may_come { MayCome self.now (Part.Sub item) }
+        requires room { vec_len stack.old + 8 ≤ vec_capacity stack.old }
+        ensures parts { Stacked (unshared_of self.now) (bytes_of_part self.now) (MayCome self.now) stack.old.items stack.new.items (unshared_of self.now item) }
+        ensures few { vec_len stack.new ≤ vec_len stack.old + 8 }
+        ensures capacity { vec_capacity stack.new ≡ vec_capacity stack.old }
+    {
+        self.add_parts(stack, item);
+    }
+
+    #[inline(always)]
+    fn bytes<'a>(&'a self, part: &'a Part<Context>) -> &'a [u8] {
+        match part {
+            Part::Symbol(span) => self.bytes_of(*span),
+            Part::List(span) => self.printed_bytes(*span),
+            Part::Fixed(number) => texts::fixed_text(*number),
+            Part::Own(bytes, count) => &bytes[..*count as usize],
+            Part::Sub(_) => b"",
+        }
+    }
+
+    ghost small_context = { (lit≤ tt, lit≤ tt) };
+}
+
+impl Symbol {
+    /// Adds the parts of an item, the first last.
+    #[inline(always)]
+    fn add_parts<S: PartList<Context>>(&self, parts: &mut S, item: Item<Context>)
+        requires may_come { MayCome self.now (Part.Sub item) }
+        requires room { 8 ≤ S.room parts.old }
+        ensures shows { Shows self.now (S.held parts.old) (S.held parts.new) (unshared_of self.now item) }
+        ensures room { S.room parts.old ≤ S.room parts.new + 8 }
     {
         let node = item.node;
         let ctx = item.ctx;
@@ -59,21 +98,6 @@ impl Layout for Symbol {
         }
     }
 
-    #[inline(always)]
-    fn bytes<'a>(&'a self, part: &'a Part<Context>) -> &'a [u8] {
-        match part {
-            Part::Symbol(span) => self.bytes_of(*span),
-            Part::List(span) => self.printed_bytes(*span),
-            Part::Fixed(number) => texts::fixed_text(*number),
-            Part::Own(bytes, count) => &bytes[..*count as usize],
-            Part::Sub(_) => b"",
-        }
-    }
-
-    ghost small_context = { (lit≤ tt, lit≤ tt) };
-}
-
-impl Symbol {
     /// The item of the whole symbol, in full.
     pub fn root(&self) -> Item<Context>
         ensures may_come { MayCome self.now (Part.Sub result) }
