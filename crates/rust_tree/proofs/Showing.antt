@@ -16,7 +16,7 @@ use Rattle.rust_tree.specs.Nodes.{IsPath, IsArguments, IsType, IsTypes, IsBounds
 use Rattle.rust_tree.specs.Layout.{ReadSymbol, Shows, parts_in, any_arguments, any_types, any_bounds, any_bindings, item_if, is_empty, names_in}
 use Rattle.rust_tree.specs.Texts.{fixed_text, texts}
 use Rattle.std.proofs.lemmas.Option.{slice_get_past}
-use Rattle.rust_tree.proofs.Lists.{length-bytes_at}
+use Rattle.rust_tree.proofs.Pushing.{length-bytes_at}
 use Rattle.rust_tree.proofs.Trees.{got-early}
 
 pub changed : {below : Held Context} (y : ReadSymbol) (held : Held Context) (so_far other : Unshared) → so_far ≡ other → Shows y below held so_far → Shows y below held other

@@ -1,24 +1,23 @@
-// The parts of types, bounds and constants.
+// The parts of types.
 #![tactic(auto)]
 
-ghost use Rattle.std.specs.Prelude.{◌≡◌, ℕ, ◌+◌, ◌-◌, ◌*◌, ◌<◌, ◌≤◌, ◌^◌, ◌++◌, ◌∷◌, [], List, length, take, slice_get, codes, nat_le, true, false, if◌then◌else◌};
+ghost use Rattle.std.specs.Prelude.{◌≡◌, ℕ, ◌+◌, ◌-◌, ◌<◌, ◌≤◌, [], List, length, slice_get, codes, if◌then◌else◌, take, true, false};
 ghost use Rattle.sym_print.specs.Held.{Held};
-ghost use Rattle.sym_print.specs.Unshared.{Unshared, done};
+ghost use Rattle.sym_print.specs.Unshared.{Unshared};
 ghost use Rattle.sym_print.specs.Building.{◌then◌, ◌also◌, ◌perhaps◌};
 ghost use Rattle.rust_tree.specs.Symbol as tree;
-ghost use Rattle.rust_tree.specs.Nodes.{IsPath, IsArguments, IsType, IsTypes, IsBounds, IsBindings, IsConstant, IsSymbol, HasName, HasAbi, HasTypeParts, name_of, identifier_of, abi_of, type_of, path_in, arguments_in, type_in, types_in, bounds_in, bindings_in, constant_in, symbol_in, bytes_at, IsWithin, most_bound};
-ghost use Rattle.rust_tree.specs.Shown.{path_parts, type_parts, arguments_from, types_from, bounds_from, bindings_from, bound_parts, constant_parts, lifetime_parts, symbol_parts, suffix_parts, argument_list, nested_name, reference_opening, dyn_lifetime, for_binder, signature_opening, returned_parts, closing_tuple, is_unit, basic_text};
+ghost use Rattle.rust_tree.specs.Nodes.{IsType, IsTypes, IsBounds, IsConstant, type_in, types_in, bounds_in, constant_in, most_bound, HasAbi, HasTypeParts, abi_of, type_of};
+ghost use Rattle.rust_tree.specs.Shown.{type_parts, bounds_from, constant_parts, reference_opening, dyn_lifetime, for_binder, signature_opening, returned_parts, closing_tuple, is_unit, basic_text};
 ghost use Rattle.rust_tree.specs.Texts.{fixed_text};
+ghost use Rattle.rust_tree.specs.Layout.{trees_of, HasDepth, Shows, any_types, is_empty, binder_in, signature_in, names_in};
 ghost use Rattle.rust_tree.specs.Tree.{Tree, of_type};
-ghost use Rattle.rust_tree.specs.Layout.{ReadSymbol, trees_of, HasDepth, Shows, parts_in, lifetime_in, binder_in, signature_in, names_in, bound_in};
 
 use crate::context::Context;
 use crate::form::Form;
-use crate::node::{Abi, Arguments, Bindings, Bounds, Constant, Name, Node, Path, Ty, Types};
+use crate::node::{Abi, Constant, Node, Path, Ty, Types};
 use crate::symbol::Symbol;
 use crate::texts;
-use sym_core::Span;
-use sym_print::{Detail, PartList};
+use sym_print::PartList;
 
 impl Symbol {
     /// Adds the text of a basic type, if the letter is that of one.

@@ -1,5 +1,5 @@
 use Rattle.std.proofs.Common.{ap, refl, if◌then◌else◌, [], codes}
-use Rattle.rust_tree.proofs.Lists.{starts, fills}
+use Rattle.rust_tree.proofs.Pushing.{starts, fills}
 use Rattle.rust_tree.proofs.Showing.{deeper, early-type, early-arguments, early-constant}
 use Rattle.rust_tree.specs.Nodes.{arguments_in, arguments_of}
 use Rattle.rust_tree.specs.Shown.{arguments_from}

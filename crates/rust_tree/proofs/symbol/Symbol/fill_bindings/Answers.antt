@@ -1,5 +1,5 @@
 use Rattle.std.proofs.Common.{ap, if◌then◌else◌, [], codes}
-use Rattle.rust_tree.proofs.Lists.{starts, fills}
+use Rattle.rust_tree.proofs.Pushing.{starts, fills}
 use Rattle.rust_tree.proofs.Showing.{deeper, early-type, early-bindings}
 use Rattle.rust_tree.specs.Nodes.{bindings_in, bindings_of}
 use Rattle.rust_tree.specs.Shown.{bindings_from}

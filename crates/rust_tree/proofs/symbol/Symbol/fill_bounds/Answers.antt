@@ -1,5 +1,5 @@
 use Rattle.std.proofs.Common.{ap, if◌then◌else◌, [], codes}
-use Rattle.rust_tree.proofs.Lists.{starts, fills}
+use Rattle.rust_tree.proofs.Pushing.{starts, fills}
 use Rattle.rust_tree.proofs.Showing.{deeper, early-bounds, bounds-more}
 use Rattle.rust_tree.specs.Nodes.{bounds_in, bounds_of}
 use Rattle.rust_tree.specs.Shown.{bounds_from}

@@ -1,5 +1,5 @@
 use Rattle.std.proofs.Common.{ap, ◌∙◌, sym}
-use Rattle.rust_tree.proofs.Lists.{starts, fills}
+use Rattle.rust_tree.proofs.Pushing.{starts, fills}
 use Rattle.rust_tree.proofs.Showing.{boolean-shown, integer-shown}
 use Rattle.rust_tree.specs.Shown.{constant_parts}
 use Rattle.rust_tree.specs.Nodes.{constant_in, constant_of}

@@ -1,5 +1,5 @@
 use Rattle.std.proofs.Common.{slice_get}
-use Rattle.rust_tree.proofs.Lists.{starts, fills}
+use Rattle.rust_tree.proofs.Pushing.{starts, fills}
 use Rattle.rust_tree.proofs.Showing.{deeper, early-path, early-arguments, generic-bound, plain-bound}
 use Rattle.rust_tree.specs.Nodes.{bindings_in, path_of}
 use Rattle.rust_tree.specs.Layout.{trees_of}

@@ -1,5 +1,5 @@
 use Rattle.std.proofs.Common.{ap}
-use Rattle.rust_tree.proofs.Lists.{starts, fills}
+use Rattle.rust_tree.proofs.Pushing.{starts, fills}
 use Rattle.rust_tree.specs.Nodes.{arguments_in, arguments_of}
 use Rattle.rust_tree.specs.Shown.{lifetime_parts}
 use Rattle.rust_tree.specs.Layout.{lifetime_in}

@@ -1,5 +1,5 @@
 use Rattle.std.proofs.Common.{slice_get}
-use Rattle.rust_tree.proofs.Lists.{starts, fills}
+use Rattle.rust_tree.proofs.Pushing.{starts, fills}
 use Rattle.rust_tree.proofs.Showing.{names-none, names-last, names-more}
 use Rattle.rust_tree.specs.Nodes.{type_in}
 use Rattle.rust_tree.specs.Layout.{trees_of, binder_in}

@@ -1,5 +1,5 @@
 use Rattle.std.proofs.Common.{ap}
-use Rattle.rust_tree.proofs.Lists.{starts, fills}
+use Rattle.rust_tree.proofs.Pushing.{starts, fills}
 use Rattle.rust_tree.proofs.Showing.{deeper, early-path, early-type, early-arguments}
 use Rattle.rust_tree.specs.Nodes.{path_in, path_of}
 use Rattle.rust_tree.specs.Shown.{path_parts}

@@ -1,5 +1,5 @@
 use Rattle.std.proofs.Common.{refl}
-use Rattle.rust_tree.proofs.Lists.{starts, fills}
+use Rattle.rust_tree.proofs.Pushing.{starts, fills}
 use Rattle.rust_tree.proofs.Showing.{deeper-top, early-path}
 use Rattle.rust_tree.specs.Nodes.{symbol_of}
 use Rattle.rust_tree.specs.Shown.{symbol_parts}

@@ -1,5 +1,5 @@
 use Rattle.std.proofs.Common.{ap, subst, refl, take, inl}
-use Rattle.rust_tree.proofs.Lists.{starts, fills}
+use Rattle.rust_tree.proofs.Pushing.{starts, fills}
 use Rattle.rust_tree.proofs.Showing.{deeper, early-type, early-types, early-constant, early-bounds}
 use Rattle.rust_tree.specs.Nodes.{HasTypeParts, type_of}
 use Rattle.rust_tree.specs.Shown.{type_parts}

@@ -1,5 +1,5 @@
 use Rattle.std.proofs.Common.{ap, subst, take}
-use Rattle.rust_tree.proofs.Lists.{starts, fills}
+use Rattle.rust_tree.proofs.Pushing.{starts, fills}
 use Rattle.rust_tree.proofs.Showing.{in-signature, early-type, early-types}
 use Rattle.rust_tree.specs.Nodes.{HasTypeParts, type_of}
 use Rattle.rust_tree.specs.Layout.{trees_of, signature_in}

@@ -1,5 +1,5 @@
 use Rattle.std.proofs.Common.{rules}
-use Rattle.rust_tree.proofs.Lists.{symbol-pushed, bytes-skipped}
+use Rattle.rust_tree.proofs.Pushing.{symbol-pushed, bytes-skipped}
 use Rattle.rust_tree.proofs.symbol.Symbol.push_bytes.Goals as goal
 
 pub returns-then-span-clause-shows : goal.returns-then-span-clause-shows

@@ -1,4 +1,4 @@
-use Rattle.rust_tree.proofs.Lists.{item-pushed}
+use Rattle.rust_tree.proofs.Pushing.{item-pushed}
 use Rattle.rust_tree.proofs.symbol.Symbol.push_item.Goals as goal
 
 pub returns-clause-shows : goal.returns-clause-shows

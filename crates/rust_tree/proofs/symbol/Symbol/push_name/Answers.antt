@@ -1,5 +1,5 @@
 use Rattle.std.proofs.Common.{sym}
-use Rattle.rust_tree.proofs.Lists.{name-plain, name-decoded}
+use Rattle.rust_tree.proofs.Pushing.{name-plain, name-decoded}
 use Rattle.rust_tree.proofs.Showing.{text-changed}
 use Rattle.rust_tree.proofs.symbol.Symbol.push_name.Goals as goal
 

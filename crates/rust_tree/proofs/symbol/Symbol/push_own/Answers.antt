@@ -1,5 +1,5 @@
 use Rattle.std.proofs.Common.{arith, length-append, ◌++◌}
-use Rattle.rust_tree.proofs.Lists.{own-pushed}
+use Rattle.rust_tree.proofs.Pushing.{own-pushed}
 use Rattle.rust_tree.proofs.symbol.Symbol.push_own.Goals as goal
 
 pub returns-clause-shows : goal.returns-clause-shows

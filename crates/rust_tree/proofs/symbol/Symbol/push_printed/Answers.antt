@@ -1,5 +1,5 @@
 use Rattle.std.proofs.Common.{rules}
-use Rattle.rust_tree.proofs.Lists.{list-pushed, bytes-skipped}
+use Rattle.rust_tree.proofs.Pushing.{list-pushed, bytes-skipped}
 use Rattle.rust_tree.proofs.symbol.Symbol.push_printed.Goals as goal
 
 pub returns-then-span-clause-shows : goal.returns-then-span-clause-shows

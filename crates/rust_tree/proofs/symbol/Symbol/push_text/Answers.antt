@@ -1,4 +1,4 @@
-use Rattle.rust_tree.proofs.Lists.{fixed-pushed}
+use Rattle.rust_tree.proofs.Pushing.{fixed-pushed}
 use Rattle.rust_tree.proofs.symbol.Symbol.push_text.Goals as goal
 
 pub returns-clause-shows : goal.returns-clause-shows

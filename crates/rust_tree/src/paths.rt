@@ -1,24 +1,46 @@
-// The parts of items, sort by sort.
+// The parts of paths, and of the whole symbol.
 #![tactic(auto)]
 
-ghost use Rattle.std.specs.Prelude.{◌≡◌, ℕ, ◌+◌, ◌-◌, ◌*◌, ◌<◌, ◌≤◌, ◌^◌, ◌++◌, ◌∷◌, [], List, length, take, slice_get, codes, nat_le, true, false, if◌then◌else◌};
+ghost use Rattle.std.specs.Prelude.{◌+◌, ◌*◌, ◌<◌, ◌≤◌, [], slice_get, codes, nat_le, if◌then◌else◌, true, false};
 ghost use Rattle.sym_print.specs.Held.{Held};
-ghost use Rattle.sym_print.specs.Unshared.{Unshared, done};
-ghost use Rattle.sym_print.specs.Building.{◌then◌, ◌also◌, ◌perhaps◌};
+ghost use Rattle.sym_print.specs.Unshared.{Unshared};
+ghost use Rattle.sym_print.specs.Building.{◌then◌, ◌also◌};
 ghost use Rattle.rust_tree.specs.Symbol as tree;
-ghost use Rattle.rust_tree.specs.Nodes.{IsPath, IsArguments, IsType, IsTypes, IsBounds, IsBindings, IsConstant, IsSymbol, HasName, HasAbi, HasTypeParts, name_of, identifier_of, abi_of, type_of, path_in, arguments_in, type_in, types_in, bounds_in, bindings_in, constant_in, symbol_in, bytes_at, IsWithin};
-ghost use Rattle.rust_tree.specs.Shown.{path_parts, type_parts, arguments_from, types_from, bounds_from, bindings_from, bound_parts, constant_parts, lifetime_parts, symbol_parts, suffix_parts, argument_list, nested_name, reference_opening, dyn_lifetime, for_binder, signature_opening, returned_parts, closing_tuple, is_unit, basic_text};
-ghost use Rattle.rust_tree.specs.Layout.{ReadSymbol, trees_of, HasDepth, Shows, parts_in, lifetime_in, binder_in, signature_in, names_in, bound_in};
+ghost use Rattle.rust_tree.specs.Nodes.{IsPath, IsArguments, IsType, IsSymbol, HasName, IsWithin, bytes_at, identifier_of, path_in, arguments_in, type_in, symbol_in};
+ghost use Rattle.rust_tree.specs.Shown.{path_parts, type_parts, arguments_from, symbol_parts, suffix_parts, argument_list, nested_name};
+ghost use Rattle.rust_tree.specs.Layout.{trees_of, HasDepth, Shows};
+ghost use Rattle.sym_print.specs.declared.detail.Detail.{Detail};
 
 use crate::context::Context;
 use crate::form::Form;
-use crate::node::{Abi, Arguments, Bindings, Bounds, Constant, Name, Node, Path, Ty, Types};
+use crate::node::{Name, Path, Ty};
 use crate::symbol::Symbol;
 use crate::texts;
 use sym_core::Span;
 use sym_print::{Detail, PartList};
 
 impl Symbol {
+    /// Adds a path in this style.
+    #[inline(always)]
+    pub(crate) fn push_path<S: PartList<Context>>(
+        &self,
+        parts: &mut S,
+        node: u32,
+        value: bool,
+        ctx: Context,
+    )
+        requires { 1 ≤ S.room parts.old }
+        ensures shows { (below : Held Context) (so_far : Unshared) → Shows self.now below (S.held parts.old) so_far → ((p : tree.Path) × IsPath (trees_of self.now) node p) → HasDepth Form.PlainPath node ctx.bound
+            → Shows self.now below (S.held parts.new) (path_parts ctx.detail ctx.bound value (path_in (slice_get (trees_of self.now) node)) also so_far) }
+        ensures room { S.room parts.old ≤ S.room parts.new + 1 }
+    {
+        if value {
+            self.push_item(parts, node, Form::ValuePath, 0, ctx);
+        } else {
+            self.push_item(parts, node, Form::PlainPath, 0, ctx);
+        }
+    }
+
     /// Adds a name by its namespace.
     #[inline(always)]
     pub(crate) fn push_nested<S: PartList<Context>>(
@@ -144,140 +166,6 @@ impl Symbol {
                 self.push_argument_list(parts, arguments, value, ctx);
                 self.push_path(parts, parent, value, ctx);
             }
-        }
-    }
-
-    /// The parts of arguments from one on.
-    #[inline(always)]
-    pub(crate) fn fill_arguments<S: PartList<Context>>(
-        &self,
-        parts: &mut S,
-        node: u32,
-        first: bool,
-        ctx: Context,
-    )
-        requires arguments { (a : tree.Arguments) × IsArguments (trees_of self.now) node a }
-        requires depth { HasDepth Form.PlainPath node ctx.bound }
-        requires room { 8 ≤ S.room parts.old }
-        ensures shows { Shows self.now (S.held parts.old) (S.held parts.new) (parts_in (arguments_from ctx.detail ctx.bound (if first then [] else codes ", ") (arguments_in (slice_get (trees_of self.now) node)))) }
-        ensures room { S.room parts.old ≤ S.room parts.new + 8 }
-    {
-        match self.arguments(node) {
-            Arguments::None => {}
-            Arguments::Lifetime { rest, .. } => {
-                self.push_arguments(parts, rest, false, ctx);
-                self.push_item(parts, node, Form::Lifetime, 0, ctx);
-                self.push_separator(parts, first, texts::COMMA);
-            }
-            Arguments::Constant { constant, rest } => {
-                self.push_arguments(parts, rest, false, ctx);
-                self.push_item(parts, constant, Form::Constant, 0, ctx);
-                self.push_separator(parts, first, texts::COMMA);
-            }
-            Arguments::Ty { argument, rest } => {
-                self.push_arguments(parts, rest, false, ctx);
-                self.push_item(parts, argument, Form::Ty, 0, ctx);
-                self.push_separator(parts, first, texts::COMMA);
-            }
-        }
-    }
-
-    /// The parts of types from one on.
-    pub(crate) fn fill_types<S: PartList<Context>>(
-        &self,
-        parts: &mut S,
-        node: u32,
-        first: bool,
-        ctx: Context,
-    )
-        requires types { (ts : tree.Tys) × IsTypes (trees_of self.now) node ts }
-        requires depth { HasDepth Form.PlainPath node ctx.bound }
-        requires room { 8 ≤ S.room parts.old }
-        ensures shows { Shows self.now (S.held parts.old) (S.held parts.new) (parts_in (types_from ctx.detail ctx.bound (if first then [] else codes ", ") (types_in (slice_get (trees_of self.now) node)))) }
-        ensures room { S.room parts.old ≤ S.room parts.new + 8 }
-    {
-        match self.types(node) {
-            Types::None => {}
-            Types::More { first: ty, rest } => {
-                self.push_types(parts, rest, false, ctx);
-                self.push_item(parts, ty, Form::Ty, 0, ctx);
-                self.push_separator(parts, first, texts::COMMA);
-            }
-        }
-    }
-
-    /// The parts of bounds from one on.
-    pub(crate) fn fill_bounds<S: PartList<Context>>(
-        &self,
-        parts: &mut S,
-        node: u32,
-        first: bool,
-        ctx: Context,
-    )
-        requires bounds { (bs : tree.Bounds) × IsBounds (trees_of self.now) node bs }
-        requires depth { HasDepth Form.PlainPath node ctx.bound }
-        requires room { 8 ≤ S.room parts.old }
-        ensures shows { Shows self.now (S.held parts.old) (S.held parts.new) (parts_in (bounds_from ctx.detail ctx.bound (if first then [] else codes " + ") (bounds_in (slice_get (trees_of self.now) node)))) }
-        ensures room { S.room parts.old ≤ S.room parts.new + 8 }
-    {
-        match self.bounds(node) {
-            Bounds::None => {}
-            Bounds::More { rest, .. } => {
-                self.push_bounds(parts, rest, false, ctx);
-                self.push_item(parts, node, Form::Bound, 0, ctx);
-                self.push_separator(parts, first, texts::PLUS);
-            }
-        }
-    }
-
-    /// The parts of bindings from one on.
-    pub(crate) fn fill_bindings<S: PartList<Context>>(
-        &self,
-        parts: &mut S,
-        node: u32,
-        first: bool,
-        ctx: Context,
-    )
-        requires bindings { (b : tree.Bindings) × IsBindings (trees_of self.now) node b }
-        requires depth { HasDepth Form.PlainPath node ctx.bound }
-        requires room { 8 ≤ S.room parts.old }
-        ensures shows { Shows self.now (S.held parts.old) (S.held parts.new) (parts_in (bindings_from ctx.detail ctx.bound (if first then [] else codes ", ") (bindings_in (slice_get (trees_of self.now) node)))) }
-        ensures room { S.room parts.old ≤ S.room parts.new + 8 }
-    {
-        match self.bindings(node) {
-            Bindings::None => {}
-            Bindings::More {
-                name,
-                bound_type,
-                rest,
-            } => {
-                self.push_bindings(parts, rest, false, ctx);
-                self.push_item(parts, bound_type, Form::Ty, 0, ctx);
-                self.push_text(parts, texts::EQUALS);
-                self.push_name(parts, name);
-                self.push_separator(parts, first, texts::COMMA);
-            }
-        }
-    }
-
-    /// The parts of a lifetime argument.
-    pub(crate) fn fill_lifetime<S: PartList<Context>>(
-        &self,
-        parts: &mut S,
-        node: u32,
-        ctx: Context,
-    )
-        requires arguments { (a : tree.Arguments) × IsArguments (trees_of self.now) node a }
-        requires depth { HasDepth Form.PlainPath node ctx.bound }
-        requires room { 8 ≤ S.room parts.old }
-        ensures shows { Shows self.now (S.held parts.old) (S.held parts.new) (lifetime_parts ctx.bound (lifetime_in (arguments_in (slice_get (trees_of self.now) node)))) }
-        ensures room { S.room parts.old ≤ S.room parts.new + 8 }
-    {
-        match self.arguments(node) {
-            Arguments::Lifetime { lifetime, .. } => self.push_lifetime(parts, ctx.bound, lifetime),
-            Arguments::None => self.push_lifetime(parts, ctx.bound, 0),
-            Arguments::Constant { .. } => self.push_lifetime(parts, ctx.bound, 0),
-            Arguments::Ty { .. } => self.push_lifetime(parts, ctx.bound, 0),
         }
     }
 
