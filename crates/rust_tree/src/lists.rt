@@ -274,12 +274,7 @@ impl Symbol {
     }
 
     /// The parts of a lifetime argument.
-    pub(crate) fn fill_lifetime<S: PartList<Context>>(
-        &self,
-        parts: &mut S,
-        node: u32,
-        ctx: Context,
-    )
+    pub(crate) fn fill_lifetime<S: PartList<Context>>(&self, parts: &mut S, node: u32, ctx: Context)
         requires arguments { (a : tree.Arguments) × IsArguments (trees_of self.now) node a }
         requires depth { HasDepth Form.PlainPath node ctx.bound }
         requires room { 8 ≤ S.room parts.old }

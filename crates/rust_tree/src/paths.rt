@@ -184,12 +184,7 @@ impl Symbol {
     }
 
     /// The parts of a whole symbol.
-    pub(crate) fn fill_symbol<S: PartList<Context>>(
-        &self,
-        parts: &mut S,
-        node: u32,
-        ctx: Context,
-    )
+    pub(crate) fn fill_symbol<S: PartList<Context>>(&self, parts: &mut S, node: u32, ctx: Context)
         requires symbol { (w : tree.Symbol) × IsSymbol (trees_of self.now) node w }
         requires depth { HasDepth Form.PlainPath node ctx.bound }
         requires room { 8 ≤ S.room parts.old }

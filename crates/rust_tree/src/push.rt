@@ -19,7 +19,7 @@ use crate::symbol::Symbol;
 use crate::texts;
 use itoa::Buffer;
 use sym_core::Span;
-use sym_print::{PartList, Item, Part};
+use sym_print::{Item, Part, PartList};
 
 /// Writes a text at a place, and answers the place behind it.
 fn put(bytes: &mut [u8; 24], at: usize, text: &[u8]) -> usize

@@ -100,13 +100,7 @@ impl Symbol {
     }
 
     /// Adds a node's binder, if it binds something.
-    fn push_binder<S: PartList<Context>>(
-        &self,
-        parts: &mut S,
-        node: u32,
-        binder: u16,
-        ctx: Context,
-    )
+    fn push_binder<S: PartList<Context>>(&self, parts: &mut S, node: u32, binder: u16, ctx: Context)
         requires { 3 ≤ S.room parts.old }
         ensures shows { (below : Held Context) (so_far : Unshared) → Shows self.now below (S.held parts.old) so_far → ((t : tree.Ty) × IsType (trees_of self.now) node t) → HasDepth Form.PlainPath node ctx.bound → binder_in (type_in (slice_get (trees_of self.now) node)) ≡ binder
             → Shows self.now below (S.held parts.new) (for_binder ctx.bound binder so_far) }
@@ -123,13 +117,7 @@ impl Symbol {
     }
 
     /// Adds an array's type.
-    fn push_array<S: PartList<Context>>(
-        &self,
-        parts: &mut S,
-        element: u32,
-        size: u32,
-        ctx: Context,
-    )
+    fn push_array<S: PartList<Context>>(&self, parts: &mut S, element: u32, size: u32, ctx: Context)
         requires { 5 ≤ S.room parts.old }
         ensures shows { (below : Held Context) (so_far : Unshared) → Shows self.now below (S.held parts.old) so_far → ((t : tree.Ty) × IsType (trees_of self.now) element t) → HasDepth Form.PlainPath element ctx.bound → ((k : tree.Constant) × IsConstant (trees_of self.now) size k) → HasDepth Form.PlainPath size ctx.bound
             → Shows self.now below (S.held parts.new) (codes "[" then type_parts ctx.detail ctx.bound (type_in (slice_get (trees_of self.now) element)) also codes "; " then constant_parts (constant_in (slice_get (trees_of self.now) size)) also codes "]" then so_far) }
