@@ -1,7 +1,7 @@
 //! A table of nodes that share their parts, printed as the tree that it stands for.
 #![tactic(auto)]
 
-ghost use Rattle.std.specs.Prelude.{◌≡◌, ℕ, ◌+◌, ◌<◌, ◌≤◌, length, [], IfOk, IfErr};
+ghost use Rattle.std.specs.Prelude.{◌≡◌, ℕ, ◌+◌, ◌<◌, ◌≤◌, length, vec_len, vec_capacity, [], IfOk, IfErr};
 ghost use Rattle.std.specs.List.{All};
 ghost use Rattle.example_layout.specs.Dag.{IsLinked, doubled};
 ghost use Rattle.sym_core.specs.declared.Refusal.{Refusal};
@@ -9,7 +9,7 @@ ghost use Rattle.sym_core.specs.declared.Refusal.{Refusal};
 use arrayvec::ArrayVec;
 use std::alloc::Global;
 use sym_core::Refusal;
-use sym_print::{Item, Layout, Part};
+use sym_print::{Item, Layout, Part, push_reversed};
 
 #[cfg(test)]
 mod tests;
@@ -56,6 +56,7 @@ impl Layout for Dag {
     ghost use Rattle.example_layout.specs.Dag.{MayCome, item_of, bytes_of, parts_of, rank};
     ghost use Rattle.sym_print.specs.Unfold.{printed};
     ghost use Rattle.sym_print.specs.Joined.{joined};
+    ghost use Rattle.sym_print.specs.Stacked.{Stacked};
 
     ghost may_come = { λ y part. IsLinked 0 y.nodes.items × MayCome y.nodes.items part };
 
@@ -87,6 +88,18 @@ impl Layout for Dag {
                 }));
             }
         }
+    }
+
+    fn push_parts(&self, item: Item<bool>, stack: &mut Vec<Part<bool>>)
+        requires may_come { IsLinked 0 self.now.nodes.items × MayCome self.now.nodes.items (Part.Sub item) }
+        requires room { vec_len stack.old + 8 ≤ vec_capacity stack.old }
+        ensures parts { Stacked (λ item. printed parts_of rank (item_of self.now.nodes.items item)) bytes_of (λ part. IsLinked 0 self.now.nodes.items × MayCome self.now.nodes.items part) stack.old.items stack.new.items (printed parts_of rank (item_of self.now.nodes.items item)) }
+        ensures few { vec_len stack.new ≤ vec_len stack.old + 8 }
+        ensures capacity { vec_capacity stack.new ≡ vec_capacity stack.old }
+    {
+        let mut parts = ArrayVec::new();
+        self.fill(item, &mut parts);
+        push_reversed(stack, parts.as_slice());
     }
 
     fn bytes<'a>(&'a self, part: &'a Part<bool>) -> &'a [u8] {

@@ -1,6 +1,6 @@
 pub mod Trees
 pub mod Reading
-pub mod Lists
+pub mod Pushing
 pub mod Showing
 pub mod Hexadecimals
 pub mod Numerals

@@ -1,6 +1,6 @@
 -- What is shown so far, said in other words.
-use Rattle.std.proofs.Common.{append-nil, ◌≡◌, ℕ, ◌+◌, ◌-◌, ◌*◌, ◌^◌, ◌<◌, ◌≤◌, inl, inr, List, [], ◌∷◌, ◌++◌, length, take, codes, decimal, Bool, true, false, ◌==◌, if◌then◌else◌, Some, zero, suc, refl, sym, ap, ◌∙◌, arith}
-use Rattle.sym_print.specs.declared.layout.Part.{Part}
+use Rattle.std.proofs.Common.{append-nil, ◌≡◌, ℕ, ◌+◌, ◌-◌, ◌*◌, ◌^◌, ◌<◌, ◌≤◌, inl, inr, List, [], ◌∷◌, ◌++◌, length, take, codes, decimal, Bool, true, false, ◌==◌, if◌then◌else◌, Some, zero, suc, refl, sym, ap, ◌∙◌, arith, subst}
+use Rattle.sym_print.specs.Held.{Held}
 use Rattle.sym_print.specs.declared.detail.Detail.{Detail}
 use Rattle.sym_print.specs.Unshared.{Unshared, done}
 use Rattle.sym_print.specs.Building.{◌then◌, ◌also◌, ◌perhaps◌}
@@ -16,12 +16,11 @@ use Rattle.rust_tree.specs.Nodes.{IsPath, IsArguments, IsType, IsTypes, IsBounds
 use Rattle.rust_tree.specs.Layout.{ReadSymbol, Shows, parts_in, any_arguments, any_types, any_bounds, any_bindings, item_if, is_empty, names_in}
 use Rattle.rust_tree.specs.Texts.{fixed_text, texts}
 use Rattle.std.proofs.lemmas.Option.{slice_get_past}
-use Rattle.rust_tree.proofs.Lists.{shows-same, length-bytes_at}
+use Rattle.rust_tree.proofs.Pushing.{length-bytes_at}
 use Rattle.rust_tree.proofs.Trees.{got-early}
 
-pub changed : (y : ReadSymbol) (parts : List (Part Context)) (so_far f g : Unshared → Unshared) → ((rest : Unshared) → f rest ≡ g rest)
-    → Shows y parts (λ rest. so_far (f rest)) → Shows y parts (λ rest. so_far (g rest))
-changed y parts so_far f g e shows = shows-same y parts (λ rest. so_far (f rest)) (λ rest. so_far (g rest)) (λ rest. ap so_far (e rest)) shows
+pub changed : {below : Held Context} (y : ReadSymbol) (held : Held Context) (so_far other : Unshared) → so_far ≡ other → Shows y below held so_far → Shows y below held other
+changed {below} y held so_far other e shows = subst (Shows y below held) e shows
 
 pub if-true : {A : Type 0} (b : Bool) (x y : A) → b ≡ true → (if b then x else y) ≡ x
 if-true b x y h = rw h refl
@@ -109,9 +108,9 @@ module _ (all : List Tree) (n : ℕ) where
 
 -- ## Texts
 
-pub text-changed : (y : ReadSymbol) (parts : List (Part Context)) (so_far : Unshared → Unshared) (b t : List ℕ) → b ≡ t
-    → Shows y parts (λ rest. so_far (b then rest)) → Shows y parts (λ rest. so_far (t then rest))
-text-changed y parts so_far b t e shows = changed y parts so_far (λ rest. b then rest) (λ rest. t then rest) (λ rest. ap (λ x. x then rest) e) shows
+pub text-changed : {below : Held Context} (y : ReadSymbol) (held : Held Context) (so_far : Unshared) (b t : List ℕ) → b ≡ t
+    → Shows y below held (b then so_far) → Shows y below held (t then so_far)
+text-changed y held so_far b t e shows = changed y held (b then so_far) (t then so_far) (ap (λ x. x then so_far) e) shows
 
 pub decimal-text : (digits : List ℕ) (n : ℕ) → digits ≡ decimal n → digits ++ [] ≡ decimal n
 decimal-text digits n e = append-nil digits ∙ e

@@ -1,9 +1,9 @@
 -- What the items of a symbol's nodes print.
 use Rattle.std.specs.Prelude.{◌≡◌, ℕ, ◌+◌, ◌-◌, ◌*◌, ◌<◌, ◌≤◌, ◌^◌, List, [], ◌∷◌, length, take, codes, Bool, true, false, ◌==◌, if◌then◌else◌, Option, Some, None, slice_get}
-use Rattle.std.specs.List.{All}
 use Rattle.sym_print.specs.Unshared.{Unshared, done}
 use Rattle.sym_print.specs.Building.{◌also◌}
-use Rattle.sym_print.specs.Joined.{joined, joined_before}
+use Rattle.sym_print.specs.Stacked.{Stacked}
+use Rattle.sym_print.specs.Held.{Held}
 use Rattle.sym_print.specs.declared.layout.Item.{Item}
 use Rattle.sym_print.specs.declared.layout.Part.{Part}
 use Rattle.sym_print.specs.declared.layout.Part.TheVariants as part
@@ -131,15 +131,10 @@ MayCome y (part.Own bytes count) = (0 < count) × (count ≤ 24) × (length byte
 
 -- ## Lists of parts
 
--- The parts may come, and are what is shown so far, whatever stands behind it.
-pub record Shows (y : ReadSymbol) (parts : List (Part Context)) (so_far : Unshared → Unshared) : Type 0 where
-  pub all : All (MayCome y) parts
-  pub joined : (rest : Unshared) → joined_before (unshared_of y) (bytes_of_part y) parts rest ≡ so_far rest
-
--- The parts may come, and are all of what is shown.
-pub record Fills (y : ReadSymbol) (parts : List (Part Context)) (whole : Unshared) : Type 0 where
-  pub all : All (MayCome y) parts
-  pub joined : whole ≡ joined (unshared_of y) (bytes_of_part y) parts
+-- The parts that a list was given may come, and are what is shown; the first stands last.
+pub record Shows (y : ReadSymbol) (below held : Held Context) (shown : Unshared) : Type 0 where
+  pub stacked : Stacked (unshared_of y) (bytes_of_part y) (MayCome y) below.items held.items shown
+  pub capacity : held.capacity ≡ below.capacity
 
 -- there is something in a list
 abbrev pub any_arguments : tree.Arguments → Bool

@@ -1,366 +1,149 @@
-// The parts of items.
+// A symbol as a layout, and its text.
 #![tactic(auto)]
 
-ghost use Rattle.std.specs.Prelude.{◌≡◌, ℕ, ◌+◌, ◌-◌, ◌*◌, ◌<◌, ◌≤◌, ◌^◌, ◌++◌, ◌∷◌, [], List, length, slice_get, codes, nat_le, decimal, if◌then◌else◌};
-ghost use Rattle.arrayvec.specs.ArrayVec.{array_vec_len};
-ghost use Rattle.sym_print.specs.Unshared.{Unshared, done};
-ghost use Rattle.sym_print.specs.Building.{◌then◌, ◌also◌, ◌perhaps◌};
-ghost use Rattle.rust_tree.specs.Symbol as tree;
-ghost use Rattle.rust_tree.specs.Nodes.{IsPath, IsArguments, IsType, IsTypes, IsBounds, IsBindings, IsConstant, IsSymbol, HasName, IsWithin, bytes_at, name_of, identifier_of, path_in, arguments_in, type_in, types_in, bounds_in, bindings_in, constant_in, symbol_in, most_bound};
-ghost use Rattle.rust_tree.specs.Shown.{path_parts, type_parts, arguments_from, types_from, bounds_from, bindings_from, bound_parts, constant_parts, lifetime_parts, lifetime_text, numbered_lifetime, name_text, name_behind, namespace_text, special_name, generic_parts};
-ghost use Rattle.rust_tree.specs.Texts.{fixed_text};
-ghost use Rattle.rust_tree.specs.Layout.{ReadSymbol, trees_of, shown, HasForm, HasDepth, Shows, Fills, any_arguments, any_types, any_bounds, any_bindings, item_if, is_empty};
+ghost use Rattle.std.specs.Prelude.{◌≡◌, ℕ, ◌+◌, ◌<◌, ◌≤◌, [], List, length, vec_len, vec_capacity, IfOk, IfErr, OnOk, OnErr, ◌⊎◌, Err};
+ghost use Rattle.std.specs.List.{All};
+ghost use Rattle.sym_core.specs.declared.Refusal.{Refusal};
+ghost use Rattle.sym_print.specs.declared.layout.Part.{Part};
+ghost use Rattle.sym_print.specs.declared.detail.Detail.{Detail};
+ghost use Rattle.sym_print.specs.Unshared.{text_of, cost_of};
+ghost use Rattle.sym_print.specs.Joined.{joined};
+ghost use Rattle.sym_print.specs.Stacked.{Stacked};
+ghost use Rattle.rust_tree.specs.Layout.{unshared_of, bytes_of_part, MayCome, Shows, shown_symbol};
 
 use crate::context::Context;
 use crate::form::Form;
-use crate::node::{Abi, Arguments, Bindings, Bounds, Constant, Name, Node, Path, Ty, Types};
 use crate::symbol::Symbol;
 use crate::texts;
 use arrayvec::ArrayVec;
-use itoa::Buffer;
-use sym_core::Span;
-use sym_print::{Detail, Part};
+use sym_core::Refusal;
+use sym_print::{Detail, Item, Layout, Part, PartList, print};
 
-impl Symbol {
-    /// Whether the list has something.
-    #[tactic(auto, unfolding(crate::specs::Nodes::arguments_of))]
-    pub(crate) fn any_arguments(&self, node: u32) -> bool
-        requires { (a : tree.Arguments) × IsArguments (trees_of self.now) node a }
-        ensures { result ≡ any_arguments (arguments_in (slice_get (trees_of self.now) node)) }
+impl Layout for Symbol {
+    ghost use Rattle.std.proofs.Common.{lit≤};
+    ghost use Rattle.rust_tree.specs.Layout.{unshared_of, bytes_of_part, MayCome};
+
+    type Ctx = Context;
+
+    ghost may_come = { MayCome };
+
+    ghost unshared = { unshared_of };
+
+    ghost bytes_of = { bytes_of_part };
+
+    fn fill(&self, item: Item<Context>, parts: &mut ArrayVec<Part<Context>, 8>)
+        requires may_come { MayCome self.now (Part.Sub item) }
+        requires empty { parts.old.items ≡ [] }
+        ensures parts { unshared_of self.now item ≡ joined (unshared_of self.now) (bytes_of_part self.now) parts.new.items }
+        ensures may_come { All (MayCome self.now) parts.new.items }
     {
-        match self.arguments(node) {
-            Arguments::None => false,
-            Arguments::Lifetime { .. } => true,
-            Arguments::Constant { .. } => true,
-            Arguments::Ty { .. } => true,
-        }
+        self.add_parts(parts, item);
+        parts.as_mut_slice().reverse();
     }
 
-    /// Whether the list has something.
-    #[tactic(auto, unfolding(crate::specs::Nodes::types_of))]
-    pub(crate) fn any_types(&self, node: u32) -> bool
-        requires { (ts : tree.Tys) × IsTypes (trees_of self.now) node ts }
-        ensures { result ≡ any_types (types_in (slice_get (trees_of self.now) node)) }
-    {
-        match self.types(node) {
-            Types::None => false,
-            Types::More { .. } => true,
-        }
-    }
-
-    /// Whether the list has something.
-    #[tactic(auto, unfolding(crate::specs::Nodes::bounds_of))]
-    pub(crate) fn any_bounds(&self, node: u32) -> bool
-        requires { (bs : tree.Bounds) × IsBounds (trees_of self.now) node bs }
-        ensures { result ≡ any_bounds (bounds_in (slice_get (trees_of self.now) node)) }
-    {
-        match self.bounds(node) {
-            Bounds::None => false,
-            Bounds::More { .. } => true,
-        }
-    }
-
-    /// Whether the list has something.
-    #[tactic(auto, unfolding(crate::specs::Nodes::bindings_of))]
-    pub(crate) fn any_bindings(&self, node: u32) -> bool
-        requires { (b : tree.Bindings) × IsBindings (trees_of self.now) node b }
-        ensures { result ≡ any_bindings (bindings_in (slice_get (trees_of self.now) node)) }
-    {
-        match self.bindings(node) {
-            Bindings::None => false,
-            Bindings::More { .. } => true,
-        }
-    }
-
-    /// Adds an item, if it is to be added.
-    pub(crate) fn push_item_if(
-        &self,
-        any: bool,
-        parts: &mut ArrayVec<Part<Context>, 8>,
-        node: u32,
-        form: Form,
-        ctx: Context,
-    )
-        requires { array_vec_len parts.old + 1 ≤ 8 }
-        ensures shows { (so_far : Unshared → Unshared) → Shows self.now parts.old.items so_far → HasForm (trees_of self.now) node form → HasDepth form node ctx.bound
-            → Shows self.now parts.new.items (λ rest. so_far (item_if any (shown form (slice_get (trees_of self.now) node) 0 ctx) rest)) }
-        ensures len { array_vec_len parts.new ≤ array_vec_len parts.old + 1 }
-    {
-        if any {
-            self.push_item(parts, node, form, 0, ctx);
-        }
-    }
-
-    /// Adds a path in this style.
-    pub(crate) fn push_path(
-        &self,
-        parts: &mut ArrayVec<Part<Context>, 8>,
-        node: u32,
-        value: bool,
-        ctx: Context,
-    )
-        requires { array_vec_len parts.old + 1 ≤ 8 }
-        ensures shows { (so_far : Unshared → Unshared) → Shows self.now parts.old.items so_far → ((p : tree.Path) × IsPath (trees_of self.now) node p) → HasDepth Form.PlainPath node ctx.bound
-            → Shows self.now parts.new.items (λ rest. so_far (path_parts ctx.detail ctx.bound value (path_in (slice_get (trees_of self.now) node)) also rest)) }
-        ensures len { array_vec_len parts.new ≤ array_vec_len parts.old + 1 }
-    {
-        if value {
-            self.push_item(parts, node, Form::ValuePath, 0, ctx);
-        } else {
-            self.push_item(parts, node, Form::PlainPath, 0, ctx);
-        }
-    }
-
-    /// Adds the list's item, if the list has something.
-    pub(crate) fn push_arguments(
-        &self,
-        parts: &mut ArrayVec<Part<Context>, 8>,
-        node: u32,
-        first: bool,
-        ctx: Context,
-    )
-        requires room { array_vec_len parts.old + 1 ≤ 8 }
-        requires arguments { (a : tree.Arguments) × IsArguments (trees_of self.now) node a }
-        ensures shows { (so_far : Unshared → Unshared) → Shows self.now parts.old.items so_far → HasDepth Form.PlainPath node ctx.bound
-            → Shows self.now parts.new.items (λ rest. so_far (arguments_from ctx.detail ctx.bound (if first then [] else codes ", ") (arguments_in (slice_get (trees_of self.now) node)) perhaps rest)) }
-        ensures len { array_vec_len parts.new ≤ array_vec_len parts.old + 1 }
-    {
-        let any = self.any_arguments(node);
-        if first {
-            self.push_item_if(any, parts, node, Form::FirstArgument, ctx);
-        } else {
-            self.push_item_if(any, parts, node, Form::MoreArguments, ctx);
-        }
-    }
-
-    /// Adds the list's item, if the list has something.
-    pub(crate) fn push_types(
-        &self,
-        parts: &mut ArrayVec<Part<Context>, 8>,
-        node: u32,
-        first: bool,
-        ctx: Context,
-    )
-        requires room { array_vec_len parts.old + 1 ≤ 8 }
-        requires types { (ts : tree.Tys) × IsTypes (trees_of self.now) node ts }
-        ensures shows { (so_far : Unshared → Unshared) → Shows self.now parts.old.items so_far → HasDepth Form.PlainPath node ctx.bound
-            → Shows self.now parts.new.items (λ rest. so_far (types_from ctx.detail ctx.bound (if first then [] else codes ", ") (types_in (slice_get (trees_of self.now) node)) perhaps rest)) }
-        ensures len { array_vec_len parts.new ≤ array_vec_len parts.old + 1 }
-    {
-        let any = self.any_types(node);
-        if first {
-            self.push_item_if(any, parts, node, Form::FirstType, ctx);
-        } else {
-            self.push_item_if(any, parts, node, Form::MoreTypes, ctx);
-        }
-    }
-
-    /// Adds the list's item, if the list has something.
-    pub(crate) fn push_bounds(
-        &self,
-        parts: &mut ArrayVec<Part<Context>, 8>,
-        node: u32,
-        first: bool,
-        ctx: Context,
-    )
-        requires room { array_vec_len parts.old + 1 ≤ 8 }
-        requires bounds { (bs : tree.Bounds) × IsBounds (trees_of self.now) node bs }
-        ensures shows { (so_far : Unshared → Unshared) → Shows self.now parts.old.items so_far → HasDepth Form.PlainPath node ctx.bound
-            → Shows self.now parts.new.items (λ rest. so_far (bounds_from ctx.detail ctx.bound (if first then [] else codes " + ") (bounds_in (slice_get (trees_of self.now) node)) perhaps rest)) }
-        ensures len { array_vec_len parts.new ≤ array_vec_len parts.old + 1 }
-    {
-        let any = self.any_bounds(node);
-        if first {
-            self.push_item_if(any, parts, node, Form::FirstBound, ctx);
-        } else {
-            self.push_item_if(any, parts, node, Form::MoreBounds, ctx);
-        }
-    }
-
-    /// Adds the list's item, if the list has something.
-    pub(crate) fn push_bindings(
-        &self,
-        parts: &mut ArrayVec<Part<Context>, 8>,
-        node: u32,
-        first: bool,
-        ctx: Context,
-    )
-        requires room { array_vec_len parts.old + 1 ≤ 8 }
-        requires bindings { (b : tree.Bindings) × IsBindings (trees_of self.now) node b }
-        ensures shows { (so_far : Unshared → Unshared) → Shows self.now parts.old.items so_far → HasDepth Form.PlainPath node ctx.bound
-            → Shows self.now parts.new.items (λ rest. so_far (bindings_from ctx.detail ctx.bound (if first then [] else codes ", ") (bindings_in (slice_get (trees_of self.now) node)) perhaps rest)) }
-        ensures len { array_vec_len parts.new ≤ array_vec_len parts.old + 1 }
-    {
-        let any = self.any_bindings(node);
-        if first {
-            self.push_item_if(any, parts, node, Form::FirstBinding, ctx);
-        } else {
-            self.push_item_if(any, parts, node, Form::MoreBindings, ctx);
-        }
-    }
-
-    /// Adds a separator, unless it is the first of its list.
-    pub(crate) fn push_separator(
-        &self,
-        parts: &mut ArrayVec<Part<Context>, 8>,
-        first: bool,
-        number: u16,
-    )
-        requires room { array_vec_len parts.old + 1 ≤ 8 }
-        requires text { 0 < length (fixed_text number) }
-        ensures shows { (so_far : Unshared → Unshared) → Shows self.now parts.old.items so_far
-            → Shows self.now parts.new.items (λ rest. so_far ((if first then [] else fixed_text number) then rest)) }
-        ensures len { array_vec_len parts.new ≤ array_vec_len parts.old + 1 }
-    {
-        if !first {
-            self.push_text(parts, number);
-        }
-    }
-
-    /// Adds a decimal.
-    pub(crate) fn push_decimal(&self, parts: &mut ArrayVec<Part<Context>, 8>, number: u64)
-        requires { array_vec_len parts.old + 1 ≤ 8 }
-        ensures shows { (so_far : Unshared → Unshared) → Shows self.now parts.old.items so_far
-            → Shows self.now parts.new.items (λ rest. so_far (decimal number then rest)) }
-        ensures len { array_vec_len parts.new ≤ array_vec_len parts.old + 1 }
-    {
-        let mut buffer = Buffer::new();
-        let digits = buffer.format(number);
-        self.push_own(parts, b"", digits.as_bytes(), b"");
-    }
-
-    /// Adds the name of a lifetime, the outermost bound one being number 0.
-    pub(crate) fn push_numbered(&self, parts: &mut ArrayVec<Part<Context>, 8>, number: u64)
-        requires { array_vec_len parts.old + 1 ≤ 8 }
-        ensures shows { (so_far : Unshared → Unshared) → Shows self.now parts.old.items so_far
-            → Shows self.now parts.new.items (λ rest. so_far (numbered_lifetime number then rest)) }
-        ensures len { array_vec_len parts.new ≤ array_vec_len parts.old + 1 }
-    {
-        if number < 26 {
-            self.push_own(parts, b"'", &[b'a' + number as u8], b"");
-        } else {
-            let mut buffer = Buffer::new();
-            let digits = buffer.format(number);
-            self.push_own(parts, b"'_", digits.as_bytes(), b"");
-        }
-    }
-
-    /// Adds a lifetime where so many are bound.
-    pub(crate) fn push_lifetime(
-        &self,
-        parts: &mut ArrayVec<Part<Context>, 8>,
-        bound: u64,
-        lifetime: u64,
-    )
-        requires { array_vec_len parts.old + 1 ≤ 8 }
-        ensures shows { (so_far : Unshared → Unshared) → Shows self.now parts.old.items so_far
-            → Shows self.now parts.new.items (λ rest. so_far (lifetime_text bound lifetime then rest)) }
-        ensures len { array_vec_len parts.new ≤ array_vec_len parts.old + 1 }
-    {
-        match lifetime {
-            0 => self.push_own(parts, b"'_", b"", b""),
-            _ => self.push_numbered(parts, bound.saturating_sub(lifetime)),
-        }
-    }
-
-    /// Adds a text and bytes of the symbol behind it, unless there are none of these.
-    pub(crate) fn push_bytes_behind(
-        &self,
-        parts: &mut ArrayVec<Part<Context>, 8>,
-        number: u16,
-        span: Span,
-    )
-        requires room { array_vec_len parts.old + 2 ≤ 8 }
-        requires text { 0 < length (fixed_text number) }
-        ensures shows { (so_far : Unshared → Unshared) → Shows self.now parts.old.items so_far → IsWithin span self.now.bytes
-            → Shows self.now parts.new.items (λ rest. so_far (name_behind (fixed_text number) (bytes_at self.now.bytes span) rest)) }
-        ensures len { array_vec_len parts.new ≤ array_vec_len parts.old + 2 }
-    {
-        if !prints_nothing(span) {
-            self.push_text(parts, number);
-            self.push_bytes(parts, span);
-        }
-    }
-
-    /// Adds a text and bytes of the text list behind it, unless there are none of these.
-    pub(crate) fn push_printed_behind(
-        &self,
-        parts: &mut ArrayVec<Part<Context>, 8>,
-        number: u16,
-        span: Span,
-    )
-        requires room { array_vec_len parts.old + 2 ≤ 8 }
-        requires text { 0 < length (fixed_text number) }
-        ensures shows { (so_far : Unshared → Unshared) → Shows self.now parts.old.items so_far → IsWithin span self.now.table.text
-            → Shows self.now parts.new.items (λ rest. so_far (name_behind (fixed_text number) (bytes_at self.now.table.text span) rest)) }
-        ensures len { array_vec_len parts.new ≤ array_vec_len parts.old + 2 }
-    {
-        if !prints_nothing(span) {
-            self.push_text(parts, number);
-            self.push_printed(parts, span);
-        }
-    }
-
-    /// Adds a text and a name behind it, unless the name prints nothing.
     #[inline(always)]
-    pub(crate) fn push_name_behind(
-        &self,
-        parts: &mut ArrayVec<Part<Context>, 8>,
-        number: u16,
-        name: Name,
-    )
-        requires room { array_vec_len parts.old + 2 ≤ 8 }
-        requires text { 0 < length (fixed_text number) }
-        ensures shows { (so_far : Unshared → Unshared) → Shows self.now parts.old.items so_far → HasName self.now.bytes self.now.table.text name
-            → Shows self.now parts.new.items (λ rest. so_far (name_behind (fixed_text number) (name_text (name_of self.now.bytes name)) rest)) }
-        ensures len { array_vec_len parts.new ≤ array_vec_len parts.old + 2 }
+    fn push_parts(&self, item: Item<Context>, stack: &mut Vec<Part<Context>>)
+        requires may_come { MayCome self.now (Part.Sub item) }
+        requires room { vec_len stack.old + 8 ≤ vec_capacity stack.old }
+        ensures parts { Stacked (unshared_of self.now) (bytes_of_part self.now) (MayCome self.now) stack.old.items stack.new.items (unshared_of self.now item) }
+        ensures few { vec_len stack.new ≤ vec_len stack.old + 8 }
+        ensures capacity { vec_capacity stack.new ≡ vec_capacity stack.old }
     {
-        match name.decoded {
-            None => self.push_bytes_behind(parts, number, name.bytes),
-            Some(decoded) => self.push_printed_behind(parts, number, decoded),
+        self.add_parts(stack, item);
+    }
+
+    #[inline(always)]
+    fn bytes<'a>(&'a self, part: &'a Part<Context>) -> &'a [u8] {
+        match part {
+            Part::Symbol(span) => self.bytes_of(*span),
+            Part::List(span) => self.printed_bytes(*span),
+            Part::Fixed(number) => texts::fixed_text(*number),
+            Part::Own(bytes, count) => &bytes[..*count as usize],
+            Part::Sub(_) => b"",
         }
     }
 
-    /// Adds how a namespace is named.
-    pub(crate) fn push_namespace(&self, parts: &mut ArrayVec<Part<Context>, 8>, namespace: u8)
-        requires { array_vec_len parts.old + 1 ≤ 8 }
-        ensures shows { (so_far : Unshared → Unshared) → Shows self.now parts.old.items so_far
-            → Shows self.now parts.new.items (λ rest. so_far (namespace_text namespace then rest)) }
-        ensures len { array_vec_len parts.new ≤ array_vec_len parts.old + 1 }
-    {
-        match namespace {
-            b'C' => self.push_text(parts, texts::CLOSURE),
-            b'S' => self.push_text(parts, texts::SHIM),
-            _ => self.push_own(parts, &[namespace], b"", b""),
-        }
-    }
-
-    /// Adds a name in a namespace that is an upper-case letter.
-    #[inline(never)]
-    pub(crate) fn push_special(
-        &self,
-        parts: &mut ArrayVec<Part<Context>, 8>,
-        namespace: u8,
-        name: Name,
-        disambiguator: u64,
-    )
-        requires { array_vec_len parts.old + 7 ≤ 8 }
-        ensures shows { (so_far : Unshared → Unshared) → Shows self.now parts.old.items so_far → HasName self.now.bytes self.now.table.text name
-            → Shows self.now parts.new.items (λ rest. so_far (special_name namespace (identifier_of self.now.bytes name disambiguator) rest)) }
-        ensures len { array_vec_len parts.new ≤ array_vec_len parts.old + 7 }
-    {
-        self.push_text(parts, texts::COLONS_BRACE);
-        self.push_namespace(parts, namespace);
-        self.push_name_behind(parts, texts::COLON, name);
-        self.push_text(parts, texts::NUMBER_SIGN);
-        self.push_decimal(parts, disambiguator);
-        self.push_text(parts, texts::RIGHT_BRACE);
-    }
+    ghost small_context = { (lit≤ tt, lit≤ tt) };
 }
 
-/// Whether a span prints nothing.
-fn prints_nothing(span: Span) -> bool
-    ensures { (bytes : List ℕ) → IsWithin span bytes → result ≡ is_empty (bytes_at bytes span) }
-{
-    span.from >= span.to
+impl Symbol {
+    /// Adds the parts of an item, the first last.
+    #[inline(always)]
+    fn add_parts<S: PartList<Context>>(&self, parts: &mut S, item: Item<Context>)
+        requires may_come { MayCome self.now (Part.Sub item) }
+        requires room { 8 ≤ S.room parts.old }
+        ensures shows { Shows self.now (S.held parts.old) (S.held parts.new) (unshared_of self.now item) }
+        ensures room { S.room parts.old ≤ S.room parts.new + 8 }
+    {
+        let node = item.node;
+        let ctx = item.ctx;
+        match Form::of(item.form) {
+            Form::Root => self.fill_symbol(parts, node, ctx),
+            Form::ValuePath => self.fill_path(parts, node, true, ctx),
+            Form::PlainPath => self.fill_path(parts, node, false, ctx),
+            Form::Ty => self.fill_type(parts, node, ctx),
+            Form::Constant => self.fill_constant(parts, node),
+            Form::FirstArgument => self.fill_arguments(parts, node, true, ctx),
+            Form::MoreArguments => self.fill_arguments(parts, node, false, ctx),
+            Form::Lifetime => self.fill_lifetime(parts, node, ctx),
+            Form::FirstType => self.fill_types(parts, node, true, ctx),
+            Form::MoreTypes => self.fill_types(parts, node, false, ctx),
+            Form::Signature => self.fill_signature(parts, node, ctx),
+            Form::Names => self.fill_names(parts, node, item.at, ctx),
+            Form::FirstBound => self.fill_bounds(parts, node, true, ctx),
+            Form::MoreBounds => self.fill_bounds(parts, node, false, ctx),
+            Form::Bound => self.fill_bound(parts, node, ctx),
+            Form::FirstBinding => self.fill_bindings(parts, node, true, ctx),
+            Form::MoreBindings => self.fill_bindings(parts, node, false, ctx),
+        }
+    }
+
+    /// The item of the whole symbol, in full.
+    pub fn root(&self) -> Item<Context>
+        ensures may_come { MayCome self.now (Part.Sub result) }
+        ensures shows { unshared_of self.now result ≡ shown_symbol Detail.Full self.now }
+    {
+        self.root_as(Detail::Full)
+    }
+
+    /// The item of the whole symbol in a detail.
+    pub fn root_as(&self, detail: Detail) -> Item<Context>
+        ensures may_come { MayCome self.now (Part.Sub result) }
+        ensures shows { unshared_of self.now result ≡ shown_symbol detail self.now }
+    {
+        Item {
+            node: self.root_node(),
+            form: Form::Root.number(),
+            at: 0,
+            ctx: Context { bound: 0, detail },
+        }
+    }
+
+    /// The text of the symbol, if it costs at most the limit.
+    ///
+    /// # Errors
+    ///
+    /// `TooLong` exactly where it costs more, `Memory` where a list couldn't grow.
+    pub fn text(&self, limit: u32) -> Result<Vec<u8>, Refusal>
+        ensures text { IfOk result (λ text. text.items ≡ text_of (shown_symbol Detail.Full self.now)) }
+        ensures within { OnOk result (cost_of (shown_symbol Detail.Full self.now) ≤ limit) }
+        ensures refusals { IfErr result (λ r. (r ≡ Refusal.TooLong) ⊎ (r ≡ Refusal.Memory)) }
+        ensures too_long { result ≡ Err Refusal.TooLong → limit < cost_of (shown_symbol Detail.Full self.now) }
+    {
+        self.text_as(limit, Detail::Full)
+    }
+
+    /// The text of the symbol in a detail, if it costs at most the limit.
+    ///
+    /// # Errors
+    ///
+    /// `TooLong` exactly where it costs more, `Memory` where a list couldn't grow.
+    pub fn text_as(&self, limit: u32, detail: Detail) -> Result<Vec<u8>, Refusal>
+        ensures text { IfOk result (λ text. text.items ≡ text_of (shown_symbol detail self.now)) }
+        ensures within { OnOk result (cost_of (shown_symbol detail self.now) ≤ limit) }
+        ensures refusals { IfErr result (λ r. (r ≡ Refusal.TooLong) ⊎ (r ≡ Refusal.Memory)) }
+        ensures too_long { result ≡ Err Refusal.TooLong → limit < cost_of (shown_symbol detail self.now) }
+    {
+        print(self.allocator(), self, self.root_as(detail), limit)
+    }
 }

@@ -2,15 +2,16 @@
 #![tactic(auto)]
 
 mod bounds;
+mod constants;
 pub mod context;
 pub mod form;
-mod items;
 mod laws;
 mod layout;
+mod lists;
 pub mod node;
 pub mod nodes;
-mod parts;
-mod print;
+mod paths;
+mod push;
 mod symbol;
 mod texts;
 pub mod tree_production;

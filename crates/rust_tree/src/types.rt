@@ -1,33 +1,32 @@
-// The parts of types, bounds and constants.
+// The parts of types.
 #![tactic(auto)]
 
-ghost use Rattle.std.specs.Prelude.{◌≡◌, ℕ, ◌+◌, ◌-◌, ◌*◌, ◌<◌, ◌≤◌, ◌^◌, ◌++◌, ◌∷◌, [], List, length, take, slice_get, codes, nat_le, true, false, if◌then◌else◌};
-ghost use Rattle.arrayvec.specs.ArrayVec.{array_vec_len};
-ghost use Rattle.sym_print.specs.Unshared.{Unshared, done};
+ghost use Rattle.std.specs.Prelude.{◌≡◌, ℕ, ◌+◌, ◌-◌, ◌<◌, ◌≤◌, [], List, length, slice_get, codes, if◌then◌else◌, take, true, false};
+ghost use Rattle.sym_print.specs.Held.{Held};
+ghost use Rattle.sym_print.specs.Unshared.{Unshared};
 ghost use Rattle.sym_print.specs.Building.{◌then◌, ◌also◌, ◌perhaps◌};
 ghost use Rattle.rust_tree.specs.Symbol as tree;
-ghost use Rattle.rust_tree.specs.Nodes.{IsPath, IsArguments, IsType, IsTypes, IsBounds, IsBindings, IsConstant, IsSymbol, HasName, HasAbi, HasTypeParts, name_of, identifier_of, abi_of, type_of, path_in, arguments_in, type_in, types_in, bounds_in, bindings_in, constant_in, symbol_in, bytes_at, IsWithin, most_bound};
-ghost use Rattle.rust_tree.specs.Shown.{path_parts, type_parts, arguments_from, types_from, bounds_from, bindings_from, bound_parts, constant_parts, lifetime_parts, symbol_parts, suffix_parts, argument_list, nested_name, reference_opening, dyn_lifetime, for_binder, signature_opening, returned_parts, closing_tuple, is_unit, basic_text};
+ghost use Rattle.rust_tree.specs.Nodes.{IsType, IsTypes, IsBounds, IsConstant, type_in, types_in, bounds_in, constant_in, most_bound, HasAbi, HasTypeParts, abi_of, type_of};
+ghost use Rattle.rust_tree.specs.Shown.{type_parts, bounds_from, constant_parts, reference_opening, dyn_lifetime, for_binder, signature_opening, returned_parts, closing_tuple, is_unit, basic_text};
 ghost use Rattle.rust_tree.specs.Texts.{fixed_text};
+ghost use Rattle.rust_tree.specs.Layout.{trees_of, HasDepth, Shows, any_types, is_empty, binder_in, signature_in, names_in};
 ghost use Rattle.rust_tree.specs.Tree.{Tree, of_type};
-ghost use Rattle.rust_tree.specs.Layout.{ReadSymbol, trees_of, HasDepth, Shows, Fills, parts_in, lifetime_in, binder_in, signature_in, names_in, bound_in};
 
 use crate::context::Context;
 use crate::form::Form;
-use crate::node::{Abi, Arguments, Bindings, Bounds, Constant, Name, Node, Path, Ty, Types};
+use crate::node::{Abi, Constant, Node, Path, Ty, Types};
 use crate::symbol::Symbol;
 use crate::texts;
-use arrayvec::ArrayVec;
-use sym_core::Span;
-use sym_print::{Detail, Part};
+use sym_print::PartList;
 
 impl Symbol {
     /// Adds the text of a basic type, if the letter is that of one.
-    fn push_basic(&self, parts: &mut ArrayVec<Part<Context>, 8>, letter: u8)
-        requires { array_vec_len parts.old + 1 ≤ 8 }
-        ensures shows { (so_far : Unshared → Unshared) → Shows self.now parts.old.items so_far
-            → Shows self.now parts.new.items (λ rest. so_far (basic_text letter then rest)) }
-        ensures len { array_vec_len parts.new ≤ array_vec_len parts.old + 1 }
+    #[inline(always)]
+    fn push_basic<S: PartList<Context>>(&self, parts: &mut S, letter: u8)
+        requires { 1 ≤ S.room parts.old }
+        ensures shows { (below : Held Context) (so_far : Unshared) → Shows self.now below (S.held parts.old) so_far
+            → Shows self.now below (S.held parts.new) (basic_text letter then so_far) }
+        ensures room { S.room parts.old ≤ S.room parts.new + 1 }
     {
         if letter < b'a' {
             return;
@@ -38,42 +37,44 @@ impl Symbol {
     }
 
     /// Adds the beginning of a reference.
-    fn push_reference(
+    #[inline(always)]
+    fn push_reference<S: PartList<Context>>(
         &self,
-        parts: &mut ArrayVec<Part<Context>, 8>,
+        parts: &mut S,
         lifetime: u64,
         mutable: bool,
         ctx: Context,
     )
-        requires { array_vec_len parts.old + 3 ≤ 8 }
-        ensures shows { (so_far : Unshared → Unshared) → Shows self.now parts.old.items so_far
-            → Shows self.now parts.new.items (λ rest. so_far (reference_opening ctx.bound lifetime mutable rest)) }
-        ensures len { array_vec_len parts.new ≤ array_vec_len parts.old + 3 }
+        requires { 3 ≤ S.room parts.old }
+        ensures shows { (below : Held Context) (so_far : Unshared) → Shows self.now below (S.held parts.old) so_far
+            → Shows self.now below (S.held parts.new) (reference_opening ctx.bound lifetime mutable so_far) }
+        ensures room { S.room parts.old ≤ S.room parts.new + 3 }
     {
         match lifetime {
             0 => self.push_either(parts, mutable, texts::AND_MUT, texts::AND),
             _ => {
-                self.push_text(parts, texts::AND);
-                self.push_lifetime(parts, ctx.bound, lifetime);
                 self.push_either(parts, mutable, texts::MUT, texts::BLANK);
+                self.push_lifetime(parts, ctx.bound, lifetime);
+                self.push_text(parts, texts::AND);
             }
         }
     }
 
     /// Adds one of two texts.
-    pub(crate) fn push_either(
+    #[inline(always)]
+    pub(crate) fn push_either<S: PartList<Context>>(
         &self,
-        parts: &mut ArrayVec<Part<Context>, 8>,
+        parts: &mut S,
         first: bool,
         one: u16,
         other: u16,
     )
-        requires room { array_vec_len parts.old + 1 ≤ 8 }
+        requires room { 1 ≤ S.room parts.old }
         requires one { 0 < length (fixed_text one) }
         requires other { 0 < length (fixed_text other) }
-        ensures shows { (so_far : Unshared → Unshared) → Shows self.now parts.old.items so_far
-            → Shows self.now parts.new.items (λ rest. so_far ((if first then fixed_text one else fixed_text other) then rest)) }
-        ensures len { array_vec_len parts.new ≤ array_vec_len parts.old + 1 }
+        ensures shows { (below : Held Context) (so_far : Unshared) → Shows self.now below (S.held parts.old) so_far
+            → Shows self.now below (S.held parts.new) ((if first then fixed_text one else fixed_text other) then so_far) }
+        ensures room { S.room parts.old ≤ S.room parts.new + 1 }
     {
         if first {
             self.push_text(parts, one);
@@ -83,150 +84,138 @@ impl Symbol {
     }
 
     /// Adds the lifetime behind a `dyn`'s bounds, unless it is erased.
-    fn push_dyn_lifetime(&self, parts: &mut ArrayVec<Part<Context>, 8>, lifetime: u64, ctx: Context)
-        requires { array_vec_len parts.old + 2 ≤ 8 }
-        ensures shows { (so_far : Unshared → Unshared) → Shows self.now parts.old.items so_far
-            → Shows self.now parts.new.items (λ rest. so_far (dyn_lifetime ctx.bound lifetime rest)) }
-        ensures len { array_vec_len parts.new ≤ array_vec_len parts.old + 2 }
+    fn push_dyn_lifetime<S: PartList<Context>>(&self, parts: &mut S, lifetime: u64, ctx: Context)
+        requires { 2 ≤ S.room parts.old }
+        ensures shows { (below : Held Context) (so_far : Unshared) → Shows self.now below (S.held parts.old) so_far
+            → Shows self.now below (S.held parts.new) (dyn_lifetime ctx.bound lifetime so_far) }
+        ensures room { S.room parts.old ≤ S.room parts.new + 2 }
     {
         match lifetime {
             0 => {}
             _ => {
-                self.push_text(parts, texts::PLUS);
                 self.push_lifetime(parts, ctx.bound, lifetime);
+                self.push_text(parts, texts::PLUS);
             }
         }
     }
 
     /// Adds a node's binder, if it binds something.
-    fn push_binder(
-        &self,
-        parts: &mut ArrayVec<Part<Context>, 8>,
-        node: u32,
-        binder: u16,
-        ctx: Context,
-    )
-        requires { array_vec_len parts.old + 3 ≤ 8 }
-        ensures shows { (so_far : Unshared → Unshared) → Shows self.now parts.old.items so_far → ((t : tree.Ty) × IsType (trees_of self.now) node t) → HasDepth Form.PlainPath node ctx.bound → binder_in (type_in (slice_get (trees_of self.now) node)) ≡ binder
-            → Shows self.now parts.new.items (λ rest. so_far (for_binder ctx.bound binder rest)) }
-        ensures len { array_vec_len parts.new ≤ array_vec_len parts.old + 3 }
+    fn push_binder<S: PartList<Context>>(&self, parts: &mut S, node: u32, binder: u16, ctx: Context)
+        requires { 3 ≤ S.room parts.old }
+        ensures shows { (below : Held Context) (so_far : Unshared) → Shows self.now below (S.held parts.old) so_far → ((t : tree.Ty) × IsType (trees_of self.now) node t) → HasDepth Form.PlainPath node ctx.bound → binder_in (type_in (slice_get (trees_of self.now) node)) ≡ binder
+            → Shows self.now below (S.held parts.new) (for_binder ctx.bound binder so_far) }
+        ensures room { S.room parts.old ≤ S.room parts.new + 3 }
     {
         match binder {
             0 => {}
             _ => {
-                self.push_text(parts, texts::FOR);
-                self.push_item(parts, node, Form::Names, 0, ctx);
                 self.push_text(parts, texts::GREATER_BLANK);
+                self.push_item(parts, node, Form::Names, 0, ctx);
+                self.push_text(parts, texts::FOR);
             }
         }
     }
 
     /// Adds an array's type.
-    fn push_array(
-        &self,
-        parts: &mut ArrayVec<Part<Context>, 8>,
-        element: u32,
-        size: u32,
-        ctx: Context,
-    )
-        requires { array_vec_len parts.old + 5 ≤ 8 }
-        ensures shows { (so_far : Unshared → Unshared) → Shows self.now parts.old.items so_far → ((t : tree.Ty) × IsType (trees_of self.now) element t) → HasDepth Form.PlainPath element ctx.bound → ((k : tree.Constant) × IsConstant (trees_of self.now) size k) → HasDepth Form.PlainPath size ctx.bound
-            → Shows self.now parts.new.items (λ rest. so_far (codes "[" then type_parts ctx.detail ctx.bound (type_in (slice_get (trees_of self.now) element)) also codes "; " then constant_parts (constant_in (slice_get (trees_of self.now) size)) also codes "]" then rest)) }
-        ensures len { array_vec_len parts.new ≤ array_vec_len parts.old + 5 }
+    fn push_array<S: PartList<Context>>(&self, parts: &mut S, element: u32, size: u32, ctx: Context)
+        requires { 5 ≤ S.room parts.old }
+        ensures shows { (below : Held Context) (so_far : Unshared) → Shows self.now below (S.held parts.old) so_far → ((t : tree.Ty) × IsType (trees_of self.now) element t) → HasDepth Form.PlainPath element ctx.bound → ((k : tree.Constant) × IsConstant (trees_of self.now) size k) → HasDepth Form.PlainPath size ctx.bound
+            → Shows self.now below (S.held parts.new) (codes "[" then type_parts ctx.detail ctx.bound (type_in (slice_get (trees_of self.now) element)) also codes "; " then constant_parts (constant_in (slice_get (trees_of self.now) size)) also codes "]" then so_far) }
+        ensures room { S.room parts.old ≤ S.room parts.new + 5 }
     {
-        self.push_text(parts, texts::LEFT_BRACKET);
-        self.push_item(parts, element, Form::Ty, 0, ctx);
-        self.push_text(parts, texts::SEMICOLON);
-        self.push_item(parts, size, Form::Constant, 0, ctx);
         self.push_text(parts, texts::RIGHT_BRACKET);
+        self.push_item(parts, size, Form::Constant, 0, ctx);
+        self.push_text(parts, texts::SEMICOLON);
+        self.push_item(parts, element, Form::Ty, 0, ctx);
+        self.push_text(parts, texts::LEFT_BRACKET);
     }
 
     /// Adds a slice's type.
-    fn push_slice(&self, parts: &mut ArrayVec<Part<Context>, 8>, element: u32, ctx: Context)
-        requires { array_vec_len parts.old + 3 ≤ 8 }
-        ensures shows { (so_far : Unshared → Unshared) → Shows self.now parts.old.items so_far → ((t : tree.Ty) × IsType (trees_of self.now) element t) → HasDepth Form.PlainPath element ctx.bound
-            → Shows self.now parts.new.items (λ rest. so_far (codes "[" then type_parts ctx.detail ctx.bound (type_in (slice_get (trees_of self.now) element)) also codes "]" then rest)) }
-        ensures len { array_vec_len parts.new ≤ array_vec_len parts.old + 3 }
+    fn push_slice<S: PartList<Context>>(&self, parts: &mut S, element: u32, ctx: Context)
+        requires { 3 ≤ S.room parts.old }
+        ensures shows { (below : Held Context) (so_far : Unshared) → Shows self.now below (S.held parts.old) so_far → ((t : tree.Ty) × IsType (trees_of self.now) element t) → HasDepth Form.PlainPath element ctx.bound
+            → Shows self.now below (S.held parts.new) (codes "[" then type_parts ctx.detail ctx.bound (type_in (slice_get (trees_of self.now) element)) also codes "]" then so_far) }
+        ensures room { S.room parts.old ≤ S.room parts.new + 3 }
     {
-        self.push_text(parts, texts::LEFT_BRACKET);
-        self.push_item(parts, element, Form::Ty, 0, ctx);
         self.push_text(parts, texts::RIGHT_BRACKET);
+        self.push_item(parts, element, Form::Ty, 0, ctx);
+        self.push_text(parts, texts::LEFT_BRACKET);
     }
 
     /// Adds a pointer's type, behind the text that it begins with.
-    fn push_pointer(
+    fn push_pointer<S: PartList<Context>>(
         &self,
-        parts: &mut ArrayVec<Part<Context>, 8>,
+        parts: &mut S,
         number: u16,
         pointee: u32,
         ctx: Context,
     )
-        requires room { array_vec_len parts.old + 2 ≤ 8 }
+        requires room { 2 ≤ S.room parts.old }
         requires text { 0 < length (fixed_text number) }
-        ensures shows { (so_far : Unshared → Unshared) → Shows self.now parts.old.items so_far → ((t : tree.Ty) × IsType (trees_of self.now) pointee t) → HasDepth Form.PlainPath pointee ctx.bound
-            → Shows self.now parts.new.items (λ rest. so_far (fixed_text number then type_parts ctx.detail ctx.bound (type_in (slice_get (trees_of self.now) pointee)) also rest)) }
-        ensures len { array_vec_len parts.new ≤ array_vec_len parts.old + 2 }
+        ensures shows { (below : Held Context) (so_far : Unshared) → Shows self.now below (S.held parts.old) so_far → ((t : tree.Ty) × IsType (trees_of self.now) pointee t) → HasDepth Form.PlainPath pointee ctx.bound
+            → Shows self.now below (S.held parts.new) (fixed_text number then type_parts ctx.detail ctx.bound (type_in (slice_get (trees_of self.now) pointee)) also so_far) }
+        ensures room { S.room parts.old ≤ S.room parts.new + 2 }
     {
-        self.push_text(parts, number);
         self.push_item(parts, pointee, Form::Ty, 0, ctx);
+        self.push_text(parts, number);
     }
 
     /// Adds a function's type: its binder, and its signature under it.
-    fn push_function(
+    fn push_function<S: PartList<Context>>(
         &self,
-        parts: &mut ArrayVec<Part<Context>, 8>,
+        parts: &mut S,
         node: u32,
         binder: u16,
         ctx: Context,
     )
-        requires room { array_vec_len parts.old + 4 ≤ 8 }
+        requires room { 4 ≤ S.room parts.old }
         requires depth { HasDepth Form.PlainPath node ctx.bound }
-        ensures shows { (so_far : Unshared → Unshared) → Shows self.now parts.old.items so_far → ((t : tree.Ty) × IsType (trees_of self.now) node t) → binder ≤ most_bound → binder_in (type_in (slice_get (trees_of self.now) node)) ≡ binder
-            → Shows self.now parts.new.items (λ rest. so_far (for_binder ctx.bound binder (signature_in (record { bound = ctx.bound + binder; detail = ctx.detail }) (type_in (slice_get (trees_of self.now) node)) also rest))) }
-        ensures len { array_vec_len parts.new ≤ array_vec_len parts.old + 4 }
+        ensures shows { (below : Held Context) (so_far : Unshared) → Shows self.now below (S.held parts.old) so_far → ((t : tree.Ty) × IsType (trees_of self.now) node t) → binder ≤ most_bound → binder_in (type_in (slice_get (trees_of self.now) node)) ≡ binder
+            → Shows self.now below (S.held parts.new) (for_binder ctx.bound binder (signature_in (record { bound = ctx.bound + binder; detail = ctx.detail }) (type_in (slice_get (trees_of self.now) node)) also so_far)) }
+        ensures room { S.room parts.old ≤ S.room parts.new + 4 }
     {
-        self.push_binder(parts, node, binder, ctx);
         let inner = Context {
             bound: ctx.bound + binder as u64,
             detail: ctx.detail,
         };
         self.push_item(parts, node, Form::Signature, 0, inner);
+        self.push_binder(parts, node, binder, ctx);
     }
 
     /// Adds a `dyn` type: its binder, its bounds under it, and its lifetime.
-    fn push_dyn(
+    fn push_dyn<S: PartList<Context>>(
         &self,
-        parts: &mut ArrayVec<Part<Context>, 8>,
+        parts: &mut S,
         node: u32,
         binder: u16,
         bounds: u32,
         lifetime: u64,
         ctx: Context,
     )
-        requires room { array_vec_len parts.old + 7 ≤ 8 }
+        requires room { 7 ≤ S.room parts.old }
         requires depth { HasDepth Form.PlainPath node ctx.bound }
         requires are_bounds { (bs : tree.Bounds) × IsBounds (trees_of self.now) bounds bs }
-        ensures shows { (so_far : Unshared → Unshared) → Shows self.now parts.old.items so_far → ((t : tree.Ty) × IsType (trees_of self.now) node t) → bounds < node → binder ≤ most_bound → binder_in (type_in (slice_get (trees_of self.now) node)) ≡ binder
-            → Shows self.now parts.new.items (λ rest. so_far (codes "dyn " then for_binder ctx.bound binder (bounds_from ctx.detail (ctx.bound + binder) [] (bounds_in (slice_get (trees_of self.now) bounds)) perhaps dyn_lifetime ctx.bound lifetime rest))) }
-        ensures len { array_vec_len parts.new ≤ array_vec_len parts.old + 7 }
+        ensures shows { (below : Held Context) (so_far : Unshared) → Shows self.now below (S.held parts.old) so_far → ((t : tree.Ty) × IsType (trees_of self.now) node t) → bounds < node → binder ≤ most_bound → binder_in (type_in (slice_get (trees_of self.now) node)) ≡ binder
+            → Shows self.now below (S.held parts.new) (codes "dyn " then for_binder ctx.bound binder (bounds_from ctx.detail (ctx.bound + binder) [] (bounds_in (slice_get (trees_of self.now) bounds)) perhaps dyn_lifetime ctx.bound lifetime so_far)) }
+        ensures room { S.room parts.old ≤ S.room parts.new + 7 }
     {
-        self.push_text(parts, texts::DYN);
-        self.push_binder(parts, node, binder, ctx);
         let inner = Context {
             bound: ctx.bound + binder as u64,
             detail: ctx.detail,
         };
-        self.push_bounds(parts, bounds, true, inner);
         self.push_dyn_lifetime(parts, lifetime, ctx);
+        self.push_bounds(parts, bounds, true, inner);
+        self.push_binder(parts, node, binder, ctx);
+        self.push_text(parts, texts::DYN);
     }
 
     /// Adds the end of a tuple.
-    fn push_closing(&self, parts: &mut ArrayVec<Part<Context>, 8>, elements: u32)
-        requires room { array_vec_len parts.old + 1 ≤ 8 }
+    fn push_closing<S: PartList<Context>>(&self, parts: &mut S, elements: u32)
+        requires room { 1 ≤ S.room parts.old }
         requires types { (ts : tree.Tys) × IsTypes (trees_of self.now) elements ts }
-        ensures shows { (so_far : Unshared → Unshared) → Shows self.now parts.old.items so_far
-            → Shows self.now parts.new.items (λ rest. so_far (closing_tuple (types_in (slice_get (trees_of self.now) elements)) then rest)) }
-        ensures len { array_vec_len parts.new ≤ array_vec_len parts.old + 1 }
+        ensures shows { (below : Held Context) (so_far : Unshared) → Shows self.now below (S.held parts.old) so_far
+            → Shows self.now below (S.held parts.new) (closing_tuple (types_in (slice_get (trees_of self.now) elements)) then so_far) }
+        ensures room { S.room parts.old ≤ S.room parts.new + 1 }
     {
         match self.types(elements) {
             Types::None => self.push_text(parts, texts::RIGHT),
@@ -242,29 +231,31 @@ impl Symbol {
     }
 
     /// The parts of a type that isn't a path.
-    fn fill_ty(&self, parts: &mut ArrayVec<Part<Context>, 8>, ty: Ty, node: u32, ctx: Context)
+    #[inline(always)]
+    fn fill_ty<S: PartList<Context>>(&self, parts: &mut S, ty: Ty, node: u32, ctx: Context)
         requires parts { HasTypeParts self.now.bytes self.now.table.text (take node (trees_of self.now)) ty }
         requires tree { slice_get (trees_of self.now) node ≡ Some (of_type (type_of self.now.bytes (trees_of self.now) ty)) }
         requires depth { HasDepth Form.PlainPath node ctx.bound }
-        requires empty { parts.old.items ≡ [] }
-        ensures { Fills self.now parts.new.items (type_parts ctx.detail ctx.bound (type_of self.now.bytes (trees_of self.now) ty)) }
+        requires room { 8 ≤ S.room parts.old }
+        ensures shows { Shows self.now (S.held parts.old) (S.held parts.new) (type_parts ctx.detail ctx.bound (type_of self.now.bytes (trees_of self.now) ty)) }
+        ensures room { S.room parts.old ≤ S.room parts.new + 8 }
     {
         match ty {
             Ty::Basic(letter) => self.push_basic(parts, letter),
             Ty::Array { element, size } => self.push_array(parts, element, size, ctx),
             Ty::Slice(element) => self.push_slice(parts, element, ctx),
             Ty::Tuple(elements) => {
-                self.push_text(parts, texts::LEFT);
-                self.push_types(parts, elements, true, ctx);
                 self.push_closing(parts, elements);
+                self.push_types(parts, elements, true, ctx);
+                self.push_text(parts, texts::LEFT);
             }
             Ty::SharedReference { lifetime, referent } => {
-                self.push_reference(parts, lifetime, false, ctx);
                 self.push_item(parts, referent, Form::Ty, 0, ctx);
+                self.push_reference(parts, lifetime, false, ctx);
             }
             Ty::MutableReference { lifetime, referent } => {
-                self.push_reference(parts, lifetime, true, ctx);
                 self.push_item(parts, referent, Form::Ty, 0, ctx);
+                self.push_reference(parts, lifetime, true, ctx);
             }
             Ty::ConstPointer(pointee) => self.push_pointer(
                 parts,
@@ -283,11 +274,13 @@ impl Symbol {
     }
 
     /// The parts of a type, or of a path as one.
-    pub(crate) fn fill_type(&self, parts: &mut ArrayVec<Part<Context>, 8>, node: u32, ctx: Context)
+    #[inline(always)]
+    pub(crate) fn fill_type<S: PartList<Context>>(&self, parts: &mut S, node: u32, ctx: Context)
         requires ty { (t : tree.Ty) × IsType (trees_of self.now) node t }
         requires depth { HasDepth Form.PlainPath node ctx.bound }
-        requires empty { parts.old.items ≡ [] }
-        ensures { Fills self.now parts.new.items (type_parts ctx.detail ctx.bound (type_in (slice_get (trees_of self.now) node))) }
+        requires room { 8 ≤ S.room parts.old }
+        ensures shows { Shows self.now (S.held parts.old) (S.held parts.new) (type_parts ctx.detail ctx.bound (type_in (slice_get (trees_of self.now) node))) }
+        ensures room { S.room parts.old ≤ S.room parts.new + 8 }
     {
         match self.stored(node) {
             Node::Path(_) => self.fill_path(parts, node, false, ctx),
@@ -297,23 +290,23 @@ impl Symbol {
     }
 
     /// Adds how a signature begins.
-    fn push_opening(&self, parts: &mut ArrayVec<Part<Context>, 8>, is_unsafe: bool, abi: Abi)
-        requires { array_vec_len parts.old + 3 ≤ 8 }
-        ensures shows { (so_far : Unshared → Unshared) → Shows self.now parts.old.items so_far → HasAbi self.now.bytes self.now.table.text abi
-            → Shows self.now parts.new.items (λ rest. so_far (signature_opening is_unsafe (abi_of self.now.bytes abi) rest)) }
-        ensures len { array_vec_len parts.new ≤ array_vec_len parts.old + 3 }
+    fn push_opening<S: PartList<Context>>(&self, parts: &mut S, is_unsafe: bool, abi: Abi)
+        requires { 3 ≤ S.room parts.old }
+        ensures shows { (below : Held Context) (so_far : Unshared) → Shows self.now below (S.held parts.old) so_far → HasAbi self.now.bytes self.now.table.text abi
+            → Shows self.now below (S.held parts.new) (signature_opening is_unsafe (abi_of self.now.bytes abi) so_far) }
+        ensures room { S.room parts.old ≤ S.room parts.new + 3 }
     {
         match abi {
             Abi::Rust => self.push_either(parts, is_unsafe, texts::UNSAFE_FN, texts::FN),
             Abi::C => {
-                self.push_either(parts, is_unsafe, texts::UNSAFE_EXTERN, texts::EXTERN);
-                self.push_text(parts, texts::C);
                 self.push_text(parts, texts::QUOTE_FN);
+                self.push_text(parts, texts::C);
+                self.push_either(parts, is_unsafe, texts::UNSAFE_EXTERN, texts::EXTERN);
             }
             Abi::Named(name) => {
-                self.push_either(parts, is_unsafe, texts::UNSAFE_EXTERN, texts::EXTERN);
-                self.push_name(parts, name);
                 self.push_text(parts, texts::QUOTE_FN);
+                self.push_name(parts, name);
+                self.push_either(parts, is_unsafe, texts::UNSAFE_EXTERN, texts::EXTERN);
             }
         }
     }
@@ -331,30 +324,31 @@ impl Symbol {
     }
 
     /// Adds a signature's result, unless it is the unit type.
-    fn push_returned(&self, parts: &mut ArrayVec<Part<Context>, 8>, returned: u32, ctx: Context)
-        requires room { array_vec_len parts.old + 2 ≤ 8 }
+    fn push_returned<S: PartList<Context>>(&self, parts: &mut S, returned: u32, ctx: Context)
+        requires room { 2 ≤ S.room parts.old }
         requires ty { (t : tree.Ty) × IsType (trees_of self.now) returned t }
-        ensures shows { (so_far : Unshared → Unshared) → Shows self.now parts.old.items so_far → HasDepth Form.PlainPath returned ctx.bound
-            → Shows self.now parts.new.items (λ rest. so_far (returned_parts (is_unit (type_in (slice_get (trees_of self.now) returned))) (type_parts ctx.detail ctx.bound (type_in (slice_get (trees_of self.now) returned))) rest)) }
-        ensures len { array_vec_len parts.new ≤ array_vec_len parts.old + 2 }
+        ensures shows { (below : Held Context) (so_far : Unshared) → Shows self.now below (S.held parts.old) so_far → HasDepth Form.PlainPath returned ctx.bound
+            → Shows self.now below (S.held parts.new) (returned_parts (is_unit (type_in (slice_get (trees_of self.now) returned))) (type_parts ctx.detail ctx.bound (type_in (slice_get (trees_of self.now) returned))) so_far) }
+        ensures room { S.room parts.old ≤ S.room parts.new + 2 }
     {
         if !self.is_unit(returned) {
-            self.push_text(parts, texts::ARROW);
             self.push_item(parts, returned, Form::Ty, 0, ctx);
+            self.push_text(parts, texts::ARROW);
         }
     }
 
     /// The parts of a function's type without its binder.
-    pub(crate) fn fill_signature(
+    pub(crate) fn fill_signature<S: PartList<Context>>(
         &self,
-        parts: &mut ArrayVec<Part<Context>, 8>,
+        parts: &mut S,
         node: u32,
         ctx: Context,
     )
         requires ty { (t : tree.Ty) × IsType (trees_of self.now) node t }
         requires depth { HasDepth Form.Signature node ctx.bound }
-        requires empty { parts.old.items ≡ [] }
-        ensures { Fills self.now parts.new.items (signature_in ctx (type_in (slice_get (trees_of self.now) node))) }
+        requires room { 8 ≤ S.room parts.old }
+        ensures shows { Shows self.now (S.held parts.old) (S.held parts.new) (signature_in ctx (type_in (slice_get (trees_of self.now) node))) }
+        ensures room { S.room parts.old ≤ S.room parts.new + 8 }
     {
         match self.stored(node) {
             Node::Path(_) => {}
@@ -363,17 +357,18 @@ impl Symbol {
         }
     }
 
-    fn fill_ty_signature(
+    fn fill_ty_signature<S: PartList<Context>>(
         &self,
-        parts: &mut ArrayVec<Part<Context>, 8>,
+        parts: &mut S,
         ty: Ty,
         node: u32,
         ctx: Context,
     )
         requires parts { HasTypeParts self.now.bytes self.now.table.text (take node (trees_of self.now)) ty }
         requires depth { HasDepth Form.Signature node ctx.bound }
-        requires empty { parts.old.items ≡ [] }
-        ensures { Fills self.now parts.new.items (signature_in ctx (type_of self.now.bytes (trees_of self.now) ty)) }
+        requires room { 8 ≤ S.room parts.old }
+        ensures shows { Shows self.now (S.held parts.old) (S.held parts.new) (signature_in ctx (type_of self.now.bytes (trees_of self.now) ty)) }
+        ensures room { S.room parts.old ≤ S.room parts.new + 8 }
     {
         match ty {
             Ty::Function {
@@ -383,10 +378,10 @@ impl Symbol {
                 returned,
                 ..
             } => {
-                self.push_opening(parts, is_unsafe, abi);
-                self.push_types(parts, parameters, true, ctx);
-                self.push_text(parts, texts::RIGHT);
                 self.push_returned(parts, returned, ctx);
+                self.push_text(parts, texts::RIGHT);
+                self.push_types(parts, parameters, true, ctx);
+                self.push_opening(parts, is_unsafe, abi);
             }
             Ty::Basic(_) => {}
             Ty::Array { .. } => {}
@@ -413,24 +408,28 @@ impl Symbol {
     }
 
     /// The names of a binder's lifetimes from one on.
-    pub(crate) fn fill_names(
+    pub(crate) fn fill_names<S: PartList<Context>>(
         &self,
-        parts: &mut ArrayVec<Part<Context>, 8>,
+        parts: &mut S,
         node: u32,
         at: u32,
         ctx: Context,
     )
         requires ty { (t : tree.Ty) × IsType (trees_of self.now) node t }
         requires depth { HasDepth Form.PlainPath node ctx.bound }
-        requires empty { parts.old.items ≡ [] }
-        ensures { Fills self.now parts.new.items (names_in ctx.bound at (binder_in (type_in (slice_get (trees_of self.now) node)))) }
+        requires room { 8 ≤ S.room parts.old }
+        ensures shows { Shows self.now (S.held parts.old) (S.held parts.new) (names_in ctx.bound at (binder_in (type_in (slice_get (trees_of self.now) node)))) }
+        ensures room { S.room parts.old ≤ S.room parts.new + 8 }
     {
         let binder = self.binder(node) as u32;
         if at < binder {
-            self.push_separator(parts, at == 0, texts::COMMA);
-            self.push_numbered(parts, ctx.bound + at as u64);
             if at + 1 < binder {
                 self.push_item(parts, node, Form::Names, at + 1, ctx);
+                self.push_numbered(parts, ctx.bound + at as u64);
+                self.push_separator(parts, at == 0, texts::COMMA);
+            } else {
+                self.push_numbered(parts, ctx.bound + at as u64);
+                self.push_separator(parts, at == 0, texts::COMMA);
             }
         }
     }

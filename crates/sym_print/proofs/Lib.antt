@@ -3,4 +3,5 @@ pub mod Building
 pub mod Leading
 pub mod Room
 pub mod Stack
+pub mod Stacking
 pub mod Unfolding

@@ -2,6 +2,8 @@ pub mod Unshared
 pub mod Building
 pub mod Answer
 pub mod Joined
+pub mod Stacked
+pub mod Held
 pub mod Progress
 pub mod Printing
 pub mod Unfold

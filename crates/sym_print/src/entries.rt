@@ -3,46 +3,14 @@
 
 ghost use Rattle.std.specs.Prelude.{◌≡◌, ℕ, ◌+◌, ◌*◌, ◌-◌, ◌<◌, ◌≤◌, ◌++◌, length, take, drop, slice_get, reverse, vec_len, vec_capacity, is_ok, if◌then◌else◌, Some, None, [], ◌∷◌, IfOk, Err, IfErr, OnOk, OnErr, ◌⊎◌};
 ghost use Rattle.std.specs.List.{All};
-ghost use Rattle.arrayvec.specs.ArrayVec.{array_vec_len};
 ghost use Rattle.sym_print.specs.Joined.{with_parts, text_of_stack, cost_of_stack, steps_of_stack, IsText, IsNext};
 ghost use Rattle.sym_print.specs.declared.layout.Part.{Part};
 ghost use Rattle.sym_core.specs.declared.Refusal.{Refusal};
 
 use crate::layout::{Item, Layout, Part};
 use crate::meter::Meter;
-use arrayvec::ArrayVec;
 use std::alloc::AllocError;
 use sym_core::Refusal;
-
-/// Puts parts on a stack that has room for them, the first on top.
-fn push_reversed<C: Copy>(stack: &mut Vec<Part<C>>, parts: &[Part<C>])
-    requires { vec_len stack.old + length parts.now ≤ vec_capacity stack.old }
-    ensures items { stack.new.items ≡ stack.old.items ++ reverse parts.now }
-    ensures len { vec_len stack.new ≡ vec_len stack.old + length parts.now }
-    ensures capacity { vec_capacity stack.new ≡ vec_capacity stack.old }
-{
-    let mut left = parts.len();
-    while left > 0 {
-        left -= 1;
-        stack.push_reserved(parts[left]);
-    }
-}
-
-/// Moves the parts from a place on to a stack that has room for them, the first on top.
-fn move_reversed<C: Copy>(stack: &mut Vec<Part<C>>, parts: &mut ArrayVec<Part<C>, 8>, from: usize)
-    requires within { from ≤ length parts.old.items }
-    requires room { vec_len stack.old + array_vec_len parts.old ≤ vec_capacity stack.old + from }
-    ensures items { stack.new.items ≡ with_parts stack.old.items (drop from parts.old.items) }
-    ensures left { parts.new.items ≡ take from parts.old.items }
-    ensures len { vec_len stack.new + from ≡ vec_len stack.old + array_vec_len parts.old }
-    ensures capacity { vec_capacity stack.new ≡ vec_capacity stack.old }
-{
-    'parts: while parts.len() > from {
-        if let Some(part) = parts.pop() {
-            stack.push_reserved(part);
-        }
-    }
-}
 
 /// Adds bytes to a text. Up to three are added one at a time, which is faster than a copy.
 #[inline(always)]
@@ -142,6 +110,7 @@ fn take_item<C: Copy>(stack: &mut Vec<Part<C>>, meter: &mut Meter) -> Result<(),
     ensures own { IfErr result (λ r. (r ≡ Refusal.TooLong) ⊎ (r ≡ Refusal.Memory)) }
     ensures too_long { result ≡ Err Refusal.TooLong → meter.old.limit < meter.old.spent + 1 }
     ensures memory { result ≡ Err Refusal.Memory → vec_capacity stack.old < vec_len stack.old + 8 }
+    ensures affords { result ≡ Err Refusal.Memory → meter.old.spent < meter.old.limit }
 {
     pay_item(stack, meter)?;
     stack.pop();
@@ -171,136 +140,11 @@ pub(crate) fn open_item<Y: Layout>(
     ensures own { IfErr result (λ r. (r ≡ Refusal.TooLong) ⊎ (r ≡ Refusal.Memory)) }
     ensures too_long { result ≡ Err Refusal.TooLong → meter.old.limit < meter.old.spent + 1 }
     ensures memory { result ≡ Err Refusal.Memory → vec_capacity stack.old < vec_len stack.old + 8 }
+    ensures affords { result ≡ Err Refusal.Memory → meter.old.spent < meter.old.limit }
 {
     take_item(stack, meter)?;
-    let parts = y.parts(item);
-    push_reversed(stack, parts.as_slice());
+    y.push_parts(item, stack);
     Ok(())
-}
-
-/// Puts the parts of an item, which is the part at a place, into the list that it stands in, and what stands behind it
-/// onto the stack. Where it is refused, what the stack and the list from that place on print stays the same.
-fn open_part<Y: Layout>(
-    y: &Y,
-    item: Item<Y::Ctx>,
-    at: usize,
-    parts: &mut ArrayVec<Part<Y::Ctx>, 8>,
-    stack: &mut Vec<Part<Y::Ctx>>,
-    meter: &mut Meter,
-) -> Result<(), Refusal>
-    requires here { slice_get parts.old.items at ≡ Some (Part.Sub item) }
-    requires few { at < 8 }
-    requires may_come { All (Y.may_come y.now) (with_parts stack.old.items (drop at parts.old.items)) }
-    requires room { vec_len stack.old + array_vec_len parts.old ≤ vec_capacity stack.old + at }
-    requires paid { length (with_parts stack.old.items (drop at parts.old.items)) ≤ 7 * meter.old.spent + 1 }
-    ensures may_come { OnOk result (All (Y.may_come y.now) (with_parts stack.new.items parts.new.items)) }
-    ensures text { OnOk result (text_of_stack (Y.unshared y.now) (Y.bytes_of y.now) (with_parts stack.new.items parts.new.items) ≡ text_of_stack (Y.unshared y.now) (Y.bytes_of y.now) (with_parts stack.old.items (drop at parts.old.items))) }
-    ensures cost { OnOk result (meter.new.spent + cost_of_stack (Y.unshared y.now) (Y.bytes_of y.now) (with_parts stack.new.items parts.new.items) ≡ meter.old.spent + cost_of_stack (Y.unshared y.now) (Y.bytes_of y.now) (with_parts stack.old.items (drop at parts.old.items))) }
-    ensures steps { OnOk result (meter.new.steps + steps_of_stack (Y.unshared y.now) (Y.bytes_of y.now) (with_parts stack.new.items parts.new.items) ≡ meter.old.steps + steps_of_stack (Y.unshared y.now) (Y.bytes_of y.now) (with_parts stack.old.items (drop at parts.old.items))) }
-    ensures spent { OnOk result (meter.new.spent ≡ meter.old.spent + 1) }
-    ensures paid { OnOk result (length (with_parts stack.new.items parts.new.items) ≤ 7 * meter.new.spent + 1) }
-    ensures room { OnOk result (vec_len stack.new + array_vec_len parts.new ≤ vec_capacity stack.new) }
-    ensures same { OnErr result (with_parts stack.new.items (drop at parts.new.items) ≡ with_parts stack.old.items (drop at parts.old.items)) }
-    ensures unpaid { OnErr result (meter.new ≡ meter.old) }
-    ensures still_room { OnErr result ((at ≤ length parts.new.items) × (vec_len stack.new + array_vec_len parts.new ≤ vec_capacity stack.new + at)) }
-    ensures limit { meter.new.limit ≡ meter.old.limit }
-    ensures capacity { vec_capacity stack.old ≤ vec_capacity stack.new }
-    ensures own { IfErr result (λ r. (r ≡ Refusal.TooLong) ⊎ (r ≡ Refusal.Memory)) }
-    ensures too_long { result ≡ Err Refusal.TooLong → meter.old.limit < meter.old.spent + 1 }
-    ensures memory { result ≡ Err Refusal.Memory → vec_capacity stack.old < 8 * (meter.old.limit + 1) }
-{
-    move_reversed(stack, parts, at + 1);
-    pay_item(stack, meter)?;
-    parts.pop();
-    parts.clear();
-    y.fill(item, parts);
-    let count = parts.len();
-    prove!(count <= 8);
-    Ok(())
-}
-
-/// Prints parts up to the items behind the first, which it puts onto the stack with what stands behind them: each text is
-/// written at once, and an item's parts are the next ones. A refusal leaves all that wasn't printed on the stack.
-fn print_parts<Y: Layout>(
-    y: &Y,
-    parts: &mut ArrayVec<Part<Y::Ctx>, 8>,
-    stack: &mut Vec<Part<Y::Ctx>>,
-    text: &mut Vec<u8>,
-    meter: &mut Meter,
-) -> Result<(), Refusal>
-    requires may_come { All (Y.may_come y.now) (with_parts stack.old.items parts.old.items) }
-    requires room { vec_len stack.old + array_vec_len parts.old ≤ vec_capacity stack.old }
-    requires paid { vec_len text.old ≤ meter.old.spent }
-    requires stack_paid { length (with_parts stack.old.items parts.old.items) ≤ 7 * meter.old.spent + 1 }
-    requires some { 0 < length parts.old.items }
-    ensures paid { vec_len text.new ≤ meter.new.spent }
-    ensures stack_paid { vec_len stack.new ≤ 7 * meter.new.spent + 1 }
-    ensures may_come { All (Y.may_come y.now) stack.new.items }
-    ensures text { text.new.items ++ text_of_stack (Y.unshared y.now) (Y.bytes_of y.now) stack.new.items ≡ text.old.items ++ text_of_stack (Y.unshared y.now) (Y.bytes_of y.now) (with_parts stack.old.items parts.old.items) }
-    ensures cost { meter.new.spent + cost_of_stack (Y.unshared y.now) (Y.bytes_of y.now) stack.new.items ≡ meter.old.spent + cost_of_stack (Y.unshared y.now) (Y.bytes_of y.now) (with_parts stack.old.items parts.old.items) }
-    ensures steps { meter.new.steps + steps_of_stack (Y.unshared y.now) (Y.bytes_of y.now) stack.new.items ≡ meter.old.steps + steps_of_stack (Y.unshared y.now) (Y.bytes_of y.now) (with_parts stack.old.items parts.old.items) }
-    ensures limit { meter.new.limit ≡ meter.old.limit }
-    ensures entry_room { vec_capacity stack.old ≤ vec_capacity stack.new }
-    ensures own { IfErr result (λ r. (r ≡ Refusal.TooLong) ⊎ (r ≡ Refusal.Memory)) }
-    ensures text_room { vec_capacity text.old ≤ vec_capacity text.new }
-    ensures spends { OnOk result (meter.old.spent < meter.new.spent) }
-    ensures too_long { result ≡ Err Refusal.TooLong → meter.new.limit < meter.new.spent + cost_of_stack (Y.unshared y.now) (Y.bytes_of y.now) stack.new.items }
-    ensures memory { result ≡ Err Refusal.Memory → (vec_capacity stack.old < 8 * (meter.old.limit + 1)) ⊎ (vec_capacity text.old < meter.old.limit) }
-{
-    let mut at = 0;
-    'parts: while at < parts.len() {
-        let part = &parts.as_slice()[at];
-        match part {
-            Part::Sub(item) => {
-                let item = *item;
-                if let Err(refusal) = open_part(y, item, at, parts, stack, meter) {
-                    move_reversed(stack, parts, at);
-                    return Err(refusal);
-                }
-                at = 0;
-            }
-            _ => {
-                if let Err(refusal) = write_text(y, part, text, meter) {
-                    move_reversed(stack, parts, at);
-                    return Err(refusal);
-                }
-                at += 1;
-            }
-        }
-    }
-    Ok(())
-}
-
-/// Prints the next entry: of an item all up to the items behind its first one.
-fn print_next<Y: Layout>(
-    y: &Y,
-    parts: &mut ArrayVec<Part<Y::Ctx>, 8>,
-    stack: &mut Vec<Part<Y::Ctx>>,
-    text: &mut Vec<u8>,
-    meter: &mut Meter,
-) -> Result<(), Refusal>
-    requires some { 0 < vec_len stack.old }
-    requires may_come { All (Y.may_come y.now) stack.old.items }
-    requires paid { vec_len text.old ≤ meter.old.spent }
-    requires stack_paid { vec_len stack.old ≤ 7 * meter.old.spent + 1 }
-    ensures paid { vec_len text.new ≤ meter.new.spent }
-    ensures stack_paid { vec_len stack.new ≤ 7 * meter.new.spent + 1 }
-    ensures may_come { All (Y.may_come y.now) stack.new.items }
-    ensures text { text.new.items ++ text_of_stack (Y.unshared y.now) (Y.bytes_of y.now) stack.new.items ≡ text.old.items ++ text_of_stack (Y.unshared y.now) (Y.bytes_of y.now) stack.old.items }
-    ensures cost { meter.new.spent + cost_of_stack (Y.unshared y.now) (Y.bytes_of y.now) stack.new.items ≡ meter.old.spent + cost_of_stack (Y.unshared y.now) (Y.bytes_of y.now) stack.old.items }
-    ensures steps { meter.new.steps + steps_of_stack (Y.unshared y.now) (Y.bytes_of y.now) stack.new.items ≡ meter.old.steps + steps_of_stack (Y.unshared y.now) (Y.bytes_of y.now) stack.old.items }
-    ensures limit { meter.new.limit ≡ meter.old.limit }
-    ensures entry_room { vec_capacity stack.old ≤ vec_capacity stack.new }
-    ensures own { IfErr result (λ r. (r ≡ Refusal.TooLong) ⊎ (r ≡ Refusal.Memory)) }
-    ensures text_room { vec_capacity text.old ≤ vec_capacity text.new }
-    ensures spends { OnOk result (meter.old.spent < meter.new.spent) }
-    ensures too_long { result ≡ Err Refusal.TooLong → meter.new.limit < meter.new.spent + cost_of_stack (Y.unshared y.now) (Y.bytes_of y.now) stack.new.items }
-    ensures memory { result ≡ Err Refusal.Memory → (vec_capacity stack.old < 8 * (meter.old.limit + 1)) ⊎ (vec_capacity text.old < meter.old.limit) }
-{
-    let next = stack.take_last();
-    parts.clear();
-    parts.push(next);
-    print_parts(y, parts, stack, text, meter)
 }
 
 /// Writes the next entry, a byte text, and takes it from the stack.
@@ -362,10 +206,12 @@ pub(crate) fn print_entries<Y: Layout>(
     ensures too_long { result ≡ Err Refusal.TooLong → meter.old.limit < meter.old.spent + cost_of_stack (Y.unshared y.now) (Y.bytes_of y.now) stack.old.items }
     ensures memory { result ≡ Err Refusal.Memory → (vec_capacity stack.old < 8 * (meter.old.limit + 1)) ⊎ (vec_capacity text.old < meter.old.limit) }
 {
-    let mut parts = ArrayVec::new();
     while let Some(next) = stack.last() {
         match next {
-            Part::Sub(_) => print_next(y, &mut parts, stack, text, meter)?,
+            Part::Sub(item) => {
+                let item = *item;
+                open_item(y, item, stack, meter)?;
+            }
             _ => {
                 write_text(y, next, text, meter)?;
                 stack.take_last();

@@ -1,7 +1,7 @@
 // What a printer can print: items, each with at most eight parts.
 #![tactic(auto)]
 
-ghost use Rattle.std.specs.Prelude.{◌≡◌, ℕ, ◌<◌, ◌≤◌, length, List, []};
+ghost use Rattle.std.specs.Prelude.{◌≡◌, ℕ, ◌+◌, ◌<◌, ◌≤◌, length, vec_len, vec_capacity, List, []};
 ghost use Rattle.std.specs.List.{All};
 
 use arrayvec::ArrayVec;
@@ -53,8 +53,8 @@ impl<C> Default for Part<C> {
 /// It stands for trees in which nothing is shared: `unshared` says what an item prints, all the way down. An item's text is
 /// that of its parts in order, and its cost is 1, plus the lengths of its texts, plus the costs of the items among its parts.
 /// So these are defined over items whose parts have a smaller rank; `specs/Unfold.antt` makes such a tree of parts and a rank.
-/// The laws are clauses of the two methods: the parts that `fill` pushes are those of the tree, they may be asked about, there
-/// are at most eight, and no text is empty. Neither method takes memory.
+/// The laws are clauses of the methods: the parts that `fill` and `push_parts` answer are those of the tree, they may be asked
+/// about, there are at most eight, and no text is empty. No method takes memory.
 pub trait Layout {
     /// What an item is told beside its node, as an index into a parameter pack.
     type Ctx: Copy;
@@ -63,6 +63,7 @@ pub trait Layout {
     ghost use Rattle.sym_print.specs.declared.layout.Part.{Part};
     ghost use Rattle.sym_print.specs.Unshared.{Unshared};
     ghost use Rattle.sym_print.specs.Joined.{joined, IsText};
+    ghost use Rattle.sym_print.specs.Stacked.{Stacked};
 
     // the parts that this value may be asked about: an item's parts, or a text's bytes
     ghost may_come: { Self → Part Self.Ctx → Type 0 };
@@ -79,6 +80,17 @@ pub trait Layout {
         requires empty { parts.old.items ≡ [] }
         ensures parts { unshared self.now item ≡ joined (unshared self.now) (bytes_of self.now) parts.new.items }
         ensures may_come { All (may_come self.now) parts.new.items };
+
+    /// Pushes the parts of an item onto a stack that has room for eight, the first on top.
+    ///
+    /// This is what a printer asks for. A layout builds them there, the last part first, or moves what `fill` answers by
+    /// `push_reversed`.
+    fn push_parts(&self, item: Item<Self::Ctx>, stack: &mut Vec<Part<Self::Ctx>>)
+        requires may_come { may_come self.now (Part.Sub item) }
+        requires room { vec_len stack.old + 8 ≤ vec_capacity stack.old }
+        ensures parts { Stacked (unshared self.now) (bytes_of self.now) (may_come self.now) stack.old.items stack.new.items (unshared self.now item) }
+        ensures few { vec_len stack.new ≤ vec_len stack.old + 8 }
+        ensures capacity { vec_capacity stack.new ≡ vec_capacity stack.old };
 
     /// The bytes of a part that is no item. There is at least one.
     fn bytes<'a>(&'a self, part: &'a Part<Self::Ctx>) -> &'a [u8]

@@ -5,8 +5,10 @@ mod detail;
 mod entries;
 mod layout;
 mod meter;
+mod part_list;
 mod printer;
 
 pub use detail::Detail;
 pub use layout::{Item, Layout, Part};
+pub use part_list::{PartList, push_reversed};
 pub use printer::{Printer, print};

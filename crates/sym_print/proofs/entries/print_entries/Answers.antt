@@ -3,6 +3,7 @@ use Rattle.std.proofs.lemmas.List.Elements.{All-same, All-take}
 use Rattle.std.proofs.lemmas.Result.{err_from_is_err_and}
 use Rattle.sym_core.specs.declared.Refusal.{Refusal}
 use Rattle.sym_core.specs.declared.Refusal.TheVariants.{TooLong}
+use Rattle.sym_print.specs.declared.layout.Part.TheVariants.{Sub}
 use Rattle.sym_print.specs.declared.meter.Meter.{Meter}
 use Rattle.sym_print.specs.Joined.{IsNext, IsText, text_of_stack, cost_of_stack, steps_of_stack}
 use Rattle.sym_print.proofs.Stack.{without_last, text_of_write, cost_of_next, cost_of_text, steps_of_next, steps_of_text}
@@ -38,6 +39,22 @@ returns-in_err-write_text-in_default-next-clause-too_long g c same =
       c.in_err-write_text-in_default-next.ensures.too_long (ap refused was),
       cost_of_next unshared bytes_of c.loop-next.stack.items c.in-Some.next.now next,
       cost_of_text unshared bytes_of c.in-Some.next.now is_text,
+      c.loop-next.invariant.2,
+      c.loop-next.invariant.6,
+    )
+
+pub returns-in_err-open_item-in-Sub-clause-too_long : goal.returns-in_err-open_item-in-Sub-clause-too_long
+returns-in_err-open_item-in-Sub-clause-too_long g c same =
+    let p = err_from_is_err_and c.from_residual.result c.from_residual.ensures.1 in
+    let was : c.in_err-open_item-in-Sub.field-0.0 ≡ TooLong = cc (p.1, p.2) in
+    let refused : Refusal → Result (Unit {0}) Refusal = λ r. Err r in
+    let unshared = g.Y.Layout.unshared c.args.y.now in
+    let bytes_of = g.Y.Layout.bytes_of c.args.y.now in
+    let next : IsNext c.loop-next.stack.items (Sub c.in-Sub.item) = search rules in
+    omega (
+      arith,
+      c.in_err-open_item-in-Sub.ensures.too_long (ap refused was),
+      cost_of_next unshared bytes_of c.loop-next.stack.items (Sub c.in-Sub.item) next,
       c.loop-next.invariant.2,
       c.loop-next.invariant.6,
     )

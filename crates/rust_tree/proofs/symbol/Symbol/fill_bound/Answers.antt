@@ -1,28 +1,28 @@
 use Rattle.std.proofs.Common.{ap, ◌∙◌, slice_get, rules, subst, sym}
-use Rattle.rust_tree.proofs.Lists.{starts, fills}
+use Rattle.rust_tree.proofs.Pushing.{starts, fills}
 use Rattle.rust_tree.proofs.Showing.{deeper, early-path, brief-bound, bare-bound}
 use Rattle.rust_tree.specs.Nodes.{bounds_in, bounds_of, path_in, bindings_in}
-use Rattle.rust_tree.specs.Layout.{trees_of, bound_in, Fills}
+use Rattle.rust_tree.specs.Layout.{trees_of, bound_in, Shows}
 use Rattle.rust_tree.proofs.symbol.Symbol.fill_bound.Goals as goal
 
-pub returns-in-None : goal.returns-in-None
+pub returns-in-None-clause-shows : goal.returns-in-None-clause-shows
 unfolding bounds_of
-returns-in-None c =
-    fills c.args.self.now _ _ _ ((starts c.args.self.now c.args.parts.now.items c.requires.empty)) (ap (λ t. bound_in c.args.ctx (bounds_in t)) c.in-None.ensures.tree)
+returns-in-None-clause-shows g c =
+    fills c.args.self.now _ _ _ (starts c.args.self.now _) (ap (λ t. bound_in c.args.ctx (bounds_in t)) c.in-None.ensures.tree)
 
-pub returns-in-Brief : goal.returns-in-Brief
+pub returns-in-Brief-clause-shows : goal.returns-in-Brief-clause-shows
 unfolding bounds_of
-returns-in-Brief c =
+returns-in-Brief-clause-shows g c =
     let p = early-path (trees_of c.args.self.now) c.args.node c.in-More.path c.in-More.ensures.parts.0 in
-    fills c.args.self.now _ _ _ (c.push_path.ensures.shows _ (starts c.args.self.now c.args.parts.now.items c.requires.empty) p.1 (deeper c.args.ctx.bound c.in-More.path c.args.node p.0 c.requires.depth)) (ap (λ t. bound_in c.args.ctx (bounds_in t)) c.in-More.ensures.tree ∙ brief-bound c.args.ctx.detail c.args.ctx.bound (path_in (slice_get (trees_of c.args.self.now) c.in-More.path)) (bindings_in (slice_get (trees_of c.args.self.now) c.in-More.bindings)) c.in-Brief.is)
+    fills c.args.self.now _ _ _ (c.push_path.ensures.shows _ _ (starts c.args.self.now _) p.1 (deeper c.args.ctx.bound c.in-More.path c.args.node p.0 c.requires.depth)) (ap (λ t. bound_in c.args.ctx (bounds_in t)) c.in-More.ensures.tree ∙ brief-bound c.args.ctx.detail c.args.ctx.bound (path_in (slice_get (trees_of c.args.self.now) c.in-More.path)) (bindings_in (slice_get (trees_of c.args.self.now) c.in-More.bindings)) c.in-Brief.is)
 
-pub returns-then-any_bindings : goal.returns-then-any_bindings
+pub returns-then-any_bindings-clause-shows : goal.returns-then-any_bindings-clause-shows
 unfolding bounds_of
-returns-then-any_bindings c =
-    subst (λ w. Fills c.args.self.now c.fill_full_bound.new.parts.items w) (sym (ap (λ t. bound_in c.args.ctx (bounds_in t)) c.in-More.ensures.tree)) c.fill_full_bound.ensures
+returns-then-any_bindings-clause-shows g c =
+    subst (λ w. Shows c.args.self.now (g.S.PartList.held c.args.parts.now) (g.S.PartList.held c.fill_full_bound.new.parts) w) (sym (ap (λ t. bound_in c.args.ctx (bounds_in t)) c.in-More.ensures.tree)) c.fill_full_bound.ensures.shows
 
-pub returns-else-any_bindings : goal.returns-else-any_bindings
+pub returns-else-any_bindings-clause-shows : goal.returns-else-any_bindings-clause-shows
 unfolding bounds_of
-returns-else-any_bindings c =
+returns-else-any_bindings-clause-shows g c =
     let p = early-path (trees_of c.args.self.now) c.args.node c.in-More.path c.in-More.ensures.parts.0 in
-    fills c.args.self.now _ _ _ (c.push_path-else-any_bindings.ensures.shows _ (starts c.args.self.now c.args.parts.now.items c.requires.empty) p.1 (deeper c.args.ctx.bound c.in-More.path c.args.node p.0 c.requires.depth)) (ap (λ t. bound_in c.args.ctx (bounds_in t)) c.in-More.ensures.tree ∙ bare-bound c.args.ctx.detail c.args.ctx.bound (path_in (slice_get (trees_of c.args.self.now) c.in-More.path)) (bindings_in (slice_get (trees_of c.args.self.now) c.in-More.bindings)) c.in-Full.is (search rules))
+    fills c.args.self.now _ _ _ (c.push_path-else-any_bindings.ensures.shows _ _ (starts c.args.self.now _) p.1 (deeper c.args.ctx.bound c.in-More.path c.args.node p.0 c.requires.depth)) (ap (λ t. bound_in c.args.ctx (bounds_in t)) c.in-More.ensures.tree ∙ bare-bound c.args.ctx.detail c.args.ctx.bound (path_in (slice_get (trees_of c.args.self.now) c.in-More.path)) (bindings_in (slice_get (trees_of c.args.self.now) c.in-More.bindings)) c.in-Full.is (search rules))

@@ -1,19 +1,19 @@
 use Rattle.std.proofs.Common.{ap, if◌then◌else◌, [], codes}
-use Rattle.rust_tree.proofs.Lists.{starts, fills}
+use Rattle.rust_tree.proofs.Pushing.{starts, fills}
 use Rattle.rust_tree.proofs.Showing.{deeper, early-type, early-types}
 use Rattle.rust_tree.specs.Nodes.{types_in, types_of}
 use Rattle.rust_tree.specs.Shown.{types_from}
 use Rattle.rust_tree.specs.Layout.{trees_of, parts_in}
 use Rattle.rust_tree.proofs.symbol.Symbol.fill_types.Goals as goal
 
-pub returns-in-None : goal.returns-in-None
+pub returns-in-None-clause-shows : goal.returns-in-None-clause-shows
 unfolding types_from types_of
-returns-in-None c =
-    fills c.args.self.now _ _ _ ((starts c.args.self.now c.args.parts.now.items c.requires.empty)) (ap (λ t. parts_in (types_from c.args.ctx.detail c.args.ctx.bound (if c.args.first then [] else codes ", ") (types_in t))) c.in-None.ensures.tree)
+returns-in-None-clause-shows g c =
+    fills c.args.self.now _ _ _ (starts c.args.self.now _) (ap (λ t. parts_in (types_from c.args.ctx.detail c.args.ctx.bound (if c.args.first then [] else codes ", ") (types_in t))) c.in-None.ensures.tree)
 
-pub returns-in-More : goal.returns-in-More
+pub returns-in-More-clause-shows : goal.returns-in-More-clause-shows
 unfolding types_from types_of
-returns-in-More c =
+returns-in-More-clause-shows g c =
     let t = early-type (trees_of c.args.self.now) c.args.node c.in-More.ty c.in-More.ensures.parts.0 in
     let r = early-types (trees_of c.args.self.now) c.args.node c.in-More.rest c.in-More.ensures.parts.1 in
-    fills c.args.self.now _ _ _ (c.push_types.ensures.shows _ (c.push_item.ensures.shows _ (c.push_separator.ensures.shows _ (starts c.args.self.now c.args.parts.now.items c.requires.empty)) t.1 (deeper c.args.ctx.bound c.in-More.ty c.args.node t.0 c.requires.depth)) (deeper c.args.ctx.bound c.in-More.rest c.args.node r.0 c.requires.depth)) (ap (λ t. parts_in (types_from c.args.ctx.detail c.args.ctx.bound (if c.args.first then [] else codes ", ") (types_in t))) c.in-More.ensures.tree)
+    fills c.args.self.now _ _ _ (c.push_separator.ensures.shows _ _ (c.push_item.ensures.shows _ _ (c.push_types.ensures.shows _ _ (starts c.args.self.now _) (deeper c.args.ctx.bound c.in-More.rest c.args.node r.0 c.requires.depth)) t.1 (deeper c.args.ctx.bound c.in-More.ty c.args.node t.0 c.requires.depth))) (ap (λ t. parts_in (types_from c.args.ctx.detail c.args.ctx.bound (if c.args.first then [] else codes ", ") (types_in t))) c.in-More.ensures.tree)

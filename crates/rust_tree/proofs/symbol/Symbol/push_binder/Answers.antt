@@ -6,6 +6,6 @@ use Rattle.rust_tree.specs.Layout.{names_in}
 use Rattle.rust_tree.proofs.symbol.Symbol.push_binder.Goals as goal
 
 pub returns-in_default-clause-shows : goal.returns-in_default-clause-shows
-returns-in_default-clause-shows c so_far shows is deep binds =
-    changed c.args.self.now _ so_far _ _ (λ rest. ap (λ n. codes "for<" then names_in c.args.ctx.bound 0 n also codes "> " then rest) binds ∙ some-binder c.args.ctx.bound c.args.binder rest (omega (arith, c.in_default)))
-    (c.push_text-in_default.ensures.shows _ (c.push_item.ensures.shows _ (c.push_text.ensures.shows so_far shows) is deep))
+returns-in_default-clause-shows g c below so_far shows is deep binds =
+    changed c.args.self.now _ _ _ (ap (λ n. codes "for<" then names_in c.args.ctx.bound 0 n also codes "> " then so_far) binds ∙ some-binder c.args.ctx.bound c.args.binder so_far (omega (arith, c.in_default)))
+    (c.push_text-in_default.ensures.shows _ _ (c.push_item.ensures.shows _ _ (c.push_text.ensures.shows _ _ shows) is deep))

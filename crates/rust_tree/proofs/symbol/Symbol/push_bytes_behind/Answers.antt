@@ -3,11 +3,11 @@ use Rattle.rust_tree.proofs.Showing.{changed, named, unnamed}
 use Rattle.rust_tree.proofs.symbol.Symbol.push_bytes_behind.Goals as goal
 
 pub returns-then-not-prints_nothing-clause-shows : goal.returns-then-not-prints_nothing-clause-shows
-returns-then-not-prints_nothing-clause-shows c so_far shows within =
+returns-then-not-prints_nothing-clause-shows g c below so_far shows within =
     let e = c.prints_nothing.ensures _ within in
-    changed c.args.self.now _ so_far _ _ (λ rest. named _ _ rest (sym e ∙ search rules)) (c.push_bytes.ensures.shows _ (c.push_text.ensures.shows so_far shows) within)
+    changed c.args.self.now _ _ _ (named _ _ so_far (sym e ∙ search rules)) (c.push_text.ensures.shows _ _ (c.push_bytes.ensures.shows _ _ shows within))
 
 pub returns-else-not-prints_nothing-clause-shows : goal.returns-else-not-prints_nothing-clause-shows
-returns-else-not-prints_nothing-clause-shows c so_far shows within =
+returns-else-not-prints_nothing-clause-shows g c below so_far shows within =
     let e = c.prints_nothing.ensures _ within in
-    changed c.args.self.now _ so_far _ _ (λ rest. unnamed _ _ rest (sym e ∙ search rules)) shows
+    changed c.args.self.now _ _ _ (unnamed _ _ so_far (sym e ∙ search rules)) shows

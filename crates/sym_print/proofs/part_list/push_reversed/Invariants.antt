@@ -1,5 +1,5 @@
 use Rattle.std.proofs.Common.{◌≡◌, ◌+◌, ◌≤◌, ◌++◌, length, drop, reverse, vec_len, vec_capacity}
-use Rattle.sym_print.proofs.entries.push_reversed.Given as goal
+use Rattle.sym_print.proofs.part_list.push_reversed.Given as goal
 
 abbrev pub invariant-loop-left : goal.invariant-loop-left
 invariant-loop-left g l =

@@ -1,5 +1,5 @@
 use Rattle.std.proofs.Common.{◌++◌, length-append, append_assoc, ap, ◌∙◌, arith}
-use Rattle.rust_tree.proofs.parts.own.Goals as goal
+use Rattle.rust_tree.proofs.push.own.Goals as goal
 
 pub returns : goal.returns
 returns c =
