@@ -1,19 +1,49 @@
--- What references, and signatures, say of the trees.
-use Rattle.std.specs.Prelude.{ℕ, List, Bool, true, false, ◌&&◌, nat_eq, Option, Some, None, Result, Ok, Err}
+-- What is read of nodes and of references.
+use Rattle.std.specs.Prelude.{◌≡◌, ℕ, List, Bool, true, false, ◌&&◌, nat_eq, Option, Some, None, Result, Ok, Err}
 use Rattle.sym_core.specs.declared.refusal.Refusal.{Refusal}
 use Rattle.sym_link.specs.Reading.{Found}
 use Rattle.sym_link.specs.Unfold.{found}
 use Rattle.cpp_term.specs.Term as term
-use Rattle.cpp_term.specs.Term.{Term, absent}
+use Rattle.cpp_term.specs.Term.{Term, absent, nil}
 use Rattle.cpp_term.specs.Scope.{has_return_type}
-use Rattle.cpp_term.specs.Meaning.{parameters}
+use Rattle.cpp_term.specs.Meaning.{is_void, is_nil, parameters}
 use Rattle.cpp_term.specs.References.{appended}
 use Rattle.cpp_term.specs.Values as values
 use Rattle.cpp_term.specs.Values.{State, Value, Around, tree_of, qualifiers_of, ref_of}
-use Rattle.cpp_link.specs.declared.node.Tag.{Tag}
-use Rattle.cpp_link.specs.declared.node.Candidate.{Candidate}
-use Rattle.cpp_link.specs.declared.table.Shape.{Shape}
-use Rattle.cpp_link.specs.Nodes.{tree_at, candidate_of}
+use Rattle.cpp_tree.specs.Nodes.{tree_at}
+use Rattle.cpp_tree.specs.declared.node.Node.{Node}
+use Rattle.cpp_link.specs.declared.part.Candidate.{Candidate}
+use Rattle.cpp_link.specs.Parts.{candidate_of}
+
+-- ## Nodes
+
+unfoldable pub void_node : Node → Bool
+void_node (Node.Builtin letter) = nat_eq letter 118
+void_node _ = false
+
+unfoldable pub nil_node : Node → Bool
+nil_node Node.Nil = true
+nil_node _ = false
+
+-- the first element and the others of a list that has some
+unfoldable pub cell_of : Node → Option (ℕ × ℕ)
+cell_of (Node.Cell first rest) = Some (first, rest)
+cell_of _ = None
+
+-- the parameters of the items that these are, by their cell
+unfoldable pub parameters_by : List Term → Option (ℕ × ℕ) → Term → Term
+parameters_by ts None items = items
+parameters_by ts (Some cell) items = elim (is_void (tree_at ts cell.0) && is_nil (tree_at ts cell.1)) [ true ↦ nil | false ↦ items ]
+
+-- an encoding of this name and these items, by their cell
+unfoldable pub encoding_by : List Term → Value → Option (ℕ × ℕ) → (items : Term) → Term
+encoding_by ts name None items = term.object (tree_of name) (qualifiers_of name) (ref_of name)
+encoding_by ts name (Some cell) items = elim (has_return_type (tree_of name)) [
+  | true ↦ term.function (tree_of name) (qualifiers_of name) (ref_of name) (tree_at ts cell.0) (parameters (tree_at ts cell.1))
+  | false ↦ term.function (tree_of name) (qualifiers_of name) (ref_of name) absent (parameters items)
+]
+
+-- ## References
 
 unfoldable pub packs_read : List values.Candidate → Result (Option ℕ) Refusal → Result State Refusal
 packs_read cs (Ok packs) = Ok (record { candidates = cs; packs = packs })
@@ -31,26 +61,3 @@ node_read ts cs (Err e) = Err e
 unfoldable pub with_candidate : Around → List Term → Option ℕ → State → State
 with_candidate around ts None state = state
 with_candidate around ts (Some n) state = appended around (tree_at ts n) state
-
-unfoldable pub void_tag : Tag → Bool
-void_tag (Tag.Builtin byte) = nat_eq byte 118
-void_tag _ = false
-
-unfoldable pub nil_tag : Tag → Bool
-nil_tag Tag.Nil = true
-nil_tag _ = false
-
-unfoldable pub cell_shape : Shape → Bool
-cell_shape Shape.Cell = true
-cell_shape _ = false
-
-unfoldable pub function_by : Bool → Value → (items first rest : Term) → Term
-function_by b name items first rest = elim b [
-  | true ↦ term.function (tree_of name) (qualifiers_of name) (ref_of name) first (parameters rest)
-  | false ↦ term.function (tree_of name) (qualifiers_of name) (ref_of name) absent (parameters items)
-]
-
--- an encoding of this name and these items
-unfoldable pub encoded : Bool → Value → (items first rest : Term) → Term
-encoded false name items first rest = term.object (tree_of name) (qualifiers_of name) (ref_of name)
-encoded true name items first rest = function_by (has_return_type (tree_of name)) name items first rest

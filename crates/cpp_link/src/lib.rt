@@ -1,15 +1,13 @@
-// A C++ symbol's nodes, from its rows.
+//! A C++ symbol's nodes, from its rows.
 #![tactic(auto)]
 
-pub mod before;
 pub mod dispatch;
+pub mod linked;
 pub mod meaning;
-pub mod node;
-pub mod references;
-pub mod settling;
+pub mod numbers;
+pub mod part;
 pub mod shapes;
 pub mod signatures;
-pub mod table;
 pub mod values;
 
 ghost use Rattle.std.specs.Prelude.{◌≤◌, ℕ, ◌*◌, length};

@@ -1,73 +1,102 @@
-// What productions stand for, given their parts: a part, or a node that isn't there yet.
+// What productions stand for, given their parts: a part, or one whose node isn't there yet.
 
-ghost use Rattle.std.specs.Prelude.{◌≡◌, ℕ, length, IfSome, not, ◌&&◌, List};
+ghost use Rattle.std.specs.Prelude.{◌≡◌, ℕ, ◌+◌, ◌<◌, ◌^◌, length, slice_index, true, IfOk, IfErr};
+ghost use Rattle.sym_core.specs.declared.refusal.Refusal.TheVariants as refusals;
 ghost use Rattle.cpp_term.specs.Values as values;
-ghost use Rattle.cpp_term.specs.Values.{Around, tree_of, is_there, part};
+ghost use Rattle.cpp_term.specs.Values.{tree_of, is_there, part};
 ghost use Rattle.cpp_term.specs.Between.{applied};
-ghost use Rattle.cpp_term.specs.Meaning.{meaning};
-ghost use Rattle.cpp_link.specs.declared.node.Meant.{Meant};
-ghost use Rattle.cpp_link.specs.declared.node.Tag.{Tag};
-ghost use Rattle.cpp_link.specs.Nodes.{trees, values_of, meant_value, AreBelow, IsMeantBelow, IsTable};
+ghost use Rattle.cpp_term.specs.Meaning.{meaning, reference_to, listed_value, signature_or, operator_or_literal, discriminator_of};
+ghost use Rattle.cpp_tree.specs.Nodes as nodes;
+ghost use Rattle.cpp_tree.specs.Nodes.{over, IsTable, IsSpan};
+ghost use Rattle.sym_core.specs.Number.{FitsSymbol};
+ghost use Rattle.cpp_link.specs.declared.part.Meant.{Meant};
+ghost use Rattle.cpp_link.specs.declared.part.Part.{Part};
+ghost use Rattle.cpp_tree.specs.declared.node.Node.{Node};
+ghost use Rattle.cpp_link.specs.Parts.{trees_in, value_of, value_in, values_in, around_of, meant_value, AreThere, IsThere, IsMeantThere, IsPrefixThere};
 
-use crate::node::{ABSENT, Adjustment, Marks, Meant, NIL, Node, Part, RefMark, Tag, Text, Thunk};
-use crate::table::Table;
+use crate::linked::Linked;
+use crate::numbers::{local_number, normal, one_byte, signed_digits, with_byte};
+use crate::part::{Kept, Meant, Part};
+use crate::shapes::with_piece;
+use crate::values::part;
 use cpp_grammar::production::Production;
+use cpp_tree::node::{Adjustment, Mark, Node, Piece, Qualifiers, Thunk};
+use cpp_tree::nodes::NIL;
+use sym_core::Refusal;
 
-/// A node with these parts.
-pub fn made(tag: Tag, first: u32, second: u32, listed: bool) -> Meant
-    ensures { result ≡ Meant.Made (record { tag = tag; first = first; second = second; third = 0 }) listed }
+/// A node to come, which is a tree.
+#[inline(always)]
+pub fn made(node: Node, listed: bool) -> Meant
+    ensures { result ≡ Meant.Made node listed }
 {
-    Meant::Made {
-        node: Node {
-            tag,
-            first,
-            second,
-            third: ABSENT,
-        },
-        listed,
-    }
+    Meant::Made { node, listed }
+}
+
+/// A tree that is there.
+#[inline(always)]
+fn tree(node: u32, listed: bool) -> Meant
+    ensures { result ≡ Meant.Given (Part.Tree node listed) }
+{
+    Meant::Given(Part::Tree { node, listed })
 }
 
 /// One more item before those of a signature.
-fn items(first: u32, second: u32, reference: RefMark) -> Meant
-    ensures { result ≡ Meant.Items (record { tag = Tag.Cell; first = first; second = second; third = 0 }) reference }
+#[inline(always)]
+fn items(first: u32, rest: u32, mark: Mark) -> Meant
+    ensures { result ≡ Meant.Items (Node.Cell first rest) mark }
 {
     Meant::Items {
-        node: Node {
-            tag: Tag::Cell,
-            first,
-            second,
-            third: ABSENT,
-        },
-        reference,
+        node: Node::Cell { first, rest },
+        mark,
     }
 }
 
-impl Table {
-    /// A name, with arguments where there are some.
-    #[tactic(auto, unfolding(cpp_term::specs::Between::applied, crate::specs::Nodes::meant_value, crate::specs::Nodes::value_of, crate::specs::Nodes::built))]
-    fn applied(&self, symbol: &[u8], parts: &[Part], listed: bool) -> Meant
-        requires table { IsTable symbol.now self.now.entries.items }
-        requires below { AreBelow (length self.now.entries.items) parts.now }
-        ensures is { meant_value symbol.now (trees symbol.now self.now.entries.items) result ≡ values.tree (applied (tree_of (part (values_of symbol.now (trees symbol.now self.now.entries.items) parts.now) 0)) (part (values_of symbol.now (trees symbol.now self.now.entries.items) parts.now) 1)) (listed && not (is_there (part (values_of symbol.now (trees symbol.now self.now.entries.items) parts.now) 1))) }
-        ensures below { IsMeantBelow (length self.now.entries.items) result }
-    {
-        let name = self.tree(symbol, parts, 0);
-        if self.there(symbol, parts, 1) {
-            return made(Tag::Instance, name, self.tree(symbol, parts, 1), false);
-        }
-        Meant::Given(Part::Tree { node: name, listed })
-    }
+/// A piece of a name.
+#[inline(always)]
+fn piece(piece: Piece) -> Meant
+    ensures { result ≡ Meant.Given (Part.Piece piece) }
+{
+    Meant::Given(Part::Piece(piece))
+}
 
-    /// Productions: passed.
-    #[tactic(auto, unfolding(cpp_term::specs::Meaning::meaning, crate::specs::Nodes::meant_value, crate::specs::Nodes::built))]
-    pub fn passed_meant(&self, symbol: &[u8], production: Production, byte: u8, parts: &[Part]) -> Option<Meant>
-        requires table { IsTable symbol.now self.now.entries.items }
-        requires below { AreBelow (length self.now.entries.items) parts.now }
-        ensures is { (around : Around) → IfSome result (λ meant. meant_value symbol.now (trees symbol.now self.now.entries.items) meant ≡ meaning production byte around (values_of symbol.now (trees symbol.now self.now.entries.items) parts.now)) }
-        ensures below { IfSome result (λ meant. IsMeantBelow (length self.now.entries.items) meant) }
+/// The type of these qualifiers.
+#[inline(always)]
+fn qualified(restrict: bool, volatile: bool, const_: bool, ty: u32) -> Meant
+    ensures { result ≡ Meant.Made (Node.Qualified (record { restrict = restrict; volatile = volatile; const_ = const_ }) ty) true }
+{
+    Meant::Made {
+        node: Node::Qualified {
+            qualifiers: Qualifiers {
+                restrict,
+                volatile,
+                const_,
+            },
+            ty,
+        },
+        listed: true,
+    }
+}
+
+impl Linked {
+    /// What a production stands for, that begins at a place with this byte, given its parts.
+    ///
+    /// # Errors
+    ///
+    /// `Memory` where a number is past 64 bits or a suffix isn't behind its byte, which no parts of a symbol come to.
+    #[tactic(auto, unfolding(cpp_term::specs::Meaning::meaning, cpp_term::specs::Meaning::qualified_by, cpp_term::specs::Meaning::listed_value, cpp_term::specs::Meaning::function_of, cpp_term::specs::Meaning::with_item, cpp_term::specs::Values::tree_of, cpp_term::specs::Values::is_there, crate::specs::Parts::around_of, crate::specs::Parts::meant_value, crate::specs::Parts::value_of, cpp_tree::specs::Nodes::tree_of, cpp_tree::specs::Nodes::piece_of, cpp_tree::specs::Nodes::thunk_of, cpp_tree::specs::Nodes::adjustment_of))]
+    #[inline(always)]
+    pub fn meant(&self, symbol: &[u8], production: Production, place: u32, kept: Kept, parts: &[Part]) -> Result<Meant, Refusal>
+        requires fits { FitsSymbol symbol.now }
+        requires place { place < length symbol.now }
+        requires table { IsTable (over symbol.now self.now.nodes) }
+        requires there { AreThere symbol.now (length self.now.nodes.nodes) parts.now }
+        requires prefix { IsPrefixThere (length self.now.nodes.nodes) kept.prefix }
+        ensures is { IfOk result (λ meant. meant_value symbol.now self.now.nodes meant ≡ meaning production (slice_index symbol.now place) (around_of (trees_in symbol.now self.now.nodes) kept) (values_in symbol.now self.now.nodes parts.now)) }
+        ensures there { IfOk result (λ meant. IsMeantThere symbol.now (length self.now.nodes.thunks) (length self.now.nodes.nodes) meant) }
+        ensures memory { IfErr result (λ e. e ≡ refusals.Memory) }
     {
-        Some(match production {
+        let byte = symbol[place as usize];
+        Ok(match production {
             Production::Special => Meant::Given(self.given(symbol, parts, 0)),
             Production::NameWithS => Meant::Given(self.given(symbol, parts, 0)),
             Production::LocalTypePiece => Meant::Given(self.given(symbol, parts, 0)),
@@ -86,198 +115,68 @@ impl Table {
             Production::ItemIsType => Meant::Given(self.given(symbol, parts, 0)),
             Production::AbbreviatedType => Meant::Given(self.given(symbol, parts, 0)),
             Production::LiteralWithD => Meant::Given(self.given(symbol, parts, 0)),
-            _ => return None,
-        })
-    }
-
-    /// Productions: marked.
-    #[tactic(auto, unfolding(cpp_term::specs::Meaning::meaning, crate::specs::Nodes::meant_value, crate::specs::Nodes::built, crate::specs::Nodes::value_of, crate::specs::Nodes::bytes_of, crate::specs::Nodes::adjustment, crate::specs::Nodes::ref_mark))]
-    pub fn marked_meant(&self, symbol: &[u8], production: Production, byte: u8, parts: &[Part]) -> Option<Meant>
-        requires table { IsTable symbol.now self.now.entries.items }
-        requires below { AreBelow (length self.now.entries.items) parts.now }
-        ensures is { (around : Around) → IfSome result (λ meant. meant_value symbol.now (trees symbol.now self.now.entries.items) meant ≡ meaning production byte around (values_of symbol.now (trees symbol.now self.now.entries.items) parts.now)) }
-        ensures below { IfSome result (λ meant. IsMeantBelow (length self.now.entries.items) meant) }
-    {
-        Some(match production {
             Production::Substitution => Meant::Given(Part::Nothing),
             Production::RefEnd => Meant::Given(Part::Nothing),
             Production::Mark => Meant::Given(Part::Letter(byte)),
-            Production::OneDigit => Meant::Given(Part::Text(Text::One(byte))),
             Production::NonVirtualOffset => Meant::Given(Part::Adjusted(Adjustment::NonVirtual(self.signed(symbol, parts, 0)))),
             Production::VirtualOffset => Meant::Given(Part::Adjusted(Adjustment::ByTable(self.signed(symbol, parts, 0), self.signed(symbol, parts, 2)))),
-            Production::RestEnd => Meant::Given(Part::Signature { list: NIL, reference: RefMark::AnyValue }),
-            _ => return None,
-        })
-    }
-
-    /// Productions: encoded.
-    #[tactic(auto, unfolding(cpp_term::specs::Meaning::meaning, crate::specs::Nodes::meant_value, crate::specs::Nodes::built, crate::specs::Nodes::thunk_of, crate::specs::Nodes::adjustment))]
-    pub fn encoded_meant(&self, symbol: &[u8], production: Production, byte: u8, parts: &[Part]) -> Option<Meant>
-        requires table { IsTable symbol.now self.now.entries.items }
-        requires below { AreBelow (length self.now.entries.items) parts.now }
-        ensures is { (around : Around) → IfSome result (λ meant. meant_value symbol.now (trees symbol.now self.now.entries.items) meant ≡ meaning production byte around (values_of symbol.now (trees symbol.now self.now.entries.items) parts.now)) }
-        ensures below { IfSome result (λ meant. IsMeantBelow (length self.now.entries.items) meant) }
-    {
-        Some(match production {
-            Production::Symbol => made(Tag::Symbol(self.text(symbol, parts, 2)), self.tree(symbol, parts, 1), ABSENT, true),
-            Production::Guard => made(Tag::Guard(self.marks(symbol, parts, 1), self.reference(symbol, parts, 1)), self.tree(symbol, parts, 1), ABSENT, true),
-            Production::SpecialType => made(Tag::Special(byte), self.tree(symbol, parts, 0), ABSENT, true),
-            Production::NonVirtualThunk => made(Tag::Thunk(Thunk::Adjusting(Adjustment::NonVirtual(self.signed(symbol, parts, 0)))), self.tree(symbol, parts, 2), ABSENT, true),
-            Production::VirtualThunk => made(Tag::Thunk(Thunk::Adjusting(Adjustment::ByTable(self.signed(symbol, parts, 0), self.signed(symbol, parts, 2)))), self.tree(symbol, parts, 4), ABSENT, true),
-            Production::CovariantThunk => made(Tag::Thunk(Thunk::Covariant(self.adjusted(symbol, parts, 0), self.adjusted(symbol, parts, 1))), self.tree(symbol, parts, 2), ABSENT, true),
-            _ => return None,
-        })
-    }
-
-    /// Productions: named.
-    #[tactic(auto, unfolding(cpp_term::specs::Meaning::meaning, crate::specs::Nodes::meant_value, crate::specs::Nodes::built))]
-    pub fn named_meant(&self, symbol: &[u8], production: Production, byte: u8, parts: &[Part]) -> Option<Meant>
-        requires table { IsTable symbol.now self.now.entries.items }
-        requires below { AreBelow (length self.now.entries.items) parts.now }
-        ensures is { (around : Around) → IfSome result (λ meant. meant_value symbol.now (trees symbol.now self.now.entries.items) meant ≡ meaning production byte around (values_of symbol.now (trees symbol.now self.now.entries.items) parts.now)) }
-        ensures below { IfSome result (λ meant. IsMeantBelow (length self.now.entries.items) meant) }
-    {
-        Some(match production {
-            Production::InternalPiece => made(Tag::Source(true, self.text(symbol, parts, 0)), ABSENT, ABSENT, true),
-            Production::SourcePiece => made(Tag::Source(false, self.text(symbol, parts, 0)), ABSENT, ABSENT, true),
-            Production::Abbreviation => made(Tag::Abbreviation(byte), ABSENT, ABSENT, true),
-            Production::LiteralOperator => made(Tag::LiteralOperator(self.text(symbol, parts, 0)), ABSENT, ABSENT, true),
-            _ => return None,
-        })
-    }
-
-    /// Productions: operators.
-    #[tactic(auto, unfolding(cpp_term::specs::Meaning::meaning, crate::specs::Nodes::meant_value, crate::specs::Nodes::built))]
-    pub fn operators_meant(&self, symbol: &[u8], production: Production, byte: u8, parts: &[Part]) -> Option<Meant>
-        requires table { IsTable symbol.now self.now.entries.items }
-        requires below { AreBelow (length self.now.entries.items) parts.now }
-        ensures is { (around : Around) → IfSome result (λ meant. meant_value symbol.now (trees symbol.now self.now.entries.items) meant ≡ meaning production byte around (values_of symbol.now (trees symbol.now self.now.entries.items) parts.now)) }
-        ensures below { IfSome result (λ meant. IsMeantBelow (length self.now.entries.items) meant) }
-    {
-        Some(match production {
-            Production::OperatorN => made(Tag::Operator(byte, self.letter(symbol, parts, 0)), ABSENT, ABSENT, true),
-            Production::OperatorD => made(Tag::Operator(byte, self.letter(symbol, parts, 0)), ABSENT, ABSENT, true),
-            Production::OperatorA => made(Tag::Operator(byte, self.letter(symbol, parts, 0)), ABSENT, ABSENT, true),
-            Production::OperatorP => made(Tag::Operator(byte, self.letter(symbol, parts, 0)), ABSENT, ABSENT, true),
-            Production::OperatorC => made(Tag::Operator(byte, self.letter(symbol, parts, 0)), ABSENT, ABSENT, true),
-            Production::OperatorM => made(Tag::Operator(byte, self.letter(symbol, parts, 0)), ABSENT, ABSENT, true),
-            Production::OperatorR => made(Tag::Operator(byte, self.letter(symbol, parts, 0)), ABSENT, ABSENT, true),
-            Production::OperatorO => made(Tag::Operator(byte, self.letter(symbol, parts, 0)), ABSENT, ABSENT, true),
-            Production::OperatorE => made(Tag::Operator(byte, self.letter(symbol, parts, 0)), ABSENT, ABSENT, true),
-            Production::OperatorS => made(Tag::Operator(byte, self.letter(symbol, parts, 0)), ABSENT, ABSENT, true),
-            Production::OperatorI => made(Tag::Operator(byte, self.letter(symbol, parts, 0)), ABSENT, ABSENT, true),
-            Production::OperatorG => made(Tag::Operator(byte, self.letter(symbol, parts, 0)), ABSENT, ABSENT, true),
-            _ => return None,
-        })
-    }
-
-    /// Productions: typed.
-    #[tactic(auto, unfolding(cpp_term::specs::Meaning::meaning, crate::specs::Nodes::meant_value, crate::specs::Nodes::built, cpp_term::specs::Meaning::listed_value, crate::specs::Nodes::value_of))]
-    pub fn typed_meant(&self, symbol: &[u8], production: Production, byte: u8, parts: &[Part]) -> Option<Meant>
-        requires table { IsTable symbol.now self.now.entries.items }
-        requires below { AreBelow (length self.now.entries.items) parts.now }
-        ensures is { (around : Around) → IfSome result (λ meant. meant_value symbol.now (trees symbol.now self.now.entries.items) meant ≡ meaning production byte around (values_of symbol.now (trees symbol.now self.now.entries.items) parts.now)) }
-        ensures below { IfSome result (λ meant. IsMeantBelow (length self.now.entries.items) meant) }
-    {
-        Some(match production {
-            Production::PlainType => Meant::Given(Part::Tree { node: self.tree(symbol, parts, 0), listed: true }),
-            Production::QualifiedPlain => Meant::Given(Part::Tree { node: self.tree(symbol, parts, 0), listed: true }),
-            Production::TypeWithD => Meant::Given(Part::Tree { node: self.tree(symbol, parts, 0), listed: true }),
-            Production::PlainWithD => Meant::Given(Part::Tree { node: self.tree(symbol, parts, 0), listed: true }),
-            Production::ItemWithD => Meant::Given(Part::Tree { node: self.tree(symbol, parts, 0), listed: true }),
-            Production::Expansion => made(Tag::Expansion, self.tree(symbol, parts, 0), ABSENT, false),
-            Production::BuiltinWithD => made(Tag::BuiltinWithD(byte), ABSENT, ABSENT, true),
-            Production::Builtin => made(Tag::Builtin(byte), ABSENT, ABSENT, true),
-            Production::Vendor => made(Tag::Vendor(self.text(symbol, parts, 0)), ABSENT, ABSENT, false),
-            Production::Complex => made(Tag::Complex, self.tree(symbol, parts, 0), ABSENT, false),
-            Production::Pointer => made(Tag::Pointer, self.tree(symbol, parts, 0), ABSENT, false),
-            Production::MemberPointer => made(Tag::MemberPointer, self.tree(symbol, parts, 0), self.tree(symbol, parts, 1), false),
-            Production::StdType => made(Tag::InStd, self.tree(symbol, parts, 0), ABSENT, false),
-            _ => return None,
-        })
-    }
-
-    /// Productions: qualified.
-    #[tactic(auto, unfolding(cpp_term::specs::Meaning::meaning, crate::specs::Nodes::meant_value, crate::specs::Nodes::built, cpp_term::specs::Meaning::qualified_by, cpp_term::specs::Meaning::listed_value, cpp_term::specs::Values::tree_of, cpp_term::specs::Values::is_there))]
-    pub fn qualified_meant(&self, symbol: &[u8], production: Production, byte: u8, parts: &[Part]) -> Option<Meant>
-        requires table { IsTable symbol.now self.now.entries.items }
-        requires below { AreBelow (length self.now.entries.items) parts.now }
-        ensures is { (around : Around) → IfSome result (λ meant. meant_value symbol.now (trees symbol.now self.now.entries.items) meant ≡ meaning production byte around (values_of symbol.now (trees symbol.now self.now.entries.items) parts.now)) }
-        ensures below { IfSome result (λ meant. IsMeantBelow (length self.now.entries.items) meant) }
-    {
-        Some(match production {
-            Production::RestrictType => made(Tag::Qualified(Marks { restrict: true, volatile: self.there(symbol, parts, 0), constant: self.there(symbol, parts, 1) }), self.tree(symbol, parts, 2), ABSENT, true),
-            Production::VolatileType => made(Tag::Qualified(Marks { restrict: false, volatile: true, constant: self.there(symbol, parts, 0) }), self.tree(symbol, parts, 1), ABSENT, true),
-            Production::ConstType => made(Tag::Qualified(Marks { restrict: false, volatile: false, constant: true }), self.tree(symbol, parts, 0), ABSENT, true),
-            _ => return None,
-        })
-    }
-
-    /// Productions: listed_cells.
-    #[tactic(auto, unfolding(cpp_term::specs::Meaning::meaning, crate::specs::Nodes::meant_value, crate::specs::Nodes::built, crate::specs::Nodes::value_of))]
-    pub fn listed_cells_meant(&self, symbol: &[u8], production: Production, byte: u8, parts: &[Part]) -> Option<Meant>
-        requires table { IsTable symbol.now self.now.entries.items }
-        requires below { AreBelow (length self.now.entries.items) parts.now }
-        ensures is { (around : Around) → IfSome result (λ meant. meant_value symbol.now (trees symbol.now self.now.entries.items) meant ≡ meaning production byte around (values_of symbol.now (trees symbol.now self.now.entries.items) parts.now)) }
-        ensures below { IfSome result (λ meant. IsMeantBelow (length self.now.entries.items) meant) }
-    {
-        Some(match production {
-            Production::Items => made(Tag::Cell, self.tree(symbol, parts, 0), self.list(symbol, parts, 1), true),
-            Production::Arguments => Meant::Given(Part::Tree { node: self.list(symbol, parts, 0), listed: true }),
-            Production::PackArgument => made(Tag::Cell, self.tree(symbol, parts, 0), self.list(symbol, parts, 2), true),
-            Production::LiteralArgument => made(Tag::Cell, self.tree(symbol, parts, 0), self.list(symbol, parts, 2), true),
-            Production::AddressArgument => made(Tag::Cell, self.tree(symbol, parts, 2), self.list(symbol, parts, 3), true),
-            Production::TypeArgument => made(Tag::Cell, self.tree(symbol, parts, 0), self.list(symbol, parts, 1), true),
-            Production::LiteralElement => made(Tag::Cell, self.tree(symbol, parts, 0), self.list(symbol, parts, 2), true),
-            Production::AddressElement => made(Tag::Cell, self.tree(symbol, parts, 2), self.list(symbol, parts, 3), true),
-            Production::TypeElement => made(Tag::Cell, self.tree(symbol, parts, 0), self.list(symbol, parts, 1), true),
-            _ => return None,
-        })
-    }
-
-    /// Productions: items.
-    #[tactic(auto, unfolding(cpp_term::specs::Meaning::meaning, crate::specs::Nodes::meant_value, crate::specs::Nodes::built, cpp_term::specs::Meaning::with_item))]
-    pub fn items_meant(&self, symbol: &[u8], production: Production, byte: u8, parts: &[Part]) -> Option<Meant>
-        requires table { IsTable symbol.now self.now.entries.items }
-        requires below { AreBelow (length self.now.entries.items) parts.now }
-        ensures is { (around : Around) → IfSome result (λ meant. meant_value symbol.now (trees symbol.now self.now.entries.items) meant ≡ meaning production byte around (values_of symbol.now (trees symbol.now self.now.entries.items) parts.now)) }
-        ensures below { IfSome result (λ meant. IsMeantBelow (length self.now.entries.items) meant) }
-    {
-        Some(match production {
+            Production::RestEnd => Meant::Given(Part::Signature { list: NIL, mark: Mark::Any }),
+            Production::Symbol => made(Node::Whole { encoding: self.tree(symbol, parts, 1), suffix: self.text(symbol, parts, 2) }, true),
+            Production::Guard => made(Node::Guard { name: self.tree(symbol, parts, 1), qualifiers: self.qualifiers(symbol, parts, 1), mark: self.reference(symbol, parts, 1) }, true),
+            Production::SpecialType => made(Node::Special { letter: byte, ty: self.tree(symbol, parts, 0) }, true),
+            Production::NonVirtualThunk => Meant::Thunk { thunk: Thunk::Adjusting(Adjustment::NonVirtual(self.signed(symbol, parts, 0))), encoding: self.tree(symbol, parts, 2) },
+            Production::VirtualThunk => Meant::Thunk { thunk: Thunk::Adjusting(Adjustment::ByTable(self.signed(symbol, parts, 0), self.signed(symbol, parts, 2))), encoding: self.tree(symbol, parts, 4) },
+            Production::CovariantThunk => Meant::Thunk { thunk: Thunk::Covariant(self.adjusted(symbol, parts, 0), self.adjusted(symbol, parts, 1)), encoding: self.tree(symbol, parts, 2) },
+            Production::InternalPiece => piece(Piece::Source { internal: true, bytes: self.text(symbol, parts, 0) }),
+            Production::SourcePiece => piece(Piece::Source { internal: false, bytes: self.text(symbol, parts, 0) }),
+            Production::Abbreviation => made(Node::Abbreviation(byte), true),
+            Production::LiteralOperator => piece(Piece::LiteralOperator(self.text(symbol, parts, 0))),
+            Production::OperatorN => piece(Piece::Operator(byte, self.letter(symbol, parts, 0))),
+            Production::OperatorD => piece(Piece::Operator(byte, self.letter(symbol, parts, 0))),
+            Production::OperatorA => piece(Piece::Operator(byte, self.letter(symbol, parts, 0))),
+            Production::OperatorP => piece(Piece::Operator(byte, self.letter(symbol, parts, 0))),
+            Production::OperatorC => piece(Piece::Operator(byte, self.letter(symbol, parts, 0))),
+            Production::OperatorM => piece(Piece::Operator(byte, self.letter(symbol, parts, 0))),
+            Production::OperatorR => piece(Piece::Operator(byte, self.letter(symbol, parts, 0))),
+            Production::OperatorO => piece(Piece::Operator(byte, self.letter(symbol, parts, 0))),
+            Production::OperatorE => piece(Piece::Operator(byte, self.letter(symbol, parts, 0))),
+            Production::OperatorS => piece(Piece::Operator(byte, self.letter(symbol, parts, 0))),
+            Production::OperatorI => piece(Piece::Operator(byte, self.letter(symbol, parts, 0))),
+            Production::OperatorG => piece(Piece::Operator(byte, self.letter(symbol, parts, 0))),
+            Production::PlainType => tree(self.tree(symbol, parts, 0), true),
+            Production::QualifiedPlain => tree(self.tree(symbol, parts, 0), true),
+            Production::TypeWithD => tree(self.tree(symbol, parts, 0), true),
+            Production::PlainWithD => tree(self.tree(symbol, parts, 0), true),
+            Production::ItemWithD => tree(self.tree(symbol, parts, 0), true),
+            Production::Expansion => made(Node::Expansion(self.tree(symbol, parts, 0)), false),
+            Production::BuiltinWithD => made(Node::BuiltinWithD(byte), true),
+            Production::Builtin => made(Node::Builtin(byte), true),
+            Production::Vendor => made(Node::Vendor(self.text(symbol, parts, 0)), false),
+            Production::Complex => made(Node::Complex(self.tree(symbol, parts, 0)), false),
+            Production::Pointer => made(Node::Pointer(self.tree(symbol, parts, 0)), false),
+            Production::MemberPointer => made(Node::MemberPointer { class: self.tree(symbol, parts, 0), member: self.tree(symbol, parts, 1) }, false),
+            Production::StdType => made(Node::InStd(self.piece(symbol, parts, 0)), false),
+            Production::RestrictType => qualified(true, self.there(symbol, parts, 0), self.there(symbol, parts, 1), self.tree(symbol, parts, 2)),
+            Production::VolatileType => qualified(false, true, self.there(symbol, parts, 0), self.tree(symbol, parts, 1)),
+            Production::ConstType => qualified(false, false, true, self.tree(symbol, parts, 0)),
+            Production::Items => made(Node::Cell { first: self.tree(symbol, parts, 0), rest: self.list(symbol, parts, 1) }, true),
+            Production::PackArgument => made(Node::Cell { first: self.tree(symbol, parts, 0), rest: self.list(symbol, parts, 2) }, true),
+            Production::LiteralArgument => made(Node::Cell { first: self.tree(symbol, parts, 0), rest: self.list(symbol, parts, 2) }, true),
+            Production::AddressArgument => made(Node::Cell { first: self.tree(symbol, parts, 2), rest: self.list(symbol, parts, 3) }, true),
+            Production::TypeArgument => made(Node::Cell { first: self.tree(symbol, parts, 0), rest: self.list(symbol, parts, 1) }, true),
+            Production::LiteralElement => made(Node::Cell { first: self.tree(symbol, parts, 0), rest: self.list(symbol, parts, 2) }, true),
+            Production::AddressElement => made(Node::Cell { first: self.tree(symbol, parts, 2), rest: self.list(symbol, parts, 3) }, true),
+            Production::TypeElement => made(Node::Cell { first: self.tree(symbol, parts, 0), rest: self.list(symbol, parts, 1) }, true),
+            Production::Arguments => tree(self.list(symbol, parts, 0), true),
             Production::LvalueItem => items(self.tree(symbol, parts, 0), self.tree(symbol, parts, 1), self.reference(symbol, parts, 1)),
             Production::RvalueItem => items(self.tree(symbol, parts, 0), self.tree(symbol, parts, 1), self.reference(symbol, parts, 1)),
             Production::RestItem => items(self.tree(symbol, parts, 0), self.tree(symbol, parts, 1), self.reference(symbol, parts, 1)),
-            _ => return None,
-        })
-    }
-
-    /// Productions: literal.
-    #[tactic(auto, unfolding(cpp_term::specs::Meaning::meaning, crate::specs::Nodes::meant_value, crate::specs::Nodes::built))]
-    pub fn literal_meant(&self, symbol: &[u8], production: Production, byte: u8, parts: &[Part]) -> Option<Meant>
-        requires table { IsTable symbol.now self.now.entries.items }
-        requires below { AreBelow (length self.now.entries.items) parts.now }
-        ensures is { (around : Around) → IfSome result (λ meant. meant_value symbol.now (trees symbol.now self.now.entries.items) meant ≡ meaning production byte around (values_of symbol.now (trees symbol.now self.now.entries.items) parts.now)) }
-        ensures below { IfSome result (λ meant. IsMeantBelow (length self.now.entries.items) meant) }
-    {
-        Some(match production {
-            Production::Address => made(Tag::AddressOf, self.tree(symbol, parts, 2), ABSENT, true),
-            Production::EncodingLiteral => made(Tag::EncodingLiteral, self.tree(symbol, parts, 1), ABSENT, true),
-            Production::BoolLiteral => made(Tag::Boolean(self.letter(symbol, parts, 0) == 49), ABSENT, ABSENT, true),
-            Production::IntegerLiteral => made(Tag::Integer(self.signed(symbol, parts, 1)), self.tree(symbol, parts, 0), ABSENT, true),
-            Production::NullLiteral => made(Tag::NullPointer, ABSENT, ABSENT, true),
-            _ => return None,
-        })
-    }
-
-    /// Productions: applied_name.
-    #[tactic(auto, unfolding(cpp_term::specs::Meaning::meaning, crate::specs::Nodes::meant_value, crate::specs::Nodes::built, cpp_term::specs::Between::applied))]
-    pub fn applied_name_meant(&self, symbol: &[u8], production: Production, byte: u8, parts: &[Part]) -> Option<Meant>
-        requires table { IsTable symbol.now self.now.entries.items }
-        requires below { AreBelow (length self.now.entries.items) parts.now }
-        ensures is { (around : Around) → IfSome result (λ meant. meant_value symbol.now (trees symbol.now self.now.entries.items) meant ≡ meaning production byte around (values_of symbol.now (trees symbol.now self.now.entries.items) parts.now)) }
-        ensures below { IfSome result (λ meant. IsMeantBelow (length self.now.entries.items) meant) }
-    {
-        Some(match production {
+            Production::Address => made(Node::AddressOf(self.tree(symbol, parts, 2)), true),
+            Production::EncodingLiteral => made(Node::EncodingLiteral(self.tree(symbol, parts, 1)), true),
+            Production::BoolLiteral => made(Node::Boolean(self.letter(symbol, parts, 0) == b'1'), true),
+            Production::IntegerLiteral => made(Node::Integer { ty: self.tree(symbol, parts, 0), value: self.signed(symbol, parts, 1) }, true),
+            Production::NullLiteral => made(Node::NullPointer, true),
+            Production::CharLiteral => Meant::Character { letter: byte, value: self.signed(symbol, parts, 0) },
             Production::InternalName => self.applied(symbol, parts, false),
             Production::SourceName => self.applied(symbol, parts, false),
             Production::LocalTypeName => self.applied(symbol, parts, false),
@@ -288,21 +187,28 @@ impl Table {
             Production::AbbreviatedName => self.applied(symbol, parts, false),
             Production::Parameter => self.applied(symbol, parts, true),
             Production::TypeWithS => self.applied(symbol, parts, self.listed(symbol, parts, 0)),
-            _ => return None,
-        })
-    }
-
-    /// Productions: entity.
-    #[tactic(auto, unfolding(cpp_term::specs::Meaning::meaning, crate::specs::Nodes::meant_value, crate::specs::Nodes::built, crate::specs::Nodes::value_of))]
-    pub fn entity_meant(&self, symbol: &[u8], production: Production, byte: u8, parts: &[Part]) -> Option<Meant>
-        requires table { IsTable symbol.now self.now.entries.items }
-        requires below { AreBelow (length self.now.entries.items) parts.now }
-        ensures is { (around : Around) → IfSome result (λ meant. meant_value symbol.now (trees symbol.now self.now.entries.items) meant ≡ meaning production byte around (values_of symbol.now (trees symbol.now self.now.entries.items) parts.now)) }
-        ensures below { IfSome result (λ meant. IsMeantBelow (length self.now.entries.items) meant) }
-    {
-        Some(match production {
-            Production::NestedName => Meant::Given(Part::Named { node: self.tree(symbol, parts, 4), marks: Marks { restrict: self.there(symbol, parts, 0), volatile: self.there(symbol, parts, 1), constant: self.there(symbol, parts, 2) }, reference: self.mark(symbol, parts, 3) }),
-            _ => return None,
+            Production::NestedName => Meant::Given(Part::Named { node: self.tree(symbol, parts, 4), qualifiers: Qualifiers { restrict: self.there(symbol, parts, 0), volatile: self.there(symbol, parts, 1), const_: self.there(symbol, parts, 2) }, mark: self.mark(symbol, parts, 3) }),
+            Production::Function => made(Node::FunctionType { c_linkage: self.there(symbol, parts, 0), noexcept: false, mark: self.reference(symbol, parts, 2), returned: self.tree(symbol, parts, 1), parameters: self.parameters(symbol, self.tree(symbol, parts, 2)) }, false),
+            Production::NoexceptFunction => made(Node::FunctionType { c_linkage: self.there(symbol, parts, 1), noexcept: true, mark: self.reference(symbol, parts, 3), returned: self.tree(symbol, parts, 2), parameters: self.parameters(symbol, self.tree(symbol, parts, 3)) }, false),
+            Production::LocalType => made(Node::Local { encoding: self.tree(symbol, parts, 0), entity: self.tree(symbol, parts, 2), discriminator: self.discriminator(symbol, parts, 3) }, false),
+            Production::LocalName => Meant::Entity { node: Node::Local { encoding: self.tree(symbol, parts, 0), entity: self.tree(symbol, parts, 2), discriminator: self.discriminator(symbol, parts, 3) }, qualifiers: self.qualifiers(symbol, parts, 2), mark: self.reference(symbol, parts, 2) },
+            Production::ReferenceType => self.reference_meant(symbol, byte, parts),
+            Production::Encoding => self.encoding(symbol, parts),
+            Production::NestEnd => self.nest_end(symbol, kept.prefix),
+            Production::RestLvalue => self.signature_or(symbol, Mark::Lvalue, part(parts, 0)),
+            Production::RestRvalue => self.signature_or(symbol, Mark::Rvalue, part(parts, 0)),
+            Production::OperatorL => self.operator_or_literal(symbol, byte, part(parts, 0)),
+            Production::StringLiteral => made(with_piece(kept.prefix, Piece::StringLiteral), true),
+            Production::OneDigit => Meant::Given(Part::Text(one_byte(symbol, place))),
+            Production::ManyDigits => Meant::Given(Part::Text(normal(symbol, self.text(symbol, parts, 0)))),
+            Production::Negative => Meant::Given(Part::Signed(signed_digits(symbol, true, self.text(symbol, parts, 0)))),
+            Production::Positive => Meant::Given(Part::Signed(signed_digits(symbol, false, self.text(symbol, parts, 0)))),
+            Production::Vector => made(Node::Vector { digits: normal(symbol, self.text(symbol, parts, 0)), element: self.tree(symbol, parts, 2) }, false),
+            Production::Array => made(Node::Array { digits: normal(symbol, self.text(symbol, parts, 0)), element: self.tree(symbol, parts, 1) }, false),
+            Production::Lambda => self.lambda(symbol, parts)?,
+            Production::Unnamed => piece(Piece::Unnamed(local_number(symbol, self.text(symbol, parts, 0))?)),
+            Production::Suffix => Meant::Given(Part::Text(with_byte(symbol, place, self.text(symbol, parts, 0))?)),
+            Production::SuffixByte => Meant::Given(Part::Text(with_byte(symbol, place, self.text(symbol, parts, 0))?)),
         })
     }
 }

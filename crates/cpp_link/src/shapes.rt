@@ -1,25 +1,48 @@
-// Function types, references, local names and the ends of nested names; candidates among names.
+// What productions stand for whose parts are told apart.
 
-ghost use Rattle.std.specs.Prelude.{◌≡◌, ℕ, ◌<◌, List, length, IfSome};
+ghost use Rattle.std.specs.Prelude.{◌≡◌, ℕ, ◌<◌, ◌∷◌, List, length, not, ◌&&◌, IfOk, IfErr, Option};
+ghost use Rattle.sym_core.specs.declared.refusal.Refusal.TheVariants as refusals;
+ghost use Rattle.cpp_term.specs.Term as term;
 ghost use Rattle.cpp_term.specs.Term.{Term};
 ghost use Rattle.cpp_term.specs.Values as values;
-ghost use Rattle.cpp_term.specs.Values.{Around, State, part};
-ghost use Rattle.cpp_term.specs.Between.{prefix_tree, prefix_listed};
-ghost use Rattle.cpp_term.specs.Meaning.{meaning, discriminator_of, reference_to, listed_value, signature_or, operator_or_literal};
-ghost use Rattle.cpp_term.specs.References.{with_prefix};
-ghost use Rattle.cpp_link.specs.Nodes.{trees, value_of, values_of, maybe_text, meant_value, ref_mark, around_of, AreBelow, IsTable};
-ghost use Rattle.cpp_link.specs.Reads.{with_candidate};
+ghost use Rattle.cpp_term.specs.Values.{tree_of, is_there, text_of, part};
+ghost use Rattle.cpp_term.specs.Between.{applied, no_items, extended, prefix_tree, prefix_listed};
+ghost use Rattle.cpp_term.specs.Meaning.{parameters, discriminator_of, reference_to, listed_value, signature_or, operator_or_literal};
+ghost use Rattle.cpp_grammar.specs.Values.{local_number};
+ghost use Rattle.cpp_tree.specs.Nodes as nodes;
+ghost use Rattle.cpp_tree.specs.declared.node.Thunk as thunks;
+ghost use Rattle.cpp_tree.specs.Nodes.{over, tree_at, IsTable, IsSpan, IsPieceBelow, IsBelow};
+ghost use Rattle.cpp_link.specs.Parts.{trees_in, value_of, value_in, values_in, prefix_of, meant_value, IsThere, AreThere, IsMeantThere, IsPrefixThere};
 
+use crate::linked::Linked;
 use crate::meaning::made;
-use crate::node::{ABSENT, Kept, Meant, NIL, Node, Part, Prefix, RefMark, Tag, Text};
-use crate::table::Table;
+use crate::numbers::local_number;
+use crate::part::{Meant, Part, Prefix};
 use crate::values::part;
-use cpp_grammar::production::Production;
+use cpp_tree::node::{Mark, Node, Piece};
+use cpp_tree::nodes::{ABSENT, NIL};
+use sym_core::{Refusal, Span};
+
+/// The name so far with one more piece.
+#[tactic(auto, unfolding(cpp_tree::specs::Nodes::tree_of, crate::specs::Parts::prefix_of, cpp_term::specs::Between::extended))]
+pub fn with_piece(prefix: Prefix, piece: Piece) -> Node
+    ensures is { (s : List ℕ) (us : List thunks.Thunk) (ts : List Term) → nodes.tree_of s us ts result ≡ extended (prefix_of ts prefix) (nodes.piece_of s ts piece) }
+    ensures there { (s : List ℕ) (held n : ℕ) → IsPrefixThere n prefix → IsPieceBelow s n piece → IsBelow s held n result }
+{
+    match prefix {
+        Prefix::Outermost => Node::Alone(piece),
+        Prefix::Behind { node, .. } => Node::Within {
+            prefix: node,
+            piece,
+        },
+    }
+}
 
 /// The digits that tell local names apart.
-#[tactic(auto, unfolding(crate::specs::Nodes::value_of, crate::specs::Nodes::maybe_text, cpp_term::specs::Meaning::discriminator_of))]
-fn discriminator_of(part: Part) -> Option<Text>
-    ensures { (s : List ℕ) (ts : List Term) → maybe_text s result ≡ discriminator_of (value_of s ts part) }
+#[tactic(auto, unfolding(crate::specs::Parts::value_of, cpp_term::specs::Meaning::discriminator_of))]
+fn discriminator_of(part: Part) -> Option<Span>
+    ensures is { (s : List ℕ) (ts : List Term) → nodes.discriminator_of s result ≡ discriminator_of (value_of s ts part) }
+    ensures there { (s : List ℕ) (n : ℕ) → IsThere s n part → IsSpan s result }
 {
     match part {
         Part::Text(text) => Some(text),
@@ -27,37 +50,47 @@ fn discriminator_of(part: Part) -> Option<Text>
     }
 }
 
-/// The candidate that the name so far becomes.
-#[tactic(auto, unfolding(crate::specs::Nodes::around_of, crate::specs::Nodes::prefix_of, crate::specs::Reads::with_candidate, cpp_term::specs::References::with_prefix))]
-pub fn prefix_candidate(kept: Kept) -> Option<u32>
-    ensures { (ts : List Term) (state : State) → with_prefix (around_of ts kept) state ≡ with_candidate (around_of ts kept) ts result state }
-{
-    match kept.prefix {
-        Prefix::Outermost => None,
-        Prefix::Behind { node, listed } => {
-            if listed {
-                return None;
-            }
-            Some(node)
-        }
-    }
-}
-
-impl Table {
+impl Linked {
     /// The discriminator of the part with this number.
-    fn discriminator(&self, symbol: &[u8], parts: &[Part], k: usize) -> Option<Text>
-        ensures { maybe_text symbol.now result ≡ discriminator_of (part (values_of symbol.now (trees symbol.now self.now.entries.items) parts.now) k) }
+    pub fn discriminator(&self, symbol: &[u8], parts: &[Part], k: usize) -> Option<Span>
+        ensures is { nodes.discriminator_of symbol.now result ≡ discriminator_of (part (values_in symbol.now self.now.nodes parts.now) k) }
+        ensures there { AreThere symbol.now (length self.now.nodes.nodes) parts.now → IsSpan symbol.now result }
     {
         discriminator_of(part(parts, k))
     }
 
-    /// What the end of a nested name stands for: the name so far.
-    #[tactic(auto, unfolding(crate::specs::Nodes::meant_value, crate::specs::Nodes::value_of, crate::specs::Nodes::around_of, crate::specs::Nodes::prefix_of, cpp_term::specs::Between::prefix_tree, cpp_term::specs::Between::prefix_listed))]
-    pub fn nest_end(&self, symbol: &[u8], kept: Kept) -> Meant
-        requires table { IsTable symbol.now self.now.entries.items }
-        ensures { meant_value symbol.now (trees symbol.now self.now.entries.items) result ≡ values.tree (prefix_tree (around_of (trees symbol.now self.now.entries.items) kept).prefix) (prefix_listed (around_of (trees symbol.now self.now.entries.items) kept).prefix) }
+    /// A name, with arguments where there are some.
+    #[tactic(auto, unfolding(cpp_term::specs::Between::applied, crate::specs::Parts::meant_value, crate::specs::Parts::value_of, cpp_tree::specs::Nodes::tree_of))]
+    #[inline(always)]
+    pub fn applied(&self, symbol: &[u8], parts: &[Part], listed: bool) -> Meant
+        requires table { IsTable (over symbol.now self.now.nodes) }
+        requires there { AreThere symbol.now (length self.now.nodes.nodes) parts.now }
+        ensures is { meant_value symbol.now self.now.nodes result ≡ values.tree (applied (tree_of (part (values_in symbol.now self.now.nodes parts.now) 0)) (part (values_in symbol.now self.now.nodes parts.now) 1)) (listed && not (is_there (part (values_in symbol.now self.now.nodes parts.now) 1))) }
+        ensures there { IsMeantThere symbol.now (length self.now.nodes.thunks) (length self.now.nodes.nodes) result }
     {
-        match kept.prefix {
+        let name = self.tree(symbol, parts, 0);
+        if self.there(symbol, parts, 1) {
+            let arguments = self.tree(symbol, parts, 1);
+            return made(
+                Node::Instance {
+                    template: name,
+                    arguments,
+                },
+                false,
+            );
+        }
+        Meant::Given(Part::Tree { node: name, listed })
+    }
+
+    /// What the end of a nested name stands for: the name so far.
+    #[tactic(auto, unfolding(crate::specs::Parts::meant_value, crate::specs::Parts::value_of, crate::specs::Parts::prefix_of, cpp_term::specs::Between::prefix_tree, cpp_term::specs::Between::prefix_listed))]
+    pub fn nest_end(&self, symbol: &[u8], prefix: Prefix) -> Meant
+        requires table { IsTable (over symbol.now self.now.nodes) }
+        requires there { IsPrefixThere (length self.now.nodes.nodes) prefix }
+        ensures is { meant_value symbol.now self.now.nodes result ≡ values.tree (prefix_tree (prefix_of (trees_in symbol.now self.now.nodes) prefix)) (prefix_listed (prefix_of (trees_in symbol.now self.now.nodes) prefix)) }
+        ensures there { IsMeantThere symbol.now (length self.now.nodes.thunks) (length self.now.nodes.nodes) result }
+    {
+        match prefix {
             Prefix::Outermost => Meant::Given(Part::Tree {
                 node: ABSENT,
                 listed: true,
@@ -67,105 +100,73 @@ impl Table {
     }
 
     /// What a reference stands for.
-    #[tactic(auto, unfolding(crate::specs::Nodes::meant_value, crate::specs::Nodes::built, cpp_term::specs::Meaning::listed_value, cpp_term::specs::Meaning::reference_to, cpp_term::specs::Values::tree_of))]
+    #[tactic(auto, unfolding(crate::specs::Parts::meant_value, cpp_tree::specs::Nodes::tree_of, cpp_term::specs::Meaning::listed_value, cpp_term::specs::Meaning::reference_to, cpp_term::specs::Values::tree_of))]
     pub fn reference_meant(&self, symbol: &[u8], byte: u8, parts: &[Part]) -> Meant
-        requires table { IsTable symbol.now self.now.entries.items }
-        ensures { meant_value symbol.now (trees symbol.now self.now.entries.items) result ≡ listed_value (reference_to byte (part (values_of symbol.now (trees symbol.now self.now.entries.items) parts.now) 0)) }
+        requires table { IsTable (over symbol.now self.now.nodes) }
+        requires there { AreThere symbol.now (length self.now.nodes.nodes) parts.now }
+        ensures is { meant_value symbol.now self.now.nodes result ≡ listed_value (reference_to byte (part (values_in symbol.now self.now.nodes parts.now) 0)) }
+        ensures there { IsMeantThere symbol.now (length self.now.nodes.thunks) (length self.now.nodes.nodes) result }
     {
         let inner = self.tree(symbol, parts, 0);
-        if byte == 82 {
-            return made(Tag::Lvalue, inner, ABSENT, true);
+        if byte == b'R' {
+            return made(Node::Lvalue(inner), true);
         }
-        made(Tag::Rvalue, inner, ABSENT, true)
-    }
-
-    /// What a function type or a local name stands for.
-    #[tactic(auto, unfolding(cpp_term::specs::Meaning::meaning, cpp_term::specs::Meaning::function_of, crate::specs::Nodes::meant_value, crate::specs::Nodes::built))]
-    pub fn function_meant(&self, symbol: &[u8], production: Production, byte: u8, parts: &[Part]) -> Option<Meant>
-        requires table { IsTable symbol.now self.now.entries.items }
-        requires below { AreBelow (length self.now.entries.items) parts.now }
-        ensures { (around : Around) → IfSome result (λ meant. meant_value symbol.now (trees symbol.now self.now.entries.items) meant ≡ meaning production byte around (values_of symbol.now (trees symbol.now self.now.entries.items) parts.now)) }
-    {
-        Some(match production {
-            Production::Function => made(
-                Tag::FunctionType {
-                    c_linkage: self.there(symbol, parts, 0),
-                    noexcept: false,
-                    reference: self.reference(symbol, parts, 2),
-                },
-                self.tree(symbol, parts, 1),
-                self.parameters(symbol, self.tree(symbol, parts, 2)),
-                false,
-            ),
-            Production::NoexceptFunction => made(
-                Tag::FunctionType {
-                    c_linkage: self.there(symbol, parts, 1),
-                    noexcept: true,
-                    reference: self.reference(symbol, parts, 3),
-                },
-                self.tree(symbol, parts, 2),
-                self.parameters(symbol, self.tree(symbol, parts, 3)),
-                false,
-            ),
-            Production::LocalType => made(
-                Tag::Local(self.discriminator(symbol, parts, 3)),
-                self.tree(symbol, parts, 2),
-                self.tree(symbol, parts, 0),
-                false,
-            ),
-            Production::LocalName => Meant::Entity {
-                node: Node {
-                    tag: Tag::Local(self.discriminator(symbol, parts, 3)),
-                    first: self.tree(symbol, parts, 2),
-                    second: self.tree(symbol, parts, 0),
-                    third: ABSENT,
-                },
-                marks: self.marks(symbol, parts, 2),
-                reference: self.reference(symbol, parts, 2),
-            },
-            Production::ReferenceType => self.reference_meant(symbol, byte, parts),
-            Production::Encoding => self.encoding(symbol, parts),
-            _ => return None,
-        })
+        made(Node::Rvalue(inner), true)
     }
 
     /// What the rest of a signature stands for that has a mark.
-    #[tactic(auto, unfolding(cpp_term::specs::Meaning::signature_or, crate::specs::Nodes::meant_value, crate::specs::Nodes::value_of, crate::specs::Nodes::ref_mark))]
-    fn signature_or(&self, symbol: &[u8], reference: RefMark, rest: Part) -> Meant
-        requires table { IsTable symbol.now self.now.entries.items }
-        ensures { meant_value symbol.now (trees symbol.now self.now.entries.items) result ≡ signature_or (ref_mark reference) (value_of symbol.now (trees symbol.now self.now.entries.items) rest) }
+    #[tactic(auto, unfolding(cpp_term::specs::Meaning::signature_or, crate::specs::Parts::meant_value, crate::specs::Parts::value_of))]
+    pub fn signature_or(&self, symbol: &[u8], mark: Mark, rest: Part) -> Meant
+        requires table { IsTable (over symbol.now self.now.nodes) }
+        requires there { IsThere symbol.now (length self.now.nodes.nodes) rest }
+        ensures is { meant_value symbol.now self.now.nodes result ≡ signature_or (nodes.mark_of mark) (value_in symbol.now self.now.nodes rest) }
+        ensures there { IsMeantThere symbol.now (length self.now.nodes.thunks) (length self.now.nodes.nodes) result }
     {
         match rest {
-            Part::Nothing => Meant::Given(Part::Signature {
-                list: NIL,
-                reference,
-            }),
+            Part::Nothing => Meant::Given(Part::Signature { list: NIL, mark }),
             _ => Meant::Given(rest),
         }
     }
 
     /// The operator of two letters, or a literal operator.
-    #[tactic(auto, unfolding(cpp_term::specs::Meaning::operator_or_literal, crate::specs::Nodes::meant_value, crate::specs::Nodes::value_of, crate::specs::Nodes::built))]
-    fn operator_or_literal(&self, symbol: &[u8], first: u8, rest: Part) -> Meant
-        ensures { meant_value symbol.now (trees symbol.now self.now.entries.items) result ≡ operator_or_literal first (value_of symbol.now (trees symbol.now self.now.entries.items) rest) }
+    #[tactic(auto, unfolding(cpp_term::specs::Meaning::operator_or_literal, crate::specs::Parts::meant_value, crate::specs::Parts::value_of, cpp_tree::specs::Nodes::piece_of))]
+    pub fn operator_or_literal(&self, symbol: &[u8], first: u8, rest: Part) -> Meant
+        requires there { IsThere symbol.now (length self.now.nodes.nodes) rest }
+        ensures is { meant_value symbol.now self.now.nodes result ≡ operator_or_literal first (value_in symbol.now self.now.nodes rest) }
+        ensures there { IsMeantThere symbol.now (length self.now.nodes.thunks) (length self.now.nodes.nodes) result }
     {
         match rest {
-            Part::Letter(second) => made(Tag::Operator(first, second), ABSENT, ABSENT, true),
+            Part::Letter(second) => Meant::Given(Part::Piece(Piece::Operator(first, second))),
             _ => Meant::Given(rest),
         }
     }
 
-    /// What these productions stand for.
-    #[tactic(auto, unfolding(cpp_term::specs::Meaning::meaning, crate::specs::Nodes::ref_mark))]
-    pub fn rest_meant(&self, symbol: &[u8], production: Production, byte: u8, parts: &[Part]) -> Option<Meant>
-        requires table { IsTable symbol.now self.now.entries.items }
-        ensures { (around : Around) → IfSome result (λ meant. meant_value symbol.now (trees symbol.now self.now.entries.items) meant ≡ meaning production byte around (values_of symbol.now (trees symbol.now self.now.entries.items) parts.now)) }
+    /// What a lambda stands for.
+    ///
+    /// # Errors
+    ///
+    /// `Memory` where its number is past 64 bits, which is refused where the lambda begins.
+    #[tactic(auto, unfolding(crate::specs::Parts::meant_value, crate::specs::Parts::value_of, cpp_tree::specs::Nodes::piece_of, cpp_term::specs::Meaning::parameters))]
+    pub fn lambda(&self, symbol: &[u8], parts: &[Part]) -> Result<Meant, Refusal>
+        requires table { IsTable (over symbol.now self.now.nodes) }
+        requires there { AreThere symbol.now (length self.now.nodes.nodes) parts.now }
+        ensures is { IfOk result (λ meant. meant_value symbol.now self.now.nodes meant ≡ values.piece (term.lambda (parameters (term.list (tree_of (part (values_in symbol.now self.now.nodes parts.now) 0)) (no_items (part (values_in symbol.now self.now.nodes parts.now) 1)))) (local_number (text_of (part (values_in symbol.now self.now.nodes parts.now) 3))))) }
+        ensures there { IfOk result (λ meant. IsMeantThere symbol.now (length self.now.nodes.thunks) (length self.now.nodes.nodes) meant) }
+        ensures memory { IfErr result (λ e. e ≡ refusals.Memory) }
     {
-        match production {
-            Production::RestLvalue => Some(self.signature_or(symbol, RefMark::LvalueOnly, part(parts, 0))),
-            Production::RestRvalue => Some(self.signature_or(symbol, RefMark::RvalueOnly, part(parts, 0))),
-            Production::OperatorL => Some(self.operator_or_literal(symbol, byte, part(parts, 0))),
-            _ => None,
+        let number = local_number(symbol, self.text(symbol, parts, 3))?;
+        let first = self.tree(symbol, parts, 0);
+        let rest = self.list(symbol, parts, 1);
+        if self.is_lone_void(symbol, first, rest) {
+            return Ok(Meant::Given(Part::Piece(Piece::Lambda {
+                parameters: NIL,
+                number,
+            })));
         }
+        Ok(Meant::Lambda {
+            first,
+            rest,
+            number,
+        })
     }
 }
