@@ -7,14 +7,14 @@ use Rattle.cpp_grammar.specs.Unfolding.{production_at}
 use Rattle.cpp_grammar.specs.Term.{Qualifiers, RefQualifier}
 use Rattle.cpp_term.specs.Term as term
 use Rattle.cpp_term.specs.Term.{Term, absent}
-use Rattle.cpp_term.specs.Scope.{has_return_type}
+use Rattle.cpp_term.specs.Scope.{has_return_type, length_if_pack, count}
 use Rattle.cpp_term.specs.Meaning.{is_void, is_nil, parameters, encoding_of}
 use Rattle.cpp_term.specs.Values.{Value, tree_of, qualifiers_of, ref_of}
 use Rattle.cpp_tree.specs.Nodes as nodes
 use Rattle.cpp_tree.specs.Nodes.{tree_at, IsBelow}
 use Rattle.cpp_tree.specs.declared.node.Node.{Node}
 use Rattle.cpp_tree.specs.declared.node.Thunk.{Thunk}
-use Rattle.cpp_link.specs.Reads.{void_node, nil_node, cell_of, parameters_by, encoding_by}
+use Rattle.cpp_link.specs.Reads.{void_node, nil_node, cell_of, elements_of, parameters_by, encoding_by}
 
 -- ## Productions by their numbers
 
@@ -53,6 +53,21 @@ pub cell_there : (s : List ℕ) (held i n : ℕ) (node : Node) → i < n → IsB
 unfolding cell_of
 cell_there s held i n (Node.Cell first rest) less below = (omega (arith, less, below.0), omega (arith, less, below.1))
 cell_there s held i n _ less below = tt
+
+-- ## Packs
+
+pub pack_is : (s : List ℕ) (us : List Thunk) (ts : List Term) (node : Node) (t : Term) (o : Option ℕ) → t ≡ nodes.tree_of s us ts node → o ≡ elements_of node → length_if_pack t ≡ elim o [ None ↦ None | Some elements ↦ Some (count (tree_at ts elements)) ]
+unfolding length_if_pack nodes.tree_of elements_of
+pack_is s us ts (Node.Pack elements) t o is found = rw (is, found) refl
+pack_is s us ts _ t o is found = rw (is, found) refl
+
+pub pack_below : (s : List ℕ) (held i n elements : ℕ) (node : Node) → i < n → IsBelow s held i node → elements_of node ≡ Some elements → elements < n
+unfolding elements_of
+pack_below s held i n elements (Node.Pack e) less below found = omega (arith, less, below, some_same e elements found)
+  where
+    some_same : (a b : ℕ) → Some a ≡ Some b → a ≡ b
+    some_same a b is = cc
+pack_below s held i n elements _ less below found = cc
 
 -- ## Encodings
 

@@ -14,6 +14,7 @@ use Rattle.cpp_link.specs.declared.part.Meant.{Meant}
 use Rattle.cpp_link.specs.declared.part.Prefix.{Prefix}
 use Rattle.cpp_link.specs.declared.part.Kept.{Kept}
 use Rattle.cpp_link.specs.declared.part.Candidate.{Candidate}
+use Rattle.cpp_link.specs.declared.part.Step.{Step}
 
 -- the trees of the nodes, and that of a node which isn't there yet
 abbrev pub trees_in : List ℕ → Stored → List Term
@@ -103,3 +104,11 @@ IsPrefixThere n (Prefix.Behind node listed) = node < n
 abbrev pub AreCandidatesThere : ℕ → List Candidate → Type 0
 AreCandidatesThere n [] = Unit {0}
 AreCandidatesThere n (c ∷ cs) = (c.node < n) × AreCandidatesThere n cs
+
+abbrev pub IsKeptThere : ℕ → Kept → Type 0
+IsKeptThere n kept = nodes.IsArgumentsBelow n kept.scope × IsPrefixThere n kept.prefix
+
+abbrev pub IsStepThere : List ℕ → (held n : ℕ) → Step → Type 0
+IsStepThere s held n (Step.Go candidate then packs) = nodes.IsArgumentsBelow n candidate × IsKeptThere n then
+IsStepThere s held n (Step.Named node listed) = node < n
+IsStepThere s held n (Step.Made node listed is_name is_candidate packs) = IsBelow s held n node

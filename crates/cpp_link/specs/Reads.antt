@@ -1,5 +1,5 @@
 -- What is read of nodes and of references.
-use Rattle.std.specs.Prelude.{◌≡◌, ℕ, List, Bool, true, false, ◌&&◌, nat_eq, Option, Some, None, Result, Ok, Err}
+use Rattle.std.specs.Prelude.{◌≡◌, ℕ, List, [], ◌∷◌, Bool, true, false, ◌&&◌, nat_eq, Option, Some, None, Result, Ok, Err}
 use Rattle.sym_core.specs.declared.refusal.Refusal.{Refusal}
 use Rattle.sym_link.specs.Reading.{Found}
 use Rattle.sym_link.specs.Unfold.{found}
@@ -10,10 +10,14 @@ use Rattle.cpp_term.specs.Meaning.{is_void, is_nil, parameters}
 use Rattle.cpp_term.specs.References.{appended}
 use Rattle.cpp_term.specs.Values as values
 use Rattle.cpp_term.specs.Values.{State, Value, Around, tree_of, qualifiers_of, ref_of}
-use Rattle.cpp_tree.specs.Nodes.{tree_at}
+use Rattle.cpp_tree.specs.Nodes.{Stored, tree_at}
+use Rattle.sym_link.specs.Reading.{Next}
+use Rattle.cpp_term.specs.Between.{Going, after}
+use Rattle.cpp_link.specs.declared.part.Step.{Step}
+use Rattle.cpp_link.specs.declared.part.Kept.{Kept}
 use Rattle.cpp_tree.specs.declared.node.Node.{Node}
 use Rattle.cpp_link.specs.declared.part.Candidate.{Candidate}
-use Rattle.cpp_link.specs.Parts.{candidate_of}
+use Rattle.cpp_link.specs.Parts.{trees_in, tree_of_node, around_of, candidate_of}
 
 -- ## Nodes
 
@@ -29,6 +33,11 @@ nil_node _ = false
 unfoldable pub cell_of : Node → Option (ℕ × ℕ)
 cell_of (Node.Cell first rest) = Some (first, rest)
 cell_of _ = None
+
+-- the elements of a pack
+unfoldable pub elements_of : Node → Option ℕ
+elements_of (Node.Pack elements) = Some elements
+elements_of _ = None
 
 -- the parameters of the items that these are, by their cell
 unfoldable pub parameters_by : List Term → Option (ℕ × ℕ) → Term → Term
@@ -61,3 +70,31 @@ node_read ts cs (Err e) = Err e
 unfoldable pub with_candidate : Around → List Term → Option ℕ → State → State
 with_candidate around ts None state = state
 with_candidate around ts (Some n) state = appended around (tree_at ts n) state
+
+-- ## Steps
+
+-- the values behind the first
+unfoldable pub behind_first : List Value → List Value
+behind_first [] = []
+behind_first (v ∷ vs) = vs
+
+unfoldable pub named_if : Bool → Around → Term → (listed : Bool) → Around
+named_if false around t listed = around
+named_if true around t listed = after t listed around
+
+unfoldable pub appended_if : Bool → Around → Term → State → State
+appended_if false around t state = state
+appended_if true around t state = appended around t state
+
+-- what a step comes to, before a part that this surrounds, behind these values
+unfoldable pub goes_on : List ℕ → Stored → Kept → List Value → List values.Candidate → Option ℕ → Step → Going
+goes_on s y kept vs cs before (Step.Go candidate then packs) =
+    Ok (record { values = vs; context = around_of (trees_in s y) then; state = with_candidate (around_of (trees_in s y) kept) (trees_in s y) candidate (record { candidates = cs; packs = packs }) })
+goes_on s y kept vs cs before (Step.Named node listed) =
+    Ok (record { values = values.tree (tree_at (trees_in s y) node) listed ∷ behind_first vs; context = after (tree_at (trees_in s y) node) listed (around_of (trees_in s y) kept); state = record { candidates = cs; packs = before } })
+goes_on s y kept vs cs before (Step.Made node listed is_name is_candidate packs) =
+    Ok (record {
+      values = values.tree (tree_of_node s y node) listed ∷ behind_first vs;
+      context = named_if is_name (around_of (trees_in s y) kept) (tree_of_node s y node) listed;
+      state = appended_if is_candidate (around_of (trees_in s y) kept) (tree_of_node s y node) (record { candidates = cs; packs = packs });
+    })

@@ -6,8 +6,10 @@ pub mod linked;
 pub mod meaning;
 pub mod numbers;
 pub mod part;
+pub mod references;
 pub mod shapes;
 pub mod signatures;
+pub mod steps;
 pub mod values;
 
 ghost use Rattle.std.specs.Prelude.{◌≤◌, ℕ, ◌*◌, length};

@@ -17,8 +17,6 @@ ghost use Rattle.cpp_link.specs.Parts.{trees_in, value_of, value_in, values_in, 
 use crate::linked::Linked;
 use crate::numbers::{local_number, normal, one_byte, signed_digits, with_byte};
 use crate::part::{Kept, Meant, Part};
-use crate::shapes::with_piece;
-use crate::values::part;
 use cpp_grammar::production::Production;
 use cpp_tree::node::{Adjustment, Mark, Node, Piece, Qualifiers, Thunk};
 use cpp_tree::nodes::NIL;
@@ -195,10 +193,10 @@ impl Linked {
             Production::ReferenceType => self.reference_meant(symbol, byte, parts),
             Production::Encoding => self.encoding(symbol, parts),
             Production::NestEnd => self.nest_end(symbol, kept.prefix),
-            Production::RestLvalue => self.signature_or(symbol, Mark::Lvalue, part(parts, 0)),
-            Production::RestRvalue => self.signature_or(symbol, Mark::Rvalue, part(parts, 0)),
-            Production::OperatorL => self.operator_or_literal(symbol, byte, part(parts, 0)),
-            Production::StringLiteral => made(with_piece(kept.prefix, Piece::StringLiteral), true),
+            Production::RestLvalue => self.signature_or(symbol, Mark::Lvalue, self.given(symbol, parts, 0)),
+            Production::RestRvalue => self.signature_or(symbol, Mark::Rvalue, self.given(symbol, parts, 0)),
+            Production::OperatorL => self.operator_or_literal(symbol, byte, self.given(symbol, parts, 0)),
+            Production::StringLiteral => made(self.extended(symbol, kept.prefix, Piece::StringLiteral), true),
             Production::OneDigit => Meant::Given(Part::Text(one_byte(symbol, place))),
             Production::ManyDigits => Meant::Given(Part::Text(normal(symbol, self.text(symbol, parts, 0)))),
             Production::Negative => Meant::Given(Part::Signed(signed_digits(symbol, true, self.text(symbol, parts, 0)))),

@@ -85,3 +85,24 @@ pub struct Candidate {
     pub node: u32,
     pub encoding: u32,
 }
+
+/// What is done before the next part of a rule: the state and what surrounds the part.
+#[derive(Clone, Copy)]
+pub enum Step {
+    /// A tree becomes a candidate or none does, and this surrounds the part.
+    Go {
+        candidate: Option<u32>,
+        then: Kept,
+        packs: Option<u32>,
+    },
+    /// The name that the first part is stands before the next part.
+    Named { node: u32, listed: bool },
+    /// A node is made, which the first part is now. It may stand before the next part as the name so far, and become a candidate.
+    Made {
+        node: Node,
+        listed: bool,
+        is_name: bool,
+        is_candidate: bool,
+        packs: Option<u32>,
+    },
+}

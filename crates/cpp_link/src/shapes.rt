@@ -5,14 +5,14 @@ ghost use Rattle.sym_core.specs.declared.refusal.Refusal.TheVariants as refusals
 ghost use Rattle.cpp_term.specs.Term as term;
 ghost use Rattle.cpp_term.specs.Term.{Term};
 ghost use Rattle.cpp_term.specs.Values as values;
-ghost use Rattle.cpp_term.specs.Values.{tree_of, is_there, text_of, part};
-ghost use Rattle.cpp_term.specs.Between.{applied, no_items, extended, prefix_tree, prefix_listed};
+ghost use Rattle.cpp_term.specs.Values.{tree_of, is_there, text_of, part, prefix_tree, prefix_listed};
+ghost use Rattle.cpp_term.specs.Between.{applied, no_items, extended};
 ghost use Rattle.cpp_term.specs.Meaning.{parameters, discriminator_of, reference_to, listed_value, signature_or, operator_or_literal};
 ghost use Rattle.cpp_grammar.specs.Values.{local_number};
 ghost use Rattle.cpp_tree.specs.Nodes as nodes;
 ghost use Rattle.cpp_tree.specs.declared.node.Thunk as thunks;
 ghost use Rattle.cpp_tree.specs.Nodes.{over, tree_at, IsTable, IsSpan, IsPieceBelow, IsBelow};
-ghost use Rattle.cpp_link.specs.Parts.{trees_in, value_of, value_in, values_in, prefix_of, meant_value, IsThere, AreThere, IsMeantThere, IsPrefixThere};
+ghost use Rattle.cpp_link.specs.Parts.{trees_in, tree_of_node, value_of, value_in, values_in, prefix_of, meant_value, IsThere, AreThere, IsMeantThere, IsPrefixThere};
 
 use crate::linked::Linked;
 use crate::meaning::made;
@@ -25,7 +25,7 @@ use sym_core::{Refusal, Span};
 
 /// The name so far with one more piece.
 #[tactic(auto, unfolding(cpp_tree::specs::Nodes::tree_of, crate::specs::Parts::prefix_of, cpp_term::specs::Between::extended))]
-pub fn with_piece(prefix: Prefix, piece: Piece) -> Node
+fn with_piece(prefix: Prefix, piece: Piece) -> Node
     ensures is { (s : List ℕ) (us : List thunks.Thunk) (ts : List Term) → nodes.tree_of s us ts result ≡ extended (prefix_of ts prefix) (nodes.piece_of s ts piece) }
     ensures there { (s : List ℕ) (held n : ℕ) → IsPrefixThere n prefix → IsPieceBelow s n piece → IsBelow s held n result }
 {
@@ -51,6 +51,16 @@ fn discriminator_of(part: Part) -> Option<Span>
 }
 
 impl Linked {
+    /// The name so far with one more piece.
+    pub fn extended(&self, symbol: &[u8], prefix: Prefix, piece: Piece) -> Node
+        requires prefix { IsPrefixThere (length self.now.nodes.nodes) prefix }
+        requires piece { IsPieceBelow symbol.now (length self.now.nodes.nodes) piece }
+        ensures is { tree_of_node symbol.now self.now.nodes result ≡ extended (prefix_of (trees_in symbol.now self.now.nodes) prefix) (nodes.piece_of symbol.now (trees_in symbol.now self.now.nodes) piece) }
+        ensures there { IsBelow symbol.now (length self.now.nodes.thunks) (length self.now.nodes.nodes) result }
+    {
+        with_piece(prefix, piece)
+    }
+
     /// The discriminator of the part with this number.
     pub fn discriminator(&self, symbol: &[u8], parts: &[Part], k: usize) -> Option<Span>
         ensures is { nodes.discriminator_of symbol.now result ≡ discriminator_of (part (values_in symbol.now self.now.nodes parts.now) k) }
@@ -83,7 +93,7 @@ impl Linked {
     }
 
     /// What the end of a nested name stands for: the name so far.
-    #[tactic(auto, unfolding(crate::specs::Parts::meant_value, crate::specs::Parts::value_of, crate::specs::Parts::prefix_of, cpp_term::specs::Between::prefix_tree, cpp_term::specs::Between::prefix_listed))]
+    #[tactic(auto, unfolding(crate::specs::Parts::meant_value, crate::specs::Parts::value_of, crate::specs::Parts::prefix_of, cpp_term::specs::Values::prefix_tree, cpp_term::specs::Values::prefix_listed))]
     pub fn nest_end(&self, symbol: &[u8], prefix: Prefix) -> Meant
         requires table { IsTable (over symbol.now self.now.nodes) }
         requires there { IsPrefixThere (length self.now.nodes.nodes) prefix }
