@@ -9,12 +9,13 @@ use Rattle.cpp_term.specs.Term as term
 use Rattle.cpp_term.specs.Term.{Term, absent}
 use Rattle.cpp_term.specs.Scope.{has_return_type, length_if_pack, count}
 use Rattle.cpp_term.specs.Meaning.{is_void, is_nil, parameters, encoding_of}
+use Rattle.cpp_term.specs.References.{is_function_type}
 use Rattle.cpp_term.specs.Values.{Value, tree_of, qualifiers_of, ref_of}
 use Rattle.cpp_tree.specs.Nodes as nodes
 use Rattle.cpp_tree.specs.Nodes.{tree_at, IsBelow}
 use Rattle.cpp_tree.specs.declared.node.Node.{Node}
 use Rattle.cpp_tree.specs.declared.node.Thunk.{Thunk}
-use Rattle.cpp_link.specs.Reads.{void_node, nil_node, cell_of, elements_of, parameters_by, encoding_by}
+use Rattle.cpp_link.specs.Reads.{void_node, nil_node, function_node, cell_of, elements_of, parameters_by, encoding_by}
 
 -- ## Productions by their numbers
 
@@ -53,6 +54,11 @@ pub cell_there : (s : List ℕ) (held i n : ℕ) (node : Node) → i < n → IsB
 unfolding cell_of
 cell_there s held i n (Node.Cell first rest) less below = (omega (arith, less, below.0), omega (arith, less, below.1))
 cell_there s held i n _ less below = tt
+
+pub function_is : (s : List ℕ) (us : List Thunk) (ts : List Term) (node : Node) → is_function_type (nodes.tree_of s us ts node) ≡ function_node node
+unfolding is_function_type nodes.tree_of function_node
+function_is s us ts Node.Absent = refl
+function_is s us ts _ = refl
 
 -- ## Packs
 

@@ -72,8 +72,6 @@ meant_value s y (Meant.Lambda first rest number) = values.piece (term.lambda (te
 
 -- ## Parts that are there
 
-
-
 abbrev pub IsThere : List ℕ → ℕ → Part → Type 0
 IsThere s n (Part.Text span) = IsWithin span s
 IsThere s n (Part.Signed v) = IsWithin v.digits s

@@ -29,6 +29,10 @@ unfoldable pub nil_node : Node → Bool
 nil_node Node.Nil = true
 nil_node _ = false
 
+unfoldable pub function_node : Node → Bool
+function_node (Node.FunctionType c_linkage noexcept m returned parameters) = true
+function_node _ = false
+
 -- the first element and the others of a list that has some
 unfoldable pub cell_of : Node → Option (ℕ × ℕ)
 cell_of (Node.Cell first rest) = Some (first, rest)

@@ -1,12 +1,14 @@
 //! A C++ symbol's nodes, from its rows.
 #![tactic(auto)]
 
+pub mod closing;
 pub mod dispatch;
 pub mod linked;
 pub mod meaning;
 pub mod numbers;
 pub mod part;
 pub mod references;
+pub mod settling;
 pub mod shapes;
 pub mod signatures;
 pub mod steps;

@@ -83,7 +83,14 @@ impl Linked {
     /// `Memory` where a number is past 64 bits or a suffix isn't behind its byte, which no parts of a symbol come to.
     #[tactic(auto, unfolding(cpp_term::specs::Meaning::meaning, cpp_term::specs::Meaning::qualified_by, cpp_term::specs::Meaning::listed_value, cpp_term::specs::Meaning::function_of, cpp_term::specs::Meaning::with_item, cpp_term::specs::Values::tree_of, cpp_term::specs::Values::is_there, crate::specs::Parts::around_of, crate::specs::Parts::meant_value, crate::specs::Parts::value_of, cpp_tree::specs::Nodes::tree_of, cpp_tree::specs::Nodes::piece_of, cpp_tree::specs::Nodes::thunk_of, cpp_tree::specs::Nodes::adjustment_of))]
     #[inline(always)]
-    pub fn meant(&self, symbol: &[u8], production: Production, place: u32, kept: Kept, parts: &[Part]) -> Result<Meant, Refusal>
+    pub fn meant(
+        &self,
+        symbol: &[u8],
+        production: Production,
+        place: u32,
+        kept: Kept,
+        parts: &[Part],
+    ) -> Result<Meant, Refusal>
         requires fits { FitsSymbol symbol.now }
         requires place { place < length symbol.now }
         requires table { IsTable (over symbol.now self.now.nodes) }
@@ -116,19 +123,69 @@ impl Linked {
             Production::Substitution => Meant::Given(Part::Nothing),
             Production::RefEnd => Meant::Given(Part::Nothing),
             Production::Mark => Meant::Given(Part::Letter(byte)),
-            Production::NonVirtualOffset => Meant::Given(Part::Adjusted(Adjustment::NonVirtual(self.signed(symbol, parts, 0)))),
-            Production::VirtualOffset => Meant::Given(Part::Adjusted(Adjustment::ByTable(self.signed(symbol, parts, 0), self.signed(symbol, parts, 2)))),
-            Production::RestEnd => Meant::Given(Part::Signature { list: NIL, mark: Mark::Any }),
-            Production::Symbol => made(Node::Whole { encoding: self.tree(symbol, parts, 1), suffix: self.text(symbol, parts, 2) }, true),
-            Production::Guard => made(Node::Guard { name: self.tree(symbol, parts, 1), qualifiers: self.qualifiers(symbol, parts, 1), mark: self.reference(symbol, parts, 1) }, true),
-            Production::SpecialType => made(Node::Special { letter: byte, ty: self.tree(symbol, parts, 0) }, true),
-            Production::NonVirtualThunk => Meant::Thunk { thunk: Thunk::Adjusting(Adjustment::NonVirtual(self.signed(symbol, parts, 0))), encoding: self.tree(symbol, parts, 2) },
-            Production::VirtualThunk => Meant::Thunk { thunk: Thunk::Adjusting(Adjustment::ByTable(self.signed(symbol, parts, 0), self.signed(symbol, parts, 2))), encoding: self.tree(symbol, parts, 4) },
-            Production::CovariantThunk => Meant::Thunk { thunk: Thunk::Covariant(self.adjusted(symbol, parts, 0), self.adjusted(symbol, parts, 1)), encoding: self.tree(symbol, parts, 2) },
-            Production::InternalPiece => piece(Piece::Source { internal: true, bytes: self.text(symbol, parts, 0) }),
-            Production::SourcePiece => piece(Piece::Source { internal: false, bytes: self.text(symbol, parts, 0) }),
+            Production::NonVirtualOffset => Meant::Given(Part::Adjusted(Adjustment::NonVirtual(
+                self.signed(symbol, parts, 0),
+            ))),
+            Production::VirtualOffset => Meant::Given(Part::Adjusted(Adjustment::ByTable(
+                self.signed(symbol, parts, 0),
+                self.signed(symbol, parts, 2),
+            ))),
+            Production::RestEnd => Meant::Given(Part::Signature {
+                list: NIL,
+                mark: Mark::Any,
+            }),
+            Production::Symbol => made(
+                Node::Whole {
+                    encoding: self.tree(symbol, parts, 1),
+                    suffix: self.text(symbol, parts, 2),
+                },
+                true,
+            ),
+            Production::Guard => made(
+                Node::Guard {
+                    name: self.tree(symbol, parts, 1),
+                    qualifiers: self.qualifiers(symbol, parts, 1),
+                    mark: self.reference(symbol, parts, 1),
+                },
+                true,
+            ),
+            Production::SpecialType => made(
+                Node::Special {
+                    letter: byte,
+                    ty: self.tree(symbol, parts, 0),
+                },
+                true,
+            ),
+            Production::NonVirtualThunk => Meant::Thunk {
+                thunk: Thunk::Adjusting(Adjustment::NonVirtual(self.signed(symbol, parts, 0))),
+                encoding: self.tree(symbol, parts, 2),
+            },
+            Production::VirtualThunk => Meant::Thunk {
+                thunk: Thunk::Adjusting(Adjustment::ByTable(
+                    self.signed(symbol, parts, 0),
+                    self.signed(symbol, parts, 2),
+                )),
+                encoding: self.tree(symbol, parts, 4),
+            },
+            Production::CovariantThunk => Meant::Thunk {
+                thunk: Thunk::Covariant(
+                    self.adjusted(symbol, parts, 0),
+                    self.adjusted(symbol, parts, 1),
+                ),
+                encoding: self.tree(symbol, parts, 2),
+            },
+            Production::InternalPiece => piece(Piece::Source {
+                internal: true,
+                bytes: self.text(symbol, parts, 0),
+            }),
+            Production::SourcePiece => piece(Piece::Source {
+                internal: false,
+                bytes: self.text(symbol, parts, 0),
+            }),
             Production::Abbreviation => made(Node::Abbreviation(byte), true),
-            Production::LiteralOperator => piece(Piece::LiteralOperator(self.text(symbol, parts, 0))),
+            Production::LiteralOperator => piece(Piece::LiteralOperator(self.text(
+                symbol, parts, 0,
+            ))),
             Production::OperatorN => piece(Piece::Operator(byte, self.letter(symbol, parts, 0))),
             Production::OperatorD => piece(Piece::Operator(byte, self.letter(symbol, parts, 0))),
             Production::OperatorA => piece(Piece::Operator(byte, self.letter(symbol, parts, 0))),
@@ -152,29 +209,120 @@ impl Linked {
             Production::Vendor => made(Node::Vendor(self.text(symbol, parts, 0)), false),
             Production::Complex => made(Node::Complex(self.tree(symbol, parts, 0)), false),
             Production::Pointer => made(Node::Pointer(self.tree(symbol, parts, 0)), false),
-            Production::MemberPointer => made(Node::MemberPointer { class: self.tree(symbol, parts, 0), member: self.tree(symbol, parts, 1) }, false),
+            Production::MemberPointer => made(
+                Node::MemberPointer {
+                    class: self.tree(symbol, parts, 0),
+                    member: self.tree(symbol, parts, 1),
+                },
+                false,
+            ),
             Production::StdType => made(Node::InStd(self.piece(symbol, parts, 0)), false),
-            Production::RestrictType => qualified(true, self.there(symbol, parts, 0), self.there(symbol, parts, 1), self.tree(symbol, parts, 2)),
-            Production::VolatileType => qualified(false, true, self.there(symbol, parts, 0), self.tree(symbol, parts, 1)),
+            Production::RestrictType => qualified(
+                true,
+                self.there(symbol, parts, 0),
+                self.there(symbol, parts, 1),
+                self.tree(symbol, parts, 2),
+            ),
+            Production::VolatileType => qualified(
+                false,
+                true,
+                self.there(symbol, parts, 0),
+                self.tree(symbol, parts, 1),
+            ),
             Production::ConstType => qualified(false, false, true, self.tree(symbol, parts, 0)),
-            Production::Items => made(Node::Cell { first: self.tree(symbol, parts, 0), rest: self.list(symbol, parts, 1) }, true),
-            Production::PackArgument => made(Node::Cell { first: self.tree(symbol, parts, 0), rest: self.list(symbol, parts, 2) }, true),
-            Production::LiteralArgument => made(Node::Cell { first: self.tree(symbol, parts, 0), rest: self.list(symbol, parts, 2) }, true),
-            Production::AddressArgument => made(Node::Cell { first: self.tree(symbol, parts, 2), rest: self.list(symbol, parts, 3) }, true),
-            Production::TypeArgument => made(Node::Cell { first: self.tree(symbol, parts, 0), rest: self.list(symbol, parts, 1) }, true),
-            Production::LiteralElement => made(Node::Cell { first: self.tree(symbol, parts, 0), rest: self.list(symbol, parts, 2) }, true),
-            Production::AddressElement => made(Node::Cell { first: self.tree(symbol, parts, 2), rest: self.list(symbol, parts, 3) }, true),
-            Production::TypeElement => made(Node::Cell { first: self.tree(symbol, parts, 0), rest: self.list(symbol, parts, 1) }, true),
+            Production::Items => made(
+                Node::Cell {
+                    first: self.tree(symbol, parts, 0),
+                    rest: self.list(symbol, parts, 1),
+                },
+                true,
+            ),
+            Production::PackArgument => made(
+                Node::Cell {
+                    first: self.tree(symbol, parts, 0),
+                    rest: self.list(symbol, parts, 2),
+                },
+                true,
+            ),
+            Production::LiteralArgument => made(
+                Node::Cell {
+                    first: self.tree(symbol, parts, 0),
+                    rest: self.list(symbol, parts, 2),
+                },
+                true,
+            ),
+            Production::AddressArgument => made(
+                Node::Cell {
+                    first: self.tree(symbol, parts, 2),
+                    rest: self.list(symbol, parts, 3),
+                },
+                true,
+            ),
+            Production::TypeArgument => made(
+                Node::Cell {
+                    first: self.tree(symbol, parts, 0),
+                    rest: self.list(symbol, parts, 1),
+                },
+                true,
+            ),
+            Production::LiteralElement => made(
+                Node::Cell {
+                    first: self.tree(symbol, parts, 0),
+                    rest: self.list(symbol, parts, 2),
+                },
+                true,
+            ),
+            Production::AddressElement => made(
+                Node::Cell {
+                    first: self.tree(symbol, parts, 2),
+                    rest: self.list(symbol, parts, 3),
+                },
+                true,
+            ),
+            Production::TypeElement => made(
+                Node::Cell {
+                    first: self.tree(symbol, parts, 0),
+                    rest: self.list(symbol, parts, 1),
+                },
+                true,
+            ),
             Production::Arguments => tree(self.list(symbol, parts, 0), true),
-            Production::LvalueItem => items(self.tree(symbol, parts, 0), self.tree(symbol, parts, 1), self.reference(symbol, parts, 1)),
-            Production::RvalueItem => items(self.tree(symbol, parts, 0), self.tree(symbol, parts, 1), self.reference(symbol, parts, 1)),
-            Production::RestItem => items(self.tree(symbol, parts, 0), self.tree(symbol, parts, 1), self.reference(symbol, parts, 1)),
+            Production::LvalueItem => items(
+                self.tree(symbol, parts, 0),
+                self.tree(symbol, parts, 1),
+                self.reference(symbol, parts, 1),
+            ),
+            Production::RvalueItem => items(
+                self.tree(symbol, parts, 0),
+                self.tree(symbol, parts, 1),
+                self.reference(symbol, parts, 1),
+            ),
+            Production::RestItem => items(
+                self.tree(symbol, parts, 0),
+                self.tree(symbol, parts, 1),
+                self.reference(symbol, parts, 1),
+            ),
             Production::Address => made(Node::AddressOf(self.tree(symbol, parts, 2)), true),
-            Production::EncodingLiteral => made(Node::EncodingLiteral(self.tree(symbol, parts, 1)), true),
-            Production::BoolLiteral => made(Node::Boolean(self.letter(symbol, parts, 0) == b'1'), true),
-            Production::IntegerLiteral => made(Node::Integer { ty: self.tree(symbol, parts, 0), value: self.signed(symbol, parts, 1) }, true),
+            Production::EncodingLiteral => made(
+                Node::EncodingLiteral(self.tree(symbol, parts, 1)),
+                true,
+            ),
+            Production::BoolLiteral => made(
+                Node::Boolean(self.letter(symbol, parts, 0) == b'1'),
+                true,
+            ),
+            Production::IntegerLiteral => made(
+                Node::Integer {
+                    ty: self.tree(symbol, parts, 0),
+                    value: self.signed(symbol, parts, 1),
+                },
+                true,
+            ),
             Production::NullLiteral => made(Node::NullPointer, true),
-            Production::CharLiteral => Meant::Character { letter: byte, value: self.signed(symbol, parts, 0) },
+            Production::CharLiteral => Meant::Character {
+                letter: byte,
+                value: self.signed(symbol, parts, 0),
+            },
             Production::InternalName => self.applied(symbol, parts, false),
             Production::SourceName => self.applied(symbol, parts, false),
             Production::LocalTypeName => self.applied(symbol, parts, false),
@@ -185,28 +333,118 @@ impl Linked {
             Production::AbbreviatedName => self.applied(symbol, parts, false),
             Production::Parameter => self.applied(symbol, parts, true),
             Production::TypeWithS => self.applied(symbol, parts, self.listed(symbol, parts, 0)),
-            Production::NestedName => Meant::Given(Part::Named { node: self.tree(symbol, parts, 4), qualifiers: Qualifiers { restrict: self.there(symbol, parts, 0), volatile: self.there(symbol, parts, 1), const_: self.there(symbol, parts, 2) }, mark: self.mark(symbol, parts, 3) }),
-            Production::Function => made(Node::FunctionType { c_linkage: self.there(symbol, parts, 0), noexcept: false, mark: self.reference(symbol, parts, 2), returned: self.tree(symbol, parts, 1), parameters: self.parameters(symbol, self.tree(symbol, parts, 2)) }, false),
-            Production::NoexceptFunction => made(Node::FunctionType { c_linkage: self.there(symbol, parts, 1), noexcept: true, mark: self.reference(symbol, parts, 3), returned: self.tree(symbol, parts, 2), parameters: self.parameters(symbol, self.tree(symbol, parts, 3)) }, false),
-            Production::LocalType => made(Node::Local { encoding: self.tree(symbol, parts, 0), entity: self.tree(symbol, parts, 2), discriminator: self.discriminator(symbol, parts, 3) }, false),
-            Production::LocalName => Meant::Entity { node: Node::Local { encoding: self.tree(symbol, parts, 0), entity: self.tree(symbol, parts, 2), discriminator: self.discriminator(symbol, parts, 3) }, qualifiers: self.qualifiers(symbol, parts, 2), mark: self.reference(symbol, parts, 2) },
+            Production::NestedName => Meant::Given(Part::Named {
+                node: self.tree(symbol, parts, 4),
+                qualifiers: Qualifiers {
+                    restrict: self.there(symbol, parts, 0),
+                    volatile: self.there(symbol, parts, 1),
+                    const_: self.there(symbol, parts, 2),
+                },
+                mark: self.mark(symbol, parts, 3),
+            }),
+            Production::Function => made(
+                Node::FunctionType {
+                    c_linkage: self.there(symbol, parts, 0),
+                    noexcept: false,
+                    mark: self.reference(symbol, parts, 2),
+                    returned: self.tree(symbol, parts, 1),
+                    parameters: self.parameters(symbol, self.tree(symbol, parts, 2)),
+                },
+                false,
+            ),
+            Production::NoexceptFunction => made(
+                Node::FunctionType {
+                    c_linkage: self.there(symbol, parts, 1),
+                    noexcept: true,
+                    mark: self.reference(symbol, parts, 3),
+                    returned: self.tree(symbol, parts, 2),
+                    parameters: self.parameters(symbol, self.tree(symbol, parts, 3)),
+                },
+                false,
+            ),
+            Production::LocalType => made(
+                Node::Local {
+                    encoding: self.tree(symbol, parts, 0),
+                    entity: self.tree(symbol, parts, 2),
+                    discriminator: self.discriminator(symbol, parts, 3),
+                },
+                false,
+            ),
+            Production::LocalName => Meant::Entity {
+                node: Node::Local {
+                    encoding: self.tree(symbol, parts, 0),
+                    entity: self.tree(symbol, parts, 2),
+                    discriminator: self.discriminator(symbol, parts, 3),
+                },
+                qualifiers: self.qualifiers(symbol, parts, 2),
+                mark: self.reference(symbol, parts, 2),
+            },
             Production::ReferenceType => self.reference_meant(symbol, byte, parts),
             Production::Encoding => self.encoding(symbol, parts),
             Production::NestEnd => self.nest_end(symbol, kept.prefix),
-            Production::RestLvalue => self.signature_or(symbol, Mark::Lvalue, self.given(symbol, parts, 0)),
-            Production::RestRvalue => self.signature_or(symbol, Mark::Rvalue, self.given(symbol, parts, 0)),
-            Production::OperatorL => self.operator_or_literal(symbol, byte, self.given(symbol, parts, 0)),
-            Production::StringLiteral => made(self.extended(symbol, kept.prefix, Piece::StringLiteral), true),
+            Production::RestLvalue => self.signature_or(
+                symbol,
+                Mark::Lvalue,
+                self.given(symbol, parts, 0),
+            ),
+            Production::RestRvalue => self.signature_or(
+                symbol,
+                Mark::Rvalue,
+                self.given(symbol, parts, 0),
+            ),
+            Production::OperatorL => self.operator_or_literal(
+                symbol,
+                byte,
+                self.given(symbol, parts, 0),
+            ),
+            Production::StringLiteral => made(
+                self.extended(symbol, kept.prefix, Piece::StringLiteral),
+                true,
+            ),
             Production::OneDigit => Meant::Given(Part::Text(one_byte(symbol, place))),
-            Production::ManyDigits => Meant::Given(Part::Text(normal(symbol, self.text(symbol, parts, 0)))),
-            Production::Negative => Meant::Given(Part::Signed(signed_digits(symbol, true, self.text(symbol, parts, 0)))),
-            Production::Positive => Meant::Given(Part::Signed(signed_digits(symbol, false, self.text(symbol, parts, 0)))),
-            Production::Vector => made(Node::Vector { digits: normal(symbol, self.text(symbol, parts, 0)), element: self.tree(symbol, parts, 2) }, false),
-            Production::Array => made(Node::Array { digits: normal(symbol, self.text(symbol, parts, 0)), element: self.tree(symbol, parts, 1) }, false),
+            Production::ManyDigits => Meant::Given(Part::Text(normal(
+                symbol,
+                self.text(symbol, parts, 0),
+            ))),
+            Production::Negative => Meant::Given(Part::Signed(signed_digits(
+                symbol,
+                true,
+                self.text(symbol, parts, 0),
+            ))),
+            Production::Positive => Meant::Given(Part::Signed(signed_digits(
+                symbol,
+                false,
+                self.text(symbol, parts, 0),
+            ))),
+            Production::Vector => made(
+                Node::Vector {
+                    digits: normal(symbol, self.text(symbol, parts, 0)),
+                    element: self.tree(symbol, parts, 2),
+                },
+                false,
+            ),
+            Production::Array => made(
+                Node::Array {
+                    digits: normal(symbol, self.text(symbol, parts, 0)),
+                    element: self.tree(symbol, parts, 1),
+                },
+                false,
+            ),
             Production::Lambda => self.lambda(symbol, parts)?,
-            Production::Unnamed => piece(Piece::Unnamed(local_number(symbol, self.text(symbol, parts, 0))?)),
-            Production::Suffix => Meant::Given(Part::Text(with_byte(symbol, place, self.text(symbol, parts, 0))?)),
-            Production::SuffixByte => Meant::Given(Part::Text(with_byte(symbol, place, self.text(symbol, parts, 0))?)),
+            Production::Unnamed => piece(Piece::Unnamed(local_number(
+                symbol,
+                self.text(symbol, parts, 0),
+            )?)),
+            Production::Suffix => Meant::Given(Part::Text(with_byte(
+                symbol,
+                place,
+                self.text(symbol, parts, 0),
+            )?)),
+            Production::SuffixByte => Meant::Given(Part::Text(with_byte(
+                symbol,
+                place,
+                self.text(symbol, parts, 0),
+            )?)),
         })
     }
 }

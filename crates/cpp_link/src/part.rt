@@ -96,7 +96,10 @@ pub enum Step {
         packs: Option<u32>,
     },
     /// The name that the first part is stands before the next part.
-    Named { node: u32, listed: bool },
+    Named {
+        node: u32,
+        listed: bool,
+    },
     /// A node is made, which the first part is now. It may stand before the next part as the name so far, and become a candidate.
     Made {
         node: Node,
@@ -105,4 +108,11 @@ pub enum Step {
         is_candidate: bool,
         packs: Option<u32>,
     },
+}
+
+/// What comes behind a rule: a tree that becomes a candidate or none, and the length of the packs.
+#[derive(Clone, Copy)]
+pub struct Behind {
+    pub candidate: Option<u32>,
+    pub packs: Option<u32>,
 }

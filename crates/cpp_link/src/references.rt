@@ -1,22 +1,32 @@
 // What references name.
 
-ghost use Rattle.std.specs.Prelude.{◌≡◌, ℕ, ◌<◌, ◌&&◌, ◌||◌, not, nat_eq, nat_lt, List, length, IfSome, IfOk, IfErr, Ok, Option, None, Some};
+ghost use Rattle.std.specs.Prelude.{◌≡◌, ℕ, ◌<◌, ◌≤◌, ◌^◌, MatchOption, ◌&&◌, ◌||◌, not, nat_eq, nat_lt, List, length, IfSome, IfOk, IfErr, Ok, ◌∷◌, [], Option, None, Some};
 ghost use Rattle.cpp_term.specs.Values as values;
 ghost use Rattle.cpp_term.specs.Values.{State};
+ghost use Rattle.sym_core.specs.Value.{counted_value};
+ghost use Rattle.sym_core.specs.declared.NumberKind.TheVariants as kinds;
+ghost use Rattle.sym_link.specs.Driving.{Fails};
+ghost use Rattle.cpp_term.specs.Between.{parameter_so_far};
 ghost use Rattle.cpp_term.specs.References.{with_packs, substituted};
 ghost use Rattle.cpp_term.specs.Scope.{is_open, pack_length, count, arguments_of, length_if_pack};
-ghost use Rattle.cpp_tree.specs.Nodes.{over, tree_at, arguments_are, IsArgumentsBelow, IsTable};
-ghost use Rattle.cpp_link.specs.Parts.{trees_in, around_of};
-ghost use Rattle.cpp_link.specs.Reads.{packs_read, maybe_candidate, node_read, elements_of};
+ghost use Rattle.cpp_tree.specs.Nodes.{over, tree_at, bytes_at, IsWithin, arguments_are, IsArgumentsBelow, IsTable};
+ghost use Rattle.cpp_link.specs.Parts.{trees_in, around_of, IsKeptThere, IsStepThere};
+ghost use Rattle.cpp_link.specs.Reads.{packs_read, maybe_candidate, node_read, elements_of, goes_on};
 
 use crate::linked::Linked;
-use crate::part::{Candidate, Kept};
+use crate::numbers::decimal;
+use crate::part::{Candidate, Kept, Step};
 use cpp_tree::node::Node;
-use sym_core::Refusal;
+use sym_core::{Refusal, Span};
 
 /// The length of the packs under an expansion, behind a tree that holds packs of this length.
 #[tactic(auto, unfolding(cpp_term::specs::References::with_packs, crate::specs::Reads::packs_read))]
-fn with_packs(place: u32, in_expansion: bool, own: Option<u32>, packs: Option<u32>) -> Result<Option<u32>, Refusal>
+fn with_packs(
+    place: u32,
+    in_expansion: bool,
+    own: Option<u32>,
+    packs: Option<u32>,
+) -> Result<Option<u32>, Refusal>
     ensures { (cs : List values.Candidate) → with_packs place in_expansion own (record { candidates = cs; packs = packs }) ≡ packs_read cs result }
 {
     match own {
@@ -35,6 +45,21 @@ fn with_packs(place: u32, in_expansion: bool, own: Option<u32>, packs: Option<u3
                 }
             }
         }
+    }
+}
+
+/// The number of an element among so many.
+fn below(counted: Option<u64>, count: u32) -> Option<u32>
+    ensures { (k : ℕ) → MatchOption counted (2 ^ 64 ≤ k) (λ v. v ≡ k) → MatchOption result (count ≤ k) (λ n. (n ≡ k) × (n < count)) }
+{
+    match counted {
+        Some(number) => {
+            if number >= u64::from(count) {
+                return None;
+            }
+            Some(number as u32)
+        }
+        None => None,
     }
 }
 
@@ -114,7 +139,13 @@ impl Linked {
     /// `BadReference` where it names no candidate, one with free parameters of another encoding or in the signature of a lambda,
     /// or one that holds packs outside an expansion or of another length than the earlier ones.
     #[tactic(auto, unfolding(cpp_term::specs::References::substituted, crate::specs::Reads::packs_read, crate::specs::Reads::maybe_candidate, crate::specs::Reads::node_read, crate::specs::Parts::around_of))]
-    pub fn substituted(&self, symbol: &[u8], kept: Kept, place: u32, candidate: Option<Candidate>) -> Result<(u32, Option<u32>), Refusal>
+    pub fn substituted(
+        &self,
+        symbol: &[u8],
+        kept: Kept,
+        place: u32,
+        candidate: Option<Candidate>,
+    ) -> Result<(u32, Option<u32>), Refusal>
         requires table { IsTable (over symbol.now self.now.nodes) }
         requires there { IfSome candidate (λ c. c.node < length self.now.nodes.nodes) }
         ensures is { (cs : List values.Candidate) → substituted (around_of (trees_in symbol.now self.now.nodes) kept) place (maybe_candidate (trees_in symbol.now self.now.nodes) candidate) (record { candidates = cs; packs = self.now.packs }) ≡ node_read (trees_in symbol.now self.now.nodes) cs result }
@@ -129,6 +160,50 @@ impl Linked {
         let own = self.pack_length(symbol, c.node);
         match with_packs(place, kept.in_expansion, own, self.packs) {
             Ok(packs) => Ok((c.node, packs)),
+            Err(e) => Err(e),
+        }
+    }
+
+    /// What a parameter names by these digits, and the length of the packs behind it.
+    ///
+    /// # Errors
+    ///
+    /// `BadReference` where it names no argument of the scope, or one that is a pack outside an expansion or of another length than
+    /// the earlier ones. `Memory` where a byte is no digit, which is in no token.
+    #[tactic(auto, unfolding(cpp_term::specs::Between::parameter_so_far, cpp_term::specs::Between::listed_so_far, cpp_term::specs::References::parameter_named, crate::specs::Parts::around_of))]
+    pub fn parameter(
+        &self,
+        symbol: &[u8],
+        kept: Kept,
+        place: u32,
+        digits: Span,
+    ) -> Result<Step, Refusal>
+        requires table { IsTable (over symbol.now self.now.nodes) }
+        requires kept { IsKeptThere (length self.now.nodes.nodes) kept }
+        requires digits { IsWithin digits symbol.now }
+        ensures is { IfOk result (λ step. (v : values.Value) (cs : List values.Candidate) → parameter_so_far (around_of (trees_in symbol.now self.now.nodes) kept) place (counted_value kinds.Decimal (bytes_at symbol.now digits)) [] (record { candidates = cs; packs = self.now.packs })
+            ≡ goes_on symbol.now self.now.nodes kept (v ∷ []) cs self.now.packs step) }
+        ensures refused { IfErr result (λ e. (cs : List values.Candidate) → Fails e (parameter_so_far (around_of (trees_in symbol.now self.now.nodes) kept) place (counted_value kinds.Decimal (bytes_at symbol.now digits)) [] (record { candidates = cs; packs = self.now.packs }))) }
+        ensures there { IfOk result (λ step. IsStepThere symbol.now (length self.now.nodes.thunks) (length self.now.nodes.nodes) step) }
+    {
+        let Some(scope) = kept.scope else {
+            return Err(Refusal::BadReference { at: place });
+        };
+        let count = self.count(symbol, scope);
+        let counted = decimal(&symbol[digits.from as usize..digits.to as usize])?;
+        let Some(number) = below(counted, count) else {
+            return Err(Refusal::BadReference { at: place });
+        };
+        let argument = self.nodes.element(symbol, scope, number);
+        let own = self.length_if_pack(symbol, argument);
+        match with_packs(place, kept.in_expansion, own, self.packs) {
+            Ok(packs) => Ok(Step::Made {
+                node: Node::Parameter { number, argument },
+                listed: true,
+                is_name: true,
+                is_candidate: true,
+                packs,
+            }),
             Err(e) => Err(e),
         }
     }
