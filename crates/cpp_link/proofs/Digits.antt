@@ -1,5 +1,5 @@
 -- Bytes of the symbol, and digits without leading zeros.
-use Rattle.std.proofs.Common.{◌≡◌, refl, sym, ◌∙◌, ap, subst, arith, ℕ, zero, suc, ◌+◌, ◌-◌, ◌<◌, ◌≤◌, List, [], ◌∷◌, length, take, drop, get_or, true, false}
+use Rattle.std.proofs.Common.{◌≡◌, refl, sym, ◌∙◌, ap, arith, ℕ, zero, suc, ◌+◌, ◌-◌, ◌<◌, ◌≤◌, List, [], ◌∷◌, length, take, drop, get_or, true, false}
 use Rattle.std.specs.Prelude.{nat_eq, slice_range}
 use Rattle.cpp_grammar.specs.Values.{normal, is_zero}
 

@@ -1,6 +1,6 @@
 -- What is read of nodes.
 use Rattle.std.proofs.Common.{◌≡◌, refl, sym, ◌∙◌, ap, arith, ℕ, zero, suc, ◌<◌, List, [], ◌∷◌, get_or, slice_get, true, false, Option, Some, None}
-use Rattle.std.specs.Prelude.{◌&&◌, IfSome}
+use Rattle.std.specs.Prelude.{IfSome}
 use Rattle.cpp_grammar.specs.declared.production.Production.{Production}
 use Rattle.cpp_grammar.specs.Grammar.{productions}
 use Rattle.cpp_grammar.specs.Unfolding.{production_at}

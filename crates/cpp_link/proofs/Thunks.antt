@@ -1,5 +1,5 @@
 -- The thunk that was added last.
-use Rattle.std.proofs.Common.{◌≡◌, refl, ℕ, List, [], ◌∷◌, ◌++◌, length, Option, Some}
+use Rattle.std.proofs.Common.{◌≡◌, refl, ℕ, List, [], ◌∷◌, ◌++◌, length, Some}
 use Rattle.std.specs.Prelude.{slice_get}
 use Rattle.cpp_term.specs.Term as term
 use Rattle.cpp_term.specs.Term.{Term}

@@ -1,5 +1,5 @@
 -- What is read of nodes and of references.
-use Rattle.std.specs.Prelude.{◌≡◌, ℕ, List, [], ◌∷◌, Bool, true, false, ◌&&◌, nat_eq, Option, Some, None, Result, Ok, Err}
+use Rattle.std.specs.Prelude.{ℕ, List, [], ◌∷◌, Bool, true, false, ◌&&◌, nat_eq, Option, Some, None, Result, Ok, Err}
 use Rattle.sym_core.specs.declared.refusal.Refusal.{Refusal}
 use Rattle.sym_link.specs.Reading.{Found}
 use Rattle.sym_link.specs.Unfold.{found}
@@ -11,7 +11,6 @@ use Rattle.cpp_term.specs.References.{appended}
 use Rattle.cpp_term.specs.Values as values
 use Rattle.cpp_term.specs.Values.{State, Value, Around, tree_of, qualifiers_of, ref_of}
 use Rattle.cpp_tree.specs.Nodes.{Stored, tree_at}
-use Rattle.sym_link.specs.Reading.{Next}
 use Rattle.cpp_term.specs.Between.{Going, after}
 use Rattle.cpp_link.specs.declared.part.Step.{Step}
 use Rattle.cpp_link.specs.declared.part.Kept.{Kept}

@@ -1,14 +1,12 @@
 -- What was there stands for what it stood for, where nodes are added.
-use Rattle.std.proofs.Common.{◌≡◌, refl, sym, ◌∙◌, ap, arith, ℕ, ◌<◌, ◌≤◌, List, [], ◌∷◌, length, Option, Some, None}
-use Rattle.cpp_term.specs.Values as values
-use Rattle.cpp_tree.specs.Nodes as nodes
+use Rattle.std.proofs.Common.{◌≡◌, refl, arith, ℕ, ◌<◌, ◌≤◌, List, [], ◌∷◌, length, Option, Some, None}
 use Rattle.cpp_tree.specs.Nodes.{Stored, tree_at, piece_of, arguments_are, IsPieceBelow, IsArgumentsBelow}
 use Rattle.cpp_tree.specs.declared.node.Piece.{Piece}
 use Rattle.cpp_link.specs.declared.part.Part.{Part}
 use Rattle.cpp_link.specs.declared.part.Prefix.{Prefix}
 use Rattle.cpp_link.specs.declared.part.Kept.{Kept}
 use Rattle.cpp_link.specs.declared.part.Candidate.{Candidate}
-use Rattle.cpp_link.specs.Parts.{trees_in, value_of, values_of, value_in, values_in, prefix_of, around_of, candidate_of, candidates_of, IsThere, AreThere, IsPrefixThere, IsKeptThere, AreCandidatesThere}
+use Rattle.cpp_link.specs.Parts.{trees_in, value_of, values_of, value_in, values_in, prefix_of, around_of, candidates_of, IsThere, AreThere, IsPrefixThere, IsKeptThere, AreCandidatesThere}
 
 module _ (s : List ℕ) (old new : Stored) (stays : (i : ℕ) → i < length old.nodes → tree_at (trees_in s new) i ≡ tree_at (trees_in s old) i) where
   piece_stays : (p : Piece) → IsPieceBelow s (length old.nodes) p → piece_of s (trees_in s new) p ≡ piece_of s (trees_in s old) p

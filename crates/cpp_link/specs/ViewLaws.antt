@@ -1,5 +1,5 @@
 -- What is linked of a C++ symbol keeps to what every language does.
-use Rattle.std.proofs.Common.{◌≡◌, refl, ◌∙◌, arith, ℕ, ◌≤◌, false, List, length}
+use Rattle.std.proofs.Common.{◌≡◌, refl, ◌∙◌, arith, ℕ, false, List, length}
 use Rattle.sym_link.specs.Reading.{Open}
 use Rattle.sym_link.specs.Linking.{IsLinking}
 use Rattle.sym_link.specs.Threads.{IsThreading}

@@ -1,4 +1,3 @@
-use Rattle.std.proofs.Common.{length}
 use Rattle.cpp_link.proofs.linked.Linked.given.Goals as goal
 
 pub returns-clause-there : goal.returns-clause-there

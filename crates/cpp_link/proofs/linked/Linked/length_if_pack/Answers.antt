@@ -1,6 +1,4 @@
 use Rattle.std.proofs.Common.{sym, ◌∙◌, ap, Some, None}
-use Rattle.cpp_tree.specs.Nodes.{tree_at}
-use Rattle.cpp_link.specs.Parts.{trees_in}
 use Rattle.cpp_link.proofs.Reading.{pack_is, pack_below}
 use Rattle.cpp_link.proofs.linked.Linked.length_if_pack.Goals as goal
 

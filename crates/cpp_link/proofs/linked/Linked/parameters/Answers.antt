@@ -1,4 +1,4 @@
-use Rattle.std.proofs.Common.{sym, ◌∙◌, ap, true, false, ◌≡◌}
+use Rattle.std.proofs.Common.{sym, ◌∙◌, ap, true, false}
 use Rattle.cpp_term.specs.Term.{nil}
 use Rattle.cpp_tree.specs.Nodes.{tree_at}
 use Rattle.cpp_link.specs.Parts.{trees_in}
