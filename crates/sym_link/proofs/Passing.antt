@@ -5,19 +5,20 @@ use Rattle.std.proofs.lemmas.List.{length-take-le}
 use Rattle.sym_core.specs.declared.refusal.Refusal.{Refusal}
 use Rattle.sym_shape.specs.declared.rule.Row.{Row}
 use Rattle.sym_shape.specs.declared.rule.Rule.{Rule}
-use Rattle.sym_shape.specs.Tree.{Forest, branch, empty, token, fixed, nothing, grown}
+use Rattle.sym_shape.specs.Tree.{Forest, branch, empty, token, fixed, nothing, grown, spell_all}
 use Rattle.sym_link.specs.declared.language.Frame.{Frame}
 use Rattle.sym_shape.specs.Table.{Token}
 use Rattle.sym_link.specs.Reading.{Found, Open, Reading, ◌>>=◌}
 use Rattle.sym_link.specs.Unfold.{found, standing}
-use Rattle.sym_link.specs.Parts.{skipped_from}
+use Rattle.sym_link.specs.Parts.{skipped, skipped_from, joined}
 use Rattle.sym_link.specs.Machine.{Passed, passed, ended}
 use Rattle.sym_link.specs.Driving.{AreAll, Fails}
 use Rattle.sym_link.specs.Linking.{View, IsInside, IsRuleRow, IsTokenRow, taken_in, Takes, next_of, Begun, begun, Begins, Puts, HasRoom, Adds, owed_behind, owed_next}
-use Rattle.sym_link.specs.Threads.{skips, IsAt, GoesOn, BeginsIn, ClosesAll, IsTaken, IsThreading, Passing, Passes}
+use Rattle.sym_link.specs.Threads.{skips, IsThere, IsAt, GoesOn, BeginsIn, ClosesAll, IsTaken, IsThreading, Passing, Passes}
 use Rattle.sym_link.proofs.Cases.{as_many}
 use Rattle.sym_link.proofs.Lists.{all_push, all_stay, dropped_front, taken_front}
 use Rattle.sym_link.proofs.Following.{fails_carried}
+use Rattle.sym_link.proofs.Standing.{stands_next}
 use Rattle.sym_link.proofs.Taking.{of_ok}
 
 -- the parts behind the one that is passed, and where they stand
@@ -43,9 +44,9 @@ passed_none reading rule known from (grown (branch r taken parts) rest) state no
 passed_none reading rule known from nothing state none = refl
 
 -- so many values are known as there are parts
-own_length : {N P K V S C : Type 0} (view : View N P K V S C) (nodes : N) (frame : Frame K) (parts : List P) (rule : Open S C) (known : List V) (state : S)
-    → IsAt view nodes frame (drop frame.base parts) rule known state → length parts - frame.base ≡ length known
-own_length view nodes frame parts rule known state at = sym (length-drop frame.base parts) ∙ as_many (view.IsPart nodes) (drop frame.base parts) known at.parts
+own_length : {N P K V S C : Type 0} (view : View N P K V S C) (s : List ℕ) (nodes : N) (frame : Frame K) (parts : List P) (rule : Open S C) (known : List V) (state : S)
+    → IsAt view s nodes frame (drop frame.base parts) rule known state → length parts - frame.base ≡ length known
+own_length view s nodes frame parts rule known state at = sym (length-drop frame.base parts) ∙ as_many (view.IsPart nodes) (drop frame.base parts) known at.parts
 
 -- one value is that of one part
 single : {P V : Type 0} (Is : P → V → Type 0) (p : P) (vs : List V) → length vs ≡ 1 → AreAll Is (p ∷ []) vs → (v : V) × (vs ≡ v ∷ []) × Is p v
@@ -53,19 +54,19 @@ single Is p [] one are = absurd are
 single Is p (v ∷ []) one are = (v, refl, are.0)
 single Is p (v ∷ w ∷ vs) one are = absurd are.1
 
-module _ {N P K V S C : Type 0} (view : View N P K V S C) (Surrounds : N → K → C → Type 0) (laws : IsThreading view) (old new : N) (frame : Frame K)
-    (lower parts middle : List P) (to : ℕ) (whole : Result (Passed V S) Refusal) (p : Passing view old frame lower parts to whole)
+module _ {N P K V S C : Type 0} (view : View N P K V S C) (s : List ℕ) (Surrounds : N → K → C → Type 0) (laws : IsThreading view) (old new : N) (frame : Frame K)
+    (lower parts middle : List P) (to : ℕ) (whole : Result (Passed V S) Refusal) (p : Passing view s old frame lower parts to whole)
     (less : length parts - frame.base < to) where
   more : 0 < skips p.left
-  more = omega (arith, own_length view old frame parts p.rule p.known p.state p.at, p.count, less)
+  more = omega (arith, own_length view s old frame parts p.rule p.known p.state p.at, p.count, less)
 
   after : Later view.reading p.rule p.known p.from p.state p.left
   after = later view.reading p.rule p.known p.from p.state p.left more
 
   -- one is passed, and what it stands for is put behind the other parts
-  pub passing_next : (context : K) (part : P) → GoesOn view Surrounds old new frame parts middle (Ok context) → view.Grows old new
+  pub passing_next : (context : K) (part : P) → GoesOn view s Surrounds old new frame parts middle (Ok context) → view.Grows old new
       → AreAll (view.IsPart new) (part ∷ []) view.reading.rowless
-      → Passing view new frame lower (middle ++ part ∷ []) to whole
+      → Passing view s new frame lower (middle ++ part ∷ []) to whole
   passing_next context part goes grows is =
       let (next, read, surrounds, holds, own, middle_is, are) = goes p.rule p.known p.state p.at in
       let one = single (view.IsPart new) part view.reading.rowless laws.one is in
@@ -86,6 +87,7 @@ module _ {N P K V S C : Type 0} (view : View N P K V S C) (Surrounds : N → K �
         base = omega (arith, ap (λ ps. length ps) all, length-append (take frame.base parts) (own ++ part ∷ []), base);
         below = front ∙ p.below;
         at = record {
+          there = p.at.there;
           number = p.at.number;
           place = p.at.place;
           kept = laws.linking.kept_stays old new frame.kept p.rule grows p.at.kept;
@@ -97,16 +99,16 @@ module _ {N P K V S C : Type 0} (view : View N P K V S C) (Surrounds : N → K �
         count = omega (arith, p.count, after.count, count, laws.one, length-append next.values view.reading.rowless);
       }
 
-  pub passing_fails : (e : Refusal) → GoesOn view Surrounds old new frame parts middle (Err e) → Fails e whole
+  pub passing_fails : (e : Refusal) → GoesOn view s Surrounds old new frame parts middle (Err e) → Fails e whole
   passing_fails e goes =
       fails_carried e (view.reading.between p.rule p.known p.state) (λ next. passed view.reading p.rule (next.values ++ view.reading.rowless) after.from after.rest next.state) whole
       (goes p.rule p.known p.state p.at) (sym after.passes ∙ p.coming)
 
 -- all are passed
-pub passing_done : {N P K V S C : Type 0} (view : View N P K V S C) (nodes : N) (frame : Frame K) (lower parts : List P) (to : ℕ) (whole : Result (Passed V S) Refusal)
-    → Passing view nodes frame lower parts to whole → to ≤ length parts - frame.base → Passes view nodes frame lower parts (Ok tt) whole
-passing_done view nodes frame lower parts to whole p enough =
-    let none : skips p.left ≡ 0 = omega (arith, own_length view nodes frame parts p.rule p.known p.state p.at, p.count, enough) in (
+pub passing_done : {N P K V S C : Type 0} (view : View N P K V S C) (s : List ℕ) (nodes : N) (frame : Frame K) (lower parts : List P) (to : ℕ) (whole : Result (Passed V S) Refusal)
+    → Passing view s nodes frame lower parts to whole → to ≤ length parts - frame.base → Passes view nodes frame lower parts (Ok tt) whole
+passing_done view s nodes frame lower parts to whole p enough =
+    let none : skips p.left ≡ 0 = omega (arith, own_length view s nodes frame parts p.rule p.known p.state p.at, p.count, enough) in (
       record { known = p.known; from = p.from; left = p.left; state = p.state },
       sym p.coming ∙ passed_none view.reading p.rule p.known p.from p.left p.state none,
       p.at.holds,
@@ -136,8 +138,17 @@ owed_pushed view old new frame parts middle part x within adds =
 module _ {N P K V S C : Type 0} (view : View N P K V S C) (s : List ℕ) (laws : IsThreading view) (old : N) (frame : Frame K) (parts : List P)
     (base : frame.base ≤ length parts) (rule : Open S C) (known : List V) (from : ℕ) (left : Forest) (state : S)
     (is : IsInside view s old frame (drop frame.base parts) rule known from left state) where
+  there : IsThere view.table s rule
+  there = record {
+    kind = is.stands.kind;
+    is_kind = is.stands.is_kind;
+    takes = is.stands.takes;
+    behind = spell_all (joined is.stands.passed left) ++ is.stands.behind;
+    spelled = is.stands.spelled;
+  }
+
   -- nothing is passed yet
-  pub passing_first : (to : ℕ) → to ≡ length known + skips left → Passing view old frame (take frame.base parts) parts to (passed view.reading rule known from left state)
+  pub passing_first : (to : ℕ) → to ≡ length known + skips left → Passing view s old frame (take frame.base parts) parts to (passed view.reading rule known from left state)
   passing_first to to_is = record {
     rule = rule;
     known = known;
@@ -146,15 +157,16 @@ module _ {N P K V S C : Type 0} (view : View N P K V S C) (s : List ℕ) (laws :
     state = state;
     base = base;
     below = refl;
-    at = record { number = is.number; place = is.place; kept = is.kept; parts = is.parts; holds = is.holds };
+    at = record { there = there; number = is.number; place = is.place; kept = is.kept; parts = is.parts; holds = is.holds };
     coming = refl;
     count = sym to_is;
   }
 
   -- where parts were passed the frame is that of the rule still
   pub passed_at : (middle : N) (passed_parts : List P) (p : Passed V S) → view.Grows old middle → AreAll (view.IsPart middle) (drop frame.base passed_parts) p.known → view.Holds middle p.state
-      → IsAt view middle frame (drop frame.base passed_parts) rule p.known p.state
+      → IsAt view s middle frame (drop frame.base passed_parts) rule p.known p.state
   passed_at middle passed_parts p grows are holds = record {
+    there = there;
     number = is.number;
     place = is.place;
     kept = laws.linking.kept_stays old middle frame.kept rule grows is.kept;
@@ -164,7 +176,7 @@ module _ {N P K V S C : Type 0} (view : View N P K V S C) (s : List ℕ) (laws :
 
   pub closed_all : (middle new : N) (passed_parts new_parts : List P) (result : Result (Unit {0}) Refusal) → view.Grows old middle
       → Passes view middle frame (take frame.base parts) passed_parts (Ok tt) (passed view.reading rule known from left state)
-      → ClosesAll view middle new frame passed_parts new_parts result
+      → ClosesAll view s middle new frame passed_parts new_parts result
       → Puts view new (take frame.base parts) new_parts result (ended view.reading rule known from left state)
   closed_all middle new passed_parts new_parts result grows (p, read, holds, below, within, are) closes =
       subst (λ ps. Puts view new ps new_parts result (ended view.reading rule known from left state)) below
@@ -175,7 +187,11 @@ module _ {N P K V S C : Type 0} (view : View N P K V S C) (s : List ℕ) (laws :
   closed_none middle passed_parts e fails =
       fails_carried e (passed view.reading rule known from left state) (λ p. view.reading.close rule p.known p.state) (ended view.reading rule known from left state) fails refl
 
-  module _ (Surrounds : N → K → C → Type 0) (rows : List Row) (row : Row) (inside : Rule) (taken : List ℕ) (inner : Forest) (row_is : IsRuleRow rows row inside taken inner (skipped_from from left)) where
+  module _ (Surrounds : N → K → C → Type 0) (rows : List Row) (row : Row) (inside : Rule) (taken : List ℕ) (inner : Forest) (row_is : IsRuleRow rows row inside taken inner (skipped_from from left))
+      (rest : Forest) (left_is : skipped left ≡ grown (branch inside taken inner) rest) where
+    next_there : (behind : List ℕ) × (drop (skipped_from from left) s ≡ taken ++ (spell_all inner ++ behind))
+    next_there = stands_next view.table s (length view.reading.rowless) rule (length known) from left inside taken inner rest is.stands left_is
+
     abbrev whole : Result (Begun V S C) Refusal
     whole = next_of view.reading rule known from left state >>= begun view.reading inside taken (skipped_from from left) inner
 
@@ -187,27 +203,27 @@ module _ {N P K V S C : Type 0} (view : View N P K V S C) (s : List ℕ) (laws :
 
     module _ (middle later : N) (passed_parts new_parts : List P) (grows : view.Grows old middle)
         (passes : Passes view middle frame (take frame.base parts) passed_parts (Ok tt) (passed view.reading rule known from left state)) where
-      pub begins_gone : (e : Refusal) → GoesOn view Surrounds middle later frame passed_parts new_parts (Err e) → Fails e whole
+      pub begins_gone : (e : Refusal) → GoesOn view s Surrounds middle later frame passed_parts new_parts (Err e) → Fails e whole
       begins_gone e goes =
           rw passes.1
           (fails_carried e (view.reading.between rule passes.0.known passes.0.state) (begun view.reading inside taken (skipped_from from left) inner)
           (view.reading.between rule passes.0.known passes.0.state >>= begun view.reading inside taken (skipped_from from left) inner)
           (goes rule passes.0.known passes.0.state (passed_at middle passed_parts passes.0 grows passes.5 passes.2)) refl)
 
-      pub begins_refused : (new : N) (context : K) (e : Refusal) → GoesOn view Surrounds middle later frame passed_parts new_parts (Ok context)
-          → BeginsIn view Surrounds rows later new context row (Err e) → Fails e whole
+      pub begins_refused : (new : N) (context : K) (e : Refusal) → GoesOn view s Surrounds middle later frame passed_parts new_parts (Ok context)
+          → BeginsIn view s Surrounds rows later new context row (Err e) → Fails e whole
       begins_refused new context e goes begins =
           let (next, went, surrounds, held, own, own_is, own_are) = goes rule passes.0.known passes.0.state (passed_at middle passed_parts passes.0 grows passes.5 passes.2) in
           let r = standing inside taken (skipped_from from left) next.context next.state in
           let then_of : S → Result (Begun V S C) Refusal = λ st. Ok (record { rule = r; values = next.values; state = st }) in
           rw (passes.1, went)
-          (fails_carried e (view.reading.begin r inner) then_of (view.reading.begin r inner >>= then_of) (begins next.context next.state inside taken inner (skipped_from from left) row_is surrounds held) refl)
+          (fails_carried e (view.reading.begin r inner) then_of (view.reading.begin r inner >>= then_of) (begins next.context next.state inside taken inner (skipped_from from left) row_is next_there.0 next_there.1 surrounds held) refl)
 
-      pub begins_right : (new : N) (context kept : K) → GoesOn view Surrounds middle later frame passed_parts new_parts (Ok context) → view.Grows later new
-          → BeginsIn view Surrounds rows later new context row (Ok kept) → Begins view new (take frame.base parts) new_parts (Ok kept) whole
+      pub begins_right : (new : N) (context kept : K) → GoesOn view s Surrounds middle later frame passed_parts new_parts (Ok context) → view.Grows later new
+          → BeginsIn view s Surrounds rows later new context row (Ok kept) → Begins view new (take frame.base parts) new_parts (Ok kept) whole
       begins_right new context kept goes grown_on begins =
           let (next, went, surrounds, held, own, own_is, own_are) = goes rule passes.0.known passes.0.state (passed_at middle passed_parts passes.0 grows passes.5 passes.2) in
-          let (after, began, is_kept, holds) = begins next.context next.state inside taken inner (skipped_from from left) row_is surrounds held in
+          let (after, began, is_kept, holds) = begins next.context next.state inside taken inner (skipped_from from left) row_is next_there.0 next_there.1 surrounds held in
           let r = standing inside taken (skipped_from from left) next.context next.state in
           rw (passes.1, went, began) (
             record { rule = r; values = next.values; state = after },
@@ -231,14 +247,14 @@ module _ {N P K V S C : Type 0} (view : View N P K V S C) (s : List ℕ) (laws :
 
     module _ (middle later : N) (passed_parts new_parts : List P) (grows : view.Grows old middle)
         (passes : Passes view middle frame (take frame.base parts) passed_parts (Ok tt) (passed view.reading rule known from left state)) where
-      pub token_gone : (e : Refusal) → GoesOn view Surrounds middle later frame passed_parts new_parts (Err e) → Fails e whole_token
+      pub token_gone : (e : Refusal) → GoesOn view s Surrounds middle later frame passed_parts new_parts (Err e) → Fails e whole_token
       token_gone e goes =
           rw passes.1
           (fails_carried e (view.reading.between rule passes.0.known passes.0.state) (taken_in view.reading t (skipped_from from left))
           (view.reading.between rule passes.0.known passes.0.state >>= taken_in view.reading t (skipped_from from left))
           (goes rule passes.0.known passes.0.state (passed_at middle passed_parts passes.0 grows passes.5 passes.2)) refl)
 
-      pub token_refused : (new : N) (context : K) (e : Refusal) → GoesOn view Surrounds middle later frame passed_parts new_parts (Ok context)
+      pub token_refused : (new : N) (context : K) (e : Refusal) → GoesOn view s Surrounds middle later frame passed_parts new_parts (Ok context)
           → IsTaken view s later new row (Err e) → Fails e whole_token
       token_refused new context e goes taken =
           let (next, went, surrounds, held, own, own_is, own_are) = goes rule passes.0.known passes.0.state (passed_at middle passed_parts passes.0 grows passes.5 passes.2) in
@@ -246,7 +262,7 @@ module _ {N P K V S C : Type 0} (view : View N P K V S C) (s : List ℕ) (laws :
           rw (passes.1, went)
           (fails_carried e (view.reading.token (skipped_from from left) t next.state) then_of (view.reading.token (skipped_from from left) t next.state >>= then_of) (taken next.state t (skipped_from from left) row_is held) refl)
 
-      pub token_right : (new : N) (context : K) (part : P) → GoesOn view Surrounds middle later frame passed_parts new_parts (Ok context) → view.Grows later new
+      pub token_right : (new : N) (context : K) (part : P) → GoesOn view s Surrounds middle later frame passed_parts new_parts (Ok context) → view.Grows later new
           → IsTaken view s later new row (Ok part) → Takes view new (take frame.base parts) (new_parts ++ part ∷ []) (Ok tt) whole_token
       token_right new context part goes grown_on taken =
           let (next, went, surrounds, held, own, own_is, own_are) = goes rule passes.0.known passes.0.state (passed_at middle passed_parts passes.0 grows passes.5 passes.2) in

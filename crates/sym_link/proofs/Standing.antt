@@ -177,6 +177,18 @@ stands_inner g s n rule held from inner_rule taken inner rest context state lawf
           ∙ append_assoc (taken ++ spell_all inner) (spell_all rest) st.behind ∙ append_assoc taken (spell_all inner) (spell_all rest ++ st.behind);
     }
 
+-- what stands where the next part with a row does, which is a rule's
+pub stands_next : {S C : Type 0} (g : Table) (s : List ℕ) (n : ℕ) (rule : Open S C) (held from : ℕ) (left : Forest) (inner_rule : Rule) (taken : List ℕ) (inner rest : Forest)
+    → Stands g s n rule held from left → skipped left ≡ grown (branch inner_rule taken inner) rest
+    → (behind : List ℕ) × (drop (skipped_from from left) s ≡ taken ++ (spell_all inner ++ behind))
+stands_next g s n rule held from left inner_rule taken inner rest st is =
+    let at : Stands g s n rule (held + values_in n (passed_by left)) (skipped_from from left) (grown (branch inner_rule taken inner) rest) =
+    subst (λ f. Stands g s n rule (held + values_in n (passed_by left)) (skipped_from from left) f) is (stands_skip g s n rule held from left st) in (
+      spell_all rest ++ at.behind,
+      stands_left g s n rule (held + values_in n (passed_by left)) (skipped_from from left) (grown (branch inner_rule taken inner) rest) at
+          ∙ append_assoc (taken ++ spell_all inner) (spell_all rest) at.behind ∙ append_assoc taken (spell_all inner) (spell_all rest ++ at.behind),
+    )
+
 -- a rule of the symbol begins at one of its bytes
 pub stands_within : {S C : Type 0} (g : Table) (s : List ℕ) (n : ℕ) (rule : Open S C) (held from : ℕ) (left : Forest) → IsLawful g → Stands g s n rule held from left
     → rule.place < length s

@@ -1,10 +1,10 @@
 -- A language in which each part has one value, also one with no row, and something is done before each part.
-use Rattle.std.specs.Prelude.{◌≡◌, ℕ, ◌+◌, ◌≤◌, List, ◌++◌, length, take, drop, Result, Ok, Err}
+use Rattle.std.specs.Prelude.{◌≡◌, ℕ, ◌+◌, ◌<◌, ◌≤◌, List, ◌++◌, length, take, drop, Result, Ok, Err}
 use Rattle.sym_core.specs.declared.refusal.Refusal.{Refusal}
 use Rattle.sym_shape.specs.declared.rule.Row.{Row}
 use Rattle.sym_shape.specs.declared.rule.Rule.{Rule}
-use Rattle.sym_shape.specs.Table.{Token}
-use Rattle.sym_shape.specs.Tree.{Forest, branch, empty, token, fixed, grown, row_count_all}
+use Rattle.sym_shape.specs.Table.{Table, Token}
+use Rattle.sym_shape.specs.Tree.{Forest, branch, empty, token, fixed, grown, row_count_all, spell_all, TakesRule}
 use Rattle.sym_link.specs.declared.language.Frame.{Frame}
 use Rattle.sym_link.specs.Reading.{Open, Next}
 use Rattle.sym_link.specs.Unfold.{standing}
@@ -19,9 +19,18 @@ skips (grown empty rest) = 1 + skips rest
 skips (grown (fixed byte) rest) = 1 + skips rest
 skips left = 0
 
+-- A rule of the grammar stands at its place in the symbol, where the byte is that it takes.
+pub record IsThere {S C : Type 0} (g : Table) (s : List ℕ) (rule : Open S C) : Type 0 where
+  pub kind : ℕ
+  pub is_kind : kind < g.kinds
+  pub takes : TakesRule g kind rule.rule rule.taken
+  pub behind : List ℕ
+  pub spelled : drop rule.place s ≡ rule.taken ++ behind
+
 -- The frame of code is that of an open rule, whose parts so far have these values.
-pub record IsAt {N P K V S C : Type 0} (view : View N P K V S C) (nodes : N) (frame : Frame K) (own : List P)
+pub record IsAt {N P K V S C : Type 0} (view : View N P K V S C) (s : List ℕ) (nodes : N) (frame : Frame K) (own : List P)
     (rule : Open S C) (known : List V) (state : S) : Type 0 where
+  pub there : IsThere view.table s rule
   pub number : frame.rule ≡ rule.rule.number
   pub place : frame.place ≡ rule.place
   pub kept : view.IsKept nodes frame.kept rule
@@ -37,15 +46,15 @@ Goes {P = P} {V = V} {S = S} {C = C} view IsContext nodes lower parts (Ok contex
 Goes view IsContext nodes lower parts (Err e) read = Fails e read
 
 -- What is done before the next part of the rule of the frame is what the reading says.
-abbrev pub GoesOn : {N P K V S C : Type 0} → View N P K V S C → (IsContext : N → K → C → Type 0) → (old new : N) → Frame K → (parts new_parts : List P)
+abbrev pub GoesOn : {N P K V S C : Type 0} → View N P K V S C → (s : List ℕ) → (IsContext : N → K → C → Type 0) → (old new : N) → Frame K → (parts new_parts : List P)
     → Result K Refusal → Type 0
-GoesOn {V = V} {S = S} {C = C} view IsContext old new frame parts new_parts result =
-    (rule : Open S C) (known : List V) (state : S) → IsAt view old frame (drop frame.base parts) rule known state
+GoesOn {V = V} {S = S} {C = C} view s IsContext old new frame parts new_parts result =
+    (rule : Open S C) (known : List V) (state : S) → IsAt view s old frame (drop frame.base parts) rule known state
     → Goes view IsContext new (take frame.base parts) new_parts result (view.reading.between rule known state)
 
 -- Some parts without a row of the rule of the frame are passed, of those in front of the part with this number. What comes of
 -- them all is known.
-pub record Passing {N P K V S C : Type 0} (view : View N P K V S C) (nodes : N) (frame : Frame K) (lower parts : List P) (to : ℕ)
+pub record Passing {N P K V S C : Type 0} (view : View N P K V S C) (s : List ℕ) (nodes : N) (frame : Frame K) (lower parts : List P) (to : ℕ)
     (whole : Result (Passed V S) Refusal) : Type 0 where
   pub rule : Open S C
   pub known : List V
@@ -54,14 +63,14 @@ pub record Passing {N P K V S C : Type 0} (view : View N P K V S C) (nodes : N) 
   pub state : S
   pub base : frame.base ≤ length parts
   pub below : take frame.base parts ≡ lower
-  pub at : IsAt view nodes frame (drop frame.base parts) rule known state
+  pub at : IsAt view s nodes frame (drop frame.base parts) rule known state
   pub coming : passed view.reading rule known from left state ≡ whole
   pub count : length known + skips left ≡ to
 
 -- One more is passed.
-abbrev pub PassesOne : {N P K V S C : Type 0} → View N P K V S C → (nodes : N) → Frame K → (lower parts : List P) → (to : ℕ) → (whole : Result (Passed V S) Refusal) → Result (Unit {0}) Refusal → Type 0
-PassesOne view nodes frame lower parts to whole (Ok done) = Passing view nodes frame lower parts to whole
-PassesOne view nodes frame lower parts to whole (Err e) = Fails e whole
+abbrev pub PassesOne : {N P K V S C : Type 0} → View N P K V S C → (s : List ℕ) → (nodes : N) → Frame K → (lower parts : List P) → (to : ℕ) → (whole : Result (Passed V S) Refusal) → Result (Unit {0}) Refusal → Type 0
+PassesOne view s nodes frame lower parts to whole (Ok done) = Passing view s nodes frame lower parts to whole
+PassesOne view s nodes frame lower parts to whole (Err e) = Fails e whole
 
 -- All are passed, and the parts stand for the values there.
 abbrev pub Passes : {N P K V S C : Type 0} → View N P K V S C → (nodes : N) → Frame K → (lower parts : List P) → Result (Unit {0}) Refusal → Result (Passed V S) Refusal → Type 0
@@ -84,16 +93,16 @@ BeginsAs {S = S} view nodes rule (Ok kept) read = (state : S) × (read ≡ Ok st
 BeginsAs view nodes rule (Err e) read = Fails e read
 
 -- The rule of a row begins in a context as the reading says.
-abbrev pub BeginsIn : {N P K V S C : Type 0} → View N P K V S C → (Surrounds : N → K → C → Type 0) → (rows : List Row) → (old new : N) → (context : K) → Row → Result K Refusal → Type 0
-BeginsIn {S = S} {C = C} view Surrounds rows old new context row result =
+abbrev pub BeginsIn : {N P K V S C : Type 0} → View N P K V S C → (s : List ℕ) → (Surrounds : N → K → C → Type 0) → (rows : List Row) → (old new : N) → (context : K) → Row → Result K Refusal → Type 0
+BeginsIn {S = S} {C = C} view s Surrounds rows old new context row result =
     (around : C) (state : S) (rule : Rule) (taken : List ℕ) (inner : Forest) (place : ℕ) → IsRuleRow rows row rule taken inner place
-    → Surrounds old context around → view.Holds old state
+    → (behind : List ℕ) → drop place s ≡ taken ++ (spell_all inner ++ behind) → Surrounds old context around → view.Holds old state
     → BeginsAs view new (standing rule taken place around state) result (view.reading.begin (standing rule taken place around state) inner)
 
 -- The rule of the frame closes over all its parts as the reading says.
-abbrev pub ClosesAll : {N P K V S C : Type 0} → View N P K V S C → (old new : N) → Frame K → (parts new_parts : List P) → Result (Unit {0}) Refusal → Type 0
-ClosesAll {V = V} {S = S} {C = C} view old new frame parts new_parts result =
-    (rule : Open S C) (known : List V) (state : S) → IsAt view old frame (drop frame.base parts) rule known state
+abbrev pub ClosesAll : {N P K V S C : Type 0} → View N P K V S C → (s : List ℕ) → (old new : N) → Frame K → (parts new_parts : List P) → Result (Unit {0}) Refusal → Type 0
+ClosesAll {V = V} {S = S} {C = C} view s old new frame parts new_parts result =
+    (rule : Open S C) (known : List V) (state : S) → IsAt view s old frame (drop frame.base parts) rule known state
     → Puts view new (take frame.base parts) new_parts result (view.reading.close rule known state)
 
 -- A token in the rule of the frame is what the reading says.

@@ -45,7 +45,7 @@ pub trait Threading {
     ) -> Result<Self::Kept, Refusal>
         requires room { HasRoom (view symbol.now) symbol.now self.old (owed_behind (view symbol.now) frame parts.old.items) }
         requires base { frame.base ≤ length parts.old.items }
-        ensures goes { GoesOn (view symbol.now) (surrounds symbol.now) self.old self.new frame parts.old.items parts.new.items result }
+        ensures goes { GoesOn (view symbol.now) symbol.now (surrounds symbol.now) self.old self.new frame parts.old.items parts.new.items result }
         ensures adds { OnOk result (Adds (view symbol.now) self.old self.new (owed_behind (view symbol.now) frame parts.old.items) (owed_next (view symbol.now) frame parts.new.items)) }
         ensures pays { OnOk result ((at : ℕ) → Pays (view symbol.now) self.old self.new at at) }
         ensures count { OnOk result (length parts.new.items ≡ length parts.old.items) };
@@ -60,7 +60,7 @@ pub trait Threading {
     ) -> Result<Self::Kept, Refusal>
         requires place { row.from < length symbol.now }
         requires end { row.end ≤ length rows.now }
-        ensures begins { BeginsIn (view symbol.now) (surrounds symbol.now) rows.now self.old self.new context row result }
+        ensures begins { BeginsIn (view symbol.now) symbol.now (surrounds symbol.now) rows.now self.old self.new context row result }
         ensures adds { OnOk result (Adds (view symbol.now) self.old self.new 0 0) }
         ensures pays { OnOk result ((at : ℕ) → Pays (view symbol.now) self.old self.new at at) };
 
@@ -74,7 +74,7 @@ pub trait Threading {
         requires room { HasRoom (view symbol.now) symbol.now self.old (owed_behind (view symbol.now) frame parts.old.items) }
         requires base { frame.base ≤ length parts.old.items }
         requires place { frame.place < length symbol.now }
-        ensures closes { ClosesAll (view symbol.now) self.old self.new frame parts.old.items parts.new.items result }
+        ensures closes { ClosesAll (view symbol.now) symbol.now self.old self.new frame parts.old.items parts.new.items result }
         ensures adds { OnOk result (Adds (view symbol.now) self.old self.new (owed_behind (view symbol.now) frame parts.old.items) 0) }
         ensures pays { OnOk result ((at : ℕ) → Pays (view symbol.now) self.old self.new at at) };
 
@@ -119,8 +119,8 @@ fn pass_one<L: Threading>(
     requires room { HasRoom (L.view symbol.now) symbol.now language.old (owed_behind (L.view symbol.now) frame parts.old.items) }
     requires base { frame.base ≤ length parts.old.items }
     ensures passing { (lower : List L.Part) (to : ℕ) (whole : Result (Passed L.Value L.State) Refusal)
-        → Passing (L.view symbol.now) language.old frame lower parts.old.items to whole → length parts.old.items - frame.base < to
-        → PassesOne (L.view symbol.now) language.new frame lower parts.new.items to whole result }
+        → Passing (L.view symbol.now) symbol.now language.old frame lower parts.old.items to whole → length parts.old.items - frame.base < to
+        → PassesOne (L.view symbol.now) symbol.now language.new frame lower parts.new.items to whole result }
     ensures adds { OnOk result (Adds (L.view symbol.now) language.old language.new (owed_behind (L.view symbol.now) frame parts.old.items) (owed_behind (L.view symbol.now) frame parts.new.items)) }
     ensures pays { OnOk result ((at : ℕ) → Pays (L.view symbol.now) language.old language.new at at) }
     ensures count { OnOk result (length parts.new.items ≡ length parts.old.items + 1) }
@@ -141,7 +141,7 @@ pub fn pass<L: Threading>(
     requires room { HasRoom (L.view symbol.now) symbol.now language.old (owed_behind (L.view symbol.now) frame parts.old.items) }
     requires base { frame.base ≤ length parts.old.items }
     ensures passes { (lower : List L.Part) (whole : Result (Passed L.Value L.State) Refusal)
-        → Passing (L.view symbol.now) language.old frame lower parts.old.items to whole
+        → Passing (L.view symbol.now) symbol.now language.old frame lower parts.old.items to whole
         → Passes (L.view symbol.now) language.new frame lower parts.new.items result whole }
     ensures adds { OnOk result (Adds (L.view symbol.now) language.old language.new (owed_behind (L.view symbol.now) frame parts.old.items) (owed_behind (L.view symbol.now) frame parts.new.items)) }
     ensures pays { OnOk result ((at : ℕ) → Pays (L.view symbol.now) language.old language.new at at) }

@@ -14,8 +14,8 @@ invariant-parts g l =
     × Adds (g.L.Threading.view l.symbol) l.fn.language l.language (owed_behind (g.L.Threading.view l.symbol) l.frame l.fn.parts.items) (owed_behind (g.L.Threading.view l.symbol) l.frame l.parts.items)
     × ((at : ℕ) → Pays (g.L.Threading.view l.symbol) l.fn.language l.language at at)
     × ((lower : List g.row.L-Part.Denot) (whole : Result (Passed g.L.Threading.Value g.L.Threading.State) Refusal)
-    → Passing (g.L.Threading.view l.symbol) l.fn.language l.frame lower l.fn.parts.items l.to whole
-    → Passing (g.L.Threading.view l.symbol) l.language l.frame lower l.parts.items l.to whole)
+    → Passing (g.L.Threading.view l.symbol) l.symbol l.fn.language l.frame lower l.fn.parts.items l.to whole
+    → Passing (g.L.Threading.view l.symbol) l.symbol l.language l.frame lower l.parts.items l.to whole)
 
 abbrev pub decreases-parts : goal.decreases-parts
 decreases-parts g l = l.to - (length l.parts.items - l.frame.base)

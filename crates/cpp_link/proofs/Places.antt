@@ -1,0 +1,70 @@
+-- Parts by their numbers.
+use Rattle.std.proofs.Common.{◌≡◌, refl, ap, arith, ℕ, zero, suc, ◌<◌, true, false, List, [], ◌∷◌, length, get_or}
+use Rattle.std.specs.Prelude.{nat_eq}
+use Rattle.std.proofs.lemmas.Bool.{eqb-true, eqb-false}
+use Rattle.cpp_term.specs.Term.{Term}
+use Rattle.cpp_term.specs.Values.{Value, part}
+use Rattle.cpp_link.specs.declared.part.Part.{Part}
+use Rattle.cpp_link.specs.Parts.{value_of, values_of, IsThere, AreThere}
+
+pub part_at : (s : List ℕ) (ts : List Term) (ps : List Part) (k : ℕ) → value_of s ts (get_or ps k Part.Nothing) ≡ part (values_of s ts ps) k
+unfolding value_of values_of part
+part_at s _ [] k = refl
+part_at s _ (q ∷ ps) zero = refl
+part_at s vs (q ∷ ps) (suc k) = part_at s vs ps k
+
+pub part_there : (s : List ℕ) (n : ℕ) (ps : List Part) (k : ℕ) → AreThere s n ps → IsThere s n (get_or ps k Part.Nothing)
+part_there s n [] k there = tt
+part_there s n (q ∷ ps) zero there = there.0
+part_there s n (q ∷ ps) (suc k) there = part_there s n ps k there.1
+
+-- ## Parts by how many there are
+
+pub values_length : (s : List ℕ) (ts : List Term) (ps : List Part) → length (values_of s ts ps) ≡ length ps
+unfolding values_of
+values_length s ts [] = refl
+values_length s ts (p ∷ ps) = omega (arith, values_length s ts ps)
+
+pub none_are : (vs : List Value) → length vs ≡ 0 → vs ≡ []
+none_are [] none = refl
+none_are (v ∷ vs) none = absurd (omega (arith, none))
+
+pub one_is : (vs : List Value) → length vs ≡ 1 → vs ≡ part vs 0 ∷ []
+unfolding part
+one_is [] one = absurd (omega (arith, one))
+one_is (v ∷ vs) one = ap (λ xs. v ∷ xs) (none_are vs (omega (arith, one)))
+
+pub two_are : (vs : List Value) → length vs ≡ 2 → vs ≡ part vs 0 ∷ part vs 1 ∷ []
+unfolding part
+two_are [] two = absurd (omega (arith, two))
+two_are (v ∷ vs) two = ap (λ xs. v ∷ xs) (one_is vs (omega (arith, two)))
+
+pub three_are : (vs : List Value) → length vs ≡ 3 → vs ≡ part vs 0 ∷ part vs 1 ∷ part vs 2 ∷ []
+unfolding part
+three_are [] three = absurd (omega (arith, three))
+three_are (v ∷ vs) three = ap (λ xs. v ∷ xs) (two_are vs (omega (arith, three)))
+
+pub record Later (vs : List Value) : Type 0 where
+  pub second : Value
+  pub third : Value
+  pub fourth : Value
+  pub rest : List Value
+  pub are : vs ≡ part vs 0 ∷ second ∷ third ∷ fourth ∷ rest
+
+pub later_are : (vs : List Value) → 3 < length vs → Later vs
+unfolding part
+later_are (v ∷ w ∷ x ∷ y ∷ vs) more = record { second = w; third = x; fourth = y; rest = vs; are = refl }
+later_are (v ∷ w ∷ x ∷ []) more = absurd (omega (arith, more))
+later_are (v ∷ w ∷ []) more = absurd (omega (arith, more))
+later_are (v ∷ []) more = absurd (omega (arith, more))
+later_are [] more = absurd (omega (arith, more))
+
+pub empty_length : (ps : List Part) → nat_eq (length ps) 0 ≡ true → length ps ≡ 0
+empty_length ps none = eqb-true (length ps) 0 none
+
+pub many_more : (n : ℕ) → nat_eq n 0 ≡ false → (n ≡ 1 → ⊥) → (n ≡ 2 → ⊥) → (n ≡ 3 → ⊥) → 3 < n
+many_more zero some one two three = absurd (eqb-false zero zero some refl)
+many_more (suc zero) some one two three = absurd (one refl)
+many_more (suc (suc zero)) some one two three = absurd (two refl)
+many_more (suc (suc (suc zero))) some one two three = absurd (three refl)
+many_more (suc (suc (suc (suc n)))) some one two three = omega arith

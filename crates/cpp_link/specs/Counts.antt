@@ -1,0 +1,172 @@
+-- As many values go into a part of C++ as were known.
+use Rattle.std.proofs.Common.{◌≡◌, refl, ℕ, suc, List, [], ◌∷◌, length, Result, Ok, Err}
+use Rattle.std.specs.Result.{IfOk}
+use Rattle.sym_core.specs.declared.refusal.Refusal.{Refusal}
+use Rattle.sym_link.specs.Reading.{◌>>=◌}
+use Rattle.cpp_grammar.specs.declared.production.Production.{Production}
+use Rattle.cpp_term.specs.Term.{parameter}
+use Rattle.cpp_term.specs.Values.{State, Value, Around}
+use Rattle.cpp_term.specs.References.{parameter_named}
+use Rattle.cpp_term.specs.Between.{between, named_so_far, listed_so_far, piece_so_far, parameter_so_far, argument_at, index_of}
+
+parameter_counts : (around : Around) (place k : ℕ) (vs : List Value) (state : State) → IfOk (parameter_so_far around place k vs state) (λ next. length next.values ≡ suc (length vs))
+unfolding parameter_so_far listed_so_far
+parameter_counts around place k vs state = go (parameter_named around place k state)
+  where
+    go : (o : Result State Refusal) → IfOk (o >>= λ s. listed_so_far around (parameter k (argument_at around k)) vs s) (λ next. length next.values ≡ suc (length vs))
+    go (Ok s) = refl
+    go (Err e) = tt
+
+pub between_counts : (p : Production) (around : Around) (place : ℕ) (vs : List Value) (state : State) → IfOk (between p around place vs state) (λ next. length next.values ≡ length vs)
+unfolding between named_so_far listed_so_far piece_so_far
+between_counts Production.Encoding around place [] state = refl
+between_counts Production.Encoding around place (v ∷ []) state = refl
+between_counts Production.Encoding around place (v ∷ w ∷ []) state = refl
+between_counts Production.Encoding around place (v ∷ w ∷ x ∷ []) state = refl
+between_counts Production.Encoding around place (v ∷ w ∷ x ∷ y ∷ vs) state = refl
+between_counts Production.Special around place [] state = refl
+between_counts Production.Special around place (v ∷ []) state = refl
+between_counts Production.Special around place (v ∷ w ∷ []) state = refl
+between_counts Production.Special around place (v ∷ w ∷ x ∷ []) state = refl
+between_counts Production.Special around place (v ∷ w ∷ x ∷ y ∷ vs) state = refl
+between_counts Production.Guard around place [] state = refl
+between_counts Production.Guard around place (v ∷ []) state = refl
+between_counts Production.Guard around place (v ∷ w ∷ []) state = refl
+between_counts Production.Guard around place (v ∷ w ∷ x ∷ []) state = refl
+between_counts Production.Guard around place (v ∷ w ∷ x ∷ y ∷ vs) state = refl
+between_counts Production.LocalName around place [] state = refl
+between_counts Production.LocalName around place (v ∷ []) state = refl
+between_counts Production.LocalName around place (v ∷ w ∷ []) state = refl
+between_counts Production.LocalName around place (v ∷ w ∷ x ∷ []) state = refl
+between_counts Production.LocalName around place (v ∷ w ∷ x ∷ y ∷ vs) state = refl
+between_counts Production.LocalType around place [] state = refl
+between_counts Production.LocalType around place (v ∷ []) state = refl
+between_counts Production.LocalType around place (v ∷ w ∷ []) state = refl
+between_counts Production.LocalType around place (v ∷ w ∷ x ∷ []) state = refl
+between_counts Production.LocalType around place (v ∷ w ∷ x ∷ y ∷ vs) state = refl
+between_counts Production.InternalName around place [] state = refl
+between_counts Production.InternalName around place (v ∷ []) state = refl
+between_counts Production.InternalName around place (v ∷ w ∷ []) state = refl
+between_counts Production.InternalName around place (v ∷ w ∷ x ∷ []) state = refl
+between_counts Production.InternalName around place (v ∷ w ∷ x ∷ y ∷ vs) state = refl
+between_counts Production.SourceName around place [] state = refl
+between_counts Production.SourceName around place (v ∷ []) state = refl
+between_counts Production.SourceName around place (v ∷ w ∷ []) state = refl
+between_counts Production.SourceName around place (v ∷ w ∷ x ∷ []) state = refl
+between_counts Production.SourceName around place (v ∷ w ∷ x ∷ y ∷ vs) state = refl
+between_counts Production.LocalTypeName around place [] state = refl
+between_counts Production.LocalTypeName around place (v ∷ []) state = refl
+between_counts Production.LocalTypeName around place (v ∷ w ∷ []) state = refl
+between_counts Production.LocalTypeName around place (v ∷ w ∷ x ∷ []) state = refl
+between_counts Production.LocalTypeName around place (v ∷ w ∷ x ∷ y ∷ vs) state = refl
+between_counts Production.OperatorName around place [] state = refl
+between_counts Production.OperatorName around place (v ∷ []) state = refl
+between_counts Production.OperatorName around place (v ∷ w ∷ []) state = refl
+between_counts Production.OperatorName around place (v ∷ w ∷ x ∷ []) state = refl
+between_counts Production.OperatorName around place (v ∷ w ∷ x ∷ y ∷ vs) state = refl
+between_counts Production.Constructor around place [] state = refl
+between_counts Production.Constructor around place (v ∷ []) state = refl
+between_counts Production.Constructor around place (v ∷ w ∷ []) state = refl
+between_counts Production.Constructor around place (v ∷ w ∷ x ∷ []) state = refl
+between_counts Production.Constructor around place (v ∷ w ∷ x ∷ y ∷ vs) state = refl
+between_counts Production.Destructor around place [] state = refl
+between_counts Production.Destructor around place (v ∷ []) state = refl
+between_counts Production.Destructor around place (v ∷ w ∷ []) state = refl
+between_counts Production.Destructor around place (v ∷ w ∷ x ∷ []) state = refl
+between_counts Production.Destructor around place (v ∷ w ∷ x ∷ y ∷ vs) state = refl
+between_counts Production.StdName around place [] state = refl
+between_counts Production.StdName around place (v ∷ []) state = refl
+between_counts Production.StdName around place (v ∷ w ∷ []) state = refl
+between_counts Production.StdName around place (v ∷ w ∷ x ∷ []) state = refl
+between_counts Production.StdName around place (v ∷ w ∷ x ∷ y ∷ vs) state = refl
+between_counts Production.AbbreviatedName around place [] state = refl
+between_counts Production.AbbreviatedName around place (v ∷ []) state = refl
+between_counts Production.AbbreviatedName around place (v ∷ w ∷ []) state = refl
+between_counts Production.AbbreviatedName around place (v ∷ w ∷ x ∷ []) state = refl
+between_counts Production.AbbreviatedName around place (v ∷ w ∷ x ∷ y ∷ vs) state = refl
+between_counts Production.NestStd around place [] state = refl
+between_counts Production.NestStd around place (v ∷ []) state = refl
+between_counts Production.NestStd around place (v ∷ w ∷ []) state = refl
+between_counts Production.NestStd around place (v ∷ w ∷ x ∷ []) state = refl
+between_counts Production.NestStd around place (v ∷ w ∷ x ∷ y ∷ vs) state = refl
+between_counts Production.NestAbbreviated around place [] state = refl
+between_counts Production.NestAbbreviated around place (v ∷ []) state = refl
+between_counts Production.NestAbbreviated around place (v ∷ w ∷ []) state = refl
+between_counts Production.NestAbbreviated around place (v ∷ w ∷ x ∷ []) state = refl
+between_counts Production.NestAbbreviated around place (v ∷ w ∷ x ∷ y ∷ vs) state = refl
+between_counts Production.NestParameter around place [] state = refl
+between_counts Production.NestParameter around place (v ∷ []) state = parameter_counts around place (index_of v) [] state
+between_counts Production.NestParameter around place (v ∷ w ∷ []) state = refl
+between_counts Production.NestParameter around place (v ∷ w ∷ x ∷ []) state = refl
+between_counts Production.NestParameter around place (v ∷ w ∷ x ∷ y ∷ vs) state = refl
+between_counts Production.NestInternal around place [] state = refl
+between_counts Production.NestInternal around place (v ∷ []) state = refl
+between_counts Production.NestInternal around place (v ∷ w ∷ []) state = refl
+between_counts Production.NestInternal around place (v ∷ w ∷ x ∷ []) state = refl
+between_counts Production.NestInternal around place (v ∷ w ∷ x ∷ y ∷ vs) state = refl
+between_counts Production.NestSource around place [] state = refl
+between_counts Production.NestSource around place (v ∷ []) state = refl
+between_counts Production.NestSource around place (v ∷ w ∷ []) state = refl
+between_counts Production.NestSource around place (v ∷ w ∷ x ∷ []) state = refl
+between_counts Production.NestSource around place (v ∷ w ∷ x ∷ y ∷ vs) state = refl
+between_counts Production.NestLocalType around place [] state = refl
+between_counts Production.NestLocalType around place (v ∷ []) state = refl
+between_counts Production.NestLocalType around place (v ∷ w ∷ []) state = refl
+between_counts Production.NestLocalType around place (v ∷ w ∷ x ∷ []) state = refl
+between_counts Production.NestLocalType around place (v ∷ w ∷ x ∷ y ∷ vs) state = refl
+between_counts Production.NestArguments around place [] state = refl
+between_counts Production.NestArguments around place (v ∷ []) state = refl
+between_counts Production.NestArguments around place (v ∷ w ∷ []) state = refl
+between_counts Production.NestArguments around place (v ∷ w ∷ x ∷ []) state = refl
+between_counts Production.NestArguments around place (v ∷ w ∷ x ∷ y ∷ vs) state = refl
+between_counts Production.NestNext around place [] state = refl
+between_counts Production.NestNext around place (v ∷ []) state = refl
+between_counts Production.NestNext around place (v ∷ w ∷ []) state = refl
+between_counts Production.NestNext around place (v ∷ w ∷ x ∷ []) state = refl
+between_counts Production.NestNext around place (v ∷ w ∷ x ∷ y ∷ vs) state = refl
+between_counts Production.Arguments around place [] state = refl
+between_counts Production.Arguments around place (v ∷ []) state = refl
+between_counts Production.Arguments around place (v ∷ w ∷ []) state = refl
+between_counts Production.Arguments around place (v ∷ w ∷ x ∷ []) state = refl
+between_counts Production.Arguments around place (v ∷ w ∷ x ∷ y ∷ vs) state = refl
+between_counts Production.PackArgument around place [] state = refl
+between_counts Production.PackArgument around place (v ∷ []) state = refl
+between_counts Production.PackArgument around place (v ∷ w ∷ []) state = refl
+between_counts Production.PackArgument around place (v ∷ w ∷ x ∷ []) state = refl
+between_counts Production.PackArgument around place (v ∷ w ∷ x ∷ y ∷ vs) state = refl
+between_counts Production.Lambda around place [] state = refl
+between_counts Production.Lambda around place (v ∷ []) state = refl
+between_counts Production.Lambda around place (v ∷ w ∷ []) state = refl
+between_counts Production.Lambda around place (v ∷ w ∷ x ∷ []) state = refl
+between_counts Production.Lambda around place (v ∷ w ∷ x ∷ y ∷ vs) state = refl
+between_counts Production.Expansion around place [] state = refl
+between_counts Production.Expansion around place (v ∷ []) state = refl
+between_counts Production.Expansion around place (v ∷ w ∷ []) state = refl
+between_counts Production.Expansion around place (v ∷ w ∷ x ∷ []) state = refl
+between_counts Production.Expansion around place (v ∷ w ∷ x ∷ y ∷ vs) state = refl
+between_counts Production.Parameter around place [] state = refl
+between_counts Production.Parameter around place (v ∷ []) state = parameter_counts around place (index_of v) [] state
+between_counts Production.Parameter around place (v ∷ w ∷ []) state = refl
+between_counts Production.Parameter around place (v ∷ w ∷ x ∷ []) state = refl
+between_counts Production.Parameter around place (v ∷ w ∷ x ∷ y ∷ vs) state = refl
+between_counts Production.TypeWithS around place [] state = refl
+between_counts Production.TypeWithS around place (v ∷ []) state = refl
+between_counts Production.TypeWithS around place (v ∷ w ∷ []) state = refl
+between_counts Production.TypeWithS around place (v ∷ w ∷ x ∷ []) state = refl
+between_counts Production.TypeWithS around place (v ∷ w ∷ x ∷ y ∷ vs) state = refl
+between_counts Production.LvalueItem around place [] state = refl
+between_counts Production.LvalueItem around place (v ∷ []) state = refl
+between_counts Production.LvalueItem around place (v ∷ w ∷ []) state = refl
+between_counts Production.LvalueItem around place (v ∷ w ∷ x ∷ []) state = refl
+between_counts Production.LvalueItem around place (v ∷ w ∷ x ∷ y ∷ vs) state = refl
+between_counts Production.RvalueItem around place [] state = refl
+between_counts Production.RvalueItem around place (v ∷ []) state = refl
+between_counts Production.RvalueItem around place (v ∷ w ∷ []) state = refl
+between_counts Production.RvalueItem around place (v ∷ w ∷ x ∷ []) state = refl
+between_counts Production.RvalueItem around place (v ∷ w ∷ x ∷ y ∷ vs) state = refl
+between_counts Production.IntegerLiteral around place [] state = refl
+between_counts Production.IntegerLiteral around place (v ∷ []) state = refl
+between_counts Production.IntegerLiteral around place (v ∷ w ∷ []) state = refl
+between_counts Production.IntegerLiteral around place (v ∷ w ∷ x ∷ []) state = refl
+between_counts Production.IntegerLiteral around place (v ∷ w ∷ x ∷ y ∷ vs) state = refl
+between_counts _ around place vs state = refl

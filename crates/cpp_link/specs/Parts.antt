@@ -1,0 +1,110 @@
+-- The values that parts stand for: functions of the nodes.
+use Rattle.std.specs.Prelude.{ℕ, ◌<◌, List, [], ◌∷◌, map, true, Some}
+use Rattle.cpp_term.specs.Term as term
+use Rattle.cpp_term.specs.Term.{Term}
+use Rattle.cpp_term.specs.Values as values
+use Rattle.cpp_term.specs.Values.{State, Value, Around}
+use Rattle.cpp_tree.specs.Nodes as nodes
+use Rattle.cpp_tree.specs.Nodes.{Stored, over, tree_at, trees, bytes_at, IsWithin, IsPieceBelow, IsBelow, IsAdjustmentWithin, IsThunkWithin}
+use Rattle.cpp_tree.specs.declared.node.Node.{Node}
+use Rattle.cpp_link.specs.declared.part.Part.{Part}
+use Rattle.cpp_link.specs.declared.part.Meant.{Meant}
+use Rattle.cpp_link.specs.declared.part.Prefix.{Prefix}
+use Rattle.cpp_link.specs.declared.part.Kept.{Kept}
+use Rattle.cpp_link.specs.declared.part.Candidate.{Candidate}
+use Rattle.cpp_link.specs.declared.part.Step.{Step}
+
+-- the trees of the nodes, and that of a node which isn't there yet
+abbrev pub trees_in : List ℕ → Stored → List Term
+trees_in s y = trees (over s y)
+
+abbrev pub tree_of_node : List ℕ → Stored → Node → Term
+tree_of_node s y node = nodes.tree_of s y.thunks (trees_in s y) node
+
+-- ## Values
+
+-- the value that a part stands for
+unfoldable pub value_of : List ℕ → List Term → Part → Value
+value_of s ts Part.Nothing = values.nothing_there
+value_of s ts (Part.Letter byte) = values.letter byte
+value_of s ts (Part.Text span) = values.text (bytes_at s span)
+value_of s ts (Part.Signed n) = values.signed (nodes.signed_of s n)
+value_of s ts (Part.Adjusted a) = values.adjusted (nodes.adjustment_of s a)
+value_of s ts (Part.Tree node listed) = values.tree (tree_at ts node) listed
+value_of s ts (Part.Piece p) = values.piece (nodes.piece_of s ts p)
+value_of s ts (Part.Named node q m) = values.named (tree_at ts node) (nodes.qualifiers_of q) (nodes.mark_of m)
+value_of s ts (Part.Signature list m) = values.signature (tree_at ts list) (nodes.mark_of m)
+
+unfoldable pub values_of : List ℕ → List Term → List Part → List Value
+values_of s ts [] = []
+values_of s ts (p ∷ ps) = value_of s ts p ∷ values_of s ts ps
+
+abbrev pub value_in : List ℕ → Stored → Part → Value
+value_in s y p = value_of s (trees_in s y) p
+
+abbrev pub values_in : List ℕ → Stored → List Part → List Value
+values_in s y ps = values_of s (trees_in s y) ps
+
+unfoldable pub prefix_of : List Term → Prefix → values.Prefix
+prefix_of ts Prefix.Outermost = values.outermost
+prefix_of ts (Prefix.Behind node listed) = values.behind (tree_at ts node) listed
+
+unfoldable pub around_of : List Term → Kept → Around
+around_of ts kept = record { scope = nodes.arguments_are ts kept.scope; encoding = kept.encoding; in_lambda = kept.in_lambda; in_expansion = kept.in_expansion; prefix = prefix_of ts kept.prefix }
+
+abbrev pub candidate_of : List Term → Candidate → values.Candidate
+candidate_of ts c = record { tree = tree_at ts c.node; encoding = c.encoding }
+
+abbrev pub candidates_of : List Term → List Candidate → List values.Candidate
+candidates_of ts cs = map (candidate_of ts) cs
+
+-- what a production stands for: a part, or one whose node isn't there yet
+unfoldable pub meant_value : List ℕ → Stored → Meant → Value
+meant_value s y (Meant.Given part) = value_in s y part
+meant_value s y (Meant.Made node listed) = values.tree (tree_of_node s y node) listed
+meant_value s y (Meant.Entity node q m) = values.named (tree_of_node s y node) (nodes.qualifiers_of q) (nodes.mark_of m)
+meant_value s y (Meant.Items node m) = values.signature (tree_of_node s y node) (nodes.mark_of m)
+meant_value s y (Meant.Thunk thunk encoding) = values.tree (term.thunk (nodes.thunk_of s (Some thunk)) (tree_at (trees_in s y) encoding)) true
+meant_value s y (Meant.Character letter value) = values.tree (term.integer (term.builtin (68 ∷ letter ∷ [])) (nodes.signed_of s value)) true
+meant_value s y (Meant.Lambda first rest number) = values.piece (term.lambda (term.list (tree_at (trees_in s y) first) (tree_at (trees_in s y) rest)) number)
+
+-- ## Parts that are there
+
+abbrev pub IsThere : List ℕ → ℕ → Part → Type 0
+IsThere s n (Part.Text span) = IsWithin span s
+IsThere s n (Part.Signed v) = IsWithin v.digits s
+IsThere s n (Part.Adjusted a) = IsAdjustmentWithin s a
+IsThere s n (Part.Tree node listed) = node < n
+IsThere s n (Part.Piece p) = IsPieceBelow s n p
+IsThere s n (Part.Named node q m) = node < n
+IsThere s n (Part.Signature list m) = list < n
+IsThere s n _ = Unit {0}
+
+abbrev pub AreThere : List ℕ → ℕ → List Part → Type 0
+AreThere s n [] = Unit {0}
+AreThere s n (p ∷ ps) = IsThere s n p × AreThere s n ps
+
+abbrev pub IsMeantThere : List ℕ → (held n : ℕ) → Meant → Type 0
+IsMeantThere s held n (Meant.Given part) = IsThere s n part
+IsMeantThere s held n (Meant.Made node listed) = IsBelow s held n node
+IsMeantThere s held n (Meant.Entity node q m) = IsBelow s held n node
+IsMeantThere s held n (Meant.Items node m) = IsBelow s held n node
+IsMeantThere s held n (Meant.Thunk thunk encoding) = IsThunkWithin s thunk × (encoding < n)
+IsMeantThere s held n (Meant.Character letter value) = IsWithin value.digits s
+IsMeantThere s held n (Meant.Lambda first rest number) = (first < n) × (rest < n)
+
+abbrev pub IsPrefixThere : ℕ → Prefix → Type 0
+IsPrefixThere n Prefix.Outermost = Unit {0}
+IsPrefixThere n (Prefix.Behind node listed) = node < n
+
+abbrev pub AreCandidatesThere : ℕ → List Candidate → Type 0
+AreCandidatesThere n [] = Unit {0}
+AreCandidatesThere n (c ∷ cs) = (c.node < n) × AreCandidatesThere n cs
+
+abbrev pub IsKeptThere : ℕ → Kept → Type 0
+IsKeptThere n kept = nodes.IsArgumentsBelow n kept.scope × IsPrefixThere n kept.prefix
+
+abbrev pub IsStepThere : List ℕ → (held n : ℕ) → Step → Type 0
+IsStepThere s held n (Step.Go candidate then packs) = nodes.IsArgumentsBelow n candidate × IsKeptThere n then
+IsStepThere s held n (Step.Named node listed) = node < n
+IsStepThere s held n (Step.Made node listed is_name is_candidate packs) = IsBelow s held n node

@@ -1,0 +1,103 @@
+-- What is read of nodes and of references.
+use Rattle.std.specs.Prelude.{ℕ, List, [], ◌∷◌, Bool, true, false, ◌&&◌, nat_eq, Option, Some, None, Result, Ok, Err}
+use Rattle.sym_core.specs.declared.refusal.Refusal.{Refusal}
+use Rattle.sym_link.specs.Reading.{Found}
+use Rattle.sym_link.specs.Unfold.{found}
+use Rattle.cpp_term.specs.Term as term
+use Rattle.cpp_term.specs.Term.{Term, absent, nil}
+use Rattle.cpp_term.specs.Scope.{has_return_type}
+use Rattle.cpp_term.specs.Meaning.{is_void, is_nil, parameters}
+use Rattle.cpp_term.specs.References.{appended}
+use Rattle.cpp_term.specs.Values as values
+use Rattle.cpp_term.specs.Values.{State, Value, Around, tree_of, qualifiers_of, ref_of}
+use Rattle.cpp_tree.specs.Nodes.{Stored, tree_at}
+use Rattle.cpp_term.specs.Between.{Going, after}
+use Rattle.cpp_link.specs.declared.part.Step.{Step}
+use Rattle.cpp_link.specs.declared.part.Kept.{Kept}
+use Rattle.cpp_tree.specs.declared.node.Node.{Node}
+use Rattle.cpp_link.specs.declared.part.Candidate.{Candidate}
+use Rattle.cpp_link.specs.Parts.{trees_in, tree_of_node, around_of, candidate_of}
+
+-- ## Nodes
+
+unfoldable pub void_node : Node → Bool
+void_node (Node.Builtin letter) = nat_eq letter 118
+void_node _ = false
+
+unfoldable pub nil_node : Node → Bool
+nil_node Node.Nil = true
+nil_node _ = false
+
+unfoldable pub function_node : Node → Bool
+function_node (Node.FunctionType c_linkage noexcept m returned parameters) = true
+function_node _ = false
+
+-- the first element and the others of a list that has some
+unfoldable pub cell_of : Node → Option (ℕ × ℕ)
+cell_of (Node.Cell first rest) = Some (first, rest)
+cell_of _ = None
+
+-- the elements of a pack
+unfoldable pub elements_of : Node → Option ℕ
+elements_of (Node.Pack elements) = Some elements
+elements_of _ = None
+
+-- the parameters of the items that these are, by their cell
+unfoldable pub parameters_by : List Term → Option (ℕ × ℕ) → Term → Term
+parameters_by ts None items = items
+parameters_by ts (Some cell) items = elim (is_void (tree_at ts cell.0) && is_nil (tree_at ts cell.1)) [ true ↦ nil | false ↦ items ]
+
+-- an encoding of this name and these items, by their cell
+unfoldable pub encoding_by : List Term → Value → Option (ℕ × ℕ) → (items : Term) → Term
+encoding_by ts name None items = term.object (tree_of name) (qualifiers_of name) (ref_of name)
+encoding_by ts name (Some cell) items = elim (has_return_type (tree_of name)) [
+  | true ↦ term.function (tree_of name) (qualifiers_of name) (ref_of name) (tree_at ts cell.0) (parameters (tree_at ts cell.1))
+  | false ↦ term.function (tree_of name) (qualifiers_of name) (ref_of name) absent (parameters items)
+]
+
+-- ## References
+
+unfoldable pub packs_read : List values.Candidate → Result (Option ℕ) Refusal → Result State Refusal
+packs_read cs (Ok packs) = Ok (record { candidates = cs; packs = packs })
+packs_read cs (Err e) = Err e
+
+unfoldable pub maybe_candidate : List Term → Option Candidate → Option values.Candidate
+maybe_candidate ts None = None
+maybe_candidate ts (Some c) = Some (candidate_of ts c)
+
+unfoldable pub node_read : List Term → List values.Candidate → Result (ℕ × Option ℕ) Refusal → Result (Found Value State) Refusal
+node_read ts cs (Ok r) = Ok (found (values.tree (tree_at ts r.0) true) (record { candidates = cs; packs = r.1 }))
+node_read ts cs (Err e) = Err e
+
+-- a tree more or less among the candidates
+unfoldable pub with_candidate : Around → List Term → Option ℕ → State → State
+with_candidate around ts None state = state
+with_candidate around ts (Some n) state = appended around (tree_at ts n) state
+
+-- ## Steps
+
+-- the values behind the first
+unfoldable pub behind_first : List Value → List Value
+behind_first [] = []
+behind_first (v ∷ vs) = vs
+
+unfoldable pub named_if : Bool → Around → Term → (listed : Bool) → Around
+named_if false around t listed = around
+named_if true around t listed = after t listed around
+
+unfoldable pub appended_if : Bool → Around → Term → State → State
+appended_if false around t state = state
+appended_if true around t state = appended around t state
+
+-- what a step comes to, before a part that this surrounds, behind these values
+unfoldable pub goes_on : List ℕ → Stored → Kept → List Value → List values.Candidate → Option ℕ → Step → Going
+goes_on s y kept vs cs before (Step.Go candidate then packs) =
+    Ok (record { values = vs; context = around_of (trees_in s y) then; state = with_candidate (around_of (trees_in s y) kept) (trees_in s y) candidate (record { candidates = cs; packs = packs }) })
+goes_on s y kept vs cs before (Step.Named node listed) =
+    Ok (record { values = values.tree (tree_at (trees_in s y) node) listed ∷ behind_first vs; context = after (tree_at (trees_in s y) node) listed (around_of (trees_in s y) kept); state = record { candidates = cs; packs = before } })
+goes_on s y kept vs cs before (Step.Made node listed is_name is_candidate packs) =
+    Ok (record {
+      values = values.tree (tree_of_node s y node) listed ∷ behind_first vs;
+      context = named_if is_name (around_of (trees_in s y) kept) (tree_of_node s y node) listed;
+      state = appended_if is_candidate (around_of (trees_in s y) kept) (tree_of_node s y node) (record { candidates = cs; packs = packs });
+    })

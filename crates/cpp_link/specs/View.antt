@@ -1,0 +1,60 @@
+-- How the nodes are what the reading of a C++ symbol says.
+use Rattle.std.specs.Prelude.{◌≡◌, ℕ, ◌-◌, ◌*◌, ◌<◌, ◌≤◌, List, length}
+use Rattle.sym_link.specs.Reading.{Open}
+use Rattle.sym_link.specs.Linking.{View}
+use Rattle.cpp_grammar.specs.Table.{abi}
+use Rattle.cpp_term.specs.Unfolding.{cpp, first_around, first_state}
+use Rattle.cpp_term.specs.Values.{State, Value, Around}
+use Rattle.cpp_tree.specs.Nodes.{over, tree_at, IsTable}
+use Rattle.cpp_link.specs.declared.part.Part.{Part}
+use Rattle.cpp_link.specs.declared.part.Kept.{Kept}
+use Rattle.cpp_link.specs.declared.linked.Linked.{Linked}
+use Rattle.cpp_link.specs.Owed.{owes}
+use Rattle.cpp_link.specs.Parts.{trees_in, value_in, around_of, candidates_of, IsThere, IsKeptThere, AreCandidatesThere}
+
+-- the part stands for the value
+pub record IsPart (s : List ℕ) (l : Linked) (part : Part) (value : Value) : Type 0 where
+  pub there : IsThere s (length l.nodes.nodes) part
+  pub is : value_in s l.nodes part ≡ value
+
+-- this surrounds a part
+pub record Surrounds (s : List ℕ) (l : Linked) (kept : Kept) (around : Around) : Type 0 where
+  pub there : IsKeptThere (length l.nodes.nodes) kept
+  pub is : around_of (trees_in s l.nodes) kept ≡ around
+
+pub record IsKept (s : List ℕ) (l : Linked) (kept : Kept) (rule : Open State Around) : Type 0 where
+  pub surrounds : Surrounds s l kept rule.context
+  pub packs : kept.packs ≡ rule.before.packs
+
+-- the nodes are a table, and the candidates and the packs are those of the state
+pub record Holds (s : List ℕ) (l : Linked) (state : State) : Type 0 where
+  pub table : IsTable (over s l.nodes)
+  pub there : AreCandidatesThere (length l.nodes.nodes) l.candidates.items
+  pub candidates : candidates_of (trees_in s l.nodes) l.candidates.items ≡ state.candidates
+  pub packs : l.packs ≡ state.packs
+
+-- the new table is the old one and more
+pub record GoesOn (s : List ℕ) (old new : Linked) : Type 0 where
+  pub least : length old.nodes.nodes ≤ length new.nodes.nodes
+  pub stays : (i : ℕ) → i < length old.nodes.nodes → tree_at (trees_in s new.nodes) i ≡ tree_at (trees_in s old.nodes) i
+
+-- the table has its first three nodes, and a thunk is adjusted by a node
+pub record IsPaid (l : Linked) : Type 0 where
+  pub begun : 3 ≤ length l.nodes.nodes
+  pub thunks : length l.nodes.thunks ≤ length l.nodes.nodes
+
+abbrev pub cpp_view : List ℕ → View Linked Part Kept Value State Around
+cpp_view s = record {
+  table = abi;
+  reading = cpp;
+  around = first_around;
+  first = first_state;
+  IsPart = IsPart s;
+  IsKept = IsKept s;
+  Holds = Holds s;
+  Grows = GoesOn s;
+  size = λ l. length l.nodes.nodes - 3;
+  owes = owes;
+  most = λ bytes. 2 * bytes;
+  IsPaid = λ l bytes. IsPaid l;
+}

@@ -1,0 +1,121 @@
+// What comes behind a rule: types become candidates.
+
+ghost use Rattle.std.specs.Prelude.{◌≡◌, ℕ, ◌<◌, List, length};
+ghost use Rattle.cpp_term.specs.Values as values;
+ghost use Rattle.cpp_term.specs.Values.{State};
+ghost use Rattle.cpp_term.specs.Meaning.{meaning};
+ghost use Rattle.cpp_term.specs.References.{with_unqualified, is_function_type};
+ghost use Rattle.cpp_term.specs.Unfolding as unfolding_;
+ghost use Rattle.cpp_tree.specs.Nodes.{over, tree_at, IsArgumentsBelow, IsTable};
+ghost use Rattle.cpp_link.specs.Parts.{trees_in, value_in, values_in, around_of, IsThere, AreThere};
+ghost use Rattle.cpp_link.specs.Reads.{with_candidate, function_node};
+
+use crate::linked::Linked;
+use crate::part::{Behind, Kept, Part};
+use cpp_grammar::production::Production;
+use cpp_tree::node::Node;
+
+/// Whether it is the type of a function.
+#[tactic(auto, unfolding(crate::specs::Reads::function_node))]
+fn is_function(node: Node) -> bool
+    ensures { result ≡ function_node node }
+{
+    match node {
+        Node::FunctionType { .. } => true,
+        _ => false,
+    }
+}
+
+impl Linked {
+    /// Whether a node's tree is the type of a function.
+    fn is_function_type(&self, symbol: &[u8], node: u32) -> bool
+        requires table { IsTable (over symbol.now self.now.nodes) }
+        requires below { node < length self.now.nodes.nodes }
+        ensures { result ≡ is_function_type (tree_at (trees_in symbol.now self.now.nodes) node) }
+    {
+        is_function(self.nodes.node(symbol, node))
+    }
+
+    /// The candidate that a type becomes under qualifiers.
+    #[tactic(auto, unfolding(crate::specs::Reads::with_candidate, cpp_term::specs::References::with_unqualified))]
+    fn unqualified_candidate(&self, symbol: &[u8], kept: Kept, part: Part) -> Option<u32>
+        requires table { IsTable (over symbol.now self.now.nodes) }
+        requires there { IsThere symbol.now (length self.now.nodes.nodes) part }
+        ensures is { (state : State) → with_unqualified (around_of (trees_in symbol.now self.now.nodes) kept) (value_in symbol.now self.now.nodes part) state ≡ with_candidate (around_of (trees_in symbol.now self.now.nodes) kept) (trees_in symbol.now self.now.nodes) result state }
+        ensures there { IsArgumentsBelow (length self.now.nodes.nodes) result }
+    {
+        let node = self.node(symbol, part);
+        if self.is_function_type(symbol, node) {
+            return None;
+        }
+        self.type_candidate(symbol, kept, part)
+    }
+
+    /// What comes behind a production, given its parts and the part that it is.
+    #[tactic(auto, unfolding(cpp_term::specs::Unfolding::behind, crate::specs::Reads::with_candidate))]
+    pub fn behind(
+        &self,
+        symbol: &[u8],
+        production: Production,
+        byte: u8,
+        kept: Kept,
+        parts: &[Part],
+        made: Part,
+    ) -> Behind
+        requires table { IsTable (over symbol.now self.now.nodes) }
+        requires there { AreThere symbol.now (length self.now.nodes.nodes) parts.now }
+        requires made { IsThere symbol.now (length self.now.nodes.nodes) made }
+        requires value { value_in symbol.now self.now.nodes made ≡ meaning production byte (around_of (trees_in symbol.now self.now.nodes) kept) (values_in symbol.now self.now.nodes parts.now) }
+        ensures is { (began : State) (cs : List values.Candidate) → began.packs ≡ kept.packs
+            → unfolding_.behind production byte (around_of (trees_in symbol.now self.now.nodes) kept) began (values_in symbol.now self.now.nodes parts.now) (record { candidates = cs; packs = self.now.packs })
+            ≡ with_candidate (around_of (trees_in symbol.now self.now.nodes) kept) (trees_in symbol.now self.now.nodes) result.candidate (record { candidates = cs; packs = result.packs }) }
+        ensures there { IsArgumentsBelow (length self.now.nodes.nodes) result.candidate }
+    {
+        match production {
+            Production::RestrictType => Behind {
+                candidate: Some(self.node(symbol, made)),
+                packs: self.packs,
+            },
+            Production::VolatileType => Behind {
+                candidate: Some(self.node(symbol, made)),
+                packs: self.packs,
+            },
+            Production::ConstType => Behind {
+                candidate: Some(self.node(symbol, made)),
+                packs: self.packs,
+            },
+            Production::ReferenceType => Behind {
+                candidate: Some(self.node(symbol, made)),
+                packs: self.packs,
+            },
+            Production::PlainType => Behind {
+                candidate: self.type_candidate(symbol, kept, self.given(symbol, parts, 0)),
+                packs: self.packs,
+            },
+            Production::TypeWithD => Behind {
+                candidate: self.type_candidate(symbol, kept, self.given(symbol, parts, 0)),
+                packs: self.packs,
+            },
+            Production::ItemWithD => Behind {
+                candidate: self.type_candidate(symbol, kept, self.given(symbol, parts, 0)),
+                packs: self.packs,
+            },
+            Production::QualifiedPlain => Behind {
+                candidate: self.unqualified_candidate(symbol, kept, self.given(symbol, parts, 0)),
+                packs: self.packs,
+            },
+            Production::PlainWithD => Behind {
+                candidate: self.unqualified_candidate(symbol, kept, self.given(symbol, parts, 0)),
+                packs: self.packs,
+            },
+            Production::Expansion => Behind {
+                candidate: None,
+                packs: kept.packs,
+            },
+            _ => Behind {
+                candidate: None,
+                packs: self.packs,
+            },
+        }
+    }
+}

@@ -1,0 +1,28 @@
+//! A C++ symbol's nodes, from its rows.
+#![tactic(auto)]
+
+pub mod closing;
+pub mod dispatch;
+pub mod linked;
+pub mod meaning;
+pub mod numbers;
+pub mod part;
+pub mod references;
+pub mod settling;
+pub mod shapes;
+pub mod signatures;
+pub mod steps;
+pub mod values;
+
+ghost use Rattle.std.specs.Prelude.{◌≤◌, ℕ, ◌*◌, length};
+ghost use Rattle.sym_shape.specs.Tree.{Tree, IsTree, spell};
+ghost use Rattle.sym_shape.specs.declared.rule.Sym.TheVariants.{Kind};
+ghost use Rattle.sym_link.specs.Owing.{cost};
+ghost use Rattle.cpp_grammar.specs.Table.{abi};
+ghost use Rattle.cpp_link.specs.Owed.{owes};
+ghost use Rattle.cpp_link.specs.Bound.{few_nodes};
+
+/// The productions of a symbol's tree make at most two nodes for each byte.
+pub fn nodes_are_few()
+    ensures { (tree : Tree) → IsTree abi (Kind 0) tree → cost owes tree ≤ 2 * length (spell tree) }
+{}

@@ -1,0 +1,450 @@
+// What productions stand for, given their parts: a part, or one whose node isn't there yet.
+
+ghost use Rattle.std.specs.Prelude.{◌≡◌, ℕ, ◌+◌, ◌<◌, ◌^◌, length, slice_index, true, IfOk, IfErr};
+ghost use Rattle.sym_core.specs.declared.refusal.Refusal.TheVariants as refusals;
+ghost use Rattle.cpp_term.specs.Values as values;
+ghost use Rattle.cpp_term.specs.Values.{tree_of, is_there, part};
+ghost use Rattle.cpp_term.specs.Between.{applied};
+ghost use Rattle.cpp_term.specs.Meaning.{meaning, reference_to, listed_value, signature_or, operator_or_literal, discriminator_of};
+ghost use Rattle.cpp_tree.specs.Nodes as nodes;
+ghost use Rattle.cpp_tree.specs.Nodes.{over, IsTable, IsSpan};
+ghost use Rattle.sym_core.specs.Number.{FitsSymbol};
+ghost use Rattle.cpp_link.specs.declared.part.Meant.{Meant};
+ghost use Rattle.cpp_link.specs.declared.part.Part.{Part};
+ghost use Rattle.cpp_tree.specs.declared.node.Node.{Node};
+ghost use Rattle.cpp_link.specs.Parts.{trees_in, value_of, value_in, values_in, around_of, meant_value, AreThere, IsThere, IsMeantThere, IsPrefixThere};
+
+use crate::linked::Linked;
+use crate::numbers::{local_number, normal, one_byte, signed_digits, with_byte};
+use crate::part::{Kept, Meant, Part};
+use cpp_grammar::production::Production;
+use cpp_tree::node::{Adjustment, Mark, Node, Piece, Qualifiers, Thunk};
+use cpp_tree::nodes::NIL;
+use sym_core::Refusal;
+
+/// A node to come, which is a tree.
+#[inline(always)]
+pub fn made(node: Node, listed: bool) -> Meant
+    ensures { result ≡ Meant.Made node listed }
+{
+    Meant::Made { node, listed }
+}
+
+/// A tree that is there.
+#[inline(always)]
+fn tree(node: u32, listed: bool) -> Meant
+    ensures { result ≡ Meant.Given (Part.Tree node listed) }
+{
+    Meant::Given(Part::Tree { node, listed })
+}
+
+/// One more item before those of a signature.
+#[inline(always)]
+fn items(first: u32, rest: u32, mark: Mark) -> Meant
+    ensures { result ≡ Meant.Items (Node.Cell first rest) mark }
+{
+    Meant::Items {
+        node: Node::Cell { first, rest },
+        mark,
+    }
+}
+
+/// A piece of a name.
+#[inline(always)]
+fn piece(piece: Piece) -> Meant
+    ensures { result ≡ Meant.Given (Part.Piece piece) }
+{
+    Meant::Given(Part::Piece(piece))
+}
+
+/// The type of these qualifiers.
+#[inline(always)]
+fn qualified(restrict: bool, volatile: bool, const_: bool, ty: u32) -> Meant
+    ensures { result ≡ Meant.Made (Node.Qualified (record { restrict = restrict; volatile = volatile; const_ = const_ }) ty) true }
+{
+    Meant::Made {
+        node: Node::Qualified {
+            qualifiers: Qualifiers {
+                restrict,
+                volatile,
+                const_,
+            },
+            ty,
+        },
+        listed: true,
+    }
+}
+
+impl Linked {
+    /// What a production stands for, that begins at a place with this byte, given its parts.
+    ///
+    /// # Errors
+    ///
+    /// `Memory` where a number is past 64 bits or a suffix isn't behind its byte, which no parts of a symbol come to.
+    #[tactic(auto, unfolding(cpp_term::specs::Meaning::meaning, cpp_term::specs::Meaning::qualified_by, cpp_term::specs::Meaning::listed_value, cpp_term::specs::Meaning::function_of, cpp_term::specs::Meaning::with_item, cpp_term::specs::Values::tree_of, cpp_term::specs::Values::is_there, crate::specs::Parts::around_of, crate::specs::Parts::meant_value, crate::specs::Parts::value_of, cpp_tree::specs::Nodes::tree_of, cpp_tree::specs::Nodes::piece_of, cpp_tree::specs::Nodes::thunk_of, cpp_tree::specs::Nodes::adjustment_of))]
+    #[inline(always)]
+    pub fn meant(
+        &self,
+        symbol: &[u8],
+        production: Production,
+        place: u32,
+        kept: Kept,
+        parts: &[Part],
+    ) -> Result<Meant, Refusal>
+        requires fits { FitsSymbol symbol.now }
+        requires place { place < length symbol.now }
+        requires table { IsTable (over symbol.now self.now.nodes) }
+        requires there { AreThere symbol.now (length self.now.nodes.nodes) parts.now }
+        requires prefix { IsPrefixThere (length self.now.nodes.nodes) kept.prefix }
+        ensures is { IfOk result (λ meant. meant_value symbol.now self.now.nodes meant ≡ meaning production (slice_index symbol.now place) (around_of (trees_in symbol.now self.now.nodes) kept) (values_in symbol.now self.now.nodes parts.now)) }
+        ensures there { IfOk result (λ meant. IsMeantThere symbol.now (length self.now.nodes.thunks) (length self.now.nodes.nodes) meant) }
+        ensures memory { IfErr result (λ e. e ≡ refusals.Memory) }
+    {
+        let byte = symbol[place as usize];
+        Ok(match production {
+            Production::Special => Meant::Given(self.given(symbol, parts, 0)),
+            Production::NameWithS => Meant::Given(self.given(symbol, parts, 0)),
+            Production::LocalTypePiece => Meant::Given(self.given(symbol, parts, 0)),
+            Production::OperatorPiece => Meant::Given(self.given(symbol, parts, 0)),
+            Production::NestWithS => Meant::Given(self.given(symbol, parts, 0)),
+            Production::NestParameter => Meant::Given(self.given(symbol, parts, 1)),
+            Production::NestInternal => Meant::Given(self.given(symbol, parts, 1)),
+            Production::NestLocalType => Meant::Given(self.given(symbol, parts, 1)),
+            Production::NestSource => Meant::Given(self.given(symbol, parts, 1)),
+            Production::NestStd => Meant::Given(self.given(symbol, parts, 2)),
+            Production::NestAbbreviated => Meant::Given(self.given(symbol, parts, 1)),
+            Production::NestArguments => Meant::Given(self.given(symbol, parts, 3)),
+            Production::NestNext => Meant::Given(self.given(symbol, parts, 1)),
+            Production::NestedType => Meant::Given(self.given(symbol, parts, 0)),
+            Production::Discriminator => Meant::Given(self.given(symbol, parts, 0)),
+            Production::ItemIsType => Meant::Given(self.given(symbol, parts, 0)),
+            Production::AbbreviatedType => Meant::Given(self.given(symbol, parts, 0)),
+            Production::LiteralWithD => Meant::Given(self.given(symbol, parts, 0)),
+            Production::Substitution => Meant::Given(Part::Nothing),
+            Production::RefEnd => Meant::Given(Part::Nothing),
+            Production::Mark => Meant::Given(Part::Letter(byte)),
+            Production::NonVirtualOffset => Meant::Given(Part::Adjusted(Adjustment::NonVirtual(
+                self.signed(symbol, parts, 0),
+            ))),
+            Production::VirtualOffset => Meant::Given(Part::Adjusted(Adjustment::ByTable(
+                self.signed(symbol, parts, 0),
+                self.signed(symbol, parts, 2),
+            ))),
+            Production::RestEnd => Meant::Given(Part::Signature {
+                list: NIL,
+                mark: Mark::Any,
+            }),
+            Production::Symbol => made(
+                Node::Whole {
+                    encoding: self.tree(symbol, parts, 1),
+                    suffix: self.text(symbol, parts, 2),
+                },
+                true,
+            ),
+            Production::Guard => made(
+                Node::Guard {
+                    name: self.tree(symbol, parts, 1),
+                    qualifiers: self.qualifiers(symbol, parts, 1),
+                    mark: self.reference(symbol, parts, 1),
+                },
+                true,
+            ),
+            Production::SpecialType => made(
+                Node::Special {
+                    letter: byte,
+                    ty: self.tree(symbol, parts, 0),
+                },
+                true,
+            ),
+            Production::NonVirtualThunk => Meant::Thunk {
+                thunk: Thunk::Adjusting(Adjustment::NonVirtual(self.signed(symbol, parts, 0))),
+                encoding: self.tree(symbol, parts, 2),
+            },
+            Production::VirtualThunk => Meant::Thunk {
+                thunk: Thunk::Adjusting(Adjustment::ByTable(
+                    self.signed(symbol, parts, 0),
+                    self.signed(symbol, parts, 2),
+                )),
+                encoding: self.tree(symbol, parts, 4),
+            },
+            Production::CovariantThunk => Meant::Thunk {
+                thunk: Thunk::Covariant(
+                    self.adjusted(symbol, parts, 0),
+                    self.adjusted(symbol, parts, 1),
+                ),
+                encoding: self.tree(symbol, parts, 2),
+            },
+            Production::InternalPiece => piece(Piece::Source {
+                internal: true,
+                bytes: self.text(symbol, parts, 0),
+            }),
+            Production::SourcePiece => piece(Piece::Source {
+                internal: false,
+                bytes: self.text(symbol, parts, 0),
+            }),
+            Production::Abbreviation => made(Node::Abbreviation(byte), true),
+            Production::LiteralOperator => piece(Piece::LiteralOperator(self.text(
+                symbol, parts, 0,
+            ))),
+            Production::OperatorN => piece(Piece::Operator(byte, self.letter(symbol, parts, 0))),
+            Production::OperatorD => piece(Piece::Operator(byte, self.letter(symbol, parts, 0))),
+            Production::OperatorA => piece(Piece::Operator(byte, self.letter(symbol, parts, 0))),
+            Production::OperatorP => piece(Piece::Operator(byte, self.letter(symbol, parts, 0))),
+            Production::OperatorC => piece(Piece::Operator(byte, self.letter(symbol, parts, 0))),
+            Production::OperatorM => piece(Piece::Operator(byte, self.letter(symbol, parts, 0))),
+            Production::OperatorR => piece(Piece::Operator(byte, self.letter(symbol, parts, 0))),
+            Production::OperatorO => piece(Piece::Operator(byte, self.letter(symbol, parts, 0))),
+            Production::OperatorE => piece(Piece::Operator(byte, self.letter(symbol, parts, 0))),
+            Production::OperatorS => piece(Piece::Operator(byte, self.letter(symbol, parts, 0))),
+            Production::OperatorI => piece(Piece::Operator(byte, self.letter(symbol, parts, 0))),
+            Production::OperatorG => piece(Piece::Operator(byte, self.letter(symbol, parts, 0))),
+            Production::PlainType => tree(self.tree(symbol, parts, 0), true),
+            Production::QualifiedPlain => tree(self.tree(symbol, parts, 0), true),
+            Production::TypeWithD => tree(self.tree(symbol, parts, 0), true),
+            Production::PlainWithD => tree(self.tree(symbol, parts, 0), true),
+            Production::ItemWithD => tree(self.tree(symbol, parts, 0), true),
+            Production::Expansion => made(Node::Expansion(self.tree(symbol, parts, 0)), false),
+            Production::BuiltinWithD => made(Node::BuiltinWithD(byte), true),
+            Production::Builtin => made(Node::Builtin(byte), true),
+            Production::Vendor => made(Node::Vendor(self.text(symbol, parts, 0)), false),
+            Production::Complex => made(Node::Complex(self.tree(symbol, parts, 0)), false),
+            Production::Pointer => made(Node::Pointer(self.tree(symbol, parts, 0)), false),
+            Production::MemberPointer => made(
+                Node::MemberPointer {
+                    class: self.tree(symbol, parts, 0),
+                    member: self.tree(symbol, parts, 1),
+                },
+                false,
+            ),
+            Production::StdType => made(Node::InStd(self.piece(symbol, parts, 0)), false),
+            Production::RestrictType => qualified(
+                true,
+                self.there(symbol, parts, 0),
+                self.there(symbol, parts, 1),
+                self.tree(symbol, parts, 2),
+            ),
+            Production::VolatileType => qualified(
+                false,
+                true,
+                self.there(symbol, parts, 0),
+                self.tree(symbol, parts, 1),
+            ),
+            Production::ConstType => qualified(false, false, true, self.tree(symbol, parts, 0)),
+            Production::Items => made(
+                Node::Cell {
+                    first: self.tree(symbol, parts, 0),
+                    rest: self.list(symbol, parts, 1),
+                },
+                true,
+            ),
+            Production::PackArgument => made(
+                Node::Cell {
+                    first: self.tree(symbol, parts, 0),
+                    rest: self.list(symbol, parts, 2),
+                },
+                true,
+            ),
+            Production::LiteralArgument => made(
+                Node::Cell {
+                    first: self.tree(symbol, parts, 0),
+                    rest: self.list(symbol, parts, 2),
+                },
+                true,
+            ),
+            Production::AddressArgument => made(
+                Node::Cell {
+                    first: self.tree(symbol, parts, 2),
+                    rest: self.list(symbol, parts, 3),
+                },
+                true,
+            ),
+            Production::TypeArgument => made(
+                Node::Cell {
+                    first: self.tree(symbol, parts, 0),
+                    rest: self.list(symbol, parts, 1),
+                },
+                true,
+            ),
+            Production::LiteralElement => made(
+                Node::Cell {
+                    first: self.tree(symbol, parts, 0),
+                    rest: self.list(symbol, parts, 2),
+                },
+                true,
+            ),
+            Production::AddressElement => made(
+                Node::Cell {
+                    first: self.tree(symbol, parts, 2),
+                    rest: self.list(symbol, parts, 3),
+                },
+                true,
+            ),
+            Production::TypeElement => made(
+                Node::Cell {
+                    first: self.tree(symbol, parts, 0),
+                    rest: self.list(symbol, parts, 1),
+                },
+                true,
+            ),
+            Production::Arguments => tree(self.list(symbol, parts, 0), true),
+            Production::LvalueItem => items(
+                self.tree(symbol, parts, 0),
+                self.tree(symbol, parts, 1),
+                self.reference(symbol, parts, 1),
+            ),
+            Production::RvalueItem => items(
+                self.tree(symbol, parts, 0),
+                self.tree(symbol, parts, 1),
+                self.reference(symbol, parts, 1),
+            ),
+            Production::RestItem => items(
+                self.tree(symbol, parts, 0),
+                self.tree(symbol, parts, 1),
+                self.reference(symbol, parts, 1),
+            ),
+            Production::Address => made(Node::AddressOf(self.tree(symbol, parts, 2)), true),
+            Production::EncodingLiteral => made(
+                Node::EncodingLiteral(self.tree(symbol, parts, 1)),
+                true,
+            ),
+            Production::BoolLiteral => made(
+                Node::Boolean(self.letter(symbol, parts, 0) == b'1'),
+                true,
+            ),
+            Production::IntegerLiteral => made(
+                Node::Integer {
+                    ty: self.tree(symbol, parts, 0),
+                    value: self.signed(symbol, parts, 1),
+                },
+                true,
+            ),
+            Production::NullLiteral => made(Node::NullPointer, true),
+            Production::CharLiteral => Meant::Character {
+                letter: byte,
+                value: self.signed(symbol, parts, 0),
+            },
+            Production::InternalName => self.applied(symbol, parts, false),
+            Production::SourceName => self.applied(symbol, parts, false),
+            Production::LocalTypeName => self.applied(symbol, parts, false),
+            Production::OperatorName => self.applied(symbol, parts, false),
+            Production::Constructor => self.applied(symbol, parts, false),
+            Production::Destructor => self.applied(symbol, parts, false),
+            Production::StdName => self.applied(symbol, parts, false),
+            Production::AbbreviatedName => self.applied(symbol, parts, false),
+            Production::Parameter => self.applied(symbol, parts, true),
+            Production::TypeWithS => self.applied(symbol, parts, self.listed(symbol, parts, 0)),
+            Production::NestedName => Meant::Given(Part::Named {
+                node: self.tree(symbol, parts, 4),
+                qualifiers: Qualifiers {
+                    restrict: self.there(symbol, parts, 0),
+                    volatile: self.there(symbol, parts, 1),
+                    const_: self.there(symbol, parts, 2),
+                },
+                mark: self.mark(symbol, parts, 3),
+            }),
+            Production::Function => made(
+                Node::FunctionType {
+                    c_linkage: self.there(symbol, parts, 0),
+                    noexcept: false,
+                    mark: self.reference(symbol, parts, 2),
+                    returned: self.tree(symbol, parts, 1),
+                    parameters: self.parameters(symbol, self.tree(symbol, parts, 2)),
+                },
+                false,
+            ),
+            Production::NoexceptFunction => made(
+                Node::FunctionType {
+                    c_linkage: self.there(symbol, parts, 1),
+                    noexcept: true,
+                    mark: self.reference(symbol, parts, 3),
+                    returned: self.tree(symbol, parts, 2),
+                    parameters: self.parameters(symbol, self.tree(symbol, parts, 3)),
+                },
+                false,
+            ),
+            Production::LocalType => made(
+                Node::Local {
+                    encoding: self.tree(symbol, parts, 0),
+                    entity: self.tree(symbol, parts, 2),
+                    discriminator: self.discriminator(symbol, parts, 3),
+                },
+                false,
+            ),
+            Production::LocalName => Meant::Entity {
+                node: Node::Local {
+                    encoding: self.tree(symbol, parts, 0),
+                    entity: self.tree(symbol, parts, 2),
+                    discriminator: self.discriminator(symbol, parts, 3),
+                },
+                qualifiers: self.qualifiers(symbol, parts, 2),
+                mark: self.reference(symbol, parts, 2),
+            },
+            Production::ReferenceType => self.reference_meant(symbol, byte, parts),
+            Production::Encoding => self.encoding(symbol, parts),
+            Production::NestEnd => self.nest_end(symbol, kept.prefix),
+            Production::RestLvalue => self.signature_or(
+                symbol,
+                Mark::Lvalue,
+                self.given(symbol, parts, 0),
+            ),
+            Production::RestRvalue => self.signature_or(
+                symbol,
+                Mark::Rvalue,
+                self.given(symbol, parts, 0),
+            ),
+            Production::OperatorL => self.operator_or_literal(
+                symbol,
+                byte,
+                self.given(symbol, parts, 0),
+            ),
+            Production::StringLiteral => made(
+                self.extended(symbol, kept.prefix, Piece::StringLiteral),
+                true,
+            ),
+            Production::OneDigit => Meant::Given(Part::Text(one_byte(symbol, place))),
+            Production::ManyDigits => Meant::Given(Part::Text(normal(
+                symbol,
+                self.text(symbol, parts, 0),
+            ))),
+            Production::Negative => Meant::Given(Part::Signed(signed_digits(
+                symbol,
+                true,
+                self.text(symbol, parts, 0),
+            ))),
+            Production::Positive => Meant::Given(Part::Signed(signed_digits(
+                symbol,
+                false,
+                self.text(symbol, parts, 0),
+            ))),
+            Production::Vector => made(
+                Node::Vector {
+                    digits: normal(symbol, self.text(symbol, parts, 0)),
+                    element: self.tree(symbol, parts, 2),
+                },
+                false,
+            ),
+            Production::Array => made(
+                Node::Array {
+                    digits: normal(symbol, self.text(symbol, parts, 0)),
+                    element: self.tree(symbol, parts, 1),
+                },
+                false,
+            ),
+            Production::Lambda => self.lambda(symbol, parts)?,
+            Production::Unnamed => piece(Piece::Unnamed(local_number(
+                symbol,
+                self.text(symbol, parts, 0),
+            )?)),
+            Production::Suffix => Meant::Given(Part::Text(with_byte(
+                symbol,
+                place,
+                self.text(symbol, parts, 0),
+            )?)),
+            Production::SuffixByte => Meant::Given(Part::Text(with_byte(
+                symbol,
+                place,
+                self.text(symbol, parts, 0),
+            )?)),
+        })
+    }
+}

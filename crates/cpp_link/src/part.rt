@@ -1,0 +1,118 @@
+// What the parts of a symbol stand for, in terms of nodes, and what is kept of what surrounds them.
+
+use cpp_tree::node::{Adjustment, Mark, Node, Piece, Qualifiers, Signed, Thunk};
+use sym_core::Span;
+
+/// What a part of a symbol stands for. A tree is a node, and whether it is a candidate already or never is one.
+#[derive(Clone, Copy)]
+pub enum Part {
+    Nothing,
+    Letter(u8),
+    Text(Span),
+    Signed(Signed),
+    Adjusted(Adjustment),
+    Tree {
+        node: u32,
+        listed: bool,
+    },
+    Piece(Piece),
+    Named {
+        node: u32,
+        qualifiers: Qualifiers,
+        mark: Mark,
+    },
+    Signature {
+        list: u32,
+        mark: Mark,
+    },
+}
+
+/// What a production stands for: a part, or one whose node isn't there yet.
+#[derive(Clone, Copy)]
+pub enum Meant {
+    Given(Part),
+    Made {
+        node: Node,
+        listed: bool,
+    },
+    Entity {
+        node: Node,
+        qualifiers: Qualifiers,
+        mark: Mark,
+    },
+    Items {
+        node: Node,
+        mark: Mark,
+    },
+    Thunk {
+        thunk: Thunk,
+        encoding: u32,
+    },
+    Character {
+        letter: u8,
+        value: Signed,
+    },
+    Lambda {
+        first: u32,
+        rest: u32,
+        number: u64,
+    },
+}
+
+/// The name so far, and whether it is a candidate already or never is one.
+#[derive(Clone, Copy)]
+pub enum Prefix {
+    Outermost,
+    Behind { node: u32, listed: bool },
+}
+
+/// What surrounds a part, and the length of the packs where its rule began.
+#[derive(Clone, Copy)]
+pub struct Kept {
+    /// The arguments that parameters name.
+    pub scope: Option<u32>,
+    /// The place where the innermost encoding begins.
+    pub encoding: u32,
+    pub in_lambda: bool,
+    pub in_expansion: bool,
+    pub prefix: Prefix,
+    pub packs: Option<u32>,
+}
+
+/// A tree that a substitution may name, and the place where the encoding begins in which it was made.
+#[derive(Clone, Copy)]
+pub struct Candidate {
+    pub node: u32,
+    pub encoding: u32,
+}
+
+/// What is done before the next part of a rule: the state and what surrounds the part.
+#[derive(Clone, Copy)]
+pub enum Step {
+    /// A tree becomes a candidate or none does, and this surrounds the part.
+    Go {
+        candidate: Option<u32>,
+        then: Kept,
+        packs: Option<u32>,
+    },
+    /// The name that the first part is stands before the next part.
+    Named {
+        node: u32,
+        listed: bool,
+    },
+    /// A node is made, which the first part is now. It may stand before the next part as the name so far, and become a candidate.
+    Made {
+        node: Node,
+        listed: bool,
+        is_name: bool,
+        is_candidate: bool,
+        packs: Option<u32>,
+    },
+}
+
+/// What comes behind a rule: a tree that becomes a candidate or none, and the length of the packs.
+#[derive(Clone, Copy)]
+pub struct Behind {
+    pub candidate: Option<u32>,
+    pub packs: Option<u32>,
+}

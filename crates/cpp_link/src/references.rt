@@ -1,0 +1,210 @@
+// What references name.
+
+ghost use Rattle.std.specs.Prelude.{◌≡◌, ℕ, ◌<◌, ◌≤◌, ◌^◌, MatchOption, ◌&&◌, ◌||◌, not, nat_eq, nat_lt, List, length, IfSome, IfOk, IfErr, Ok, ◌∷◌, [], Option, None, Some};
+ghost use Rattle.cpp_term.specs.Values as values;
+ghost use Rattle.cpp_term.specs.Values.{State};
+ghost use Rattle.sym_core.specs.Value.{counted_value};
+ghost use Rattle.sym_core.specs.declared.NumberKind.TheVariants as kinds;
+ghost use Rattle.sym_link.specs.Driving.{Fails};
+ghost use Rattle.cpp_term.specs.Between.{parameter_so_far};
+ghost use Rattle.cpp_term.specs.References.{with_packs, substituted};
+ghost use Rattle.cpp_term.specs.Scope.{is_open, pack_length, count, arguments_of, length_if_pack};
+ghost use Rattle.cpp_tree.specs.Nodes.{over, tree_at, bytes_at, IsWithin, arguments_are, IsArgumentsBelow, IsTable};
+ghost use Rattle.cpp_link.specs.Parts.{trees_in, around_of, IsKeptThere, IsStepThere};
+ghost use Rattle.cpp_link.specs.Reads.{packs_read, maybe_candidate, node_read, elements_of, goes_on};
+
+use crate::linked::Linked;
+use crate::numbers::decimal;
+use crate::part::{Candidate, Kept, Step};
+use cpp_tree::node::Node;
+use sym_core::{Refusal, Span};
+
+/// The length of the packs under an expansion, behind a tree that holds packs of this length.
+#[tactic(auto, unfolding(cpp_term::specs::References::with_packs, crate::specs::Reads::packs_read))]
+fn with_packs(
+    place: u32,
+    in_expansion: bool,
+    own: Option<u32>,
+    packs: Option<u32>,
+) -> Result<Option<u32>, Refusal>
+    ensures { (cs : List values.Candidate) → with_packs place in_expansion own (record { candidates = cs; packs = packs }) ≡ packs_read cs result }
+{
+    match own {
+        None => Ok(packs),
+        Some(m) => {
+            if !in_expansion {
+                return Err(Refusal::BadReference { at: place });
+            }
+            match packs {
+                None => Ok(Some(m)),
+                Some(n) => {
+                    if m == n {
+                        return Ok(Some(n));
+                    }
+                    Err(Refusal::BadReference { at: place })
+                }
+            }
+        }
+    }
+}
+
+/// The number of an element among so many.
+fn below(counted: Option<u64>, count: u32) -> Option<u32>
+    ensures { (k : ℕ) → MatchOption counted (2 ^ 64 ≤ k) (λ v. v ≡ k) → MatchOption result (count ≤ k) (λ n. (n ≡ k) × (n < count)) }
+{
+    match counted {
+        Some(number) => {
+            if number >= u64::from(count) {
+                return None;
+            }
+            Some(number as u32)
+        }
+        None => None,
+    }
+}
+
+/// Whether a tree with free parameters may not be named here.
+fn is_foreign(kept: Kept, is_open: bool, encoding: u32) -> bool
+    ensures { result ≡ (is_open && (kept.in_lambda || not (nat_eq encoding kept.encoding))) }
+{
+    is_open && (kept.in_lambda || encoding != kept.encoding)
+}
+
+/// The elements of a pack.
+#[tactic(auto, unfolding(crate::specs::Reads::elements_of))]
+fn elements_of(node: Node) -> Option<u32>
+    ensures { result ≡ elements_of node }
+{
+    match node {
+        Node::Pack(elements) => Some(elements),
+        _ => None,
+    }
+}
+
+impl Linked {
+    /// Whether a node's tree has free parameters.
+    fn is_open(&self, symbol: &[u8], node: u32) -> bool
+        requires table { IsTable (over symbol.now self.now.nodes) }
+        requires below { node < length self.now.nodes.nodes }
+        ensures { result ≡ is_open (tree_at (trees_in symbol.now self.now.nodes) node) }
+    {
+        self.nodes.entry(node).is_open
+    }
+
+    /// The length of the packs that the parameters of a node's tree name.
+    fn pack_length(&self, symbol: &[u8], node: u32) -> Option<u32>
+        requires table { IsTable (over symbol.now self.now.nodes) }
+        requires below { node < length self.now.nodes.nodes }
+        ensures { result ≡ pack_length (tree_at (trees_in symbol.now self.now.nodes) node) }
+    {
+        self.nodes.entry(node).packs
+    }
+
+    /// How many elements a list has.
+    fn count(&self, symbol: &[u8], list: u32) -> u32
+        requires table { IsTable (over symbol.now self.now.nodes) }
+        requires below { list < length self.now.nodes.nodes }
+        ensures { result ≡ count (tree_at (trees_in symbol.now self.now.nodes) list) }
+    {
+        self.nodes.entry(list).count
+    }
+
+    /// The arguments that a name ends in.
+    pub fn arguments(&self, symbol: &[u8], name: u32) -> Option<u32>
+        requires table { IsTable (over symbol.now self.now.nodes) }
+        requires below { name < length self.now.nodes.nodes }
+        ensures is { arguments_are (trees_in symbol.now self.now.nodes) result ≡ arguments_of (tree_at (trees_in symbol.now self.now.nodes) name) }
+        ensures there { IsArgumentsBelow (length self.now.nodes.nodes) result }
+    {
+        self.nodes.entry(name).arguments
+    }
+
+    /// The length of an argument that is a pack.
+    fn length_if_pack(&self, symbol: &[u8], argument: u32) -> Option<u32>
+        requires table { IsTable (over symbol.now self.now.nodes) }
+        requires below { argument < length self.now.nodes.nodes }
+        ensures { result ≡ length_if_pack (tree_at (trees_in symbol.now self.now.nodes) argument) }
+    {
+        let node = self.nodes.node(symbol, argument);
+        match elements_of(node) {
+            Some(elements) => Some(self.count(symbol, elements)),
+            None => None,
+        }
+    }
+
+    /// What a substitution names, and the length of the packs behind it.
+    ///
+    /// # Errors
+    ///
+    /// `BadReference` where it names no candidate, one with free parameters of another encoding or in the signature of a lambda,
+    /// or one that holds packs outside an expansion or of another length than the earlier ones.
+    #[tactic(auto, unfolding(cpp_term::specs::References::substituted, crate::specs::Reads::packs_read, crate::specs::Reads::maybe_candidate, crate::specs::Reads::node_read, crate::specs::Parts::around_of))]
+    pub fn substituted(
+        &self,
+        symbol: &[u8],
+        kept: Kept,
+        place: u32,
+        candidate: Option<Candidate>,
+    ) -> Result<(u32, Option<u32>), Refusal>
+        requires table { IsTable (over symbol.now self.now.nodes) }
+        requires there { IfSome candidate (λ c. c.node < length self.now.nodes.nodes) }
+        ensures is { (cs : List values.Candidate) → substituted (around_of (trees_in symbol.now self.now.nodes) kept) place (maybe_candidate (trees_in symbol.now self.now.nodes) candidate) (record { candidates = cs; packs = self.now.packs }) ≡ node_read (trees_in symbol.now self.now.nodes) cs result }
+        ensures there { IfOk result (λ named. named.0 < length self.now.nodes.nodes) }
+    {
+        let Some(c) = candidate else {
+            return Err(Refusal::BadReference { at: place });
+        };
+        if is_foreign(kept, self.is_open(symbol, c.node), c.encoding) {
+            return Err(Refusal::BadReference { at: place });
+        }
+        let own = self.pack_length(symbol, c.node);
+        match with_packs(place, kept.in_expansion, own, self.packs) {
+            Ok(packs) => Ok((c.node, packs)),
+            Err(e) => Err(e),
+        }
+    }
+
+    /// What a parameter names by these digits, and the length of the packs behind it.
+    ///
+    /// # Errors
+    ///
+    /// `BadReference` where it names no argument of the scope, or one that is a pack outside an expansion or of another length than
+    /// the earlier ones. `Memory` where a byte is no digit, which is in no token.
+    #[tactic(auto, unfolding(cpp_term::specs::Between::parameter_so_far, cpp_term::specs::Between::listed_so_far, cpp_term::specs::References::parameter_named, crate::specs::Parts::around_of))]
+    pub fn parameter(
+        &self,
+        symbol: &[u8],
+        kept: Kept,
+        place: u32,
+        digits: Span,
+    ) -> Result<Step, Refusal>
+        requires table { IsTable (over symbol.now self.now.nodes) }
+        requires kept { IsKeptThere (length self.now.nodes.nodes) kept }
+        requires digits { IsWithin digits symbol.now }
+        ensures is { IfOk result (λ step. (v : values.Value) (cs : List values.Candidate) → parameter_so_far (around_of (trees_in symbol.now self.now.nodes) kept) place (counted_value kinds.Decimal (bytes_at symbol.now digits)) [] (record { candidates = cs; packs = self.now.packs })
+            ≡ goes_on symbol.now self.now.nodes kept (v ∷ []) cs self.now.packs step) }
+        ensures refused { IfErr result (λ e. (cs : List values.Candidate) → Fails e (parameter_so_far (around_of (trees_in symbol.now self.now.nodes) kept) place (counted_value kinds.Decimal (bytes_at symbol.now digits)) [] (record { candidates = cs; packs = self.now.packs }))) }
+        ensures there { IfOk result (λ step. IsStepThere symbol.now (length self.now.nodes.thunks) (length self.now.nodes.nodes) step) }
+    {
+        let Some(scope) = kept.scope else {
+            return Err(Refusal::BadReference { at: place });
+        };
+        let count = self.count(symbol, scope);
+        let counted = decimal(&symbol[digits.from as usize..digits.to as usize])?;
+        let Some(number) = below(counted, count) else {
+            return Err(Refusal::BadReference { at: place });
+        };
+        let argument = self.nodes.element(symbol, scope, number);
+        let own = self.length_if_pack(symbol, argument);
+        match with_packs(place, kept.in_expansion, own, self.packs) {
+            Ok(packs) => Ok(Step::Made {
+                node: Node::Parameter { number, argument },
+                listed: true,
+                is_name: true,
+                is_candidate: true,
+                packs,
+            }),
+            Err(e) => Err(e),
+        }
+    }
+}

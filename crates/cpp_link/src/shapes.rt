@@ -1,0 +1,182 @@
+// What productions stand for whose parts are told apart.
+
+ghost use Rattle.std.specs.Prelude.{◌≡◌, ℕ, ◌<◌, ◌∷◌, List, length, not, ◌&&◌, IfOk, IfErr, Option};
+ghost use Rattle.sym_core.specs.declared.refusal.Refusal.TheVariants as refusals;
+ghost use Rattle.cpp_term.specs.Term as term;
+ghost use Rattle.cpp_term.specs.Term.{Term};
+ghost use Rattle.cpp_term.specs.Values as values;
+ghost use Rattle.cpp_term.specs.Values.{tree_of, is_there, text_of, part, prefix_tree, prefix_listed};
+ghost use Rattle.cpp_term.specs.Between.{applied, no_items, extended};
+ghost use Rattle.cpp_term.specs.Meaning.{parameters, discriminator_of, reference_to, listed_value, signature_or, operator_or_literal};
+ghost use Rattle.cpp_grammar.specs.Values.{local_number};
+ghost use Rattle.cpp_tree.specs.Nodes as nodes;
+ghost use Rattle.cpp_tree.specs.declared.node.Thunk as thunks;
+ghost use Rattle.cpp_tree.specs.Nodes.{over, tree_at, IsTable, IsSpan, IsPieceBelow, IsBelow};
+ghost use Rattle.cpp_link.specs.Parts.{trees_in, tree_of_node, value_of, value_in, values_in, prefix_of, meant_value, IsThere, AreThere, IsMeantThere, IsPrefixThere};
+
+use crate::linked::Linked;
+use crate::meaning::made;
+use crate::numbers::local_number;
+use crate::part::{Meant, Part, Prefix};
+use crate::values::part;
+use cpp_tree::node::{Mark, Node, Piece};
+use cpp_tree::nodes::{ABSENT, NIL};
+use sym_core::{Refusal, Span};
+
+/// The name so far with one more piece.
+#[tactic(auto, unfolding(cpp_tree::specs::Nodes::tree_of, crate::specs::Parts::prefix_of, cpp_term::specs::Between::extended))]
+fn with_piece(prefix: Prefix, piece: Piece) -> Node
+    ensures is { (s : List ℕ) (us : List thunks.Thunk) (ts : List Term) → nodes.tree_of s us ts result ≡ extended (prefix_of ts prefix) (nodes.piece_of s ts piece) }
+    ensures there { (s : List ℕ) (held n : ℕ) → IsPrefixThere n prefix → IsPieceBelow s n piece → IsBelow s held n result }
+{
+    match prefix {
+        Prefix::Outermost => Node::Alone(piece),
+        Prefix::Behind { node, .. } => Node::Within {
+            prefix: node,
+            piece,
+        },
+    }
+}
+
+/// The digits that tell local names apart.
+#[tactic(auto, unfolding(crate::specs::Parts::value_of, cpp_term::specs::Meaning::discriminator_of))]
+fn discriminator_of(part: Part) -> Option<Span>
+    ensures is { (s : List ℕ) (ts : List Term) → nodes.discriminator_of s result ≡ discriminator_of (value_of s ts part) }
+    ensures there { (s : List ℕ) (n : ℕ) → IsThere s n part → IsSpan s result }
+{
+    match part {
+        Part::Text(text) => Some(text),
+        _ => None,
+    }
+}
+
+impl Linked {
+    /// The name so far with one more piece.
+    pub fn extended(&self, symbol: &[u8], prefix: Prefix, piece: Piece) -> Node
+        requires prefix { IsPrefixThere (length self.now.nodes.nodes) prefix }
+        requires piece { IsPieceBelow symbol.now (length self.now.nodes.nodes) piece }
+        ensures is { tree_of_node symbol.now self.now.nodes result ≡ extended (prefix_of (trees_in symbol.now self.now.nodes) prefix) (nodes.piece_of symbol.now (trees_in symbol.now self.now.nodes) piece) }
+        ensures there { IsBelow symbol.now (length self.now.nodes.thunks) (length self.now.nodes.nodes) result }
+    {
+        with_piece(prefix, piece)
+    }
+
+    /// The discriminator of the part with this number.
+    pub fn discriminator(&self, symbol: &[u8], parts: &[Part], k: usize) -> Option<Span>
+        ensures is { nodes.discriminator_of symbol.now result ≡ discriminator_of (part (values_in symbol.now self.now.nodes parts.now) k) }
+        ensures there { AreThere symbol.now (length self.now.nodes.nodes) parts.now → IsSpan symbol.now result }
+    {
+        discriminator_of(part(parts, k))
+    }
+
+    /// A name, with arguments where there are some.
+    #[tactic(auto, unfolding(cpp_term::specs::Between::applied, crate::specs::Parts::meant_value, crate::specs::Parts::value_of, cpp_tree::specs::Nodes::tree_of))]
+    #[inline(always)]
+    pub fn applied(&self, symbol: &[u8], parts: &[Part], listed: bool) -> Meant
+        requires table { IsTable (over symbol.now self.now.nodes) }
+        requires there { AreThere symbol.now (length self.now.nodes.nodes) parts.now }
+        ensures is { meant_value symbol.now self.now.nodes result ≡ values.tree (applied (tree_of (part (values_in symbol.now self.now.nodes parts.now) 0)) (part (values_in symbol.now self.now.nodes parts.now) 1)) (listed && not (is_there (part (values_in symbol.now self.now.nodes parts.now) 1))) }
+        ensures there { IsMeantThere symbol.now (length self.now.nodes.thunks) (length self.now.nodes.nodes) result }
+    {
+        let name = self.tree(symbol, parts, 0);
+        if self.there(symbol, parts, 1) {
+            let arguments = self.tree(symbol, parts, 1);
+            return made(
+                Node::Instance {
+                    template: name,
+                    arguments,
+                },
+                false,
+            );
+        }
+        Meant::Given(Part::Tree { node: name, listed })
+    }
+
+    /// What the end of a nested name stands for: the name so far.
+    #[tactic(auto, unfolding(crate::specs::Parts::meant_value, crate::specs::Parts::value_of, crate::specs::Parts::prefix_of, cpp_term::specs::Values::prefix_tree, cpp_term::specs::Values::prefix_listed))]
+    pub fn nest_end(&self, symbol: &[u8], prefix: Prefix) -> Meant
+        requires table { IsTable (over symbol.now self.now.nodes) }
+        requires there { IsPrefixThere (length self.now.nodes.nodes) prefix }
+        ensures is { meant_value symbol.now self.now.nodes result ≡ values.tree (prefix_tree (prefix_of (trees_in symbol.now self.now.nodes) prefix)) (prefix_listed (prefix_of (trees_in symbol.now self.now.nodes) prefix)) }
+        ensures there { IsMeantThere symbol.now (length self.now.nodes.thunks) (length self.now.nodes.nodes) result }
+    {
+        match prefix {
+            Prefix::Outermost => Meant::Given(Part::Tree {
+                node: ABSENT,
+                listed: true,
+            }),
+            Prefix::Behind { node, listed } => Meant::Given(Part::Tree { node, listed }),
+        }
+    }
+
+    /// What a reference stands for.
+    #[tactic(auto, unfolding(crate::specs::Parts::meant_value, cpp_tree::specs::Nodes::tree_of, cpp_term::specs::Meaning::listed_value, cpp_term::specs::Meaning::reference_to, cpp_term::specs::Values::tree_of))]
+    pub fn reference_meant(&self, symbol: &[u8], byte: u8, parts: &[Part]) -> Meant
+        requires table { IsTable (over symbol.now self.now.nodes) }
+        requires there { AreThere symbol.now (length self.now.nodes.nodes) parts.now }
+        ensures is { meant_value symbol.now self.now.nodes result ≡ listed_value (reference_to byte (part (values_in symbol.now self.now.nodes parts.now) 0)) }
+        ensures there { IsMeantThere symbol.now (length self.now.nodes.thunks) (length self.now.nodes.nodes) result }
+    {
+        let inner = self.tree(symbol, parts, 0);
+        if byte == b'R' {
+            return made(Node::Lvalue(inner), true);
+        }
+        made(Node::Rvalue(inner), true)
+    }
+
+    /// What the rest of a signature stands for that has a mark.
+    #[tactic(auto, unfolding(cpp_term::specs::Meaning::signature_or, crate::specs::Parts::meant_value, crate::specs::Parts::value_of))]
+    pub fn signature_or(&self, symbol: &[u8], mark: Mark, rest: Part) -> Meant
+        requires table { IsTable (over symbol.now self.now.nodes) }
+        requires there { IsThere symbol.now (length self.now.nodes.nodes) rest }
+        ensures is { meant_value symbol.now self.now.nodes result ≡ signature_or (nodes.mark_of mark) (value_in symbol.now self.now.nodes rest) }
+        ensures there { IsMeantThere symbol.now (length self.now.nodes.thunks) (length self.now.nodes.nodes) result }
+    {
+        match rest {
+            Part::Nothing => Meant::Given(Part::Signature { list: NIL, mark }),
+            _ => Meant::Given(rest),
+        }
+    }
+
+    /// The operator of two letters, or a literal operator.
+    #[tactic(auto, unfolding(cpp_term::specs::Meaning::operator_or_literal, crate::specs::Parts::meant_value, crate::specs::Parts::value_of, cpp_tree::specs::Nodes::piece_of))]
+    pub fn operator_or_literal(&self, symbol: &[u8], first: u8, rest: Part) -> Meant
+        requires there { IsThere symbol.now (length self.now.nodes.nodes) rest }
+        ensures is { meant_value symbol.now self.now.nodes result ≡ operator_or_literal first (value_in symbol.now self.now.nodes rest) }
+        ensures there { IsMeantThere symbol.now (length self.now.nodes.thunks) (length self.now.nodes.nodes) result }
+    {
+        match rest {
+            Part::Letter(second) => Meant::Given(Part::Piece(Piece::Operator(first, second))),
+            _ => Meant::Given(rest),
+        }
+    }
+
+    /// What a lambda stands for.
+    ///
+    /// # Errors
+    ///
+    /// `Memory` where its number is past 64 bits, which is refused where the lambda begins.
+    #[tactic(auto, unfolding(crate::specs::Parts::meant_value, crate::specs::Parts::value_of, cpp_tree::specs::Nodes::piece_of, cpp_term::specs::Meaning::parameters))]
+    pub fn lambda(&self, symbol: &[u8], parts: &[Part]) -> Result<Meant, Refusal>
+        requires table { IsTable (over symbol.now self.now.nodes) }
+        requires there { AreThere symbol.now (length self.now.nodes.nodes) parts.now }
+        ensures is { IfOk result (λ meant. meant_value symbol.now self.now.nodes meant ≡ values.piece (term.lambda (parameters (term.list (tree_of (part (values_in symbol.now self.now.nodes parts.now) 0)) (no_items (part (values_in symbol.now self.now.nodes parts.now) 1)))) (local_number (text_of (part (values_in symbol.now self.now.nodes parts.now) 3))))) }
+        ensures there { IfOk result (λ meant. IsMeantThere symbol.now (length self.now.nodes.thunks) (length self.now.nodes.nodes) meant) }
+        ensures memory { IfErr result (λ e. e ≡ refusals.Memory) }
+    {
+        let number = local_number(symbol, self.text(symbol, parts, 3))?;
+        let first = self.tree(symbol, parts, 0);
+        let rest = self.list(symbol, parts, 1);
+        if self.is_lone_void(symbol, first, rest) {
+            return Ok(Meant::Given(Part::Piece(Piece::Lambda {
+                parameters: NIL,
+                number,
+            })));
+        }
+        Ok(Meant::Lambda {
+            first,
+            rest,
+            number,
+        })
+    }
+}

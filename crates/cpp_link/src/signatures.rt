@@ -1,0 +1,148 @@
+// Encodings and function types: what is read of lists.
+
+ghost use Rattle.std.specs.Prelude.{◌≡◌, ℕ, ◌<◌, ◌&&◌, length, Option, Some, None, IfSome, List, true};
+ghost use Rattle.cpp_term.specs.Term.{Term};
+ghost use Rattle.cpp_term.specs.Values as values;
+ghost use Rattle.cpp_term.specs.Values.{part};
+ghost use Rattle.cpp_term.specs.Between.{no_items};
+ghost use Rattle.cpp_term.specs.Meaning.{parameters, encoding_of, is_void, is_nil};
+ghost use Rattle.cpp_tree.specs.Nodes.{over, tree_at, tree_of, IsTable};
+ghost use Rattle.cpp_tree.specs.declared.node.Node.{Node};
+ghost use Rattle.cpp_link.specs.Parts.{trees_in, values_in, meant_value, AreThere, IsMeantThere};
+ghost use Rattle.cpp_link.specs.Reads.{void_node, nil_node, cell_of, parameters_by, encoding_by};
+ghost use Rattle.cpp_term.specs.Scope.{has_return_type};
+
+use crate::linked::Linked;
+use crate::part::{Meant, Part};
+use cpp_tree::node::Node;
+use cpp_tree::nodes::{ABSENT, NIL};
+
+/// Whether it is void.
+#[tactic(auto, unfolding(crate::specs::Reads::void_node))]
+fn is_void(node: Node) -> bool
+    ensures { result ≡ void_node node }
+{
+    match node {
+        Node::Builtin(letter) => letter == b'v',
+        _ => false,
+    }
+}
+
+/// Whether it is the list of no elements.
+#[tactic(auto, unfolding(crate::specs::Reads::nil_node))]
+fn is_nil(node: Node) -> bool
+    ensures { result ≡ nil_node node }
+{
+    match node {
+        Node::Nil => true,
+        _ => false,
+    }
+}
+
+/// The first element and the others of a list that has some.
+#[tactic(auto, unfolding(crate::specs::Reads::cell_of))]
+fn cell_of(node: Node) -> Option<(u32, u32)>
+    ensures { result ≡ cell_of node }
+{
+    match node {
+        Node::Cell { first, rest } => Some((first, rest)),
+        _ => None,
+    }
+}
+
+/// Whether these are a lone void.
+fn is_lone(first: Node, rest: Node) -> bool
+    ensures { result ≡ (void_node first && nil_node rest) }
+{
+    is_void(first) && is_nil(rest)
+}
+
+impl Linked {
+    /// Whether these are a lone void.
+    pub fn is_lone_void(&self, symbol: &[u8], first: u32, rest: u32) -> bool
+        requires table { IsTable (over symbol.now self.now.nodes) }
+        requires first { first < length self.now.nodes.nodes }
+        requires rest { rest < length self.now.nodes.nodes }
+        ensures { result ≡ (is_void (tree_at (trees_in symbol.now self.now.nodes) first) && is_nil (tree_at (trees_in symbol.now self.now.nodes) rest)) }
+    {
+        let item = self.nodes.node(symbol, first);
+        let others = self.nodes.node(symbol, rest);
+        is_lone(item, others)
+    }
+
+    /// The first element and the others of a list that has some.
+    fn cell(&self, symbol: &[u8], list: u32) -> Option<(u32, u32)>
+        requires table { IsTable (over symbol.now self.now.nodes) }
+        requires below { list < length self.now.nodes.nodes }
+        ensures parameters { parameters (tree_at (trees_in symbol.now self.now.nodes) list) ≡ parameters_by (trees_in symbol.now self.now.nodes) result (tree_at (trees_in symbol.now self.now.nodes) list) }
+        ensures encoding { (name : values.Value) → encoding_of name (tree_at (trees_in symbol.now self.now.nodes) list) ≡ encoding_by (trees_in symbol.now self.now.nodes) name result (tree_at (trees_in symbol.now self.now.nodes) list) }
+        ensures there { IfSome result (λ cell. (cell.0 < length self.now.nodes.nodes) × (cell.1 < length self.now.nodes.nodes)) }
+    {
+        cell_of(self.nodes.node(symbol, list))
+    }
+
+    /// The parameters that a list of items says: a lone void is none.
+    pub fn parameters(&self, symbol: &[u8], list: u32) -> u32
+        requires table { IsTable (over symbol.now self.now.nodes) }
+        requires below { list < length self.now.nodes.nodes }
+        ensures is { tree_at (trees_in symbol.now self.now.nodes) result ≡ parameters (tree_at (trees_in symbol.now self.now.nodes) list) }
+        ensures there { result < length self.now.nodes.nodes }
+    {
+        let Some((first, rest)) = self.cell(symbol, list) else {
+            return list;
+        };
+        if self.is_lone_void(symbol, first, rest) {
+            return NIL;
+        }
+        list
+    }
+
+    /// What an encoding stands for: an object, or a function with its return type.
+    #[tactic(auto, unfolding(crate::specs::Parts::meant_value, cpp_tree::specs::Nodes::tree_of, crate::specs::Reads::encoding_by))]
+    pub fn encoding(&self, symbol: &[u8], parts: &[Part]) -> Meant
+        requires table { IsTable (over symbol.now self.now.nodes) }
+        requires there { AreThere symbol.now (length self.now.nodes.nodes) parts.now }
+        ensures is { meant_value symbol.now self.now.nodes result ≡ values.tree (encoding_of (part (values_in symbol.now self.now.nodes parts.now) 0) (no_items (part (values_in symbol.now self.now.nodes parts.now) 1))) true }
+        ensures there { IsMeantThere symbol.now (length self.now.nodes.thunks) (length self.now.nodes.nodes) result }
+    {
+        let name = self.tree(symbol, parts, 0);
+        let qualifiers = self.qualifiers(symbol, parts, 0);
+        let mark = self.reference(symbol, parts, 0);
+        let list = self.list(symbol, parts, 1);
+        let Some((first, rest)) = self.cell(symbol, list) else {
+            let node = Node::Object {
+                name,
+                qualifiers,
+                mark,
+            };
+            return Meant::Made { node, listed: true };
+        };
+        if self.returns(symbol, name) {
+            let node = Node::Function {
+                name,
+                qualifiers,
+                mark,
+                returned: first,
+                parameters: self.parameters(symbol, rest),
+            };
+            return Meant::Made { node, listed: true };
+        }
+        let node = Node::Function {
+            name,
+            qualifiers,
+            mark,
+            returned: ABSENT,
+            parameters: self.parameters(symbol, list),
+        };
+        Meant::Made { node, listed: true }
+    }
+
+    /// Whether an encoding of this name has a return type.
+    fn returns(&self, symbol: &[u8], name: u32) -> bool
+        requires table { IsTable (over symbol.now self.now.nodes) }
+        requires below { name < length self.now.nodes.nodes }
+        ensures { result ≡ has_return_type (tree_at (trees_in symbol.now self.now.nodes) name) }
+    {
+        self.nodes.entry(name).returns
+    }
+}

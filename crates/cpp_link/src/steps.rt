@@ -1,0 +1,596 @@
+// What is done before the next part of a rule.
+
+ghost use Rattle.std.specs.Prelude.{◌≡◌, ℕ, ◌<◌, List, length, true, false, not, ◌&&◌, Option, None, Some, Ok, ◌∷◌, [], IfOk, IfErr};
+ghost use Rattle.sym_link.specs.Driving.{Fails};
+ghost use Rattle.cpp_term.specs.Term as term;
+ghost use Rattle.cpp_grammar.specs.declared.production.Production.TheVariants as productions;
+ghost use Rattle.cpp_term.specs.Values as values;
+ghost use Rattle.cpp_link.specs.declared.part.Prefix.TheVariants as prefixes;
+ghost use Rattle.cpp_term.specs.Values.{State, tree_of, piece_of, text_of, is_listed, prefix_tree};
+ghost use Rattle.cpp_term.specs.Between.{between, no_items};
+ghost use Rattle.cpp_term.specs.References.{with_prefix, with_type, with_unqualified};
+ghost use Rattle.cpp_tree.specs.Nodes as nodes;
+ghost use Rattle.cpp_tree.specs.Nodes.{over, tree_at, bytes_at, IsWithin, IsPieceBelow, arguments_are, IsArgumentsBelow, IsTable};
+ghost use Rattle.cpp_link.specs.declared.part.Step.{Step};
+ghost use Rattle.cpp_link.specs.Parts.{trees_in, value_in, values_in, prefix_of, around_of, IsThere, AreThere, IsPrefixThere, IsKeptThere, IsStepThere};
+ghost use Rattle.cpp_link.specs.Reads.{with_candidate, goes_on};
+
+use crate::linked::Linked;
+use crate::part::{Kept, Part, Prefix, Step};
+use crate::values::{is_listed, is_there, letter_of, list_of, node_of, piece_of, text_of};
+use cpp_grammar::production::Production;
+use cpp_tree::node::{Node, Piece};
+use cpp_tree::nodes::ABSENT;
+use sym_core::{Refusal, Span};
+
+/// The candidate that the name so far becomes.
+#[tactic(auto, unfolding(crate::specs::Parts::around_of, crate::specs::Parts::prefix_of, crate::specs::Reads::with_candidate, cpp_term::specs::References::with_prefix, cpp_term::specs::Values::prefix_tree, cpp_term::specs::Values::prefix_listed))]
+fn prefix_candidate(kept: Kept) -> Option<u32>
+    ensures is { (ts : List term.Term) (state : State) → with_prefix (around_of ts kept) state ≡ with_candidate (around_of ts kept) ts result state }
+    ensures there { (n : ℕ) → IsPrefixThere n kept.prefix → IsArgumentsBelow n result }
+{
+    match kept.prefix {
+        Prefix::Outermost => None,
+        Prefix::Behind { node, listed } => {
+            if listed {
+                return None;
+            }
+            Some(node)
+        }
+    }
+}
+
+/// In an encoding that begins at this place.
+fn in_encoding(kept: Kept, place: u32, scope: Option<u32>) -> Kept
+    ensures { result ≡ record { scope = scope; encoding = place; in_lambda = false; in_expansion = false; prefix = prefixes.Outermost; packs = kept.packs } }
+{
+    Kept {
+        scope,
+        encoding: place,
+        in_lambda: false,
+        in_expansion: false,
+        prefix: Prefix::Outermost,
+        packs: kept.packs,
+    }
+}
+
+/// Behind this name.
+fn behind(kept: Kept, node: u32, listed: bool) -> Kept
+    ensures { result ≡ record { scope = kept.scope; encoding = kept.encoding; in_lambda = kept.in_lambda; in_expansion = kept.in_expansion; prefix = prefixes.Behind node listed; packs = kept.packs } }
+{
+    Kept {
+        prefix: Prefix::Behind { node, listed },
+        ..kept
+    }
+}
+
+/// In the signature of a lambda.
+fn in_lambda(kept: Kept) -> Kept
+    ensures { result ≡ record { scope = None; encoding = kept.encoding; in_lambda = true; in_expansion = kept.in_expansion; prefix = prefixes.Outermost; packs = kept.packs } }
+{
+    Kept {
+        scope: None,
+        in_lambda: true,
+        prefix: Prefix::Outermost,
+        ..kept
+    }
+}
+
+/// With no name so far.
+fn inside(kept: Kept) -> Kept
+    ensures { result ≡ record { scope = kept.scope; encoding = kept.encoding; in_lambda = kept.in_lambda; in_expansion = kept.in_expansion; prefix = prefixes.Outermost; packs = kept.packs } }
+{
+    Kept {
+        prefix: Prefix::Outermost,
+        ..kept
+    }
+}
+
+impl Linked {
+    /// Nothing is done, and this surrounds the next part.
+    #[inline(always)]
+    fn go(&self, then: Kept) -> Step
+        ensures { result ≡ Step.Go None then self.now.packs }
+    {
+        Step::Go {
+            candidate: None,
+            then,
+            packs: self.packs,
+        }
+    }
+
+    /// A name is made of this node.
+    #[inline(always)]
+    fn named(&self, node: Node) -> Step
+        ensures { result ≡ Step.Made node false true false self.now.packs }
+    {
+        Step::Made {
+            node,
+            listed: false,
+            is_name: true,
+            is_candidate: false,
+            packs: self.packs,
+        }
+    }
+
+    /// The node of a part.
+    #[inline(always)]
+    pub fn node(&self, symbol: &[u8], part: Part) -> u32
+        requires table { IsTable (over symbol.now self.now.nodes) }
+        requires there { IsThere symbol.now (length self.now.nodes.nodes) part }
+        ensures is { tree_at (trees_in symbol.now self.now.nodes) result ≡ tree_of (value_in symbol.now self.now.nodes part) }
+        ensures there { result < length self.now.nodes.nodes }
+    {
+        node_of(part)
+    }
+
+    /// The candidate that the name so far becomes.
+    fn prefix_candidate(&self, symbol: &[u8], kept: Kept) -> Option<u32>
+        requires kept { IsKeptThere (length self.now.nodes.nodes) kept }
+        ensures is { (state : State) → with_prefix (around_of (trees_in symbol.now self.now.nodes) kept) state ≡ with_candidate (around_of (trees_in symbol.now self.now.nodes) kept) (trees_in symbol.now self.now.nodes) result state }
+        ensures there { IsArgumentsBelow (length self.now.nodes.nodes) result }
+    {
+        prefix_candidate(kept)
+    }
+
+    /// The candidate that a type becomes.
+    #[tactic(auto, unfolding(crate::specs::Reads::with_candidate, cpp_term::specs::References::with_type))]
+    pub fn type_candidate(&self, symbol: &[u8], kept: Kept, part: Part) -> Option<u32>
+        requires table { IsTable (over symbol.now self.now.nodes) }
+        requires there { IsThere symbol.now (length self.now.nodes.nodes) part }
+        ensures is { (state : State) → with_type (around_of (trees_in symbol.now self.now.nodes) kept) (value_in symbol.now self.now.nodes part) state ≡ with_candidate (around_of (trees_in symbol.now self.now.nodes) kept) (trees_in symbol.now self.now.nodes) result state }
+        ensures there { IsArgumentsBelow (length self.now.nodes.nodes) result }
+    {
+        if is_listed(part) {
+            return None;
+        }
+        Some(self.node(symbol, part))
+    }
+
+    /// The node of the name so far.
+    #[tactic(auto, unfolding(crate::specs::Parts::prefix_of, cpp_term::specs::Values::prefix_tree))]
+    fn prefix_node(&self, symbol: &[u8], prefix: Prefix) -> u32
+        requires table { IsTable (over symbol.now self.now.nodes) }
+        requires prefix { IsPrefixThere (length self.now.nodes.nodes) prefix }
+        ensures is { tree_at (trees_in symbol.now self.now.nodes) result ≡ prefix_tree (prefix_of (trees_in symbol.now self.now.nodes) prefix) }
+        ensures there { result < length self.now.nodes.nodes }
+    {
+        match prefix {
+            Prefix::Outermost => ABSENT,
+            Prefix::Behind { node, .. } => node,
+        }
+    }
+
+    /// What is done before the first part.
+    #[tactic(auto, unfolding(cpp_term::specs::Between::between, cpp_term::specs::Between::in_name, cpp_term::specs::Between::in_types, cpp_term::specs::Between::in_signature, cpp_term::specs::Between::under_expansion, cpp_term::specs::Between::after, cpp_term::specs::Between::inside, cpp_term::specs::Between::applied, cpp_term::specs::Between::piece_so_far, cpp_term::specs::Between::named_so_far, cpp_term::specs::Between::listed_so_far, cpp_term::specs::Values::tree_of, crate::specs::Parts::around_of, crate::specs::Parts::prefix_of, cpp_tree::specs::Nodes::arguments_are, cpp_tree::specs::Nodes::tree_of, cpp_tree::specs::Nodes::piece_of, crate::specs::Reads::goes_on, crate::specs::Reads::behind_first, crate::specs::Reads::named_if, crate::specs::Reads::appended_if, crate::specs::Reads::with_candidate))]
+    fn step_first(&self, symbol: &[u8], production: Production, place: u32, kept: Kept) -> Step
+        requires table { IsTable (over symbol.now self.now.nodes) }
+        requires kept { IsKeptThere (length self.now.nodes.nodes) kept }
+        ensures is { (cs : List values.Candidate) → between production (around_of (trees_in symbol.now self.now.nodes) kept) place [] (record { candidates = cs; packs = self.now.packs }) ≡ goes_on symbol.now self.now.nodes kept [] cs self.now.packs result }
+        ensures there { IsStepThere symbol.now (length self.now.nodes.thunks) (length self.now.nodes.nodes) result }
+    {
+        match production {
+            Production::Encoding => self.go(in_encoding(kept, place, None)),
+            Production::Special => self.go(in_encoding(kept, place, None)),
+            Production::Guard => self.go(in_encoding(kept, place, None)),
+            Production::Lambda => self.go(in_lambda(kept)),
+            Production::Expansion => Step::Go {
+                candidate: None,
+                then: Kept {
+                    in_expansion: true,
+                    ..kept
+                },
+                packs: None,
+            },
+            Production::NestArguments => Step::Go {
+                candidate: self.prefix_candidate(symbol, kept),
+                then: inside(kept),
+                packs: self.packs,
+            },
+            Production::Arguments => Step::Go {
+                candidate: self.prefix_candidate(symbol, kept),
+                then: inside(kept),
+                packs: self.packs,
+            },
+            Production::NestNext => Step::Go {
+                candidate: self.prefix_candidate(symbol, kept),
+                then: behind(kept, self.prefix_node(symbol, kept.prefix), true),
+                packs: self.packs,
+            },
+            _ => self.go(kept),
+        }
+    }
+
+    /// The list that a part is.
+    #[inline(always)]
+    fn list_in(&self, symbol: &[u8], part: Part) -> u32
+        requires table { IsTable (over symbol.now self.now.nodes) }
+        requires there { IsThere symbol.now (length self.now.nodes.nodes) part }
+        ensures is { tree_at (trees_in symbol.now self.now.nodes) result ≡ no_items (value_in symbol.now self.now.nodes part) }
+        ensures there { result < length self.now.nodes.nodes }
+    {
+        list_of(part)
+    }
+
+    /// The piece of a name that a part is.
+    #[inline(always)]
+    fn piece_in(&self, symbol: &[u8], part: Part) -> Piece
+        requires there { IsThere symbol.now (length self.now.nodes.nodes) part }
+        ensures is { nodes.piece_of symbol.now (trees_in symbol.now self.now.nodes) result ≡ piece_of (value_in symbol.now self.now.nodes part) }
+        ensures there { IsPieceBelow symbol.now (length self.now.nodes.nodes) result }
+    {
+        piece_of(part)
+    }
+
+    /// The text that a part is.
+    #[inline(always)]
+    fn text_in(&self, symbol: &[u8], part: Part) -> Span
+        requires there { IsThere symbol.now (length self.now.nodes.nodes) part }
+        ensures is { bytes_at symbol.now result ≡ text_of (value_in symbol.now self.now.nodes part) }
+        ensures there { IsWithin result symbol.now }
+    {
+        text_of(part)
+    }
+
+    /// What is done before the second part, of a production that is no parameter.
+    #[tactic(auto, unfolding(cpp_term::specs::Between::between, cpp_term::specs::Between::in_name, cpp_term::specs::Between::in_types, cpp_term::specs::Between::in_signature, cpp_term::specs::Between::under_expansion, cpp_term::specs::Between::after, cpp_term::specs::Between::inside, cpp_term::specs::Between::applied, cpp_term::specs::Between::piece_so_far, cpp_term::specs::Between::named_so_far, cpp_term::specs::Between::listed_so_far, cpp_term::specs::Values::tree_of, crate::specs::Parts::around_of, crate::specs::Parts::prefix_of, cpp_tree::specs::Nodes::arguments_are, cpp_tree::specs::Nodes::tree_of, cpp_tree::specs::Nodes::piece_of, crate::specs::Reads::goes_on, crate::specs::Reads::behind_first, crate::specs::Reads::named_if, crate::specs::Reads::appended_if, crate::specs::Reads::with_candidate))]
+    fn step_second(
+        &self,
+        symbol: &[u8],
+        production: Production,
+        place: u32,
+        kept: Kept,
+        first: Part,
+    ) -> Step
+        requires table { IsTable (over symbol.now self.now.nodes) }
+        requires kept { IsKeptThere (length self.now.nodes.nodes) kept }
+        requires first { IsThere symbol.now (length self.now.nodes.nodes) first }
+        requires parameter { production ≡ productions.Parameter → ⊥ }
+        requires nest { production ≡ productions.NestParameter → ⊥ }
+        ensures is { (cs : List values.Candidate) → between production (around_of (trees_in symbol.now self.now.nodes) kept) place (value_in symbol.now self.now.nodes first ∷ []) (record { candidates = cs; packs = self.now.packs }) ≡ goes_on symbol.now self.now.nodes kept (value_in symbol.now self.now.nodes first ∷ []) cs self.now.packs result }
+        ensures there { IsStepThere symbol.now (length self.now.nodes.thunks) (length self.now.nodes.nodes) result }
+    {
+        match production {
+            Production::Special => self.go(in_encoding(kept, place, None)),
+            Production::Guard => self.go(in_encoding(kept, place, None)),
+            Production::Lambda => self.go(in_lambda(kept)),
+            Production::Expansion => Step::Go {
+                candidate: None,
+                then: Kept {
+                    in_expansion: true,
+                    ..kept
+                },
+                packs: None,
+            },
+            Production::Encoding => {
+                let name = self.node(symbol, first);
+                self.go(in_encoding(kept, place, self.arguments(symbol, name)))
+            }
+            Production::LocalName => self.go(behind(kept, self.node(symbol, first), true)),
+            Production::LocalType => self.go(behind(kept, self.node(symbol, first), true)),
+            Production::InternalName => self.named(self.extended(
+                symbol,
+                kept.prefix,
+                Piece::Source {
+                    internal: true,
+                    bytes: self.text_in(symbol, first),
+                },
+            )),
+            Production::NestInternal => self.named(self.extended(
+                symbol,
+                kept.prefix,
+                Piece::Source {
+                    internal: true,
+                    bytes: self.text_in(symbol, first),
+                },
+            )),
+            Production::SourceName => self.named(self.extended(
+                symbol,
+                kept.prefix,
+                Piece::Source {
+                    internal: false,
+                    bytes: self.text_in(symbol, first),
+                },
+            )),
+            Production::NestSource => self.named(self.extended(
+                symbol,
+                kept.prefix,
+                Piece::Source {
+                    internal: false,
+                    bytes: self.text_in(symbol, first),
+                },
+            )),
+            Production::LocalTypeName => self.named(self.extended(
+                symbol,
+                kept.prefix,
+                self.piece_in(symbol, first),
+            )),
+            Production::OperatorName => self.named(self.extended(
+                symbol,
+                kept.prefix,
+                self.piece_in(symbol, first),
+            )),
+            Production::NestLocalType => self.named(self.extended(
+                symbol,
+                kept.prefix,
+                self.piece_in(symbol, first),
+            )),
+            Production::Constructor => self.named(self.extended(
+                symbol,
+                kept.prefix,
+                Piece::Constructor(letter_of(first)),
+            )),
+            Production::Destructor => self.named(self.extended(
+                symbol,
+                kept.prefix,
+                Piece::Destructor(letter_of(first)),
+            )),
+            Production::StdName => self.named(Node::InStd(self.piece_in(symbol, first))),
+            Production::NestStd => self.named(Node::InStd(self.piece_in(symbol, first))),
+            Production::AbbreviatedName => Step::Named {
+                node: self.node(symbol, first),
+                listed: true,
+            },
+            Production::NestAbbreviated => Step::Named {
+                node: self.node(symbol, first),
+                listed: true,
+            },
+            Production::NestNext => self.go(behind(kept, self.node(symbol, first), false)),
+            Production::TypeWithS => self.go(behind(
+                kept,
+                self.node(symbol, first),
+                is_listed(first),
+            )),
+            Production::PackArgument => Step::Made {
+                node: Node::Pack(self.list_in(symbol, first)),
+                listed: true,
+                is_name: false,
+                is_candidate: false,
+                packs: self.packs,
+            },
+            Production::LvalueItem => Step::Made {
+                node: Node::Lvalue(self.node(symbol, first)),
+                listed: true,
+                is_name: false,
+                is_candidate: true,
+                packs: self.packs,
+            },
+            Production::RvalueItem => Step::Made {
+                node: Node::Rvalue(self.node(symbol, first)),
+                listed: true,
+                is_name: false,
+                is_candidate: true,
+                packs: self.packs,
+            },
+            Production::IntegerLiteral => Step::Go {
+                candidate: self.type_candidate(symbol, kept, first),
+                then: kept,
+                packs: self.packs,
+            },
+            _ => self.go(kept),
+        }
+    }
+
+    /// What is done before the third part.
+    #[tactic(auto, unfolding(cpp_term::specs::Between::between, cpp_term::specs::Between::in_name, cpp_term::specs::Between::in_types, cpp_term::specs::Between::in_signature, cpp_term::specs::Between::under_expansion, cpp_term::specs::Between::after, cpp_term::specs::Between::inside, cpp_term::specs::Between::applied, cpp_term::specs::Between::piece_so_far, cpp_term::specs::Between::named_so_far, cpp_term::specs::Between::listed_so_far, cpp_term::specs::Values::tree_of, crate::specs::Parts::around_of, crate::specs::Parts::prefix_of, cpp_tree::specs::Nodes::arguments_are, cpp_tree::specs::Nodes::tree_of, cpp_tree::specs::Nodes::piece_of, crate::specs::Reads::goes_on, crate::specs::Reads::behind_first, crate::specs::Reads::named_if, crate::specs::Reads::appended_if, crate::specs::Reads::with_candidate))]
+    fn step_third(
+        &self,
+        symbol: &[u8],
+        production: Production,
+        place: u32,
+        kept: Kept,
+        first: Part,
+        second: Part,
+    ) -> Step
+        requires table { IsTable (over symbol.now self.now.nodes) }
+        requires kept { IsKeptThere (length self.now.nodes.nodes) kept }
+        requires first { IsThere symbol.now (length self.now.nodes.nodes) first }
+        requires second { IsThere symbol.now (length self.now.nodes.nodes) second }
+        ensures is { (cs : List values.Candidate) → between production (around_of (trees_in symbol.now self.now.nodes) kept) place (value_in symbol.now self.now.nodes first ∷ value_in symbol.now self.now.nodes second ∷ []) (record { candidates = cs; packs = self.now.packs }) ≡ goes_on symbol.now self.now.nodes kept (value_in symbol.now self.now.nodes first ∷ value_in symbol.now self.now.nodes second ∷ []) cs self.now.packs result }
+        ensures there { IsStepThere symbol.now (length self.now.nodes.thunks) (length self.now.nodes.nodes) result }
+    {
+        match production {
+            Production::Special => self.go(in_encoding(kept, place, None)),
+            Production::Guard => self.go(in_encoding(kept, place, None)),
+            Production::Lambda => self.go(in_lambda(kept)),
+            Production::Expansion => Step::Go {
+                candidate: None,
+                then: Kept {
+                    in_expansion: true,
+                    ..kept
+                },
+                packs: None,
+            },
+            Production::Encoding => {
+                let name = self.node(symbol, first);
+                self.go(in_encoding(kept, place, self.arguments(symbol, name)))
+            }
+            Production::LocalName => self.go(behind(kept, self.node(symbol, first), true)),
+            Production::LocalType => self.go(behind(kept, self.node(symbol, first), true)),
+            Production::NestStd => {
+                let name = self.node(symbol, first);
+                if is_there(second) {
+                    let arguments = self.node(symbol, second);
+                    return self.named(Node::Instance {
+                        template: name,
+                        arguments,
+                    });
+                }
+                Step::Named {
+                    node: name,
+                    listed: false,
+                }
+            }
+            Production::NestArguments => {
+                let template = self.prefix_node(symbol, kept.prefix);
+                let arguments = self.list_in(symbol, first);
+                Step::Made {
+                    node: Node::Instance {
+                        template,
+                        arguments,
+                    },
+                    listed: true,
+                    is_name: true,
+                    is_candidate: true,
+                    packs: self.packs,
+                }
+            }
+            _ => self.go(kept),
+        }
+    }
+
+    /// What is done before the fourth part.
+    #[tactic(auto, unfolding(cpp_term::specs::Between::between, cpp_term::specs::Between::in_name, cpp_term::specs::Between::in_types, cpp_term::specs::Between::in_signature, cpp_term::specs::Between::under_expansion, cpp_term::specs::Between::after, cpp_term::specs::Between::inside, cpp_term::specs::Between::applied, cpp_term::specs::Between::piece_so_far, cpp_term::specs::Between::named_so_far, cpp_term::specs::Between::listed_so_far, cpp_term::specs::Values::tree_of, crate::specs::Parts::around_of, crate::specs::Parts::prefix_of, cpp_tree::specs::Nodes::arguments_are, cpp_tree::specs::Nodes::tree_of, cpp_tree::specs::Nodes::piece_of, crate::specs::Reads::goes_on, crate::specs::Reads::behind_first, crate::specs::Reads::named_if, crate::specs::Reads::appended_if, crate::specs::Reads::with_candidate))]
+    fn step_fourth(
+        &self,
+        symbol: &[u8],
+        production: Production,
+        place: u32,
+        kept: Kept,
+        first: Part,
+        second: Part,
+        third: Part,
+    ) -> Step
+        requires table { IsTable (over symbol.now self.now.nodes) }
+        requires kept { IsKeptThere (length self.now.nodes.nodes) kept }
+        requires first { IsThere symbol.now (length self.now.nodes.nodes) first }
+        requires second { IsThere symbol.now (length self.now.nodes.nodes) second }
+        requires third { IsThere symbol.now (length self.now.nodes.nodes) third }
+        ensures is { (cs : List values.Candidate) → between production (around_of (trees_in symbol.now self.now.nodes) kept) place (value_in symbol.now self.now.nodes first ∷ value_in symbol.now self.now.nodes second ∷ value_in symbol.now self.now.nodes third ∷ []) (record { candidates = cs; packs = self.now.packs }) ≡ goes_on symbol.now self.now.nodes kept (value_in symbol.now self.now.nodes first ∷ value_in symbol.now self.now.nodes second ∷ value_in symbol.now self.now.nodes third ∷ []) cs self.now.packs result }
+        ensures there { IsStepThere symbol.now (length self.now.nodes.thunks) (length self.now.nodes.nodes) result }
+    {
+        match production {
+            Production::Special => self.go(in_encoding(kept, place, None)),
+            Production::Guard => self.go(in_encoding(kept, place, None)),
+            Production::Lambda => self.go(in_lambda(kept)),
+            Production::Expansion => Step::Go {
+                candidate: None,
+                then: Kept {
+                    in_expansion: true,
+                    ..kept
+                },
+                packs: None,
+            },
+            Production::Encoding => {
+                let name = self.node(symbol, first);
+                self.go(in_encoding(kept, place, self.arguments(symbol, name)))
+            }
+            Production::LocalName => self.go(behind(kept, self.node(symbol, first), true)),
+            Production::LocalType => self.go(behind(kept, self.node(symbol, first), true)),
+            Production::NestArguments => self.go(behind(kept, self.node(symbol, third), false)),
+            _ => self.go(kept),
+        }
+    }
+
+    /// What is done before a later part.
+    #[tactic(auto, unfolding(cpp_term::specs::Between::between, cpp_term::specs::Between::in_name, cpp_term::specs::Between::in_types, cpp_term::specs::Between::in_signature, cpp_term::specs::Between::under_expansion, cpp_term::specs::Between::after, cpp_term::specs::Between::inside, cpp_term::specs::Between::applied, cpp_term::specs::Between::piece_so_far, cpp_term::specs::Between::named_so_far, cpp_term::specs::Between::listed_so_far, cpp_term::specs::Values::tree_of, crate::specs::Parts::around_of, crate::specs::Parts::prefix_of, cpp_tree::specs::Nodes::arguments_are, cpp_tree::specs::Nodes::tree_of, cpp_tree::specs::Nodes::piece_of, crate::specs::Reads::goes_on, crate::specs::Reads::behind_first, crate::specs::Reads::named_if, crate::specs::Reads::appended_if, crate::specs::Reads::with_candidate))]
+    fn step_later(
+        &self,
+        symbol: &[u8],
+        production: Production,
+        place: u32,
+        kept: Kept,
+        first: Part,
+    ) -> Step
+        requires table { IsTable (over symbol.now self.now.nodes) }
+        requires kept { IsKeptThere (length self.now.nodes.nodes) kept }
+        requires first { IsThere symbol.now (length self.now.nodes.nodes) first }
+        ensures is { (v w x : values.Value) (vs : List values.Value) (cs : List values.Candidate) → between production (around_of (trees_in symbol.now self.now.nodes) kept) place (value_in symbol.now self.now.nodes first ∷ v ∷ w ∷ x ∷ vs) (record { candidates = cs; packs = self.now.packs }) ≡ goes_on symbol.now self.now.nodes kept (value_in symbol.now self.now.nodes first ∷ v ∷ w ∷ x ∷ vs) cs self.now.packs result }
+        ensures there { IsStepThere symbol.now (length self.now.nodes.thunks) (length self.now.nodes.nodes) result }
+    {
+        match production {
+            Production::Special => self.go(in_encoding(kept, place, None)),
+            Production::Guard => self.go(in_encoding(kept, place, None)),
+            Production::Lambda => self.go(in_lambda(kept)),
+            Production::Expansion => Step::Go {
+                candidate: None,
+                then: Kept {
+                    in_expansion: true,
+                    ..kept
+                },
+                packs: None,
+            },
+            Production::Encoding => {
+                let name = self.node(symbol, first);
+                self.go(in_encoding(kept, place, self.arguments(symbol, name)))
+            }
+            Production::LocalName => self.go(behind(kept, self.node(symbol, first), true)),
+            Production::LocalType => self.go(behind(kept, self.node(symbol, first), true)),
+            _ => self.go(kept),
+        }
+    }
+
+    /// What is done before the second part.
+    ///
+    /// # Errors
+    ///
+    /// Those of a parameter.
+    #[tactic(auto, unfolding(cpp_term::specs::Between::between, cpp_term::specs::Between::index_of))]
+    fn step_behind_first(
+        &self,
+        symbol: &[u8],
+        production: Production,
+        place: u32,
+        kept: Kept,
+        first: Part,
+    ) -> Result<Step, Refusal>
+        requires table { IsTable (over symbol.now self.now.nodes) }
+        requires kept { IsKeptThere (length self.now.nodes.nodes) kept }
+        requires first { IsThere symbol.now (length self.now.nodes.nodes) first }
+        ensures is { IfOk result (λ step. (cs : List values.Candidate) → between production (around_of (trees_in symbol.now self.now.nodes) kept) place (value_in symbol.now self.now.nodes first ∷ []) (record { candidates = cs; packs = self.now.packs })
+            ≡ goes_on symbol.now self.now.nodes kept (value_in symbol.now self.now.nodes first ∷ []) cs self.now.packs step) }
+        ensures refused { IfErr result (λ e. (cs : List values.Candidate) → Fails e (between production (around_of (trees_in symbol.now self.now.nodes) kept) place (value_in symbol.now self.now.nodes first ∷ []) (record { candidates = cs; packs = self.now.packs }))) }
+        ensures there { IfOk result (λ step. IsStepThere symbol.now (length self.now.nodes.thunks) (length self.now.nodes.nodes) step) }
+    {
+        match production {
+            Production::Parameter => {
+                let digits = self.text_in(symbol, first);
+                self.parameter(symbol, kept, place, digits)
+            }
+            Production::NestParameter => {
+                let digits = self.text_in(symbol, first);
+                self.parameter(symbol, kept, place, digits)
+            }
+            _ => Ok(self.step_second(symbol, production, place, kept, first)),
+        }
+    }
+
+    /// What is done before the next part of a production that begins at a place, behind these parts.
+    ///
+    /// # Errors
+    ///
+    /// Those of a parameter.
+    pub fn step(
+        &self,
+        symbol: &[u8],
+        production: Production,
+        place: u32,
+        kept: Kept,
+        parts: &[Part],
+    ) -> Result<Step, Refusal>
+        requires table { IsTable (over symbol.now self.now.nodes) }
+        requires kept { IsKeptThere (length self.now.nodes.nodes) kept }
+        requires there { AreThere symbol.now (length self.now.nodes.nodes) parts.now }
+        ensures is { IfOk result (λ step. (cs : List values.Candidate) → between production (around_of (trees_in symbol.now self.now.nodes) kept) place (values_in symbol.now self.now.nodes parts.now) (record { candidates = cs; packs = self.now.packs })
+            ≡ goes_on symbol.now self.now.nodes kept (values_in symbol.now self.now.nodes parts.now) cs self.now.packs step) }
+        ensures refused { IfErr result (λ e. (cs : List values.Candidate) → Fails e (between production (around_of (trees_in symbol.now self.now.nodes) kept) place (values_in symbol.now self.now.nodes parts.now) (record { candidates = cs; packs = self.now.packs }))) }
+        ensures there { IfOk result (λ step. IsStepThere symbol.now (length self.now.nodes.thunks) (length self.now.nodes.nodes) step) }
+    {
+        if parts.is_empty() {
+            return Ok(self.step_first(symbol, production, place, kept));
+        }
+        let first = self.given(symbol, parts, 0);
+        if parts.len() == 1 {
+            return self.step_behind_first(symbol, production, place, kept, first);
+        }
+        let second = self.given(symbol, parts, 1);
+        if parts.len() == 2 {
+            return Ok(self.step_third(symbol, production, place, kept, first, second));
+        }
+        let third = self.given(symbol, parts, 2);
+        if parts.len() == 3 {
+            return Ok(self.step_fourth(symbol, production, place, kept, first, second, third));
+        }
+        Ok(self.step_later(symbol, production, place, kept, first))
+    }
+}
