@@ -1,13 +1,14 @@
 // A symbol as a layout, and its text.
 #![tactic(auto)]
 
-ghost use Rattle.std.specs.Prelude.{◌≡◌, ℕ, ◌+◌, ◌<◌, ◌≤◌, ◌^◌, [], List, length, true, Option, IfOk, IfErr, OnOk, OnErr, ◌⊎◌, Err};
+ghost use Rattle.std.specs.Prelude.{◌≡◌, ℕ, ◌+◌, ◌<◌, ◌≤◌, ◌^◌, [], List, length, vec_len, vec_capacity, true, Option, IfOk, IfErr, OnOk, OnErr, ◌⊎◌, Err};
 ghost use Rattle.std.specs.List.{All};
 ghost use Rattle.sym_core.specs.declared.Refusal.{Refusal};
 ghost use Rattle.sym_print.specs.declared.layout.Part.{Part};
 ghost use Rattle.sym_print.specs.declared.detail.Detail.{Detail};
 ghost use Rattle.sym_print.specs.Unshared.{text_of, cost_of};
 ghost use Rattle.sym_print.specs.Joined.{joined};
+ghost use Rattle.sym_print.specs.Stacked.{Stacked};
 ghost use Rattle.cpp_grammar.specs.Parts.{is_below};
 ghost use Rattle.cpp_term.specs.Parts.{parts_in, expand_parts};
 ghost use Rattle.cpp_tree.specs.Nodes.{tree_at, trees, IsTable};
@@ -18,7 +19,7 @@ use crate::symbol::Symbol;
 use crate::{form, texts};
 use arrayvec::ArrayVec;
 use sym_core::Refusal;
-use sym_print::{Detail, Item, Layout, Part, print};
+use sym_print::{Detail, Item, Layout, Part, print, push_reversed};
 
 /// Whether the packs have an element behind this one.
 #[tactic(auto, unfolding(cpp_grammar::specs::Parts::is_below))]
@@ -107,6 +108,18 @@ impl Layout for Symbol {
         ensures may_come { All (MayBeAsked self.now) parts.new.items }
     {
         self.fill_form(parts, item.node, item.form, item.at, item.ctx);
+    }
+
+    fn push_parts(&self, item: Item<Context>, stack: &mut Vec<Part<Context>>)
+        requires may_come { MayBeAsked self.now (Part.Sub item) }
+        requires room { vec_len stack.old + 8 ≤ vec_capacity stack.old }
+        ensures parts { Stacked (unshared_of self.now) (bytes_of_part self.now) (MayBeAsked self.now) stack.old.items stack.new.items (unshared_of self.now item) }
+        ensures few { vec_len stack.new ≤ vec_len stack.old + 8 }
+        ensures capacity { vec_capacity stack.new ≡ vec_capacity stack.old }
+    {
+        let mut parts = ArrayVec::new();
+        self.fill(item, &mut parts);
+        push_reversed(stack, parts.as_slice());
     }
 
     #[inline(always)]
