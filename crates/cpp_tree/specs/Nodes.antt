@@ -1,0 +1,268 @@
+-- The trees that nodes stand for.
+use Rattle.std.specs.Prelude.{◌≡◌, ℕ, suc, ◌<◌, ◌≤◌, ◌-◌, ◌+◌, List, [], ◌∷◌, ◌++◌, length, get_or, slice_get, slice_range, false, Option, None, Some}
+use Rattle.std.specs.List.{All}
+use Rattle.sym_core.specs.declared.Span.{Span}
+use Rattle.cpp_grammar.specs.Term as values
+use Rattle.cpp_grammar.specs.Texts.{Naming, builtin_texts, operator_texts, abbreviation_texts, special_texts}
+use Rattle.cpp_grammar.specs.Items as heads
+use Rattle.cpp_term.specs.Term as term
+use Rattle.cpp_term.specs.Term.{Term}
+use Rattle.cpp_term.specs.Scope.{pack_length, is_open, arguments_of, has_return_type, count, element}
+use Rattle.cpp_term.specs.Items as items
+use Rattle.cpp_tree.specs.declared.node.Qualifiers.{Qualifiers}
+use Rattle.cpp_tree.specs.declared.node.Mark.{Mark}
+use Rattle.cpp_tree.specs.declared.node.Signed.{Signed}
+use Rattle.cpp_tree.specs.declared.node.Adjustment.{Adjustment}
+use Rattle.cpp_tree.specs.declared.node.Thunk.{Thunk}
+use Rattle.cpp_tree.specs.declared.node.Piece.{Piece}
+use Rattle.cpp_tree.specs.declared.node.Node.{Node}
+use Rattle.cpp_tree.specs.declared.node.Head.{Head}
+use Rattle.cpp_tree.specs.declared.node.HeadClass.{HeadClass}
+use Rattle.cpp_tree.specs.declared.node.Entry.{Entry}
+
+-- what is stored: the nodes, and what thunks adjust
+pub record Stored : Type 0 where
+  pub nodes : List Entry
+  pub thunks : List Thunk
+
+-- a table: what is stored, and the bytes of the symbol that it is of
+pub record Table : Type 0 where
+  pub bytes : List ℕ
+  pub nodes : List Entry
+  pub thunks : List Thunk
+
+abbrev pub over : (bytes : List ℕ) → Stored → Table
+over bytes stored = record { bytes = bytes; nodes = stored.nodes; thunks = stored.thunks }
+
+abbrev pub tree_at : List Term → ℕ → Term
+tree_at ts i = get_or ts i term.absent
+
+-- ## Values
+
+abbrev pub bytes_at : List ℕ → Span → List ℕ
+bytes_at s span = slice_range s span.from span.to
+
+abbrev pub IsWithin : Span → List ℕ → Type 0
+IsWithin span s = (span.from ≤ span.to) × (span.to ≤ length s)
+
+abbrev pub qualifiers_of : Qualifiers → values.Qualifiers
+qualifiers_of q = record { restrict = q.restrict; volatile = q.volatile; const = q.const_ }
+
+abbrev pub mark_of : Mark → values.RefQualifier
+mark_of Mark.Any = values.any_value
+mark_of Mark.Lvalue = values.lvalue_only
+mark_of Mark.Rvalue = values.rvalue_only
+
+abbrev pub signed_of : List ℕ → Signed → values.Signed
+signed_of s n = record { negative = n.negative; digits = bytes_at s n.digits }
+
+unfoldable pub adjustment_of : List ℕ → Adjustment → values.Adjustment
+adjustment_of s (Adjustment.NonVirtual n) = values.non_virtual (signed_of s n)
+adjustment_of s (Adjustment.ByTable m n) = values.by_table (signed_of s m) (signed_of s n)
+
+unfoldable pub thunk_of : List ℕ → Option Thunk → values.Thunk
+thunk_of s (Some (Thunk.Adjusting a)) = values.adjusting (adjustment_of s a)
+thunk_of s (Some (Thunk.Covariant a b)) = values.covariant (adjustment_of s a) (adjustment_of s b)
+thunk_of s None = values.adjusting (values.non_virtual (record { negative = false; digits = [] }))
+
+-- the code of a number
+unfoldable pub code_in : List Naming → ℕ → List ℕ
+code_in names k = elim (slice_get names k) [ Some n ↦ n.code | None ↦ [] ]
+
+unfoldable pub letter_in : List Naming → ℕ → ℕ
+letter_in names k = get_or (code_in names k) 0 0
+
+abbrev pub discriminator_of : List ℕ → Option Span → Option (List ℕ)
+discriminator_of s None = None
+discriminator_of s (Some digits) = Some (bytes_at s digits)
+
+-- ## Trees
+
+unfoldable pub piece_of : List ℕ → List Term → Piece → Term
+piece_of s ts (Piece.Source internal bytes) = term.source internal (bytes_at s bytes)
+piece_of s ts (Piece.Operator k) = term.operator (letter_in operator_texts k) (get_or (code_in operator_texts k) 1 0)
+piece_of s ts (Piece.LiteralOperator bytes) = term.literal_operator (bytes_at s bytes)
+piece_of s ts (Piece.Constructor digit) = term.constructor digit
+piece_of s ts (Piece.Destructor digit) = term.destructor digit
+piece_of s ts (Piece.Lambda parameters number) = term.lambda (tree_at ts parameters) number
+piece_of s ts (Piece.Unnamed number) = term.unnamed number
+piece_of s ts Piece.StringLiteral = term.string_literal
+
+unfoldable pub tree_of : List ℕ → List Thunk → List Term → Node → Term
+tree_of s us ts Node.Absent = term.absent
+tree_of s us ts Node.Nil = term.nil
+tree_of s us ts (Node.Function name q m returned parameters) = term.function (tree_at ts name) (qualifiers_of q) (mark_of m) (tree_at ts returned) (tree_at ts parameters)
+tree_of s us ts (Node.Object name q m) = term.object (tree_at ts name) (qualifiers_of q) (mark_of m)
+tree_of s us ts (Node.Special code t) = term.special (letter_in special_texts code) (tree_at ts t)
+tree_of s us ts (Node.Thunk u e) = term.thunk (thunk_of s (slice_get us u)) (tree_at ts e)
+tree_of s us ts (Node.Guard name q m) = term.guard (tree_at ts name) (qualifiers_of q) (mark_of m)
+tree_of s us ts (Node.Alone p) = term.alone (piece_of s ts p)
+tree_of s us ts (Node.InStd p) = term.in_std (piece_of s ts p)
+tree_of s us ts (Node.Within prefix p) = term.within (tree_at ts prefix) (piece_of s ts p)
+tree_of s us ts (Node.Instance template arguments) = term.instance (tree_at ts template) (tree_at ts arguments)
+tree_of s us ts (Node.Local e entity d) = term.local (tree_at ts e) (tree_at ts entity) (discriminator_of s d)
+tree_of s us ts (Node.Abbreviation code) = term.abbreviation (letter_in abbreviation_texts code)
+tree_of s us ts (Node.Parameter k a) = term.parameter k (tree_at ts a)
+tree_of s us ts (Node.Builtin code) = term.builtin (code_in builtin_texts code)
+tree_of s us ts (Node.Vendor bytes) = term.vendor (bytes_at s bytes)
+tree_of s us ts (Node.Pointer t) = term.pointer (tree_at ts t)
+tree_of s us ts (Node.Lvalue t) = term.lvalue (tree_at ts t)
+tree_of s us ts (Node.Rvalue t) = term.rvalue (tree_at ts t)
+tree_of s us ts (Node.Array digits t) = term.array (bytes_at s digits) (tree_at ts t)
+tree_of s us ts (Node.MemberPointer class t) = term.member_pointer (tree_at ts class) (tree_at ts t)
+tree_of s us ts (Node.FunctionType c n m returned parameters) = term.function_type c n (mark_of m) (tree_at ts returned) (tree_at ts parameters)
+tree_of s us ts (Node.Qualified q t) = term.qualified (qualifiers_of q) (tree_at ts t)
+tree_of s us ts (Node.Vector digits t) = term.vector (bytes_at s digits) (tree_at ts t)
+tree_of s us ts (Node.Complex t) = term.complex (tree_at ts t)
+tree_of s us ts (Node.Expansion pattern) = term.expansion (tree_at ts pattern)
+tree_of s us ts (Node.Integer t n) = term.integer (tree_at ts t) (signed_of s n)
+tree_of s us ts (Node.Boolean b) = term.boolean b
+tree_of s us ts Node.NullPointer = term.null_pointer
+tree_of s us ts (Node.EncodingLiteral e) = term.encoding_literal (tree_at ts e)
+tree_of s us ts (Node.AddressOf e) = term.address_of (tree_at ts e)
+tree_of s us ts (Node.Pack elements) = term.pack (tree_at ts elements)
+tree_of s us ts (Node.Cell first rest) = term.list (tree_at ts first) (tree_at ts rest)
+tree_of s us ts (Node.Whole e suffix) = term.symbol (tree_at ts e) (bytes_at s suffix)
+
+unfoldable pub trees_onto : List ℕ → List Thunk → List Term → List Entry → List Term
+trees_onto s us ts [] = ts
+trees_onto s us ts (e ∷ es) = trees_onto s us (ts ++ tree_of s us ts e.node ∷ []) es
+
+abbrev pub trees : Table → List Term
+trees y = trees_onto y.bytes y.thunks [] y.nodes
+
+-- ## What nodes are made of
+
+abbrev pub IsPieceBelow : List ℕ → ℕ → Piece → Type 0
+IsPieceBelow s n (Piece.Source internal bytes) = IsWithin bytes s
+IsPieceBelow s n (Piece.Operator k) = k < 48
+IsPieceBelow s n (Piece.LiteralOperator bytes) = IsWithin bytes s
+IsPieceBelow s n (Piece.Lambda parameters number) = parameters < n
+IsPieceBelow s n _ = Unit {0}
+
+abbrev pub IsSpan : List ℕ → Option Span → Type 0
+IsSpan s None = Unit {0}
+IsSpan s (Some span) = IsWithin span s
+
+-- a node is made of earlier ones and of bytes of the symbol
+abbrev pub IsBelow : List ℕ → (held n : ℕ) → Node → Type 0
+IsBelow s held n (Node.Function name q m returned parameters) = (name < n) × (returned < n) × (parameters < n)
+IsBelow s held n (Node.Object name q m) = name < n
+IsBelow s held n (Node.Special code t) = (code < 4) × (t < n)
+IsBelow s held n (Node.Thunk u e) = (u < held) × (e < n)
+IsBelow s held n (Node.Guard name q m) = name < n
+IsBelow s held n (Node.Alone p) = IsPieceBelow s n p
+IsBelow s held n (Node.InStd p) = IsPieceBelow s n p
+IsBelow s held n (Node.Within prefix p) = (prefix < n) × IsPieceBelow s n p
+IsBelow s held n (Node.Instance template arguments) = (template < n) × (arguments < n)
+IsBelow s held n (Node.Local e entity d) = (e < n) × (entity < n) × IsSpan s d
+IsBelow s held n (Node.Abbreviation code) = code < 6
+IsBelow s held n (Node.Parameter k a) = a < n
+IsBelow s held n (Node.Builtin code) = code < 27
+IsBelow s held n (Node.Vendor bytes) = IsWithin bytes s
+IsBelow s held n (Node.Pointer t) = t < n
+IsBelow s held n (Node.Lvalue t) = t < n
+IsBelow s held n (Node.Rvalue t) = t < n
+IsBelow s held n (Node.Array digits t) = IsWithin digits s × (t < n)
+IsBelow s held n (Node.MemberPointer class t) = (class < n) × (t < n)
+IsBelow s held n (Node.FunctionType c e m returned parameters) = (returned < n) × (parameters < n)
+IsBelow s held n (Node.Qualified q t) = t < n
+IsBelow s held n (Node.Vector digits t) = IsWithin digits s × (t < n)
+IsBelow s held n (Node.Complex t) = t < n
+IsBelow s held n (Node.Expansion pattern) = pattern < n
+IsBelow s held n (Node.Integer t v) = (t < n) × IsWithin v.digits s
+IsBelow s held n (Node.EncodingLiteral e) = e < n
+IsBelow s held n (Node.AddressOf e) = e < n
+IsBelow s held n (Node.Pack elements) = elements < n
+IsBelow s held n (Node.Cell first rest) = (first < n) × (rest < n)
+IsBelow s held n (Node.Whole e suffix) = (e < n) × IsWithin suffix s
+IsBelow s held n _ = Unit {0}
+
+abbrev pub IsAdjustmentWithin : List ℕ → Adjustment → Type 0
+IsAdjustmentWithin s (Adjustment.NonVirtual n) = IsWithin n.digits s
+IsAdjustmentWithin s (Adjustment.ByTable m n) = IsWithin m.digits s × IsWithin n.digits s
+
+abbrev pub IsThunkWithin : List ℕ → Thunk → Type 0
+IsThunkWithin s (Thunk.Adjusting a) = IsAdjustmentWithin s a
+IsThunkWithin s (Thunk.Covariant a b) = IsAdjustmentWithin s a × IsAdjustmentWithin s b
+
+-- ## What is noted of a tree
+
+unfoldable pub head_of : Head → heads.Head
+head_of Head.Plain = heads.plain_head
+head_of Head.FunctionOrArray = heads.funarr
+head_of Head.Lvalue = heads.lref
+head_of Head.Rvalue = heads.rref
+
+unfoldable pub class_is : List Term → HeadClass → items.HeadClass
+class_is ts (HeadClass.Known h) = items.known (head_of h)
+class_is ts (HeadClass.OfElement elements) = items.of_element (tree_at ts elements)
+class_is ts (HeadClass.CollapsedOfElement elements) = items.collapsed_of_element (tree_at ts elements)
+
+abbrev pub IsClassBelow : ℕ → HeadClass → Type 0
+IsClassBelow n (HeadClass.Known h) = Unit {0}
+IsClassBelow n (HeadClass.OfElement elements) = elements < n
+IsClassBelow n (HeadClass.CollapsedOfElement elements) = elements < n
+
+unfoldable pub arguments_are : List Term → Option ℕ → Option Term
+arguments_are ts None = None
+arguments_are ts (Some a) = Some (tree_at ts a)
+
+abbrev pub IsArgumentsBelow : ℕ → Option ℕ → Type 0
+IsArgumentsBelow n None = Unit {0}
+IsArgumentsBelow n (Some a) = a < n
+
+abbrev pub entry_at : List Entry → ℕ → Entry
+entry_at es i = get_or es i (record { node = Node.Absent; packs = None; is_open = false; is_empty = false; class = HeadClass.Known Head.Plain; arguments = None; returns = false; count = 0; run = 0 })
+
+-- What holds of the node at a place: all that is noted follows from its tree. A cell's run is how many of the nodes before it are
+-- the cells behind it, so that an element is found by a subtraction.
+pub record IsEntry (y : Table) (ts : List Term) (i : ℕ) (e : Entry) : Type 0 where
+  pub built : tree_at ts i ≡ tree_of y.bytes y.thunks ts e.node
+  pub below : IsBelow y.bytes (length y.thunks) i e.node
+  pub packs : e.packs ≡ pack_length (tree_at ts i)
+  pub free : e.is_open ≡ is_open (tree_at ts i)
+  pub empty : e.is_empty ≡ items.is_empty items.closed (tree_at ts i)
+  pub class : class_is ts e.class ≡ items.class_of (tree_at ts i)
+  pub class_below : IsClassBelow i e.class
+  pub arguments : arguments_are ts e.arguments ≡ arguments_of (tree_at ts i)
+  pub arguments_below : IsArgumentsBelow i e.arguments
+  pub returns : e.returns ≡ has_return_type (tree_at ts i)
+  pub counted : e.count ≡ count (tree_at ts i)
+  pub count_below : e.count ≤ i
+  pub runs : (k n : ℕ) → k < e.run → element (tree_at ts i) (suc k + n) ≡ element (tree_at ts (i - suc k)) n
+  pub run_below : e.run ≤ i
+
+-- The first three nodes are the absent tree, the empty list, and the pack of no elements.
+pub record IsTable (y : Table) : Type 0 where
+  pub fixed : 2 < length y.nodes
+  pub no_tree : tree_at (trees y) 0 ≡ term.absent
+  pub no_list : tree_at (trees y) 1 ≡ term.nil
+  pub no_elements : tree_at (trees y) 2 ≡ term.pack term.nil
+  pub adjusting : All (IsThunkWithin y.bytes) y.thunks
+  pub many : length (trees y) ≡ length y.nodes
+  pub each : (i : ℕ) → i < length y.nodes → IsEntry y (trees y) i (entry_at y.nodes i)
+
+-- ## One more node
+
+-- The node is made of what is there, and what is noted of it is what its tree would have.
+pub record IsNoted (y : Table) (e : Entry) : Type 0 where
+  pub below : IsBelow y.bytes (length y.thunks) (length y.nodes) e.node
+  pub packs : e.packs ≡ pack_length (tree_of y.bytes y.thunks (trees y) e.node)
+  pub free : e.is_open ≡ is_open (tree_of y.bytes y.thunks (trees y) e.node)
+  pub empty : e.is_empty ≡ items.is_empty items.closed (tree_of y.bytes y.thunks (trees y) e.node)
+  pub class : class_is (trees y) e.class ≡ items.class_of (tree_of y.bytes y.thunks (trees y) e.node)
+  pub class_below : IsClassBelow (length y.nodes) e.class
+  pub arguments : arguments_are (trees y) e.arguments ≡ arguments_of (tree_of y.bytes y.thunks (trees y) e.node)
+  pub arguments_below : IsArgumentsBelow (length y.nodes) e.arguments
+  pub returns : e.returns ≡ has_return_type (tree_of y.bytes y.thunks (trees y) e.node)
+  pub counted : e.count ≡ count (tree_of y.bytes y.thunks (trees y) e.node)
+  pub count_below : e.count ≤ length y.nodes
+  pub runs : (k n : ℕ) → k < e.run → element (tree_of y.bytes y.thunks (trees y) e.node) (suc k + n) ≡ element (tree_at (trees y) (length y.nodes - suc k)) n
+  pub run_below : e.run ≤ length y.nodes
+
+abbrev pub with_entry : Table → Entry → Table
+with_entry y e = record { bytes = y.bytes; nodes = y.nodes ++ e ∷ []; thunks = y.thunks }
+
+abbrev pub with_thunk : Table → Thunk → Table
+with_thunk y u = record { bytes = y.bytes; nodes = y.nodes; thunks = y.thunks ++ u ∷ [] }

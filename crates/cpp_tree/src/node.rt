@@ -1,0 +1,191 @@
+// The nodes of a symbol. A node names its parts by their numbers, which are smaller than its own.
+
+use sym_core::Span;
+
+/// What is said of a type or a function by const, volatile and restrict.
+#[derive(Clone, Copy)]
+pub struct Qualifiers {
+    pub restrict: bool,
+    pub volatile: bool,
+    pub const_: bool,
+}
+
+/// The mark on a function for & or &&.
+#[derive(Clone, Copy)]
+pub enum Mark {
+    Any,
+    Lvalue,
+    Rvalue,
+}
+
+/// A number with a sign. The digits have no zeros in front.
+#[derive(Clone, Copy)]
+pub struct Signed {
+    pub negative: bool,
+    pub digits: Span,
+}
+
+/// How a pointer is adjusted.
+#[derive(Clone, Copy)]
+pub enum Adjustment {
+    NonVirtual(Signed),
+    ByTable(Signed, Signed),
+}
+
+/// What a thunk adjusts.
+#[derive(Clone, Copy)]
+pub enum Thunk {
+    Adjusting(Adjustment),
+    Covariant(Adjustment, Adjustment),
+}
+
+/// A piece of a name. An operator is the number of its code.
+#[derive(Clone, Copy)]
+pub enum Piece {
+    Source { internal: bool, bytes: Span },
+    Operator(u8),
+    LiteralOperator(Span),
+    Constructor(u8),
+    Destructor(u8),
+    Lambda { parameters: u32, number: u64 },
+    Unnamed(u64),
+    StringLiteral,
+}
+
+/// A node, by the numbers of earlier nodes. A parameter stands with its argument. Builtin types, abbreviations and special names are
+/// the numbers of their codes, a thunk that of what it adjusts.
+#[derive(Clone, Copy)]
+pub enum Node {
+    Absent,
+    Nil,
+    Function {
+        name: u32,
+        qualifiers: Qualifiers,
+        mark: Mark,
+        returned: u32,
+        parameters: u32,
+    },
+    Object {
+        name: u32,
+        qualifiers: Qualifiers,
+        mark: Mark,
+    },
+    Special {
+        code: u8,
+        ty: u32,
+    },
+    Thunk {
+        thunk: u32,
+        encoding: u32,
+    },
+    Guard {
+        name: u32,
+        qualifiers: Qualifiers,
+        mark: Mark,
+    },
+    Alone(Piece),
+    InStd(Piece),
+    Within {
+        prefix: u32,
+        piece: Piece,
+    },
+    Instance {
+        template: u32,
+        arguments: u32,
+    },
+    Local {
+        encoding: u32,
+        entity: u32,
+        discriminator: Option<Span>,
+    },
+    Abbreviation(u8),
+    Parameter {
+        number: u32,
+        argument: u32,
+    },
+    Builtin(u8),
+    Vendor(Span),
+    Pointer(u32),
+    Lvalue(u32),
+    Rvalue(u32),
+    Array {
+        digits: Span,
+        element: u32,
+    },
+    MemberPointer {
+        class: u32,
+        member: u32,
+    },
+    FunctionType {
+        c_linkage: bool,
+        noexcept: bool,
+        mark: Mark,
+        returned: u32,
+        parameters: u32,
+    },
+    Qualified {
+        qualifiers: Qualifiers,
+        ty: u32,
+    },
+    Vector {
+        digits: Span,
+        element: u32,
+    },
+    Complex(u32),
+    Expansion(u32),
+    Integer {
+        ty: u32,
+        value: Signed,
+    },
+    Boolean(bool),
+    NullPointer,
+    EncodingLiteral(u32),
+    AddressOf(u32),
+    Pack(u32),
+    Cell {
+        first: u32,
+        rest: u32,
+    },
+    Whole {
+        encoding: u32,
+        suffix: Span,
+    },
+}
+
+/// The head of a type.
+#[derive(Clone, Copy)]
+pub enum Head {
+    Plain,
+    FunctionOrArray,
+    Lvalue,
+    Rvalue,
+}
+
+/// The head of a type as far as it doesn't depend on an index.
+#[derive(Clone, Copy)]
+pub enum HeadClass {
+    Known(Head),
+    OfElement(u32),
+    CollapsedOfElement(u32),
+}
+
+/// A node, and what is noted of its tree.
+#[derive(Clone, Copy)]
+pub struct Entry {
+    pub node: Node,
+    /// The length of the packs that its parameters name, if they name one.
+    pub packs: Option<u32>,
+    /// Whether it has free parameters.
+    pub is_open: bool,
+    /// Whether it prints nothing.
+    pub is_empty: bool,
+    pub class: HeadClass,
+    /// The arguments that a name ends in.
+    pub arguments: Option<u32>,
+    /// Whether a function of this name has its return type before its parameters.
+    pub returns: bool,
+    /// How many elements a list has.
+    pub count: u32,
+    /// How many of the nodes before a cell are the cells behind it, each before the next.
+    pub run: u32,
+}

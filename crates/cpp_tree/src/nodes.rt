@@ -1,0 +1,183 @@
+// A table of nodes, and what is noted of their trees.
+#![tactic(auto)]
+
+ghost use Rattle.std.specs.Prelude.{◌≡◌, ℕ, ◌+◌, ◌<◌, ◌≤◌, ◌^◌, ◌++◌, ◌∷◌, [], List, length, slice_get, None, false, IfOk, IfErr, OnOk, OnErr};
+ghost use Rattle.sym_core.specs.declared.Refusal.{Refusal};
+ghost use Rattle.cpp_tree.specs.Nodes.{over, tree_at, trees, tree_of, entry_at, IsBelow, IsThunkWithin, IsTable};
+ghost use Rattle.cpp_tree.specs.Notes.{noting, bare_entry};
+
+use crate::node::{Entry, Head, HeadClass, Node, Thunk};
+use std::alloc::Global;
+use std::marker::Model;
+use sym_core::Refusal;
+
+/// The nodes of a symbol, each behind its parts, and what its thunks adjust.
+#[derive(Drop)]
+pub struct Nodes {
+    pub(crate) entries: Vec<Entry>,
+    pub(crate) thunks: Vec<Thunk>,
+}
+
+impl Model for Nodes {
+    ghost use Rattle.cpp_tree.specs.Nodes.{Stored};
+
+    ghost Value = { Stored };
+
+    ghost view = { λ t. record { nodes = t.entries.items; thunks = t.thunks.items } };
+}
+
+/// The node where no tree is.
+pub const ABSENT: u32 = 0;
+
+/// The list of no elements.
+pub const NIL: u32 = 1;
+
+/// The pack of no elements.
+pub const NO_ELEMENTS: u32 = 2;
+
+/// A node of which nothing is noted.
+fn bare(node: Node, is_empty: bool) -> Entry
+    ensures { result ≡ bare_entry node is_empty }
+{
+    Entry {
+        node,
+        packs: None,
+        is_open: false,
+        is_empty,
+        class: HeadClass::Known(Head::Plain),
+        arguments: None,
+        returns: false,
+        count: 0,
+        run: 0,
+    }
+}
+
+impl Nodes {
+    /// A table of no nodes.
+    pub fn new(alloc: Global) -> Nodes
+        ensures nodes { result.nodes ≡ [] }
+        ensures thunks { result.thunks ≡ [] }
+    {
+        Nodes {
+            entries: Vec::new(alloc),
+            thunks: Vec::new(alloc),
+        }
+    }
+
+    /// Takes all nodes away, keeps their memory, and puts the three that each table begins with.
+    ///
+    /// # Errors
+    ///
+    /// `Memory` where the list couldn't grow.
+    pub fn begin(&mut self) -> Result<(), Refusal>
+        ensures table { OnOk result ((s : List ℕ) → IsTable (over s self.new)) }
+        ensures nodes { OnOk result (length self.new.nodes ≡ 3) }
+        ensures thunks { OnOk result (self.new.thunks ≡ []) }
+        ensures memory { IfErr result (λ e. e ≡ Refusal.Memory) }
+    {
+        self.entries.clear();
+        self.thunks.clear();
+        if self.entries.reserve(3).is_err() {
+            return Err(Refusal::Memory);
+        }
+        self.entries.push_reserved(bare(Node::Absent, false));
+        self.entries.push_reserved(bare(Node::Nil, true));
+        self.entries.push_reserved(bare(Node::Pack(NIL), true));
+        Ok(())
+    }
+
+    /// How many nodes there are.
+    #[inline(always)]
+    pub fn len(&self) -> usize
+        ensures { result ≡ length self.now.nodes }
+    {
+        self.entries.len()
+    }
+
+    /// A node, and what is noted of it.
+    #[inline(always)]
+    pub fn entry(&self, node: u32) -> Entry
+        requires { node < length self.now.nodes }
+        ensures { result ≡ entry_at self.now.nodes node }
+    {
+        self.entries[node as usize]
+    }
+
+    /// What a thunk adjusts, if there is one of this number.
+    pub fn thunk(&self, number: u32) -> Option<Thunk>
+        ensures { result ≡ slice_get self.now.thunks number }
+    {
+        match self.thunks.get(number as usize) {
+            Some(thunk) => Some(*thunk),
+            None => None,
+        }
+    }
+
+    /// A node, which is made of earlier ones.
+    #[inline(always)]
+    pub fn node(&self, symbol: &[u8], node: u32) -> Node
+        requires table { IsTable (over symbol.now self.now) }
+        requires node { node < length self.now.nodes }
+        ensures is { result ≡ (entry_at self.now.nodes node).node }
+        ensures tree { tree_at (trees (over symbol.now self.now)) node ≡ tree_of symbol.now self.now.thunks (trees (over symbol.now self.now)) result }
+        ensures below { IsBelow symbol.now (length self.now.thunks) node result }
+    {
+        self.entry(node).node
+    }
+
+    /// Adds a node, and answers its number. It stands for its production over its parts' trees, and earlier nodes for what they
+    /// stood for.
+    ///
+    /// # Errors
+    ///
+    /// `Memory` where the list couldn't grow.
+    pub fn push(&mut self, symbol: &[u8], node: Node) -> Result<u32, Refusal>
+        requires room { length self.old.nodes + 1 < 2 ^ 32 }
+        requires table { IsTable (over symbol.now self.old) }
+        requires below { IsBelow symbol.now (length self.old.thunks) (length self.old.nodes) node }
+        ensures table { IsTable (over symbol.now self.new) }
+        ensures number { IfOk result (λ number. number ≡ length self.old.nodes) }
+        ensures trees { OnOk result (trees (over symbol.now self.new) ≡ trees (over symbol.now self.old) ++ tree_of symbol.now self.old.thunks (trees (over symbol.now self.old)) node ∷ []) }
+        ensures tree { IfOk result (λ number. tree_at (trees (over symbol.now self.new)) number ≡ tree_of symbol.now self.old.thunks (trees (over symbol.now self.old)) node) }
+        ensures stays { (i : ℕ) → i < length self.old.nodes → tree_at (trees (over symbol.now self.new)) i ≡ tree_at (trees (over symbol.now self.old)) i }
+        ensures more { OnOk result (length self.new.nodes ≡ length self.old.nodes + 1) }
+        ensures few { length self.new.nodes ≤ length self.old.nodes + 1 }
+        ensures least { length self.old.nodes ≤ length self.new.nodes }
+        ensures thunks { self.new.thunks ≡ self.old.thunks }
+        ensures same { OnErr result (self.new ≡ self.old) }
+        ensures memory { IfErr result (λ e. e ≡ Refusal.Memory) }
+    {
+        let number = self.entries.len() as u32;
+        let entry = self.noted(symbol, node);
+        if self.entries.reserve(1).is_err() {
+            return Err(Refusal::Memory);
+        }
+        self.entries.push_reserved(entry);
+        Ok(number)
+    }
+
+    /// Notes what a thunk adjusts, and answers the number by which the thunk's node names it.
+    ///
+    /// # Errors
+    ///
+    /// `Memory` where the list couldn't grow.
+    pub fn push_thunk(&mut self, symbol: &[u8], thunk: Thunk) -> Result<u32, Refusal>
+        requires room { length self.old.thunks + 1 < 2 ^ 32 }
+        requires table { IsTable (over symbol.now self.old) }
+        requires within { IsThunkWithin symbol.now thunk }
+        ensures table { IsTable (over symbol.now self.new) }
+        ensures number { IfOk result (λ number. number ≡ length self.old.thunks) }
+        ensures thunks { OnOk result (self.new.thunks ≡ self.old.thunks ++ thunk ∷ []) }
+        ensures trees { trees (over symbol.now self.new) ≡ trees (over symbol.now self.old) }
+        ensures nodes { self.new.nodes ≡ self.old.nodes }
+        ensures same { OnErr result (self.new ≡ self.old) }
+        ensures memory { IfErr result (λ e. e ≡ Refusal.Memory) }
+    {
+        let number = self.thunks.len() as u32;
+        if self.thunks.reserve(1).is_err() {
+            return Err(Refusal::Memory);
+        }
+        self.thunks.push_reserved(thunk);
+        Ok(number)
+    }
+}
