@@ -49,7 +49,7 @@ module _ (s : List ℕ) (us : List Thunk) (ts : List Term) (t : Term) (i : ℕ) 
   unfolding tree_of
   node-stays (Node.Function name q m returned parameters) b = rw (early name b.0, early returned b.1, early parameters b.2) refl
   node-stays (Node.Object name q m) b = rw (early name b) refl
-  node-stays (Node.Special code x) b = rw (early x b.1) refl
+  node-stays (Node.Special letter x) b = rw (early x b) refl
   node-stays (Node.Thunk u e) b = rw (early e b.1) refl
   node-stays (Node.Guard name q m) b = rw (early name b) refl
   node-stays (Node.Alone p) b = rw (piece-stays p b) refl
@@ -76,8 +76,9 @@ module _ (s : List ℕ) (us : List Thunk) (ts : List Term) (t : Term) (i : ℕ) 
   node-stays (Node.Whole e suffix) b = rw (early e b.0) refl
   node-stays Node.Absent b = refl
   node-stays Node.Nil b = refl
-  node-stays (Node.Abbreviation code) b = refl
-  node-stays (Node.Builtin code) b = refl
+  node-stays (Node.Abbreviation letter) b = refl
+  node-stays (Node.Builtin letter) b = refl
+  node-stays (Node.BuiltinWithD letter) b = refl
   node-stays (Node.Vendor bytes) b = refl
   node-stays (Node.Boolean x) b = refl
   node-stays Node.NullPointer b = refl

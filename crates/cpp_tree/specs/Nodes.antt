@@ -3,7 +3,6 @@ use Rattle.std.specs.Prelude.{◌≡◌, ℕ, suc, ◌<◌, ◌≤◌, ◌-◌, 
 use Rattle.std.specs.List.{All}
 use Rattle.sym_core.specs.declared.Span.{Span}
 use Rattle.cpp_grammar.specs.Term as values
-use Rattle.cpp_grammar.specs.Texts.{Naming, builtin_texts, operator_texts, abbreviation_texts, special_texts}
 use Rattle.cpp_grammar.specs.Items as heads
 use Rattle.cpp_term.specs.Term as term
 use Rattle.cpp_term.specs.Term.{Term}
@@ -65,13 +64,6 @@ thunk_of s (Some (Thunk.Adjusting a)) = values.adjusting (adjustment_of s a)
 thunk_of s (Some (Thunk.Covariant a b)) = values.covariant (adjustment_of s a) (adjustment_of s b)
 thunk_of s None = values.adjusting (values.non_virtual (record { negative = false; digits = [] }))
 
--- the code of a number
-unfoldable pub code_in : List Naming → ℕ → List ℕ
-code_in names k = elim (slice_get names k) [ Some n ↦ n.code | None ↦ [] ]
-
-unfoldable pub letter_in : List Naming → ℕ → ℕ
-letter_in names k = get_or (code_in names k) 0 0
-
 abbrev pub discriminator_of : List ℕ → Option Span → Option (List ℕ)
 discriminator_of s None = None
 discriminator_of s (Some digits) = Some (bytes_at s digits)
@@ -80,20 +72,21 @@ discriminator_of s (Some digits) = Some (bytes_at s digits)
 
 unfoldable pub piece_of : List ℕ → List Term → Piece → Term
 piece_of s ts (Piece.Source internal bytes) = term.source internal (bytes_at s bytes)
-piece_of s ts (Piece.Operator k) = term.operator (letter_in operator_texts k) (get_or (code_in operator_texts k) 1 0)
+piece_of s ts (Piece.Operator first second) = term.operator first second
 piece_of s ts (Piece.LiteralOperator bytes) = term.literal_operator (bytes_at s bytes)
 piece_of s ts (Piece.Constructor digit) = term.constructor digit
 piece_of s ts (Piece.Destructor digit) = term.destructor digit
 piece_of s ts (Piece.Lambda parameters number) = term.lambda (tree_at ts parameters) number
 piece_of s ts (Piece.Unnamed number) = term.unnamed number
 piece_of s ts Piece.StringLiteral = term.string_literal
+piece_of s ts Piece.Absent = term.absent
 
 unfoldable pub tree_of : List ℕ → List Thunk → List Term → Node → Term
 tree_of s us ts Node.Absent = term.absent
 tree_of s us ts Node.Nil = term.nil
 tree_of s us ts (Node.Function name q m returned parameters) = term.function (tree_at ts name) (qualifiers_of q) (mark_of m) (tree_at ts returned) (tree_at ts parameters)
 tree_of s us ts (Node.Object name q m) = term.object (tree_at ts name) (qualifiers_of q) (mark_of m)
-tree_of s us ts (Node.Special code t) = term.special (letter_in special_texts code) (tree_at ts t)
+tree_of s us ts (Node.Special letter t) = term.special letter (tree_at ts t)
 tree_of s us ts (Node.Thunk u e) = term.thunk (thunk_of s (slice_get us u)) (tree_at ts e)
 tree_of s us ts (Node.Guard name q m) = term.guard (tree_at ts name) (qualifiers_of q) (mark_of m)
 tree_of s us ts (Node.Alone p) = term.alone (piece_of s ts p)
@@ -101,9 +94,10 @@ tree_of s us ts (Node.InStd p) = term.in_std (piece_of s ts p)
 tree_of s us ts (Node.Within prefix p) = term.within (tree_at ts prefix) (piece_of s ts p)
 tree_of s us ts (Node.Instance template arguments) = term.instance (tree_at ts template) (tree_at ts arguments)
 tree_of s us ts (Node.Local e entity d) = term.local (tree_at ts e) (tree_at ts entity) (discriminator_of s d)
-tree_of s us ts (Node.Abbreviation code) = term.abbreviation (letter_in abbreviation_texts code)
+tree_of s us ts (Node.Abbreviation letter) = term.abbreviation letter
 tree_of s us ts (Node.Parameter k a) = term.parameter k (tree_at ts a)
-tree_of s us ts (Node.Builtin code) = term.builtin (code_in builtin_texts code)
+tree_of s us ts (Node.Builtin letter) = term.builtin (letter ∷ [])
+tree_of s us ts (Node.BuiltinWithD letter) = term.builtin (68 ∷ letter ∷ [])
 tree_of s us ts (Node.Vendor bytes) = term.vendor (bytes_at s bytes)
 tree_of s us ts (Node.Pointer t) = term.pointer (tree_at ts t)
 tree_of s us ts (Node.Lvalue t) = term.lvalue (tree_at ts t)
@@ -135,7 +129,6 @@ trees y = trees_onto y.bytes y.thunks [] y.nodes
 
 abbrev pub IsPieceBelow : List ℕ → ℕ → Piece → Type 0
 IsPieceBelow s n (Piece.Source internal bytes) = IsWithin bytes s
-IsPieceBelow s n (Piece.Operator k) = k < 48
 IsPieceBelow s n (Piece.LiteralOperator bytes) = IsWithin bytes s
 IsPieceBelow s n (Piece.Lambda parameters number) = parameters < n
 IsPieceBelow s n _ = Unit {0}
@@ -148,7 +141,7 @@ IsSpan s (Some span) = IsWithin span s
 abbrev pub IsBelow : List ℕ → (held n : ℕ) → Node → Type 0
 IsBelow s held n (Node.Function name q m returned parameters) = (name < n) × (returned < n) × (parameters < n)
 IsBelow s held n (Node.Object name q m) = name < n
-IsBelow s held n (Node.Special code t) = (code < 4) × (t < n)
+IsBelow s held n (Node.Special letter t) = t < n
 IsBelow s held n (Node.Thunk u e) = (u < held) × (e < n)
 IsBelow s held n (Node.Guard name q m) = name < n
 IsBelow s held n (Node.Alone p) = IsPieceBelow s n p
@@ -156,9 +149,7 @@ IsBelow s held n (Node.InStd p) = IsPieceBelow s n p
 IsBelow s held n (Node.Within prefix p) = (prefix < n) × IsPieceBelow s n p
 IsBelow s held n (Node.Instance template arguments) = (template < n) × (arguments < n)
 IsBelow s held n (Node.Local e entity d) = (e < n) × (entity < n) × IsSpan s d
-IsBelow s held n (Node.Abbreviation code) = code < 6
 IsBelow s held n (Node.Parameter k a) = a < n
-IsBelow s held n (Node.Builtin code) = code < 27
 IsBelow s held n (Node.Vendor bytes) = IsWithin bytes s
 IsBelow s held n (Node.Pointer t) = t < n
 IsBelow s held n (Node.Lvalue t) = t < n

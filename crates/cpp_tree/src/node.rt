@@ -39,21 +39,22 @@ pub enum Thunk {
     Covariant(Adjustment, Adjustment),
 }
 
-/// A piece of a name. An operator is the number of its code.
+/// A piece of a name. An operator is the two letters of its code.
 #[derive(Clone, Copy)]
 pub enum Piece {
     Source { internal: bool, bytes: Span },
-    Operator(u8),
+    Operator(u8, u8),
     LiteralOperator(Span),
     Constructor(u8),
     Destructor(u8),
     Lambda { parameters: u32, number: u64 },
     Unnamed(u64),
     StringLiteral,
+    Absent,
 }
 
-/// A node, by the numbers of earlier nodes. A parameter stands with its argument. Builtin types, abbreviations and special names are
-/// the numbers of their codes, a thunk that of what it adjusts.
+/// A node, by the numbers of earlier nodes. A parameter stands with its argument. Builtin types, abbreviations and special names have
+/// the last letter of their codes, a thunk has the number of what it adjusts.
 #[derive(Clone, Copy)]
 pub enum Node {
     Absent,
@@ -71,7 +72,7 @@ pub enum Node {
         mark: Mark,
     },
     Special {
-        code: u8,
+        letter: u8,
         ty: u32,
     },
     Thunk {
@@ -104,6 +105,7 @@ pub enum Node {
         argument: u32,
     },
     Builtin(u8),
+    BuiltinWithD(u8),
     Vendor(Span),
     Pointer(u32),
     Lvalue(u32),
