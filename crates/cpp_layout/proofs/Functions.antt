@@ -1,0 +1,198 @@
+-- The parts of encodings.
+use Rattle.std.proofs.Common.{Option, None, Some, zero, suc, ◌≡◌, ℕ, ◌<◌, ◌≤◌, ◌+◌, List, [], ◌∷◌, ◌++◌, length, Bool, true, false, refl, sym, ap, subst, ◌∙◌, arith, append-nil}
+use Rattle.sym_print.specs.declared.layout.Part.{Part}
+use Rattle.sym_print.specs.declared.detail.Detail.{Detail}
+use Rattle.sym_print.specs.Unfold.{PartOf, text}
+use Rattle.cpp_grammar.specs.Items as heads
+use Rattle.cpp_term.specs.Items as items
+use Rattle.cpp_grammar.specs.Parts.{encoding_text, qualifier_text, is_below}
+use Rattle.cpp_term.specs.Parts.{as_item, list_part, text_part, function_bare, function_full, full_parts, bare_parts, root_parts, expand_parts, expand_rest, comma_before, at_index, types_of, function_right, qualified_right, right_parts, expansion_parts, first_parts, more_parts}
+use Rattle.cpp_term.specs.Term as term
+use Rattle.cpp_grammar.specs.Term as values
+use Rattle.cpp_term.specs.Term.{Term}
+use Rattle.cpp_layout.specs.declared.context.Context.{Context}
+use Rattle.cpp_tree.specs.Nodes.{Table, tree_of}
+use Rattle.cpp_tree.specs.declared.node.Node.{Node}
+use Rattle.cpp_tree.specs.declared.node.Mark.{Mark}
+use Rattle.cpp_tree.specs.declared.node.Qualifiers.{Qualifiers}
+use Rattle.sym_core.specs.declared.Span.{Span}
+use Rattle.cpp_tree.specs.declared.node.Thunk.{Thunk}
+use Rattle.cpp_layout.specs.Texts.{fixed_text, suffix_of}
+use Rattle.cpp_layout.specs.Layout.{Shows, text_if}
+use Rattle.cpp_layout.proofs.Growing.{So, shows-same, append-assoc}
+
+pub part-some : (b : List ℕ) (rest : List (PartOf items.Item)) → 0 < length b → text b ∷ rest ≡ text_part b ++ rest
+unfolding text_part
+part-some [] rest some = absurd (omega (arith, some))
+part-some (c ∷ cs) rest some = refl
+
+pub part-none : (b : List ℕ) (rest : List (PartOf items.Item)) → b ≡ [] → rest ≡ text_part b ++ rest
+unfolding text_part
+part-none b rest e = rw e refl
+
+pub suffix-there : (y : Table) (d : Detail) (parts : List (Part Context)) (t b : List ℕ) (so_far : So) → t ≡ b → 0 < length t → Shows y d parts (λ rest. so_far (text t ∷ rest)) → Shows y d parts (λ rest. so_far (text_part b ++ rest))
+suffix-there y d parts t b so_far e some shows = subst (λ x. Shows y d parts (λ rest. so_far (text_part x ++ rest))) e (shows-same y d parts (λ rest. so_far (text t ∷ rest)) (λ rest. so_far (text_part t ++ rest)) (λ rest. ap so_far (part-some t rest some)) shows)
+
+pub suffix-gone : (y : Table) (d : Detail) (parts : List (Part Context)) (n : ℕ) (b : List ℕ) (so_far : So) → n ≡ 38 → fixed_text n ≡ b → Shows y d parts so_far → Shows y d parts (λ rest. so_far (text_part b ++ rest))
+suffix-gone y d parts n b so_far e is shows = shows-same y d parts so_far (λ rest. so_far (text_part b ++ rest)) (λ rest. ap so_far (part-none b rest (sym is ∙ ap fixed_text e))) shows
+
+suffix-plain : (q : values.Qualifiers) (m : values.RefQualifier) → suffix_of q m false ≡ encoding_text q m
+unfolding suffix_of
+suffix-plain q m = append-nil (encoding_text q m)
+
+module _ (name : Term) (q : values.Qualifiers) (m : values.RefQualifier) (parameters : Term) where
+  pub bare-whole : as_item heads.left items.closed name ∷ text (fixed_text 2) ∷ (list_part heads.first items.closed parameters ++ (text (fixed_text 3) ∷ (text_part (suffix_of q m false) ++ []))) ≡ function_bare name q m parameters
+  unfolding function_bare types_of
+  bare-whole = ap (λ l. as_item heads.left items.closed name ∷ text (fixed_text 2) ∷ (list_part heads.first items.closed parameters ++ (text (fixed_text 3) ∷ l)))
+      (append-nil (text_part (suffix_of q m false)) ∙ ap text_part (suffix-plain q m))
+
+  returning : (r : Term) → as_item heads.left items.closed r ∷ text (fixed_text 4) ∷ as_item heads.left items.closed name ∷ text (fixed_text 2) ∷ (list_part heads.first items.closed parameters ++ (text (fixed_text 3) ∷ (text_part (suffix_of q m false) ++ (as_item heads.right items.closed r ∷ []))))
+      ≡ as_item heads.left items.closed r ∷ text (fixed_text 4) ∷ (function_bare name q m parameters ++ (as_item heads.right items.closed r ∷ []))
+  unfolding function_bare types_of
+  returning r = ap (λ l. as_item heads.left items.closed r ∷ text (fixed_text 4) ∷ as_item heads.left items.closed name ∷ text (fixed_text 2) ∷ l)
+      (ap (λ s. list_part heads.first items.closed parameters ++ (text (fixed_text 3) ∷ (text_part s ++ (as_item heads.right items.closed r ∷ [])))) (suffix-plain q m)
+      ∙ sym (append-assoc (list_part heads.first items.closed parameters) (text (fixed_text 3) ∷ text_part (encoding_text q m)) (as_item heads.right items.closed r ∷ [])))
+
+  pub full-whole : (r : Term) → (r ≡ term.absent → ⊥) → as_item heads.left items.closed r ∷ text (fixed_text 4) ∷ as_item heads.left items.closed name ∷ text (fixed_text 2) ∷ (list_part heads.first items.closed parameters ++ (text (fixed_text 3) ∷ (text_part (suffix_of q m false) ++ (as_item heads.right items.closed r ∷ []))))
+      ≡ function_full name q m r parameters
+  unfolding function_full types_of
+  full-whole term.absent there = absurd (there refl)
+  full-whole r there = returning r
+
+module _ (c : items.Context) (q : values.Qualifiers) (m : values.RefQualifier) (n : Bool) (r parameters : Term) where
+  pub right-whole : text (fixed_text 2) ∷ (list_part heads.first c parameters ++ (text (fixed_text 3) ∷ (text_part (suffix_of q m n) ++ (as_item heads.right c r ∷ [])))) ≡ function_right c (qualifier_text q) m n r parameters
+  unfolding function_right suffix_of encoding_text
+  right-whole = ap (λ l. text (fixed_text 2) ∷ l) (sym (append-assoc (list_part heads.first c parameters) (text (fixed_text 3) ∷ text_part (suffix_of q m n)) (as_item heads.right c r ∷ [])))
+
+pub qualified-function : (c : items.Context) (q : values.Qualifiers) (t : Term) (l n : Bool) (m : values.RefQualifier) (r p : Term) → t ≡ term.function_type l n m r p → function_right c (qualifier_text q) m n r p ≡ qualified_right c q t
+unfolding qualified_right
+qualified-function c q t l n m r p e = rw e refl
+
+other-node : (s : List ℕ) (us : List Thunk) (ts : List Term) (c : items.Context) (q : values.Qualifiers) (k : Node) → ((l n : Bool) (m : Mark) (r p : ℕ) → k ≡ Node.FunctionType l n m r p → ⊥) → as_item heads.right c (tree_of s us ts k) ∷ [] ≡ qualified_right c q (tree_of s us ts k)
+unfolding tree_of qualified_right
+other-node s us ts c q (Node.FunctionType l n m r p) other = absurd (other l n m r p refl)
+other-node s us ts c q _ other = refl
+
+pub qualified-other : (s : List ℕ) (us : List Thunk) (ts : List Term) (c : items.Context) (q : values.Qualifiers) (k : Node) (t : Term) → t ≡ tree_of s us ts k → ((l n : Bool) (m : Mark) (r p : ℕ) → k ≡ Node.FunctionType l n m r p → ⊥) → as_item heads.right c t ∷ [] ≡ qualified_right c q t
+qualified-other s us ts c q k t e other = subst (λ u. as_item heads.right c u ∷ [] ≡ qualified_right c q u) (sym e) (other-node s us ts c q k other)
+
+right-none-of : (s : List ℕ) (us : List Thunk) (ts : List Term) (c : items.Context) (n : Node) → ((t : ℕ) → n ≡ Node.Pointer t → ⊥) → ((t : ℕ) → n ≡ Node.Lvalue t → ⊥) → ((t : ℕ) → n ≡ Node.Rvalue t → ⊥) → ((k : ℕ) (t : ℕ) → n ≡ Node.MemberPointer k t → ⊥) → ((g : Span) (t : ℕ) → n ≡ Node.Array g t → ⊥) → ((q : Qualifiers) (t : ℕ) → n ≡ Node.Qualified q t → ⊥) → ((g : Span) (t : ℕ) → n ≡ Node.Vector g t → ⊥) → ((t : ℕ) → n ≡ Node.Complex t → ⊥) → ((k : ℕ) (a : ℕ) → n ≡ Node.Parameter k a → ⊥) → ((l : Bool) (e : Bool) (m : Mark) (r : ℕ) (p : ℕ) → n ≡ Node.FunctionType l e m r p → ⊥) → [] ≡ right_parts c (tree_of s us ts n)
+unfolding tree_of right_parts
+right-none-of s us ts c (Node.Pointer t) h0 h1 h2 h3 h4 h5 h6 h7 h8 h9 = absurd (h0 t refl)
+right-none-of s us ts c (Node.Lvalue t) h0 h1 h2 h3 h4 h5 h6 h7 h8 h9 = absurd (h1 t refl)
+right-none-of s us ts c (Node.Rvalue t) h0 h1 h2 h3 h4 h5 h6 h7 h8 h9 = absurd (h2 t refl)
+right-none-of s us ts c (Node.MemberPointer k t) h0 h1 h2 h3 h4 h5 h6 h7 h8 h9 = absurd (h3 k t refl)
+right-none-of s us ts c (Node.Array g t) h0 h1 h2 h3 h4 h5 h6 h7 h8 h9 = absurd (h4 g t refl)
+right-none-of s us ts c (Node.Qualified q t) h0 h1 h2 h3 h4 h5 h6 h7 h8 h9 = absurd (h5 q t refl)
+right-none-of s us ts c (Node.Vector g t) h0 h1 h2 h3 h4 h5 h6 h7 h8 h9 = absurd (h6 g t refl)
+right-none-of s us ts c (Node.Complex t) h0 h1 h2 h3 h4 h5 h6 h7 h8 h9 = absurd (h7 t refl)
+right-none-of s us ts c (Node.Parameter k a) h0 h1 h2 h3 h4 h5 h6 h7 h8 h9 = absurd (h8 k a refl)
+right-none-of s us ts c (Node.FunctionType l e m r p) h0 h1 h2 h3 h4 h5 h6 h7 h8 h9 = absurd (h9 l e m r p refl)
+right-none-of s us ts c _ h0 h1 h2 h3 h4 h5 h6 h7 h8 h9 = refl
+
+pub right-none : (s : List ℕ) (us : List Thunk) (ts : List Term) (c : items.Context) (n : Node) (t : Term) → t ≡ tree_of s us ts n → ((t : ℕ) → n ≡ Node.Pointer t → ⊥) → ((t : ℕ) → n ≡ Node.Lvalue t → ⊥) → ((t : ℕ) → n ≡ Node.Rvalue t → ⊥) → ((k : ℕ) (t : ℕ) → n ≡ Node.MemberPointer k t → ⊥) → ((g : Span) (t : ℕ) → n ≡ Node.Array g t → ⊥) → ((q : Qualifiers) (t : ℕ) → n ≡ Node.Qualified q t → ⊥) → ((g : Span) (t : ℕ) → n ≡ Node.Vector g t → ⊥) → ((t : ℕ) → n ≡ Node.Complex t → ⊥) → ((k : ℕ) (a : ℕ) → n ≡ Node.Parameter k a → ⊥) → ((l : Bool) (e : Bool) (m : Mark) (r : ℕ) (p : ℕ) → n ≡ Node.FunctionType l e m r p → ⊥) → [] ≡ right_parts c t
+right-none s us ts c n t is h0 h1 h2 h3 h4 h5 h6 h7 h8 h9 = right-none-of s us ts c n h0 h1 h2 h3 h4 h5 h6 h7 h8 h9 ∙ ap (λ u. right_parts c u) (sym is)
+
+-- ## Expansions
+
+module _ (c : items.Context) (p : Term) (o : Option ℕ) where
+  pub expansion-none : o ≡ None → as_item heads.left c p ∷ as_item heads.right c p ∷ text (fixed_text 1) ∷ [] ≡ expansion_parts c p o
+  unfolding expansion_parts
+  expansion-none e = rw e refl
+
+  pub expansion-zero : (m : ℕ) → m ≡ 0 → o ≡ Some m → [] ≡ expansion_parts c p o
+  unfolding expansion_parts
+  expansion-zero m z e = rw (e, z) refl
+
+  pub expansion-more : (m : ℕ) → 0 < m → o ≡ Some m → as_item (heads.expand 0) c p ∷ [] ≡ expansion_parts c p o
+  unfolding expansion_parts
+  expansion-more zero more e = absurd (omega (arith, more))
+  expansion-more (suc m) more e = rw e refl
+
+-- ## No lists
+
+first-other-of : (s : List ℕ) (us : List Thunk) (ts : List Term) (c : items.Context) (n : Node) → ((e r : ℕ) → n ≡ Node.Cell e r → ⊥) → [] ≡ first_parts c (tree_of s us ts n)
+unfolding tree_of first_parts
+first-other-of s us ts c (Node.Cell e r) other = absurd (other e r refl)
+first-other-of s us ts c _ other = refl
+
+pub first-other : (s : List ℕ) (us : List Thunk) (ts : List Term) (c : items.Context) (n : Node) (t : Term) → t ≡ tree_of s us ts n → ((e r : ℕ) → n ≡ Node.Cell e r → ⊥) → [] ≡ first_parts c t
+first-other s us ts c n t is other = first-other-of s us ts c n other ∙ ap (λ u. first_parts c u) (sym is)
+
+more-other-of : (s : List ℕ) (us : List Thunk) (ts : List Term) (c : items.Context) (n : Node) → ((e r : ℕ) → n ≡ Node.Cell e r → ⊥) → [] ≡ more_parts c (tree_of s us ts n)
+unfolding tree_of more_parts
+more-other-of s us ts c (Node.Cell e r) other = absurd (other e r refl)
+more-other-of s us ts c _ other = refl
+
+pub more-other : (s : List ℕ) (us : List Thunk) (ts : List Term) (c : items.Context) (n : Node) (t : Term) → t ≡ tree_of s us ts n → ((e r : ℕ) → n ≡ Node.Cell e r → ⊥) → [] ≡ more_parts c t
+more-other s us ts c n t is other = more-other-of s us ts c n other ∙ ap (λ u. more_parts c u) (sym is)
+
+-- ## Encodings
+
+pub object-whole : (guard : Bool) (i : PartOf items.Item) (q : values.Qualifiers) (m : values.RefQualifier) → text_if guard (fixed_text 22) (i ∷ (text_part (suffix_of q m false) ++ [])) ≡ text_if guard (fixed_text 22) (i ∷ text_part (encoding_text q m))
+object-whole guard i q m = ap (λ l. text_if guard (fixed_text 22) (i ∷ l)) (append-nil (text_part (suffix_of q m false)) ∙ ap text_part (suffix-plain q m))
+
+pub function-absent : (name : Term) (q : values.Qualifiers) (m : values.RefQualifier) (t parameters : Term) → t ≡ term.absent → function_bare name q m parameters ≡ function_full name q m t parameters
+unfolding function_full
+function-absent name q m t parameters is = rw is refl
+
+not-absent-node : (s : List ℕ) (us : List Thunk) (ts : List Term) (n : Node) → (n ≡ Node.Absent → ⊥) → tree_of s us ts n ≡ term.absent → ⊥
+unfolding tree_of
+not-absent-node s us ts Node.Absent other e = other refl
+not-absent-node s us ts _ other e = cc e
+
+pub not-absent : (s : List ℕ) (us : List Thunk) (ts : List Term) (n : Node) (t : Term) → t ≡ tree_of s us ts n → (n ≡ Node.Absent → ⊥) → t ≡ term.absent → ⊥
+not-absent s us ts n t is other e = not-absent-node s us ts n other (sym is ∙ e)
+
+pub full-none : (s : List ℕ) (us : List Thunk) (ts : List Term) (n : Node) (t : Term) → t ≡ tree_of s us ts n → ((a : ℕ) (q : Qualifiers) (m : Mark) (b d : ℕ) → n ≡ Node.Function a q m b d → ⊥) → ((a : ℕ) (q : Qualifiers) (m : Mark) → n ≡ Node.Object a q m → ⊥) → ((k a : ℕ) → n ≡ Node.Special k a → ⊥)
+    → ((k a : ℕ) → n ≡ Node.Thunk k a → ⊥) → ((a : ℕ) (q : Qualifiers) (m : Mark) → n ≡ Node.Guard a q m → ⊥) → [] ≡ full_parts t
+unfolding tree_of full_parts
+full-none s us ts n t is h1 h2 h3 h4 h5 = by n h1 h2 h3 h4 h5 ∙ ap full_parts (sym is)
+  where
+    by : (n : Node) → ((a : ℕ) (q : Qualifiers) (m : Mark) (b d : ℕ) → n ≡ Node.Function a q m b d → ⊥) → ((a : ℕ) (q : Qualifiers) (m : Mark) → n ≡ Node.Object a q m → ⊥) → ((k a : ℕ) → n ≡ Node.Special k a → ⊥)
+        → ((k a : ℕ) → n ≡ Node.Thunk k a → ⊥) → ((a : ℕ) (q : Qualifiers) (m : Mark) → n ≡ Node.Guard a q m → ⊥) → [] ≡ full_parts (tree_of s us ts n)
+    by (Node.Function a q m b d) h1 h2 h3 h4 h5 = absurd (h1 a q m b d refl)
+    by (Node.Object a q m) h1 h2 h3 h4 h5 = absurd (h2 a q m refl)
+    by (Node.Special k a) h1 h2 h3 h4 h5 = absurd (h3 k a refl)
+    by (Node.Thunk k a) h1 h2 h3 h4 h5 = absurd (h4 k a refl)
+    by (Node.Guard a q m) h1 h2 h3 h4 h5 = absurd (h5 a q m refl)
+    by _ h1 h2 h3 h4 h5 = refl
+
+pub bare-other : (s : List ℕ) (us : List Thunk) (ts : List Term) (n : Node) (t : Term) → t ≡ tree_of s us ts n → ((a : ℕ) (q : Qualifiers) (m : Mark) (b d : ℕ) → n ≡ Node.Function a q m b d → ⊥) → full_parts t ≡ bare_parts t
+unfolding tree_of bare_parts
+bare-other s us ts n t is other = ap full_parts is ∙ by n other ∙ ap bare_parts (sym is)
+  where
+    by : (n : Node) → ((a : ℕ) (q : Qualifiers) (m : Mark) (b d : ℕ) → n ≡ Node.Function a q m b d → ⊥) → full_parts (tree_of s us ts n) ≡ bare_parts (tree_of s us ts n)
+    by (Node.Function a q m b d) h = absurd (h a q m b d refl)
+    by _ h = refl
+
+pub root-plain : (e : Term) (suffix : List ℕ) → suffix ≡ [] → as_item heads.full items.closed e ∷ [] ≡ root_parts (term.symbol e suffix)
+unfolding root_parts
+root-plain e suffix is = rw is refl
+
+pub root-suffix : (e : Term) (suffix : List ℕ) → 0 < length suffix → as_item heads.full items.closed e ∷ text (fixed_text 23) ∷ text suffix ∷ text (fixed_text 3) ∷ [] ≡ root_parts (term.symbol e suffix)
+unfolding root_parts
+root-suffix e [] some = absurd (omega (arith, some))
+root-suffix e (b ∷ bs) some = refl
+
+pub root-none : (s : List ℕ) (us : List Thunk) (ts : List Term) (n : Node) (t : Term) → t ≡ tree_of s us ts n → ((e : ℕ) (b : Span) → n ≡ Node.Whole e b → ⊥) → [] ≡ root_parts t
+unfolding tree_of root_parts
+root-none s us ts n t is other = by n other ∙ ap root_parts (sym is)
+  where
+    by : (n : Node) → ((e : ℕ) (b : Span) → n ≡ Node.Whole e b → ⊥) → [] ≡ root_parts (tree_of s us ts n)
+    by (Node.Whole e b) h = absurd (h e b refl)
+    by _ h = refl
+
+-- ## Elements of an expansion
+
+pub expand-more : (c : items.Context) (p : Term) (at : ℕ) (b : Bool) → (0 < at → b ≡ true) → (at ≤ 0 → b ≡ false) → is_below (at + 1) (items.packs_of c p) ≡ true
+    → text_if b (fixed_text 0) (as_item heads.left (record { index = Some at }) p ∷ as_item heads.right (record { index = Some at }) p ∷ as_item (heads.expand (at + 1)) c p ∷ []) ≡ expand_parts c p at
+unfolding expand_parts expand_rest comma_before at_index
+expand-more c p zero b so not e = rw (not (omega arith), expand_rest, e) refl
+expand-more c p (suc at) b so not e = rw (so (omega arith), expand_rest, e) refl
+
+pub expand-last : (c : items.Context) (p : Term) (at : ℕ) (b : Bool) → (0 < at → b ≡ true) → (at ≤ 0 → b ≡ false) → is_below (at + 1) (items.packs_of c p) ≡ false
+    → text_if b (fixed_text 0) (as_item heads.left (record { index = Some at }) p ∷ as_item heads.right (record { index = Some at }) p ∷ []) ≡ expand_parts c p at
+unfolding expand_parts expand_rest comma_before at_index
+expand-last c p zero b so not e = rw (not (omega arith), expand_rest, e) refl
+expand-last c p (suc at) b so not e = rw (so (omega arith), expand_rest, e) refl

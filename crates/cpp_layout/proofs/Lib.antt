@@ -1,0 +1,8 @@
+pub mod Growing
+pub mod Suffixes
+pub mod Deciding
+pub mod Functions
+pub mod Coding
+pub mod Naming
+pub mod Typing
+pub mod Printing

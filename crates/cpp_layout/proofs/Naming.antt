@@ -1,0 +1,166 @@
+-- The parts of names.
+use Rattle.std.proofs.Common.{◌≡◌, refl, sym, ◌∙◌, ap, subst, ℕ, List, [], ◌∷◌, ◌++◌, Bool, true, false, nat_eq, ◌&&◌, ◌||◌, cond, codes, decimal, if◌then◌else◌, Option}
+use Rattle.std.specs.List.{starts_with}
+use Rattle.sym_core.specs.declared.Span.{Span}
+use Rattle.sym_print.specs.Unfold.{text}
+use Rattle.sym_print.specs.declared.detail.Detail.TheVariants.{Full, Brief}
+use Rattle.cpp_grammar.specs.Parts.{begins_with, source_text}
+use Rattle.cpp_grammar.specs.Items as heads
+use Rattle.cpp_grammar.specs.Texts.{same_bytes}
+use Rattle.cpp_term.specs.Term as term
+use Rattle.cpp_term.specs.Term.{Term}
+use Rattle.cpp_term.specs.Items as items
+use Rattle.cpp_term.specs.Parts.{as_item, list_part, piece_parts, prefix_item, within_parts, base_within, opening_text, last_piece, instance_parts}
+use Rattle.cpp_tree.specs.declared.node.Piece.{Piece}
+use Rattle.cpp_tree.specs.declared.node.Node.{Node}
+use Rattle.cpp_tree.specs.declared.node.Thunk.{Thunk}
+use Rattle.cpp_tree.specs.Nodes.{tree_of, piece_of}
+use Rattle.cpp_layout.specs.Texts.{fixed_text}
+use Rattle.cpp_layout.specs.Layout.{is_encoding}
+
+pub begins : (xs ys : List ℕ) → begins_with xs ys ≡ starts_with nat_eq ys xs
+unfolding begins_with
+begins [] ys = refl
+begins (x ∷ xs) [] = refl
+begins (x ∷ xs) (y ∷ ys) = ap (λ b. nat_eq x y && b) (begins xs ys)
+
+pub source-anonymous : (name : List ℕ) → begins_with (codes "_GLOBAL__N") name ≡ true → fixed_text 36 ≡ source_text name
+unfolding source_text
+source-anonymous name e = rw (source_text, e) refl
+
+pub source-plain : (name : List ℕ) → begins_with (codes "_GLOBAL__N") name ≡ false → name ≡ source_text name
+unfolding source_text
+source-plain name e = rw (source_text, e) refl
+
+-- ## Operators
+
+abbrev is_angle : (a b : ℕ) → Bool
+is_angle a b = same_bytes (a ∷ b ∷ []) (codes "ls") || same_bytes (a ∷ b ∷ []) (codes "lt")
+
+pub angle-other : (a b : ℕ) → nat_eq a 108 ≡ false → false ≡ is_angle a b
+unfolding same_bytes
+angle-other a b e = rw (same_bytes, e) refl
+
+pub angle-left : (a b : ℕ) → a ≡ 108 → b ≡ 115 → true ≡ is_angle a b
+unfolding same_bytes
+angle-left a b e f = rw (e, f) refl
+
+and-true : (b : Bool) → b ≡ b && true
+and-true true = refl
+and-true false = refl
+
+pub angle-less : (a b : ℕ) → a ≡ 108 → nat_eq b 115 ≡ false → nat_eq b 116 ≡ is_angle a b
+unfolding same_bytes
+angle-less a b e f = rw (e, same_bytes, f) (and-true (nat_eq b 116))
+
+angle-text : (r : Bool) → fixed_text (if r then 28 else 27) ≡ cond r (codes " <") (codes "<")
+angle-text true = refl
+angle-text false = refl
+
+pub angle-is : (s : List ℕ) (ts : List Term) (p : Piece) (a b : ℕ) (r : Bool) → p ≡ Piece.Operator a b → r ≡ is_angle a b → fixed_text (if r then 28 else 27) ≡ opening_text (piece_of s ts p)
+unfolding piece_of opening_text
+angle-is s ts p a b r is e = subst (λ q. fixed_text (if r then 28 else 27) ≡ opening_text (piece_of s ts q)) (sym is) (angle-text r ∙ ap (λ x. cond x (codes " <") (codes "<")) e)
+
+pub no-angle : (s : List ℕ) (ts : List Term) (p : Piece) → ((a b : ℕ) → p ≡ Piece.Operator a b → ⊥) → fixed_text 27 ≡ opening_text (piece_of s ts p)
+unfolding piece_of opening_text
+no-angle s ts (Piece.Operator a b) other = absurd (other a b refl)
+no-angle s ts _ other = refl
+
+-- ## Pieces
+
+pub lambda-whole : (c : items.Context) (parameters : Term) (number : ℕ) → text (fixed_text 31) ∷ (list_part heads.first c parameters ++ (text (fixed_text 32) ∷ text (decimal number) ∷ text (fixed_text 33) ∷ [])) ≡ piece_parts c (term.lambda parameters number)
+unfolding piece_parts
+lambda-whole c parameters number = refl
+
+pub unnamed-whole : (c : items.Context) (number : ℕ) → text (fixed_text 34) ∷ text (decimal number) ∷ text (fixed_text 33) ∷ [] ≡ piece_parts c (term.unnamed number)
+unfolding piece_parts
+unnamed-whole c number = refl
+
+pub literal-whole : (c : items.Context) (name : List ℕ) → text (fixed_text 30) ∷ text name ∷ [] ≡ piece_parts c (term.literal_operator name)
+unfolding piece_parts
+literal-whole c name = refl
+
+pub source-whole : (c : items.Context) (internal : Bool) (name : List ℕ) → text (source_text name) ∷ [] ≡ piece_parts c (term.source internal name)
+unfolding piece_parts
+source-whole c internal name = refl
+
+pub piece-none : (s : List ℕ) (ts : List Term) (c : items.Context) (p : Piece) → ((i : Bool) (b : Span) → p ≡ Piece.Source i b → ⊥) → ((a b : ℕ) → p ≡ Piece.Operator a b → ⊥) → ((b : Span) → p ≡ Piece.LiteralOperator b → ⊥)
+    → ((a n : ℕ) → p ≡ Piece.Lambda a n → ⊥) → ((n : ℕ) → p ≡ Piece.Unnamed n → ⊥) → (p ≡ Piece.StringLiteral → ⊥) → [] ≡ piece_parts c (piece_of s ts p)
+unfolding piece_of piece_parts
+piece-none s ts c (Piece.Source i b) h1 h2 h3 h4 h5 h6 = absurd (h1 i b refl)
+piece-none s ts c (Piece.Operator a b) h1 h2 h3 h4 h5 h6 = absurd (h2 a b refl)
+piece-none s ts c (Piece.LiteralOperator b) h1 h2 h3 h4 h5 h6 = absurd (h3 b refl)
+piece-none s ts c (Piece.Lambda a n) h1 h2 h3 h4 h5 h6 = absurd (h4 a n refl)
+piece-none s ts c (Piece.Unnamed n) h1 h2 h3 h4 h5 h6 = absurd (h5 n refl)
+piece-none s ts c Piece.StringLiteral h1 h2 h3 h4 h5 h6 = absurd (h6 refl)
+piece-none s ts c _ h1 h2 h3 h4 h5 h6 = refl
+
+pub base-other : (s : List ℕ) (ts : List Term) (c : items.Context) (prefix : Term) (p : Piece) → ((d : ℕ) → p ≡ Piece.Constructor d → ⊥) → ((d : ℕ) → p ≡ Piece.Destructor d → ⊥) → piece_parts c (piece_of s ts p) ≡ base_within c prefix (piece_of s ts p)
+unfolding piece_of base_within
+base-other s ts c prefix (Piece.Constructor d) h1 h2 = absurd (h1 d refl)
+base-other s ts c prefix (Piece.Destructor d) h1 h2 = absurd (h2 d refl)
+base-other s ts c prefix _ h1 h2 = refl
+
+-- ## Prefixes
+
+pub prefix-encoding : (s : List ℕ) (us : List Thunk) (ts : List Term) (c : items.Context) (n : Node) (t : Term) → t ≡ tree_of s us ts n → is_encoding n ≡ true → as_item heads.bare items.closed t ≡ prefix_item c t
+unfolding tree_of prefix_item is_encoding
+prefix-encoding s us ts c n t is e = subst (λ u. as_item heads.bare items.closed u ≡ prefix_item c u) (sym is) (by n e)
+  where
+    by : (n : Node) → is_encoding n ≡ true → as_item heads.bare items.closed (tree_of s us ts n) ≡ prefix_item c (tree_of s us ts n)
+    by (Node.Function a q m b d) e = refl
+    by (Node.Object a q m) e = refl
+    by (Node.Special k a) e = refl
+    by (Node.Thunk k a) e = refl
+    by (Node.Guard a q m) e = refl
+    by _ e = cc e
+
+pub prefix-other : (s : List ℕ) (us : List Thunk) (ts : List Term) (c : items.Context) (n : Node) (t : Term) → t ≡ tree_of s us ts n → is_encoding n ≡ false → as_item heads.left c t ≡ prefix_item c t
+unfolding tree_of prefix_item is_encoding
+prefix-other s us ts c n t is e = subst (λ u. as_item heads.left c u ≡ prefix_item c u) (sym is) (by n e)
+  where
+    by : (n : Node) → is_encoding n ≡ false → as_item heads.left c (tree_of s us ts n) ≡ prefix_item c (tree_of s us ts n)
+    by (Node.Function a q m b d) e = cc e
+    by (Node.Object a q m) e = cc e
+    by (Node.Special k a) e = cc e
+    by (Node.Thunk k a) e = cc e
+    by (Node.Guard a q m) e = cc e
+    by _ e = refl
+
+pub within-other : (s : List ℕ) (ts : List Term) (c : items.Context) (prefix t : Term) (p : Piece) → t ≡ piece_of s ts p → ((d : ℕ) → p ≡ Piece.Constructor d → ⊥) → ((d : ℕ) → p ≡ Piece.Destructor d → ⊥)
+    → prefix_item c prefix ∷ text (fixed_text 5) ∷ as_item heads.piece c t ∷ [] ≡ within_parts c prefix (piece_of s ts p)
+unfolding piece_of within_parts
+within-other s ts c prefix t (Piece.Constructor d) is h1 h2 = absurd (h1 d refl)
+within-other s ts c prefix t (Piece.Destructor d) is h1 h2 = absurd (h2 d refl)
+within-other s ts c prefix t (Piece.Source i b) is h1 h2 = rw is refl
+within-other s ts c prefix t (Piece.Operator a b) is h1 h2 = rw is refl
+within-other s ts c prefix t (Piece.LiteralOperator b) is h1 h2 = rw is refl
+within-other s ts c prefix t (Piece.Lambda a n) is h1 h2 = rw is refl
+within-other s ts c prefix t (Piece.Unnamed n) is h1 h2 = rw is refl
+within-other s ts c prefix t Piece.StringLiteral is h1 h2 = rw is refl
+within-other s ts c prefix t Piece.Absent is h1 h2 = rw is refl
+
+-- ## The last piece
+
+pub last-none : (s : List ℕ) (us : List Thunk) (ts : List Term) (n : Node) (t : Term) → t ≡ tree_of s us ts n
+    → ((p : Piece) → n ≡ Node.Alone p → ⊥) → ((p : Piece) → n ≡ Node.InStd p → ⊥) → ((a : ℕ) (p : Piece) → n ≡ Node.Within a p → ⊥) → ((e a : ℕ) (d : Option Span) → n ≡ Node.Local e a d → ⊥) → fixed_text 27 ≡ opening_text (last_piece t)
+unfolding tree_of last_piece opening_text
+last-none s us ts n t is h1 h2 h3 h4 = other n h1 h2 h3 h4 ∙ ap (λ u. opening_text (last_piece u)) (sym is)
+  where
+    other : (n : Node) → ((p : Piece) → n ≡ Node.Alone p → ⊥) → ((p : Piece) → n ≡ Node.InStd p → ⊥) → ((a : ℕ) (p : Piece) → n ≡ Node.Within a p → ⊥) → ((e a : ℕ) (d : Option Span) → n ≡ Node.Local e a d → ⊥) → fixed_text 27 ≡ opening_text (last_piece (tree_of s us ts n))
+    other (Node.Alone p) h1 h2 h3 h4 = absurd (h1 p refl)
+    other (Node.InStd p) h1 h2 h3 h4 = absurd (h2 p refl)
+    other (Node.Within a p) h1 h2 h3 h4 = absurd (h3 a p refl)
+    other (Node.Local e a d) h1 h2 h3 h4 = absurd (h4 e a d refl)
+    other _ h1 h2 h3 h4 = refl
+
+pub last-there : (t p : Term) → last_piece t ≡ p → (n : ℕ) → fixed_text n ≡ opening_text p → fixed_text n ≡ opening_text (last_piece t)
+last-there t p is n e = e ∙ ap opening_text (sym is)
+
+pub instance-whole : (c : items.Context) (t a : Term) (n : ℕ) → fixed_text n ≡ opening_text (last_piece t) → as_item heads.left c t ∷ text (fixed_text n) ∷ (list_part heads.first c a ++ (text (fixed_text 29) ∷ [])) ≡ instance_parts Full c t a
+unfolding instance_parts
+instance-whole c t a n e = ap (λ o. as_item heads.left c t ∷ text o ∷ (list_part heads.first c a ++ (text (fixed_text 29) ∷ []))) e
+
+pub brief-whole : (c : items.Context) (t a : Term) → as_item heads.left c t ∷ [] ≡ instance_parts Brief c t a
+unfolding instance_parts
+brief-whole c t a = refl

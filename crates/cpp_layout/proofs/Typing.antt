@@ -1,0 +1,253 @@
+-- The parts of types and of other template arguments.
+use Rattle.std.proofs.Common.{◌≡◌, refl, sym, ◌∙◌, ap, subst, arith, ℕ, ◌+◌, ◌*◌, ◌<◌, ◌≤◌, List, [], ◌∷◌, ◌++◌, length, Bool, true, false, cond, codes, if◌then◌else◌, append-nil, Option}
+use Prim.Native.String.{String}
+use Rattle.sym_core.specs.declared.Span.{Span}
+use Rattle.sym_print.specs.Unfold.{PartOf, text}
+use Rattle.sym_print.specs.declared.detail.Detail.{Detail}
+use Rattle.sym_print.specs.declared.layout.Part.{Part}
+use Rattle.cpp_grammar.specs.Parts.{qualifier_text, ref_text, encoding_text, blank_last}
+use Rattle.cpp_grammar.specs.Items as heads
+use Rattle.cpp_grammar.specs.Term as values
+use Rattle.cpp_grammar.specs.Texts.{look_up, literal_endings, builtin_texts, operator_texts, abbreviation_texts, special_texts}
+use Rattle.cpp_term.specs.Term as term
+use Rattle.cpp_term.specs.Term.{Term}
+use Rattle.cpp_term.specs.Items as items
+use Rattle.cpp_term.specs.Parts.{as_item, text_part, says, qualified_left, reference_parts, marked_parts, sign_part, is_plain_integer, builtin_code, integer_parts, left_parts, low_parts, base_parts, piece_parts}
+use Rattle.cpp_tree.specs.declared.node.Piece.{Piece}
+use Rattle.cpp_tree.specs.declared.node.Node.{Node}
+use Rattle.cpp_tree.specs.declared.node.Thunk.{Thunk}
+use Rattle.cpp_tree.specs.declared.node.Mark.{Mark}
+use Rattle.cpp_tree.specs.declared.node.Signed.{Signed}
+use Rattle.cpp_tree.specs.declared.node.Qualifiers.{Qualifiers}
+use Rattle.cpp_tree.specs.Nodes.{Table, tree_of, signed_of, qualifiers_of}
+use Rattle.cpp_layout.specs.declared.context.Context.{Context}
+use Rattle.cpp_layout.specs.Texts.{fixed_text, bit, suffix_of}
+use Rattle.cpp_layout.specs.Layout.{own_piece, marked, referred, text_if, qualified_with, IsNoName, IsNoType, Shows}
+use Rattle.cpp_layout.proofs.Functions.{part-some, part-none}
+use Rattle.cpp_layout.proofs.Growing.{So, shows-same}
+
+-- ## Qualifiers
+
+blanked : (r v k : Bool) → 181 < 181 + bit r + 2 * bit v + 4 * bit k → (fixed_text (181 + bit r + 2 * bit v + 4 * bit k) ≡ blank_last (qualifier_text (record { restrict = r; volatile = v; const = k }))) × (0 < length (fixed_text (181 + bit r + 2 * bit v + 4 * bit k)))
+unfolding bit blank_last qualifier_text builtin_texts operator_texts abbreviation_texts special_texts literal_endings
+blanked false false false more = absurd (omega (arith, more))
+blanked true false false more = (refl, omega arith)
+blanked false true false more = (refl, omega arith)
+blanked true true false more = (refl, omega arith)
+blanked false false true more = (refl, omega arith)
+blanked true false true more = (refl, omega arith)
+blanked false true true more = (refl, omega arith)
+blanked true true true more = (refl, omega arith)
+
+not-blanked : (r v k : Bool) → 181 + bit r + 2 * bit v + 4 * bit k ≤ 181 → blank_last (qualifier_text (record { restrict = r; volatile = v; const = k })) ≡ []
+unfolding bit blank_last qualifier_text
+not-blanked false false false few = refl
+not-blanked true _ _ few = absurd (omega (arith, few))
+not-blanked false true _ few = absurd (omega (arith, few))
+not-blanked false false true few = absurd (omega (arith, few))
+
+module _ (q : Qualifiers) (a b d : ℕ) (p : a ≡ bit q.restrict) (o : b ≡ bit q.volatile) (l : d ≡ bit q.const_) where
+  pub blanked-some : 181 < 181 + a + 2 * b + 4 * d → (fixed_text (181 + a + 2 * b + 4 * d) ≡ blank_last (qualifier_text (qualifiers_of q))) × (0 < length (fixed_text (181 + a + 2 * b + 4 * d)))
+  blanked-some = rw (p, o, l) (blanked q.restrict q.volatile q.const_)
+
+  pub blanked-none : 181 + a + 2 * b + 4 * d ≤ 181 → blank_last (qualifier_text (qualifiers_of q)) ≡ []
+  blanked-none = rw (p, o, l) (not-blanked q.restrict q.volatile q.const_)
+
+pub part-there : (y : Table) (d : Detail) (parts : List (Part Context)) (n : ℕ) (b : List ℕ) (so_far : So) → fixed_text n ≡ b → 0 < length (fixed_text n) → Shows y d parts (λ rest. so_far (text (fixed_text n) ∷ rest)) → Shows y d parts (λ rest. so_far (text_part b ++ rest))
+part-there y d parts n b so_far is some shows = shows-same y d parts (λ rest. so_far (text (fixed_text n) ∷ rest)) (λ rest. so_far (text_part b ++ rest)) (λ rest. ap so_far (part-some (fixed_text n) rest some ∙ ap (λ t. text_part t ++ rest) is)) shows
+
+pub part-gone : (y : Table) (d : Detail) (parts : List (Part Context)) (b : List ℕ) (so_far : So) → b ≡ [] → Shows y d parts so_far → Shows y d parts (λ rest. so_far (text_part b ++ rest))
+part-gone y d parts b so_far e shows = shows-same y d parts so_far (λ rest. so_far (text_part b ++ rest)) (λ rest. ap so_far (part-none b rest e)) shows
+
+module _ (reference function : Bool) (i : PartOf items.Item) (q : values.Qualifiers) where
+  pub qualified-reference : reference ≡ true → i ∷ [] ≡ qualified_with reference function i q
+  qualified-reference e = rw e refl
+
+  pub qualified-bracket : reference ≡ false → function ≡ true → i ∷ (text_part (blank_last (qualifier_text q)) ++ []) ≡ qualified_with reference function i q
+  qualified-bracket e f = rw (e, f) (ap (λ l. i ∷ l) (append-nil (text_part (blank_last (qualifier_text q)))))
+
+  plain-suffix : suffix_of q values.any_value false ≡ qualifier_text q
+  unfolding suffix_of encoding_text ref_text
+  plain-suffix = append-nil (qualifier_text q ++ []) ∙ append-nil (qualifier_text q)
+
+  pub qualified-plain : reference ≡ false → function ≡ false → i ∷ (text_part (suffix_of q values.any_value false) ++ []) ≡ qualified_with reference function i q
+  qualified-plain e f = rw (e, f) (ap (λ l. i ∷ l) (append-nil (text_part (suffix_of q values.any_value false)) ∙ ap text_part plain-suffix))
+
+pub qualified-function-left : (c : items.Context) (q : values.Qualifiers) (t : Term) (l n : Bool) (m : values.RefQualifier) (r p : Term) → t ≡ term.function_type l n m r p → as_item heads.left c t ∷ [] ≡ qualified_left c q t
+unfolding qualified_left
+qualified-function-left c q t l n m r p e = rw e refl
+
+qualified-node : (s : List ℕ) (us : List Thunk) (ts : List Term) (c : items.Context) (q : values.Qualifiers) (k : Node) → ((l n : Bool) (m : Mark) (r p : ℕ) → k ≡ Node.FunctionType l n m r p → ⊥)
+    → qualified_with (heads.is_reference (items.head c (tree_of s us ts k))) (heads.is_funarr (items.head c (tree_of s us ts k))) (as_item heads.left c (tree_of s us ts k)) q ≡ qualified_left c q (tree_of s us ts k)
+unfolding tree_of qualified_left
+qualified-node s us ts c q (Node.FunctionType l n m r p) other = absurd (other l n m r p refl)
+qualified-node s us ts c q _ other = refl
+
+pub qualified-other-left : (s : List ℕ) (us : List Thunk) (ts : List Term) (c : items.Context) (q : values.Qualifiers) (k : Node) (t : Term) → t ≡ tree_of s us ts k → ((l n : Bool) (m : Mark) (r p : ℕ) → k ≡ Node.FunctionType l n m r p → ⊥)
+    → qualified_with (heads.is_reference (items.head c t)) (heads.is_funarr (items.head c t)) (as_item heads.left c t) q ≡ qualified_left c q t
+qualified-other-left s us ts c q k t e other = subst (λ u. qualified_with (heads.is_reference (items.head c u)) (heads.is_funarr (items.head c u)) (as_item heads.left c u) q ≡ qualified_left c q u) (sym e) (qualified-node s us ts c q k other)
+
+-- ## References and pointers
+
+pub marked-whole : (c : items.Context) (t : Term) (mark : String) (b : Bool) → heads.is_funarr (items.head c t) ≡ b → marked b (as_item heads.left c t) (codes "(" ++ codes mark) (codes mark) ≡ marked_parts c t mark
+unfolding marked_parts
+marked-whole c t mark true e = rw (marked_parts, e) refl
+marked-whole c t mark false e = rw (marked_parts, e) refl
+
+pub reference-whole : (c : items.Context) (form : heads.Form) (t : Term) (mark : String) (b : Bool) → heads.is_reference (items.head c t) ≡ b
+    → referred b (as_item form c t) (marked (heads.is_funarr (items.head c t)) (as_item heads.left c t) (codes "(" ++ codes mark) (codes mark)) ≡ reference_parts c form t mark
+unfolding reference_parts
+reference-whole c form t mark true e = rw (reference_parts, e) refl
+reference-whole c form t mark false e = rw (reference_parts, e) (marked-whole c t mark (heads.is_funarr (items.head c t)) refl)
+
+-- ## Integers
+
+abbrev builtin_of : ℕ → Term
+builtin_of l = term.builtin (l ∷ [])
+
+pub other-plain : (s : List ℕ) (us : List Thunk) (ts : List Term) (n : Node) (t : Term) → t ≡ tree_of s us ts n → ((l : ℕ) → n ≡ Node.Builtin l → ⊥) → is_plain_integer t ≡ false
+unfolding tree_of is_plain_integer
+other-plain s us ts n t is other = ap is_plain_integer is ∙ by n other
+  where
+    by : (n : Node) → ((l : ℕ) → n ≡ Node.Builtin l → ⊥) → is_plain_integer (tree_of s us ts n) ≡ false
+    by (Node.Builtin l) other = absurd (other l refl)
+    by _ other = refl
+
+sign-is : (b : Bool) (l : List (PartOf items.Item)) → text_if b (fixed_text 37) l ≡ cond b (says "-" ∷ []) [] ++ l
+sign-is true l = refl
+sign-is false l = refl
+
+pub plain-whole : (s : List ℕ) (v : Signed) (digits ending : List ℕ) (n : ℕ) → fixed_text n ≡ ending → text_if v.negative (fixed_text 37) (text digits ∷ (text_part (fixed_text n) ++ [])) ≡ sign_part (signed_of s v) ++ (text digits ∷ text_part ending)
+unfolding sign_part
+plain-whole s v digits ending n e = sign-is v.negative _ ∙ ap (λ l. cond v.negative (says "-" ∷ []) [] ++ (text digits ∷ l)) (append-nil (text_part (fixed_text n)) ∙ ap text_part e)
+
+pub cast-whole : (c : items.Context) (s : List ℕ) (v : Signed) (t : Term) (digits : List ℕ) → text (fixed_text 2) ∷ as_item heads.left c t ∷ as_item heads.right c t ∷ text (fixed_text 3) ∷ text_if v.negative (fixed_text 37) (text digits ∷ [])
+    ≡ (says "(" ∷ as_item heads.left c t ∷ as_item heads.right c t ∷ says ")" ∷ []) ++ sign_part (signed_of s v) ++ (text digits ∷ [])
+unfolding sign_part
+cast-whole c s v t digits = by v.negative
+  where
+    by : (b : Bool) → text (fixed_text 2) ∷ as_item heads.left c t ∷ as_item heads.right c t ∷ text (fixed_text 3) ∷ text_if b (fixed_text 37) (text digits ∷ [])
+        ≡ (says "(" ∷ as_item heads.left c t ∷ as_item heads.right c t ∷ says ")" ∷ []) ++ cond b (says "-" ∷ []) [] ++ (text digits ∷ [])
+    by true = refl
+    by false = refl
+
+integer-so : (c : items.Context) (l : ℕ) (v : values.Signed) → is_plain_integer (builtin_of l) ≡ true → sign_part v ++ (text v.digits ∷ text_part (look_up (l ∷ []) literal_endings)) ≡ integer_parts c (builtin_of l) v
+unfolding integer_parts builtin_code
+integer-so c l v e = rw (integer_parts, e) refl
+
+pub integer-plain : (c : items.Context) (l : ℕ) (t : Term) (v : values.Signed) → t ≡ builtin_of l → is_plain_integer (builtin_of l) ≡ true → sign_part v ++ (text v.digits ∷ text_part (look_up (l ∷ []) literal_endings)) ≡ integer_parts c t v
+integer-plain c l t v is e = integer-so c l v e ∙ ap (λ u. integer_parts c u v) (sym is)
+
+pub integer-cast : (c : items.Context) (t : Term) (v : values.Signed) → is_plain_integer t ≡ false
+    → (says "(" ∷ as_item heads.left c t ∷ as_item heads.right c t ∷ says ")" ∷ []) ++ sign_part v ++ (text v.digits ∷ []) ≡ integer_parts c t v
+unfolding integer_parts
+integer-cast c t v e = rw (integer_parts, e) refl
+
+pub boolean-whole : (b : Bool) → ◌≡◌ {A = List (PartOf items.Item)} (text (fixed_text (if b then 19 else 20)) ∷ []) (text (cond b (codes "true") (codes "false")) ∷ [])
+boolean-whole true = refl
+boolean-whole false = refl
+
+-- ## What has no parts
+
+pub no-name : (n : Node) → ((p : Piece) → n ≡ Node.Alone p → ⊥) → ((p : Piece) → n ≡ Node.InStd p → ⊥) → ((a : ℕ) (p : Piece) → n ≡ Node.Within a p → ⊥) → ((a b : ℕ) → n ≡ Node.Instance a b → ⊥) → ((e a : ℕ) (d : Option Span) → n ≡ Node.Local e a d → ⊥)
+    → ((k : ℕ) → n ≡ Node.Abbreviation k → ⊥) → ((k a : ℕ) → n ≡ Node.Parameter k a → ⊥) → IsNoName n
+no-name (Node.Alone p) h1 h2 h3 h4 h5 h6 h7 = absurd (h1 p refl)
+no-name (Node.InStd p) h1 h2 h3 h4 h5 h6 h7 = absurd (h2 p refl)
+no-name (Node.Within a p) h1 h2 h3 h4 h5 h6 h7 = absurd (h3 a p refl)
+no-name (Node.Instance a b) h1 h2 h3 h4 h5 h6 h7 = absurd (h4 a b refl)
+no-name (Node.Local e a d) h1 h2 h3 h4 h5 h6 h7 = absurd (h5 e a d refl)
+no-name (Node.Abbreviation k) h1 h2 h3 h4 h5 h6 h7 = absurd (h6 k refl)
+no-name (Node.Parameter k a) h1 h2 h3 h4 h5 h6 h7 = absurd (h7 k a refl)
+no-name _ h1 h2 h3 h4 h5 h6 h7 = tt
+
+pub no-type : (n : Node) → IsNoName n → ((k : ℕ) → n ≡ Node.Builtin k → ⊥) → ((k : ℕ) → n ≡ Node.BuiltinWithD k → ⊥) → ((b : Span) → n ≡ Node.Vendor b → ⊥) → ((t : ℕ) → n ≡ Node.Pointer t → ⊥) → ((t : ℕ) → n ≡ Node.Lvalue t → ⊥) → ((t : ℕ) → n ≡ Node.Rvalue t → ⊥) → ((g : Span) (t : ℕ) → n ≡ Node.Array g t → ⊥)
+    → ((l e : Bool) (m : Mark) (r p : ℕ) → n ≡ Node.FunctionType l e m r p → ⊥) → ((k t : ℕ) → n ≡ Node.MemberPointer k t → ⊥) → ((q : Qualifiers) (t : ℕ) → n ≡ Node.Qualified q t → ⊥) → ((g : Span) (t : ℕ) → n ≡ Node.Vector g t → ⊥) → ((t : ℕ) → n ≡ Node.Complex t → ⊥) → IsNoType n
+no-type (Node.Alone p) k h1 h0 h2 h3 h4 h5 h6 h7 h8 h9 h10 h11 = elim k [ ]
+no-type (Node.InStd p) k h1 h0 h2 h3 h4 h5 h6 h7 h8 h9 h10 h11 = elim k [ ]
+no-type (Node.Within a p) k h1 h0 h2 h3 h4 h5 h6 h7 h8 h9 h10 h11 = elim k [ ]
+no-type (Node.Instance a b) k h1 h0 h2 h3 h4 h5 h6 h7 h8 h9 h10 h11 = elim k [ ]
+no-type (Node.Local e a d) k h1 h0 h2 h3 h4 h5 h6 h7 h8 h9 h10 h11 = elim k [ ]
+no-type (Node.Abbreviation a) k h1 h0 h2 h3 h4 h5 h6 h7 h8 h9 h10 h11 = elim k [ ]
+no-type (Node.Parameter a b) k h1 h0 h2 h3 h4 h5 h6 h7 h8 h9 h10 h11 = elim k [ ]
+no-type (Node.Builtin a) k h1 h0 h2 h3 h4 h5 h6 h7 h8 h9 h10 h11 = absurd (h1 a refl)
+no-type (Node.BuiltinWithD a) k h1 h0 h2 h3 h4 h5 h6 h7 h8 h9 h10 h11 = absurd (h0 a refl)
+no-type (Node.Vendor a) k h1 h0 h2 h3 h4 h5 h6 h7 h8 h9 h10 h11 = absurd (h2 a refl)
+no-type (Node.Pointer a) k h1 h0 h2 h3 h4 h5 h6 h7 h8 h9 h10 h11 = absurd (h3 a refl)
+no-type (Node.Lvalue a) k h1 h0 h2 h3 h4 h5 h6 h7 h8 h9 h10 h11 = absurd (h4 a refl)
+no-type (Node.Rvalue a) k h1 h0 h2 h3 h4 h5 h6 h7 h8 h9 h10 h11 = absurd (h5 a refl)
+no-type (Node.Array a b) k h1 h0 h2 h3 h4 h5 h6 h7 h8 h9 h10 h11 = absurd (h6 a b refl)
+no-type (Node.FunctionType l e m r p) k h1 h0 h2 h3 h4 h5 h6 h7 h8 h9 h10 h11 = absurd (h7 l e m r p refl)
+no-type (Node.MemberPointer a b) k h1 h0 h2 h3 h4 h5 h6 h7 h8 h9 h10 h11 = absurd (h8 a b refl)
+no-type (Node.Qualified a b) k h1 h0 h2 h3 h4 h5 h6 h7 h8 h9 h10 h11 = absurd (h9 a b refl)
+no-type (Node.Vector a b) k h1 h0 h2 h3 h4 h5 h6 h7 h8 h9 h10 h11 = absurd (h10 a b refl)
+no-type (Node.Complex a) k h1 h0 h2 h3 h4 h5 h6 h7 h8 h9 h10 h11 = absurd (h11 a refl)
+no-type _ k h1 h0 h2 h3 h4 h5 h6 h7 h8 h9 h10 h11 = tt
+
+pub left-none : (s : List ℕ) (us : List Thunk) (ts : List Term) (d : Detail) (c : items.Context) (n : Node) → IsNoType n → ((t : ℕ) → n ≡ Node.Expansion t → ⊥) → ((t : ℕ) → n ≡ Node.Pack t → ⊥) → ((t : ℕ) (v : Signed) → n ≡ Node.Integer t v → ⊥) → ((b : Bool) → n ≡ Node.Boolean b → ⊥)
+    → (n ≡ Node.NullPointer → ⊥) → ((e : ℕ) → n ≡ Node.EncodingLiteral e → ⊥) → ((e : ℕ) → n ≡ Node.AddressOf e → ⊥) → [] ≡ left_parts d c (tree_of s us ts n)
+unfolding tree_of left_parts
+left-none s us ts d c (Node.Alone p) k h1 h2 h3 h4 h5 h6 h7 = elim k [ ]
+left-none s us ts d c (Node.InStd p) k h1 h2 h3 h4 h5 h6 h7 = elim k [ ]
+left-none s us ts d c (Node.Within a p) k h1 h2 h3 h4 h5 h6 h7 = elim k [ ]
+left-none s us ts d c (Node.Instance a b) k h1 h2 h3 h4 h5 h6 h7 = elim k [ ]
+left-none s us ts d c (Node.Local e a o) k h1 h2 h3 h4 h5 h6 h7 = elim k [ ]
+left-none s us ts d c (Node.Abbreviation a) k h1 h2 h3 h4 h5 h6 h7 = elim k [ ]
+left-none s us ts d c (Node.Parameter a b) k h1 h2 h3 h4 h5 h6 h7 = elim k [ ]
+left-none s us ts d c (Node.Builtin a) k h1 h2 h3 h4 h5 h6 h7 = elim k [ ]
+left-none s us ts d c (Node.BuiltinWithD a) k h1 h2 h3 h4 h5 h6 h7 = elim k [ ]
+left-none s us ts d c (Node.Vendor a) k h1 h2 h3 h4 h5 h6 h7 = elim k [ ]
+left-none s us ts d c (Node.Pointer a) k h1 h2 h3 h4 h5 h6 h7 = elim k [ ]
+left-none s us ts d c (Node.Lvalue a) k h1 h2 h3 h4 h5 h6 h7 = elim k [ ]
+left-none s us ts d c (Node.Rvalue a) k h1 h2 h3 h4 h5 h6 h7 = elim k [ ]
+left-none s us ts d c (Node.Array a b) k h1 h2 h3 h4 h5 h6 h7 = elim k [ ]
+left-none s us ts d c (Node.FunctionType l e m r p) k h1 h2 h3 h4 h5 h6 h7 = elim k [ ]
+left-none s us ts d c (Node.MemberPointer a b) k h1 h2 h3 h4 h5 h6 h7 = elim k [ ]
+left-none s us ts d c (Node.Qualified a b) k h1 h2 h3 h4 h5 h6 h7 = elim k [ ]
+left-none s us ts d c (Node.Vector a b) k h1 h2 h3 h4 h5 h6 h7 = elim k [ ]
+left-none s us ts d c (Node.Complex a) k h1 h2 h3 h4 h5 h6 h7 = elim k [ ]
+left-none s us ts d c (Node.Expansion t) k h1 h2 h3 h4 h5 h6 h7 = absurd (h1 t refl)
+left-none s us ts d c (Node.Pack t) k h1 h2 h3 h4 h5 h6 h7 = absurd (h2 t refl)
+left-none s us ts d c (Node.Integer t v) k h1 h2 h3 h4 h5 h6 h7 = absurd (h3 t v refl)
+left-none s us ts d c (Node.Boolean b) k h1 h2 h3 h4 h5 h6 h7 = absurd (h4 b refl)
+left-none s us ts d c Node.NullPointer k h1 h2 h3 h4 h5 h6 h7 = absurd (h5 refl)
+left-none s us ts d c (Node.EncodingLiteral e) k h1 h2 h3 h4 h5 h6 h7 = absurd (h6 e refl)
+left-none s us ts d c (Node.AddressOf e) k h1 h2 h3 h4 h5 h6 h7 = absurd (h7 e refl)
+left-none s us ts d c _ k h1 h2 h3 h4 h5 h6 h7 = refl
+
+pub own-none : (s : List ℕ) (us : List Thunk) (ts : List Term) (c : items.Context) (n : Node) (t : Term) → t ≡ tree_of s us ts n → ((p : Piece) → n ≡ Node.Alone p → ⊥) → ((p : Piece) → n ≡ Node.InStd p → ⊥) → ((a : ℕ) (p : Piece) → n ≡ Node.Within a p → ⊥) → [] ≡ piece_parts c (own_piece t)
+unfolding tree_of own_piece piece_parts
+own-none s us ts c n t is h1 h2 h3 = other n h1 h2 h3 ∙ ap (λ u. piece_parts c (own_piece u)) (sym is)
+  where
+    other : (n : Node) → ((p : Piece) → n ≡ Node.Alone p → ⊥) → ((p : Piece) → n ≡ Node.InStd p → ⊥) → ((a : ℕ) (p : Piece) → n ≡ Node.Within a p → ⊥) → [] ≡ piece_parts c (own_piece (tree_of s us ts n))
+    other (Node.Alone p) h1 h2 h3 = absurd (h1 p refl)
+    other (Node.InStd p) h1 h2 h3 = absurd (h2 p refl)
+    other (Node.Within a p) h1 h2 h3 = absurd (h3 a p refl)
+    other _ h1 h2 h3 = refl
+
+pub low-other : (s : List ℕ) (us : List Thunk) (ts : List Term) (d : Detail) (c : items.Context) (n : Node) (t : Term) → t ≡ tree_of s us ts n → ((a : ℕ) → n ≡ Node.Lvalue a → ⊥) → ((a : ℕ) → n ≡ Node.Rvalue a → ⊥) → ((q : Qualifiers) (a : ℕ) → n ≡ Node.Qualified q a → ⊥) → ((k a : ℕ) → n ≡ Node.Parameter k a → ⊥)
+    → left_parts d c t ≡ low_parts d c t
+unfolding tree_of low_parts
+low-other s us ts d c n t is h1 h2 h3 h4 = ap (left_parts d c) is ∙ other n h1 h2 h3 h4 ∙ ap (low_parts d c) (sym is)
+  where
+    other : (n : Node) → ((a : ℕ) → n ≡ Node.Lvalue a → ⊥) → ((a : ℕ) → n ≡ Node.Rvalue a → ⊥) → ((q : Qualifiers) (a : ℕ) → n ≡ Node.Qualified q a → ⊥) → ((k a : ℕ) → n ≡ Node.Parameter k a → ⊥) → left_parts d c (tree_of s us ts n) ≡ low_parts d c (tree_of s us ts n)
+    other (Node.Lvalue a) h1 h2 h3 h4 = absurd (h1 a refl)
+    other (Node.Rvalue a) h1 h2 h3 h4 = absurd (h2 a refl)
+    other (Node.Qualified q a) h1 h2 h3 h4 = absurd (h3 q a refl)
+    other (Node.Parameter k a) h1 h2 h3 h4 = absurd (h4 k a refl)
+    other _ h1 h2 h3 h4 = refl
+
+pub base-other-node : (s : List ℕ) (us : List Thunk) (ts : List Term) (d : Detail) (c : items.Context) (n : Node) (t : Term) → t ≡ tree_of s us ts n → ((p : Piece) → n ≡ Node.Alone p → ⊥) → ((p : Piece) → n ≡ Node.InStd p → ⊥) → ((a : ℕ) (p : Piece) → n ≡ Node.Within a p → ⊥)
+    → ((a b : ℕ) → n ≡ Node.Instance a b → ⊥) → ((e a : ℕ) (o : Option Span) → n ≡ Node.Local e a o → ⊥) → ((k : ℕ) → n ≡ Node.Abbreviation k → ⊥) → ((k a : ℕ) → n ≡ Node.Parameter k a → ⊥) → left_parts d c t ≡ base_parts d c t
+unfolding tree_of base_parts
+base-other-node s us ts d c n t is h1 h2 h3 h4 h5 h6 h7 = ap (left_parts d c) is ∙ other n h1 h2 h3 h4 h5 h6 h7 ∙ ap (base_parts d c) (sym is)
+  where
+    other : (n : Node) → ((p : Piece) → n ≡ Node.Alone p → ⊥) → ((p : Piece) → n ≡ Node.InStd p → ⊥) → ((a : ℕ) (p : Piece) → n ≡ Node.Within a p → ⊥)
+        → ((a b : ℕ) → n ≡ Node.Instance a b → ⊥) → ((e a : ℕ) (o : Option Span) → n ≡ Node.Local e a o → ⊥) → ((k : ℕ) → n ≡ Node.Abbreviation k → ⊥) → ((k a : ℕ) → n ≡ Node.Parameter k a → ⊥) → left_parts d c (tree_of s us ts n) ≡ base_parts d c (tree_of s us ts n)
+    other (Node.Alone p) h1 h2 h3 h4 h5 h6 h7 = absurd (h1 p refl)
+    other (Node.InStd p) h1 h2 h3 h4 h5 h6 h7 = absurd (h2 p refl)
+    other (Node.Within a p) h1 h2 h3 h4 h5 h6 h7 = absurd (h3 a p refl)
+    other (Node.Instance a b) h1 h2 h3 h4 h5 h6 h7 = absurd (h4 a b refl)
+    other (Node.Local e a o) h1 h2 h3 h4 h5 h6 h7 = absurd (h5 e a o refl)
+    other (Node.Abbreviation k) h1 h2 h3 h4 h5 h6 h7 = absurd (h6 k refl)
+    other (Node.Parameter k a) h1 h2 h3 h4 h5 h6 h7 = absurd (h7 k a refl)
+    other _ h1 h2 h3 h4 h5 h6 h7 = refl

@@ -1,0 +1,197 @@
+-- The items of code as items of trees, and their parts.
+use Rattle.std.specs.Prelude.{◌≡◌, ℕ, ◌<◌, ◌≤◌, ◌+◌, ◌*◌, List, [], ◌∷◌, ◌++◌, take, length, Bool, true, false, cond, nat_eq}
+use Rattle.std.specs.List.{All}
+use Rattle.sym_print.specs.declared.layout.Item.{Item}
+use Rattle.sym_print.specs.declared.layout.Part.{Part}
+use Rattle.sym_print.specs.declared.layout.Part.TheVariants as part
+use Rattle.sym_print.specs.declared.detail.Detail.{Detail}
+use Rattle.sym_print.specs.Unshared.{Unshared}
+use Rattle.sym_print.specs.Unfold.{PartOf, text, AreParts, printed}
+use Rattle.cpp_term.specs.Term as term
+use Rattle.cpp_term.specs.Term.{Term}
+use Rattle.cpp_grammar.specs.Items as heads
+use Rattle.cpp_term.specs.Items as items
+use Rattle.cpp_grammar.specs.Term.{Qualifiers}
+use Rattle.cpp_grammar.specs.Parts.{blank_last, qualifier_text}
+use Rattle.cpp_term.specs.Parts.{not_empty, text_part, parts}
+use Rattle.cpp_term.specs.Ranks.{rank}
+use Rattle.cpp_term.specs.Answer.{noted_shown}
+use Rattle.cpp_tree.specs.declared.node.Node.{Node}
+use Rattle.cpp_layout.specs.declared.context.Context.{Context}
+use Rattle.cpp_tree.specs.Nodes.{Stored, Table, over, trees, tree_at, bytes_at, IsWithin, IsTable}
+use Rattle.cpp_layout.specs.Texts.{fixed_text}
+
+-- a symbol that was read: its bytes, its nodes, the node of the whole, the rows of its shape and the steps
+pub record ReadSymbol : Type 0 where
+  pub bytes : List ℕ
+  pub table : Stored
+  pub root : ℕ
+  pub rows : ℕ
+  pub steps : ℕ
+
+-- its table
+abbrev pub table_of : ReadSymbol → Table
+table_of y = over y.bytes y.table
+
+-- What holds of each symbol that was read: its nodes are a table, the root is the node of the whole, and each count is within its
+-- bound.
+pub record IsRead (y : ReadSymbol) : Type 0 where
+  pub table : IsTable (table_of y)
+  pub root : y.root < length y.table.nodes
+  pub whole : (encoding : Term) × (suffix : List ℕ) × (tree_at (trees (table_of y)) y.root ≡ term.symbol encoding suffix)
+  pub fits : length y.bytes ≤ 16777216
+  pub rows : y.rows ≤ 4 * length y.bytes + 4
+  pub nodes : length y.table.nodes ≤ 2 * length y.bytes + 8
+  pub steps : y.steps ≤ 32 * length y.bytes + 48
+  pub counted : y.rows ≤ y.steps
+
+-- the forms by their numbers
+abbrev pub form_of : (form at : ℕ) → heads.Form
+form_of form at =
+    cond (nat_eq form 0) heads.left (cond (nat_eq form 1) heads.right (cond (nat_eq form 2) heads.first (cond (nat_eq form 3) heads.more
+    (cond (nat_eq form 4) heads.low (cond (nat_eq form 5) heads.base (cond (nat_eq form 6) heads.piece (cond (nat_eq form 7) heads.full
+    (cond (nat_eq form 8) heads.bare (cond (nat_eq form 9) heads.root (heads.expand at))))))))))
+
+-- the piece of a name, which has no node of its own
+unfoldable pub own_piece : Term → Term
+own_piece (term.alone p) = p
+own_piece (term.in_std p) = p
+own_piece (term.within prefix p) = p
+own_piece t = t
+
+abbrev pub tree_in : (form : ℕ) → Term → Term
+tree_in form t = cond (nat_eq form 6) (own_piece t) t
+
+abbrev pub context_of : Context → items.Context
+context_of c = record { index = c.index }
+
+-- the item of a tree that an item of code is
+abbrev pub item_in : List Term → (node form at : ℕ) → Context → items.Item
+item_in ts node form at c = record { tree = tree_in form (tree_at ts node); form = form_of form at; context = context_of c }
+
+abbrev pub item_of : Table → Item Context → items.Item
+item_of y i = item_in (trees y) i.node i.form i.at i.ctx
+
+abbrev pub bytes_of : Table → Part Context → List ℕ
+bytes_of y (part.Sub i) = []
+bytes_of y (part.Symbol span) = bytes_at y.bytes span
+bytes_of y (part.List span) = []
+bytes_of y (part.Fixed number) = fixed_text number
+bytes_of y (part.Own bytes count) = take count bytes
+
+abbrev pub MayCome : Table → Part Context → Type 0
+MayCome y (part.Sub i) = i.node < length y.nodes
+MayCome y (part.Symbol span) = IsWithin span y.bytes × (span.from < span.to)
+MayCome y (part.List span) = ⊥
+MayCome y (part.Fixed number) = 0 < length (fixed_text number)
+MayCome y (part.Own bytes count) = (0 < count) × (count ≤ 24) × (length bytes ≡ 24)
+
+abbrev pub Are : Table → List (Part Context) → List (PartOf items.Item) → Type 0
+Are y parts others = AreParts (item_of y) (bytes_of y) parts (not_empty others)
+
+-- an item of the part is shown in this detail
+abbrev pub HasDetail : Detail → Part Context → Type 0
+HasDetail d (part.Sub i) = i.ctx.detail ≡ d
+HasDetail d _ = Unit {0}
+
+abbrev pub Comes : Table → Detail → Part Context → Type 0
+Comes y d p = MayCome y p × HasDetail d p
+
+-- The parts may come, and are those so far, whatever stands behind them.
+pub record Shows (y : Table) (d : Detail) (parts : List (Part Context)) (so_far : List (PartOf items.Item) → List (PartOf items.Item)) : Type 0 where
+  pub all : All (Comes y d) parts
+  pub are : (more : List (Part Context)) (others : List (PartOf items.Item)) → Are y more others → Are y (parts ++ more) (so_far others)
+
+-- The parts may come, and are all of these.
+pub record Fills (y : Table) (d : Detail) (parts : List (Part Context)) (whole : List (PartOf items.Item)) : Type 0 where
+  pub all : All (Comes y d) parts
+  pub are : Are y parts whole
+
+-- the part has these bytes of its own
+abbrev pub IsOwn : Part Context → List ℕ → Type 0
+IsOwn (part.Own bytes count) own = (take count bytes ≡ own) × (count ≡ length own) × (length bytes ≡ 24)
+IsOwn _ own = ⊥
+
+-- ## What the arms push
+
+-- an item and the text behind it, by a test
+abbrev pub marked : Bool → PartOf items.Item → (if_so if_not : List ℕ) → List (PartOf items.Item)
+marked true i if_so if_not = i ∷ text if_so ∷ []
+marked false i if_so if_not = i ∷ text if_not ∷ []
+
+-- the same, unless it is one item
+abbrev pub referred : Bool → (whole : PartOf items.Item) → List (PartOf items.Item) → List (PartOf items.Item)
+referred true whole others = whole ∷ []
+referred false whole others = others
+
+-- a text before the others, by a test
+abbrev pub text_if : Bool → List ℕ → List (PartOf items.Item) → List (PartOf items.Item)
+text_if true t others = text t ∷ others
+text_if false t others = others
+
+-- an item with qualifiers behind it: none where it is a reference, and with the blank last before a bracket
+abbrev pub qualified_with : (reference function : Bool) → PartOf items.Item → Qualifiers → List (PartOf items.Item)
+qualified_with reference function i q = elim reference [
+  | true ↦ i ∷ []
+  | false ↦ elim function [ true ↦ i ∷ text_part (blank_last (qualifier_text q)) | false ↦ i ∷ text_part (qualifier_text q) ]
+]
+
+-- the node is no name
+abbrev pub IsNoName : Node → Type 0
+IsNoName (Node.Alone p) = ⊥
+IsNoName (Node.InStd p) = ⊥
+IsNoName (Node.Within prefix p) = ⊥
+IsNoName (Node.Instance template arguments) = ⊥
+IsNoName (Node.Local e entity d) = ⊥
+IsNoName (Node.Abbreviation code) = ⊥
+IsNoName (Node.Parameter k a) = ⊥
+IsNoName _ = Unit {0}
+
+-- nor a type
+abbrev pub IsNoType : Node → Type 0
+IsNoType (Node.Alone p) = ⊥
+IsNoType (Node.InStd p) = ⊥
+IsNoType (Node.Within prefix p) = ⊥
+IsNoType (Node.Instance template arguments) = ⊥
+IsNoType (Node.Local e entity d) = ⊥
+IsNoType (Node.Abbreviation code) = ⊥
+IsNoType (Node.Parameter k a) = ⊥
+IsNoType (Node.Builtin code) = ⊥
+IsNoType (Node.BuiltinWithD letter) = ⊥
+IsNoType (Node.Vendor bytes) = ⊥
+IsNoType (Node.Pointer t) = ⊥
+IsNoType (Node.Lvalue t) = ⊥
+IsNoType (Node.Rvalue t) = ⊥
+IsNoType (Node.Array digits t) = ⊥
+IsNoType (Node.FunctionType l e m returned parameters) = ⊥
+IsNoType (Node.MemberPointer class t) = ⊥
+IsNoType (Node.Qualified q t) = ⊥
+IsNoType (Node.Vector digits t) = ⊥
+IsNoType (Node.Complex t) = ⊥
+IsNoType _ = Unit {0}
+
+unfoldable pub is_encoding : Node → Bool
+is_encoding (Node.Function name q m returned parameters) = true
+is_encoding (Node.Object name q m) = true
+is_encoding (Node.Special code t) = true
+is_encoding (Node.Thunk u e) = true
+is_encoding (Node.Guard name q m) = true
+is_encoding _ = false
+
+-- ## A symbol as a layout
+
+-- what an item prints, with nothing shared
+abbrev pub unshared_of : ReadSymbol → Item Context → Unshared
+unshared_of y i = printed (parts i.ctx.detail) rank (item_of (table_of y) i)
+
+-- the bytes of a part that is no item
+abbrev pub bytes_of_part : ReadSymbol → Part Context → List ℕ
+bytes_of_part y p = bytes_of (table_of y) p
+
+-- the parts that may be asked about
+abbrev pub MayBeAsked : ReadSymbol → Part Context → Type 0
+MayBeAsked y p = IsTable (table_of y) × MayCome (table_of y) p
+
+-- what a symbol prints
+abbrev pub shown_symbol : Detail → ReadSymbol → Unshared
+shown_symbol detail y = noted_shown detail (tree_at (trees (table_of y)) y.root)

@@ -1,0 +1,61 @@
+-- The fixed texts by their numbers.
+use Rattle.std.specs.Prelude.{ℕ, List, [], ◌∷◌, ◌++◌, codes, drop, get_or, slice_get, Some, None}
+use Rattle.std.specs.Prelude.{Bool, true, false, ◌+◌, ◌*◌, cond}
+use Rattle.cpp_grammar.specs.Term.{Qualifiers, RefQualifier}
+use Rattle.cpp_grammar.specs.Texts.{Naming, builtin_texts, operator_texts, abbreviation_texts, special_texts, literal_endings}
+use Rattle.cpp_grammar.specs.Parts.{encoding_text}
+use Rattle.cpp_tree.specs.declared.node.Mark.{Mark}
+
+abbrev pub plain_texts : List (List ℕ)
+plain_texts =
+    codes ", " ∷ codes "..." ∷ codes "(" ∷ codes ")" ∷ codes " " ∷ codes "::" ∷ codes "::~" ∷ codes "std::" ∷ codes "*" ∷ codes "(*"
+    ∷ codes "&" ∷ codes "(&" ∷ codes "&&" ∷ codes "(&&" ∷ codes "::*" ∷ codes "[" ∷ codes "]" ∷ codes " __vector(" ∷ codes " _Complex" ∷ codes "true"
+    ∷ codes "false" ∷ codes "nullptr" ∷ codes "guard variable for " ∷ codes " (" ∷ codes "non-virtual thunk to " ∷ codes "virtual thunk to " ∷ codes "covariant return thunk to " ∷ codes "<" ∷ codes " <" ∷ codes ">"
+    ∷ codes "operator\"\" " ∷ codes "{lambda(" ∷ codes ")#" ∷ codes "}" ∷ codes "{unnamed type#" ∷ codes "string literal" ∷ codes "(anonymous namespace)" ∷ codes "-" ∷ []
+
+-- what stands behind a function's parameters
+abbrev pub suffix_texts : List (List ℕ)
+suffix_texts =
+    codes "" ∷ codes " restrict" ∷ codes " volatile" ∷ codes " volatile restrict" ∷ codes " const" ∷ codes " const restrict" ∷ codes " const volatile" ∷ codes " const volatile restrict" ∷ codes " &" ∷ codes " restrict &" ∷ codes " volatile &" ∷ codes " volatile restrict &" ∷ codes " const &" ∷ codes " const restrict &" ∷ codes " const volatile &" ∷ codes " const volatile restrict &" ∷ codes " &&" ∷ codes " restrict &&" ∷ codes " volatile &&" ∷ codes " volatile restrict &&" ∷ codes " const &&" ∷ codes " const restrict &&" ∷ codes " const volatile &&" ∷ codes " const volatile restrict &&" ∷ codes " noexcept" ∷ codes " restrict noexcept" ∷ codes " volatile noexcept" ∷ codes " volatile restrict noexcept" ∷ codes " const noexcept" ∷ codes " const restrict noexcept" ∷ codes " const volatile noexcept" ∷ codes " const volatile restrict noexcept" ∷ codes " & noexcept" ∷ codes " restrict & noexcept" ∷ codes " volatile & noexcept" ∷ codes " volatile restrict & noexcept" ∷ codes " const & noexcept" ∷ codes " const restrict & noexcept" ∷ codes " const volatile & noexcept" ∷ codes " const volatile restrict & noexcept" ∷ codes " && noexcept" ∷ codes " restrict && noexcept" ∷ codes " volatile && noexcept" ∷ codes " volatile restrict && noexcept" ∷ codes " const && noexcept" ∷ codes " const restrict && noexcept" ∷ codes " const volatile && noexcept" ∷ codes " const volatile restrict && noexcept" ∷ []
+
+-- texts as a table has them, behind others
+abbrev pub named_texts : (List ℕ → List ℕ) → List Naming → List (List ℕ) → List (List ℕ)
+named_texts f [] others = others
+named_texts f (n ∷ ns) others = f n.text ∷ named_texts f ns others
+
+abbrev pub blanked_texts : List (List ℕ)
+blanked_texts =
+    codes "restrict " ∷ codes "volatile " ∷ codes "volatile restrict " ∷ codes "const " ∷ codes "const restrict " ∷ codes "const volatile " ∷ codes "const volatile restrict " ∷ []
+
+-- the word before an operator's name
+abbrev pub word_texts : List (List ℕ)
+word_texts = codes "operator" ∷ []
+
+abbrev pub texts : List (List ℕ)
+texts = plain_texts ++ (suffix_texts ++ named_texts (λ t. t) builtin_texts (named_texts (λ t. codes "operator" ++ t) operator_texts
+    (named_texts (λ t. t) abbreviation_texts (named_texts (λ t. drop 5 t) abbreviation_texts
+    (named_texts (λ t. t) special_texts (named_texts (λ t. t) literal_endings (blanked_texts ++ word_texts)))))))
+
+abbrev pub fixed_text : ℕ → List ℕ
+fixed_text number = elim (slice_get texts number) [ Some text ↦ text | None ↦ [] ]
+
+-- ## What stands behind a function's parameters
+
+unfoldable pub bit : Bool → ℕ
+bit true = 1
+bit false = 0
+
+unfoldable pub mark_number : Mark → ℕ
+mark_number Mark.Any = 0
+mark_number Mark.Lvalue = 1
+mark_number Mark.Rvalue = 2
+
+unfoldable pub suffix_of : Qualifiers → RefQualifier → (noexcept : Bool) → List ℕ
+suffix_of q m noexcept = encoding_text q m ++ cond noexcept (codes " noexcept") []
+
+-- the letters of an operator's code, and the two as one number
+abbrev pub operator_letter : (place number : ℕ) → ℕ
+operator_letter place number = elim (slice_get operator_texts number) [ Some n ↦ get_or n.code place 0 | None ↦ 0 ]
+
+unfoldable pub operator_code : ℕ → ℕ
+operator_code number = 256 * operator_letter 0 number + operator_letter 1 number

@@ -1,0 +1,355 @@
+// The parts of encodings.
+#![tactic(auto)]
+
+ghost use Rattle.std.specs.Prelude.{◌≡◌, ℕ, ◌+◌, ◌<◌, ◌≤◌, ◌++◌, ◌∷◌, [], List, length, slice_get};
+ghost use Rattle.arrayvec.specs.ArrayVec.{array_vec_len};
+ghost use Rattle.sym_print.specs.Unfold.{PartOf, text, sub};
+ghost use Rattle.sym_print.specs.declared.detail.Detail.{Detail};
+ghost use Rattle.cpp_term.specs.Items as items;
+ghost use Rattle.cpp_term.specs.Term as term;
+ghost use Rattle.cpp_grammar.specs.Items as heads;
+ghost use Rattle.cpp_grammar.specs.Parts.{encoding_text, thunk_text};
+ghost use Rattle.cpp_grammar.specs.Texts.{look_up, special_texts};
+ghost use Rattle.cpp_term.specs.Parts.{as_item, function_bare, function_full, full_parts, bare_parts, root_parts, text_part};
+ghost use Rattle.cpp_tree.specs.Nodes.{tree_at, trees, IsTable, IsWithin, bytes_at, thunk_of, qualifiers_of, mark_of};
+ghost use Rattle.cpp_layout.specs.Texts.{fixed_text, bit, mark_number, suffix_of};
+ghost use Rattle.cpp_layout.specs.Layout.{table_of, context_of, text_if, Shows, Fills};
+
+use crate::codes::special;
+use crate::context::Context;
+use crate::symbol::Symbol;
+use crate::{form, texts};
+use arrayvec::ArrayVec;
+use cpp_tree::node::{Adjustment, Mark, Node, Qualifiers, Thunk};
+use sym_core::Span;
+use sym_print::{Detail, Part};
+
+/// 1 for what is so.
+#[tactic(auto, unfolding(crate::specs::Texts::bit))]
+pub(crate) fn bit(test: bool) -> u16
+    ensures number { result ≡ bit test }
+    ensures few { result ≤ 1 }
+{
+    if test { 1 } else { 0 }
+}
+
+/// The number of a mark.
+#[tactic(auto, unfolding(crate::specs::Texts::mark_number))]
+fn mark_number(mark: Mark) -> u16
+    ensures number { result ≡ mark_number mark }
+    ensures few { result ≤ 2 }
+{
+    match mark {
+        Mark::Any => 0,
+        Mark::Lvalue => 1,
+        Mark::Rvalue => 2,
+    }
+}
+
+/// The number of the text before what a thunk leads to.
+#[tactic(auto, unfolding(cpp_tree::specs::Nodes::thunk_of, cpp_tree::specs::Nodes::adjustment_of, cpp_grammar::specs::Parts::thunk_text))]
+fn thunk_number(thunk: Option<Thunk>) -> u16
+    ensures text { (s : List ℕ) → fixed_text result ≡ thunk_text (thunk_of s thunk) }
+    ensures some { 0 < length (fixed_text result) }
+{
+    match thunk {
+        None => texts::NON_VIRTUAL,
+        Some(Thunk::Covariant(_, _)) => texts::COVARIANT,
+        Some(Thunk::Adjusting(adjustment)) => match adjustment {
+            Adjustment::NonVirtual(_) => texts::NON_VIRTUAL,
+            Adjustment::ByTable(_, _) => texts::VIRTUAL,
+        },
+    }
+}
+
+/// The number of the text behind a function's parameters.
+fn suffix_number(qualifiers: Qualifiers, mark: Mark, noexcept: bool) -> u16
+    ensures text { fixed_text result ≡ suffix_of (qualifiers_of qualifiers) (mark_of mark) noexcept }
+    ensures some { 38 < result → 0 < length (fixed_text result) }
+    ensures from { 38 ≤ result }
+{
+    texts::SUFFIX
+        + bit(qualifiers.restrict)
+        + 2 * bit(qualifiers.volatile)
+        + 4 * bit(qualifiers.const_)
+        + 8 * mark_number(mark)
+        + 24 * bit(noexcept)
+}
+
+impl Symbol {
+    /// Adds what stands behind a function's parameters, if that is something.
+    pub(crate) fn push_suffix(
+        &self,
+        parts: &mut ArrayVec<Part<Context>, 8>,
+        qualifiers: Qualifiers,
+        mark: Mark,
+        noexcept: bool,
+    )
+        requires room { array_vec_len parts.old < 8 }
+        ensures shows { (d : Detail) (so_far : List (PartOf items.Item) → List (PartOf items.Item)) → Shows (table_of self.now) d parts.old.items so_far
+            → Shows (table_of self.now) d parts.new.items (λ rest. so_far (text_part (suffix_of (qualifiers_of qualifiers) (mark_of mark) noexcept) ++ rest)) }
+        ensures len { array_vec_len parts.new ≤ array_vec_len parts.old + 1 }
+    {
+        let number = suffix_number(qualifiers, mark, noexcept);
+        if number > texts::SUFFIX {
+            self.push_text(parts, number);
+        }
+    }
+
+    /// The parts of a function without its return type.
+    pub(crate) fn fill_bare(
+        &self,
+        parts: &mut ArrayVec<Part<Context>, 8>,
+        name: u32,
+        qualifiers: Qualifiers,
+        mark: Mark,
+        parameters: u32,
+        detail: Detail,
+    )
+        requires table { IsTable (table_of self.now) }
+        requires name { name < length self.now.table.nodes }
+        requires parameters { parameters < length self.now.table.nodes }
+        requires empty { parts.old.items ≡ [] }
+        ensures { Fills (table_of self.now) detail parts.new.items (function_bare (tree_at (trees (table_of self.now)) name) (qualifiers_of qualifiers) (mark_of mark) (tree_at (trees (table_of self.now)) parameters)) }
+    {
+        let ctx = Context {
+            index: None,
+            detail,
+        };
+        self.push_item(parts, name, form::LEFT, 0, ctx);
+        self.push_text(parts, texts::LEFT);
+        self.push_list(parts, parameters, form::FIRST, ctx);
+        self.push_text(parts, texts::RIGHT);
+        self.push_suffix(parts, qualifiers, mark, false);
+    }
+
+    /// The parts of a function with its return type.
+    pub(crate) fn fill_returning(
+        &self,
+        parts: &mut ArrayVec<Part<Context>, 8>,
+        name: u32,
+        qualifiers: Qualifiers,
+        mark: Mark,
+        returned: u32,
+        parameters: u32,
+        detail: Detail,
+    )
+        requires table { IsTable (table_of self.now) }
+        requires name { name < length self.now.table.nodes }
+        requires returned { returned < length self.now.table.nodes }
+        requires parameters { parameters < length self.now.table.nodes }
+        requires there { tree_at (trees (table_of self.now)) returned ≡ term.absent → ⊥ }
+        requires empty { parts.old.items ≡ [] }
+        ensures { Fills (table_of self.now) detail parts.new.items (function_full (tree_at (trees (table_of self.now)) name) (qualifiers_of qualifiers) (mark_of mark) (tree_at (trees (table_of self.now)) returned) (tree_at (trees (table_of self.now)) parameters)) }
+    {
+        let ctx = Context {
+            index: None,
+            detail,
+        };
+        self.push_item(parts, returned, form::LEFT, 0, ctx);
+        self.push_text(parts, texts::BLANK);
+        self.push_item(parts, name, form::LEFT, 0, ctx);
+        self.push_text(parts, texts::LEFT);
+        self.push_list(parts, parameters, form::FIRST, ctx);
+        self.push_text(parts, texts::RIGHT);
+        self.push_suffix(parts, qualifiers, mark, false);
+        self.push_item(parts, returned, form::RIGHT, 0, ctx);
+    }
+
+    /// The parts of an object's name, or of a guard variable's.
+    // <encoding> ::= <data name>; <special-name> ::= GV <object name>
+    fn fill_object(
+        &self,
+        parts: &mut ArrayVec<Part<Context>, 8>,
+        name: u32,
+        qualifiers: Qualifiers,
+        mark: Mark,
+        guard: bool,
+        detail: Detail,
+    )
+        requires name { name < length self.now.table.nodes }
+        requires empty { parts.old.items ≡ [] }
+        ensures { Fills (table_of self.now) detail parts.new.items (text_if guard (fixed_text 22) (as_item heads.left items.closed (tree_at (trees (table_of self.now)) name) ∷ text_part (encoding_text (qualifiers_of qualifiers) (mark_of mark)))) }
+    {
+        self.push_text_if(parts, guard, texts::GUARD);
+        let closed = Context {
+            index: None,
+            detail,
+        };
+        self.push_item(parts, name, form::LEFT, 0, closed);
+        self.push_suffix(parts, qualifiers, mark, false);
+    }
+
+    /// The parts of a virtual table's name and the like.
+    // <special-name> ::= TV <type> | TT <type> | TI <type> | TS <type>
+    fn fill_special(
+        &self,
+        parts: &mut ArrayVec<Part<Context>, 8>,
+        letter: u8,
+        ty: u32,
+        detail: Detail,
+    )
+        requires ty { ty < length self.now.table.nodes }
+        requires empty { parts.old.items ≡ [] }
+        ensures { Fills (table_of self.now) detail parts.new.items (text (look_up (letter ∷ []) special_texts)
+            ∷ as_item heads.left items.closed (tree_at (trees (table_of self.now)) ty) ∷ as_item heads.right items.closed (tree_at (trees (table_of self.now)) ty) ∷ []) }
+    {
+        self.push_some(parts, special(letter));
+        let ctx = Context {
+            index: None,
+            detail,
+        };
+        self.push_item(parts, ty, form::LEFT, 0, ctx);
+        self.push_item(parts, ty, form::RIGHT, 0, ctx);
+    }
+
+    /// The parts of a thunk's name.
+    // <special-name> ::= T <call-offset> <base encoding> | Tc <call-offset> <call-offset> <base encoding>
+    fn fill_thunk(
+        &self,
+        parts: &mut ArrayVec<Part<Context>, 8>,
+        thunk: u32,
+        encoding: u32,
+        detail: Detail,
+    )
+        requires encoding { encoding < length self.now.table.nodes }
+        requires empty { parts.old.items ≡ [] }
+        ensures { Fills (table_of self.now) detail parts.new.items (text (thunk_text (thunk_of self.now.bytes (slice_get self.now.table.thunks thunk))) ∷ as_item heads.full items.closed (tree_at (trees (table_of self.now)) encoding) ∷ []) }
+    {
+        self.push_text(parts, thunk_number(self.thunk(thunk)));
+        let closed = Context {
+            index: None,
+            detail,
+        };
+        self.push_item(parts, encoding, form::FULL, 0, closed);
+    }
+
+    /// The parts of a function's name and types.
+    // <encoding> ::= <function name> <bare-function-type>
+    fn fill_function(
+        &self,
+        parts: &mut ArrayVec<Part<Context>, 8>,
+        name: u32,
+        qualifiers: Qualifiers,
+        mark: Mark,
+        returned: u32,
+        parameters: u32,
+        detail: Detail,
+    )
+        requires table { IsTable (table_of self.now) }
+        requires name { name < length self.now.table.nodes }
+        requires returned { returned < length self.now.table.nodes }
+        requires parameters { parameters < length self.now.table.nodes }
+        requires empty { parts.old.items ≡ [] }
+        ensures { Fills (table_of self.now) detail parts.new.items (function_full (tree_at (trees (table_of self.now)) name) (qualifiers_of qualifiers) (mark_of mark) (tree_at (trees (table_of self.now)) returned) (tree_at (trees (table_of self.now)) parameters)) }
+    {
+        match self.node(returned) {
+            Node::Absent => self.fill_bare(parts, name, qualifiers, mark, parameters, detail),
+            _ => self.fill_returning(parts, name, qualifiers, mark, returned, parameters, detail),
+        }
+    }
+
+    /// The parts of an encoding.
+    pub(crate) fn fill_full(
+        &self,
+        parts: &mut ArrayVec<Part<Context>, 8>,
+        node: u32,
+        detail: Detail,
+    )
+        requires table { IsTable (table_of self.now) }
+        requires node { node < length self.now.table.nodes }
+        requires empty { parts.old.items ≡ [] }
+        ensures { Fills (table_of self.now) detail parts.new.items (full_parts (tree_at (trees (table_of self.now)) node)) }
+    {
+        match self.node(node) {
+            Node::Function {
+                name,
+                qualifiers,
+                mark,
+                returned,
+                parameters,
+            } => self.fill_function(parts, name, qualifiers, mark, returned, parameters, detail),
+            Node::Object {
+                name,
+                qualifiers,
+                mark,
+            } => self.fill_object(parts, name, qualifiers, mark, false, detail),
+            Node::Special { letter, ty } => self.fill_special(parts, letter, ty, detail),
+            Node::Thunk { thunk, encoding } => self.fill_thunk(parts, thunk, encoding, detail),
+            Node::Guard {
+                name,
+                qualifiers,
+                mark,
+            } => self.fill_object(parts, name, qualifiers, mark, true, detail),
+            _ => {}
+        }
+    }
+
+    /// The parts of an encoding without its return type.
+    pub(crate) fn fill_bare_of(
+        &self,
+        parts: &mut ArrayVec<Part<Context>, 8>,
+        node: u32,
+        detail: Detail,
+    )
+        requires table { IsTable (table_of self.now) }
+        requires node { node < length self.now.table.nodes }
+        requires empty { parts.old.items ≡ [] }
+        ensures { Fills (table_of self.now) detail parts.new.items (bare_parts (tree_at (trees (table_of self.now)) node)) }
+    {
+        match self.node(node) {
+            Node::Function {
+                name,
+                qualifiers,
+                mark,
+                parameters,
+                ..
+            } => self.fill_bare(parts, name, qualifiers, mark, parameters, detail),
+            _ => self.fill_full(parts, node, detail),
+        }
+    }
+
+    /// The parts of a whole symbol: its encoding, and the suffix of a clone in brackets.
+    // <mangled-name> ::= _Z <encoding> [. <vendor-specific suffix>]
+    fn fill_whole(
+        &self,
+        parts: &mut ArrayVec<Part<Context>, 8>,
+        encoding: u32,
+        suffix: Span,
+        detail: Detail,
+    )
+        requires encoding { encoding < length self.now.table.nodes }
+        requires suffix { IsWithin suffix self.now.bytes }
+        requires empty { parts.old.items ≡ [] }
+        ensures { Fills (table_of self.now) detail parts.new.items (root_parts (term.symbol (tree_at (trees (table_of self.now)) encoding) (bytes_at self.now.bytes suffix))) }
+    {
+        let closed = Context {
+            index: None,
+            detail,
+        };
+        self.push_item(parts, encoding, form::FULL, 0, closed);
+        if suffix.from < suffix.to {
+            self.push_text(parts, texts::BLANK_LEFT);
+            self.push_bytes(parts, suffix);
+            self.push_text(parts, texts::RIGHT);
+        }
+    }
+
+    /// The parts of the node of a whole symbol.
+    pub(crate) fn fill_root(
+        &self,
+        parts: &mut ArrayVec<Part<Context>, 8>,
+        node: u32,
+        detail: Detail,
+    )
+        requires table { IsTable (table_of self.now) }
+        requires node { node < length self.now.table.nodes }
+        requires empty { parts.old.items ≡ [] }
+        ensures { Fills (table_of self.now) detail parts.new.items (root_parts (tree_at (trees (table_of self.now)) node)) }
+    {
+        match self.node(node) {
+            Node::Whole { encoding, suffix } => self.fill_whole(parts, encoding, suffix, detail),
+            _ => {}
+        }
+    }
+}

@@ -1,0 +1,205 @@
+// The parts of names and types, left of a declared name.
+#![tactic(auto)]
+
+ghost use Rattle.std.specs.Prelude.{◌≡◌, ℕ, ◌<◌, ◌∷◌, [], List, length};
+ghost use Rattle.sym_print.specs.Unfold.{text};
+ghost use Rattle.sym_print.specs.declared.detail.Detail.{Detail};
+ghost use Rattle.cpp_grammar.specs.Items as heads;
+ghost use Rattle.cpp_grammar.specs.Parts.{source_text};
+ghost use Rattle.cpp_term.specs.Parts.{as_item, list_part, piece_parts, left_parts, low_parts, base_parts};
+ghost use Rattle.cpp_tree.specs.Nodes.{tree_at, trees, tree_of, IsTable, IsBelow, IsWithin, bytes_at};
+ghost use Rattle.cpp_layout.specs.Texts.{fixed_text};
+ghost use Rattle.cpp_layout.specs.Layout.{table_of, context_of, own_piece, Fills, IsNoName, IsNoType};
+
+use crate::codes::{abbreviation, builtin, builtin_with_d, last_of_abbreviation};
+use crate::context::Context;
+use crate::symbol::Symbol;
+use crate::{form, texts};
+use arrayvec::ArrayVec;
+use cpp_tree::node::Node;
+use sym_core::Span;
+use sym_print::Part;
+
+impl Symbol {
+    /// The parts of a name in std.
+    // <unscoped-name> ::= St <unqualified-name>
+    fn fill_in_std(&self, parts: &mut ArrayVec<Part<Context>, 8>, node: u32, ctx: Context)
+        requires node { node < length self.now.table.nodes }
+        requires empty { parts.old.items ≡ [] }
+        ensures { Fills (table_of self.now) ctx.detail parts.new.items (text (fixed_text 7) ∷ as_item heads.piece (context_of ctx) (own_piece (tree_at (trees (table_of self.now)) node)) ∷ []) }
+    {
+        self.push_text(parts, texts::STD);
+        self.push_item(parts, node, form::PIECE, 0, ctx);
+    }
+
+    /// The elements of a list.
+    fn fill_list(&self, parts: &mut ArrayVec<Part<Context>, 8>, elements: u32, ctx: Context)
+        requires table { IsTable (table_of self.now) }
+        requires elements { elements < length self.now.table.nodes }
+        requires empty { parts.old.items ≡ [] }
+        ensures { Fills (table_of self.now) ctx.detail parts.new.items (list_part heads.first (context_of ctx) (tree_at (trees (table_of self.now)) elements)) }
+    {
+        self.push_list(parts, elements, form::FIRST, ctx);
+    }
+
+    /// A vendor's name.
+    // <type> ::= u <source-name>
+    fn fill_vendor(&self, parts: &mut ArrayVec<Part<Context>, 8>, name: Span)
+        requires name { IsWithin name self.now.bytes }
+        requires empty { parts.old.items ≡ [] }
+        ensures { (d : Detail) → Fills (table_of self.now) d parts.new.items (text (source_text (bytes_at self.now.bytes name)) ∷ []) }
+    {
+        self.push_name(parts, name);
+    }
+
+    /// The parts of the piece that a name has of its own.
+    pub(crate) fn fill_own_piece(
+        &self,
+        parts: &mut ArrayVec<Part<Context>, 8>,
+        node: u32,
+        ctx: Context,
+    )
+        requires table { IsTable (table_of self.now) }
+        requires node { node < length self.now.table.nodes }
+        requires empty { parts.old.items ≡ [] }
+        ensures { Fills (table_of self.now) ctx.detail parts.new.items (piece_parts (context_of ctx) (own_piece (tree_at (trees (table_of self.now)) node))) }
+    {
+        match self.node(node) {
+            Node::Alone(piece) => self.fill_piece(parts, piece, ctx),
+            Node::InStd(piece) => self.fill_piece(parts, piece, ctx),
+            Node::Within { piece, .. } => self.fill_piece(parts, piece, ctx),
+            _ => {}
+        }
+    }
+
+    /// The left parts of a template argument that is no type and no name.
+    #[inline(always)]
+    fn fill_left_argument(
+        &self,
+        parts: &mut ArrayVec<Part<Context>, 8>,
+        number: u32,
+        node: Node,
+        ctx: Context,
+    )
+        requires table { IsTable (table_of self.now) }
+        requires number { number < length self.now.table.nodes }
+        requires below { IsBelow self.now.bytes (length self.now.table.thunks) number node }
+        requires kind { IsNoType node }
+        requires empty { parts.old.items ≡ [] }
+        ensures { Fills (table_of self.now) ctx.detail parts.new.items (left_parts ctx.detail (context_of ctx) (tree_of self.now.bytes self.now.table.thunks (trees (table_of self.now)) node)) }
+    {
+        match node {
+            Node::Expansion(pattern) => self.fill_expansion(parts, pattern, ctx),
+            Node::Pack(elements) => self.fill_list(parts, elements, ctx),
+            Node::Integer { ty, value } => self.fill_integer(parts, ty, value, ctx),
+            Node::Boolean(value) => self.fill_either(parts, value, texts::TRUE, texts::FALSE),
+            Node::NullPointer => self.fill_text(parts, texts::NULLPTR),
+            Node::EncodingLiteral(encoding) => {
+                self.fill_encoding_literal(parts, encoding, false, ctx);
+            }
+            Node::AddressOf(encoding) => self.fill_encoding_literal(parts, encoding, true, ctx),
+            _ => {}
+        }
+    }
+
+    /// The left parts of a type that is no name.
+    #[inline(always)]
+    fn fill_left_type(
+        &self,
+        parts: &mut ArrayVec<Part<Context>, 8>,
+        number: u32,
+        node: Node,
+        ctx: Context,
+    )
+        requires table { IsTable (table_of self.now) }
+        requires number { number < length self.now.table.nodes }
+        requires below { IsBelow self.now.bytes (length self.now.table.thunks) number node }
+        requires kind { IsNoName node }
+        requires empty { parts.old.items ≡ [] }
+        ensures { Fills (table_of self.now) ctx.detail parts.new.items (left_parts ctx.detail (context_of ctx) (tree_of self.now.bytes self.now.table.thunks (trees (table_of self.now)) node)) }
+    {
+        match node {
+            Node::Builtin(letter) => self.fill_text(parts, builtin(letter)),
+            Node::BuiltinWithD(letter) => self.fill_text(parts, builtin_with_d(letter)),
+            Node::Vendor(name) => self.fill_vendor(parts, name),
+            Node::Pointer(ty) => self.fill_marked(parts, ty, texts::LEFT_STAR, texts::STAR, ctx),
+            Node::Lvalue(ty) => self.fill_lvalue(parts, ty, ctx),
+            Node::Rvalue(ty) => self.fill_rvalue(parts, ty, ctx),
+            Node::Array { element, .. } => self.fill_array(parts, element, ctx),
+            Node::FunctionType { returned, .. } => {
+                self.fill_left_text(parts, returned, texts::BLANK, ctx);
+            }
+            Node::MemberPointer { class, member } => self.fill_member(parts, class, member, ctx),
+            Node::Qualified { qualifiers, ty } => {
+                self.fill_qualified_left(parts, qualifiers, ty, ctx);
+            }
+            Node::Vector { digits, element } => self.fill_vector(parts, digits, element, ctx),
+            Node::Complex(ty) => self.fill_left_text(parts, ty, texts::COMPLEX, ctx),
+            _ => self.fill_left_argument(parts, number, node, ctx),
+        }
+    }
+
+    /// The left parts of a node.
+    pub(crate) fn fill_left(&self, parts: &mut ArrayVec<Part<Context>, 8>, node: u32, ctx: Context)
+        requires table { IsTable (table_of self.now) }
+        requires node { node < length self.now.table.nodes }
+        requires empty { parts.old.items ≡ [] }
+        ensures { Fills (table_of self.now) ctx.detail parts.new.items (left_parts ctx.detail (context_of ctx) (tree_at (trees (table_of self.now)) node)) }
+    {
+        let stored = self.node(node);
+        match stored {
+            Node::Alone(piece) => self.fill_piece(parts, piece, ctx),
+            Node::InStd(_) => self.fill_in_std(parts, node, ctx),
+            Node::Within { prefix, piece } => self.fill_within(parts, node, prefix, piece, ctx),
+            Node::Instance {
+                template,
+                arguments,
+            } => self.fill_instance(parts, template, arguments, ctx),
+            Node::Local { entity, .. } => self.fill_item(parts, entity, form::LEFT, ctx),
+            Node::Abbreviation(letter) => self.fill_text(parts, abbreviation(letter)),
+            Node::Parameter { argument, .. } => {
+                self.fill_parameter(parts, argument, form::LEFT, ctx);
+            }
+            _ => self.fill_left_type(parts, node, stored, ctx),
+        }
+    }
+
+    /// The left parts of a node under a reference to it: a reference is shown as one to an lvalue.
+    pub(crate) fn fill_low(&self, parts: &mut ArrayVec<Part<Context>, 8>, node: u32, ctx: Context)
+        requires table { IsTable (table_of self.now) }
+        requires node { node < length self.now.table.nodes }
+        requires empty { parts.old.items ≡ [] }
+        ensures { Fills (table_of self.now) ctx.detail parts.new.items (low_parts ctx.detail (context_of ctx) (tree_at (trees (table_of self.now)) node)) }
+    {
+        match self.node(node) {
+            Node::Lvalue(ty) => self.fill_lvalue(parts, ty, ctx),
+            Node::Rvalue(ty) => self.fill_lvalue(parts, ty, ctx),
+            Node::Qualified { ty, .. } => self.fill_item(parts, ty, form::LOW, ctx),
+            Node::Parameter { argument, .. } => {
+                self.fill_parameter(parts, argument, form::LOW, ctx);
+            }
+            _ => self.fill_left(parts, node, ctx),
+        }
+    }
+
+    /// The name of a constructor's class.
+    pub(crate) fn fill_base(&self, parts: &mut ArrayVec<Part<Context>, 8>, node: u32, ctx: Context)
+        requires table { IsTable (table_of self.now) }
+        requires node { node < length self.now.table.nodes }
+        requires empty { parts.old.items ≡ [] }
+        ensures { Fills (table_of self.now) ctx.detail parts.new.items (base_parts ctx.detail (context_of ctx) (tree_at (trees (table_of self.now)) node)) }
+    {
+        match self.node(node) {
+            Node::Alone(piece) => self.fill_piece(parts, piece, ctx),
+            Node::InStd(piece) => self.fill_piece(parts, piece, ctx),
+            Node::Within { prefix, piece } => self.fill_base_within(parts, prefix, piece, ctx),
+            Node::Instance { template, .. } => self.fill_item(parts, template, form::BASE, ctx),
+            Node::Local { entity, .. } => self.fill_item(parts, entity, form::BASE, ctx),
+            Node::Abbreviation(letter) => self.fill_text(parts, last_of_abbreviation(letter)),
+            Node::Parameter { argument, .. } => {
+                self.fill_parameter(parts, argument, form::BASE, ctx);
+            }
+            _ => self.fill_left(parts, node, ctx),
+        }
+    }
+}

@@ -1,0 +1,358 @@
+// The parts of names.
+#![tactic(auto)]
+
+ghost use Rattle.std.specs.Prelude.{◌≡◌, ℕ, ◌+◌, ◌<◌, ◌≤◌, ◌∷◌, ◌++◌, [], List, length, codes, decimal, if◌then◌else◌};
+ghost use Rattle.arrayvec.specs.ArrayVec.{array_vec_len};
+ghost use Rattle.sym_print.specs.Unfold.{PartOf, text};
+ghost use Rattle.sym_print.specs.declared.detail.Detail.{Detail};
+ghost use Rattle.cpp_grammar.specs.Items.{left, base, piece};
+ghost use Rattle.cpp_grammar.specs.Parts.{begins_with, source_text};
+ghost use Rattle.cpp_term.specs.Term as term;
+ghost use Rattle.cpp_term.specs.Items as items;
+ghost use Rattle.cpp_term.specs.Parts.{as_item, piece_parts, prefix_item, within_parts, base_within, opening_text, last_piece, instance_parts, text_part};
+ghost use Rattle.cpp_tree.specs.Nodes.{tree_at, trees, piece_of, bytes_at, IsTable, IsWithin, IsPieceBelow};
+ghost use Rattle.cpp_layout.specs.Texts.{fixed_text};
+ghost use Rattle.cpp_layout.specs.Layout.{table_of, form_of, own_piece, context_of, Shows, Fills, IsOwn, is_encoding};
+
+use crate::codes::{is_angle_code, operator};
+use crate::context::Context;
+use crate::symbol::Symbol;
+use crate::{form, texts};
+use arrayvec::ArrayVec;
+use cpp_tree::node::{Node, Piece};
+use itoa::Buffer;
+use sym_core::Span;
+use sym_print::{Detail, Part};
+
+/// Whether it is the name of an unnamed namespace.
+fn is_anonymous(name: &[u8]) -> bool
+    ensures { result ≡ begins_with (codes "_GLOBAL__N") name.now }
+{
+    name.starts_with(b"_GLOBAL__N")
+}
+
+/// A part with bytes of its own.
+fn own(text: &[u8]) -> Part<Context>
+    requires { length text.now ≤ 24 }
+    ensures { IsOwn result text.now }
+{
+    let mut bytes = [0; 24];
+    bytes[..text.len()].copy_from_slice(text);
+    Part::Own(bytes, text.len() as u8)
+}
+
+/// Whether it is the operator << or <.
+fn is_angle(piece: Piece) -> bool
+    ensures { (s : List ℕ) (ts : List term.Term) → fixed_text (if result then 28 else 27) ≡ opening_text (piece_of s ts piece) }
+{
+    match piece {
+        Piece::Operator(first, second) => is_angle_code(first, second),
+        _ => false,
+    }
+}
+
+/// Whether a node is an encoding.
+#[tactic(auto, unfolding(crate::specs::Layout::is_encoding))]
+fn is_encoding(node: Node) -> bool
+    ensures { result ≡ is_encoding node }
+{
+    match node {
+        Node::Function { .. } => true,
+        Node::Object { .. } => true,
+        Node::Special { .. } => true,
+        Node::Thunk { .. } => true,
+        Node::Guard { .. } => true,
+        _ => false,
+    }
+}
+
+impl Symbol {
+    /// Adds what a source name prints: its bytes, or that it is an unnamed namespace.
+    pub(crate) fn push_name(&self, parts: &mut ArrayVec<Part<Context>, 8>, name: Span)
+        requires room { array_vec_len parts.old < 8 }
+        requires name { IsWithin name self.now.bytes }
+        ensures shows { (d : Detail) (so_far : List (PartOf items.Item) → List (PartOf items.Item)) → Shows (table_of self.now) d parts.old.items so_far
+            → Shows (table_of self.now) d parts.new.items (λ rest. so_far (text (source_text (bytes_at self.now.bytes name)) ∷ rest)) }
+        ensures len { array_vec_len parts.new ≤ array_vec_len parts.old + 1 }
+    {
+        if is_anonymous(self.bytes_of(name)) {
+            self.push_text(parts, texts::ANONYMOUS);
+        } else {
+            self.push_bytes(parts, name);
+        }
+    }
+
+    /// Adds a decimal.
+    pub(crate) fn push_decimal(&self, parts: &mut ArrayVec<Part<Context>, 8>, number: u64)
+        requires { array_vec_len parts.old < 8 }
+        ensures shows { (d : Detail) (so_far : List (PartOf items.Item) → List (PartOf items.Item)) → Shows (table_of self.now) d parts.old.items so_far
+            → Shows (table_of self.now) d parts.new.items (λ rest. so_far (text (decimal number) ∷ rest)) }
+        ensures len { array_vec_len parts.new ≡ array_vec_len parts.old + 1 }
+    {
+        let mut buffer = Buffer::new();
+        let digits = buffer.format(number);
+        parts.push(own(digits.as_bytes()));
+    }
+
+    /// Adds the text of a number, if it has one.
+    pub(crate) fn push_some(&self, parts: &mut ArrayVec<Part<Context>, 8>, number: u16)
+        requires room { array_vec_len parts.old < 8 }
+        requires few { number < 190 }
+        ensures shows { (d : Detail) (so_far : List (PartOf items.Item) → List (PartOf items.Item)) → Shows (table_of self.now) d parts.old.items so_far
+            → Shows (table_of self.now) d parts.new.items (λ rest. so_far (text (fixed_text number) ∷ rest)) }
+        ensures part { (d : Detail) (so_far : List (PartOf items.Item) → List (PartOf items.Item)) → Shows (table_of self.now) d parts.old.items so_far
+            → Shows (table_of self.now) d parts.new.items (λ rest. so_far (text_part (fixed_text number) ++ rest)) }
+        ensures len { array_vec_len parts.new ≤ array_vec_len parts.old + 1 }
+    {
+        if number != texts::NONE {
+            self.push_text(parts, number);
+        }
+    }
+
+    /// One text.
+    pub(crate) fn fill_text(&self, parts: &mut ArrayVec<Part<Context>, 8>, number: u16)
+        requires few { number < 190 }
+        requires empty { parts.old.items ≡ [] }
+        ensures { (d : Detail) → Fills (table_of self.now) d parts.new.items (text (fixed_text number) ∷ []) }
+    {
+        self.push_some(parts, number);
+    }
+
+    /// The parts of a lambda's name.
+    // <closure-type-name> ::= Ul <lambda-sig> E [ <nonnegative number> ] _
+    fn fill_lambda(
+        &self,
+        parts: &mut ArrayVec<Part<Context>, 8>,
+        parameters: u32,
+        number: u64,
+        ctx: Context,
+    )
+        requires table { IsTable (table_of self.now) }
+        requires parameters { parameters < length self.now.table.nodes }
+        requires empty { parts.old.items ≡ [] }
+        ensures { Fills (table_of self.now) ctx.detail parts.new.items (piece_parts (context_of ctx) (term.lambda (tree_at (trees (table_of self.now)) parameters) number)) }
+    {
+        self.push_text(parts, texts::LAMBDA);
+        self.push_list(parts, parameters, form::FIRST, ctx);
+        self.push_text(parts, texts::RIGHT_NUMBER);
+        self.push_decimal(parts, number);
+        self.push_text(parts, texts::BRACE);
+    }
+
+    /// The parts of an unnamed type's name.
+    // <unnamed-type-name> ::= Ut [ <nonnegative number> ] _
+    fn fill_unnamed(&self, parts: &mut ArrayVec<Part<Context>, 8>, number: u64, ctx: Context)
+        requires empty { parts.old.items ≡ [] }
+        ensures { Fills (table_of self.now) ctx.detail parts.new.items (piece_parts (context_of ctx) (term.unnamed number)) }
+    {
+        self.push_text(parts, texts::UNNAMED);
+        self.push_decimal(parts, number);
+        self.push_text(parts, texts::BRACE);
+    }
+
+    /// The parts of a literal operator's name.
+    // <operator-name> ::= li <source-name>
+    fn fill_literal_operator(
+        &self,
+        parts: &mut ArrayVec<Part<Context>, 8>,
+        name: Span,
+        ctx: Context,
+    )
+        requires name { IsWithin name self.now.bytes }
+        requires empty { parts.old.items ≡ [] }
+        ensures { Fills (table_of self.now) ctx.detail parts.new.items (piece_parts (context_of ctx) (term.literal_operator (bytes_at self.now.bytes name))) }
+    {
+        self.push_text(parts, texts::LITERAL);
+        self.push_bytes(parts, name);
+    }
+
+    /// The parts of a source name.
+    // <source-name> ::= <positive length number> <identifier>
+    fn fill_source(
+        &self,
+        parts: &mut ArrayVec<Part<Context>, 8>,
+        internal: bool,
+        name: Span,
+        ctx: Context,
+    )
+        requires name { IsWithin name self.now.bytes }
+        requires empty { parts.old.items ≡ [] }
+        ensures { Fills (table_of self.now) ctx.detail parts.new.items (piece_parts (context_of ctx) (term.source internal (bytes_at self.now.bytes name))) }
+    {
+        self.push_name(parts, name);
+    }
+
+    /// The parts of a piece of a name.
+    pub(crate) fn fill_piece(
+        &self,
+        parts: &mut ArrayVec<Part<Context>, 8>,
+        piece: Piece,
+        ctx: Context,
+    )
+        requires table { IsTable (table_of self.now) }
+        requires piece { IsPieceBelow self.now.bytes (length self.now.table.nodes) piece }
+        requires empty { parts.old.items ≡ [] }
+        ensures { Fills (table_of self.now) ctx.detail parts.new.items (piece_parts (context_of ctx) (piece_of self.now.bytes (trees (table_of self.now)) piece)) }
+    {
+        match piece {
+            Piece::Source { internal, bytes } => self.fill_source(parts, internal, bytes, ctx),
+            Piece::Operator(first, second) => self.fill_text(parts, operator(first, second)),
+            Piece::LiteralOperator(name) => self.fill_literal_operator(parts, name, ctx),
+            Piece::Lambda { parameters, number } => {
+                self.fill_lambda(parts, parameters, number, ctx);
+            }
+            Piece::Unnamed(number) => self.fill_unnamed(parts, number, ctx),
+            Piece::StringLiteral => self.fill_text(parts, texts::STRING),
+            _ => {}
+        }
+    }
+
+    /// Adds a prefix: a name, or the encoding around a local entity, which is shown without its return type.
+    fn push_prefix(&self, parts: &mut ArrayVec<Part<Context>, 8>, prefix: u32, ctx: Context)
+        requires room { array_vec_len parts.old < 8 }
+        requires table { IsTable (table_of self.now) }
+        requires prefix { prefix < length self.now.table.nodes }
+        ensures shows { (so_far : List (PartOf items.Item) → List (PartOf items.Item)) → Shows (table_of self.now) ctx.detail parts.old.items so_far
+            → Shows (table_of self.now) ctx.detail parts.new.items (λ rest. so_far (prefix_item (context_of ctx) (tree_at (trees (table_of self.now)) prefix) ∷ rest)) }
+        ensures len { array_vec_len parts.new ≡ array_vec_len parts.old + 1 }
+    {
+        if is_encoding(self.node(prefix)) {
+            let closed = Context {
+                index: None,
+                detail: ctx.detail,
+            };
+            self.push_item(parts, prefix, form::BARE, 0, closed);
+        } else {
+            self.push_item(parts, prefix, form::LEFT, 0, ctx);
+        }
+    }
+
+    /// The parts of a constructor's or a destructor's name.
+    // <ctor-dtor-name> ::= C1 | C2 | C3 | D0 | D1 | D2
+    fn fill_structor(
+        &self,
+        parts: &mut ArrayVec<Part<Context>, 8>,
+        prefix: u32,
+        number: u16,
+        ctx: Context,
+    )
+        requires prefix { prefix < length self.now.table.nodes }
+        requires number { 0 < length (fixed_text number) }
+        requires empty { parts.old.items ≡ [] }
+        ensures { Fills (table_of self.now) ctx.detail parts.new.items (as_item left (context_of ctx) (tree_at (trees (table_of self.now)) prefix) ∷ text (fixed_text number) ∷ as_item base (context_of ctx) (tree_at (trees (table_of self.now)) prefix) ∷ []) }
+    {
+        self.push_item(parts, prefix, form::LEFT, 0, ctx);
+        self.push_text(parts, number);
+        self.push_item(parts, prefix, form::BASE, 0, ctx);
+    }
+
+    /// The parts of a piece behind its prefix.
+    fn fill_nested(
+        &self,
+        parts: &mut ArrayVec<Part<Context>, 8>,
+        node: u32,
+        prefix: u32,
+        ctx: Context,
+    )
+        requires table { IsTable (table_of self.now) }
+        requires node { node < length self.now.table.nodes }
+        requires prefix { prefix < length self.now.table.nodes }
+        requires empty { parts.old.items ≡ [] }
+        ensures { Fills (table_of self.now) ctx.detail parts.new.items (prefix_item (context_of ctx) (tree_at (trees (table_of self.now)) prefix)
+            ∷ text (fixed_text 5) ∷ as_item piece (context_of ctx) (own_piece (tree_at (trees (table_of self.now)) node)) ∷ []) }
+    {
+        self.push_prefix(parts, prefix, ctx);
+        self.push_text(parts, texts::COLONS);
+        self.push_item(parts, node, form::PIECE, 0, ctx);
+    }
+
+    /// The parts of a name within another.
+    // <nested-name> ::= N [<CV-qualifiers>] [<ref-qualifier>] <prefix> <unqualified-name> E
+    pub(crate) fn fill_within(
+        &self,
+        parts: &mut ArrayVec<Part<Context>, 8>,
+        node: u32,
+        prefix: u32,
+        piece: Piece,
+        ctx: Context,
+    )
+        requires table { IsTable (table_of self.now) }
+        requires node { node < length self.now.table.nodes }
+        requires prefix { prefix < length self.now.table.nodes }
+        requires own { own_piece (tree_at (trees (table_of self.now)) node) ≡ piece_of self.now.bytes (trees (table_of self.now)) piece }
+        requires empty { parts.old.items ≡ [] }
+        ensures { Fills (table_of self.now) ctx.detail parts.new.items (within_parts (context_of ctx) (tree_at (trees (table_of self.now)) prefix) (piece_of self.now.bytes (trees (table_of self.now)) piece)) }
+    {
+        match piece {
+            Piece::Constructor(_) => self.fill_structor(parts, prefix, texts::COLONS, ctx),
+            Piece::Destructor(_) => self.fill_structor(parts, prefix, texts::COLONS_TILDE, ctx),
+            _ => self.fill_nested(parts, node, prefix, ctx),
+        }
+    }
+
+    /// Whether a name's last piece is the operator << or <.
+    fn ends_in_angle(&self, template: u32) -> bool
+        requires table { IsTable (table_of self.now) }
+        requires template { template < length self.now.table.nodes }
+        ensures { fixed_text (if result then 28 else 27) ≡ opening_text (last_piece (tree_at (trees (table_of self.now)) template)) }
+    {
+        let mut name = template;
+        'entities: loop {
+            match self.node(name) {
+                Node::Local { entity, .. } => name = entity,
+                Node::Alone(piece) => return is_angle(piece),
+                Node::InStd(piece) => return is_angle(piece),
+                Node::Within { piece, .. } => return is_angle(piece),
+                _ => return false,
+            }
+        }
+    }
+
+    /// The parts of a template's instance: without its arguments in the brief form.
+    // <template-args> ::= I <template-arg>+ E
+    pub(crate) fn fill_instance(
+        &self,
+        parts: &mut ArrayVec<Part<Context>, 8>,
+        template: u32,
+        arguments: u32,
+        ctx: Context,
+    )
+        requires table { IsTable (table_of self.now) }
+        requires template { template < length self.now.table.nodes }
+        requires arguments { arguments < length self.now.table.nodes }
+        requires empty { parts.old.items ≡ [] }
+        ensures { Fills (table_of self.now) ctx.detail parts.new.items (instance_parts ctx.detail (context_of ctx) (tree_at (trees (table_of self.now)) template) (tree_at (trees (table_of self.now)) arguments)) }
+    {
+        match ctx.detail {
+            Detail::Brief => self.fill_item(parts, template, form::LEFT, ctx),
+            Detail::Full => {
+                self.push_item(parts, template, form::LEFT, 0, ctx);
+                let blank = self.ends_in_angle(template);
+                self.push_either(parts, blank, texts::BLANK_LESS, texts::LESS);
+                self.push_list(parts, arguments, form::FIRST, ctx);
+                self.push_text(parts, texts::GREATER);
+            }
+        }
+    }
+
+    /// The parts of a constructor's class in a name within another.
+    pub(crate) fn fill_base_within(
+        &self,
+        parts: &mut ArrayVec<Part<Context>, 8>,
+        prefix: u32,
+        piece: Piece,
+        ctx: Context,
+    )
+        requires table { IsTable (table_of self.now) }
+        requires prefix { prefix < length self.now.table.nodes }
+        requires piece { IsPieceBelow self.now.bytes (length self.now.table.nodes) piece }
+        requires empty { parts.old.items ≡ [] }
+        ensures { Fills (table_of self.now) ctx.detail parts.new.items (base_within (context_of ctx) (tree_at (trees (table_of self.now)) prefix) (piece_of self.now.bytes (trees (table_of self.now)) piece)) }
+    {
+        match piece {
+            Piece::Constructor(_) => self.fill_item(parts, prefix, form::BASE, ctx),
+            Piece::Destructor(_) => self.fill_item(parts, prefix, form::BASE, ctx),
+            _ => self.fill_piece(parts, piece, ctx),
+        }
+    }
+}

@@ -1,0 +1,177 @@
+// A symbol as a layout, and its text.
+#![tactic(auto)]
+
+ghost use Rattle.std.specs.Prelude.{◌≡◌, ℕ, ◌+◌, ◌<◌, ◌≤◌, ◌^◌, [], List, length, true, Option, IfOk, IfErr, OnOk, OnErr, ◌⊎◌, Err};
+ghost use Rattle.std.specs.List.{All};
+ghost use Rattle.sym_core.specs.declared.Refusal.{Refusal};
+ghost use Rattle.sym_print.specs.declared.layout.Part.{Part};
+ghost use Rattle.sym_print.specs.declared.detail.Detail.{Detail};
+ghost use Rattle.sym_print.specs.Unshared.{text_of, cost_of};
+ghost use Rattle.sym_print.specs.Joined.{joined};
+ghost use Rattle.cpp_grammar.specs.Parts.{is_below};
+ghost use Rattle.cpp_term.specs.Parts.{parts_in, expand_parts};
+ghost use Rattle.cpp_tree.specs.Nodes.{tree_at, trees, IsTable};
+ghost use Rattle.cpp_layout.specs.Layout.{table_of, context_of, form_of, tree_in, Fills, unshared_of, bytes_of_part, MayBeAsked, shown_symbol};
+
+use crate::context::Context;
+use crate::symbol::Symbol;
+use crate::{form, texts};
+use arrayvec::ArrayVec;
+use sym_core::Refusal;
+use sym_print::{Detail, Item, Layout, Part, print};
+
+/// Whether the packs have an element behind this one.
+#[tactic(auto, unfolding(cpp_grammar::specs::Parts::is_below))]
+fn has_next(packs: Option<u32>, at: u32) -> bool
+    ensures is { result ≡ is_below (at + 1) packs }
+    ensures room { result ≡ true → at + 1 < 2 ^ 32 }
+{
+    match packs {
+        None => false,
+        Some(count) => at < count && at + 1 < count,
+    }
+}
+
+impl Symbol {
+    /// The parts of an expansion's elements from one on.
+    fn fill_expand(
+        &self,
+        parts: &mut ArrayVec<Part<Context>, 8>,
+        pattern: u32,
+        at: u32,
+        ctx: Context,
+    )
+        requires table { IsTable (table_of self.now) }
+        requires pattern { pattern < length self.now.table.nodes }
+        requires empty { parts.old.items ≡ [] }
+        ensures { Fills (table_of self.now) ctx.detail parts.new.items (expand_parts (context_of ctx) (tree_at (trees (table_of self.now)) pattern) at) }
+    {
+        let inner = Context {
+            index: Some(at),
+            detail: ctx.detail,
+        };
+        self.push_text_if(parts, at > 0, texts::COMMA);
+        self.push_item(parts, pattern, form::LEFT, 0, inner);
+        self.push_item(parts, pattern, form::RIGHT, 0, inner);
+        if has_next(self.packs(pattern, ctx), at) {
+            self.push_item(parts, pattern, form::EXPAND, at + 1, ctx);
+        }
+    }
+
+    /// The parts of a node in a form.
+    fn fill_form(
+        &self,
+        parts: &mut ArrayVec<Part<Context>, 8>,
+        node: u32,
+        form: u32,
+        at: u32,
+        ctx: Context,
+    )
+        requires table { IsTable (table_of self.now) }
+        requires node { node < length self.now.table.nodes }
+        requires empty { parts.old.items ≡ [] }
+        ensures { Fills (table_of self.now) ctx.detail parts.new.items (parts_in ctx.detail (context_of ctx) (form_of form at) (tree_in form (tree_at (trees (table_of self.now)) node))) }
+    {
+        match form {
+            form::LEFT => self.fill_left(parts, node, ctx),
+            form::RIGHT => self.fill_right(parts, node, ctx),
+            form::FIRST => self.fill_first_of(parts, node, ctx),
+            form::MORE => self.fill_more_of(parts, node, ctx),
+            form::LOW => self.fill_low(parts, node, ctx),
+            form::BASE => self.fill_base(parts, node, ctx),
+            form::PIECE => self.fill_own_piece(parts, node, ctx),
+            form::FULL => self.fill_full(parts, node, ctx.detail),
+            form::BARE => self.fill_bare_of(parts, node, ctx.detail),
+            form::ROOT => self.fill_root(parts, node, ctx.detail),
+            _ => self.fill_expand(parts, node, at, ctx),
+        }
+    }
+}
+
+impl Layout for Symbol {
+    ghost use Rattle.std.proofs.Common.{lit≤};
+    ghost use Rattle.cpp_layout.specs.Layout.{unshared_of, bytes_of_part, MayBeAsked};
+
+    type Ctx = Context;
+
+    ghost may_come = { MayBeAsked };
+
+    ghost unshared = { unshared_of };
+
+    ghost bytes_of = { bytes_of_part };
+
+    fn fill(&self, item: Item<Context>, parts: &mut ArrayVec<Part<Context>, 8>)
+        requires may_come { MayBeAsked self.now (Part.Sub item) }
+        requires empty { parts.old.items ≡ [] }
+        ensures parts { unshared_of self.now item ≡ joined (unshared_of self.now) (bytes_of_part self.now) parts.new.items }
+        ensures may_come { All (MayBeAsked self.now) parts.new.items }
+    {
+        self.fill_form(parts, item.node, item.form, item.at, item.ctx);
+    }
+
+    #[inline(always)]
+    fn bytes<'a>(&'a self, part: &'a Part<Context>) -> &'a [u8] {
+        match part {
+            Part::Symbol(span) => self.bytes_of(*span),
+            Part::Fixed(number) => texts::fixed_text(*number),
+            Part::Own(bytes, count) => &bytes[..*count as usize],
+            _ => b"",
+        }
+    }
+
+    ghost small_context = { (lit≤ tt, lit≤ tt) };
+}
+
+impl Symbol {
+    /// The item of the whole symbol, in full.
+    pub fn root(&self) -> Item<Context>
+        ensures may_come { MayBeAsked self.now (Part.Sub result) }
+        ensures shows { unshared_of self.now result ≡ shown_symbol Detail.Full self.now }
+    {
+        self.root_as(Detail::Full)
+    }
+
+    /// The item of the whole symbol in a detail.
+    pub fn root_as(&self, detail: Detail) -> Item<Context>
+        ensures may_come { MayBeAsked self.now (Part.Sub result) }
+        ensures shows { unshared_of self.now result ≡ shown_symbol detail self.now }
+    {
+        Item {
+            node: self.root_node(),
+            form: form::ROOT,
+            at: 0,
+            ctx: Context {
+                index: None,
+                detail,
+            },
+        }
+    }
+
+    /// The text of the symbol, if it costs at most the limit.
+    ///
+    /// # Errors
+    ///
+    /// `TooLong` exactly where it costs more, `Memory` where a list couldn't grow.
+    pub fn text(&self, limit: u32) -> Result<Vec<u8>, Refusal>
+        ensures text { IfOk result (λ text. text.items ≡ text_of (shown_symbol Detail.Full self.now)) }
+        ensures within { OnOk result (cost_of (shown_symbol Detail.Full self.now) ≤ limit) }
+        ensures refusals { IfErr result (λ r. (r ≡ Refusal.TooLong) ⊎ (r ≡ Refusal.Memory)) }
+        ensures too_long { result ≡ Err Refusal.TooLong → limit < cost_of (shown_symbol Detail.Full self.now) }
+    {
+        self.text_as(limit, Detail::Full)
+    }
+
+    /// The text of the symbol in a detail, if it costs at most the limit.
+    ///
+    /// # Errors
+    ///
+    /// `TooLong` exactly where it costs more, `Memory` where a list couldn't grow.
+    pub fn text_as(&self, limit: u32, detail: Detail) -> Result<Vec<u8>, Refusal>
+        ensures text { IfOk result (λ text. text.items ≡ text_of (shown_symbol detail self.now)) }
+        ensures within { OnOk result (cost_of (shown_symbol detail self.now) ≤ limit) }
+        ensures refusals { IfErr result (λ r. (r ≡ Refusal.TooLong) ⊎ (r ≡ Refusal.Memory)) }
+        ensures too_long { result ≡ Err Refusal.TooLong → limit < cost_of (shown_symbol detail self.now) }
+    {
+        print(self.allocator(), self, self.root_as(detail), limit)
+    }
+}

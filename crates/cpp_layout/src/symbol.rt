@@ -1,0 +1,162 @@
+// A symbol that was read.
+#![tactic(auto)]
+
+ghost use Rattle.std.specs.Prelude.{◌≡◌, ℕ, ◌+◌, ◌<◌, ◌≤◌, ◌*◌, ◌^◌, List, length, slice_get, Option};
+ghost use Rattle.cpp_grammar.specs.Items as heads;
+ghost use Rattle.cpp_term.specs.Items as items;
+ghost use Rattle.cpp_term.specs.Items.{indexed};
+ghost use Rattle.cpp_tree.specs.Nodes.{tree_at, trees, tree_of, bytes_at, IsBelow, IsTable, IsWithin, entry_at};
+ghost use Rattle.cpp_layout.specs.Layout.{table_of, context_of, IsRead};
+
+use crate::context::Context;
+use cpp_tree::Nodes;
+use cpp_tree::node::{Entry, Node, Thunk};
+use std::alloc::Global;
+use std::marker::Model;
+use sym_core::Span;
+
+/// A symbol that was read: its bytes, its nodes, and what reading it took.
+#[derive(Drop)]
+pub struct Symbol {
+    bytes: Vec<u8>,
+    nodes: Nodes,
+    root: u32,
+    rows: u32,
+    steps: u32,
+}
+
+impl Model for Symbol {
+    ghost use Rattle.cpp_layout.specs.Layout.{ReadSymbol, IsRead};
+
+    ghost Value = { ReadSymbol };
+
+    ghost view = { λ s. record { bytes = s.bytes.items; table = s.nodes; root = s.root; rows = s.rows; steps = s.steps } };
+
+    ghost invariant = { λ s. IsRead (record { bytes = s.bytes.items; table = s.nodes; root = s.root; rows = s.rows; steps = s.steps }) };
+}
+
+/// How much reading took.
+#[derive(Clone, Copy, Debug, PartialEq, Eq)]
+pub struct Counts {
+    pub rows: u32,
+    pub nodes: u32,
+    pub steps: u32,
+}
+
+impl Symbol {
+    /// The symbol with these nodes, one of which is the whole.
+    pub fn new(bytes: Vec<u8>, nodes: Nodes, root: u32, rows: u32, steps: u32) -> Symbol
+        requires { IsRead (record { bytes = bytes.items; table = nodes; root = root; rows = rows; steps = steps }) }
+        ensures { result ≡ record { bytes = bytes.items; table = nodes; root = root; rows = rows; steps = steps } }
+    {
+        Symbol {
+            bytes,
+            nodes,
+            root,
+            rows,
+            steps,
+        }
+    }
+
+    /// The lists of a symbol that is given up: its bytes, and its nodes. It takes no memory.
+    pub fn into_lists(self) -> (Vec<u8>, Nodes)
+        ensures bytes { result.0.items ≡ self.bytes }
+        ensures nodes { result.1 ≡ self.table }
+    {
+        let Symbol { bytes, nodes, .. } = self;
+        (bytes, nodes)
+    }
+
+    /// The numbers of rows, nodes and steps that reading took.
+    pub fn counts(&self) -> Counts
+        ensures rows { result.rows ≡ self.now.rows }
+        ensures nodes { result.nodes ≡ length self.now.table.nodes }
+        ensures steps { result.steps ≡ self.now.steps }
+        ensures rows_bound { result.rows ≤ 4 * length self.now.bytes + 4 }
+        ensures nodes_bound { result.nodes ≤ 2 * length self.now.bytes + 8 }
+        ensures steps_bound { result.steps ≤ 32 * length self.now.bytes + 48 }
+        ensures counted { result.rows ≤ result.steps }
+    {
+        Counts {
+            rows: self.rows,
+            nodes: self.nodes.len() as u32,
+            steps: self.steps,
+        }
+    }
+
+    /// The node of the whole symbol.
+    pub fn root_node(&self) -> u32
+        ensures root { result ≡ self.now.root }
+        ensures read { IsRead self.now }
+    {
+        self.root
+    }
+
+    /// A node and what is noted of it.
+    #[inline(always)]
+    pub(crate) fn entry(&self, node: u32) -> Entry
+        requires { node < length self.now.table.nodes }
+        ensures { result ≡ entry_at self.now.table.nodes node }
+    {
+        self.nodes.entry(node)
+    }
+
+    /// A node, which is made of earlier ones.
+    #[inline(always)]
+    pub(crate) fn node(&self, node: u32) -> Node
+        requires table { IsTable (table_of self.now) }
+        requires node { node < length self.now.table.nodes }
+        ensures tree { tree_at (trees (table_of self.now)) node ≡ tree_of self.now.bytes self.now.table.thunks (trees (table_of self.now)) result }
+        ensures below { IsBelow self.now.bytes (length self.now.table.thunks) node result }
+    {
+        self.nodes.node(&self.bytes, node)
+    }
+
+    /// What a thunk adjusts.
+    pub(crate) fn thunk(&self, number: u32) -> Option<Thunk>
+        ensures { result ≡ slice_get self.now.table.thunks number }
+    {
+        self.nodes.thunk(number)
+    }
+
+    /// The allocator of the symbol's lists.
+    pub(crate) fn allocator(&self) -> Global {
+        *self.bytes.allocator()
+    }
+
+    /// Bytes of the symbol.
+    pub fn bytes_of(&self, span: Span) -> &[u8]
+        requires { IsWithin span self.now.bytes }
+        ensures { result.now ≡ bytes_at self.now.bytes span }
+    {
+        &self.bytes[span.from as usize..span.to as usize]
+    }
+
+    /// Whether a type is a function or an array.
+    pub(crate) fn is_function(&self, node: u32, ctx: Context) -> bool
+        requires table { IsTable (table_of self.now) }
+        requires node { node < length self.now.table.nodes }
+        ensures { result ≡ heads.is_funarr (items.head (context_of ctx) (tree_at (trees (table_of self.now)) node)) }
+    {
+        self.nodes.is_function(&self.bytes, node, ctx.index)
+    }
+
+    /// Whether a type is a reference.
+    pub(crate) fn is_reference(&self, node: u32, ctx: Context) -> bool
+        requires table { IsTable (table_of self.now) }
+        requires node { node < length self.now.table.nodes }
+        ensures { result ≡ heads.is_reference (items.head (context_of ctx) (tree_at (trees (table_of self.now)) node)) }
+    {
+        self.nodes.is_reference(&self.bytes, node, ctx.index)
+    }
+
+    /// Of a pack its element at the index.
+    pub(crate) fn indexed(&self, index: Option<u32>, argument: u32) -> u32
+        requires table { IsTable (table_of self.now) }
+        requires argument { argument < length self.now.table.nodes }
+        ensures tree { tree_at (trees (table_of self.now)) result ≡ indexed index (tree_at (trees (table_of self.now)) argument) }
+        ensures below { result < length self.now.table.nodes }
+    {
+        self.nodes.indexed(&self.bytes, index, argument)
+    }
+}
