@@ -15,6 +15,7 @@ use Rattle.cpp_grammar.specs.Term.{Qualifiers}
 use Rattle.cpp_grammar.specs.Parts.{blank_last, qualifier_text}
 use Rattle.cpp_term.specs.Parts.{not_empty, text_part, parts}
 use Rattle.cpp_term.specs.Ranks.{rank}
+use Rattle.cpp_term.specs.Answer.{noted_shown}
 use Rattle.cpp_tree.specs.declared.node.Node.{Node}
 use Rattle.cpp_layout.specs.declared.context.Context.{Context}
 use Rattle.cpp_tree.specs.Nodes.{Stored, Table, over, trees, tree_at, bytes_at, IsWithin, IsTable}
@@ -193,4 +194,4 @@ MayBeAsked y p = IsTable (table_of y) × MayCome (table_of y) p
 
 -- what a symbol prints
 abbrev pub shown_symbol : Detail → ReadSymbol → Unshared
-shown_symbol detail y = printed (parts detail) rank (record { tree = tree_at (trees (table_of y)) y.root; form = heads.root; context = items.closed })
+shown_symbol detail y = noted_shown detail (tree_at (trees (table_of y)) y.root)
