@@ -10,3 +10,4 @@ pub mod ClosedParts
 pub mod ClosedTrees
 pub mod RanksFall
 pub mod FewParts
+pub mod BadTokens

@@ -1,19 +1,14 @@
 -- What a C++ symbol is answered: its text within a limit, or why it has none.
-use Rattle.std.specs.Prelude.{◌≡◌, ℕ, List, Result, Ok, Err}
+use Rattle.std.specs.Prelude.{ℕ, List, Result, Ok, Err}
 use Rattle.sym_core.specs.declared.refusal.Refusal.{Refusal}
-use Rattle.sym_core.specs.declared.refusal.Refusal.TheVariants.{Malformed}
-use Rattle.sym_shape.specs.declared.rule.Sym.TheVariants.{Kind}
-use Rattle.sym_shape.specs.Tree.{Tree, IsTree, spell, IsMalformed}
 use Rattle.sym_print.specs.declared.detail.Detail.{Detail}
 use Rattle.sym_print.specs.Unshared.{Unshared, text_of, cost_of}
 use Rattle.sym_print.specs.Unfold.{printed}
 use Rattle.sym_print.specs.Answer.{text_within}
-use Rattle.cpp_grammar.specs.Table.{abi}
 use Rattle.cpp_grammar.specs.Term.{Term}
 use Rattle.cpp_grammar.specs.Items.{Item, root, closed}
 use Rattle.cpp_grammar.specs.Parts.{parts}
 use Rattle.cpp_grammar.specs.Ranks.{rank}
-use Rattle.cpp_grammar.specs.Unfolding.{unfold_cpp}
 
 -- the item that a symbol's tree is printed as
 abbrev pub root_item : Term → Item
@@ -34,8 +29,3 @@ cost_of_symbol detail t = cost_of (shown detail (root_item t))
 abbrev pub answer_within : Detail → ℕ → Result Term Refusal → Result (List ℕ) Refusal
 answer_within detail limit (Ok t) = text_within limit (shown detail (root_item t))
 answer_within detail limit (Err refusal) = Err refusal
-
--- The answer for a symbol: where it isn't well shaped, its first bad byte; else what its shape unfolds to, within the limit.
-pub data IsAnswer (detail : Detail) (s : List ℕ) (limit : ℕ) : Result (List ℕ) Refusal → Type 0 where
-  malformed : (at : ℕ) → IsMalformed abi s at → IsAnswer detail s limit (Err (Malformed at))
-  read : (shape : Tree) → IsTree abi (Kind 0) shape → spell shape ≡ s → IsAnswer detail s limit (answer_within detail limit (unfold_cpp shape))

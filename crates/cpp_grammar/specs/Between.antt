@@ -7,9 +7,9 @@ use Rattle.sym_core.specs.declared.NumberKind.TheVariants.{Decimal}
 use Rattle.sym_core.specs.Value.{counted_value}
 use Rattle.sym_link.specs.Reading.{Next, ◌>>=◌}
 use Rattle.cpp_grammar.specs.declared.production.Production.{Production}
-use Rattle.cpp_grammar.specs.Term.{Term, alone, within, in_std, instance, parameter, lvalue, rvalue, pack, source, constructor, destructor, nil, absent}
+use Rattle.cpp_grammar.specs.Term.{Term, alone, within, in_std, instance, parameter, lvalue, rvalue, pack, source, constructor, destructor, nil}
 use Rattle.cpp_grammar.specs.Scope.{arguments_of}
-use Rattle.cpp_grammar.specs.Values.{State, Prefix, outermost, behind, Around, prefix_tree, prefix_listed, Value, nothing_there, tree, tree_of, piece_of, is_listed, is_there, letter_of, text_of}
+use Rattle.cpp_grammar.specs.Values.{State, Prefix, outermost, behind, Around, prefix_tree, Value, nothing_there, tree, tree_of, piece_of, is_listed, is_there, letter_of, text_of}
 use Rattle.cpp_grammar.specs.References.{appended, with_type, with_prefix, parameter_named}
 
 -- ## What surrounds a part

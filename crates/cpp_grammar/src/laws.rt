@@ -8,7 +8,8 @@ ghost use Rattle.sym_shape.specs.Grown.{GrowsInto};
 ghost use Rattle.sym_shape.specs.Tree.{Tree, IsTree, AreRowsOf, IsFirstBad};
 ghost use Rattle.sym_shape.specs.declared.rule.Sym.TheVariants.{Kind};
 ghost use Rattle.sym_shape.specs.declared.rule.Row.{Row};
-ghost use Rattle.cpp_grammar.specs.Mangled.{IsAnswer, answer};
+ghost use Rattle.sym_demangle.specs.Mangled.{RefusesBadTokens};
+ghost use Rattle.cpp_grammar.specs.Mangled.{IsAnswer, answer, cpp_mangled};
 ghost use Rattle.cpp_grammar.specs.Closed.{ScopesAreClosed};
 ghost use Rattle.cpp_grammar.specs.Items.{Item};
 ghost use Rattle.cpp_grammar.specs.Parts.{parts};
@@ -51,4 +52,10 @@ pub fn scopes_are_closed()
 pub fn parts_are_few_and_smaller()
     ensures few { (detail : Detail) (item : Item) → length (parts detail item) ≤ 8 }
     ensures smaller { (detail : Detail) (item : Item) → RanksBelow rank (rank item) (parts detail item) }
+{}
+
+/// A well shaped symbol that can't be read is refused for a bad reference or for a number that is out of range, and for nothing
+/// else.
+pub fn refuses_bad_tokens()
+    ensures { RefusesBadTokens cpp_mangled }
 {}

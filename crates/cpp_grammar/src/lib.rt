@@ -10,5 +10,5 @@ mod table;
 pub use abi::Abi;
 pub use laws::{
     each_has_an_answer, earlier_trees_stay, one_answer, parts_are_few_and_smaller,
-    scopes_are_closed,
+    refuses_bad_tokens, scopes_are_closed,
 };

@@ -163,7 +163,7 @@ pub returns-then-letter-eq-BLANK : goal.returns-then-letter-eq-BLANK
 returns-then-letter-eq-BLANK c =
     let k = kind_at c.args.kind c.requires in
     no_rule c.args.kind c.args.byte k.0 k.1 (
-      sym (chosen_at c.args.kind (below_66 c.args.kind c.requires) k.0 k.1 _ _ c.args.byte c.if-byte-lt-FIRST.false c.if-byte-gt-LAST.false) ∙ blank_is_none _ c.if-letter-eq-BLANK.true)
+    sym (chosen_at c.args.kind (below_66 c.args.kind c.requires) k.0 k.1 _ _ c.args.byte c.if-byte-lt-FIRST.false c.if-byte-gt-LAST.false) ∙ blank_is_none _ c.if-letter-eq-BLANK.true)
 
 pub overflow_sub-number : goal.overflow_sub-number
 overflow_sub-number c =

@@ -1,0 +1,165 @@
+-- A well shaped symbol is refused for a bad token alone.
+use Rattle.std.proofs.Common.{ℕ, ◌+◌, ◌-◌, ◌^◌, List, [], ◌∷◌, ◌++◌, length, Bool, true, false, not, ◌||◌, ◌&&◌, nat_eq, nat_lt, slice_get, Option, Some, None, Result, Ok, Err}
+use Rattle.std.specs.Result.{IfErr}
+use Rattle.sym_core.specs.declared.refusal.Refusal.{Refusal}
+use Rattle.sym_core.specs.declared.refusal.Refusal.TheVariants.{BadReference, BadValue}
+use Rattle.sym_core.specs.declared.NumberKind.TheVariants.{Seq36}
+use Rattle.sym_core.specs.Value.{counted_value}
+use Rattle.sym_shape.specs.Tree.{Tree, Forest, branch, empty, token, fixed, nothing, grown, spell}
+use Rattle.sym_link.specs.Reading.{Found, Open, ◌>>=◌}
+use Rattle.sym_link.specs.Unfold.{found, alone, standing, unfold_tree, unfold_forest}
+use Rattle.sym_demangle.specs.Mangled.{IsBadToken}
+use Rattle.cpp_grammar.specs.declared.production.Production.{Production}
+use Rattle.cpp_grammar.specs.Term.{Term, parameter}
+use Rattle.cpp_grammar.specs.Scope.{count, element, length_if_pack, is_open}
+use Rattle.cpp_grammar.specs.Values.{Candidate, State, Around, Value, tree, text_of, part, local_number}
+use Rattle.cpp_grammar.specs.References.{appended, with_packs, packs_in, substituted, parameter_named}
+use Rattle.cpp_grammar.specs.Between.{named_so_far, listed_so_far, piece_so_far, parameter_so_far, index_of, between}
+use Rattle.cpp_grammar.specs.Unfolding.{last_token, number_tested, opening, close, production_at, byte_of, cpp, first_around, first_state, first_tree, unfold_cpp}
+
+-- this is refused for a bad token alone
+abbrev IsBad : {A : Type 0} → Result A Refusal → Type 0
+IsBad r = IfErr r IsBadToken
+
+bad_bind : {A B : Type 0} (m : Result A Refusal) (k : A → Result B Refusal) → IsBad m → ((x : A) → IsBad (k x)) → IsBad (m >>= k)
+bad_bind (Ok x) k h g = g x
+bad_bind (Err e) k h g = h
+
+packs_bad : (place : ℕ) (inside : Bool) (o : Option ℕ) (state : State) → IsBad (with_packs place inside o state)
+unfolding with_packs
+packs_bad place inside None state = tt
+packs_bad place false (Some m) state = tt
+packs_bad place true (Some m) state = go state.packs
+  where
+    tested : (b : Bool) → IsBad {A = State} (elim b [ true ↦ Ok state | false ↦ Err (BadReference place) ])
+    tested true = tt
+    tested false = tt
+
+    go : (o : Option ℕ) → IsBad {A = State} (elim o [
+      | None ↦ Ok (record state { packs = Some m })
+      | Some n ↦ elim (nat_eq m n) [ true ↦ Ok state | false ↦ Err (BadReference place) ]
+    ])
+    go None = tt
+    go (Some n) = tested (nat_eq m n)
+
+substituted_bad : (around : Around) (place : ℕ) (o : Option Candidate) (state : State) → IsBad (substituted around place o state)
+unfolding substituted
+substituted_bad around place None state = tt
+substituted_bad around place (Some c) state = go (is_open c.tree && (around.in_lambda || not (nat_eq c.encoding around.encoding)))
+  where
+    named : Result (Found Value State) Refusal
+    named = with_packs place around.in_expansion (packs_in around.scope c.tree) state >>= λ s. Ok (found (tree c.tree true) s)
+
+    go : (b : Bool) → IsBad {A = Found Value State} (elim b [ true ↦ Err (BadReference place) | false ↦ named ])
+    go true = tt
+    go false = bad_bind (with_packs place around.in_expansion (packs_in around.scope c.tree) state) (λ s. Ok (found (tree c.tree true) s))
+        (packs_bad place around.in_expansion (packs_in around.scope c.tree) state) (λ s. tt)
+
+named_bad : (around : Around) (place k : ℕ) (state : State) → IsBad (parameter_named around place k state)
+unfolding parameter_named
+named_bad around place k state = go around.scope
+  where
+    packs : Term → Result State Refusal
+    packs arguments = with_packs place around.in_expansion (length_if_pack (element arguments k)) state
+
+    tested : (arguments : Term) (b : Bool) → IsBad {A = State} (elim b [ false ↦ Err (BadReference place) | true ↦ packs arguments >>= λ s. Ok (appended around (parameter k) s) ])
+    tested arguments false = tt
+    tested arguments true = bad_bind (packs arguments) (λ s. Ok (appended around (parameter k) s)) (packs_bad place around.in_expansion (length_if_pack (element arguments k)) state) (λ s. tt)
+
+    go : (o : Option Term) → IsBad {A = State} (elim o [
+      | None ↦ Err (BadReference place)
+      | Some arguments ↦ elim (nat_lt k (count arguments)) [ false ↦ Err (BadReference place) | true ↦ packs arguments >>= λ s. Ok (appended around (parameter k) s) ]
+    ])
+    go None = tt
+    go (Some arguments) = tested arguments (nat_lt k (count arguments))
+
+parameter_bad : (around : Around) (place k : ℕ) (vs : List Value) (state : State) → IsBad (parameter_so_far around place k vs state)
+unfolding parameter_so_far listed_so_far
+parameter_bad around place k vs state = bad_bind (parameter_named around place k state) (λ s. listed_so_far around (parameter k) vs s) (named_bad around place k state) (λ s. tt)
+
+number_bad : (place : ℕ) (digits : List ℕ) (state : State) → IsBad (number_tested place digits state)
+unfolding number_tested
+number_bad place digits state = go (nat_lt (local_number digits) (2 ^ 64))
+  where
+    go : (b : Bool) → IsBad {A = State} (elim b [ true ↦ Ok state | false ↦ Err (BadValue place) ])
+    go true = tt
+    go false = tt
+
+opening_bad : (p : Production) (parts : Forest) (place : ℕ) (state : State) → IsBad (opening p parts place state)
+unfolding opening
+opening_bad Production.Lambda parts place state = number_bad (place - 1) (last_token parts []) state
+opening_bad Production.Unnamed parts place state = number_bad (place - 1) (last_token parts []) state
+opening_bad _ parts place state = tt
+
+between_bad : (p : Production) (around : Around) (place : ℕ) (vs : List Value) (state : State) → IsBad (between p around place vs state)
+unfolding between named_so_far listed_so_far piece_so_far
+between_bad Production.Encoding around place [] state = tt
+between_bad Production.Encoding around place (name ∷ vs) state = tt
+between_bad Production.Special around place vs state = tt
+between_bad Production.Guard around place vs state = tt
+between_bad Production.LocalName around place (e ∷ vs) state = tt
+between_bad Production.LocalType around place (e ∷ vs) state = tt
+between_bad Production.InternalName around place (v ∷ []) state = tt
+between_bad Production.SourceName around place (v ∷ []) state = tt
+between_bad Production.LocalTypeName around place (v ∷ []) state = tt
+between_bad Production.OperatorName around place (v ∷ []) state = tt
+between_bad Production.Constructor around place (v ∷ []) state = tt
+between_bad Production.Destructor around place (v ∷ []) state = tt
+between_bad Production.StdName around place (v ∷ []) state = tt
+between_bad Production.AbbreviatedName around place (v ∷ []) state = tt
+between_bad Production.NestStd around place (v ∷ []) state = tt
+between_bad Production.NestStd around place (v ∷ arguments ∷ []) state = tt
+between_bad Production.NestAbbreviated around place (v ∷ []) state = tt
+between_bad Production.NestParameter around place (v ∷ []) state = parameter_bad around place (index_of v) [] state
+between_bad Production.NestInternal around place (v ∷ []) state = tt
+between_bad Production.NestSource around place (v ∷ []) state = tt
+between_bad Production.NestLocalType around place (v ∷ []) state = tt
+between_bad Production.NestArguments around place [] state = tt
+between_bad Production.NestArguments around place (arguments ∷ e ∷ []) state = tt
+between_bad Production.NestArguments around place (v ∷ e ∷ component ∷ []) state = tt
+between_bad Production.NestNext around place [] state = tt
+between_bad Production.NestNext around place (component ∷ []) state = tt
+between_bad Production.Arguments around place [] state = tt
+between_bad Production.PackArgument around place (elements ∷ []) state = tt
+between_bad Production.Lambda around place vs state = tt
+between_bad Production.Expansion around place vs state = tt
+between_bad Production.Parameter around place (v ∷ []) state = parameter_bad around place (index_of v) [] state
+between_bad Production.TypeWithS around place (v ∷ []) state = tt
+between_bad Production.LvalueItem around place (v ∷ []) state = tt
+between_bad Production.RvalueItem around place (v ∷ []) state = tt
+between_bad Production.IntegerLiteral around place (v ∷ []) state = tt
+between_bad _ around place vs state = tt
+
+close_bad : (p : Production) (byte : ℕ) (around : Around) (place : ℕ) (began : State) (vs : List Value) (state : State) → IsBad (close p byte around place began vs state)
+unfolding close
+close_bad Production.Substitution byte around place began vs state = substituted_bad around (place - 1) (slice_get state.candidates (counted_value Seq36 (text_of (part vs 0)))) state
+close_bad _ byte around place began vs state = tt
+
+mutual
+  unfolding cpp
+
+  tree_bad : (t : Tree) (around : Around) (place : ℕ) (state : State) → IsBad (unfold_tree cpp around place t state)
+  tree_bad (branch rule taken parts) around place state =
+      let whole = standing rule taken place around state in
+      let p = production_at rule.number in
+      bad_bind (opening p parts place state) (λ begun. unfold_forest cpp whole [] (place + length taken) parts begun >>= λ inner. close p (byte_of taken) around place state inner.value inner.state >>= alone)
+      (opening_bad p parts place state)
+      (λ begun. bad_bind (unfold_forest cpp whole [] (place + length taken) parts begun) (λ inner. close p (byte_of taken) around place state inner.value inner.state >>= alone)
+      (forest_bad parts whole [] (place + length taken) begun)
+      (λ inner. bad_bind (close p (byte_of taken) around place state inner.value inner.state) alone (close_bad p (byte_of taken) around place state inner.value inner.state) (λ one. tt)))
+  tree_bad empty around place state = tt
+  tree_bad (token t) around place state = tt
+  tree_bad (fixed byte) around place state = tt
+
+  forest_bad : (f : Forest) (rule : Open State Around) (vs : List Value) (place : ℕ) (state : State) → IsBad (unfold_forest cpp rule vs place f state)
+  forest_bad nothing rule vs place state = tt
+  forest_bad (grown t f) rule vs place state =
+      bad_bind (between (production_at rule.rule.number) rule.context rule.place vs state)
+      (λ next. unfold_tree cpp next.context place t next.state >>= λ part. unfold_forest cpp rule (next.values ++ part.value) (place + length (spell t)) f part.state)
+      (between_bad (production_at rule.rule.number) rule.context rule.place vs state)
+      (λ next. bad_bind (unfold_tree cpp next.context place t next.state) (λ part. unfold_forest cpp rule (next.values ++ part.value) (place + length (spell t)) f part.state)
+      (tree_bad t next.context place next.state) (λ part. forest_bad f rule (next.values ++ part.value) (place + length (spell t)) part.state))
+
+pub refused_for_a_token : (shape : Tree) → IfErr (unfold_cpp shape) IsBadToken
+unfolding unfold_cpp
+refused_for_a_token shape = bad_bind (unfold_tree cpp first_around 0 shape first_state) (λ whole. Ok (first_tree whole.value)) (tree_bad shape first_around 0 first_state) (λ whole. tt)
