@@ -8,14 +8,16 @@ use Rattle.cpp_grammar.specs.Term.{Term}
 use Rattle.cpp_grammar.specs.Items.{Item}
 use Rattle.cpp_grammar.specs.Parts.{parts}
 use Rattle.cpp_grammar.specs.Ranks.{rank}
-use Rattle.cpp_grammar.specs.Answer.{root_item, answer_within}
+use Rattle.cpp_grammar.specs.Answer.{shown, root_item, answer_within}
 use Rattle.cpp_grammar.proofs.RanksFall.{ranks_fall}
 use Rattle.sym_print.specs.Answer.{text_within}
 use Rattle.cpp_term.specs.Items as item_
 use Rattle.cpp_term.specs.Parts as part_
 use Rattle.cpp_term.specs.Ranks as rank_
 use Rattle.cpp_term.specs.Annotated.{noted_item, noted_part, noted_parts, noted_scope, noted_context, noted_tree}
-use Rattle.cpp_term.specs.Answer.{noted_answer}
+use Rattle.cpp_term.specs.Answer.{noted_shown, noted_answer}
+use Rattle.cpp_term.specs.Erased.{erase, CarriesArguments}
+use Rattle.cpp_term.specs.Term as term_
 use Rattle.cpp_term.proofs.PartsNoted.{parts_noted}
 use Rattle.cpp_term.proofs.RanksNoted as noted_ranks
 
@@ -34,6 +36,11 @@ alike d i j e = subst (λ ps. AreAlike Noted (parts d i) ps) (sym (ap (part_.par
 -- An annotated item has the text and the cost of the item.
 pub prints_noted : (d : Detail) (i : Item) → printed (parts d) rank i ≡ printed (part_.parts d) rank_.rank (noted_item i)
 prints_noted d i = alike-prints Noted (parts d) rank (ranks_fall d) (part_.parts d) rank_.rank (noted_ranks.ranks_fall d) (alike d) i (noted_item i) refl
+
+-- The tree of a symbol prints what it does without its arguments.
+pub shows_noted : (d : Detail) (t : term_.Term) → CarriesArguments t → noted_shown d t ≡ shown d (root_item (erase t))
+unfolding noted_item noted_context noted_scope
+shows_noted d t carries = ap (noted_shown d) (sym carries) ∙ sym (prints_noted d (root_item (erase t)))
 
 -- An annotated result gives the answer.
 pub answer_noted : (d : Detail) (limit : ℕ) (r : Result Term Refusal) → noted_answer d limit (noted_tree r) ≡ answer_within d limit r

@@ -3,19 +3,22 @@
 //! for the trees of `cpp_grammar`, in which a parameter is a number.
 #![tactic(auto)]
 
-ghost use Rattle.std.specs.Prelude.{◌≡◌, ℕ};
+ghost use Rattle.std.specs.Prelude.{◌≡◌, ℕ, Ok, Err};
+ghost use Rattle.sym_core.specs.declared.refusal.Refusal.{Refusal};
 ghost use Rattle.sym_print.specs.declared.detail.Detail.{Detail};
 ghost use Rattle.sym_shape.specs.Tree.{Tree, IsTree};
 ghost use Rattle.sym_shape.specs.declared.rule.Sym.TheVariants.{Kind};
 ghost use Rattle.cpp_grammar.specs.Table.{abi};
-ghost use Rattle.cpp_grammar.specs.Answer.{answer_within};
+ghost use Rattle.cpp_grammar.specs.Answer.{shown, root_item, answer_within};
 ghost use Rattle.cpp_grammar.specs.Items.{Item};
 ghost use Rattle.cpp_grammar.specs.Parts as leaf_;
 ghost use Rattle.cpp_grammar.specs.Unfolding as unfolding_;
 ghost use Rattle.cpp_term.specs.Parts as part_;
 ghost use Rattle.cpp_term.specs.Unfolding as unfolded_;
 ghost use Rattle.cpp_term.specs.Annotated.{noted_item, noted_parts, noted_tree};
-ghost use Rattle.cpp_term.specs.Answer.{noted_answer};
+ghost use Rattle.cpp_term.specs.Answer.{noted_shown, noted_answer};
+ghost use Rattle.cpp_term.specs.Erased.{erase, CarriesArguments};
+ghost use Rattle.cpp_term.specs.Term.{Term};
 
 /// What is shown of an item whose parameters carry their arguments is what is shown of the item without them: the same texts,
 /// and the same items with their arguments, in each detail and form. So texts and costs are the same.
@@ -27,6 +30,19 @@ pub fn parts_are_annotated()
 /// parameter with its argument; or it's refused for the same reason, at the same place.
 pub fn trees_are_annotated()
     ensures { (shape : Tree) → IsTree abi (Kind 0) shape → unfolded_.unfold_cpp shape ≡ noted_tree (unfolding_.unfold_cpp shape) }
+{}
+
+/// Without its arguments the tree that a symbol is read into is the tree of the symbol, and they can be told from that tree: no
+/// two symbols with one tree differ in them.
+pub fn arguments_are_erased()
+    ensures tree { (shape : Tree) (t : Term) → IsTree abi (Kind 0) shape → unfolded_.unfold_cpp shape ≡ Ok t → unfolding_.unfold_cpp shape ≡ Ok (erase t) }
+    ensures carries { (shape : Tree) (t : Term) → IsTree abi (Kind 0) shape → unfolded_.unfold_cpp shape ≡ Ok t → CarriesArguments t }
+    ensures refused { (shape : Tree) (refusal : Refusal) → IsTree abi (Kind 0) shape → unfolded_.unfold_cpp shape ≡ Err refusal → unfolding_.unfold_cpp shape ≡ Err refusal }
+{}
+
+/// A tree whose parameters carry their arguments has the text and the cost of the tree without them, in either detail.
+pub fn texts_are_the_same()
+    ensures { (detail : Detail) (t : Term) → CarriesArguments t → noted_shown detail t ≡ shown detail (root_item (erase t)) }
 {}
 
 /// The answer for a well shaped symbol is that for its tree whose parameters carry their arguments: the text where that costs

@@ -4,7 +4,8 @@ use Rattle.std.specs.Prelude.{slice_get}
 use Rattle.sym_core.specs.declared.refusal.Refusal.{Refusal}
 use Rattle.sym_core.specs.declared.refusal.Refusal.TheVariants as refusals
 use Rattle.sym_print.specs.declared.detail.Detail.{Detail}
-use Rattle.sym_shape.specs.Tree.{Tree, spell}
+use Rattle.sym_shape.specs.declared.rule.Sym.TheVariants.{Kind}
+use Rattle.sym_shape.specs.Tree.{Tree, IsTree, spell}
 use Rattle.sym_link.specs.Driving.{Fails}
 use Rattle.sym_link.specs.Following.{meaning_of}
 use Rattle.sym_link.specs.Reading.{◌>>=◌}
@@ -43,5 +44,5 @@ fails_behind : {A B : Type 0} (e : Refusal) (m : Result A Refusal) (k : A → Re
 fails_behind refusals.Memory m k fails = tt
 fails_behind e m k fails = ap (λ r. r >>= k) fails
 
-pub v0_fails : (shape : Tree) (e : Refusal) → Fails e (meaning_of (v0_view (spell shape)) shape) → Fails e (unfolded shape)
-v0_fails shape e fails = fails_behind e (meaning_of (v0_view (spell shape)) shape) (λ whole. symbol_of whole.value) fails
+pub v0_fails : (shape : Tree) (e : Refusal) → IsTree v0_table (Kind 0) shape → Fails e (meaning_of (v0_view (spell shape)) shape) → Fails e (unfolded shape)
+v0_fails shape e is fails = fails_behind e (meaning_of (v0_view (spell shape)) shape) (λ whole. symbol_of whole.value) fails

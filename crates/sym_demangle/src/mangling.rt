@@ -6,7 +6,8 @@ ghost use Rattle.sym_core.specs.declared.refusal.Refusal.{Refusal};
 ghost use Rattle.sym_core.specs.declared.refusal.Refusal.TheVariants as refusals;
 ghost use Rattle.sym_print.specs.declared.detail.Detail.{Detail};
 ghost use Rattle.sym_print.specs.declared.layout.Part.TheVariants as part;
-ghost use Rattle.sym_shape.specs.Tree.{Tree, spell};
+ghost use Rattle.sym_shape.specs.Tree.{Tree, IsTree, spell};
+ghost use Rattle.sym_shape.specs.declared.rule.Sym.TheVariants.{Kind};
 ghost use Rattle.sym_link.specs.Driving.{Fails};
 ghost use Rattle.sym_link.specs.Following.{meaning_of};
 ghost use Rattle.sym_demangle.specs.Mangled.{Mangled, RefusesBadTokens};
@@ -82,6 +83,6 @@ pub trait Mangling: Grammar + Copy {
 
     ghost view_table: { (s : List ℕ) → (Self.Linked.view s).table ≡ mangled.table };
 
-    // a shape whose meaning is a refusal stands for that refusal
-    ghost fails: { (shape : Tree) (refusal : Refusal) → Fails refusal (meaning_of (Self.Linked.view (spell shape)) shape) → Fails refusal (mangled.unfolded shape) };
+    // a symbol's shape whose meaning is a refusal stands for that refusal
+    ghost fails: { (shape : Tree) (refusal : Refusal) → IsTree mangled.table (Kind 0) shape → Fails refusal (meaning_of (Self.Linked.view (spell shape)) shape) → Fails refusal (mangled.unfolded shape) };
 }
