@@ -1,13 +1,18 @@
 -- What was annotated is erased again.
-use Rattle.std.proofs.Common.{◌≡◌, refl, ap, sym, ◌∙◌, Option, None, Result, Ok, Err}
+use Rattle.std.proofs.Common.{◌≡◌, refl, ap, sym, ◌∙◌, List, Option, None, Result, Ok, Err}
 use Rattle.sym_core.specs.declared.refusal.Refusal.{Refusal}
+use Rattle.sym_core.specs.declared.refusal.Refusal.TheVariants as refusals
 use Rattle.sym_shape.specs.declared.rule.Sym.TheVariants.{Kind}
 use Rattle.sym_shape.specs.Tree.{Tree, IsTree}
+use Rattle.sym_link.specs.Driving.{Fails}
+use Rattle.sym_link.specs.Reading.{Found, ◌>>=◌}
+use Rattle.sym_link.specs.Unfold.{unfold_tree}
 use Rattle.cpp_grammar.specs.Table.{abi}
 use Rattle.cpp_grammar.specs.Term.{Term, symbol, function, object, special, thunk, guard, alone, in_std, within, instance, local, lambda, pointer, lvalue, rvalue, array, member_pointer, function_type, qualified, vector, complex, expansion, integer, encoding_literal, address_of, pack, list}
 use Rattle.cpp_grammar.specs.Unfolding.{unfold_cpp}
 use Rattle.cpp_term.specs.Term as term_
 use Rattle.cpp_term.specs.Scope as scope_
+use Rattle.cpp_term.specs.Values.{Value, State}
 use Rattle.cpp_term.specs.Unfolding as unfolded_
 use Rattle.cpp_term.specs.Annotated.{annotate, noted_tree}
 use Rattle.cpp_term.specs.Erased.{erase, CarriesArguments}
@@ -73,3 +78,24 @@ refused_alike shape refusal is e = go (unfold_cpp shape) refl (sym (unfold_noted
     go : (o : Result Term Refusal) → unfold_cpp shape ≡ o → noted_tree o ≡ Err refusal → unfold_cpp shape ≡ Err refusal
     go (Ok u) is h = absurd cc
     go (Err other) is h = is ∙ cc
+
+-- ## The values that a shape is read as
+
+reading : Tree → Result (Found (List Value) State) Refusal
+reading shape = unfold_tree unfolded_.cpp unfolded_.first_around 0 shape unfolded_.first_state
+
+-- a shape that is read is that of a symbol, whose tree is that of its one value
+pub reading_stands : (shape : Tree) (r : Found (List Value) State) → IsTree abi (Kind 0) shape → unfold_tree unfolded_.cpp unfolded_.first_around 0 shape unfolded_.first_state ≡ Ok r →
+    IsSymbolTree shape (unfolded_.first_tree r.value)
+unfolding unfolded_.unfold_cpp
+reading_stands shape r is e = symbol_tree shape (unfolded_.first_tree r.value) is (ap (λ m. m >>= λ whole. Ok (unfolded_.first_tree whole.value)) e)
+
+refused_too : (shape : Tree) (refusal : Refusal) → IsTree abi (Kind 0) shape → reading shape ≡ Err refusal → unfold_cpp shape ≡ Err refusal
+unfolding reading unfolded_.unfold_cpp
+refused_too shape refusal is e = refused_alike shape refusal is (ap (λ m. m >>= λ whole. Ok (unfolded_.first_tree whole.value)) e)
+
+-- a shape whose reading fails is that of a symbol that is refused
+pub reading_fails : (shape : Tree) (refusal : Refusal) → IsTree abi (Kind 0) shape → Fails refusal (unfold_tree unfolded_.cpp unfolded_.first_around 0 shape unfolded_.first_state) → Fails refusal (unfold_cpp shape)
+unfolding reading
+reading_fails shape refusals.Memory is fails = tt
+reading_fails shape refusal is fails = refused_too shape refusal is fails

@@ -1,0 +1,96 @@
+#!/usr/bin/env python3
+"""Writes the definitions of crate cpp_term that are those of cpp_grammar over trees whose parameters carry their arguments.
+usage: annotated.py CRATES
+CRATES is the folder of the crates. What speaks of no tree is shared, and isn't written again. The modules Items, Ranks, Annotated,
+Answer and Erased of cpp_term are written by hand."""
+import re, sys
+
+# what stays in cpp_grammar alone, by module
+SHARED = {
+    "Term": "Qualifiers RefQualifier Signed Adjustment Thunk",
+    "Scope": "first_of",
+    "Values": "unqualified normal is_zero signed_digits local_number",
+    "Unfolding": "last_token production_at byte_of",
+    "Parts": "qualifier_text ref_text blank_last begins_with source_text encoding_text thunk_text is_below",
+}
+BY_HAND = ("Items", "Ranks")
+
+# what differs: each text stands once
+CHANGED = {
+    "Term": [("  parameter : (number : ℕ) → Term\n", "  -- a parameter by its number, and the argument that it names\n  parameter : (number : ℕ) → (argument : Term) → Term\n")],
+    "Scope": [("is_open (parameter number) =", "is_open (parameter number argument) ="),
+              ("pack_length : (scope : Term) → Term →", "pack_length : Term →"),
+              ("pack_length scope (parameter number) = length_if_pack (element scope number)", "pack_length (parameter number argument) = length_if_pack argument")],
+    "References": [("packs_in (Some scope) t = pack_length scope t", "packs_in (Some scope) t = pack_length t"),
+                   ("(packs_in around.scope c.tree)", "(pack_length c.tree)"),
+                   ("appended around (parameter k)", "appended around (parameter k (element arguments k))")],
+    "Between": [("-- a parameter is tested, and becomes", "-- the argument that a parameter names\nunfoldable pub argument_at : Around → ℕ → Term\n"
+                 "argument_at around k = elim around.scope [ None ↦ absent | Some arguments ↦ element arguments k ]\n\n-- a parameter is tested, and becomes"),
+                ("listed_so_far around (parameter k) vs s", "listed_so_far around (parameter k (argument_at around k)) vs s")],
+    "Parts": [(f"{form}_parts {d}context (parameter k) = as_item {form} closed (argument context k) ∷ []",
+               f"{form}_parts {d}context (parameter k a) = as_item {form} closed (argument context a) ∷ []")
+              for form, d in (("left", "d "), ("low", "d "), ("right", ""), ("base", "d "))]
+             + [("types_of name = record { scope = arguments_of name; index = None }", "types_of name = closed"),
+                ("at_index i context = record { scope = context.scope; index = Some i }", "at_index i context = record { index = Some i }")],
+}
+# names that the changes bring in
+BROUGHT = {"Between": {"Prelude": ["Some"], "Scope": ["element"], "Term": ["absent"]}}
+MODULES = ("Term", "Scope", "Values", "References", "Between", "Meaning", "Unfolding", "Parts")
+
+def names_of(block):
+    """the definitions of a block, and the constructors of its types"""
+    names = re.findall(r"^(?:unfoldable pub|abbrev pub|abbrev|pub record|pub data) ([^\s:]+)", block, re.M)
+    if re.search(r"^pub data", block, re.M): names += re.findall(r"^  (\w+) :", block, re.M)
+    return names
+
+def read(path):
+    """the heading, the imports and the blocks of a module"""
+    blocks = open(path).read().rstrip("\n").split("\n\n")
+    head = blocks[0].split("\n")
+    return [l for l in head if l.startswith("--")], [l for l in head if l.startswith("use ")], blocks[1:]
+
+def used(name, body):
+    if "◌" in name: return name.strip("◌").split("◌")[0] in re.sub(r'"[^"\n]*"', "", body)
+    return re.search(rf"(?<![\w.]){re.escape(name)}(?!\w)", body) is not None
+
+def body_of(module, blocks):
+    shared = SHARED.get(module, "").split()
+    kept = [b for b in blocks if not any(n in shared for n in names_of(b))]
+    # a heading of which nothing is left
+    kept = [b for i, b in enumerate(kept) if not (b.startswith("-- ##") and "\n" not in b and (i + 1 == len(kept) or kept[i + 1].startswith("-- ##")))]
+    body = "\n\n".join(kept)
+    for old, new in CHANGED.get(module, []):
+        assert body.count(old) == 1, (module, old, body.count(old))
+        body = body.replace(old, new)
+    # no scope is passed on
+    return body.replace("pack_length scope ", "pack_length ") if module == "Scope" else body
+
+def imports_of(module, uses, body, theirs):
+    out = []
+    for line in uses:
+        path, names = re.match(r"use (\S+)\.\{(.*)\}", line).groups()
+        names = names.split(", ")
+        last = path.split(".")[-1]
+        names += [n for n in BROUGHT.get(module, {}).get(last, []) if n not in names]
+        if not path.startswith("Rattle.cpp_grammar.specs.") or "declared" in path:
+            out.append((path, [n for n in names if used(n, body)])); continue
+        out.append((path.replace("cpp_grammar", "cpp_term"), [n for n in names if n in theirs.get(last, ()) and used(n, body)]))
+        out.append((path, [n for n in names if n not in theirs.get(last, ()) and used(n, body)]))
+    for last, names in BROUGHT.get(module, {}).items():
+        if last != "Prelude" and not any(p.endswith("." + last) for p, _ in out): out.append((f"Rattle.cpp_term.specs.{last}", names))
+    return out
+
+def write(crates):
+    here = {m: read(f"{crates}/cpp_grammar/specs/{m}.antt") for m in MODULES}
+    bodies = {m: body_of(m, blocks) for m, (title, uses, blocks) in here.items()}
+    theirs = {m: {n for b in body.split("\n\n") for n in names_of(b)} for m, body in bodies.items()}
+    for m in BY_HAND: theirs[m] = {n for b in read(f"{crates}/cpp_term/specs/{m}.antt")[2] for n in names_of(b)}
+    for m in MODULES:
+        title, uses, blocks = here[m]
+        lines = imports_of(m, uses, bodies[m], theirs)
+        shared = [n for b in blocks for n in names_of(b) if n not in theirs[m] and used(n, bodies[m])]
+        if shared: lines.append((f"Rattle.cpp_grammar.specs.{m}", shared))
+        text = ["-- Generated by tools/annotated.py. " + title[0][3:], *title[1:], *[f"use {p}.{{{', '.join(ns)}}}" for p, ns in lines if ns]]
+        with open(f"{crates}/cpp_term/specs/{m}.antt", "w") as f: f.write("\n".join(text) + "\n\n" + bodies[m] + "\n")
+
+if __name__ == "__main__": write(sys.argv[1])
