@@ -51,6 +51,8 @@ def read(path):
 
 def used(name, body):
     if "◌" in name: return name.strip("◌").split("◌")[0] in re.sub(r'"[^"\n]*"', "", body)
+    # comments and the fields of a record don't count
+    body = re.sub(r"^ *--.*$|^  \w+ = ", "", body, flags=re.M)
     return re.search(rf"(?<![\w.]){re.escape(name)}(?!\w)", body) is not None
 
 def body_of(module, blocks):
