@@ -314,7 +314,7 @@ parts_in d context first t = first_parts context t
 parts_in d context more t = more_parts context t
 parts_in d context (expand i) t = expand_parts context t i
 
--- An empty text isn't a part. The texts of a symbol's tree are not empty.
+-- an empty text isn't a part, so no tree has one, be it a symbol's or not
 unfoldable pub not_empty : List (PartOf Item) → List (PartOf Item)
 not_empty [] = []
 not_empty (text [] ∷ ps) = not_empty ps
