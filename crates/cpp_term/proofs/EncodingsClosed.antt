@@ -32,15 +32,15 @@ use Rattle.cpp_term.proofs.MeaningNoted.{Inside}
 
 -- ## What is chosen in a kind
 
-record Chosen (k : ℕ) (rule : Rule) : Type 0 where
-  kind : Kind
-  number : k ≡ number_of_kind kind
-  production : Production
-  is : rule ≡ rule_of production
-  byte : ℕ
-  chosen : choose kind byte ≡ Some production
+pub record Chosen (k : ℕ) (rule : Rule) : Type 0 where
+  pub kind : Kind
+  pub number : k ≡ number_of_kind kind
+  pub production : Production
+  pub is : rule ≡ rule_of production
+  pub byte : ℕ
+  pub chosen : choose kind byte ≡ Some production
 
-chosen_rule : (k : ℕ) (rule : Rule) (taken : List ℕ) → k < abi.kinds → TakesRule abi k rule taken → Chosen k rule
+pub chosen_rule : (k : ℕ) (rule : Rule) (taken : List ℕ) → k < abi.kinds → TakesRule abi k rule taken → Chosen k rule
 unfolding rule_taken
 chosen_rule k rule taken lt takes = go (slice_get kinds k) refl
   where

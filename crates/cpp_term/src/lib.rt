@@ -3,7 +3,7 @@
 //! for the trees of `cpp_grammar`, in which a parameter is a number.
 #![tactic(auto)]
 
-ghost use Rattle.std.specs.Prelude.{◌≡◌, ℕ, Ok, Err};
+ghost use Rattle.std.specs.Prelude.{◌≡◌, ℕ, List, Ok, Err};
 ghost use Rattle.sym_core.specs.declared.refusal.Refusal.{Refusal};
 ghost use Rattle.sym_print.specs.declared.detail.Detail.{Detail};
 ghost use Rattle.sym_shape.specs.Tree.{Tree, IsTree};
@@ -18,7 +18,7 @@ ghost use Rattle.cpp_term.specs.Unfolding as unfolded_;
 ghost use Rattle.cpp_term.specs.Annotated.{noted_item, noted_parts, noted_tree};
 ghost use Rattle.cpp_term.specs.Answer.{noted_shown, noted_answer};
 ghost use Rattle.cpp_term.specs.Erased.{erase, CarriesArguments};
-ghost use Rattle.cpp_term.specs.Term.{Term};
+ghost use Rattle.cpp_term.specs.Term.{Term, symbol};
 
 /// What is shown of an item whose parameters carry their arguments is what is shown of the item without them: the same texts,
 /// and the same items with their arguments, in each detail and form. So texts and costs are the same.
@@ -33,10 +33,11 @@ pub fn trees_are_annotated()
 {}
 
 /// Without its arguments the tree that a symbol is read into is the tree of the symbol, and they can be told from that tree: no
-/// two symbols with one tree differ in them.
+/// two symbols with one tree differ in them. It is an encoding with what stands behind it.
 pub fn arguments_are_erased()
     ensures tree { (shape : Tree) (t : Term) → IsTree abi (Kind 0) shape → unfolded_.unfold_cpp shape ≡ Ok t → unfolding_.unfold_cpp shape ≡ Ok (erase t) }
     ensures carries { (shape : Tree) (t : Term) → IsTree abi (Kind 0) shape → unfolded_.unfold_cpp shape ≡ Ok t → CarriesArguments t }
+    ensures whole { (shape : Tree) (t : Term) → IsTree abi (Kind 0) shape → unfolded_.unfold_cpp shape ≡ Ok t → (encoding : Term) × (suffix : List ℕ) × (t ≡ symbol encoding suffix) }
     ensures refused { (shape : Tree) (refusal : Refusal) → IsTree abi (Kind 0) shape → unfolded_.unfold_cpp shape ≡ Err refusal → unfolding_.unfold_cpp shape ≡ Err refusal }
 {}
 

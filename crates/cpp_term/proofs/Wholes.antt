@@ -1,0 +1,69 @@
+-- What a symbol is read into is a whole symbol.
+use Rattle.std.proofs.Common.{◌≡◌, refl, ap, sym, ◌∙◌, ℕ, ◌+◌, List, [], ◌∷◌, length, Bool, true, false, cond, Option, Some, None, Result, Ok, lit≤, arith}
+use Rattle.std.proofs.lemmas.Bool.{true≢false}
+use Rattle.sym_shape.specs.declared.rule.Sym.TheVariants.{Kind as OfKind}
+use Rattle.sym_shape.specs.Tree.{Tree, branch, empty, token, fixed, IsTree}
+use Rattle.sym_link.specs.Reading.{Found, Open, ◌>>=◌}
+use Rattle.sym_link.specs.Unfold.{found, alone, standing, unfold_tree, unfold_forest}
+use Rattle.cpp_grammar.specs.declared.kind.Kind.{Kind}
+use Rattle.cpp_grammar.specs.declared.production.Production.{Production}
+use Rattle.cpp_grammar.specs.Grammar.{number_of_kind, is_in, pick, alternatives, choose, kinds, may_be_empty}
+use Rattle.cpp_grammar.specs.Table.{abi, sheet, sheet_with}
+use Rattle.cpp_grammar.specs.Unfolding.{production_at, byte_of}
+use Rattle.cpp_grammar.proofs.ClosedStates.{ok_same, behind_bind}
+use Rattle.cpp_grammar.proofs.ClosedTrees.{at_number, known}
+use Rattle.cpp_term.specs.Term.{Term, symbol}
+use Rattle.cpp_term.specs.Values.{State, Around, Value, tree_of, text_of, part}
+use Rattle.cpp_term.specs.Meaning.{meaning}
+use Rattle.cpp_term.specs.Unfolding.{opening, behind, close, cpp, first_around, first_state, first_tree, unfold_cpp}
+use Rattle.cpp_term.proofs.EncodingsClosed.{Chosen, chosen_rule}
+
+first_kind : (kind : Kind) → 0 ≡ number_of_kind kind → kind ≡ Kind.Symbol
+unfolding number_of_kind
+first_kind Kind.Symbol e = refl
+first_kind _ e = absurd (omega (arith, e))
+
+picked_symbol : (b : Bool) (p : Production) → cond b (Some Production.Symbol) None ≡ Some p → p ≡ Production.Symbol
+picked_symbol true p e = cc
+picked_symbol false p e = absurd cc
+
+symbol_alone : (byte : ℕ) (p : Production) → choose Kind.Symbol byte ≡ Some p → p ≡ Production.Symbol
+unfolding choose alternatives pick
+symbol_alone byte p e = picked_symbol _ p e
+
+symbol_there : abi.may_be_empty 0 ≡ false
+unfolding abi sheet sheet_with kinds may_be_empty
+symbol_there = refl
+
+pub record IsWhole (t : Term) : Type 0 where
+  pub encoding : Term
+  pub suffix : List ℕ
+  pub is : t ≡ symbol encoding suffix
+
+pub whole_symbol : (shape : Tree) (t : Term) → IsTree abi (OfKind 0) shape → unfold_cpp shape ≡ Ok t → IsWhole t
+unfolding unfold_cpp cpp first_tree close meaning tree_of
+whole_symbol (branch rule taken parts) t tree e =
+    let whole : Open State Around = standing rule taken 0 first_around first_state in
+    let byte = byte_of taken in
+    let c = chosen_rule 0 rule taken (known 0 (lit≤ tt)) tree.0 in
+    let only : c.production ≡ Production.Symbol = symbol_alone c.byte c.production (sym (ap (λ k. choose k c.byte) (first_kind c.kind c.number)) ∙ c.chosen) in
+    let number : production_at rule.number ≡ Production.Symbol = ap (λ x. production_at x.number) c.is ∙ at_number c.production ∙ only in
+    let read = behind_bind (unfold_tree cpp first_around 0 (branch rule taken parts) first_state) (λ r. Ok (first_tree r.value)) t e in
+    let begun = behind_bind (opening (production_at rule.number) parts 0 first_state)
+    (λ begun. unfold_forest cpp whole [] (0 + length taken) parts begun >>= λ inner. close (production_at rule.number) byte first_around 0 first_state inner.value inner.state >>= alone) read.value read.is in
+    let inner = behind_bind (unfold_forest cpp whole [] (0 + length taken) parts begun.value)
+    (λ inner. close (production_at rule.number) byte first_around 0 first_state inner.value inner.state >>= alone) read.value begun.next in
+    let vs = inner.value.value in
+    let ended = behind_bind (close (production_at rule.number) byte first_around 0 first_state vs inner.value.state) alone read.value inner.next in
+    let one = ended.value in
+    let same : found (one.value ∷ []) one.state ≡ read.value = ok_same (found (one.value ∷ []) one.state) read.value ended.next in
+    let closed : close Production.Symbol byte first_around 0 first_state vs inner.value.state ≡ Ok one = sym (ap (λ q. close q byte first_around 0 first_state vs inner.value.state) number) ∙ ended.is in
+    let means = ok_same (found (meaning Production.Symbol byte first_around vs) (behind Production.Symbol byte first_around first_state vs inner.value.state)) one closed in
+    record {
+      encoding = tree_of (part vs 1);
+      suffix = text_of (part vs 2);
+      is = sym (ok_same (first_tree read.value.value) t read.next) ∙ sym (ap (λ x. first_tree x.value) same) ∙ sym (ap (λ x. tree_of x.value) means);
+    }
+whole_symbol empty t tree e = absurd (true≢false (sym tree ∙ symbol_there))
+whole_symbol (token u) t tree e = absurd tree
+whole_symbol (fixed byte) t tree e = absurd tree
