@@ -1,22 +1,22 @@
 -- What a symbol is read into is a whole symbol.
-use Rattle.std.proofs.Common.{◌≡◌, refl, ap, sym, ◌∙◌, ℕ, ◌+◌, List, [], ◌∷◌, length, Bool, true, false, cond, Option, Some, None, Result, Ok, lit≤, arith}
+use Rattle.std.proofs.Common.{◌≡◌, refl, ap, sym, ◌∙◌, ℕ, ◌+◌, List, [], ◌∷◌, length, Bool, true, false, cond, Some, None, Ok, lit≤, arith}
 use Rattle.std.proofs.lemmas.Bool.{true≢false}
 use Rattle.sym_shape.specs.declared.rule.Sym.TheVariants.{Kind as OfKind}
 use Rattle.sym_shape.specs.Tree.{Tree, branch, empty, token, fixed, IsTree}
-use Rattle.sym_link.specs.Reading.{Found, Open, ◌>>=◌}
+use Rattle.sym_link.specs.Reading.{Open, ◌>>=◌}
 use Rattle.sym_link.specs.Unfold.{found, alone, standing, unfold_tree, unfold_forest}
 use Rattle.cpp_grammar.specs.declared.kind.Kind.{Kind}
 use Rattle.cpp_grammar.specs.declared.production.Production.{Production}
-use Rattle.cpp_grammar.specs.Grammar.{number_of_kind, is_in, pick, alternatives, choose, kinds, may_be_empty}
+use Rattle.cpp_grammar.specs.Grammar.{number_of_kind, pick, alternatives, choose, kinds, may_be_empty}
 use Rattle.cpp_grammar.specs.Table.{abi, sheet, sheet_with}
 use Rattle.cpp_grammar.specs.Unfolding.{production_at, byte_of}
 use Rattle.cpp_grammar.proofs.ClosedStates.{ok_same, behind_bind}
 use Rattle.cpp_grammar.proofs.ClosedTrees.{at_number, known}
 use Rattle.cpp_term.specs.Term.{Term, symbol}
-use Rattle.cpp_term.specs.Values.{State, Around, Value, tree_of, text_of, part}
+use Rattle.cpp_term.specs.Values.{State, Around, tree_of, text_of, part}
 use Rattle.cpp_term.specs.Meaning.{meaning}
 use Rattle.cpp_term.specs.Unfolding.{opening, behind, close, cpp, first_around, first_state, first_tree, unfold_cpp}
-use Rattle.cpp_term.proofs.EncodingsClosed.{Chosen, chosen_rule}
+use Rattle.cpp_term.proofs.EncodingsClosed.{chosen_rule}
 
 first_kind : (kind : Kind) → 0 ≡ number_of_kind kind → kind ≡ Kind.Symbol
 unfolding number_of_kind
