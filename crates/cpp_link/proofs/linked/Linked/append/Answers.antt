@@ -1,4 +1,4 @@
-use Rattle.std.proofs.Common.{◌≡◌, sym, ◌∙◌, ap, subst, ℕ, ◌<◌, ◌++◌, ◌∷◌, [], length}
+use Rattle.std.proofs.Common.{sym, ◌∙◌, ap, subst, length}
 use Rattle.cpp_term.specs.Values.{State}
 use Rattle.cpp_term.specs.References.{appended}
 use Rattle.cpp_tree.specs.Nodes.{IsArgumentsBelow}

@@ -1,4 +1,4 @@
-use Rattle.std.proofs.Common.{◌≡◌, refl, sym, ap, subst, [], length}
+use Rattle.std.proofs.Common.{refl, sym, ap, subst, length}
 use Rattle.cpp_term.specs.Unfolding.{first_state}
 use Rattle.cpp_link.specs.Parts.{trees_in, candidates_of, AreCandidatesThere}
 use Rattle.cpp_link.proofs.linked.Linked.restart.Goals as goal
