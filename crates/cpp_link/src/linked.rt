@@ -1,7 +1,19 @@
 // What is linked of a symbol so far.
 
-use crate::part::Candidate;
+ghost use Rattle.std.specs.Prelude.{◌≡◌, ℕ, ◌<◌, ◌≤◌, [], List, length, Option, Ok, IfOk, IfErr, OnOk};
+ghost use Rattle.sym_core.specs.declared.refusal.Refusal.TheVariants as refusals;
+ghost use Rattle.sym_link.specs.Threads.{IsTaken};
+ghost use Rattle.cpp_term.specs.Unfolding.{first_state};
+ghost use Rattle.cpp_tree.specs.Nodes.{IsArgumentsBelow};
+ghost use Rattle.cpp_link.specs.Parts.{trees_in, around_of, candidates_of, AreCandidatesThere};
+ghost use Rattle.cpp_link.specs.Reads.{with_candidate};
+ghost use Rattle.cpp_link.specs.View.{Holds, IsPaid, cpp_view};
+
+use crate::part::{Candidate, Kept, Part};
 use cpp_tree::Nodes;
+use std::alloc::Global;
+use sym_core::{Refusal, Span};
+use sym_shape::rule::Row;
 
 /// The nodes of a symbol, the trees that a substitution may name, and the length of the packs under the innermost expansion.
 #[derive(Drop)]
@@ -9,4 +21,76 @@ pub struct Linked {
     pub nodes: Nodes,
     pub candidates: Vec<Candidate>,
     pub packs: Option<u32>,
+}
+
+impl Linked {
+    /// Nothing is linked.
+    pub fn new(alloc: Global) -> Linked {
+        Linked {
+            nodes: Nodes::new(alloc),
+            candidates: Vec::new(alloc),
+            packs: None,
+        }
+    }
+
+    /// Forgets what was linked, and keeps its memory.
+    ///
+    /// # Errors
+    ///
+    /// `Memory` where the nodes couldn't grow.
+    pub fn restart(&mut self) -> Result<(), Refusal>
+        ensures holds { OnOk result ((s : List ℕ) → Holds s self.new first_state) }
+        ensures size { OnOk result (length self.new.nodes.nodes ≡ 3) }
+        ensures paid { OnOk result (IsPaid self.new) }
+        ensures memory { IfErr result (λ e. e ≡ refusals.Memory) }
+    {
+        self.candidates.clear();
+        self.packs = None;
+        self.nodes.begin()?;
+        Ok(())
+    }
+
+    /// A tree becomes a candidate, or none does.
+    ///
+    /// # Errors
+    ///
+    /// `Memory` where the candidates couldn't grow.
+    pub fn append(
+        &mut self,
+        symbol: &[u8],
+        kept: Kept,
+        candidate: Option<u32>,
+    ) -> Result<(), Refusal>
+        requires candidate { IsArgumentsBelow (length self.old.nodes.nodes) candidate }
+        requires there { AreCandidatesThere (length self.old.nodes.nodes) self.old.candidates.items }
+        ensures nodes { self.new.nodes ≡ self.old.nodes }
+        ensures packs { self.new.packs ≡ self.old.packs }
+        ensures there { OnOk result (AreCandidatesThere (length self.old.nodes.nodes) self.new.candidates.items) }
+        ensures is { OnOk result ((packs : Option ℕ) → with_candidate (around_of (trees_in symbol.now self.old.nodes) kept) (trees_in symbol.now self.old.nodes) candidate
+            (record { candidates = candidates_of (trees_in symbol.now self.old.nodes) self.old.candidates.items; packs = packs })
+            ≡ record { candidates = candidates_of (trees_in symbol.now self.old.nodes) self.new.candidates.items; packs = packs }) }
+        ensures memory { IfErr result (λ e. e ≡ refusals.Memory) }
+    {
+        match candidate {
+            None => Ok(()),
+            Some(node) => {
+                let encoding = kept.encoding;
+                self.candidates.push(Candidate { node, encoding })?;
+                Ok(())
+            }
+        }
+    }
+
+    /// What a token stands for.
+    #[inline(always)]
+    pub fn text_at(&self, symbol: &[u8], row: Row) -> Part
+        requires from { row.from ≤ row.to }
+        requires to { row.to ≤ length symbol.now }
+        ensures { IsTaken (cpp_view symbol.now) symbol.now self.now self.now row (Ok result) }
+    {
+        Part::Text(Span {
+            from: row.from,
+            to: row.to,
+        })
+    }
 }
