@@ -96,7 +96,12 @@ pub fn demangle<M: Mangling>(alloc: Global, s: &[u8], limit: u32) -> Result<Vec<
 /// # Errors
 ///
 /// Those of `read`, and `TooLong` exactly where the text costs more.
-pub fn demangle_as<M: Mangling>(alloc: Global, s: &[u8], limit: u32, detail: Detail) -> Result<Vec<u8>, Refusal>
+pub fn demangle_as<M: Mangling>(
+    alloc: Global,
+    s: &[u8],
+    limit: u32,
+    detail: Detail,
+) -> Result<Vec<u8>, Refusal>
     requires { FitsSymbol s.now }
     ensures text { IfOk result (λ text. IsAnswer M.mangled detail s.now limit (Ok text.items)) }
     ensures refused { IfErr result (λ e. (e ≡ refusals.Memory) ⊎ IsAnswer M.mangled detail s.now limit (Err e)) }

@@ -196,8 +196,7 @@ done_on : {N P K V S C : Type 0} (view : View N P K V S C) (s : List ℕ) (shape
 done_on view s shape tree nodes next codes parts laws r [] known state reached coming within (none, are) keeps size before paid steps due no_frame =
     let one = one_value view.reading view.around view.first r.rule r.taken r.inner known state
     (ap (λ t. unfold_tree view.reading view.around 0 t view.first) (sym r.tree_is) ∙ sym coming) in
-    let part = one_part (view.IsPart nodes) parts one.0 (subst (λ vs. AreAll (view.IsPart nodes) parts vs) one.1 are) in
-    (
+    let part = one_part (view.IsPart nodes) parts one.0 (subst (λ vs. AreAll (view.IsPart nodes) parts vs) one.1 are) in (
       record {
         part = part.0;
         value = one.0;

@@ -90,8 +90,9 @@ fn command_line<'a>(alloc: Global, words: &'a [&'a str]) -> Result<ArgMatches<'a
             "The greatest cost of a text, 0 to 4294967295 [default: 1000000]. A text costs its bytes, and 1 for each item that it is put together from",
         );
     let stats = flag(alloc, "stats").help("Show the rows, nodes and steps of each symbol");
-    let press = flag(alloc, "press")
-        .help("Spell each symbol again with its repeated parts as references, in place of printing it");
+    let press = flag(alloc, "press").help(
+        "Spell each symbol again with its repeated parts as references, in place of printing it",
+    );
     let brief = flag(alloc, "brief").help("Leave out generic arguments");
     let symbols = Arg::new(alloc, "SYMBOL")
         .num_args(0..)

@@ -206,8 +206,14 @@ fn texts_in_brief(rt: HostRuntime) -> Result<(), Fail> {
 #[test]
 fn pressed_spellings(rt: HostRuntime) -> Result<(), Fail> {
     for (symbol, pressed) in &PRESSED {
-        assert!(rt; answers(rt.alloc(), "symfilt", "--press", symbol, pressed, "")?, "{symbol}");
-        assert!(rt; answers(rt.alloc(), "symfilt", "--press", pressed, pressed, "")?, "{pressed}");
+        assert!(rt;
+            answers(rt.alloc(), "symfilt", "--press", symbol, pressed, "")?,
+            "{symbol}"
+        );
+        assert!(rt;
+            answers(rt.alloc(), "symfilt", "--press", pressed, pressed, "")?,
+            "{pressed}"
+        );
     }
     Ok(())
 }

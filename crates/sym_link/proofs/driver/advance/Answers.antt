@@ -53,8 +53,7 @@ returns-then-frame-next-clause-moves g c tree taken is way =
 
 pub take-requires : goal.take-requires
 take-requires g c =
-    let some = begun_way (g.L.Linking.view c.args.symbol.now) c.args.symbol.now c.args.rows.now c.requires.tree c.requires.taken c.args.language.now c.args.next c.args.frames.now.items c.in-Some.frame c.args.parts.now.items c.requires.on_way (c.in-Some.ensures.some.0, sym c.deref.ensures.value ∙ c.in-Some.ensures.some.1) in
-    (
+    let some = begun_way (g.L.Linking.view c.args.symbol.now) c.args.symbol.now c.args.rows.now c.requires.tree c.requires.taken c.args.language.now c.args.next c.args.frames.now.items c.in-Some.frame c.args.parts.now.items c.requires.on_way (c.in-Some.ensures.some.0, sym c.deref.ensures.value ∙ c.in-Some.ensures.some.1) in (
       some.0,
       record {
         whole = meaning_of (g.L.Linking.view c.args.symbol.now) c.requires.tree;

@@ -9,8 +9,7 @@ pub returns-clause-stands : goal.returns-clause-stands
 returns-clause-stands g c =
     let i = c.self.inside in
     let linked = linked_of (g.M.Linked.Linking.view i.bytes.items) i.bytes.items i.shape.rows i.shape.steps i.linked i.driver.steps i.driver.refused i.driver.next i.driver.frames.items i.driver.parts.items i.done
-    c.self.invariant _ _ (ap (λ (v : Progress). v.done) c.self.view_is ∙ c.requires) (ap (λ rs. length rs) c.rows.ensures) (omega (arith, c.steps.ensures)) in
-    (
+    c.self.invariant _ _ (ap (λ (v : Progress). v.done) c.self.view_is ∙ c.requires) (ap (λ rs. length rs) c.rows.ensures) (omega (arith, c.steps.ensures)) in (
       c.self.invariant.shape,
       subst (λ t. IsTree t (Kind 0) c.self.invariant.shape) (g.met.M.Mangling.view_table i.bytes.items) c.self.invariant.is_shape.is_tree,
       c.self.invariant.is_shape.spelled ∙ ap (λ (v : Progress). v.bytes) c.self.view_is,

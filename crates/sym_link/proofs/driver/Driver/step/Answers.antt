@@ -15,7 +15,7 @@ returns-in-None-clause-answers g c tree is driving =
     let on = driving_on (g.L.Linking.view c.args.symbol.now) c.args.symbol.now c.args.rows.now tree c.args.language.now c.args.self.now.steps c.args.self.now.refused c.args.self.now.next
     c.args.self.now.frames.items c.args.self.now.parts.items c.in_default.not-Some driving in
     let over = step_done (g.L.Linking.view c.args.symbol.now) c.args.symbol.now c.args.rows.now tree c.args.self.now.steps c.advance-moved.new.language c.advance-moved.new.frames.items c.advance-moved.new.parts.items
-          c.advance-moved.result c.in-Ok.behind c.in-Ok.is c.in-None.is (c.advance-moved.ensures.moves tree c.args.self.now.steps is on.0) in
+    c.advance-moved.result c.in-Ok.behind c.in-Ok.is c.in-None.is (c.advance-moved.ensures.moves tree c.args.self.now.steps is on.0) in
     (over.0, refl, none_kept c.args.self.now.refused c.in_default.not-Some, over.1)
 
 pub returns-in-Err-clause-driving : goal.returns-in-Err-clause-driving
