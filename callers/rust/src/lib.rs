@@ -1,0 +1,221 @@
+//! Mangled C++ (Itanium ABI 5.1) and Rust (RFC 2603, v0) symbols: their texts within a limit on what a text costs, the work
+//! that reading one takes, and their pressed spelling, by a proved library.
+//!
+//! A symbol that begins with `_R` is read as Rust, any other as C++. Names in a symbol are bytes, so texts are bytes too;
+//! [`demangle`] gives a `String` in which what isn't UTF-8 is replaced.
+//!
+//! ```
+//! assert_eq!(symdemangle::demangle("_RNvC3foo3bar").unwrap(), "foo::bar");
+//! assert_eq!(symdemangle::Symbol::new("_RNvC3foo3bar").to_string(), "foo::bar");
+//! assert_eq!(symdemangle::Symbol::new("main").to_string(), "main");
+//! ```
+
+mod library;
+
+use library::{Answer, Status};
+use std::fmt;
+
+/// The greatest cost of a text where none is named: its bytes, and 1 for each item that it is put together from.
+pub const DEFAULT_LIMIT: u32 = 1_000_000;
+
+/// Why a symbol has no answer. `at` is the number of bytes before the first bad one.
+#[derive(Clone, Copy, Debug, PartialEq, Eq, Hash)]
+pub enum Error {
+    /// No symbol has this byte there.
+    Malformed { at: u32 },
+    /// A back reference, substitution or parameter that names nothing.
+    BadReference { at: u32 },
+    /// A number out of range.
+    BadValue { at: u32 },
+    /// The text costs more than the limit.
+    TooLong,
+    /// An allocation was refused.
+    Memory,
+    /// More than 16,777,216 bytes.
+    TooManyBytes,
+}
+
+impl fmt::Display for Error {
+    fn fmt(&self, f: &mut fmt::Formatter<'_>) -> fmt::Result {
+        match self {
+            Error::Malformed { at } => write!(f, "malformed at {at}"),
+            Error::BadReference { at } => write!(f, "bad reference at {at}"),
+            Error::BadValue { at } => write!(f, "bad value at {at}"),
+            Error::TooLong => f.write_str("too long"),
+            Error::Memory => f.write_str("out of memory"),
+            Error::TooManyBytes => f.write_str("more than 16777216 bytes"),
+        }
+    }
+}
+
+impl std::error::Error for Error {}
+
+/// How much of a symbol its text shows.
+#[derive(Clone, Copy, Debug, Default, PartialEq, Eq, Hash)]
+pub enum Detail {
+    /// All of it.
+    #[default]
+    Full,
+    /// Generic arguments, and parameters of functions in C++, are left out.
+    Brief,
+}
+
+/// The work that a symbol of n bytes made.
+#[derive(Clone, Copy, Debug, PartialEq, Eq, Hash)]
+pub struct Counts {
+    /// At most 4n + 4.
+    pub rows: u32,
+    /// At most 4n + 8.
+    pub nodes: u32,
+    /// At most 32n + 48.
+    pub steps: u32,
+}
+
+/// Calls the library with a room that is large enough, and leaves in it what was written.
+fn write_into(
+    room: &mut Vec<u8>,
+    call: impl Fn(&mut [u8], &mut Answer) -> Status,
+) -> Result<(), Error> {
+    room.clear();
+    room.reserve(256);
+    loop {
+        room.resize(room.capacity(), 0);
+        let mut answer = Answer::default();
+        let status = call(room, &mut answer);
+        room.truncate(if status.is_ok() { answer.length } else { 0 });
+        if !status.needs_room() {
+            return status.outcome(&answer);
+        }
+        room.reserve(answer.length);
+    }
+}
+
+/// Puts the text of a symbol into `room` in place of what it held, if it costs at most the limit. The room keeps its memory
+/// from one symbol to the next; where the symbol is refused it is empty.
+///
+/// # Errors
+///
+/// Every [`Error`].
+pub fn demangle_into(
+    symbol: &[u8],
+    limit: u32,
+    detail: Detail,
+    room: &mut Vec<u8>,
+) -> Result<(), Error> {
+    write_into(room, |room, answer| {
+        library::text(symbol, limit, detail, room, answer)
+    })
+}
+
+/// The text of a symbol, in full and within [`DEFAULT_LIMIT`].
+///
+/// # Errors
+///
+/// Every [`Error`].
+pub fn demangle(symbol: &str) -> Result<String, Error> {
+    let mut room = Vec::new();
+    demangle_into(symbol.as_bytes(), DEFAULT_LIMIT, Detail::Full, &mut room)?;
+    Ok(String::from_utf8_lossy(&room).into_owned())
+}
+
+/// Puts a text into `room` with each word that is a symbol replaced by its text, as the program's filter does. One set of lists
+/// serves all words; a word that is refused stays as it is.
+///
+/// # Errors
+///
+/// [`Error::Memory`].
+pub fn filter_into(text: &[u8], limit: u32, detail: Detail, room: &mut Vec<u8>) -> Result<(), Error> {
+    write_into(room, |room, answer| {
+        library::filter(text, limit, detail, room, answer)
+    })
+}
+
+/// Puts the pressed spelling of a symbol into `room`: two symbols of the same thing have the same one.
+///
+/// # Errors
+///
+/// Every [`Error`] but [`Error::TooLong`].
+pub fn press_into(symbol: &[u8], room: &mut Vec<u8>) -> Result<(), Error> {
+    write_into(room, |room, answer| library::press(symbol, room, answer))
+}
+
+/// The work that reading a symbol takes, which no limit bounds.
+///
+/// # Errors
+///
+/// Every [`Error`] but [`Error::TooLong`].
+pub fn counts(symbol: &[u8]) -> Result<Counts, Error> {
+    let mut answer = Answer::default();
+    let mut counts = library::Counts::default();
+    library::count(symbol, &mut counts, &mut answer).outcome(&answer)?;
+    Ok(Counts {
+        rows: counts.rows,
+        nodes: counts.nodes,
+        steps: counts.steps,
+    })
+}
+
+/// The texts of many symbols, one after the other, in one room: each is lent to `each` with its symbol.
+pub fn for_each_text<'a>(
+    symbols: impl IntoIterator<Item = &'a [u8]>,
+    limit: u32,
+    detail: Detail,
+    mut each: impl FnMut(&'a [u8], Result<&[u8], Error>),
+) {
+    let mut room = Vec::new();
+    for symbol in symbols {
+        match demangle_into(symbol, limit, detail, &mut room) {
+            Ok(()) => each(symbol, Ok(&room)),
+            Err(error) => each(symbol, Err(error)),
+        }
+    }
+}
+
+/// The texts of many symbols as an iterator, in full and within [`DEFAULT_LIMIT`].
+pub fn demangle_all<'a>(
+    symbols: impl IntoIterator<Item = &'a str>,
+) -> impl Iterator<Item = Result<String, Error>> {
+    symbols.into_iter().map(demangle)
+}
+
+/// A symbol that shows itself within [`DEFAULT_LIMIT`]. What is refused is shown as it stands.
+///
+/// `{}` and `{:#}` are the same: a text never has the hashes that `rustc_demangle` leaves out with `{:#}`.
+#[derive(Clone, Copy, Debug, PartialEq, Eq, Hash)]
+pub struct Symbol<'a> {
+    symbol: &'a str,
+    detail: Detail,
+}
+
+impl<'a> Symbol<'a> {
+    /// A symbol that is shown in full.
+    pub fn new(symbol: &'a str) -> Symbol<'a> {
+        Symbol {
+            symbol,
+            detail: Detail::Full,
+        }
+    }
+
+    /// The same symbol, shown brief.
+    pub fn brief(self) -> Symbol<'a> {
+        Symbol {
+            detail: Detail::Brief,
+            ..self
+        }
+    }
+
+    /// The symbol as it was given.
+    pub fn as_str(&self) -> &'a str {
+        self.symbol
+    }
+}
+
+impl fmt::Display for Symbol<'_> {
+    fn fmt(&self, f: &mut fmt::Formatter<'_>) -> fmt::Result {
+        let mut room = Vec::new();
+        match demangle_into(self.symbol.as_bytes(), DEFAULT_LIMIT, self.detail, &mut room) {
+            Ok(()) => f.write_str(&String::from_utf8_lossy(&room)),
+            Err(_) => f.write_str(self.symbol),
+        }
+    }
+}

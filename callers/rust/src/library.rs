@@ -1,0 +1,147 @@
+//! The library's calls, with slices in the place of pointers. `callers/c/symdemangle.h` has their contracts in words.
+
+use crate::{Detail, Error};
+
+#[repr(C)]
+#[derive(Default)]
+pub struct Answer {
+    pub length: usize,
+    pub place: u32,
+}
+
+#[repr(C)]
+#[derive(Default)]
+pub struct Counts {
+    pub rows: u32,
+    pub nodes: u32,
+    pub steps: u32,
+}
+
+/// What a call answered.
+#[derive(Clone, Copy)]
+pub struct Status(u32);
+
+impl Status {
+    pub fn is_ok(self) -> bool {
+        self.0 == 0
+    }
+
+    pub fn needs_room(self) -> bool {
+        self.0 == 6
+    }
+
+    /// What it means, of a call whose room was large enough.
+    pub fn outcome(self, answer: &Answer) -> Result<(), Error> {
+        let at = answer.place;
+        match self.0 {
+            0 => Ok(()),
+            1 => Err(Error::Malformed { at }),
+            2 => Err(Error::BadReference { at }),
+            3 => Err(Error::BadValue { at }),
+            4 => Err(Error::TooLong),
+            5 => Err(Error::Memory),
+            7 => Err(Error::TooManyBytes),
+            other => unreachable!("status {other}"),
+        }
+    }
+}
+
+unsafe extern "C" {
+    fn symdemangle_text_of(
+        symbol: *const u8,
+        symbol_length: usize,
+        limit: u32,
+        detail: u32,
+        room: *mut u8,
+        room_length: usize,
+        answer: *mut Answer,
+    ) -> u32;
+    fn symdemangle_filter_of(
+        text: *const u8,
+        text_length: usize,
+        limit: u32,
+        detail: u32,
+        room: *mut u8,
+        room_length: usize,
+        answer: *mut Answer,
+    ) -> u32;
+    fn symdemangle_counts_of(
+        symbol: *const u8,
+        symbol_length: usize,
+        counts: *mut Counts,
+        answer: *mut Answer,
+    ) -> u32;
+    fn symdemangle_press_of(
+        symbol: *const u8,
+        symbol_length: usize,
+        room: *mut u8,
+        room_length: usize,
+        answer: *mut Answer,
+    ) -> u32;
+}
+
+fn number(detail: Detail) -> u32 {
+    match detail {
+        Detail::Full => 0,
+        Detail::Brief => 1,
+    }
+}
+
+// SAFETY, of each call below: a slice's pointer isn't null and is valid for its length; what is lent to be written is borrowed
+// alone, so it doesn't overlap with anything and no other thread touches it.
+
+pub fn text(
+    symbol: &[u8],
+    limit: u32,
+    detail: Detail,
+    room: &mut [u8],
+    answer: &mut Answer,
+) -> Status {
+    Status(unsafe {
+        symdemangle_text_of(
+            symbol.as_ptr(),
+            symbol.len(),
+            limit,
+            number(detail),
+            room.as_mut_ptr(),
+            room.len(),
+            answer,
+        )
+    })
+}
+
+pub fn filter(
+    text: &[u8],
+    limit: u32,
+    detail: Detail,
+    room: &mut [u8],
+    answer: &mut Answer,
+) -> Status {
+    Status(unsafe {
+        symdemangle_filter_of(
+            text.as_ptr(),
+            text.len(),
+            limit,
+            number(detail),
+            room.as_mut_ptr(),
+            room.len(),
+            answer,
+        )
+    })
+}
+
+pub fn count(symbol: &[u8], counts: &mut Counts, answer: &mut Answer) -> Status {
+    Status(unsafe { symdemangle_counts_of(symbol.as_ptr(), symbol.len(), counts, answer) })
+}
+
+pub fn press(symbol: &[u8], room: &mut [u8], answer: &mut Answer) -> Status {
+    Status(unsafe {
+        symdemangle_press_of(
+            symbol.as_ptr(),
+            symbol.len(),
+            room.as_mut_ptr(),
+            room.len(),
+            answer,
+        )
+    })
+}

@@ -1,0 +1,86 @@
+use symdemangle::{
+    Counts, DEFAULT_LIMIT, Detail, Error, Symbol, counts, demangle, demangle_all, demangle_into,
+    filter_into, for_each_text, press_into,
+};
+
+fn answer(symbol: &str, limit: u32, detail: Detail) -> Result<String, Error> {
+    let mut room = Vec::new();
+    demangle_into(symbol.as_bytes(), limit, detail, &mut room)?;
+    Ok(String::from_utf8(room).unwrap())
+}
+
+#[test]
+fn texts_and_refusals() {
+    assert_eq!(answer("_RNvC3foo3bar", 11, Detail::Full), Ok("foo::bar".into()));
+    assert_eq!(answer("_RNvC3foo3bar", 10, Detail::Full), Err(Error::TooLong));
+    assert_eq!(demangle("_RNvC3fo"), Err(Error::Malformed { at: 8 }));
+    assert_eq!(demangle("_RNvB_3foo"), Err(Error::BadReference { at: 4 }));
+    assert_eq!(demangle("_RNvCszzzzzzzzzzz_3foo3bar"), Err(Error::BadValue { at: 5 }));
+    assert_eq!(demangle(""), Err(Error::Malformed { at: 0 }));
+    assert_eq!(
+        answer("_RNvMC3fooINtB2_1AhE3baz", 1000, Detail::Brief),
+        Ok("<foo::A>::baz".into())
+    );
+}
+
+#[test]
+fn a_long_text_is_asked_for_again() {
+    let name = "a".repeat(5000);
+    assert_eq!(demangle(&format!("_RNvC3foo5000{name}")), Ok(format!("foo::{name}")));
+}
+
+#[test]
+fn more_bytes_than_a_symbol_has() {
+    assert_eq!(demangle(&"_".repeat(16_777_217)), Err(Error::TooManyBytes));
+}
+
+#[test]
+fn a_room_that_is_kept() {
+    let mut room = b"before".to_vec();
+    assert_eq!(demangle_into(b"_RNvC3fo", 99, Detail::Full, &mut room), Err(Error::Malformed { at: 8 }));
+    assert!(room.is_empty());
+    demangle_into(b"_RNvC3foo3bar", 99, Detail::Full, &mut room).unwrap();
+    assert_eq!(room, b"foo::bar");
+}
+
+#[test]
+fn many_symbols() {
+    let symbols = ["_RNvC3foo3bar", "main", "_RNvC3foo3baz"];
+    let texts: Vec<_> = demangle_all(symbols).collect();
+    assert_eq!(texts, [Ok("foo::bar".into()), Err(Error::Malformed { at: 0 }), Ok("foo::baz".into())]);
+    let mut all = Vec::new();
+    for_each_text(symbols.iter().map(|s| s.as_bytes()), DEFAULT_LIMIT, Detail::Full, |symbol, text| {
+        all.extend_from_slice(text.unwrap_or(symbol));
+        all.push(b'\n');
+    });
+    assert_eq!(all, b"foo::bar\nmain\nfoo::baz\n");
+}
+
+#[test]
+fn a_text_with_symbols_in_it() {
+    let mut room = Vec::new();
+    filter_into(b"at _RNvC3foo3bar. (_RNvC3fo)", 99, Detail::Full, &mut room).unwrap();
+    assert_eq!(room, b"at foo::bar. (_RNvC3fo)");
+}
+
+#[test]
+fn a_symbol_shows_itself() {
+    let symbol = Symbol::new("_RNvMC3fooINtB2_1AhE3baz");
+    assert_eq!(format!("{symbol}"), "<foo::A<u8>>::baz");
+    assert_eq!(format!("{symbol:#}"), "<foo::A<u8>>::baz");
+    assert_eq!(symbol.brief().to_string(), "<foo::A>::baz");
+    assert_eq!(Symbol::new("main").to_string(), "main");
+    assert_eq!(symbol.as_str(), "_RNvMC3fooINtB2_1AhE3baz");
+}
+
+#[test]
+fn the_work_and_the_pressed_spelling() {
+    assert_eq!(
+        counts(b"_RNvMC3fooINtB2_1AhE3baz"),
+        Ok(Counts { rows: 18, nodes: 11, steps: 56 })
+    );
+    assert_eq!(counts(b"_R"), Err(Error::Malformed { at: 2 }));
+    let mut room = Vec::new();
+    press_into(b"_RINvC3foo3barNtC3foo1AE", &mut room).unwrap();
+    assert_eq!(room, b"_RINvC3foo3barNtB2_1AE");
+}

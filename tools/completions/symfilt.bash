@@ -1,0 +1,2 @@
+# bash: the options of symfilt
+complete -W '--limit --stats --brief --press --help --version' symfilt
