@@ -1,3 +1,4 @@
+pub mod JoinLemmas
 pub mod LanguageLemmas
 pub mod PlainLemmas
 pub mod RunLemmas

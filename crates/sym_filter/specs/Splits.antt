@@ -1,5 +1,5 @@
 -- A text as its runs with one other byte between each two.
-use Rattle.std.specs.Prelude.{◌≡◌, ℕ, List, [], ◌∷◌, ◌++◌, map, true, not, ◌&&◌}
+use Rattle.std.specs.Prelude.{◌≡◌, ℕ, List, [], ◌∷◌, ◌++◌, map, true, false, not, ◌&&◌}
 use Rattle.std.specs.List.{list_all}
 use Rattle.sym_filter.specs.Runs.{Answering, is_run_byte, replaced, filtered}
 
@@ -19,3 +19,8 @@ pub record IsSplit (text first : List ℕ) (rest : List (ℕ × List ℕ)) : Typ
 abbrev pub FilteredBySplits : Type 0
 FilteredBySplits = (answers : Answering) (text first : List ℕ) (rest : List (ℕ × List ℕ)) → IsSplit text first rest →
     filtered answers text ≡ joined (replaced answers first) (map (λ next. (next.0, replaced answers next.1)) rest)
+
+-- the filtered text of two texts joined by a byte that belongs to no run is their filtered texts joined by it
+abbrev pub FilteredByJoins : Type 0
+FilteredByJoins = (answers : Answering) (text more : List ℕ) (byte : ℕ) → is_run_byte byte ≡ false →
+    filtered answers (text ++ (byte ∷ more)) ≡ filtered answers text ++ (byte ∷ filtered answers more)
