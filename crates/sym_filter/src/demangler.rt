@@ -1,11 +1,11 @@
 // What the filter and the command ask of the languages below them.
-ghost use Rattle.std.specs.Prelude.{◌≤◌, List, ℕ, Result, length};
+ghost use Rattle.std.specs.Prelude.{List, ℕ, Result};
+ghost use Rattle.sym_core.specs.Number.{FitsSymbol};
 ghost use Rattle.sym_core.specs.declared.counts.Counts.{Counts as Counts-type};
 ghost use Rattle.sym_core.specs.declared.refusal.Refusal.{Refusal as Refusal-type};
 ghost use Rattle.sym_filter.specs.Demangled.{IsDemangled};
 ghost use Rattle.sym_filter.specs.declared.kinds.Kind.{Kind as Kind-type};
 ghost use Rattle.sym_filter.specs.declared.kinds.Lang.{Lang as Lang-type};
-ghost use Rattle.sym_filter.specs.declared.kinds.TheConstants.{LONGEST_WORD};
 
 use crate::kinds::{Kind, Lang};
 use std::alloc::{AllocError, Global};
@@ -37,7 +37,7 @@ pub trait Demangler {
 
     /// Reads what is there of a symbol that may go on. What is answered for it is the same without this call.
     fn read_ahead(&self, lists: &mut Self::Lists, lang: Lang, front: &[u8])
-        requires { length front.now ≤ LONGEST_WORD };
+        requires { FitsSymbol front.now };
 
     /// Appends the text of the symbol of a word of a kind, where it has one, else nothing. Want of memory may refuse any symbol.
     fn demangle(
@@ -47,6 +47,6 @@ pub trait Demangler {
         symbol: &[u8],
         out: &mut Vec<u8>,
     ) -> Demangled
-        requires { length symbol.now ≤ LONGEST_WORD }
+        requires { FitsSymbol symbol.now }
         ensures { IsDemangled (answer self.now kind symbol.now) (are_counts self.now kind.lang symbol.now) out.old.items out.new.items result };
 }

@@ -3,7 +3,7 @@ ghost use Rattle.std.specs.Prelude.{◌≤◌, length};
 ghost use Rattle.rust_v0.specs.Mangled.{answer};
 ghost use Rattle.sym_filter.specs.Demangled.{IsDemangled};
 ghost use Rattle.sym_filter.specs.Languages.{answer_of, AreCounts, AreCountsOf};
-ghost use Rattle.sym_filter.specs.declared.kinds.TheConstants.{LONGEST_WORD};
+ghost use Rattle.sym_core.specs.Number.{FitsSymbol};
 
 use crate::demangler::{Demangled, Demangler};
 use crate::kinds::{Kind, Lang};
@@ -37,7 +37,7 @@ impl Lists {
 
     /// Reads what is there of a symbol that may go on.
     pub fn read_ahead(&mut self, lang: Lang, front: &[u8])
-        requires { length front.now ≤ LONGEST_WORD }
+        requires { FitsSymbol front.now }
     {
         match lang {
             Lang::Cpp => {}
@@ -83,7 +83,7 @@ fn demangle_rust(
     detail: Detail,
     out: &mut Vec<u8>,
 ) -> Demangled
-    requires { length symbol.now ≤ LONGEST_WORD }
+    requires { FitsSymbol symbol.now }
     ensures { IsDemangled (answer detail symbol.now limit) (AreCounts symbol.now) out.old.items out.new.items result }
 {
     one_answer::<V0>();

@@ -3,7 +3,7 @@ ghost use Rattle.std.specs.Prelude.{◌≡◌, ◌≤◌, ◌++◌, length, OnOk
 ghost use Rattle.sym_press.specs.Answers.{pressed_answer};
 ghost use Rattle.sym_filter.specs.Demangled.{IsDemangled};
 ghost use Rattle.sym_filter.specs.Languages.{AreCounts, AreCountsOf, behind_front, pressed_of, underscore_of};
-ghost use Rattle.sym_filter.specs.declared.kinds.TheConstants.{LONGEST_WORD};
+ghost use Rattle.sym_core.specs.Number.{FitsSymbol};
 
 use crate::demangler::{Demangled, Demangler};
 use crate::kinds::{Kind, Lang};
@@ -54,7 +54,7 @@ fn press_rust_into(
     symbol: &[u8],
     out: &mut Vec<u8>,
 ) -> Demangled
-    requires { length symbol.now ≤ LONGEST_WORD }
+    requires { FitsSymbol symbol.now }
     ensures { IsDemangled (behind_front (underscore_of skip) (pressed_answer symbol.now)) (AreCounts symbol.now) out.old.items out.new.items result }
 {
     reading_is_pressed();
