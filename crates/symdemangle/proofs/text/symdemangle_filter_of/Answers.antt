@@ -1,0 +1,15 @@
+use Rattle.std.proofs.Common.{◌≡◌, sym, ap, ◌∙◌, subst, Some, List, ℕ, []}
+use Rattle.sym_filter.specs.Languages.{answer_of}
+use Rattle.sym_filter.specs.Streams.{FiltersAll}
+use Rattle.symdemangle.specs.Calls.{written}
+use Rattle.symdemangle.proofs.Ending.{filter-ends}
+use Rattle.symdemangle.proofs.text.symdemangle_filter_of.Goals as goal
+
+-- the text was filtered to its end
+pub returns-in-Ok : goal.returns-in-Ok
+returns-in-Ok c =
+    let reader = c.new-reader.ensures.reader in let writer = c.new-writer.ensures.writer in
+    let all = subst (λ r. FiltersAll (answer_of c.args.limit c.in-Some.detail) (Some r.now) (Some c.filter_as.new.reader.reader.now) (Some c.new-writer.result.writer.items) (Some c.filter_as.new.writer.writer.items) c.in-Ok.field-0) reader c.in-Ok.ensures.ok in
+    filter-ends _ c.in-Some.detail c.args.limit c.args.text.now c.args.room.now _ c.filter_as.new.writer.writer.items _ c.in-Ok.field-0 _ (sym c.detail_of.ensures ∙ c.in-Some.is)
+        (ap (λ v. v.items) writer ∙ c.new.ensures.items) all
+        (c.write.ensures ∙ ap (λ b. written b c.args.room.now) (c.deref.ensures.value ∙ ap (λ v. v.items) c.into_writer.ensures))

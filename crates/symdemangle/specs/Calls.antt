@@ -1,0 +1,66 @@
+-- What each exported call answers, and what it writes.
+use Rattle.std.specs.Prelude.{◌≡◌, ◌⊎◌, ℕ, zero, suc, List, drop, length, codes, ◌++◌, Bool, Option, Some, None, Result, Ok, Err, nat_eq, nat_le, if◌then◌else◌}
+use Rattle.std.specs.List.{starts_with}
+use Rattle.sym_core.specs.declared.refusal.Refusal.{Refusal}
+use Rattle.sym_core.specs.declared.refusal.Refusal.TheVariants.{Malformed, BadReference, BadValue, TooLong, Memory}
+use Rattle.sym_print.specs.declared.detail.Detail.{Detail}
+use Rattle.sym_filter.specs.declared.kinds.Lang.{Lang}
+use Rattle.sym_filter.specs.declared.kinds.Lang.TheVariants.{Cpp, Rust}
+use Rattle.sym_filter.specs.Languages.{answer_of}
+use Rattle.sym_filter.specs.Runs.{filtered}
+
+-- a symbol that begins "_R" is read as Rust, any other as C++
+abbrev pub lang_of : List ℕ → Lang
+lang_of symbol = if starts_with nat_eq symbol (codes "_R") then Rust else Cpp
+
+-- the detail of a caller's number, if it is that of one
+abbrev pub detail_of : ℕ → Option Detail
+detail_of zero = Some Detail.Full
+detail_of (suc zero) = Some Detail.Brief
+detail_of (suc (suc n)) = None
+
+-- how a call ends: its status, the room behind it, and what is told with the status
+pub record Told : Type 0 where
+  pub status : ℕ
+  pub room : List ℕ
+  pub length : ℕ
+  pub place : ℕ
+
+-- a status alone; the room stays as it was
+abbrev pub status_alone : ℕ → List ℕ → Told
+status_alone status room = record { status = status; room = room; length = 0; place = 0 }
+
+-- a refusal, by its number
+unfoldable pub refused : Refusal → List ℕ → Told
+refused (Malformed at) room = record { status = 1; room = room; length = 0; place = at }
+refused (BadReference at) room = record { status = 2; room = room; length = 0; place = at }
+refused (BadValue at) room = record { status = 3; room = room; length = 0; place = at }
+refused TooLong room = status_alone 4 room
+refused Memory room = status_alone 5 room
+
+-- bytes written to the front of a room, or how much room they need
+unfoldable pub written : List ℕ → List ℕ → Told
+written bytes room =
+    if nat_le (length bytes) (length room)
+    then record { status = 0; room = bytes ++ drop (length bytes) room; length = length bytes; place = 0 }
+    else record { status = 6; room = room; length = length bytes; place = 0 }
+
+unfoldable pub answered : Result (List ℕ) Refusal → List ℕ → Told
+answered (Ok bytes) room = written bytes room
+answered (Err refusal) room = refused refusal room
+
+-- the text of a symbol
+unfoldable pub text_told : Option Detail → (limit : ℕ) → (symbol room : List ℕ) → Told
+text_told None limit symbol room = status_alone 8 room
+text_told (Some detail) limit symbol room =
+    if nat_le (length symbol) 16777216 then answered (answer_of limit detail (lang_of symbol) symbol) room
+    else status_alone 7 room
+
+-- a text with each word that has a text replaced by it
+unfoldable pub filter_told : Option Detail → (limit : ℕ) → (text room : List ℕ) → Told
+filter_told None limit text room = status_alone 8 room
+filter_told (Some detail) limit text room = written (filtered (answer_of limit detail) text) room
+
+-- A call ends so, or for want of memory with the room as it was.
+abbrev pub EndsAs : (wanted : Told) → (old_room : List ℕ) → (found : Told) → Type 0
+EndsAs wanted old_room found = (found ≡ wanted) ⊎ (found ≡ status_alone 5 old_room)

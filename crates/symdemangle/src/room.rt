@@ -1,0 +1,76 @@
+// What a call tells its caller: a status, what comes with it, and the bytes in the caller's room.
+ghost use Rattle.std.specs.Prelude.{◌≡◌};
+ghost use Rattle.symdemangle.specs.Calls.{refused, status_alone, written};
+
+use sym_core::Refusal;
+
+/// What comes with a status: how many bytes were written or are needed, and where the first bad byte, reference or number
+/// stands; 0 where there is none.
+#[repr(C)]
+#[derive(Clone, Copy)]
+pub struct SymdemangleAnswer {
+    pub length: usize,
+    pub place: u32,
+}
+
+/// A text or a spelling is in the room.
+pub const OK: u32 = 0;
+/// An allocation was refused.
+pub const MEMORY: u32 = 5;
+/// The room is too small.
+pub const ROOM: u32 = 6;
+/// The symbol has too many bytes.
+pub const SIZE: u32 = 7;
+/// No detail has this number.
+pub const DETAIL: u32 = 8;
+
+/// Tells a status that nothing comes with.
+pub(crate) fn tell(status: u32, answer: &mut SymdemangleAnswer) -> u32
+    ensures status { result ≡ status }
+    ensures length { answer.new.length ≡ 0 }
+    ensures place { answer.new.place ≡ 0 }
+{
+    answer.length = 0;
+    answer.place = 0;
+    status
+}
+
+/// Tells a refusal: its number, and its place if it has one.
+#[tactic(auto, unfolding(crate::specs::Calls::refused))]
+pub(crate) fn tell_refusal(refusal: Refusal, room: &[u8], answer: &mut SymdemangleAnswer) -> u32
+    ensures { record { status = result; room = room.now; length = answer.new.length; place = answer.new.place } ≡ refused refusal room.now }
+{
+    answer.length = 0;
+    answer.place = 0;
+    match refusal {
+        Refusal::Malformed { at } => {
+            answer.place = at;
+            1
+        }
+        Refusal::BadReference { at } => {
+            answer.place = at;
+            2
+        }
+        Refusal::BadValue { at } => {
+            answer.place = at;
+            3
+        }
+        Refusal::TooLong => 4,
+        Refusal::Memory => MEMORY,
+    }
+}
+
+/// Writes bytes to the front of the room, or tells how much room they need.
+#[tactic(auto, unfolding(crate::specs::Calls::written))]
+pub(crate) fn write(bytes: &[u8], room: &mut [u8], answer: &mut SymdemangleAnswer) -> u32
+    ensures { record { status = result; room = room.new; length = answer.new.length; place = answer.new.place } ≡ written bytes.now room.old }
+{
+    let length = bytes.len();
+    answer.length = length;
+    answer.place = 0;
+    if length > room.len() {
+        return ROOM;
+    }
+    room[..length].copy_from_slice(bytes);
+    OK
+}

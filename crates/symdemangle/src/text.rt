@@ -1,0 +1,90 @@
+// The text of one symbol, and a text with those of all symbols in it.
+ghost use Rattle.std.specs.Prelude.{◌≡◌, ◌⊎◌, List, ℕ};
+ghost use Rattle.symdemangle.specs.Calls.{EndsAs, detail_of, filter_told, lang_of, text_told};
+
+use crate::room::{DETAIL, MEMORY, SIZE, SymdemangleAnswer, tell, tell_refusal, write};
+use std::alloc::Global;
+use sym_core::fits;
+use sym_filter::{Demangler, Lang, Languages, ReaderSource, WriterSink, filter_as};
+use sym_print::Detail;
+
+/// The detail of a caller's number, if it is that of one.
+pub(crate) fn detail_of(number: u32) -> Option<Detail>
+    ensures { result ≡ detail_of number }
+{
+    match number {
+        0 => Some(Detail::Full),
+        1 => Some(Detail::Brief),
+        _ => None,
+    }
+}
+
+/// The mangling that a symbol is read as.
+pub(crate) fn lang_of(symbol: &[u8]) -> Lang
+    ensures { result ≡ lang_of symbol.now }
+{
+    if symbol.starts_with(b"_R") {
+        Lang::Rust
+    } else {
+        Lang::Cpp
+    }
+}
+
+/// Writes the text of a symbol to the front of the room, if it costs at most the limit, and answers 0. Else it answers why
+/// not, and the room stays as it is.
+#[tactic(auto, unfolding(crate::specs::Calls::text_told, crate::specs::Calls::answered))]
+#[unsafe(no_mangle)]
+pub extern "C" fn symdemangle_text_of(
+    alloc: Global,
+    symbol: &[u8],
+    limit: u32,
+    detail: u32,
+    room: &mut [u8],
+    answer: &mut SymdemangleAnswer,
+) -> u32
+    ensures { EndsAs (text_told (detail_of detail) limit symbol.now room.old) room.old
+        (record { status = result; room = room.new; length = answer.new.length; place = answer.new.place }) }
+{
+    let Some(detail) = detail_of(detail) else {
+        return tell(DETAIL, answer);
+    };
+    if !fits(symbol) {
+        return tell(SIZE, answer);
+    }
+    let languages = Languages { limit, detail };
+    let mut lists = match languages.lists(alloc) {
+        Ok(lists) => lists,
+        Err(_) => return tell(MEMORY, answer),
+    };
+    let mut text = Vec::new(alloc);
+    match languages.demangle(&mut lists, lang_of(symbol), symbol, &mut text) {
+        Ok(()) => write(&text, room, answer),
+        Err(refusal) => tell_refusal(refusal, room, answer),
+    }
+}
+
+/// Writes a text to the front of the room with each word that is a symbol replaced by the symbol's text, where that costs at
+/// most the limit, and answers 0. Else it answers why not, and the room stays as it is.
+#[tactic(auto, unfolding(crate::specs::Calls::filter_told))]
+#[unsafe(no_mangle)]
+pub extern "C" fn symdemangle_filter_of(
+    alloc: Global,
+    text: &[u8],
+    limit: u32,
+    detail: u32,
+    room: &mut [u8],
+    answer: &mut SymdemangleAnswer,
+) -> u32
+    ensures { EndsAs (filter_told (detail_of detail) limit text.now room.old) room.old
+        (record { status = result; room = room.new; length = answer.new.length; place = answer.new.place }) }
+{
+    let Some(detail) = detail_of(detail) else {
+        return tell(DETAIL, answer);
+    };
+    let mut reader = ReaderSource::new(text);
+    let mut writer = WriterSink::new(Vec::new(alloc));
+    match filter_as(alloc, &mut reader, &mut writer, limit, detail) {
+        Ok(_) => write(&writer.into_writer(), room, answer),
+        Err(_) => tell(MEMORY, answer),
+    }
+}
