@@ -1,9 +1,8 @@
 // The demangler over both manglings.
-ghost use Rattle.std.specs.Prelude.{◌≤◌, length};
+ghost use Rattle.sym_core.specs.Number.{FitsSymbol};
 ghost use Rattle.rust_v0.specs.Mangled.{answer};
 ghost use Rattle.sym_filter.specs.Demangled.{IsDemangled};
 ghost use Rattle.sym_filter.specs.Languages.{answer_of, AreCounts, AreCountsOf};
-ghost use Rattle.sym_core.specs.Number.{FitsSymbol};
 
 use crate::demangler::{Demangled, Demangler};
 use crate::kinds::{Kind, Lang};

@@ -1,5 +1,5 @@
 // Symbols of both manglings spelled again in place of printed.
-ghost use Rattle.std.specs.Prelude.{◌≡◌, ◌≤◌, ◌++◌, length, OnOk, OnErr};
+ghost use Rattle.std.specs.Prelude.{◌≡◌, ◌++◌, OnOk, OnErr};
 ghost use Rattle.sym_press.specs.Answers.{pressed_answer};
 ghost use Rattle.sym_filter.specs.Demangled.{IsDemangled};
 ghost use Rattle.sym_filter.specs.Languages.{AreCounts, AreCountsOf, behind_front, pressed_of, underscore_of};

@@ -11,7 +11,8 @@ use Rattle.sym_filter.specs.declared.words.Tally.{Tally}
 use Rattle.sym_filter.specs.Languages.{answer_of}
 use Rattle.sym_filter.specs.Runs.{filtered}
 use Rattle.sym_filter.specs.Streams.{FiltersAll}
-use Rattle.symdemangle.specs.Calls.{Told, EndsAs, lang_of, status_alone, refused, written, answered, text_told, filter_told}
+use Rattle.symdemangle.specs.declared.counting.SymdemangleCounts.{SymdemangleCounts}
+use Rattle.symdemangle.specs.Calls.{Told, EndsAs, Counted, lang_of, status_alone, refused, written, answered, text_told, filter_told}
 
 -- a refusal is what was answered, but for want of memory
 pub refusal-ends : (e : Refusal) (answer : Result (List ℕ) Refusal) (room : List ℕ) (found : Told) → (e ≢ Memory → answer ≡ Err e) → found ≡ refused e room → EndsAs (answered answer room) room found
@@ -40,3 +41,25 @@ filter-ends named detail limit text room start out coming tally found is none al
     let read : all.text ≡ text = Consumes-all (Some text) coming all.text [] all.text all.reads all.ends refl in
     let put : out ≡ filtered (answer_of limit detail) text = all.writes ∙ ap₂ (λ (a b : List ℕ). a ++ filtered (answer_of limit detail) b) none read in
     inl (told ∙ ap (λ b. written b room) put ∙ sym (ap (λ n. filter_told n limit text room) is))
+
+-- a status and a place, without room and length
+abbrev bare : Told → Told
+bare t = record { status = t.status; room = []; length = 0; place = t.place }
+
+-- a status that nothing comes with
+pub told-alone : (status length place wanted : ℕ) (room : List ℕ) → status ≡ wanted → length ≡ 0 → place ≡ 0 → record { status = status; room = room; length = length; place = place } ≡ status_alone wanted room
+told-alone status length place wanted room s l p = rw (s, l, p) refl
+
+-- a symbol that isn't read
+pub count-ends : (symbol : List ℕ) (counts : SymdemangleCounts) (status length place : ℕ) (lang : Lang) (refusal : Refusal) → lang ≡ lang_of symbol
+    → (refusal ≢ Memory → (answer_of 0 Detail.Full lang symbol ≡ Err refusal) × (refusal ≢ TooLong))
+    → (found : Told) → found.status ≡ status → found.place ≡ place → found ≡ refused refusal found.room → Counted symbol counts counts status place
+unfolding refused
+count-ends symbol counts status length place lang Memory in_lang given found s p told = inr (refl, inl (sym s ∙ ap (λ t. t.status) told))
+count-ends symbol counts status length place lang (Malformed at) in_lang given found s p told =
+    inr (refl, inr (inr (Malformed at, (λ e. cc), subst (λ l. answer_of 0 Detail.Full l symbol ≡ Err (Malformed at)) in_lang (given (λ e. cc)).0, rw (sym s, sym p) (sym (ap (λ t. bare t) told)))))
+count-ends symbol counts status length place lang (BadReference at) in_lang given found s p told =
+    inr (refl, inr (inr (BadReference at, (λ e. cc), subst (λ l. answer_of 0 Detail.Full l symbol ≡ Err (BadReference at)) in_lang (given (λ e. cc)).0, rw (sym s, sym p) (sym (ap (λ t. bare t) told)))))
+count-ends symbol counts status length place lang (BadValue at) in_lang given found s p told =
+    inr (refl, inr (inr (BadValue at, (λ e. cc), subst (λ l. answer_of 0 Detail.Full l symbol ≡ Err (BadValue at)) in_lang (given (λ e. cc)).0, rw (sym s, sym p) (sym (ap (λ t. bare t) told)))))
+count-ends symbol counts status length place lang TooLong in_lang given found s p told = absurd ((given (λ e. cc)).1 refl)

@@ -1,13 +1,14 @@
 -- What each exported call answers, and what it writes.
-use Rattle.std.specs.Prelude.{◌≡◌, ◌⊎◌, ℕ, zero, suc, List, drop, length, codes, ◌++◌, Bool, Option, Some, None, Result, Ok, Err, nat_eq, nat_le, if◌then◌else◌}
+use Rattle.std.specs.Prelude.{◌≡◌, ◌≢◌, ◌⊎◌, ◌<◌, ℕ, zero, suc, List, [], drop, length, codes, ◌++◌, Bool, Option, Some, None, Result, Ok, Err, nat_eq, nat_le, if◌then◌else◌}
 use Rattle.std.specs.List.{starts_with}
 use Rattle.sym_core.specs.declared.refusal.Refusal.{Refusal}
 use Rattle.sym_core.specs.declared.refusal.Refusal.TheVariants.{Malformed, BadReference, BadValue, TooLong, Memory}
 use Rattle.sym_print.specs.declared.detail.Detail.{Detail}
 use Rattle.sym_filter.specs.declared.kinds.Lang.{Lang}
 use Rattle.sym_filter.specs.declared.kinds.Lang.TheVariants.{Cpp, Rust}
-use Rattle.sym_filter.specs.Languages.{answer_of}
+use Rattle.sym_filter.specs.Languages.{answer_of, AreCountsOf}
 use Rattle.sym_filter.specs.Runs.{filtered}
+use Rattle.symdemangle.specs.declared.counting.SymdemangleCounts.{SymdemangleCounts}
 
 -- a symbol that begins "_R" is read as Rust, any other as C++
 abbrev pub lang_of : List ℕ → Lang
@@ -64,3 +65,11 @@ filter_told (Some detail) limit text room = written (filtered (answer_of limit d
 -- A call ends so, or for want of memory with the room as it was.
 abbrev pub EndsAs : (wanted : Told) → (old_room : List ℕ) → (found : Told) → Type 0
 EndsAs wanted old_room found = (found ≡ wanted) ⊎ (found ≡ status_alone 5 old_room)
+
+-- How counting ends: with the counts of the symbol, which is read; or with the refusal that the symbol has at every limit, and
+-- the counts as they were.
+abbrev pub Counted : (symbol : List ℕ) → (old new : SymdemangleCounts) → (status place : ℕ) → Type 0
+Counted symbol old new status place =
+    ((status ≡ 0) × (place ≡ 0) × AreCountsOf (lang_of symbol) symbol (record { rows = new.rows; nodes = new.nodes; steps = new.steps }))
+    ⊎ ((new ≡ old) × ((status ≡ 5) ⊎ ((status ≡ 7) × (16777216 < length symbol))
+        ⊎ ((refusal : Refusal) × (refusal ≢ TooLong) × (answer_of 0 Detail.Full (lang_of symbol) symbol ≡ Err refusal) × (refused refusal [] ≡ record { status = status; room = []; length = 0; place = place }))))

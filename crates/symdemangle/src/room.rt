@@ -15,6 +15,8 @@ pub struct SymdemangleAnswer {
 
 /// A text or a spelling is in the room.
 pub const OK: u32 = 0;
+/// The text costs more than the limit.
+pub const TOO_LONG: u32 = 4;
 /// An allocation was refused.
 pub const MEMORY: u32 = 5;
 /// The room is too small.
@@ -55,7 +57,7 @@ pub(crate) fn tell_refusal(refusal: Refusal, room: &[u8], answer: &mut Symdemang
             answer.place = at;
             3
         }
-        Refusal::TooLong => 4,
+        Refusal::TooLong => TOO_LONG,
         Refusal::Memory => MEMORY,
     }
 }

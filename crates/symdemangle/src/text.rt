@@ -2,10 +2,10 @@
 ghost use Rattle.std.specs.Prelude.{◌≡◌, ◌⊎◌, List, ℕ};
 ghost use Rattle.symdemangle.specs.Calls.{EndsAs, detail_of, filter_told, lang_of, text_told};
 
-use crate::room::{DETAIL, MEMORY, SIZE, SymdemangleAnswer, tell, tell_refusal, write};
+use crate::room::{DETAIL, MEMORY, SIZE, SymdemangleAnswer, TOO_LONG, tell, tell_refusal, write};
 use std::alloc::Global;
 use sym_core::fits;
-use sym_filter::{Demangler, Lang, Languages, ReaderSource, WriterSink, filter_as};
+use sym_filter::{Demangled, Demangler, Lang, Languages, ListSink, ReaderSource, filter_as};
 use sym_print::Detail;
 
 /// The detail of a caller's number, if it is that of one.
@@ -58,8 +58,9 @@ pub extern "C" fn symdemangle_text_of(
     };
     let mut text = Vec::new(alloc);
     match languages.demangle(&mut lists, lang_of(symbol), symbol, &mut text) {
-        Ok(()) => write(&text, room, answer),
-        Err(refusal) => tell_refusal(refusal, room, answer),
+        Demangled::Text(_) => write(&text, room, answer),
+        Demangled::TooLong(_) => tell(TOO_LONG, answer),
+        Demangled::Refused(refusal) => tell_refusal(refusal, room, answer),
     }
 }
 
@@ -82,9 +83,9 @@ pub extern "C" fn symdemangle_filter_of(
         return tell(DETAIL, answer);
     };
     let mut reader = ReaderSource::new(text);
-    let mut writer = WriterSink::new(Vec::new(alloc));
+    let mut writer = ListSink::new(Vec::new(alloc));
     match filter_as(alloc, &mut reader, &mut writer, limit, detail) {
-        Ok(_) => write(&writer.into_writer(), room, answer),
+        Ok(_) => write(&writer.into_list(), room, answer),
         Err(_) => tell(MEMORY, answer),
     }
 }
