@@ -19,7 +19,7 @@ with_later_runs-cut change (next ∷ text) byte more other =
     let later = with_later_runs-cut change text byte more other in
     let first : change (first_run (text ++ (byte ∷ more))) ≡ change (first_run text) = ap change (first_run-cut text byte more other) in
     either-cut (is_run_byte next) _ _ (with_later_runs change text) (next ∷ (change (first_run text) ++ with_later_runs change text)) (byte ∷ with_runs change more) later
-        (ap (λ (t : List ℕ). next ∷ t) (ap₂ (λ (a b : List ℕ). a ++ b) first later ∙ sym (append_assoc (change (first_run text)) (with_later_runs change text) (byte ∷ with_runs change more))))
+    (ap (λ (t : List ℕ). next ∷ t) (ap₂ (λ (a b : List ℕ). a ++ b) first later ∙ sym (append_assoc (change (first_run text)) (with_later_runs change text) (byte ∷ with_runs change more))))
 
 pub filtered_by_joins : FilteredByJoins
 filtered_by_joins answers text more byte other =

@@ -1,18 +1,25 @@
 -- What each exported call answers, and what it writes.
-use Rattle.std.specs.Prelude.{◌≡◌, ◌≢◌, ◌⊎◌, ◌<◌, ℕ, zero, suc, List, [], drop, length, codes, ◌++◌, Bool, Option, Some, None, Result, Ok, Err, nat_eq, nat_le, if◌then◌else◌}
+use Rattle.std.specs.Prelude.{◌≡◌, ◌≢◌, ◌⊎◌, ◌<◌, ℕ, zero, suc, List, [], drop, length, codes, ◌++◌, Option, Some, None, Result, Ok, Err, nat_eq, nat_le, if◌then◌else◌}
 use Rattle.std.specs.List.{starts_with}
 use Rattle.sym_core.specs.declared.refusal.Refusal.{Refusal}
 use Rattle.sym_core.specs.declared.refusal.Refusal.TheVariants.{Malformed, BadReference, BadValue, TooLong, Memory}
 use Rattle.sym_print.specs.declared.detail.Detail.{Detail}
+use Rattle.sym_filter.specs.declared.demangler.Demangled.{Demangled}
+use Rattle.sym_filter.specs.declared.demangler.Demangled.TheVariants.{Text, Refused}
+use Rattle.sym_filter.specs.declared.kinds.Kind.{Kind}
 use Rattle.sym_filter.specs.declared.kinds.Lang.{Lang}
 use Rattle.sym_filter.specs.declared.kinds.Lang.TheVariants.{Cpp, Rust}
-use Rattle.sym_filter.specs.Languages.{answer_of, AreCountsOf}
+use Rattle.sym_filter.specs.Languages.{answer_of, AreCountsOf, pressed_of}
 use Rattle.sym_filter.specs.Runs.{filtered}
 use Rattle.symdemangle.specs.declared.counting.SymdemangleCounts.{SymdemangleCounts}
 
 -- a symbol that begins "_R" is read as Rust, any other as C++
 abbrev pub lang_of : List ℕ → Lang
 lang_of symbol = if starts_with nat_eq symbol (codes "_R") then Rust else Cpp
+
+-- a symbol by itself, before which nothing stands
+abbrev pub symbol_kind : List ℕ → Kind
+symbol_kind symbol = record { lang = lang_of symbol; skip = 0 }
 
 -- the detail of a caller's number, if it is that of one
 abbrev pub detail_of : ℕ → Option Detail
@@ -50,17 +57,29 @@ unfoldable pub answered : Result (List ℕ) Refusal → List ℕ → Told
 answered (Ok bytes) room = written bytes room
 answered (Err refusal) room = refused refusal room
 
+-- What a demangler did with a symbol, into a list that was empty: the bytes are the text that was found, or it was refused so.
+-- Want of memory says nothing of the symbol.
+unfoldable pub IsFound : Result (List ℕ) Refusal → List ℕ → Demangled → Type 0
+IsFound found bytes (Text counts) = found ≡ Ok bytes
+IsFound found bytes (Demangled.TooLong counts) = found ≡ Err TooLong
+IsFound found bytes (Refused refusal) = refusal ≢ Memory → found ≡ Err refusal
+
 -- the text of a symbol
 unfoldable pub text_told : Option Detail → (limit : ℕ) → (symbol room : List ℕ) → Told
 text_told None limit symbol room = status_alone 8 room
 text_told (Some detail) limit symbol room =
-    if nat_le (length symbol) 16777216 then answered (answer_of limit detail (lang_of symbol) symbol) room
+    if nat_le (length symbol) 16777216 then answered (answer_of limit detail (symbol_kind symbol) symbol) room
     else status_alone 7 room
 
 -- a text with each word that has a text replaced by it
 unfoldable pub filter_told : Option Detail → (limit : ℕ) → (text room : List ℕ) → Told
 filter_told None limit text room = status_alone 8 room
 filter_told (Some detail) limit text room = written (filtered (answer_of limit detail) text) room
+
+-- the pressed spelling of a symbol
+unfoldable pub press_told : (symbol room : List ℕ) → Told
+press_told symbol room =
+    if nat_le (length symbol) 16777216 then answered (pressed_of (symbol_kind symbol) symbol) room else status_alone 7 room
 
 -- A call ends so, or for want of memory with the room as it was.
 abbrev pub EndsAs : (wanted : Told) → (old_room : List ℕ) → (found : Told) → Type 0
@@ -72,4 +91,4 @@ abbrev pub Counted : (symbol : List ℕ) → (old new : SymdemangleCounts) → (
 Counted symbol old new status place =
     ((status ≡ 0) × (place ≡ 0) × AreCountsOf (lang_of symbol) symbol (record { rows = new.rows; nodes = new.nodes; steps = new.steps }))
     ⊎ ((new ≡ old) × ((status ≡ 5) ⊎ ((status ≡ 7) × (16777216 < length symbol))
-        ⊎ ((refusal : Refusal) × (refusal ≢ TooLong) × (answer_of 0 Detail.Full (lang_of symbol) symbol ≡ Err refusal) × (refused refusal [] ≡ record { status = status; room = []; length = 0; place = place }))))
+    ⊎ ((refusal : Refusal) × (refusal ≢ TooLong) × (answer_of 0 Detail.Full (symbol_kind symbol) symbol ≡ Err refusal) × (refused refusal [] ≡ record { status = status; room = []; length = 0; place = place }))))

@@ -3,7 +3,7 @@ ghost use Rattle.std.specs.Prelude.{◌≡◌};
 ghost use Rattle.symdemangle.specs.Calls.{Counted};
 
 use crate::room::{MEMORY, OK, SIZE, SymdemangleAnswer, tell, tell_refusal};
-use crate::text::lang_of;
+use crate::text::symbol_kind;
 use std::alloc::Global;
 use sym_core::{Counts, fits};
 use sym_filter::{Demangled, Demangler, Languages};
@@ -42,7 +42,7 @@ pub extern "C" fn symdemangle_counts_of(
         Err(_) => return tell(MEMORY, answer),
     };
     let mut text = Vec::new(alloc);
-    match languages.demangle(&mut lists, lang_of(symbol), symbol, &mut text) {
+    match languages.demangle(&mut lists, symbol_kind(symbol), symbol, &mut text) {
         Demangled::Text(read) => put(read, counts, answer),
         Demangled::TooLong(read) => put(read, counts, answer),
         Demangled::Refused(refusal) => tell_refusal(refusal, &[], answer),

@@ -1,8 +1,10 @@
 // What a call tells its caller: a status, what comes with it, and the bytes in the caller's room.
-ghost use Rattle.std.specs.Prelude.{◌≡◌};
-ghost use Rattle.symdemangle.specs.Calls.{refused, status_alone, written};
+ghost use Rattle.std.specs.Prelude.{◌≡◌, ℕ, List, Result};
+ghost use Rattle.sym_core.specs.declared.refusal.Refusal.{Refusal as Refusal-type};
+ghost use Rattle.symdemangle.specs.Calls.{EndsAs, IsFound, answered, refused, written};
 
 use sym_core::Refusal;
+use sym_filter::Demangled;
 
 /// What comes with a status: how many bytes were written or are needed, and where the first bad byte, reference or number
 /// stands; 0 where there is none.
@@ -75,4 +77,21 @@ pub(crate) fn write(bytes: &[u8], room: &mut [u8], answer: &mut SymdemangleAnswe
     }
     room[..length].copy_from_slice(bytes);
     OK
+}
+
+/// Writes what became of a symbol, whose text or spelling is these bytes.
+pub(crate) fn finish(
+    demangled: Demangled,
+    bytes: &[u8],
+    room: &mut [u8],
+    answer: &mut SymdemangleAnswer,
+) -> u32
+    ensures { (found : Result (List ℕ) Refusal-type) → IsFound found bytes.now demangled
+        → EndsAs (answered found room.old) room.old (record { status = result; room = room.new; length = answer.new.length; place = answer.new.place }) }
+{
+    match demangled {
+        Demangled::Text(_) => write(bytes, room, answer),
+        Demangled::TooLong(_) => tell(TOO_LONG, answer),
+        Demangled::Refused(refusal) => tell_refusal(refusal, room, answer),
+    }
 }

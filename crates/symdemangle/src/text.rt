@@ -1,11 +1,11 @@
 // The text of one symbol, and a text with those of all symbols in it.
 ghost use Rattle.std.specs.Prelude.{◌≡◌, ◌⊎◌, List, ℕ};
-ghost use Rattle.symdemangle.specs.Calls.{EndsAs, detail_of, filter_told, lang_of, text_told};
+ghost use Rattle.symdemangle.specs.Calls.{EndsAs, detail_of, filter_told, press_told, symbol_kind, text_told};
 
-use crate::room::{DETAIL, MEMORY, SIZE, SymdemangleAnswer, TOO_LONG, tell, tell_refusal, write};
+use crate::room::{DETAIL, MEMORY, SIZE, SymdemangleAnswer, finish, tell, write};
 use std::alloc::Global;
 use sym_core::fits;
-use sym_filter::{Demangled, Demangler, Lang, Languages, ListSink, ReaderSource, filter_as};
+use sym_filter::{Demangler, Kind, Lang, Languages, ListSink, Pressing, ReaderSource, filter_as};
 use sym_print::Detail;
 
 /// The detail of a caller's number, if it is that of one.
@@ -19,20 +19,21 @@ pub(crate) fn detail_of(number: u32) -> Option<Detail>
     }
 }
 
-/// The mangling that a symbol is read as.
-pub(crate) fn lang_of(symbol: &[u8]) -> Lang
-    ensures { result ≡ lang_of symbol.now }
+/// A symbol by itself: one that begins "_R" is read as Rust, any other as C++.
+pub(crate) fn symbol_kind(symbol: &[u8]) -> Kind
+    ensures { result ≡ symbol_kind symbol.now }
 {
-    if symbol.starts_with(b"_R") {
+    let lang = if symbol.starts_with(b"_R") {
         Lang::Rust
     } else {
         Lang::Cpp
-    }
+    };
+    Kind { lang, skip: 0 }
 }
 
 /// Writes the text of a symbol to the front of the room, if it costs at most the limit, and answers 0. Else it answers why
 /// not, and the room stays as it is.
-#[tactic(auto, unfolding(crate::specs::Calls::text_told, crate::specs::Calls::answered))]
+#[tactic(auto, unfolding(crate::specs::Calls::text_told))]
 #[unsafe(no_mangle)]
 pub extern "C" fn symdemangle_text_of(
     alloc: Global,
@@ -57,11 +58,8 @@ pub extern "C" fn symdemangle_text_of(
         Err(_) => return tell(MEMORY, answer),
     };
     let mut text = Vec::new(alloc);
-    match languages.demangle(&mut lists, lang_of(symbol), symbol, &mut text) {
-        Demangled::Text(_) => write(&text, room, answer),
-        Demangled::TooLong(_) => tell(TOO_LONG, answer),
-        Demangled::Refused(refusal) => tell_refusal(refusal, room, answer),
-    }
+    let demangled = languages.demangle(&mut lists, symbol_kind(symbol), symbol, &mut text);
+    finish(demangled, &text, room, answer)
 }
 
 /// Writes a text to the front of the room with each word that is a symbol replaced by the symbol's text, where that costs at
@@ -88,4 +86,29 @@ pub extern "C" fn symdemangle_filter_of(
         Ok(_) => write(&writer.into_list(), room, answer),
         Err(_) => tell(MEMORY, answer),
     }
+}
+
+/// Writes the pressed spelling of a symbol to the front of the room, in which each repeated part is a reference, and answers 0.
+/// Else it answers why not, and the room stays as it is.
+#[tactic(auto, unfolding(crate::specs::Calls::press_told))]
+#[unsafe(no_mangle)]
+pub extern "C" fn symdemangle_press_of(
+    alloc: Global,
+    symbol: &[u8],
+    room: &mut [u8],
+    answer: &mut SymdemangleAnswer,
+) -> u32
+    ensures { EndsAs (press_told symbol.now room.old) room.old
+        (record { status = result; room = room.new; length = answer.new.length; place = answer.new.place }) }
+{
+    if !fits(symbol) {
+        return tell(SIZE, answer);
+    }
+    let mut lists = match Pressing.lists(alloc) {
+        Ok(lists) => lists,
+        Err(_) => return tell(MEMORY, answer),
+    };
+    let mut pressed = Vec::new(alloc);
+    let demangled = Pressing.demangle(&mut lists, symbol_kind(symbol), symbol, &mut pressed);
+    finish(demangled, &pressed, room, answer)
 }

@@ -4,4 +4,4 @@ use Rattle.symdemangle.proofs.counting.symdemangle_counts_of.Goals as goal
 
 -- the symbol isn't read
 pub returns : goal.returns
-returns c = count-ends c.args.symbol.now c.args.counts.now c.tell_refusal.result 0 c.tell_refusal.new.answer.place c.lang_of.result c.in-Refused.refusal c.lang_of.ensures c.in-Refused.ensures.0 _ refl refl c.tell_refusal.ensures
+returns c = count-ends c.args.symbol.now c.args.counts.now c.tell_refusal.result 0 c.tell_refusal.new.answer.place c.symbol_kind.result c.in-Refused.refusal c.symbol_kind.ensures c.in-Refused.ensures.0 _ refl refl c.tell_refusal.ensures

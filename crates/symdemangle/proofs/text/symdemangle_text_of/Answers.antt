@@ -1,18 +1,13 @@
-use Rattle.std.proofs.Common.{sym, ◌∙◌, length}
-use Rattle.sym_core.specs.declared.refusal.Refusal.TheVariants as refusals
+use Rattle.std.proofs.Common.{sym, ◌∙◌, length, subst}
 use Rattle.std.proofs.lemmas.Bool.{le-leb}
-use Rattle.symdemangle.proofs.Ending.{text-ends, told-alone}
+use Rattle.sym_filter.specs.Languages.{answer_of}
+use Rattle.symdemangle.specs.Calls.{IsFound, symbol_kind}
+use Rattle.symdemangle.proofs.Ending.{in-detail, is-found}
 use Rattle.symdemangle.proofs.text.symdemangle_text_of.Goals as goal
 
--- the symbol is refused
 pub returns : goal.returns
 returns c =
-    text-ends _ c.in-Some.detail c.args.limit c.args.symbol.now c.args.room.now c.lang_of.result c.in-Refused.refusal _ (sym c.detail_of.ensures ∙ c.in-Some.is)
-        (le-leb (length c.args.symbol.now) 16777216 (c.fits.ensures.0 c.if-not-fits.false)) c.lang_of.ensures (λ other. (c.in-Refused.ensures.0 other).0) c.tell_refusal.ensures
-
--- the text costs too much
-pub returns-in-TooLong : goal.returns-in-TooLong
-returns-in-TooLong c =
-    text-ends _ c.in-Some.detail c.args.limit c.args.symbol.now c.args.room.now c.lang_of.result refusals.TooLong _ (sym c.detail_of.ensures ∙ c.in-Some.is)
-        (le-leb (length c.args.symbol.now) 16777216 (c.fits.ensures.0 c.if-not-fits.false)) c.lang_of.ensures (λ other. c.in-TooLong.ensures.1)
-        (told-alone _ _ _ 4 c.args.room.now c.tell-in-TooLong.ensures.status c.tell-in-TooLong.ensures.length c.tell-in-TooLong.ensures.place)
+    in-detail _ c.in-Some.detail c.args.limit c.args.symbol.now c.args.room.now _ (sym c.detail_of.ensures ∙ c.in-Some.is) (le-leb (length c.args.symbol.now) 16777216 (c.fits.ensures.0 c.if-not-fits.false))
+    (c.finish.ensures _ (subst (λ b. IsFound (answer_of c.args.limit c.in-Some.detail (symbol_kind c.args.symbol.now) c.args.symbol.now) b c.demangle-demangled.result) (sym c.deref.ensures.value)
+    (subst (λ k. IsFound (answer_of c.args.limit c.in-Some.detail k c.args.symbol.now) c.demangle-demangled.new.out.items c.demangle-demangled.result) c.symbol_kind.ensures
+    (is-found _ _ _ _ _ c.new-text.ensures.items c.demangle-demangled.ensures))))
