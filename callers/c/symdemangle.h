@@ -4,6 +4,8 @@
    A symbol that begins with "_R" is read as Rust, any other as C++. C++ symbols aren't read yet: each is SYMDEMANGLE_MALFORMED
    with place 1. A symbol is bytes with a length, and needs no 0 byte.
 
+   It needs C from C99 on, or C++ from C++11 on.
+
    What holds of every call:
    - It answers one of the numbers of symdemangle_status. With any answer but SYMDEMANGLE_OK the room stays as it is.
    - `symbol` and `room` may be null where their length is 0. Null with a length is SYMDEMANGLE_NULL, and so is an `answer`
