@@ -1,8 +1,11 @@
 //! A C++ symbol's nodes, from its rows.
 #![tactic(auto)]
 
+pub mod begin;
+pub mod between;
 pub mod closing;
 pub mod dispatch;
+pub mod finish;
 pub mod linked;
 pub mod meaning;
 pub mod numbers;
