@@ -9,13 +9,15 @@ use Rattle.sym_print.specs.Unshared.{Unshared}
 use Rattle.sym_print.specs.Unfold.{PartOf, text, AreParts, printed}
 use Rattle.cpp_term.specs.Term as term
 use Rattle.cpp_term.specs.Term.{Term}
+use Rattle.cpp_grammar.specs.Answer.{shown, root_item}
 use Rattle.cpp_grammar.specs.Items as heads
 use Rattle.cpp_term.specs.Items as items
+use Rattle.cpp_grammar.specs.Term as plain
 use Rattle.cpp_grammar.specs.Term.{Qualifiers}
 use Rattle.cpp_grammar.specs.Parts.{blank_last, qualifier_text}
 use Rattle.cpp_term.specs.Parts.{not_empty, text_part, parts}
 use Rattle.cpp_term.specs.Ranks.{rank}
-use Rattle.cpp_term.specs.Answer.{noted_shown}
+use Rattle.cpp_term.specs.Erased.{erase, CarriesArguments}
 use Rattle.cpp_tree.specs.declared.node.Node.{Node}
 use Rattle.cpp_layout.specs.declared.context.Context.{Context}
 use Rattle.cpp_tree.specs.Nodes.{Stored, Table, over, trees, tree_at, bytes_at, IsWithin, IsTable}
@@ -33,12 +35,13 @@ pub record ReadSymbol : Type 0 where
 abbrev pub table_of : ReadSymbol → Table
 table_of y = over y.bytes y.table
 
--- What holds of each symbol that was read: its nodes are a table, the root is the node of the whole, and each count is within its
--- bound.
+-- What holds of each symbol that was read: its nodes are a table, the root is the node of the whole, in which each free parameter
+-- carries its argument, and each count is within its bound.
 pub record IsRead (y : ReadSymbol) : Type 0 where
   pub table : IsTable (table_of y)
   pub root : y.root < length y.table.nodes
   pub whole : (encoding : Term) × (suffix : List ℕ) × (tree_at (trees (table_of y)) y.root ≡ term.symbol encoding suffix)
+  pub carries : CarriesArguments (tree_at (trees (table_of y)) y.root)
   pub fits : length y.bytes ≤ 16777216
   pub rows : y.rows ≤ 4 * length y.bytes + 4
   pub nodes : length y.table.nodes ≤ 2 * length y.bytes + 8
@@ -192,6 +195,10 @@ bytes_of_part y p = bytes_of (table_of y) p
 abbrev pub MayBeAsked : ReadSymbol → Part Context → Type 0
 MayBeAsked y p = IsTable (table_of y) × MayCome (table_of y) p
 
+-- the tree of a symbol that was read, in which a parameter is its number alone
+abbrev pub whole_of : ReadSymbol → plain.Term
+whole_of y = erase (tree_at (trees (table_of y)) y.root)
+
 -- what a symbol prints
 abbrev pub shown_symbol : Detail → ReadSymbol → Unshared
-shown_symbol detail y = noted_shown detail (tree_at (trees (table_of y)) y.root)
+shown_symbol detail y = shown detail (root_item (whole_of y))

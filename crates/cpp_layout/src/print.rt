@@ -18,6 +18,7 @@ use crate::context::Context;
 use crate::symbol::Symbol;
 use crate::{form, texts};
 use arrayvec::ArrayVec;
+use cpp_term::texts_are_the_same;
 use sym_core::Refusal;
 use sym_print::{Detail, Item, Layout, Part, print, push_reversed};
 
@@ -149,6 +150,7 @@ impl Symbol {
         ensures may_come { MayBeAsked self.now (Part.Sub result) }
         ensures shows { unshared_of self.now result ≡ shown_symbol detail self.now }
     {
+        texts_are_the_same();
         Item {
             node: self.root_node(),
             form: form::ROOT,
