@@ -6,6 +6,7 @@ pub mod between;
 pub mod closing;
 pub mod dispatch;
 pub mod finish;
+pub mod language;
 pub mod linked;
 pub mod meaning;
 pub mod numbers;
