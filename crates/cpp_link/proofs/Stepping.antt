@@ -1,7 +1,6 @@
 -- A step is taken as the reading says.
 use Rattle.std.proofs.Common.{◌≡◌, refl, sym, ◌∙◌, ap, arith, ℕ, zero, suc, ◌+◌, ◌<◌, ◌≤◌, Bool, true, false, List, [], ◌∷◌, ◌++◌, length, take, drop, get_or, Option, Some, None, Result, Ok, Err}
 use Rattle.std.specs.Prelude.{IfOk}
-use Rattle.std.specs.List.{AllByRecursion}
 use Rattle.sym_core.specs.declared.refusal.Refusal.{Refusal}
 use Rattle.cpp_grammar.specs.declared.production.Production.{Production}
 use Rattle.cpp_term.specs.Term.{Term}
@@ -20,8 +19,9 @@ use Rattle.cpp_link.specs.Making.{state_of}
 use Rattle.cpp_link.specs.Owed.{made_before, made_at_end, sum_all, owes_of}
 use Rattle.cpp_link.specs.Parts.{trees_in, tree_of_node, value_of, values_of, values_in, prefix_of, around_of, candidates_of, IsThere, AreThere, IsKeptThere, AreCandidatesThere}
 use Rattle.cpp_link.specs.Reads.{behind_first, named_if, appended_if, with_candidate, goes_on}
-use Rattle.cpp_link.specs.Staying.{values_stay, around_stays, candidates_stay, there_more, kept_more}
+use Rattle.cpp_link.specs.Staying.{values_stay, around_stays, candidates_stay, kept_more}
 use Rattle.cpp_link.specs.Stepping.{IsStepOf, Takes, nodes_of_step, behind_if}
+use Rattle.cpp_link.proofs.Making.{parts_more}
 
 -- ## Nodes that steps make
 
@@ -69,10 +69,6 @@ rest_there s n zero [] there = tt
 rest_there s n zero (p ∷ ps) there = there.1
 rest_there s n (suc base) [] there = tt
 rest_there s n (suc base) (p ∷ ps) there = rest_there s n base ps there
-
-there_more_all : (s : List ℕ) (m n : ℕ) (ps : List Part) → m ≤ n → AreThere s m ps → AreThere s n ps
-there_more_all s m n [] le there = tt
-there_more_all s m n (p ∷ ps) le there = (there_more s m n p le there.0, there_more_all s m n ps le there.1)
 
 -- the tree that is the first part now is there with those behind it
 first_there : (s : List ℕ) (n base : ℕ) (parts new_parts : List Part) (node : ℕ) (listed : Bool) → AreThere s n (drop base parts) → node < n
@@ -146,7 +142,7 @@ takes_named s l kept base parts new_parts node listed table candidates around th
   lower = lower;
   count = count;
   is = same_going _ _ _ _ _ _ (first_values s (trees_in s l.nodes) base parts new_parts node listed own)
-    (behind_is (trees_in s l.nodes) _ true kept node _ listed refl refl) refl;
+      (behind_is (trees_in s l.nodes) _ true kept node _ listed refl refl) refl;
 }
 
 -- the first part is the tree of a node that has been made
@@ -164,15 +160,19 @@ takes_made s old new kept base parts new_parts node number listed is_name is_can
   thunks = thunks;
   candidates = candidates;
   around = behind_there _ is_name kept number listed (kept_more _ _ kept grows.least around) less;
-  there = first_there s _ base parts new_parts number listed (there_more_all s _ _ (drop base parts) grows.least there) less own;
+  there = first_there s _ base parts new_parts number listed (parts_more s _ _ (drop base parts) grows.least there) less own;
   lower = lower;
   count = count;
   is = same_going _ _ _ _ _ _
-    (ap (λ u. values.tree u listed ∷ behind_first (values_in s old.nodes (drop base parts))) (sym tree)
-    ∙ ap (λ vs. values.tree (tree_at (trees_in s new.nodes) number) listed ∷ behind_first vs) (sym (values_stay s old.nodes new.nodes grows.stays (drop base parts) there))
-    ∙ first_values s (trees_in s new.nodes) base parts new_parts number listed own)
-    (behind_is (trees_in s new.nodes) _ is_name kept number _ listed (around_stays s old.nodes new.nodes grows.stays kept around) tree) state;
+      (ap (λ u. values.tree u listed ∷ behind_first (values_in s old.nodes (drop base parts))) (sym tree)
+      ∙ ap (λ vs. values.tree (tree_at (trees_in s new.nodes) number) listed ∷ behind_first vs) (sym (values_stay s old.nodes new.nodes grows.stays (drop base parts) there))
+      ∙ first_values s (trees_in s new.nodes) base parts new_parts number listed own)
+      (behind_is (trees_in s new.nodes) _ is_name kept number _ listed (around_stays s old.nodes new.nodes grows.stays kept around) tree) state;
 }
+
+pub taken_as : (s : List ℕ) (old new : Linked) (kept : Kept) (base : ℕ) (parts new_parts : List Part) (step taken : Step) (then left : Kept) → taken ≡ step → left ≡ then
+    → Takes s old new kept base parts new_parts step then → Takes s old new kept base parts new_parts taken left
+taken_as s old new kept base parts new_parts step taken then left same is takes = rw (same, is) takes
 
 -- ## A node that may become a candidate
 

@@ -161,8 +161,8 @@ impl Linked {
     ///
     /// # Errors
     ///
-    /// `BadReference` and `BadValue` at a bad token, `Memory` where a list couldn't grow, or where a part isn't there, which
-    /// is so of no symbol.
+    /// `BadReference` at a parameter that names no argument that it may name, `Memory` where a list couldn't grow, or where a
+    /// part isn't there, which is so of no symbol.
     pub fn go_on(
         &mut self,
         symbol: &[u8],

@@ -8,4 +8,4 @@ pub returns-in-Parameter-clause-of : goal.returns-in-Parameter-clause-of
 returns-in-Parameter-clause-of c = subst (λ p. IfOk c.parameter.result (λ step. IsStepOf p 1 step)) (sym c.in-Parameter.is) (parameter_steps c.parameter.result)
 
 pub returns-in-NestParameter-clause-of : goal.returns-in-NestParameter-clause-of
-returns-in-NestParameter-clause-of c = subst (λ p. IfOk c.parameter.result (λ step. IsStepOf p 1 step)) (sym c.in-NestParameter.is) (nest_parameter_steps c.parameter.result)
+returns-in-NestParameter-clause-of c = subst (λ p. IfOk c.parameter-in-NestParameter.result (λ step. IsStepOf p 1 step)) (sym c.in-NestParameter.is) (nest_parameter_steps c.parameter-in-NestParameter.result)
