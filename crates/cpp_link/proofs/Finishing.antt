@@ -1,0 +1,61 @@
+-- A rule closes as the reading says.
+use Rattle.std.proofs.Common.{◌≡◌, refl, sym, ◌∙◌, ap, ℕ, ◌<◌, ◌≤◌, List, [], ◌∷◌, ◌++◌, length, Option, Result, Ok, Err}
+use Rattle.std.specs.Prelude.{slice_index, OnOk, IfErr}
+use Rattle.sym_core.specs.declared.refusal.Refusal.{Refusal}
+use Rattle.sym_core.specs.declared.refusal.Refusal.TheVariants as refusals
+use Rattle.sym_link.specs.declared.language.Frame.{Frame}
+use Rattle.sym_link.specs.Reading.{Found, Open}
+use Rattle.sym_link.specs.Unfold.{found}
+use Rattle.sym_link.specs.Driving.{Fails}
+use Rattle.sym_link.specs.Linking.{Gives, Puts}
+use Rattle.sym_link.specs.Threads.{IsAt}
+use Rattle.cpp_grammar.specs.Unfolding.{production_at}
+use Rattle.cpp_term.specs.Values as values
+use Rattle.cpp_term.specs.Values.{State, Value, Around}
+use Rattle.cpp_term.specs.Unfolding.{close, cpp}
+use Rattle.cpp_link.specs.declared.linked.Linked.{Linked}
+use Rattle.cpp_link.specs.declared.part.Kept.{Kept}
+use Rattle.cpp_link.specs.declared.part.Part.{Part}
+use Rattle.cpp_link.specs.Making.{state_of}
+use Rattle.cpp_link.specs.Parts.{trees_in, value_in, values_in, around_of, IsThere}
+use Rattle.cpp_link.specs.View.{IsPaid, cpp_view}
+use Rattle.cpp_link.proofs.Bytes.{byte_serves}
+use Rattle.cpp_link.proofs.Viewing.{parts_are}
+
+same_close : (s : List ℕ) (m n q p : ℕ) (code around : Around) (began : State) (us vs : List Value) (cs : List values.Candidate) (packs : Option ℕ) (state : State)
+    → m ≡ n → q ≡ p → code ≡ around → us ≡ vs → cs ≡ state.candidates → packs ≡ state.packs
+    → close (production_at n) (slice_index s p) around p began vs state ≡ close (production_at m) (slice_index s q) code q began us (record { candidates = cs; packs = packs })
+same_close s m n q p code around began us vs cs packs state number place context known candidates same = rw (number, place, context, known, candidates, same) refl
+
+-- what comes of the open rule of the reading, in terms of the frame
+read_is : (s : List ℕ) (old : Linked) (frame : Frame Kept) (own : List Part) (rule : Open State Around) (known : List Value) (state : State) → IsAt (cpp_view s) s old frame own rule known state
+    → cpp.close rule known state
+    ≡ close (production_at frame.rule) (slice_index s frame.place) (around_of (trees_in s old.nodes) frame.kept) frame.place rule.before (values_in s old.nodes own) (state_of s old)
+unfolding cpp
+read_is s old frame own rule known state is =
+    byte_serves s rule known state is.there
+    ∙ same_close s frame.rule rule.rule.number frame.place rule.place (around_of (trees_in s old.nodes) frame.kept) rule.context rule.before (values_in s old.nodes own) known _ old.packs state
+    is.number is.place is.kept.surrounds.is (parts_are s old own known is.parts).1 is.holds.candidates is.holds.packs
+
+-- a part was put that stands for what the rule closes to, if memory let it
+pub put_right : (s : List ℕ) (old new : Linked) (frame : Frame Kept) (own lower new_parts : List Part) (made : Part) (result : Result (Unit {0}) Refusal) (rule : Open State Around) (known : List Value) (state : State)
+    → IsAt (cpp_view s) s old frame own rule known state
+    → ((began : State) → began.packs ≡ frame.kept.packs
+    → close (production_at frame.rule) (slice_index s frame.place) (around_of (trees_in s old.nodes) frame.kept) frame.place began (values_in s old.nodes own) (state_of s old) ≡ Ok (found (value_in s new.nodes made) (state_of s new)))
+    → IsThere s (length new.nodes.nodes) made → IsPaid s new
+    → OnOk result (new_parts ≡ lower ++ made ∷ []) → IfErr result (λ e. e ≡ refusals.Memory)
+    → Puts (cpp_view s) new lower new_parts result (cpp.close rule known state)
+put_right s old new frame own lower new_parts made (Ok done) rule known state is closes there paid items memory =
+    (made, items, (value_in s new.nodes made, state_of s new, read_is s old frame own rule known state is ∙ closes rule.before (sym is.kept.packs),
+    record { there = there; is = refl }, record { table = paid.table; there = paid.there; candidates = refl; packs = refl }))
+put_right s old new frame own lower new_parts made (Err e) rule known state is closes there paid items memory = fails_memory e (cpp.close rule known state) memory
+  where
+    fails_memory : (e : Refusal) (read : Result (Found Value State) Refusal) → e ≡ refusals.Memory → Fails e read
+    fails_memory e read is = rw is tt
+
+-- the refusal of what the rule closes to is that of the reading
+pub refused_right : (s : List ℕ) (old : Linked) (frame : Frame Kept) (own : List Part) (e : Refusal) (rule : Open State Around) (known : List Value) (state : State)
+    → IsAt (cpp_view s) s old frame own rule known state
+    → ((began : State) → Fails e (close (production_at frame.rule) (slice_index s frame.place) (around_of (trees_in s old.nodes) frame.kept) frame.place began (values_in s old.nodes own) (state_of s old)))
+    → Fails e (cpp.close rule known state)
+refused_right s old frame own e rule known state is refused = rw (read_is s old frame own rule known state is) (refused rule.before)

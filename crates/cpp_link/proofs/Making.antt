@@ -1,0 +1,68 @@
+-- What comes behind a rule, in terms of the nodes that are there once its own is made.
+use Rattle.std.proofs.Common.{◌≡◌, refl, sym, ◌∙◌, ap, arith, ℕ, zero, suc, ◌+◌, ◌<◌, ◌≤◌, List, [], ◌∷◌, length, Option, Some, None}
+use Rattle.std.specs.Prelude.{slice_get, IfSome}
+use Rattle.std.specs.List.{AllByRecursion}
+use Rattle.cpp_grammar.specs.declared.production.Production.{Production}
+use Rattle.cpp_term.specs.Term.{Term}
+use Rattle.cpp_term.specs.Values as values
+use Rattle.cpp_term.specs.Values.{State, Value, Around}
+use Rattle.cpp_term.specs.Unfolding.{behind}
+use Rattle.cpp_tree.specs.Nodes.{tree_at}
+use Rattle.cpp_link.specs.declared.linked.Linked.{Linked}
+use Rattle.cpp_link.specs.declared.part.Candidate.{Candidate}
+use Rattle.cpp_link.specs.declared.part.Kept.{Kept}
+use Rattle.cpp_link.specs.declared.part.Part.{Part}
+use Rattle.cpp_link.specs.Making.{state_of}
+use Rattle.cpp_link.specs.Parts.{trees_in, values_in, around_of, candidates_of, IsThere, AreThere, IsKeptThere, AreCandidatesThere}
+use Rattle.cpp_link.specs.Reads.{with_candidate, maybe_candidate}
+use Rattle.cpp_link.specs.Staying.{values_stay, around_stays, candidates_stay, there_more}
+
+pub parts_more : (s : List ℕ) (m n : ℕ) (ps : List Part) → m ≤ n → AreThere s m ps → AreThere s n ps
+parts_more s m n [] le there = tt
+parts_more s m n (p ∷ ps) le there = (there_more s m n p le there.0, parts_more s m n ps le there.1)
+
+pub all_there : (s : List ℕ) (n : ℕ) (ps : List Part) → AllByRecursion (IsThere s n) ps → AreThere s n ps
+all_there s n [] all = tt
+all_there s n (p ∷ ps) all = (all.0, all_there s n ps all.1)
+
+-- a candidate by its number
+pub candidate_at : (ts : List Term) (cs : List Candidate) (k : ℕ) → maybe_candidate ts (slice_get cs k) ≡ slice_get (candidates_of ts cs) k
+unfolding maybe_candidate
+candidate_at ts [] k = refl
+candidate_at ts (c ∷ cs) zero = refl
+candidate_at ts (c ∷ cs) (suc k) = candidate_at ts cs k
+
+pub candidate_there : (n : ℕ) (cs : List Candidate) (k : ℕ) → AreCandidatesThere n cs → IfSome (slice_get cs k) (λ c. c.node < n)
+candidate_there n [] k there = tt
+candidate_there n (c ∷ cs) zero there = there.0
+candidate_there n (c ∷ cs) (suc k) there = candidate_there n cs k there.1
+
+pub no_candidate : (cs : List Candidate) (k : ℕ) → length cs ≤ k → slice_get cs k ≡ None
+no_candidate [] k past = refl
+no_candidate (c ∷ cs) zero past = absurd (omega (arith, past))
+no_candidate (c ∷ cs) (suc k) past = no_candidate cs k (omega (arith, past))
+
+same_behind : (p : Production) (byte : ℕ) (later around : Around) (began : State) (us vs : List Value) (ds cs : List values.Candidate) (then packs : Option ℕ)
+    → later ≡ around → us ≡ vs → ds ≡ cs → then ≡ packs
+    → behind p byte around began vs (record { candidates = cs; packs = packs }) ≡ behind p byte later began us (record { candidates = ds; packs = then })
+same_behind p byte later around began us vs ds cs then packs context known candidates same = rw (context, known, candidates, same) refl
+
+-- the state behind a rule, once its node is made and what becomes a candidate is one
+pub state_behind : (s : List ℕ) (old mid last : Linked) (p : Production) (byte : ℕ) (kept : Kept) (parts : List Part) (candidate packs : Option ℕ) (began : State)
+    → ((i : ℕ) → i < length old.nodes.nodes → tree_at (trees_in s mid.nodes) i ≡ tree_at (trees_in s old.nodes) i)
+    → IsKeptThere (length old.nodes.nodes) kept → AreThere s (length old.nodes.nodes) parts → AreCandidatesThere (length old.nodes.nodes) old.candidates.items
+    → mid.candidates ≡ old.candidates → mid.packs ≡ old.packs
+    → ((cs : List values.Candidate) → behind p byte (around_of (trees_in s mid.nodes) kept) began (values_in s mid.nodes parts) (record { candidates = cs; packs = mid.packs })
+    ≡ with_candidate (around_of (trees_in s mid.nodes) kept) (trees_in s mid.nodes) candidate (record { candidates = cs; packs = packs }))
+    → with_candidate (around_of (trees_in s mid.nodes) kept) (trees_in s mid.nodes) candidate (record { candidates = candidates_of (trees_in s mid.nodes) mid.candidates.items; packs = packs })
+    ≡ record { candidates = candidates_of (trees_in s mid.nodes) last.candidates.items; packs = packs }
+    → last.nodes ≡ mid.nodes → last.packs ≡ packs
+    → behind p byte (around_of (trees_in s old.nodes) kept) began (values_in s old.nodes parts) (state_of s old) ≡ state_of s last
+state_behind s old mid last p byte kept parts candidate packs began stays kept_there there candidates_there candidates before comes appended nodes after =
+    let cs : candidates_of (trees_in s mid.nodes) mid.candidates.items ≡ candidates_of (trees_in s old.nodes) old.candidates.items =
+    ap (λ v. candidates_of (trees_in s mid.nodes) v.items) candidates ∙ candidates_stay s old.nodes mid.nodes stays old.candidates.items candidates_there in
+    same_behind p byte (around_of (trees_in s mid.nodes) kept) (around_of (trees_in s old.nodes) kept) began (values_in s mid.nodes parts) (values_in s old.nodes parts)
+    (candidates_of (trees_in s mid.nodes) mid.candidates.items) _ mid.packs old.packs
+    (around_stays s old.nodes mid.nodes stays kept kept_there) (values_stay s old.nodes mid.nodes stays parts there) cs before
+    ∙ comes (candidates_of (trees_in s mid.nodes) mid.candidates.items) ∙ appended
+    ∙ rw (nodes, after) refl
