@@ -1,5 +1,5 @@
 -- A rule closes as the reading says.
-use Rattle.std.proofs.Common.{◌≡◌, refl, sym, ◌∙◌, ap, ℕ, ◌<◌, ◌≤◌, List, [], ◌∷◌, ◌++◌, length, Option, Result, Ok, Err}
+use Rattle.std.proofs.Common.{◌≡◌, refl, sym, ◌∙◌, ap, subst, ℕ, ◌<◌, ◌≤◌, List, [], ◌∷◌, ◌++◌, length, Option, Result, Ok, Err}
 use Rattle.std.specs.Prelude.{slice_index, OnOk, IfErr}
 use Rattle.sym_core.specs.declared.refusal.Refusal.{Refusal}
 use Rattle.sym_core.specs.declared.refusal.Refusal.TheVariants as refusals
@@ -9,6 +9,7 @@ use Rattle.sym_link.specs.Unfold.{found}
 use Rattle.sym_link.specs.Driving.{Fails}
 use Rattle.sym_link.specs.Linking.{Gives, Puts}
 use Rattle.sym_link.specs.Threads.{IsAt}
+use Rattle.cpp_grammar.specs.declared.production.Production.{Production}
 use Rattle.cpp_grammar.specs.Unfolding.{production_at}
 use Rattle.cpp_term.specs.Values as values
 use Rattle.cpp_term.specs.Values.{State, Value, Around}
@@ -37,25 +38,31 @@ read_is s old frame own rule known state is =
     ∙ same_close s frame.rule rule.rule.number frame.place rule.place (around_of (trees_in s old.nodes) frame.kept) rule.context rule.before (values_in s old.nodes own) known _ old.packs state
     is.number is.place is.kept.surrounds.is (parts_are s old own known is.parts).1 is.holds.candidates is.holds.packs
 
--- a part was put that stands for what the rule closes to, if memory let it
-pub put_right : (s : List ℕ) (old new : Linked) (frame : Frame Kept) (own lower new_parts : List Part) (made : Part) (result : Result (Unit {0}) Refusal) (rule : Open State Around) (known : List Value) (state : State)
-    → IsAt (cpp_view s) s old frame own rule known state
+-- what this production closes to with these parts is what comes of the open rule of the reading
+given_is : (s : List ℕ) (old : Linked) (frame : Frame Kept) (own given : List Part) (p : Production) (rule : Open State Around) (known : List Value) (state : State) → IsAt (cpp_view s) s old frame own rule known state
+    → p ≡ production_at frame.rule → given ≡ own
+    → cpp.close rule known state
+    ≡ close p (slice_index s frame.place) (around_of (trees_in s old.nodes) frame.kept) frame.place rule.before (values_in s old.nodes given) (state_of s old)
+given_is s old frame own given p rule known state is production same =
+    read_is s old frame own rule known state is
+    ∙ ap (λ q. close q (slice_index s frame.place) (around_of (trees_in s old.nodes) frame.kept) frame.place rule.before (values_in s old.nodes own) (state_of s old)) (sym production)
+    ∙ ap (λ ps. close p (slice_index s frame.place) (around_of (trees_in s old.nodes) frame.kept) frame.place rule.before (values_in s old.nodes ps) (state_of s old)) (sym same)
+
+-- a part was put that stands for what the rule closes to
+pub put_right : (s : List ℕ) (old new : Linked) (frame : Frame Kept) (own given lower new_parts : List Part) (p : Production) (made : Part) (done : Unit {0}) (rule : Open State Around) (known : List Value) (state : State)
+    → IsAt (cpp_view s) s old frame own rule known state → p ≡ production_at frame.rule → given ≡ own
     → ((began : State) → began.packs ≡ frame.kept.packs
-    → close (production_at frame.rule) (slice_index s frame.place) (around_of (trees_in s old.nodes) frame.kept) frame.place began (values_in s old.nodes own) (state_of s old) ≡ Ok (found (value_in s new.nodes made) (state_of s new)))
-    → IsThere s (length new.nodes.nodes) made → IsPaid s new
-    → OnOk result (new_parts ≡ lower ++ made ∷ []) → IfErr result (λ e. e ≡ refusals.Memory)
-    → Puts (cpp_view s) new lower new_parts result (cpp.close rule known state)
-put_right s old new frame own lower new_parts made (Ok done) rule known state is closes there paid items memory =
-    (made, items, (value_in s new.nodes made, state_of s new, read_is s old frame own rule known state is ∙ closes rule.before (sym is.kept.packs),
+    → close p (slice_index s frame.place) (around_of (trees_in s old.nodes) frame.kept) frame.place began (values_in s old.nodes given) (state_of s old) ≡ Ok (found (value_in s new.nodes made) (state_of s new)))
+    → IsThere s (length new.nodes.nodes) made → IsPaid s new → new_parts ≡ lower ++ made ∷ []
+    → Puts (cpp_view s) new lower new_parts (Ok done) (cpp.close rule known state)
+put_right s old new frame own given lower new_parts p made done rule known state is production same closes there paid items =
+    (made, items, (value_in s new.nodes made, state_of s new, given_is s old frame own given p rule known state is production same ∙ closes rule.before (sym is.kept.packs),
     record { there = there; is = refl }, record { table = paid.table; there = paid.there; candidates = refl; packs = refl }))
-put_right s old new frame own lower new_parts made (Err e) rule known state is closes there paid items memory = fails_memory e (cpp.close rule known state) memory
-  where
-    fails_memory : (e : Refusal) (read : Result (Found Value State) Refusal) → e ≡ refusals.Memory → Fails e read
-    fails_memory e read is = rw is tt
 
 -- the refusal of what the rule closes to is that of the reading
-pub refused_right : (s : List ℕ) (old : Linked) (frame : Frame Kept) (own : List Part) (e : Refusal) (rule : Open State Around) (known : List Value) (state : State)
-    → IsAt (cpp_view s) s old frame own rule known state
-    → ((began : State) → Fails e (close (production_at frame.rule) (slice_index s frame.place) (around_of (trees_in s old.nodes) frame.kept) frame.place began (values_in s old.nodes own) (state_of s old)))
+pub refused_right : (s : List ℕ) (old : Linked) (frame : Frame Kept) (own given : List Part) (p : Production) (e : Refusal) (rule : Open State Around) (known : List Value) (state : State)
+    → IsAt (cpp_view s) s old frame own rule known state → p ≡ production_at frame.rule → given ≡ own
+    → ((began : State) → Fails e (close p (slice_index s frame.place) (around_of (trees_in s old.nodes) frame.kept) frame.place began (values_in s old.nodes given) (state_of s old)))
     → Fails e (cpp.close rule known state)
-refused_right s old frame own e rule known state is refused = rw (read_is s old frame own rule known state is) (refused rule.before)
+refused_right s old frame own given p e rule known state is production same refused =
+    subst (λ read. Fails e read) (sym (given_is s old frame own given p rule known state is production same)) (refused rule.before)

@@ -1,6 +1,6 @@
 // A rule closes over all its parts.
 
-ghost use Rattle.std.specs.Prelude.{◌≡◌, ℕ, ◌+◌, ◌-◌, ◌<◌, ◌≤◌, ◌++◌, ◌∷◌, [], List, length, take, slice_get, slice_index, true, Ok, IfOk, IfErr, IfSome, OnOk};
+ghost use Rattle.std.specs.Prelude.{◌≡◌, ℕ, ◌+◌, ◌-◌, ◌<◌, ◌≤◌, ◌++◌, ◌∷◌, ◌^◌, [], MatchOption, List, length, take, slice_get, slice_index, true, Ok, IfOk, IfErr, IfSome, OnOk};
 ghost use Rattle.sym_core.specs.Number.{FitsSymbol};
 ghost use Rattle.sym_core.specs.Value.{counted_value};
 ghost use Rattle.sym_core.specs.declared.NumberKind.TheVariants as kinds;
@@ -41,6 +41,19 @@ fn put(parts: &mut Vec<Part>, base: usize, part: Part) -> Result<(), Refusal>
     Ok(())
 }
 
+/// The candidate of a number.
+fn numbered(candidates: &[Candidate], counted: Option<u64>) -> Option<Candidate>
+    ensures { (k : ℕ) → MatchOption counted (2 ^ 64 ≤ k) (λ v. v ≡ k) → result ≡ slice_get candidates.now k }
+{
+    match counted {
+        Some(number) => match candidates.get(number as usize) {
+            Some(candidate) => Some(*candidate),
+            None => None,
+        },
+        None => None,
+    }
+}
+
 impl Linked {
     /// The candidate that these digits name: none are the first, and 0 is the next.
     ///
@@ -54,13 +67,8 @@ impl Linked {
         ensures there { IfOk result (λ found. IfSome found (λ c. c.node < length self.now.nodes.nodes)) }
         ensures memory { IfErr result (λ e. e ≡ refusals.Memory) }
     {
-        let Some(number) = base36(&symbol[digits.from as usize..digits.to as usize])? else {
-            return Ok(None);
-        };
-        match self.candidates.get(number as usize) {
-            Some(candidate) => Ok(Some(*candidate)),
-            None => Ok(None),
-        }
+        let counted = base36(&symbol[digits.from as usize..digits.to as usize])?;
+        Ok(numbered(&self.candidates, counted))
     }
 
     /// A substitution closes: its part is the candidate that it names.

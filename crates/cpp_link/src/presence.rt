@@ -1,6 +1,8 @@
 // Whether what a rule closes over is there: texts in the symbol, and trees among the nodes.
 
-ghost use Rattle.std.specs.Prelude.{◌≡◌, ℕ, ◌<◌, ◌≤◌, length, true, AllByRecursion, OnTrue};
+ghost use Rattle.std.specs.Prelude.{◌≡◌, ℕ, ◌<◌, ◌≤◌, length, true};
+ghost use Rattle.std.specs.Bool.{OnTrue};
+ghost use Rattle.std.specs.List.{AllByRecursion};
 ghost use Rattle.cpp_tree.specs.Nodes.{IsWithin, IsPieceBelow, IsAdjustmentWithin, IsArgumentsBelow};
 ghost use Rattle.cpp_link.specs.Parts.{IsThere, IsPrefixThere, IsKeptThere};
 
