@@ -1,13 +1,12 @@
 -- A rule closes as the reading says.
-use Rattle.std.proofs.Common.{◌≡◌, refl, sym, ◌∙◌, ap, subst, ℕ, ◌<◌, ◌≤◌, List, [], ◌∷◌, ◌++◌, length, Option, Result, Ok, Err}
-use Rattle.std.specs.Prelude.{slice_index, OnOk, IfErr}
+use Rattle.std.proofs.Common.{◌≡◌, refl, sym, ◌∙◌, ap, subst, ℕ, List, [], ◌∷◌, ◌++◌, length, Option, Ok}
+use Rattle.std.specs.Prelude.{slice_index}
 use Rattle.sym_core.specs.declared.refusal.Refusal.{Refusal}
-use Rattle.sym_core.specs.declared.refusal.Refusal.TheVariants as refusals
 use Rattle.sym_link.specs.declared.language.Frame.{Frame}
-use Rattle.sym_link.specs.Reading.{Found, Open}
+use Rattle.sym_link.specs.Reading.{Open}
 use Rattle.sym_link.specs.Unfold.{found}
 use Rattle.sym_link.specs.Driving.{Fails}
-use Rattle.sym_link.specs.Linking.{Gives, Puts}
+use Rattle.sym_link.specs.Linking.{Puts}
 use Rattle.sym_link.specs.Threads.{IsAt}
 use Rattle.cpp_grammar.specs.declared.production.Production.{Production}
 use Rattle.cpp_grammar.specs.Unfolding.{production_at}
@@ -55,9 +54,17 @@ pub put_right : (s : List ℕ) (old new : Linked) (frame : Frame Kept) (own give
     → close p (slice_index s frame.place) (around_of (trees_in s old.nodes) frame.kept) frame.place began (values_in s old.nodes given) (state_of s old) ≡ Ok (found (value_in s new.nodes made) (state_of s new)))
     → IsThere s (length new.nodes.nodes) made → IsPaid s new → new_parts ≡ lower ++ made ∷ []
     → Puts (cpp_view s) new lower new_parts (Ok done) (cpp.close rule known state)
-put_right s old new frame own given lower new_parts p made done rule known state is production same closes there paid items =
-    (made, items, (value_in s new.nodes made, state_of s new, given_is s old frame own given p rule known state is production same ∙ closes rule.before (sym is.kept.packs),
-    record { there = there; is = refl }, record { table = paid.table; there = paid.there; candidates = refl; packs = refl }))
+put_right s old new frame own given lower new_parts p made done rule known state is production same closes there paid items = (
+  made,
+  items,
+  (
+    value_in s new.nodes made,
+    state_of s new,
+    given_is s old frame own given p rule known state is production same ∙ closes rule.before (sym is.kept.packs),
+    record { there = there; is = refl },
+    record { table = paid.table; there = paid.there; candidates = refl; packs = refl },
+  ),
+)
 
 -- the refusal of what the rule closes to is that of the reading
 pub refused_right : (s : List ℕ) (old : Linked) (frame : Frame Kept) (own given : List Part) (p : Production) (e : Refusal) (rule : Open State Around) (known : List Value) (state : State)

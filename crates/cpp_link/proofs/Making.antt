@@ -1,5 +1,5 @@
 -- What comes behind a rule, in terms of the nodes that are there once its own is made.
-use Rattle.std.proofs.Common.{◌≡◌, refl, sym, ◌∙◌, ap, subst, arith, ℕ, zero, suc, ◌+◌, ◌-◌, ◌<◌, ◌≤◌, List, [], ◌∷◌, length, Option, Some, None, Result, Ok, Err}
+use Rattle.std.proofs.Common.{◌≡◌, refl, sym, ◌∙◌, ap, subst, arith, ℕ, zero, suc, ◌+◌, ◌-◌, ◌<◌, ◌≤◌, List, [], ◌∷◌, length, Option, Result, Ok, Err}
 use Rattle.std.specs.Prelude.{slice_get, IfSome, IfOk, IfErr, OnOk}
 use Rattle.sym_core.specs.Value.{counted_value}
 use Rattle.sym_core.specs.declared.NumberKind.TheVariants.{Seq36}
@@ -22,7 +22,7 @@ use Rattle.cpp_link.specs.declared.part.Kept.{Kept}
 use Rattle.cpp_link.specs.declared.part.Part.{Part}
 use Rattle.cpp_link.specs.Making.{state_of}
 use Rattle.cpp_link.specs.Owed.{made_at_end, owes_of, owes}
-use Rattle.cpp_link.specs.Parts.{trees_in, values_in, around_of, candidates_of, IsThere, AreThere, IsKeptThere, AreCandidatesThere}
+use Rattle.cpp_link.specs.Parts.{trees_in, values_in, around_of, candidates_of, AreThere, IsKeptThere, AreCandidatesThere}
 use Rattle.cpp_link.specs.Reads.{with_candidate, maybe_candidate}
 use Rattle.cpp_link.specs.Staying.{values_stay, around_stays, candidates_stay, there_more}
 

@@ -172,7 +172,8 @@ impl Linked {
     ///
     /// # Errors
     ///
-    /// `BadReference` and `BadValue` at a bad token, `Memory` where a list couldn't grow.
+    /// `BadReference` at a substitution that names no candidate that it may name. `Memory` where a list couldn't grow, or where
+    /// what the frame and its parts stand for isn't there, which nothing of a symbol comes to.
     pub fn finish_rule(
         &mut self,
         symbol: &[u8],

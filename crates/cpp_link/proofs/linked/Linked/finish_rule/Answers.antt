@@ -1,4 +1,4 @@
-use Rattle.std.proofs.Common.{◌≡◌, sym, ◌∙◌, ap, subst, ℕ, ◌+◌, ◌-◌, ◌≤◌, length, drop, take}
+use Rattle.std.proofs.Common.{subst, ◌+◌, ◌-◌, ◌≤◌, length, drop, take}
 use Rattle.std.proofs.lemmas.Result.{err_from_is_err_and}
 use Rattle.sym_link.proofs.Lists.{rest_all}
 use Rattle.cpp_link.specs.Owed.{made_at_end}
@@ -19,6 +19,8 @@ returns-clause-closes c rule known state is =
     c.production_of-production.ensures (rw c.deref-2.ensures.value (rest_all c.args.parts.now.items c.args.frame.base)) c.in_ok-made.ensures.is c.in_ok-made.ensures.there c.in_ok-made.ensures.paid c.in_ok-put.ensures.items
 
 pub returns-clause-adds : goal.returns-clause-adds
-returns-clause-adds c =
-    (c.in_ok-made.ensures.grows, few_owed c.args.frame.rule (length c.args.parts.now.items - c.args.frame.base) (length c.args.self.now.nodes.nodes) (length c.close_production.new.self.nodes.nodes)
-    (subst (λ q. length c.close_production.new.self.nodes.nodes ≤ length c.args.self.now.nodes.nodes + made_at_end q) c.production_of-production.ensures c.in_ok-made.ensures.few))
+returns-clause-adds c = (
+  c.in_ok-made.ensures.grows,
+  few_owed c.args.frame.rule (length c.args.parts.now.items - c.args.frame.base) (length c.args.self.now.nodes.nodes) (length c.close_production.new.self.nodes.nodes)
+      (subst (λ q. length c.close_production.new.self.nodes.nodes ≤ length c.args.self.now.nodes.nodes + made_at_end q) c.production_of-production.ensures c.in_ok-made.ensures.few),
+)

@@ -1,4 +1,4 @@
-use Rattle.std.proofs.Common.{◌≡◌, refl, sym, ◌∙◌, ap, subst, length}
+use Rattle.std.proofs.Common.{refl, sym, ◌∙◌, ap, subst, length}
 use Rattle.std.specs.Prelude.{slice_index}
 use Rattle.cpp_term.specs.Meaning.{meaning}
 use Rattle.cpp_link.specs.declared.linked.Linked.{Linked}
