@@ -1,5 +1,5 @@
 -- The number with which a lambda or an unnamed type ends.
-use Rattle.std.proofs.Common.{◌≡◌, refl, sym, ◌∙◌, ap, subst, arith, ℕ, zero, suc, ◌+◌, ◌-◌, ◌^◌, ◌<◌, ◌≤◌, List, [], ◌∷◌, ◌++◌, length, take, drop, get_or, Bool, true, false, Result, Ok, Err, append_assoc, length-append}
+use Rattle.std.proofs.Common.{◌≡◌, refl, sym, ◌∙◌, ap, subst, arith, ℕ, suc, ◌+◌, ◌-◌, ◌^◌, ◌<◌, List, [], ◌∷◌, ◌++◌, length, take, drop, get_or, Bool, true, false, Result, Ok, Err, append_assoc, length-append}
 use Rattle.std.specs.Prelude.{nat_lt, slice_range}
 use Rattle.std.proofs.lemmas.Bool.{true≢false, false≢true}
 use Rattle.std.proofs.lemmas.List.{drop-drop, get_or-drop}
@@ -16,7 +16,7 @@ use Rattle.sym_shape.proofs.Forests.{length-rows_of_all}
 use Rattle.sym_link.specs.Unfold.{standing}
 use Rattle.sym_link.specs.Linking.{IsRuleRow}
 use Rattle.cpp_grammar.specs.declared.production.Production.{Production}
-use Rattle.cpp_grammar.specs.Grammar.{parts_of, number_of_kind}
+use Rattle.cpp_grammar.specs.Grammar.{parts_of}
 use Rattle.cpp_grammar.specs.Table.{abi}
 use Rattle.cpp_grammar.specs.Unfolding.{last_token, production_at}
 use Rattle.cpp_grammar.specs.Values.{local_number}

@@ -126,8 +126,10 @@ fn next_part(production: Production, held: usize, rule: u16, byte: u8) -> usize
         Production::VolatileType => if is_mark(rule) { 0 } else { 1 },
         Production::NestStd => if held == 0 {
             0
+        } else if is_list(rule) {
+            1
         } else {
-            if is_list(rule) { 1 } else { 2 }
+            2
         },
         Production::NestArguments => if is_argument(rule) {
             0
