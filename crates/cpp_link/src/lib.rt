@@ -11,6 +11,7 @@ pub mod linked;
 pub mod meaning;
 pub mod numbers;
 pub mod part;
+pub mod presence;
 pub mod references;
 pub mod settling;
 pub mod shapes;
