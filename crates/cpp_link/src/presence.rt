@@ -1,4 +1,5 @@
-// Whether what a rule closes over is there: texts in the symbol, and trees among the nodes.
+// Whether what frames and parts stand for is there: texts in the symbol, and trees among the nodes. A caller of the linker need
+// not show it, so it is looked at before it is used.
 
 ghost use Rattle.std.specs.Prelude.{◌≡◌, ℕ, ◌<◌, ◌≤◌, length, true};
 ghost use Rattle.std.specs.Bool.{OnTrue};
