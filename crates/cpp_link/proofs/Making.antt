@@ -1,7 +1,6 @@
 -- What comes behind a rule, in terms of the nodes that are there once its own is made.
 use Rattle.std.proofs.Common.{◌≡◌, refl, sym, ◌∙◌, ap, subst, arith, ℕ, zero, suc, ◌+◌, ◌-◌, ◌<◌, ◌≤◌, List, [], ◌∷◌, length, Option, Result, Ok, Err}
 use Rattle.std.specs.Prelude.{slice_get, IfSome, IfOk, IfErr, OnOk}
-use Rattle.std.specs.List.{AllByRecursion}
 use Rattle.sym_core.specs.Value.{counted_value}
 use Rattle.sym_core.specs.declared.NumberKind.TheVariants.{Seq36}
 use Rattle.sym_core.specs.declared.refusal.Refusal.{Refusal}
@@ -23,17 +22,13 @@ use Rattle.cpp_link.specs.declared.part.Kept.{Kept}
 use Rattle.cpp_link.specs.declared.part.Part.{Part}
 use Rattle.cpp_link.specs.Making.{state_of}
 use Rattle.cpp_link.specs.Owed.{made_at_end, owes_of, owes}
-use Rattle.cpp_link.specs.Parts.{trees_in, values_in, around_of, candidates_of, IsThere, AreThere, IsKeptThere, AreCandidatesThere}
+use Rattle.cpp_link.specs.Parts.{trees_in, values_in, around_of, candidates_of, AreThere, IsKeptThere, AreCandidatesThere}
 use Rattle.cpp_link.specs.Reads.{with_candidate, maybe_candidate}
 use Rattle.cpp_link.specs.Staying.{values_stay, around_stays, candidates_stay, there_more}
 
 pub parts_more : (s : List ℕ) (m n : ℕ) (ps : List Part) → m ≤ n → AreThere s m ps → AreThere s n ps
 parts_more s m n [] le there = tt
 parts_more s m n (p ∷ ps) le there = (there_more s m n p le there.0, parts_more s m n ps le there.1)
-
-pub all_there : (s : List ℕ) (n : ℕ) (ps : List Part) → AllByRecursion (IsThere s n) ps → AreThere s n ps
-all_there s n [] all = tt
-all_there s n (p ∷ ps) all = (all.0, all_there s n ps all.1)
 
 -- a candidate by its number
 pub candidate_at : (ts : List Term) (cs : List Candidate) (k : ℕ) → maybe_candidate ts (slice_get cs k) ≡ slice_get (candidates_of ts cs) k

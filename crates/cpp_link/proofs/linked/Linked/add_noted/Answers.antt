@@ -1,6 +1,6 @@
-use Rattle.std.proofs.Common.{sym, ◌∙◌, ap, length}
+use Rattle.std.proofs.Common.{sym, ◌∙◌, ap}
 use Rattle.cpp_link.specs.Making.{state_of}
-use Rattle.cpp_link.specs.Parts.{trees_in, around_of, candidates_of, AreCandidatesThere}
+use Rattle.cpp_link.specs.Parts.{trees_in, around_of, candidates_of}
 use Rattle.cpp_link.specs.Reads.{with_candidate}
 use Rattle.cpp_link.specs.Staying.{candidates_more}
 use Rattle.cpp_link.proofs.Stepping.{noted_is}

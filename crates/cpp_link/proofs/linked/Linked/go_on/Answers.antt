@@ -4,7 +4,7 @@ use Rattle.sym_link.proofs.Lists.{rest_all}
 use Rattle.cpp_link.specs.declared.part.Part.{Part}
 use Rattle.cpp_link.specs.Parts.{AreThere}
 use Rattle.cpp_link.proofs.GoingOn.{goes_right, refused_right, adds_right}
-use Rattle.cpp_link.proofs.Making.{all_there}
+use Rattle.cpp_link.proofs.Stepping.{all_there}
 use Rattle.cpp_link.proofs.linked.Linked.go_on.Goals as goal
 
 pub returns-in_err-step-clause-goes : goal.returns-in_err-step-clause-goes
