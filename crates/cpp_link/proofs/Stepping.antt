@@ -20,8 +20,9 @@ use Rattle.cpp_link.specs.Making.{state_of}
 use Rattle.cpp_link.specs.Owed.{made_before, sum_all, owes_of}
 use Rattle.cpp_link.specs.Parts.{trees_in, tree_of_node, value_of, values_of, values_in, prefix_of, around_of, candidates_of, IsThere, AreThere, IsKeptThere, AreCandidatesThere}
 use Rattle.cpp_link.specs.Reads.{behind_first, named_if, appended_if, with_candidate, goes_on}
-use Rattle.cpp_link.specs.Staying.{values_stay, around_stays, candidates_stay, there_more, kept_more}
+use Rattle.cpp_link.specs.Staying.{values_stay, around_stays, candidates_stay, kept_more}
 use Rattle.cpp_link.specs.Stepping.{IsStepOf, Takes, nodes_of_step, behind_if}
+use Rattle.cpp_link.proofs.Making.{parts_more}
 
 -- ## Nodes that steps make
 
@@ -69,10 +70,6 @@ rest_there s n zero [] there = tt
 rest_there s n zero (p ∷ ps) there = there.1
 rest_there s n (suc base) [] there = tt
 rest_there s n (suc base) (p ∷ ps) there = rest_there s n base ps there
-
-parts_more : (s : List ℕ) (m n : ℕ) (ps : List Part) → m ≤ n → AreThere s m ps → AreThere s n ps
-parts_more s m n [] le there = tt
-parts_more s m n (p ∷ ps) le there = (there_more s m n p le there.0, parts_more s m n ps le there.1)
 
 pub all_there : (s : List ℕ) (n : ℕ) (ps : List Part) → AllByRecursion (IsThere s n) ps → AreThere s n ps
 all_there s n [] all = tt

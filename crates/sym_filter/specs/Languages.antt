@@ -5,11 +5,12 @@ use Rattle.sym_core.specs.declared.refusal.Refusal.TheVariants.{Malformed}
 use Rattle.sym_print.specs.declared.detail.Detail.{Detail}
 use Rattle.sym_shape.specs.declared.rule.Row.{Row}
 use Rattle.sym_shape.specs.Tree.{AreRowsOf}
+use Rattle.sym_demangle.specs.Mangled.{Mangled, IsReading, answer}
 use Rattle.sym_demangle.specs.Standing.{AreStepsInAll}
 use Rattle.rust_tree.specs.Counts.{IsRead}
 use Rattle.rust_tree.specs.Layout.{ReadSymbol}
-use Rattle.rust_v0.specs.Mangled.{answer, IsReading, whole_of}
-use Rattle.rust_v0.specs.Rules.{v0_table}
+use Rattle.rust_tree.specs.Symbol.{Symbol}
+use Rattle.rust_v0.specs.Mangled.{v0_mangled, whole_of}
 use Rattle.sym_core.specs.declared.counts.Counts.{Counts}
 use Rattle.sym_press.specs.Answers.{pressed_answer}
 use Rattle.sym_filter.specs.declared.kinds.Kind.{Kind}
@@ -19,7 +20,7 @@ use Rattle.sym_filter.specs.declared.kinds.Lang.TheVariants.{Cpp, Rust}
 -- At a limit and a detail. No C++ symbol is read yet.
 abbrev pub language_answer : ℕ → Detail → Lang → List ℕ → Result (List ℕ) Refusal
 language_answer limit detail Cpp symbol = Err (Malformed 1)
-language_answer limit detail Rust symbol = answer detail symbol limit
+language_answer limit detail Rust symbol = answer v0_mangled detail symbol limit
 
 -- the text is the same whether an underscore was dropped or not
 abbrev pub answer_of : ℕ → Detail → Kind → List ℕ → Result (List ℕ) Refusal
@@ -42,23 +43,44 @@ pressed_language Rust skip symbol = behind_front (underscore_of skip) (pressed_a
 abbrev pub pressed_of : Kind → List ℕ → Result (List ℕ) Refusal
 pressed_of kind symbol = pressed_language kind.lang kind.skip symbol
 
--- The counts of a Rust symbol that is read: the rows and steps of its one shape, and the nodes of a symbol that was read and
--- stands for its tree. There is at least a step for each row, and no more of each than its bytes allow.
-pub record AreCounts (symbol : List ℕ) (counts : Counts) : Type 0 where
+-- The symbols of a mangling that are read: W are the trees that they stand for, R what is kept of them.
+pub record Readings (W R : Type 0) : Type 1 where
+  pub mangled : Mangled W
+  -- what holds of each of them
+  pub IsRead : R → Type 0
+  pub bytes_of : R → List ℕ
+  pub whole_of : R → W
+  pub nodes_of : R → ℕ
+  -- the most nodes that a byte brings
+  pub nodes_a_byte : ℕ
+
+abbrev pub v0_readings : Readings Symbol ReadSymbol
+v0_readings = record {
+  mangled = v0_mangled;
+  IsRead = λ read. IsRead read;
+  bytes_of = λ read. read.bytes;
+  whole_of = λ read. whole_of read;
+  nodes_of = λ read. length read.table.nodes;
+  nodes_a_byte = 4;
+}
+
+-- The counts of a symbol that is read: the rows and steps of its one shape, and the nodes of a symbol that was read and stands
+-- for its tree. There is at least a step for each row, and no more of each than its bytes allow.
+pub record AreCounts {W R : Type 0} (readings : Readings W R) (symbol : List ℕ) (counts : Counts) : Type 0 where
   pub shape : List Row
-  pub are_rows : AreRowsOf v0_table symbol shape
+  pub are_rows : AreRowsOf readings.mangled.table symbol shape
   pub rows : counts.rows ≡ length shape
-  pub read : ReadSymbol
-  pub is_read : IsRead read
-  pub bytes : read.bytes ≡ symbol
-  pub stands : IsReading symbol (Ok (whole_of read))
-  pub nodes : counts.nodes ≡ length read.table.nodes
-  pub nodes_few : counts.nodes ≤ 4 * length symbol + 8
-  pub steps : AreStepsInAll v0_table symbol counts.steps
+  pub read : R
+  pub is_read : readings.IsRead read
+  pub bytes : readings.bytes_of read ≡ symbol
+  pub stands : IsReading readings.mangled symbol (Ok (readings.whole_of read))
+  pub nodes : counts.nodes ≡ readings.nodes_of read
+  pub nodes_few : counts.nodes ≤ readings.nodes_a_byte * length symbol + 8
+  pub steps : AreStepsInAll readings.mangled.table symbol counts.steps
   pub steps_few : counts.steps ≤ 32 * length symbol + 48
   pub steps_enough : counts.rows ≤ counts.steps
 
 -- No C++ symbol is read yet.
 abbrev pub AreCountsOf : Lang → List ℕ → Counts → Type 0
 AreCountsOf Cpp symbol counts = ⊥
-AreCountsOf Rust symbol counts = AreCounts symbol counts
+AreCountsOf Rust symbol counts = AreCounts v0_readings symbol counts

@@ -1,14 +1,16 @@
 // The demangler over both manglings.
 ghost use Rattle.sym_core.specs.Number.{FitsSymbol};
-ghost use Rattle.rust_v0.specs.Mangled.{answer};
+ghost use Rattle.sym_demangle.specs.Mangled.{answer};
 ghost use Rattle.sym_filter.specs.Demangled.{IsDemangled};
 ghost use Rattle.sym_filter.specs.Languages.{answer_of, AreCounts, AreCountsOf};
 
+use crate::counted::Counted;
 use crate::demangler::{Demangled, Demangler};
 use crate::kinds::{Kind, Lang};
-use rust_v0::{V0, Workspace, one_answer, read_answers};
+use rust_v0::V0;
 use std::alloc::{AllocError, Global};
 use sym_core::Refusal;
+use sym_demangle::Workspace;
 use sym_print::Detail;
 
 /// No symbol of C++ is read yet.
@@ -24,7 +26,7 @@ pub struct Languages {
 /// The lists of both languages.
 #[derive(Drop)]
 pub struct Lists {
-    pub rust: Workspace,
+    pub rust: Workspace<V0>,
 }
 
 impl Lists {
@@ -69,29 +71,29 @@ impl Demangler for Languages {
     ) -> Demangled {
         match kind.lang {
             Lang::Cpp => Demangled::Refused(UNREAD),
-            Lang::Rust => demangle_rust(&mut lists.rust, symbol, self.limit, self.detail, out),
+            Lang::Rust => demangle_in(&mut lists.rust, symbol, self.limit, self.detail, out),
         }
     }
 }
 
-/// Appends the text of a Rust symbol, where it has one.
-fn demangle_rust(
-    workspace: &mut Workspace,
+/// Appends the text of a symbol of a mangling, where it has one.
+fn demangle_in<M: Counted>(
+    workspace: &mut Workspace<M>,
     symbol: &[u8],
     limit: u32,
     detail: Detail,
     out: &mut Vec<u8>,
 ) -> Demangled
     requires { FitsSymbol symbol.now }
-    ensures { IsDemangled (answer detail symbol.now limit) (AreCounts symbol.now) out.old.items out.new.items result }
+    ensures { IsDemangled (answer M.mangled detail symbol.now limit)
+        (AreCounts (record { mangled = M.mangled; IsRead = M.is_read; bytes_of = M.bytes_of; whole_of = M.whole_of; nodes_of = M.nodes_of; nodes_a_byte = M.nodes_a_byte }) symbol.now)
+        out.old.items out.new.items result }
 {
-    one_answer::<V0>();
-    read_answers::<V0>();
     let read = match workspace.read(symbol) {
         Ok(read) => read,
         Err(refusal) => return Demangled::Refused(refusal),
     };
-    let counts = read.counts();
+    let counts = M::counts(&read);
     let printed = workspace.print(&read, limit, detail, out);
     workspace.recycle(read);
     match printed {

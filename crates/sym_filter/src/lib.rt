@@ -1,6 +1,7 @@
 //! Which words of a text are mangled symbols, and the text with each of them replaced by what it stands for.
 #![tactic(auto)]
 
+mod counted;
 pub mod demangler;
 mod filtering;
 pub mod kinds;

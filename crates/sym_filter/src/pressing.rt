@@ -2,15 +2,17 @@
 ghost use Rattle.std.specs.Prelude.{◌≡◌, ◌++◌, OnOk, OnErr};
 ghost use Rattle.sym_press.specs.Answers.{pressed_answer};
 ghost use Rattle.sym_filter.specs.Demangled.{IsDemangled};
-ghost use Rattle.sym_filter.specs.Languages.{AreCounts, AreCountsOf, behind_front, pressed_of, underscore_of};
+ghost use Rattle.sym_filter.specs.Languages.{AreCounts, AreCountsOf, behind_front, pressed_of, underscore_of, v0_readings};
 ghost use Rattle.sym_core.specs.Number.{FitsSymbol};
 
+use crate::counted::Counted;
 use crate::demangler::{Demangled, Demangler};
 use crate::kinds::{Kind, Lang};
 use crate::languages::{Lists, UNREAD};
-use rust_v0::Workspace;
+use rust_v0::V0;
 use std::alloc::{AllocError, Global};
 use sym_core::Refusal;
+use sym_demangle::Workspace;
 use sym_press::{press_rust, reading_is_pressed};
 
 /// Both manglings, where the text of a symbol is its pressed spelling: each repeated part is a reference. It has no limit, so
@@ -49,20 +51,20 @@ impl Demangler for Pressing {
 
 /// Appends the pressed spelling of a Rust symbol, where it is read, behind the underscore that was dropped.
 fn press_rust_into(
-    workspace: &mut Workspace,
+    workspace: &mut Workspace<V0>,
     skip: u32,
     symbol: &[u8],
     out: &mut Vec<u8>,
 ) -> Demangled
     requires { FitsSymbol symbol.now }
-    ensures { IsDemangled (behind_front (underscore_of skip) (pressed_answer symbol.now)) (AreCounts symbol.now) out.old.items out.new.items result }
+    ensures { IsDemangled (behind_front (underscore_of skip) (pressed_answer symbol.now)) (AreCounts v0_readings symbol.now) out.old.items out.new.items result }
 {
     reading_is_pressed();
     let read = match workspace.read(symbol) {
         Ok(read) => read,
         Err(refusal) => return Demangled::Refused(refusal),
     };
-    let counts = read.counts();
+    let counts = V0::counts(&read);
     let pressed = press_rust(*out.allocator(), &read);
     workspace.recycle(read);
     let Ok(pressed) = pressed else {

@@ -1,6 +1,6 @@
 use Rattle.std.proofs.Common.{ℕ, ◌<◌, get_or, refl, rules, Ok, Err, ◌∙◌}
 use Rattle.rust_v0.specs.Mangled.{whole_of}
-use Rattle.sym_filter.specs.Languages.{underscore_of}
+use Rattle.sym_filter.specs.Languages.{underscore_of, v0_readings}
 use Rattle.sym_filter.proofs.LanguageLemmas.{unread_pressed, pressed_given, read_counts}
 use Rattle.sym_filter.proofs.pressing.press_rust_into.Goals as goal
 
@@ -19,7 +19,8 @@ returns-in-Ok-push_behind_underscore c =
     let bytes : (i : ℕ) → get_or symbol i 0 < 256 = λ i. search (rules, c.type_inv.symbol i) in
     let known = c.in-Ok.ensures in
     let counted = c.counts-counts.ensures in (
-      read_counts symbol c.in-Ok.read c.counts-counts.result known.rows counted.is_read known.bytes known.symbol known.steps counted.rows counted.nodes counted.steps,
+      read_counts v0_readings symbol c.in-Ok.read c.counts-counts.result c.in-Ok.read.rows c.in-Ok.read.steps known.rows known.bytes known.symbol known.steps
+          counted.is_read counted.rows counted.nodes counted.steps counted.nodes_few counted.steps_few counted.steps_enough,
       pressed_given (underscore_of c.args.skip) symbol c.args.out.now.items c.push_behind_underscore.new.out.items c.deref.result.now c.in-Ok.read
           (c.reading_is_pressed.ensures symbol (Ok (whole_of c.in-Ok.read)) bytes known.symbol)
           (c.deref.ensures.value ∙ c.in-Ok-pressed.ensures.pressed) c.in-Ok-push_behind_underscore.ensures.pushed,
