@@ -18,8 +18,8 @@ number_of_rule : (rule : ℕ) (p : Production) → production_of rule ≡ Some p
 number_of_rule rule p is =
     let within : rule < 48 = slice_get_within productions rule p is in
     let here : number_of p ≡ 0 + rule =
-        ap number_of (sym (get_or_from_slice_get productions rule p p is)) ∙ sym (get_or-map number_of productions rule p 0 within)
-        ∙ ap (λ ns. get_or ns rule 0) in_order ∙ get_or-range_with_len 0 48 rule 0 within in
+    ap number_of (sym (get_or_from_slice_get productions rule p p is)) ∙ sym (get_or-map number_of productions rule p 0 within)
+    ∙ ap (λ ns. get_or ns rule 0) in_order ∙ get_or-range_with_len 0 48 rule 0 within in
     omega (arith, here)
 
 -- of all other rules than those of functions' and `dyn` types the parts bind nothing

@@ -397,9 +397,7 @@ impl Linking for RustNodes {
             Some(Production::Nested) => {
                 self.close_node(symbol, Production::Nested, frame, parts)
             }
-            Some(Production::Crate) => {
-                self.close_node(symbol, Production::Crate, frame, parts)
-            }
+            Some(Production::Crate) => { self.close_node(symbol, Production::Crate, frame, parts) }
             Some(Production::TypeArgument) => {
                 self.close_node(symbol, Production::TypeArgument, frame, parts)
             }

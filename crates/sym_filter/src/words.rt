@@ -102,7 +102,17 @@ fn begins_with_eight(text: &[u8]) -> bool
     ensures { result ≡ true → (8 ≤ length text.now) × (list_all is_run_byte (take 8 text.now) ≡ true) }
 {
     match text {
-        [first, second, third, fourth, fifth, sixth, seventh, eighth, ..] => {
+        [
+            first,
+            second,
+            third,
+            fourth,
+            fifth,
+            sixth,
+            seventh,
+            eighth,
+            ..
+        ] => {
             is_run_byte(*first)
                 && is_run_byte(*second)
                 && is_run_byte(*third)
