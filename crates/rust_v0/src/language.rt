@@ -18,7 +18,7 @@ ghost use Rattle.rust_v0.specs.CodeSemantics as semantics;
 use crate::nodes::{BoundLifetimes, RustNodes};
 use crate::part::{Part, STRAY, part_of};
 use crate::production::{Production, numbered};
-use crate::semantics::{Site, makes_part, part_by};
+use crate::semantics::{Site, makes_part, nested, part_by};
 use crate::tokens::{TokenSort, sort_of};
 use sym_core::{Refusal, Span};
 use sym_link::language::{Frame, Linking};
@@ -221,18 +221,15 @@ impl RustNodes {
         put(parts, frame.base, part)
     }
 
-    /// Closes the rule of a frame, whose production makes a node of its parts.
+    /// Closes the rule of a frame, which is that of a name in a path.
     #[inline(always)]
-    fn close_node(
+    fn close_nested(
         &mut self,
         symbol: &[u8],
-        production: Production,
         frame: Frame<BoundLifetimes>,
         parts: &mut Vec<Part>,
     ) -> Result<(), Refusal>
-        requires production { production_of frame.rule ≡ Some production }
-        requires no_reference { semantics.is_reference production ≡ false }
-        requires no_part { semantics.makes_part production ≡ false }
+        requires production { production_of frame.rule ≡ Some rules.Nested }
         requires room { HasRoom (v0_view symbol.now) symbol.now self.old (owed_behind (v0_view symbol.now) frame parts.old.items) }
         requires base { frame.base ≤ length parts.old.items }
         requires place { frame.place < length symbol.now }
@@ -240,8 +237,8 @@ impl RustNodes {
         ensures adds { OnOk result (Adds (v0_view symbol.now) self.old self.new (owed_behind (v0_view symbol.now) frame parts.old.items) 0) }
         ensures pays { OnOk result ((at : ℕ) → Pays (v0_view symbol.now) self.old self.new at at) }
     {
-        let site = site_of(symbol, frame);
-        let added = self.add_by(production, site, &parts[frame.base..])?;
+        let made = nested(&parts[frame.base..]);
+        let added = self.add_made(frame.place, made)?;
         put(parts, frame.base, part_of(added))
     }
 
@@ -263,15 +260,18 @@ impl RustNodes {
         let Some(production) = numbered(frame.rule) else {
             return Err(STRAY);
         };
+        let site = site_of(symbol, frame);
+        let own = &parts[frame.base..];
         if is_reference(production) {
-            let site = site_of(symbol, frame);
-            let part = self.reference(production, site, &parts[frame.base..])?;
+            let part = self.reference(production, site, own)?;
             return put(parts, frame.base, part);
         }
         if makes_part(production) {
-            return self.close_part(symbol, production, frame, parts);
+            let part = part_by(production, site, own)?;
+            return put(parts, frame.base, part);
         }
-        self.close_node(symbol, production, frame, parts)
+        let added = self.add_by(production, site, own)?;
+        put(parts, frame.base, part_of(added))
     }
 
     /// Closes the rule of a frame by a call. A frame of its own for it lets the others stay in registers.
@@ -359,13 +359,10 @@ impl Linking for RustNodes {
         ensures pays { OnOk result ((at : ℕ) → at ≤ row.from → (length parts.old.items ≡ frame.base → at ≤ frame.place)
             → Pays (v0_view symbol.now) self.old self.new at row.to) }
     {
-        match sort_of(frame.rule) {
-            // the tokens of most rules
-            TokenSort::PlainName => {
+        match numbered(frame.rule) {
+            // the token of most rules
+            Some(Production::PlainName) => {
                 self.take_as(symbol, TokenSort::PlainName, frame, parts, row)
-            }
-            TokenSort::CountedNumber => {
-                self.take_as(symbol, TokenSort::CountedNumber, frame, parts, row)
             }
             _ => self.take_rare(symbol, frame, parts, row),
         }
@@ -391,19 +388,7 @@ impl Linking for RustNodes {
             Some(Production::Namespace) => {
                 self.close_part(symbol, Production::Namespace, frame, parts)
             }
-            Some(Production::DisambiguatedIdentifier) => {
-                self.close_part(symbol, Production::DisambiguatedIdentifier, frame, parts)
-            }
-            Some(Production::Nested) => {
-                self.close_node(symbol, Production::Nested, frame, parts)
-            }
-            Some(Production::Crate) => { self.close_node(symbol, Production::Crate, frame, parts) }
-            Some(Production::TypeArgument) => {
-                self.close_node(symbol, Production::TypeArgument, frame, parts)
-            }
-            Some(Production::Generic) => {
-                self.close_node(symbol, Production::Generic, frame, parts)
-            }
+            Some(Production::Nested) => self.close_nested(symbol, frame, parts),
             _ => self.close_rare(symbol, frame, parts),
         }
     }
