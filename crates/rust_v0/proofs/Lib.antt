@@ -1,5 +1,6 @@
 pub mod Adding
 pub mod Beginning
+pub mod Binding
 pub mod Closing
 pub mod Entering
 pub mod OperandLemmas

@@ -1,8 +1,8 @@
 // The four moments at which the driver asks Rust's language: at the root, and where a rule opens, a token comes and a rule
 // closes.
 
-ghost use Rattle.std.specs.Bool.{OnTrue};
-ghost use Rattle.std.specs.Prelude.{◌≡◌, ℕ, ◌<◌, ◌≤◌, ◌++◌, ◌∷◌, [], length, drop, take, slice_index, Some, true, IfErr, OnOk};
+ghost use Rattle.std.specs.Bool.{OnTrue, OnFalse};
+ghost use Rattle.std.specs.Prelude.{◌≡◌, ℕ, ◌<◌, ◌≤◌, ◌++◌, ◌∷◌, [], List, length, drop, take, slice_index, Some, true, false, IfErr, OnOk};
 ghost use Rattle.sym_core.specs.Number.{FitsSymbol};
 ghost use Rattle.sym_core.specs.declared.refusal.Refusal.TheVariants as refusals;
 ghost use Rattle.sym_link.specs.Linking.{HasRoom, TakesToken, ClosesRule, Adds, Pays, owed_behind, owed_next};
@@ -24,6 +24,19 @@ use sym_core::{Refusal, Span};
 use sym_link::language::{Frame, Linking};
 use sym_shape::rule::Row;
 
+/// The number of the rule of a function's type.
+const FUNCTION: u16 = Production::Function as u16;
+
+/// The number of the rule of a `dyn` type.
+const DYN: u16 = Production::Dyn as u16;
+
+/// Whether a rule may begin with a binder.
+fn may_bind(rule: u16) -> bool
+    ensures { OnFalse result ((bound : ℕ) (parts : List Part) → operands.bound_behind (production_of rule) bound parts ≡ bound) }
+{
+    rule == FUNCTION || rule == DYN
+}
+
 /// How many lifetimes are bound around the next part of the rule of a frame, whose parts are those from its base on: a binder
 /// of a function's type holds for all behind it, one of a `dyn` type for its bounds alone.
 #[inline(always)]
@@ -32,6 +45,9 @@ fn bound_behind(frame: Frame<BoundLifetimes>, parts: &[Part]) -> u64
     ensures { result ≡ operands.bound_behind (production_of frame.rule) frame.kept.bound (drop frame.base parts.now) }
 {
     let bound = frame.kept.bound;
+    if !may_bind(frame.rule) {
+        return bound;
+    }
     match numbered(frame.rule) {
         Some(Production::Function) => match &parts[frame.base..] {
             [Part::Binder(lifetimes), ..] => bound.saturating_add(u64::from(*lifetimes)),
@@ -161,6 +177,27 @@ impl RustNodes {
         self.take_as(symbol, sort_of(frame.rule), frame, parts, row)
     }
 
+    /// Takes a token in the rule of a frame by a call. A frame and a row of their own for it let the others stay in registers.
+    #[inline(always)]
+    fn take_rare(
+        &mut self,
+        symbol: &[u8],
+        frame: Frame<BoundLifetimes>,
+        parts: &mut Vec<Part>,
+        row: Row,
+    ) -> Result<(), Refusal>
+        requires room { HasRoom (v0_view symbol.now) symbol.now self.old (owed_behind (v0_view symbol.now) frame parts.old.items) }
+        requires base { frame.base ≤ length parts.old.items }
+        requires from { row.from ≤ row.to }
+        requires to { row.to ≤ length symbol.now }
+        ensures takes { TakesToken (v0_view symbol.now) symbol.now self.old self.new frame parts.old.items parts.new.items row result }
+        ensures adds { OnOk result (Adds (v0_view symbol.now) self.old self.new (owed_behind (v0_view symbol.now) frame parts.old.items) (owed_behind (v0_view symbol.now) frame parts.new.items)) }
+        ensures pays { OnOk result ((at : ℕ) → at ≤ row.from → (length parts.old.items ≡ frame.base → at ≤ frame.place)
+            → Pays (v0_view symbol.now) self.old self.new at row.to) }
+    {
+        self.take_any(symbol, Frame { ..frame }, parts, Row { ..row })
+    }
+
     /// Closes the rule of a frame, whose production makes a part of its parts and no node.
     #[inline(always)]
     fn close_part(
@@ -236,6 +273,24 @@ impl RustNodes {
         let added = self.add_by(production, site, own)?;
         put(parts, frame.base, part_of(added))
     }
+
+    /// Closes the rule of a frame by a call. A frame of its own for it lets the others stay in registers.
+    #[inline(always)]
+    fn close_rare(
+        &mut self,
+        symbol: &[u8],
+        frame: Frame<BoundLifetimes>,
+        parts: &mut Vec<Part>,
+    ) -> Result<(), Refusal>
+        requires room { HasRoom (v0_view symbol.now) symbol.now self.old (owed_behind (v0_view symbol.now) frame parts.old.items) }
+        requires base { frame.base ≤ length parts.old.items }
+        requires place { frame.place < length symbol.now }
+        ensures closes { ClosesRule (v0_view symbol.now) symbol.now self.old self.new frame parts.old.items parts.new.items result }
+        ensures adds { OnOk result (Adds (v0_view symbol.now) self.old self.new (owed_behind (v0_view symbol.now) frame parts.old.items) 0) }
+        ensures pays { OnOk result ((at : ℕ) → Pays (v0_view symbol.now) self.old self.new at at) }
+    {
+        self.close_any(symbol, Frame { ..frame }, parts)
+    }
 }
 
 impl Linking for RustNodes {
@@ -309,8 +364,7 @@ impl Linking for RustNodes {
             Some(Production::PlainName) => {
                 self.take_as(symbol, TokenSort::PlainName, frame, parts, row)
             }
-            // a frame and a row of their own for the call let the others stay in registers
-            _ => self.take_any(symbol, Frame { ..frame }, parts, Row { ..row }),
+            _ => self.take_rare(symbol, frame, parts, row),
         }
     }
 
@@ -335,8 +389,7 @@ impl Linking for RustNodes {
                 self.close_part(symbol, Production::Namespace, frame, parts)
             }
             Some(Production::Nested) => self.close_nested(symbol, frame, parts),
-            // a frame of its own for the call lets the others stay in registers
-            _ => self.close_any(symbol, Frame { ..frame }, parts),
+            _ => self.close_rare(symbol, frame, parts),
         }
     }
 

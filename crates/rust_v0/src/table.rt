@@ -1,6 +1,6 @@
 // The rule that a kind takes at a byte.
 
-ghost use Rattle.std.specs.Prelude.{◌≡◌};
+ghost use Rattle.std.specs.Prelude.{◌≡◌, ◌<◌};
 ghost use Rattle.rust_v0.specs.Rules.{v0_table};
 
 use crate::kind::{
@@ -212,9 +212,10 @@ static SYMBOLS: [[Sym; 5]; 49] = [
 /// The rule that a kind takes at a byte, if it takes one.
 #[inline]
 pub fn rule(kind: u16, byte: u8) -> Option<Rule>
+    requires { kind < v0_table.kinds }
     ensures { result ≡ v0_table.rule kind byte }
 {
-    if kind as usize >= LETTERS.len() || byte < FIRST || byte > LAST {
+    if byte < FIRST || byte > LAST {
         return None;
     }
     let letter = LETTERS[kind as usize][(byte - FIRST) as usize];

@@ -96,31 +96,45 @@ fn is_in_run(text: &[u8], at: usize, in_run: bool) -> bool
     is_run_byte(text[at - 1])
 }
 
-/// Whether a text begins with four bytes that belong to runs.
+/// Whether a text begins with eight bytes that belong to runs.
 #[inline(always)]
-fn begins_with_four(text: &[u8]) -> bool
-    ensures { result ≡ true → (4 ≤ length text.now) × (list_all is_run_byte (take 4 text.now) ≡ true) }
+fn begins_with_eight(text: &[u8]) -> bool
+    ensures { result ≡ true → (8 ≤ length text.now) × (list_all is_run_byte (take 8 text.now) ≡ true) }
 {
     match text {
-        [first, second, third, fourth, ..] => {
+        [
+            first,
+            second,
+            third,
+            fourth,
+            fifth,
+            sixth,
+            seventh,
+            eighth,
+            ..
+        ] => {
             is_run_byte(*first)
                 && is_run_byte(*second)
                 && is_run_byte(*third)
                 && is_run_byte(*fourth)
+                && is_run_byte(*fifth)
+                && is_run_byte(*sixth)
+                && is_run_byte(*seventh)
+                && is_run_byte(*eighth)
         }
         _ => false,
     }
 }
 
-/// How many bytes at the front of a text belong to runs, in whole fours.
+/// How many bytes at the front of a text belong to runs, in whole eights.
 #[inline(always)]
-fn fours_front(text: &[u8]) -> usize
+fn eights_front(text: &[u8]) -> usize
     ensures within { result ≤ length text.now }
     ensures in_run { list_all is_run_byte (take result text.now) ≡ true }
 {
     let mut length = 0;
-    'fours: while begins_with_four(&text[length..]) {
-        length += 4;
+    'eights: while begins_with_eight(&text[length..]) {
+        length += 8;
     }
     length
 }
@@ -131,7 +145,7 @@ fn run_front(text: &[u8]) -> usize
     ensures in_run { list_all is_run_byte (take result text.now) ≡ true }
     ensures stops { result < length text.now → is_run_byte (slice_index text.now result) ≡ false }
 {
-    let mut length = fours_front(text);
+    let mut length = eights_front(text);
     'bytes: while length < text.len() {
         if !is_run_byte(text[length]) {
             return length;

@@ -1,7 +1,7 @@
 -- The tables are held against the grammar at each kind and byte, by computing.
 use Rattle.std.proofs.Common.{◌≡◌, ℕ, false, ◌+◌, ◌-◌, ◌<◌, ◌≤◌, length, get_or, List, [], map, replicate, cond, eqb, leb, ltb, ◌||◌, ◌&&◌, Bool, true, Option, Some, None, refl, ap, sym, ◌∙◌, arith, inl, inr}
 use Rattle.std.proofs.lemmas.Bool.{or_cases, and_parts, leb-true, ltb-true, eqb-true, ne_eqb}
-use Rattle.std.proofs.lemmas.List.{get_or-map, get_or_past, get_or-replicate}
+use Rattle.std.proofs.lemmas.List.{get_or-map, get_or-replicate}
 use Rattle.std.proofs.lemmas.List.FromFn.{get_or-map-range_with_len}
 use Rattle.std.specs.List.{range_with_len}
 use Rattle.sym_shape.specs.declared.rule.Rule.{Rule}
@@ -11,7 +11,7 @@ use Rattle.rust_v0.specs.Rules.{kinds, no_kind}
 use Rattle.rust_v0.specs.declared.table.Head.{Head}
 use Rattle.rust_v0.specs.declared.table.TheConstants.{LETTERS, HEADS, SYMBOLS}
 use Rattle.rust_v0.proofs.table.rule.Goals as goal
-use Rattle.rust_v0.proofs.table.rule.Goals.{then-kind-ge24-via-then-kind-ge24, then-kind-ge24-via-else-kind-ge24+then-byte-lt-FIRST, then-kind-ge24-via-else-kind-ge24+else-byte-lt-FIRST+then-byte-gt-LAST}
+use Rattle.rust_v0.proofs.table.rule.Goals.{then-byte-lt-FIRST-via-then-byte-lt-FIRST, then-byte-lt-FIRST-via-else-byte-lt-FIRST+then-byte-gt-LAST}
 
 -- the rule at a place of the tables
 listed : Head → List Sym → ℕ → Rule
@@ -105,38 +105,33 @@ rule_of_letter : (head : Head) (none : List Sym) (letter : ℕ) → (letter ≡ 
 unfolding rule_of
 rule_of_letter head none letter full = ap (λ b. cond b None (Some (listed head none (letter - 43)))) (ne_eqb letter 32 full)
 
-no_rule : (k byte : ℕ) → 24 ≤ k → choice k byte ≡ None
+pub returns-then-byte-lt-FIRST : goal.returns-then-byte-lt-FIRST
 unfolding choice
-no_rule k byte past = ap (λ kind. choice_at kind.choices byte) (get_or_past kinds k no_kind past)
-
-pub returns-then-kind-ge24 : goal.returns-then-kind-ge24
-unfolding choice
-returns-then-kind-ge24 c = elim c.then-kind-ge24.branch [
-  | then-kind-ge24-via-then-kind-ge24 w ↦ sym (no_rule c.args.kind c.args.byte w.if-kind-ge24.true)
-  | then-kind-ge24-via-else-kind-ge24+then-byte-lt-FIRST w ↦ sym (none_at c.args.kind w.if-kind-ge24.false 0 36 c.args.byte below (omega arith) w.if-byte-lt-FIRST.true)
-  | then-kind-ge24-via-else-kind-ge24+else-byte-lt-FIRST+then-byte-gt-LAST w ↦ sym (none_at c.args.kind w.if-kind-ge24.false 123 133 c.args.byte above (omega (arith, w.if-byte-gt-LAST.true)) (omega (arith, c.ranges.byte.fits)))
+returns-then-byte-lt-FIRST c = elim c.then-byte-lt-FIRST.branch [
+  | then-byte-lt-FIRST-via-then-byte-lt-FIRST w ↦ sym (none_at c.args.kind c.requires 0 36 c.args.byte below (omega arith) w.if-byte-lt-FIRST.true)
+  | then-byte-lt-FIRST-via-else-byte-lt-FIRST+then-byte-gt-LAST w ↦ sym (none_at c.args.kind c.requires 123 133 c.args.byte above (omega (arith, w.if-byte-gt-LAST.true)) (omega (arith, c.ranges.byte.fits)))
 ]
 
 pub returns-then-letter-eq-BLANK : goal.returns-then-letter-eq-BLANK
 unfolding rule_of choice
 returns-then-letter-eq-BLANK c =
     let head : Head = record { number = 0; eats = false; count = 0 } in
-    sym (ap (rule_of head []) c.if-letter-eq-BLANK.true) ∙ rule_at c.args.kind c.if-kind-ge24.false head [] _ _ c.args.byte c.if-byte-lt-FIRST.false c.if-byte-gt-LAST.false
+    sym (ap (rule_of head []) c.if-letter-eq-BLANK.true) ∙ rule_at c.args.kind c.requires head [] _ _ c.args.byte c.if-byte-lt-FIRST.false c.if-byte-gt-LAST.false
 
 pub overflow_sub-place : goal.overflow_sub-place
-overflow_sub-place c = (letter_range _ (letter_at c.args.kind c.if-kind-ge24.false _ _ c.args.byte c.if-byte-lt-FIRST.false c.if-byte-gt-LAST.false) c.if-letter-eq-BLANK.false).0
+overflow_sub-place c = (letter_range _ (letter_at c.args.kind c.requires _ _ c.args.byte c.if-byte-lt-FIRST.false c.if-byte-gt-LAST.false) c.if-letter-eq-BLANK.false).0
 
 pub bounds-place : goal.bounds-place
 bounds-place c =
-    let within = letter_range _ (letter_at c.args.kind c.if-kind-ge24.false _ _ c.args.byte c.if-byte-lt-FIRST.false c.if-byte-gt-LAST.false) c.if-letter-eq-BLANK.false in
+    let within = letter_range _ (letter_at c.args.kind c.requires _ _ c.args.byte c.if-byte-lt-FIRST.false c.if-byte-gt-LAST.false) c.if-letter-eq-BLANK.false in
     omega (arith, within.0, within.1)
 
 pub bounds-head-place : goal.bounds-head-place
 bounds-head-place c =
-    let within = letter_range _ (letter_at c.args.kind c.if-kind-ge24.false _ _ c.args.byte c.if-byte-lt-FIRST.false c.if-byte-gt-LAST.false) c.if-letter-eq-BLANK.false in
+    let within = letter_range _ (letter_at c.args.kind c.requires _ _ c.args.byte c.if-byte-lt-FIRST.false c.if-byte-gt-LAST.false) c.if-letter-eq-BLANK.false in
     omega (arith, within.0, within.1)
 
 pub returns : goal.returns
 unfolding choice listed
 returns c =
-    sym (rule_of_letter _ _ _ c.if-letter-eq-BLANK.false) ∙ rule_at c.args.kind c.if-kind-ge24.false _ _ _ _ c.args.byte c.if-byte-lt-FIRST.false c.if-byte-gt-LAST.false
+    sym (rule_of_letter _ _ _ c.if-letter-eq-BLANK.false) ∙ rule_at c.args.kind c.requires _ _ _ _ c.args.byte c.if-byte-lt-FIRST.false c.if-byte-gt-LAST.false

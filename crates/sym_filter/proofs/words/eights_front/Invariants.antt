@@ -1,13 +1,13 @@
 use Rattle.std.proofs.Common.{◌≡◌, ◌-◌, ◌≤◌, length, take, true}
 use Rattle.std.specs.List.{list_all}
 use Rattle.sym_filter.specs.Runs.{is_run_byte}
-use Rattle.sym_filter.proofs.words.fours_front.Given as goal
+use Rattle.sym_filter.proofs.words.eights_front.Given as goal
 
-abbrev pub invariant-fours : goal.invariant-fours
-invariant-fours l = record {
+abbrev pub invariant-eights : goal.invariant-eights
+invariant-eights l = record {
   within : l.length ≤ length l.text;
   in_run : list_all is_run_byte (take l.length l.text) ≡ true;
 }
 
-abbrev pub decreases-fours : goal.decreases-fours
-decreases-fours l = length l.text - l.length
+abbrev pub decreases-eights : goal.decreases-eights
+decreases-eights l = length l.text - l.length
