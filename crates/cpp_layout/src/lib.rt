@@ -19,4 +19,4 @@ mod types;
 
 pub use context::Context;
 pub use sym_print::Detail;
-pub use symbol::{Counts, Symbol};
+pub use symbol::Symbol;

@@ -5,9 +5,10 @@ mod demangling;
 mod grammar;
 mod mangling;
 
-pub use cpp_layout::{Counts, Detail, Symbol};
+pub use cpp_layout::{Detail, Symbol};
 pub use demangling::{demangle, demangle_as, read, read_fed};
 pub use grammar::Abi;
+pub use sym_core::Counts;
 pub use sym_demangle::{each_has_an_answer, each_refusal_has_a_reason, one_answer, read_answers};
 pub use sym_shape::Reader;
 
