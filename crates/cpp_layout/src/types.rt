@@ -1,11 +1,11 @@
 // The parts of types, left of a name.
 #![tactic(auto)]
 
-ghost use Rattle.std.specs.Prelude.{◌≡◌, ◌+◌, ◌<◌, ◌≤◌, ◌∷◌, [], length};
+ghost use Rattle.std.specs.Prelude.{◌+◌, ◌<◌, ◌≤◌, ◌∷◌, [], length};
 ghost use Rattle.sym_print.specs.Unfold.{text, sub};
 ghost use Rattle.cpp_grammar.specs.Items as heads;
 ghost use Rattle.cpp_term.specs.Items as items;
-ghost use Rattle.cpp_term.specs.Parts.{as_item, reference_parts, array_left, member_parts, qualified_left, closing_right, left_parts, right_parts};
+ghost use Rattle.cpp_term.specs.Parts.{as_item, reference_parts, array_left, member_parts, closing_right, left_parts, right_parts};
 ghost use Rattle.cpp_term.specs.Term as term;
 ghost use Rattle.cpp_tree.specs.Nodes.{tree_at, trees, IsTable, bytes_at, IsWithin};
 ghost use Rattle.cpp_layout.specs.Texts.{fixed_text};
