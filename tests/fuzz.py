@@ -151,11 +151,12 @@ def first_different(differs, words):
 
 
 def shrunk(differs, word):
-    """A shorter word that differs too: pieces are taken out, ever smaller ones."""
+    """A shorter word that differs too: pieces are taken out, ever smaller ones, for as long as PATIENCE lasts."""
+    until = time.monotonic() + PATIENCE
     size = max(len(word) // 2, 1)
     while size:
         at = 0
-        while at < len(word):
+        while at < len(word) and time.monotonic() < until:
             shorter = word[:at] + word[at + size :]
             if differs(shorter):
                 word = shorter

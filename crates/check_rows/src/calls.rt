@@ -3,9 +3,11 @@
 ghost use Rattle.sym_core.specs.Number.{FitsSymbol};
 
 use crate::answer::says;
-use rust_v0::{Detail, Linker, Reader, Symbol, V0, Workspace, demangle_as, read_fed};
+use rust_v0::{
+    Detail, Linker, Reader, Symbol, V0, Workspace, demangle, demangle_as, read, read_fed,
+};
 use std::alloc::Global;
-use sym_core::{Counts, Refusal};
+use sym_core::{Counts, Refusal, fits};
 use sym_filter::{Demangled, Demangler, Kind};
 
 /// What stands in a list before a call appends to it.
@@ -18,12 +20,11 @@ fn broken(alloc: Global, promise: &[u8]) -> Result<Vec<u8>, Refusal> {
 
 /// Whether a symbol of so many bytes may have these counts.
 fn are_few(counts: Counts, len: usize) -> bool {
-    let len = len as u64;
     let Counts { rows, nodes, steps } = counts;
     rows <= steps
-        && u64::from(rows) <= 4 * len + 4
-        && u64::from(nodes) <= 4 * len + 8
-        && u64::from(steps) <= 32 * len + 48
+        && rows as usize <= len.saturating_mul(4).saturating_add(4)
+        && nodes as usize <= len.saturating_mul(4).saturating_add(8)
+        && steps as usize <= len.saturating_mul(32).saturating_add(48)
 }
 
 /// The answer of a demangler, which appends it to a list.
@@ -100,8 +101,11 @@ fn in_pieces(
             }
         }
     }
-    if !feed(&mut reader, b"")? || !reader.ended() {
+    if !feed(&mut reader, b"")? {
         return broken(alloc, b"(a reader stepped otherwise)");
+    }
+    if !reader.ended() {
+        return broken(alloc, b"(a reader has no end)");
     }
     read_fed(alloc, reader)?.text_as(limit, detail)
 }
@@ -118,7 +122,7 @@ fn step_by_step(alloc: Global, s: &[u8], limit: u32, detail: Detail) -> Result<V
         }
         match linker.step() {
             Ok(true) => {
-                if linker.steps() != taken || linker.step() != Ok(true) {
+                if linker.steps() != taken || !linker.step()? {
                     return broken(alloc, b"(a linker stepped otherwise)");
                 }
                 let symbol: Symbol = linker.finish();
@@ -136,6 +140,17 @@ fn step_by_step(alloc: Global, s: &[u8], limit: u32, detail: Detail) -> Result<V
     broken(alloc, b"(a linker stepped otherwise)")
 }
 
+/// A symbol that is read whole, and printed.
+fn read_and_printed(alloc: Global, s: &[u8], limit: u32, detail: Detail) -> Result<Vec<u8>, Refusal>
+    requires { FitsSymbol s.now }
+{
+    let symbol = read(alloc, s)?;
+    if !are_few(symbol.counts(), s.len()) {
+        return broken(alloc, b"(the counts are too great)");
+    }
+    symbol.text_as(limit, detail)
+}
+
 /// A symbol that is linked at once.
 fn linked_at_once(alloc: Global, s: &[u8], limit: u32, detail: Detail) -> Result<Vec<u8>, Refusal>
     requires { FitsSymbol s.now }
@@ -147,7 +162,7 @@ fn linked_at_once(alloc: Global, s: &[u8], limit: u32, detail: Detail) -> Result
     symbol.text_as(limit, detail)
 }
 
-/// The text that a workspace appends to a list.
+/// The text that a workspace, which has read ahead, appends to a list.
 fn kept(
     alloc: Global,
     workspace: &mut Workspace,
@@ -158,6 +173,12 @@ fn kept(
     requires { FitsSymbol s.now }
 {
     let mut out = Vec::from_slice(alloc, BEFORE)?;
+    for len in [0, 1, s.len() / 2, s.len()] {
+        let front = &s[..len.min(s.len())];
+        if fits(front) {
+            workspace.read_ahead(front);
+        }
+    }
     let answer = workspace.demangle_into(s, limit, detail, &mut out);
     match (answer, out.strip_prefix(BEFORE)) {
         (Ok(()), Some(text)) => Ok(Vec::from_slice(alloc, text)?),
@@ -179,6 +200,16 @@ pub fn rust_calls_say(
 {
     let at_once = demangle_as(alloc, s, limit, detail);
     if !says(alloc, &at_once, wanted)? {
+        return Ok(false);
+    }
+    if detail == Detail::Full {
+        let in_full = demangle(alloc, s, limit);
+        if !says(alloc, &in_full, wanted)? {
+            return Ok(false);
+        }
+    }
+    let printed = read_and_printed(alloc, s, limit, detail);
+    if !says(alloc, &printed, wanted)? {
         return Ok(false);
     }
     let linked = linked_at_once(alloc, s, limit, detail);

@@ -61,6 +61,9 @@ fn is_answered(
         return Ok(false);
     };
     let s = kind.symbol_of(word);
+    if !fits(s) {
+        return Ok(false);
+    }
     let languages = Languages { limit, detail };
     let answer = by_demangler(alloc, &languages, &mut lists.languages, kind, s);
     if !says(alloc, &answer, wanted)? {
@@ -102,7 +105,7 @@ fn has_text(
     Ok(
         cost > 0
             && is_answered(alloc, lists, word, cost, detail, text)?
-            && is_answered(alloc, lists, word, cost - 1, detail, too_long)?
+            && is_answered(alloc, lists, word, cost.saturating_sub(1), detail, too_long)?
             && is_answered(alloc, lists, word, 0, detail, too_long)?
             && is_answered_in_pieces(alloc, word, cost, detail, text)?,
     )
@@ -139,11 +142,21 @@ fn has_length(
         detail,
     };
     let s = kind.symbol_of(word);
+    if !fits(s) {
+        return Ok(false);
+    }
     let text = by_demangler(alloc, &languages, &mut lists.languages, kind, s)?;
     Ok(
         text.len() == len as usize
             && cost > 0
-            && is_answered(alloc, lists, word, cost - 1, detail, b"too long")?,
+            && is_answered(
+                alloc,
+                lists,
+                word,
+                cost.saturating_sub(1),
+                detail,
+                b"too long",
+            )?,
     )
 }
 
@@ -175,6 +188,9 @@ fn is_pressed(
             return Ok(false);
         };
         let s = kind.symbol_of(word);
+        if !fits(s) {
+            return Ok(false);
+        }
         let answer = by_demangler(alloc, &Pressing, &mut lists.languages, kind, s);
         if !says(alloc, &answer, pressed)? {
             return Ok(false);
