@@ -29,6 +29,14 @@ fn changed(alloc: Global, s: &[u8], place: usize, change: Change) -> Result<Vec<
     Ok(changed)
 }
 
+/// The answer in a field that begins so.
+fn answer_behind<'a>(fields: &'a [&'a [u8]], number: usize, front: &[u8]) -> Option<&'a [u8]> {
+    match fields.get(number) {
+        Some(field) => field.strip_prefix(front),
+        None => None,
+    }
+}
+
 /// Whether a symbol that is changed at each place in turn is malformed there, but for the places of which a row says
 /// otherwise: the place, a blank, and the answer.
 pub fn hold(
@@ -38,23 +46,17 @@ pub fn hold(
     kind: Kind,
     s: &[u8],
     change: Change,
-    mut others: &[&[u8]],
+    others: &[&[u8]],
 ) -> Result<bool, Refusal> {
+    let mut said = 0_usize;
     for place in 0..s.len() {
         let at = format!(in alloc; "{place} ")?;
         let mut wanted = Vec::new(alloc);
-        let other = match others.split_first() {
-            Some((other, rest)) => match other.strip_prefix(at.as_bytes()) {
-                Some(answer) => {
-                    others = rest;
-                    Some(answer)
-                }
-                None => None,
-            },
-            None => None,
-        };
-        match other {
-            Some(answer) => wanted.extend_from_slice(answer)?,
+        match answer_behind(others, said, at.as_bytes()) {
+            Some(answer) => {
+                said = said.saturating_add(1);
+                wanted.extend_from_slice(answer)?;
+            }
             None => {
                 let usual = format!(in alloc; "malformed at {place}")?;
                 wanted.extend_from_slice(usual.as_bytes())?;
@@ -69,5 +71,5 @@ pub fn hold(
             return Ok(false);
         }
     }
-    Ok(others.is_empty())
+    Ok(said == others.len())
 }
