@@ -65,7 +65,7 @@ refuse_each() {
 # refuse_each_in_calls: gives rows to the library's calls until no allocation is left to refuse
 refuse_each_in_calls() {
     local number=1 status answered=0
-    grep -aE $'^(text\t(full|brief)\t(11|41|82|27)|refused\t_RNvB_|refused\t_RNvC3fo\t|press\t_RNvXC|cut\t_RNvC3foo0)' \
+    grep -aE $'^(text\tfull\t[0-9]+|refused|press)\t_R(NvC3foo3bar|INvC3foo3barFG_RL0_hEuE|NvB_3foo|NvC3fo)\t' \
         "$here/vectors.tsv" >"$work/rows"
     if ! "$check_rows" <"$work/rows" >"$work/whole" || [ "$(cat "$work/whole")" != 'each row holds' ]; then
         echo "calls: $check_rows doesn't answer that each row holds" >&2
@@ -81,7 +81,10 @@ refuse_each_in_calls() {
         fi
         number=$((number + 1))
         # a list that can't grow in place may grow elsewhere; the lists of the rows themselves end the program
-        if [ "$status" -eq 0 ] && cmp -s "$work/out" "$work/whole" || [ "$status" -eq 3 ] && [ ! -s "$work/out" ]; then
+        if [ "$status" -eq 0 ] && cmp -s "$work/out" "$work/whole"; then
+            continue
+        fi
+        if [ "$status" -eq 3 ] && [ ! -s "$work/out" ]; then
             continue
         fi
         if [ "$status" -ne 3 ] || [ "$(sed -E '/^row [0-9]+: out of memory$/d' "$work/out")" != 'each row holds' ]; then
