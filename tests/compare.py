@@ -32,11 +32,16 @@ def compare_words(symfilt, reference, options, words):
     return 1
 
 
+def command_of(path):
+    """The words that run a program, which may be one of Python."""
+    return [sys.executable, path] if path.endswith(".py") else [path]
+
+
 def main():
     if len(sys.argv) != 3:
         sys.exit(__doc__)
     symfilt = [sys.argv[1]]
-    reference = [sys.executable, sys.argv[2]] if sys.argv[2].endswith(".py") else [sys.argv[2]]
+    reference = command_of(sys.argv[2])
     text = sys.stdin.buffer.read()
     lines = [line for line in text.split(b"\n") if line]
     # a command line is text, and an option begins with a dash
@@ -58,4 +63,5 @@ def main():
     sys.exit(1 if differences else 0)
 
 
-main()
+if __name__ == "__main__":
+    main()

@@ -3,14 +3,18 @@
 # refused, the status has to be 3, the last line on standard error `symfilt: out of memory`, and standard output a
 # beginning of what it is with ample memory.
 #
-#   tests/refuse_allocations.sh SYMFILT
+# With CHECK_ROWS, the built program of crates/check_rows, each allocation of the library's calls is refused too, over some
+# rows: the call answers Memory, its lists are as before, what steps answers Memory again, and each later row holds.
+#
+#   tests/refuse_allocations.sh SYMFILT [CHECK_ROWS]
 set -u
 
-if [ $# -ne 1 ]; then
-    echo "usage: $0 SYMFILT" >&2
+if [ $# -ne 1 ] && [ $# -ne 2 ]; then
+    echo "usage: $0 SYMFILT [CHECK_ROWS]" >&2
     exit 2
 fi
 symfilt=$1
+check_rows=${2-}
 here=$(dirname "$0")
 work=$(mktemp -d)
 trap 'rm -rf "$work"' EXIT
@@ -58,7 +62,49 @@ refuse_each() {
     fi
 }
 
+# refuse_each_in_calls: gives rows to the library's calls until no allocation is left to refuse
+refuse_each_in_calls() {
+    local number=1 status answered=0
+    grep -aE $'^(text\tfull\t[0-9]+|refused|press)\t_R(NvC3foo3bar|INvC3foo3barFG_RL0_hEuE|NvB_3foo|NvC3fo)\t' \
+        "$here/vectors.tsv" >"$work/rows"
+    if ! "$check_rows" <"$work/rows" >"$work/whole" || [ "$(cat "$work/whole")" != 'each row holds' ]; then
+        echo "calls: $check_rows doesn't answer that each row holds" >&2
+        exit 2
+    fi
+    while :; do
+        rm -f "$work/mark"
+        REFUSE=$number REFUSE_MARK="$work/mark" LD_PRELOAD="$work/refuse_malloc.so" \
+            "$check_rows" <"$work/rows" >"$work/out" 2>"$work/err"
+        status=$?
+        if [ ! -e "$work/mark" ]; then
+            break
+        fi
+        number=$((number + 1))
+        # a list that can't grow in place may grow elsewhere; the lists of the rows themselves end the program
+        if [ "$status" -eq 0 ] && cmp -s "$work/out" "$work/whole"; then
+            continue
+        fi
+        if [ "$status" -eq 3 ] && [ ! -s "$work/out" ]; then
+            continue
+        fi
+        if [ "$status" -ne 3 ] || [ "$(sed -E '/^row [0-9]+: out of memory$/d' "$work/out")" != 'each row holds' ]; then
+            echo "calls: allocation $((number - 1)) refused: status $status" >&2
+            cat "$work/out" "$work/err" >&2
+            failed=1
+        fi
+        answered=$((answered + 1))
+    done
+    echo "calls: $((number - 1)) allocations refused in turn, $answered of them answered with Memory"
+    if [ "$answered" -lt 10 ]; then
+        echo "calls: too few were answered" >&2
+        failed=1
+    fi
+}
+
 refuse_each 'command line' 1 _RNvC3foo3bar _RNvC3fo _Z1fv foo
 refuse_each 'counts' 0 --stats _RNvC3foo3bar
 refuse_each 'filter' 0
+if [ -n "$check_rows" ]; then
+    refuse_each_in_calls
+fi
 exit "$failed"

@@ -4,77 +4,15 @@ use crate::run;
 use std::alloc::{AllocError, Global};
 use std::test::Fail;
 
-/// Symbols with their texts and what these cost.
-static TEXTS: [(&str, &str, u32); 26] = [
+/// Symbols with their texts and what these cost. All rows stand in tests/vectors.tsv.
+static TEXTS: [(&str, &str, u32); 4] = [
     ("_RNvC3foo3bar", "foo::bar", 11),
-    ("_RNvNtC3foo3bar3baz", "foo::bar::baz", 17),
-    ("_RNvC3foo0", "foo", 6),
-    ("_RNvC6_123foo3bar", "123foo::bar", 14),
-    ("_RNvC3foo3barC3baz", "foo::bar", 11),
-    ("_RNvC3foo3bar.llvm.1", "foo::bar (.llvm.1)", 21),
     (
         "_RNvNtNtC7mycrateu8gdel_5qa6escher4bach",
         "mycrate::gödel::escher::bach",
         34,
     ),
-    ("_RNvC3foou1z", "foo::punycode{z}", 19),
-    ("_RNvC3foou1a", "foo::punycode{a}", 19),
-    ("_RNCNvC3foo3bars_0", "foo::bar::{closure#1}", 25),
-    ("_RNSNvC3foo3bar4call", "foo::bar::{shim:call#0}", 27),
-    (
-        "_RNvXC3fooNtB2_1ANtB2_1B3baz",
-        "<foo::A as foo::B>::baz",
-        30,
-    ),
-    ("_RNvMC3fooINtB2_1AhE3baz", "<foo::A<u8>>::baz", 25),
-    (
-        "_RINvC3foo3barNtB2_1ABb_NvBi_1xE",
-        "foo::bar::<foo::A, foo::A, foo::A::x>",
-        51,
-    ),
-    (
-        "_RINvC3foo3barThhETBb_Bb_ETBf_Bf_EE",
-        "foo::bar::<(u8, u8), ((u8, u8), (u8, u8)), (((u8, u8), (u8, u8)), ((u8, u8), (u8, u8)))>",
-        142,
-    ),
-    ("_RINvC3foo3barRL_hE", "foo::bar::<&u8>", 22),
-    ("_RINvC3foo3barAhj3_E", "foo::bar::<[u8; 3]>", 27),
-    ("_RINvC3foo3barDNtB2_1AEL_E", "foo::bar::<dyn foo::A>", 32),
-    (
-        "_RINvC3foo3barFUhEhE",
-        "foo::bar::<unsafe fn(u8) -> u8>",
-        41,
-    ),
-    (
-        "_RINvC3foo3barFUKCEuE",
-        "foo::bar::<unsafe extern \"C\" fn()>",
-        41,
-    ),
-    (
-        "_RINvC3foo3barFG_RL0_hEuE",
-        "foo::bar::<for<'a> fn(&'a u8)>",
-        41,
-    ),
-    (
-        "_RINvC3foo3barFG0_RL1_hRL0_hEuE",
-        "foo::bar::<for<'a, 'b> fn(&'a u8, &'b u8)>",
-        57,
-    ),
-    (
-        "_RINvC3foo3barFG_RL0_hEuFG_FG_Be_EuEuE",
-        "foo::bar::<for<'a> fn(&'a u8), for<'a> fn(for<'b> fn(&'b u8))>",
-        84,
-    ),
-    (
-        "_RINvC3foo3barKlnf_Kb1_Kc41_E",
-        "foo::bar::<-15, true, 'A'>",
-        36,
-    ),
-    (
-        "_RINvC3foo3barKc27_Kce9_E",
-        "foo::bar::<'\\'', '\\u{e9}'>",
-        34,
-    ),
+    ("_RNvC3foo3bar.llvm.1", "foo::bar (.llvm.1)", 21),
     (
         "_RINbNbCskIICzLVDPPb_5alloc5alloc8box_freeDINbNiB4_5boxed5FnBoxuEp6OutputuEL_ECs1iopQbuBiw2_3std",
         "alloc::alloc::box_free::<dyn alloc::boxed::FnBox<(), Output = ()>>",
@@ -83,30 +21,19 @@ static TEXTS: [(&str, &str, u32); 26] = [
 ];
 
 /// Symbols that have no text, and why.
-static REFUSED: [(&str, &str); 12] = [
+static REFUSED: [(&str, &str); 4] = [
     ("_RNvC3fo", "malformed at 8"),
-    ("_RNvC03foo3bar", "malformed at 10"),
-    ("_RNvC3foo3ba", "malformed at 12"),
-    ("_RNvC3foo3bar!", "malformed at 13"),
-    ("_RINvC3foo3barKb2_E", "malformed at 16"),
     ("_RNvB_3foo", "bad reference at 4"),
-    ("_RINvC3foo3barRL0_hE", "bad reference at 15"),
-    ("_RINvC3foo3barDG_EL0_E", "bad reference at 18"),
     ("_RNvCszzzzzzzzzzz_3foo3bar", "bad value at 5"),
-    ("_RINvC3foo3barKcd800_E", "bad value at 15"),
-    ("_RINvC3foo3barFGg7_EuE", "bad value at 15"),
     ("_R", "malformed at 2"),
 ];
 
 /// Symbols and their pressed spellings.
-static PRESSED: [(&str, &str); 5] = [
+static PRESSED: [(&str, &str); 2] = [
     (
         "_RNvXC3fooNtC3foo1ANtC3foo1B3baz",
         "_RNvXC3fooNtB2_1ANtB2_1B3baz",
     ),
-    ("_RINvC3foo3barRL_hE", "_RINvC3foo3barRhE"),
-    ("_RINvC3foo3barKj03_Kj_E", "_RINvC3foo3barKj3_Kj0_E"),
-    ("_RINvC3foo3barhBb_E", "_RINvC3foo3barhhE"),
     ("__RINvC3foo3barRL_hE", "__RINvC3foo3barRhE"),
 ];
 
@@ -216,17 +143,4 @@ fn pressed_spellings(rt: HostRuntime) -> Result<(), Fail> {
         );
     }
     Ok(())
-}
-
-/// A thousand bound lifetimes, `'a` to `'z` and those with a number behind, at the cost of their text.
-#[test]
-fn as_many_lifetimes_as_a_binder_takes(rt: HostRuntime) {
-    let symbol = "_RINvC3foo3barFGg6_EuE";
-    let mut out = Vec::new(rt.alloc());
-    let mut err = Vec::new(rt.alloc());
-    let words = ["symfilt", "--limit=7875", symbol];
-    assert!(rt; run(rt.alloc(), &words, &mut out, &mut err) == Run::Done(0));
-    assert!(rt; out.len() == 6869 && out.starts_with(b"foo::bar::<for<'a, 'b, "));
-    let words = ["symfilt", "--limit=7874", symbol];
-    assert!(rt; run(rt.alloc(), &words, &mut out, &mut err) == Run::Done(1));
 }

@@ -1,5 +1,5 @@
 // The filter over streams in memory, and the command line.
-use crate::command::answer_words;
+use crate::command::{answer_words, run_to};
 use crate::outcome::Run;
 use crate::run;
 use crate::scripted::{Call, ScriptedSink, ScriptedSource};
@@ -138,6 +138,62 @@ fn answers_words(rt: HostRuntime) -> Result<(), Fail> {
     let mut out = ScriptedSink::new(alloc, &[]);
     let status = answer_words(alloc, &languages, false, &["_RC1a"], &mut out, &mut err);
     assert!(rt; status == Ok(0) && holds(out.bytes(), b"a\n"));
+    Ok(())
+}
+
+/// A word whose text is a name of 3,000 bytes.
+fn long_word(alloc: Global) -> Result<String, AllocError> {
+    let mut word = String::from_str(alloc, "_RC3000")?;
+    for _ in 0..3000 {
+        word.push('i')?;
+    }
+    Ok(word)
+}
+
+/// The calls of which one fails behind so many that move at most a thousand bytes.
+fn calls_with(good: usize, failure: Call) -> [Call; 16] {
+    let mut calls = [Call::Moves(1_000); 16];
+    if good < 16 {
+        calls[good] = failure;
+    }
+    calls
+}
+
+#[test]
+fn each_write_of_lines_fails(rt: HostRuntime) -> Result<(), Fail> {
+    let alloc = rt.alloc();
+    let long = long_word(alloc)?;
+    let long = long.as_str();
+    // two pages of answers, each with a complaint
+    let words = ["symfilt", long, "_Z1fQ", long, "foo", long];
+    let mut answers = Vec::new(alloc);
+    let mut complaints = Vec::new(alloc);
+    assert!(rt; run(alloc, &words, &mut answers, &mut complaints) == Run::Done(1));
+    assert!(rt; answers.len() == 9_013 && complaints.len() == 58);
+    let whole = [Call::Moves(1_000); 16];
+    for good in 0..16usize {
+        for failure in [Call::Fails, Call::Moves(0)] {
+            for of_answers in [true, false] {
+                let failing = calls_with(good, failure);
+                let (out_calls, err_calls) = if of_answers {
+                    (&failing, &whole)
+                } else {
+                    (&whole, &failing)
+                };
+                let mut out = ScriptedSink::new(alloc, out_calls);
+                let mut err = ScriptedSink::new(alloc, err_calls);
+                let outcome = run_to(alloc, &words, &mut out, &mut err);
+                let writes = if of_answers { 11 } else { 2 };
+                if good < writes {
+                    assert!(rt; outcome == Err(FilterFault::Write), "after {good} writes");
+                } else {
+                    assert!(rt; outcome == Ok(Run::Done(1)), "after {good} writes");
+                }
+                assert!(rt; answers.starts_with(out.bytes()));
+                assert!(rt; complaints.starts_with(err.bytes()));
+            }
+        }
+    }
     Ok(())
 }
 

@@ -1,0 +1,246 @@
+// A symbol through each call: whole and in pieces, step by step, with lists of its own and with lists that are used again.
+
+ghost use Rattle.sym_core.specs.Number.{FitsSymbol};
+
+use crate::answer::says;
+use rust_v0::{
+    Detail, Linker, Reader, Symbol, V0, Workspace, demangle, demangle_as, read, read_fed,
+};
+use std::alloc::Global;
+use sym_core::{Counts, Refusal, fits};
+use sym_filter::{Demangled, Demangler, Kind};
+
+/// What stands in a list before a call appends to it.
+const BEFORE: &[u8] = b"> ";
+
+/// An answer that no row has, where a call doesn't keep to what it promises beside its answer.
+fn broken(alloc: Global, promise: &[u8]) -> Result<Vec<u8>, Refusal> {
+    Ok(Vec::from_slice(alloc, promise)?)
+}
+
+/// Whether a symbol of so many bytes may have these counts.
+fn are_few(counts: Counts, len: usize) -> bool {
+    let Counts { rows, nodes, steps } = counts;
+    rows <= steps
+        && rows as usize <= len.saturating_mul(4).saturating_add(4)
+        && nodes as usize <= len.saturating_mul(4).saturating_add(8)
+        && steps as usize <= len.saturating_mul(32).saturating_add(48)
+}
+
+/// The answer of a demangler, which appends it to a list.
+pub fn by_demangler<D: Demangler>(
+    alloc: Global,
+    demangler: &D,
+    lists: &mut D::Lists,
+    kind: Kind,
+    s: &[u8],
+) -> Result<Vec<u8>, Refusal>
+    requires { FitsSymbol s.now }
+{
+    let mut out = Vec::from_slice(alloc, BEFORE)?;
+    let answer = demangler.demangle(lists, kind, s, &mut out);
+    let Some(text) = out.strip_prefix(BEFORE) else {
+        return broken(alloc, b"(the list was changed)");
+    };
+    match answer {
+        Demangled::Text(counts) => {
+            if !are_few(counts, s.len()) {
+                return broken(alloc, b"(the counts are too great)");
+            }
+            Ok(Vec::from_slice(alloc, text)?)
+        }
+        Demangled::TooLong(_) if text.is_empty() => Err(Refusal::TooLong),
+        Demangled::Refused(refusal) if text.is_empty() => Err(refusal),
+        _ => broken(alloc, b"(the list was changed)"),
+    }
+}
+
+/// Feeds a reader a piece, and reads what is there step by step, each of which is counted.
+fn feed(reader: &mut Reader<V0>, piece: &[u8]) -> Result<bool, Refusal> {
+    if reader.ended() || reader.len() > 1_000_000 || piece.len() > 1_000_000 {
+        return Ok(false);
+    }
+    reader.feed(piece)?;
+    for _ in 0..u32::MAX {
+        let before = reader.steps();
+        match reader.step(&V0) {
+            Ok(true) => return Ok(true),
+            Ok(false) => {
+                if reader.steps() <= before {
+                    return Ok(false);
+                }
+            }
+            Err(refusal) => {
+                if reader.step(&V0) != Err(refusal) {
+                    return Ok(false);
+                }
+                return Err(refusal);
+            }
+        }
+    }
+    Ok(false)
+}
+
+/// A symbol of which a piece is fed first, and the rest in pieces of a size.
+fn in_pieces(
+    alloc: Global,
+    first: &[u8],
+    rest: &[u8],
+    size: usize,
+    limit: u32,
+    detail: Detail,
+) -> Result<Vec<u8>, Refusal> {
+    let mut reader = Reader::new(alloc, &V0)?;
+    if !first.is_empty() && !feed(&mut reader, first)? {
+        return broken(alloc, b"(a reader stepped otherwise)");
+    }
+    if size > 0 {
+        for piece in rest.chunks(size) {
+            if !feed(&mut reader, piece)? {
+                return broken(alloc, b"(a reader stepped otherwise)");
+            }
+        }
+    }
+    if !feed(&mut reader, b"")? {
+        return broken(alloc, b"(a reader stepped otherwise)");
+    }
+    if !reader.ended() {
+        return broken(alloc, b"(a reader has no end)");
+    }
+    read_fed(alloc, reader)?.text_as(limit, detail)
+}
+
+/// A symbol that is linked step by step, each of which is counted.
+fn step_by_step(alloc: Global, s: &[u8], limit: u32, detail: Detail) -> Result<Vec<u8>, Refusal>
+    requires { FitsSymbol s.now }
+{
+    let shape = sym_shape::read(alloc, &V0, s)?;
+    let mut linker = Linker::new(alloc, Vec::from_slice(alloc, s)?, shape)?;
+    for taken in 0..u32::MAX {
+        if linker.steps() != taken {
+            return broken(alloc, b"(a linker stepped otherwise)");
+        }
+        match linker.step() {
+            Ok(true) => {
+                if linker.steps() != taken || !linker.step()? {
+                    return broken(alloc, b"(a linker stepped otherwise)");
+                }
+                let symbol: Symbol = linker.finish();
+                return symbol.text_as(limit, detail);
+            }
+            Ok(false) => {}
+            Err(refusal) => {
+                if linker.step() != Err(refusal) {
+                    return broken(alloc, b"(a linker stepped otherwise)");
+                }
+                return Err(refusal);
+            }
+        }
+    }
+    broken(alloc, b"(a linker stepped otherwise)")
+}
+
+/// A symbol that is read whole, and printed.
+fn read_and_printed(alloc: Global, s: &[u8], limit: u32, detail: Detail) -> Result<Vec<u8>, Refusal>
+    requires { FitsSymbol s.now }
+{
+    let symbol = read(alloc, s)?;
+    if !are_few(symbol.counts(), s.len()) {
+        return broken(alloc, b"(the counts are too great)");
+    }
+    symbol.text_as(limit, detail)
+}
+
+/// A symbol that is linked at once.
+fn linked_at_once(alloc: Global, s: &[u8], limit: u32, detail: Detail) -> Result<Vec<u8>, Refusal>
+    requires { FitsSymbol s.now }
+{
+    let shape = sym_shape::read(alloc, &V0, s)?;
+    let mut linker = Linker::new(alloc, Vec::from_slice(alloc, s)?, shape)?;
+    linker.run()?;
+    let symbol: Symbol = linker.finish();
+    symbol.text_as(limit, detail)
+}
+
+/// The text that a workspace, which has read ahead, appends to a list.
+fn kept(
+    alloc: Global,
+    workspace: &mut Workspace,
+    s: &[u8],
+    limit: u32,
+    detail: Detail,
+) -> Result<Vec<u8>, Refusal>
+    requires { FitsSymbol s.now }
+{
+    let mut out = Vec::from_slice(alloc, BEFORE)?;
+    for len in [0, 1, s.len() / 2, s.len()] {
+        let front = &s[..len.min(s.len())];
+        if fits(front) {
+            workspace.read_ahead(front);
+        }
+    }
+    let answer = workspace.demangle_into(s, limit, detail, &mut out);
+    match (answer, out.strip_prefix(BEFORE)) {
+        (Ok(()), Some(text)) => Ok(Vec::from_slice(alloc, text)?),
+        (Err(refusal), Some(b"")) => Err(refusal),
+        _ => broken(alloc, b"(the list was changed)"),
+    }
+}
+
+/// Whether each call answers this for a symbol of Rust.
+pub fn rust_calls_say(
+    alloc: Global,
+    workspace: &mut Workspace,
+    s: &[u8],
+    limit: u32,
+    detail: Detail,
+    wanted: &[u8],
+) -> Result<bool, Refusal>
+    requires { FitsSymbol s.now }
+{
+    let at_once = demangle_as(alloc, s, limit, detail);
+    if !says(alloc, &at_once, wanted)? {
+        return Ok(false);
+    }
+    if detail == Detail::Full {
+        let in_full = demangle(alloc, s, limit);
+        if !says(alloc, &in_full, wanted)? {
+            return Ok(false);
+        }
+    }
+    let printed = read_and_printed(alloc, s, limit, detail);
+    if !says(alloc, &printed, wanted)? {
+        return Ok(false);
+    }
+    let linked = linked_at_once(alloc, s, limit, detail);
+    if !says(alloc, &linked, wanted)? {
+        return Ok(false);
+    }
+    let stepped = step_by_step(alloc, s, limit, detail);
+    if !says(alloc, &stepped, wanted)? {
+        return Ok(false);
+    }
+    let kept = kept(alloc, workspace, s, limit, detail);
+    if !says(alloc, &kept, wanted)? {
+        return Ok(false);
+    }
+    let byte_by_byte = in_pieces(alloc, b"", s, 1, limit, detail);
+    says(alloc, &byte_by_byte, wanted)
+}
+
+/// Whether a symbol of Rust that is cut at each place in turn has this answer.
+pub fn rust_pieces_say(
+    alloc: Global,
+    s: &[u8],
+    limit: u32,
+    detail: Detail,
+    wanted: &[u8],
+) -> Result<bool, Refusal> {
+    for cut in 0..s.len() {
+        let answer = in_pieces(alloc, &s[..cut], &s[cut..], usize::MAX, limit, detail);
+        if !says(alloc, &answer, wanted)? {
+            return Ok(false);
+        }
+    }
+    Ok(true)
+}

@@ -1,0 +1,250 @@
+#!/usr/bin/env python3
+"""Looks for words that symfilt and another implementation answer otherwise, and makes them as short as it can.
+
+    tests/fuzz.py SYMFILT REFERENCE [--seed N] [--seconds S] [--size BYTES] [--lang rust|cpp|both] [FILE..]
+
+SYMFILT is the built program, REFERENCE another one, as for compare.py. The words are symbols that are cut, flipped, spliced,
+that name a part twice, or have numbers at the edges of their ranges. They come from those of FILE, one a line, or from
+the rows of tests/vectors*.tsv. A word has at most BYTES bytes (400), and after S seconds (60) it
+ends. The status is 1 where a word is answered otherwise, 2 where nothing was compared.
+"""
+
+import argparse
+import glob
+import os
+import random
+import re
+import subprocess
+import sys
+import time
+
+from compare import command_of
+
+HERE = os.path.dirname(os.path.abspath(__file__))
+BATCH = 200
+PATIENCE = 60
+OPTIONS = ([], ["--limit", "60"], ["--brief"], ["--press"], ["--limit", "0"])
+SEPARATORS = b" \n\t,;:<>()[]{}'\"!@#%^&*-+=/\\|?`~\0\x7f"
+BYTES = b"_0123456789abcdefghijklmnopqrstuvwxyzABCDEFGHIJKLMNOPQRSTUVWXYZ.$"
+DIGITS = BYTES[1:63]
+NUMBER = re.compile(rb"[0-9]+|[0-9a-zA-Z]*_")
+REFERENCE = re.compile(rb"[BSTLG][0-9a-zA-Z]*_")
+EDGES = [0, 1, 9, 10, 35, 36, 61, 62, 127, 128, 999, 1000, 1001, 2**16, 2**31, 2**32 - 1, 2**32, 2**63, 2**64 - 3, 2**64 - 2, 2**64 - 1, 2**64, 2**128 - 1, 2**128]
+
+
+def spelled(number, base):
+    digits = b""
+    while True:
+        number, digit = divmod(number, base)
+        digits = DIGITS[digit : digit + 1] + digits
+        if number == 0:
+            return digits
+
+
+def place(rng, word):
+    return rng.randrange(len(word) + 1)
+
+
+def piece(rng, word):
+    first, last = sorted((place(rng, word), place(rng, word)))
+    return first, last
+
+
+def cut(rng, word, _others):
+    first, last = piece(rng, word)
+    return rng.choice((word[:last], word[:first] + word[last:]))
+
+
+def flip(rng, word, _others):
+    at = rng.randrange(len(word)) if word else 0
+    byte = rng.choice((rng.choice(BYTES), rng.randrange(1, 256)))
+    return word[:at] + bytes([byte]) + word[at + 1 :]
+
+
+def insert(rng, word, _others):
+    at = place(rng, word)
+    return word[:at] + bytes([rng.choice(BYTES)]) + word[at:]
+
+
+def splice(rng, word, others):
+    other = rng.choice(others)
+    return word[: place(rng, word)] + other[place(rng, other) :]
+
+
+def double(rng, word, _others):
+    first, last = piece(rng, word)
+    return word[:last] + word[first:last] + word[last:]
+
+
+def refer_twice(rng, word, _others):
+    """A reference stands twice, or another one stands in its place."""
+    found = list(REFERENCE.finditer(word))
+    if not found:
+        return double(rng, word, _others)
+    one = rng.choice(found)
+    number = rng.choice((b"", spelled(rng.randrange(len(word)), rng.choice((36, 62)))))
+    new = rng.choice((one.group() * 2, one.group()[:1] + number + b"_"))
+    return word[: one.start()] + new + word[one.end() :]
+
+
+def edge(rng, word, _others):
+    """A number is one at the edge of a range, or has a zero in front."""
+    found = list(NUMBER.finditer(word))
+    if not found:
+        return insert(rng, word, _others)
+    one = rng.choice(found)
+    ends = b"_" if one.group().endswith(b"_") else b""
+    digits = one.group()[: len(one.group()) - len(ends)]
+    near = int(digits) + rng.choice((-1, 1)) if digits.isdigit() else 1
+    base = rng.choice((10, 16, 36, 62)) if ends else 10
+    new = rng.choice((b"0" + digits, spelled(rng.choice(EDGES), base), spelled(max(near, 0), base)))
+    return word[: one.start()] + new + ends + word[one.end() :]
+
+
+MUTATIONS = (cut, flip, insert, splice, double, refer_twice, edge)
+
+
+def made(rng, seeds, size):
+    word = rng.choice(seeds)
+    for _ in range(rng.choice((1, 1, 2, 3, 5))):
+        longer = rng.choice(MUTATIONS)(rng, word, seeds)
+        if len(longer) <= size:
+            word = longer
+    return word
+
+
+class Pair:
+    def __init__(self, symfilt, reference):
+        self.symfilt = [symfilt]
+        self.reference = command_of(reference)
+        self.compared = 0
+
+    def run(self, command, data=b""):
+        try:
+            done = subprocess.run(command, input=data, stdout=subprocess.PIPE, stderr=subprocess.PIPE, timeout=PATIENCE)
+        except subprocess.TimeoutExpired:
+            return "not ended", b"", b""
+        return done.returncode, done.stdout, done.stderr
+
+    def answers(self, options, words):
+        own = self.run([*self.symfilt, *options, "--", *words])
+        return own, self.run([*self.reference, "command", *options, "--", *words])
+
+    def texts(self, text):
+        own = self.run(self.symfilt, text)
+        return own[:2], self.run([*self.reference, "filter"], text)[:2]
+
+    def answers_differ(self, options, words):
+        own, other = self.answers(options, words)
+        return own != other
+
+    def texts_differ(self, text):
+        own, other = self.texts(text)
+        return own != other
+
+
+def first_different(differs, words):
+    """A word that differs by itself, of some that differ together."""
+    while len(words) > 1:
+        half = len(words) // 2
+        words = words[:half] if differs(words[:half]) else words[half:]
+    return words[0] if differs(words) else None
+
+
+def shrunk(differs, word):
+    """A shorter word that differs too: pieces are taken out, ever smaller ones, for as long as PATIENCE lasts."""
+    until = time.monotonic() + PATIENCE
+    size = max(len(word) // 2, 1)
+    while size:
+        at = 0
+        while at < len(word) and time.monotonic() < until:
+            shorter = word[:at] + word[at + size :]
+            if differs(shorter):
+                word = shorter
+            else:
+                at += size
+        size //= 2
+    return word
+
+
+def is_argument(word):
+    try:
+        word.decode("utf-8")
+    except UnicodeDecodeError:
+        return False
+    return b"\0" not in word
+
+
+def compare_words(pair, options, words):
+    """A word that is answered otherwise, shrunk, with both answers."""
+    if not words or not pair.answers_differ(options, words):
+        return None
+    word = first_different(lambda some: pair.answers_differ(options, some), words)
+    if word is None:
+        return f"{options}: words that differ together alone: {words!r}"
+    word = shrunk(lambda shorter: is_argument(shorter) and pair.answers_differ(options, [shorter]), word)
+    own, other = pair.answers(options, [word])
+    return f"{options} {word!r}\n  symfilt:   {own!r}\n  reference: {other!r}"
+
+
+def compare_texts(pair, text):
+    """A text that is filtered otherwise, shrunk, with both results."""
+    if not pair.texts_differ(text):
+        return None
+    text = shrunk(pair.texts_differ, text)
+    own, other = pair.texts(text)
+    return f"filtered {text!r}\n  symfilt:   {own!r}\n  reference: {other!r}"
+
+
+def seeds_of(files, lang):
+    words = []
+    for path in files:
+        with open(path, "rb") as file:
+            words += [line for line in file.read().split(b"\n") if line]
+    for path in glob.glob(os.path.join(HERE, "vectors*.tsv")) if not files else ():
+        with open(path, "rb") as file:
+            rows = [row.split(b"\t") for row in file.read().split(b"\n")]
+        words += [row[3] for row in rows if row[0] == b"text"] + [row[1] for row in rows if row[0] == b"refused"]
+    return [word for word in dict.fromkeys(words) if is_of(word, lang)]
+
+
+def is_of(word, lang):
+    begins = {"rust": (b"_R", b"__R"), "cpp": (b"_Z", b"__Z"), "both": (b"_R", b"__R", b"_Z", b"__Z")}
+    return word.startswith(begins[lang])
+
+
+def main():
+    parser = argparse.ArgumentParser(usage=__doc__)
+    parser.add_argument("symfilt")
+    parser.add_argument("reference")
+    parser.add_argument("files", nargs="*")
+    parser.add_argument("--seed", type=int, default=1)
+    parser.add_argument("--seconds", type=float, default=60)
+    parser.add_argument("--size", type=int, default=400)
+    parser.add_argument("--lang", choices=("rust", "cpp", "both"), default="both")
+    asked = parser.parse_args()
+    rng = random.Random(asked.seed)
+    pair = Pair(asked.symfilt, asked.reference)
+    seeds = [word for word in seeds_of(asked.files, asked.lang) if len(word) <= asked.size]
+    if not seeds or pair.run([asked.symfilt, "--version"])[0] != 2:
+        print("there is no symbol to begin with" if not seeds else f"{asked.symfilt} isn't the program", file=sys.stderr)
+        sys.exit(2)
+    until = time.monotonic() + asked.seconds
+    compared = found = batches = 0
+    while time.monotonic() < until:
+        words = [made(rng, seeds, asked.size) for _ in range(BATCH)]
+        words = [word for word in words if is_of(word, asked.lang)]
+        argued = [word for word in words if is_argument(word)]
+        text = b"".join(word + bytes([rng.choice(SEPARATORS)]) for word in words)
+        for wrong in (compare_words(pair, OPTIONS[batches % len(OPTIONS)], argued), compare_texts(pair, text)):
+            if wrong:
+                found += 1
+                print(wrong, flush=True)
+        compared += len(words)
+        batches += 1
+    print(f"seed {asked.seed}: {compared} words compared in {batches} batches, {found} of which differ")
+    sys.exit(2 if compared == 0 else 1 if found else 0)
+
+
+if __name__ == "__main__":
+    main()

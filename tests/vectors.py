@@ -1,0 +1,225 @@
+#!/usr/bin/env python3
+"""Runs the built program on rows of symbols and their answers, and names the rows where it answers otherwise.
+
+    tests/vectors.py SYMFILT [FILE..]
+
+SYMFILT is the built program. Without files the rows are those of tests/vectors.tsv; docs/TESTING.md says how rows are
+written. The status is 1 where a row doesn't hold, 2 where the program can't be run or there is no row.
+"""
+
+import os
+import subprocess
+import sys
+
+HERE = os.path.dirname(os.path.abspath(__file__))
+RUN_BYTES = frozenset(b"ABCDEFGHIJKLMNOPQRSTUVWXYZabcdefghijklmnopqrstuvwxyz0123456789_.$") | frozenset(range(0x80, 0x100))
+LONGEST_WORD = 65536
+BEGINNINGS = (b"_Z", b"__Z", b"_R", b"__R")
+REASONS = (b"malformed at ", b"bad reference at ", b"bad value at ", b"too long")
+ESCAPES = {b"\\": b"\\", b"n": b"\n", b"t": b"\t", b"f": b"\xff"}
+PUT = {b"put !": b"!", b"put 0": b"0", b"put ff": b"\xff"}
+
+
+def unescaped(field):
+    """The bytes that a field stands for."""
+    front, *rest = field.split(b"\\")
+    out, i = front, 0
+    while i < len(rest):
+        if rest[i]:
+            out += ESCAPES[rest[i][:1]] + rest[i][1:]
+        else:  # two backslashes beside one another
+            out += b"\\"
+            i += 1
+            out += rest[i] if i < len(rest) else b""
+        i += 1
+    return out
+
+
+def is_text(word):
+    """Whether a word can stand on a command line."""
+    try:
+        word.decode("utf-8")
+    except UnicodeDecodeError:
+        return False
+    return b"\0" not in word and len(word) < 131072
+
+
+def is_named(word):
+    return len(word) <= LONGEST_WORD and word.startswith(BEGINNINGS)
+
+
+def is_filtered_alone(word):
+    """Whether the filter sees a word as it stands."""
+    return bool(word) and RUN_BYTES.issuperset(word) and not word.endswith(b".")
+
+
+class Program:
+    def __init__(self, path):
+        self.path = path
+        self.runs = 0
+
+    def run(self, words, data=b""):
+        """Standard output, standard error and the status."""
+        self.runs += 1
+        done = subprocess.run([self.path, *words], input=data, stdout=subprocess.PIPE, stderr=subprocess.PIPE, timeout=60)
+        return done.stdout, done.stderr, done.returncode
+
+    def answers(self, options, words):
+        """What is answered for each word: a text, or why there is none."""
+        out, err, status = self.run([*options, "--", *words])
+        complaints = err.split(b"\n")
+        lines = out.split(b"\n")
+        if complaints.pop() or lines.pop() or len(lines) != len(words):
+            return [b"the lines are %r, %r" % (out[-200:], err[-200:])] * len(words)
+        if status != (1 if complaints else 0):
+            return [b"the status is %d" % status] * len(words)
+        answers = []
+        for word, line in zip(words, lines):
+            begins = b"symfilt: " + word + b": "
+            if complaints and complaints[0].startswith(begins) and line == word:
+                answers.append(complaints.pop(0)[len(begins) :])
+            else:
+                answers.append(line)
+        return answers if not complaints else [b"complaints are left: %r" % complaints[:3]] * len(words)
+
+    def filtered(self, options, words):
+        """What the filter makes of each word, on a line of its own."""
+        lines = self.run(options, b"\n".join(words))[0].split(b"\n")
+        return lines if len(lines) == len(words) else [b"%d lines" % len(lines)] * len(words)
+
+
+def differences(words, found, wanted):
+    return [f"{word!r}: {is_!r}, not {want!r}" for word, is_, want in zip(words, found, wanted) if is_ != want]
+
+
+def check_answer(program, options, word, wanted):
+    """What a word is answered on the command line and in the filter, where that isn't what is wanted."""
+    wrong = differences([word], program.answers(options, [word]), [wanted])
+    if is_filtered_alone(word):
+        stays = wanted.startswith(REASONS)
+        wrong += differences([word], program.filtered(options, [word]), [word if stays else wanted])
+    return wrong
+
+
+def check_text(program, detail, cost, word, text):
+    options = ["--brief"] if detail == b"brief" else []
+    cost = int(cost)
+    wrong = check_answer(program, [f"--limit={cost}", *options], word, unescaped(text))
+    for limit in (cost - 1, 0):
+        wrong += check_answer(program, [f"--limit={limit}", *options], word, b"too long")
+    return wrong
+
+
+def check_long(program, detail, cost, word, length):
+    options = ["--brief"] if detail == b"brief" else []
+    found = program.answers([f"--limit={int(cost)}", *options], [word])[0]
+    wrong = [] if len(found) == int(length) else [f"a text of {len(found)} bytes, not {int(length)}"]
+    return wrong + check_answer(program, [f"--limit={int(cost) - 1}", *options], word, b"too long")
+
+
+def check_repeated(program, detail, cost, front, count, repeated, end, length):
+    return check_long(program, detail, cost, front + int(count) * repeated + end, length)
+
+
+def check_refused(program, word, reason):
+    wrong = check_answer(program, [], word, reason)
+    return wrong + check_answer(program, ["--limit=0", "--brief"], word, reason)
+
+
+def check_press(program, word, pressed):
+    words, wanted = [word, pressed], [pressed, pressed]
+    return differences(words, program.answers(["--press", "--limit=0"], words), wanted)
+
+
+def changed(change, word, place):
+    return word[:place] if change == b"cut" else word[:place] + PUT[change] + word[place + 1 :]
+
+
+def check_changes(program, change, word, *others):
+    wanted = {int(place): unescaped(answer) for place, answer in (other.split(b" ", 1) for other in others)}
+    words = [changed(change, word, place) for place in range(len(word))]
+    answers = [wanted.get(place, b"malformed at %d" % place) for place in range(len(word))]
+    pairs = list(zip(words, answers))
+    wrong = [f"{place}: there is no such place" for place in wanted if place >= len(word)]
+    argued = [(word, answer if is_named(word) else b"not a symbol") for word, answer in pairs if is_text(word)]
+    alone = [(word, word if not is_named(word) or answer.startswith(REASONS) else answer) for word, answer in pairs if is_filtered_alone(word)]
+    for run, rows in ((program.answers, argued), (program.filtered, alone)):
+        if rows:
+            words = [word for word, _ in rows]
+            wrong += differences(words, run([], words), [answer for _, answer in rows])
+    return wrong
+
+
+def options_of(field):
+    return [] if field == b"-" else field.decode().split(" ")
+
+
+def check_filter(program, options, text, wanted):
+    out, err, status = program.run(options_of(options), unescaped(text))
+    found = (out, err, status)
+    return [] if found == (unescaped(wanted), b"", 0) else [f"{found!r}"]
+
+
+def check_command(program, status, words, out, err):
+    found = program.run(options_of(words))
+    wanted = (unescaped(out), unescaped(err), int(status))
+    same = found == wanted or (err == b"*" and found[1] and (found[0], found[2]) == (wanted[0], wanted[2]))
+    return [] if same else [f"{found!r}, not {wanted!r}"]
+
+
+CHECKS = {
+    b"text": check_text,
+    b"long": check_long,
+    b"repeated": check_repeated,
+    b"refused": check_refused,
+    b"press": check_press,
+    b"filter": check_filter,
+    b"command": check_command,
+}
+
+
+def check(program, row):
+    what, *fields = row.split(b"\t")
+    try:
+        if what in CHECKS:
+            return CHECKS[what](program, *fields)
+        if what == b"cut" or what in PUT:
+            return check_changes(program, what, *fields)
+    except (TypeError, ValueError, KeyError) as fault:
+        return [f"no such row: {fault}"]
+    except subprocess.TimeoutExpired:
+        return ["the program had not ended after 60 seconds"]
+    return ["no such row"]
+
+
+def main():
+    if len(sys.argv) < 2:
+        sys.exit(__doc__)
+    program = Program(sys.argv[1])
+    rows = failed = 0
+    try:
+        if not program.run(["--version"])[1].startswith(b"symfilt"):
+            print(f"{sys.argv[1]} isn't the program", file=sys.stderr)
+            sys.exit(2)
+        for path in sys.argv[2:] or [os.path.join(HERE, "vectors.tsv")]:
+            with open(path, "rb") as file:
+                lines = file.read().split(b"\n")
+            for number, row in enumerate(lines, 1):
+                if not row or row.startswith(b"#"):
+                    continue
+                rows += 1
+                wrong = check(program, row)
+                if wrong:
+                    failed += 1
+                    print(f"{path}:{number}: {row[:100].decode(errors='replace')}")
+                    for line in wrong[:5]:
+                        print(f"    {line[:400]}")
+    except OSError as fault:
+        print(fault, file=sys.stderr)
+        sys.exit(2)
+    print(f"{rows} rows, {failed} don't hold; the program was run {program.runs} times")
+    sys.exit(2 if rows == 0 else 1 if failed else 0)
+
+
+if __name__ == "__main__":
+    main()
