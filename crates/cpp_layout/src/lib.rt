@@ -18,5 +18,6 @@ mod texts;
 mod types;
 
 pub use context::Context;
+pub use sym_core::Counts;
 pub use sym_print::Detail;
-pub use symbol::{Counts, Symbol};
+pub use symbol::Symbol;

@@ -1,11 +1,59 @@
-// Rows of Rust symbols on the command line: texts at their exact costs, refusals at their places, and texts in brief.
+// Rows of C++ and Rust symbols on the command line: texts at their exact costs, refusals at their places, and texts in brief.
 use crate::outcome::Run;
 use crate::run;
 use std::alloc::{AllocError, Global};
 use std::test::Fail;
 
 /// Symbols with their texts and what these cost.
-static TEXTS: [(&str, &str, u32); 26] = [
+static TEXTS: [(&str, &str, u32); 42] = [
+    ("_Z1fv", "f()", 6),
+    (
+        "_ZNSt6vectorIiSaIiEE9push_backERKi",
+        "std::vector<int, std::allocator<int>>::push_back(int const&)",
+        84,
+    ),
+    (
+        "_ZSt4moveIRiEONSt16remove_referenceIT_E4typeEOS2_",
+        "std::remove_reference<int&>::type&& std::move<int&>(int&)",
+        91,
+    ),
+    ("_Z1fIJicEEvDpT_", "void f<int, char>(int, char)", 56),
+    ("_Z1fM1AKFviE", "f(void (A::*)(int) const)", 40),
+    (
+        "_ZZ4mainENKUlvE_clEv",
+        "main::{lambda()#1}::operator()() const",
+        47,
+    ),
+    (
+        "_Z1f1AIiiES_IS0_S0_ES_IS1_S1_E",
+        "f(A<int, int>, A<A<int, int>, A<int, int>>, A<A<A<int, int>, A<int, int>>, A<A<int, int>, A<int, int>>>)",
+        193,
+    ),
+    ("_Z1fv.isra.0", "f() (.isra.0)", 16),
+    (
+        "_ZStlsISt11char_traitsIcEERSt13basic_ostreamIcT_ES5_PKc",
+        "std::basic_ostream<char, std::char_traits<char>>& std::operator<< <std::char_traits<char>>(std::basic_ostream<char, std::char_traits<char>>&, char const*)",
+        213,
+    ),
+    ("_Z1fPFvvEPA3_i", "f(void (*)(), int (*)[3])", 42),
+    ("_Z1gIXadL_Z1fvEEEvv", "void g<&f()>()", 25),
+    ("_ZGVZ1fvE1x", "guard variable for f()::x", 32),
+    ("_ZN12_GLOBAL__N_11fEv", "(anonymous namespace)::f()", 31),
+    (
+        "_Z1fIJicEJbsEEvDpSt4pairIT_T0_E",
+        "void f<int, char, bool, short>(std::pair<int, bool>, std::pair<char, short>)",
+        133,
+    ),
+    (
+        "_Z1fDv4_fS_",
+        "f(float __vector(4), float __vector(4))",
+        52,
+    ),
+    (
+        "_ZN4core3ptr13drop_in_place17h0123456789abcdefE",
+        "core::ptr::drop_in_place::h0123456789abcdef",
+        52,
+    ),
     ("_RNvC3foo3bar", "foo::bar", 11),
     ("_RNvNtC3foo3bar3baz", "foo::bar::baz", 17),
     ("_RNvC3foo0", "foo", 6),
@@ -83,7 +131,15 @@ static TEXTS: [(&str, &str, u32); 26] = [
 ];
 
 /// Symbols that have no text, and why.
-static REFUSED: [(&str, &str); 12] = [
+static REFUSED: [(&str, &str); 20] = [
+    ("_Z1fQ", "malformed at 4"),
+    ("_Z5ab", "malformed at 5"),
+    ("_Z", "malformed at 2"),
+    ("_Z1fS_", "bad reference at 4"),
+    ("_Z1fIJicEEvT_", "bad reference at 11"),
+    ("_Z1fIJicEJbEEvDpSt4pairIT_T0_E", "bad reference at 26"),
+    ("_Z1fIiEvT_N1AUlS0_E_E", "bad reference at 15"),
+    ("_ZN1AUt18446744073709551614_E", "bad value at 5"),
     ("_RNvC3fo", "malformed at 8"),
     ("_RNvC03foo3bar", "malformed at 10"),
     ("_RNvC3foo3ba", "malformed at 12"),
@@ -187,6 +243,11 @@ fn refusals_at_their_places(rt: HostRuntime) -> Result<(), Fail> {
 #[test]
 fn texts_in_brief(rt: HostRuntime) -> Result<(), Fail> {
     let alloc = rt.alloc();
+    let push_back = "_ZNSt6vectorIiSaIiEE9push_backERKi";
+    let brief = "std::vector::push_back(int const&)";
+    assert!(rt; answers(alloc, "symfilt", "--brief", push_back, brief, "")?);
+    let doubled = "_Z1f1AIiiES_IS0_S0_ES_IS1_S1_E";
+    assert!(rt; answers(alloc, "symfilt", "--brief", doubled, "f(A, A, A)", "")?);
     let impl_of = "_RNvMC3fooINtB2_1AhE3baz";
     assert!(rt; answers(alloc, "symfilt", "--brief", impl_of, "<foo::A>::baz", "")?);
     let boxed = TEXTS[TEXTS.len() - 1].0;
@@ -215,6 +276,8 @@ fn pressed_spellings(rt: HostRuntime) -> Result<(), Fail> {
             "{pressed}"
         );
     }
+    let complaint = "symfilt: _Z1fv: malformed at 1\n";
+    assert!(rt; answers(rt.alloc(), "symfilt", "--press", "_Z1fv", "_Z1fv", complaint)?);
     Ok(())
 }
 
