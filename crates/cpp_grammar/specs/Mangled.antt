@@ -13,6 +13,10 @@ use Rattle.cpp_grammar.specs.Answer.{shown, root_item}
 abbrev pub cpp_mangled : Mangled Term
 cpp_mangled = record { table = abi; unfolded = unfold_cpp; shown = λ detail t. shown detail (root_item t); lawful = lawful }
 
+-- what a symbol reads as, and the answer to it
+abbrev pub IsReading : List ℕ → Result Term Refusal → Type 0
+IsReading s result = demangle.IsReading cpp_mangled s result
+
 abbrev pub IsAnswer : Detail → List ℕ → ℕ → Result (List ℕ) Refusal → Type 0
 IsAnswer detail s limit result = demangle.IsAnswer cpp_mangled detail s limit result
 

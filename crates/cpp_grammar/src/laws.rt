@@ -1,15 +1,13 @@
 // What holds of every C++ symbol.
-ghost use Rattle.std.specs.Prelude.{◌≤◌, ◌≡◌, ℕ, List, length, Result, Ok};
-ghost use Rattle.sym_core.specs.declared.refusal.Refusal.{Refusal};
+ghost use Rattle.std.specs.Prelude.{◌≤◌, ◌≡◌, ℕ, List, length, Ok};
 ghost use Rattle.sym_print.specs.declared.detail.Detail.{Detail};
 ghost use Rattle.sym_print.specs.Unfold.{RanksBelow};
-ghost use Rattle.sym_shape.specs.Decided.{AreBytes};
 ghost use Rattle.sym_shape.specs.Grown.{GrowsInto};
 ghost use Rattle.sym_shape.specs.Tree.{Tree, IsTree, AreRowsOf, IsFirstBad};
 ghost use Rattle.sym_shape.specs.declared.rule.Sym.TheVariants.{Kind};
 ghost use Rattle.sym_shape.specs.declared.rule.Row.{Row};
 ghost use Rattle.sym_demangle.specs.Mangled.{RefusesBadTokens};
-ghost use Rattle.cpp_grammar.specs.Mangled.{IsAnswer, answer, cpp_mangled};
+ghost use Rattle.cpp_grammar.specs.Mangled.{cpp_mangled};
 ghost use Rattle.cpp_grammar.specs.Closed.{ScopesAreClosed};
 ghost use Rattle.cpp_grammar.specs.Items.{Item};
 ghost use Rattle.cpp_grammar.specs.Parts.{parts};
@@ -31,17 +29,6 @@ pub fn earlier_trees_stay()
 {
     grown_keeps::<Abi>();
 }
-
-/// A symbol has at most one answer.
-pub fn one_answer()
-    ensures { (detail : Detail) (s : List ℕ) (limit : ℕ) (a b : Result (List ℕ) Refusal) → IsAnswer detail s limit a → IsAnswer detail s limit b → a ≡ b }
-{}
-
-/// Each list of bytes has its answer, and no other.
-pub fn each_has_an_answer()
-    ensures has { (detail : Detail) (s : List ℕ) (limit : ℕ) → AreBytes s → IsAnswer detail s limit (answer detail s limit) }
-    ensures only { (detail : Detail) (s : List ℕ) (limit : ℕ) (result : Result (List ℕ) Refusal) → AreBytes s → IsAnswer detail s limit result → result ≡ answer detail s limit }
-{}
 
 /// In the tree that a symbol stands for, the arguments that are the scope of an encoding have no free parameters.
 pub fn scopes_are_closed()

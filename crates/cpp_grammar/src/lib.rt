@@ -9,6 +9,5 @@ mod table;
 
 pub use abi::Abi;
 pub use laws::{
-    each_has_an_answer, earlier_trees_stay, one_answer, parts_are_few_and_smaller,
-    refuses_bad_tokens, scopes_are_closed,
+    earlier_trees_stay, parts_are_few_and_smaller, refuses_bad_tokens, scopes_are_closed,
 };

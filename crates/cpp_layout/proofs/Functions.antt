@@ -1,7 +1,5 @@
 -- The parts of encodings.
-use Rattle.std.proofs.Common.{Option, None, Some, zero, suc, ◌≡◌, ℕ, ◌<◌, ◌≤◌, ◌+◌, List, [], ◌∷◌, ◌++◌, length, Bool, true, false, refl, sym, ap, subst, ◌∙◌, arith, append-nil}
-use Rattle.sym_print.specs.declared.layout.Part.{Part}
-use Rattle.sym_print.specs.declared.detail.Detail.{Detail}
+use Rattle.std.proofs.Common.{Option, None, Some, zero, suc, ◌≡◌, ℕ, ◌<◌, ◌≤◌, ◌+◌, List, [], ◌∷◌, ◌++◌, length, Bool, true, false, refl, sym, ap, subst, ◌∙◌, arith, append-nil, append_assoc}
 use Rattle.sym_print.specs.Unfold.{PartOf, text}
 use Rattle.cpp_grammar.specs.Items as heads
 use Rattle.cpp_term.specs.Items as items
@@ -10,59 +8,39 @@ use Rattle.cpp_term.specs.Parts.{as_item, list_part, text_part, function_bare, f
 use Rattle.cpp_term.specs.Term as term
 use Rattle.cpp_grammar.specs.Term as values
 use Rattle.cpp_term.specs.Term.{Term}
-use Rattle.cpp_layout.specs.declared.context.Context.{Context}
-use Rattle.cpp_tree.specs.Nodes.{Table, tree_of}
+use Rattle.cpp_tree.specs.Nodes.{tree_of}
 use Rattle.cpp_tree.specs.declared.node.Node.{Node}
 use Rattle.cpp_tree.specs.declared.node.Mark.{Mark}
 use Rattle.cpp_tree.specs.declared.node.Qualifiers.{Qualifiers}
 use Rattle.sym_core.specs.declared.Span.{Span}
 use Rattle.cpp_tree.specs.declared.node.Thunk.{Thunk}
 use Rattle.cpp_layout.specs.Texts.{fixed_text, suffix_of}
-use Rattle.cpp_layout.specs.Layout.{Shows, text_if}
-use Rattle.cpp_layout.proofs.Growing.{So, shows-same, append-assoc}
-
-pub part-some : (b : List ℕ) (rest : List (PartOf items.Item)) → 0 < length b → text b ∷ rest ≡ text_part b ++ rest
-unfolding text_part
-part-some [] rest some = absurd (omega (arith, some))
-part-some (c ∷ cs) rest some = refl
+use Rattle.cpp_layout.specs.Layout.{text_if, clone_suffix}
 
 pub part-none : (b : List ℕ) (rest : List (PartOf items.Item)) → b ≡ [] → rest ≡ text_part b ++ rest
 unfolding text_part
 part-none b rest e = rw e refl
-
-pub suffix-there : (y : Table) (d : Detail) (parts : List (Part Context)) (t b : List ℕ) (so_far : So) → t ≡ b → 0 < length t → Shows y d parts (λ rest. so_far (text t ∷ rest)) → Shows y d parts (λ rest. so_far (text_part b ++ rest))
-suffix-there y d parts t b so_far e some shows = subst (λ x. Shows y d parts (λ rest. so_far (text_part x ++ rest))) e (shows-same y d parts (λ rest. so_far (text t ∷ rest)) (λ rest. so_far (text_part t ++ rest)) (λ rest. ap so_far (part-some t rest some)) shows)
-
-pub suffix-gone : (y : Table) (d : Detail) (parts : List (Part Context)) (n : ℕ) (b : List ℕ) (so_far : So) → n ≡ 38 → fixed_text n ≡ b → Shows y d parts so_far → Shows y d parts (λ rest. so_far (text_part b ++ rest))
-suffix-gone y d parts n b so_far e is shows = shows-same y d parts so_far (λ rest. so_far (text_part b ++ rest)) (λ rest. ap so_far (part-none b rest (sym is ∙ ap fixed_text e))) shows
 
 suffix-plain : (q : values.Qualifiers) (m : values.RefQualifier) → suffix_of q m false ≡ encoding_text q m
 unfolding suffix_of
 suffix-plain q m = append-nil (encoding_text q m)
 
 module _ (name : Term) (q : values.Qualifiers) (m : values.RefQualifier) (parameters : Term) where
-  pub bare-whole : as_item heads.left items.closed name ∷ text (fixed_text 2) ∷ (list_part heads.first items.closed parameters ++ (text (fixed_text 3) ∷ (text_part (suffix_of q m false) ++ []))) ≡ function_bare name q m parameters
+  pub bare-whole : (others : List (PartOf items.Item)) → as_item heads.left items.closed name ∷ text (fixed_text 2) ∷ (list_part heads.first items.closed parameters ++ (text (fixed_text 3) ∷ (text_part (suffix_of q m false) ++ others))) ≡ function_bare name q m parameters ++ others
   unfolding function_bare types_of
-  bare-whole = ap (λ l. as_item heads.left items.closed name ∷ text (fixed_text 2) ∷ (list_part heads.first items.closed parameters ++ (text (fixed_text 3) ∷ l)))
-      (append-nil (text_part (suffix_of q m false)) ∙ ap text_part (suffix-plain q m))
+  bare-whole others = ap (λ l. as_item heads.left items.closed name ∷ text (fixed_text 2) ∷ l)
+      (ap (λ s. list_part heads.first items.closed parameters ++ (text (fixed_text 3) ∷ (text_part s ++ others))) (suffix-plain q m)
+      ∙ sym (append_assoc (list_part heads.first items.closed parameters) (text (fixed_text 3) ∷ text_part (encoding_text q m)) others))
 
-  returning : (r : Term) → as_item heads.left items.closed r ∷ text (fixed_text 4) ∷ as_item heads.left items.closed name ∷ text (fixed_text 2) ∷ (list_part heads.first items.closed parameters ++ (text (fixed_text 3) ∷ (text_part (suffix_of q m false) ++ (as_item heads.right items.closed r ∷ []))))
-      ≡ as_item heads.left items.closed r ∷ text (fixed_text 4) ∷ (function_bare name q m parameters ++ (as_item heads.right items.closed r ∷ []))
-  unfolding function_bare types_of
-  returning r = ap (λ l. as_item heads.left items.closed r ∷ text (fixed_text 4) ∷ as_item heads.left items.closed name ∷ text (fixed_text 2) ∷ l)
-      (ap (λ s. list_part heads.first items.closed parameters ++ (text (fixed_text 3) ∷ (text_part s ++ (as_item heads.right items.closed r ∷ [])))) (suffix-plain q m)
-      ∙ sym (append-assoc (list_part heads.first items.closed parameters) (text (fixed_text 3) ∷ text_part (encoding_text q m)) (as_item heads.right items.closed r ∷ [])))
-
-  pub full-whole : (r : Term) → (r ≡ term.absent → ⊥) → as_item heads.left items.closed r ∷ text (fixed_text 4) ∷ as_item heads.left items.closed name ∷ text (fixed_text 2) ∷ (list_part heads.first items.closed parameters ++ (text (fixed_text 3) ∷ (text_part (suffix_of q m false) ++ (as_item heads.right items.closed r ∷ []))))
-      ≡ function_full name q m r parameters
+  pub full-whole : (r : Term) → (r ≡ term.absent → ⊥) → as_item heads.left items.closed r ∷ text (fixed_text 4) ∷ (function_bare name q m parameters ++ (as_item heads.right items.closed r ∷ [])) ≡ function_full name q m r parameters
   unfolding function_full types_of
   full-whole term.absent there = absurd (there refl)
-  full-whole r there = returning r
+  full-whole r there = refl
 
 module _ (c : items.Context) (q : values.Qualifiers) (m : values.RefQualifier) (n : Bool) (r parameters : Term) where
   pub right-whole : text (fixed_text 2) ∷ (list_part heads.first c parameters ++ (text (fixed_text 3) ∷ (text_part (suffix_of q m n) ++ (as_item heads.right c r ∷ [])))) ≡ function_right c (qualifier_text q) m n r parameters
   unfolding function_right suffix_of encoding_text
-  right-whole = ap (λ l. text (fixed_text 2) ∷ l) (sym (append-assoc (list_part heads.first c parameters) (text (fixed_text 3) ∷ text_part (suffix_of q m n)) (as_item heads.right c r ∷ [])))
+  right-whole = ap (λ l. text (fixed_text 2) ∷ l) (sym (append_assoc (list_part heads.first c parameters) (text (fixed_text 3) ∷ text_part (suffix_of q m n)) (as_item heads.right c r ∷ [])))
 
 pub qualified-function : (c : items.Context) (q : values.Qualifiers) (t : Term) (l n : Bool) (m : values.RefQualifier) (r p : Term) → t ≡ term.function_type l n m r p → function_right c (qualifier_text q) m n r p ≡ qualified_right c q t
 unfolding qualified_right
@@ -132,9 +110,9 @@ more-other s us ts c n t is other = more-other-of s us ts c n other ∙ ap (λ u
 pub object-whole : (guard : Bool) (i : PartOf items.Item) (q : values.Qualifiers) (m : values.RefQualifier) → text_if guard (fixed_text 22) (i ∷ (text_part (suffix_of q m false) ++ [])) ≡ text_if guard (fixed_text 22) (i ∷ text_part (encoding_text q m))
 object-whole guard i q m = ap (λ l. text_if guard (fixed_text 22) (i ∷ l)) (append-nil (text_part (suffix_of q m false)) ∙ ap text_part (suffix-plain q m))
 
-pub function-absent : (name : Term) (q : values.Qualifiers) (m : values.RefQualifier) (t parameters : Term) → t ≡ term.absent → function_bare name q m parameters ≡ function_full name q m t parameters
+pub function-absent : (name : Term) (q : values.Qualifiers) (m : values.RefQualifier) (t parameters : Term) → t ≡ term.absent → function_bare name q m parameters ++ [] ≡ function_full name q m t parameters
 unfolding function_full
-function-absent name q m t parameters is = rw is refl
+function-absent name q m t parameters is = append-nil (function_bare name q m parameters) ∙ rw is refl
 
 not-absent-node : (s : List ℕ) (us : List Thunk) (ts : List Term) (n : Node) → (n ≡ Node.Absent → ⊥) → tree_of s us ts n ≡ term.absent → ⊥
 unfolding tree_of
@@ -166,14 +144,17 @@ bare-other s us ts n t is other = ap full_parts is ∙ by n other ∙ ap bare_pa
     by (Node.Function a q m b d) h = absurd (h a q m b d refl)
     by _ h = refl
 
-pub root-plain : (e : Term) (suffix : List ℕ) → suffix ≡ [] → as_item heads.full items.closed e ∷ [] ≡ root_parts (term.symbol e suffix)
+pub root-whole : (e : Term) (suffix : List ℕ) → as_item heads.full items.closed e ∷ (clone_suffix suffix ++ []) ≡ root_parts (term.symbol e suffix)
 unfolding root_parts
-root-plain e suffix is = rw is refl
+root-whole e [] = refl
+root-whole e (b ∷ bs) = refl
 
-pub root-suffix : (e : Term) (suffix : List ℕ) → 0 < length suffix → as_item heads.full items.closed e ∷ text (fixed_text 23) ∷ text suffix ∷ text (fixed_text 3) ∷ [] ≡ root_parts (term.symbol e suffix)
-unfolding root_parts
-root-suffix e [] some = absurd (omega (arith, some))
-root-suffix e (b ∷ bs) some = refl
+pub no-clone : (suffix : List ℕ) (others : List (PartOf items.Item)) → suffix ≡ [] → others ≡ clone_suffix suffix ++ others
+no-clone suffix others is = rw is refl
+
+pub some-clone : (suffix : List ℕ) (others : List (PartOf items.Item)) → 0 < length suffix → text (fixed_text 23) ∷ text suffix ∷ text (fixed_text 3) ∷ others ≡ clone_suffix suffix ++ others
+some-clone [] others some = absurd (omega (arith, some))
+some-clone (b ∷ bs) others some = refl
 
 pub root-none : (s : List ℕ) (us : List Thunk) (ts : List Term) (n : Node) (t : Term) → t ≡ tree_of s us ts n → ((e : ℕ) (b : Span) → n ≡ Node.Whole e b → ⊥) → [] ≡ root_parts t
 unfolding tree_of root_parts
@@ -185,14 +166,16 @@ root-none s us ts n t is other = by n other ∙ ap root_parts (sym is)
 
 -- ## Elements of an expansion
 
-pub expand-more : (c : items.Context) (p : Term) (at : ℕ) (b : Bool) → (0 < at → b ≡ true) → (at ≤ 0 → b ≡ false) → is_below (at + 1) (items.packs_of c p) ≡ true
-    → text_if b (fixed_text 0) (as_item heads.left (record { index = Some at }) p ∷ as_item heads.right (record { index = Some at }) p ∷ as_item (heads.expand (at + 1)) c p ∷ []) ≡ expand_parts c p at
-unfolding expand_parts expand_rest comma_before at_index
-expand-more c p zero b so not e = rw (not (omega arith), expand_rest, e) refl
-expand-more c p (suc at) b so not e = rw (so (omega arith), expand_rest, e) refl
+pub next-some : (c : items.Context) (p : Term) (i : ℕ) (others : List (PartOf items.Item)) → is_below i (items.packs_of c p) ≡ true → as_item (heads.expand i) c p ∷ others ≡ expand_rest c p i ++ others
+unfolding expand_rest
+next-some c p i others e = rw (expand_rest, e) refl
 
-pub expand-last : (c : items.Context) (p : Term) (at : ℕ) (b : Bool) → (0 < at → b ≡ true) → (at ≤ 0 → b ≡ false) → is_below (at + 1) (items.packs_of c p) ≡ false
-    → text_if b (fixed_text 0) (as_item heads.left (record { index = Some at }) p ∷ as_item heads.right (record { index = Some at }) p ∷ []) ≡ expand_parts c p at
-unfolding expand_parts expand_rest comma_before at_index
-expand-last c p zero b so not e = rw (not (omega arith), expand_rest, e) refl
-expand-last c p (suc at) b so not e = rw (so (omega arith), expand_rest, e) refl
+pub next-none : (c : items.Context) (p : Term) (i : ℕ) (others : List (PartOf items.Item)) → is_below i (items.packs_of c p) ≡ false → others ≡ expand_rest c p i ++ others
+unfolding expand_rest
+next-none c p i others e = rw (expand_rest, e) refl
+
+pub expand-whole : (c : items.Context) (p : Term) (at : ℕ) (b : Bool) → (0 < at → b ≡ true) → (at ≤ 0 → b ≡ false)
+    → text_if b (fixed_text 0) (as_item heads.left (record { index = Some at }) p ∷ as_item heads.right (record { index = Some at }) p ∷ (expand_rest c p (at + 1) ++ [])) ≡ expand_parts c p at
+unfolding expand_parts comma_before at_index
+expand-whole c p zero b so not = rw (not (omega arith), append-nil (expand_rest c p 1)) refl
+expand-whole c p (suc at) b so not = rw (so (omega arith), append-nil (expand_rest c p (suc at + 1))) refl

@@ -80,10 +80,6 @@ pub literal-whole : (c : items.Context) (name : List ℕ) → text (fixed_text 3
 unfolding piece_parts
 literal-whole c name = refl
 
-pub source-whole : (c : items.Context) (internal : Bool) (name : List ℕ) → text (source_text name) ∷ [] ≡ piece_parts c (term.source internal name)
-unfolding piece_parts
-source-whole c internal name = refl
-
 pub piece-none : (s : List ℕ) (ts : List Term) (c : items.Context) (p : Piece) → ((i : Bool) (b : Span) → p ≡ Piece.Source i b → ⊥) → ((a b : ℕ) → p ≡ Piece.Operator a b → ⊥) → ((b : Span) → p ≡ Piece.LiteralOperator b → ⊥)
     → ((a n : ℕ) → p ≡ Piece.Lambda a n → ⊥) → ((n : ℕ) → p ≡ Piece.Unnamed n → ⊥) → (p ≡ Piece.StringLiteral → ⊥) → [] ≡ piece_parts c (piece_of s ts p)
 unfolding piece_of piece_parts
@@ -153,9 +149,6 @@ last-none s us ts n t is h1 h2 h3 h4 = other n h1 h2 h3 h4 ∙ ap (λ u. opening
     other (Node.Within a p) h1 h2 h3 h4 = absurd (h3 a p refl)
     other (Node.Local e a d) h1 h2 h3 h4 = absurd (h4 e a d refl)
     other _ h1 h2 h3 h4 = refl
-
-pub last-there : (t p : Term) → last_piece t ≡ p → (n : ℕ) → fixed_text n ≡ opening_text p → fixed_text n ≡ opening_text (last_piece t)
-last-there t p is n e = e ∙ ap opening_text (sym is)
 
 pub instance-whole : (c : items.Context) (t a : Term) (n : ℕ) → fixed_text n ≡ opening_text (last_piece t) → as_item heads.left c t ∷ text (fixed_text n) ∷ (list_part heads.first c a ++ (text (fixed_text 29) ∷ [])) ≡ instance_parts Full c t a
 unfolding instance_parts

@@ -4,7 +4,6 @@ use Prim.Native.String.{String}
 use Rattle.sym_core.specs.declared.Span.{Span}
 use Rattle.sym_print.specs.Unfold.{PartOf, text}
 use Rattle.sym_print.specs.declared.detail.Detail.{Detail}
-use Rattle.sym_print.specs.declared.layout.Part.{Part}
 use Rattle.cpp_grammar.specs.Parts.{qualifier_text, ref_text, encoding_text, blank_last}
 use Rattle.cpp_grammar.specs.Items as heads
 use Rattle.cpp_grammar.specs.Term as values
@@ -19,12 +18,9 @@ use Rattle.cpp_tree.specs.declared.node.Thunk.{Thunk}
 use Rattle.cpp_tree.specs.declared.node.Mark.{Mark}
 use Rattle.cpp_tree.specs.declared.node.Signed.{Signed}
 use Rattle.cpp_tree.specs.declared.node.Qualifiers.{Qualifiers}
-use Rattle.cpp_tree.specs.Nodes.{Table, tree_of, signed_of, qualifiers_of}
-use Rattle.cpp_layout.specs.declared.context.Context.{Context}
+use Rattle.cpp_tree.specs.Nodes.{tree_of, signed_of, qualifiers_of}
 use Rattle.cpp_layout.specs.Texts.{fixed_text, bit, suffix_of}
-use Rattle.cpp_layout.specs.Layout.{own_piece, marked, referred, text_if, qualified_with, IsNoName, IsNoType, Shows}
-use Rattle.cpp_layout.proofs.Functions.{part-some, part-none}
-use Rattle.cpp_layout.proofs.Growing.{So, shows-same}
+use Rattle.cpp_layout.specs.Layout.{own_piece, marked, referred, text_if, qualifiers_behind, IsNoName, IsNoType}
 
 -- ## Qualifiers
 
@@ -53,39 +49,39 @@ module _ (q : Qualifiers) (a b d : ℕ) (p : a ≡ bit q.restrict) (o : b ≡ bi
   pub blanked-none : 181 + a + 2 * b + 4 * d ≤ 181 → blank_last (qualifier_text (qualifiers_of q)) ≡ []
   blanked-none = rw (p, o, l) (not-blanked q.restrict q.volatile q.const_)
 
-pub part-there : (y : Table) (d : Detail) (parts : List (Part Context)) (n : ℕ) (b : List ℕ) (so_far : So) → fixed_text n ≡ b → 0 < length (fixed_text n) → Shows y d parts (λ rest. so_far (text (fixed_text n) ∷ rest)) → Shows y d parts (λ rest. so_far (text_part b ++ rest))
-part-there y d parts n b so_far is some shows = shows-same y d parts (λ rest. so_far (text (fixed_text n) ∷ rest)) (λ rest. so_far (text_part b ++ rest)) (λ rest. ap so_far (part-some (fixed_text n) rest some ∙ ap (λ t. text_part t ++ rest) is)) shows
+module _ (reference function : Bool) (q : values.Qualifiers) (others : List (PartOf items.Item)) where
+  pub qualifiers-none : reference ≡ true → others ≡ qualifiers_behind reference function q ++ others
+  qualifiers-none e = rw e refl
 
-pub part-gone : (y : Table) (d : Detail) (parts : List (Part Context)) (b : List ℕ) (so_far : So) → b ≡ [] → Shows y d parts so_far → Shows y d parts (λ rest. so_far (text_part b ++ rest))
-part-gone y d parts b so_far e shows = shows-same y d parts so_far (λ rest. so_far (text_part b ++ rest)) (λ rest. ap so_far (part-none b rest e)) shows
-
-module _ (reference function : Bool) (i : PartOf items.Item) (q : values.Qualifiers) where
-  pub qualified-reference : reference ≡ true → i ∷ [] ≡ qualified_with reference function i q
-  qualified-reference e = rw e refl
-
-  pub qualified-bracket : reference ≡ false → function ≡ true → i ∷ (text_part (blank_last (qualifier_text q)) ++ []) ≡ qualified_with reference function i q
-  qualified-bracket e f = rw (e, f) (ap (λ l. i ∷ l) (append-nil (text_part (blank_last (qualifier_text q)))))
+  pub qualifiers-bracket : reference ≡ false → function ≡ true → text_part (blank_last (qualifier_text q)) ++ others ≡ qualifiers_behind reference function q ++ others
+  qualifiers-bracket e f = rw (e, f) refl
 
   plain-suffix : suffix_of q values.any_value false ≡ qualifier_text q
   unfolding suffix_of encoding_text ref_text
   plain-suffix = append-nil (qualifier_text q ++ []) ∙ append-nil (qualifier_text q)
 
-  pub qualified-plain : reference ≡ false → function ≡ false → i ∷ (text_part (suffix_of q values.any_value false) ++ []) ≡ qualified_with reference function i q
-  qualified-plain e f = rw (e, f) (ap (λ l. i ∷ l) (append-nil (text_part (suffix_of q values.any_value false)) ∙ ap text_part plain-suffix))
+  pub qualifiers-plain : reference ≡ false → function ≡ false → text_part (suffix_of q values.any_value false) ++ others ≡ qualifiers_behind reference function q ++ others
+  qualifiers-plain e f = rw (e, f) (ap (λ t. text_part t ++ others) plain-suffix)
 
 pub qualified-function-left : (c : items.Context) (q : values.Qualifiers) (t : Term) (l n : Bool) (m : values.RefQualifier) (r p : Term) → t ≡ term.function_type l n m r p → as_item heads.left c t ∷ [] ≡ qualified_left c q t
 unfolding qualified_left
 qualified-function-left c q t l n m r p e = rw e refl
 
+behind-whole : (c : items.Context) (i : PartOf items.Item) (reference function : Bool) (q : values.Qualifiers)
+    → i ∷ (qualifiers_behind reference function q ++ []) ≡ elim reference [ true ↦ i ∷ [] | false ↦ elim function [ true ↦ i ∷ text_part (blank_last (qualifier_text q)) | false ↦ i ∷ text_part (qualifier_text q) ] ]
+behind-whole c i true function q = refl
+behind-whole c i false true q = ap (λ l. i ∷ l) (append-nil (text_part (blank_last (qualifier_text q))))
+behind-whole c i false false q = ap (λ l. i ∷ l) (append-nil (text_part (qualifier_text q)))
+
 qualified-node : (s : List ℕ) (us : List Thunk) (ts : List Term) (c : items.Context) (q : values.Qualifiers) (k : Node) → ((l n : Bool) (m : Mark) (r p : ℕ) → k ≡ Node.FunctionType l n m r p → ⊥)
-    → qualified_with (heads.is_reference (items.head c (tree_of s us ts k))) (heads.is_funarr (items.head c (tree_of s us ts k))) (as_item heads.left c (tree_of s us ts k)) q ≡ qualified_left c q (tree_of s us ts k)
+    → as_item heads.left c (tree_of s us ts k) ∷ (qualifiers_behind (heads.is_reference (items.head c (tree_of s us ts k))) (heads.is_funarr (items.head c (tree_of s us ts k))) q ++ []) ≡ qualified_left c q (tree_of s us ts k)
 unfolding tree_of qualified_left
 qualified-node s us ts c q (Node.FunctionType l n m r p) other = absurd (other l n m r p refl)
-qualified-node s us ts c q _ other = refl
+qualified-node s us ts c q _ other = behind-whole c _ _ _ q
 
 pub qualified-other-left : (s : List ℕ) (us : List Thunk) (ts : List Term) (c : items.Context) (q : values.Qualifiers) (k : Node) (t : Term) → t ≡ tree_of s us ts k → ((l n : Bool) (m : Mark) (r p : ℕ) → k ≡ Node.FunctionType l n m r p → ⊥)
-    → qualified_with (heads.is_reference (items.head c t)) (heads.is_funarr (items.head c t)) (as_item heads.left c t) q ≡ qualified_left c q t
-qualified-other-left s us ts c q k t e other = subst (λ u. qualified_with (heads.is_reference (items.head c u)) (heads.is_funarr (items.head c u)) (as_item heads.left c u) q ≡ qualified_left c q u) (sym e) (qualified-node s us ts c q k other)
+    → as_item heads.left c t ∷ (qualifiers_behind (heads.is_reference (items.head c t)) (heads.is_funarr (items.head c t)) q ++ []) ≡ qualified_left c q t
+qualified-other-left s us ts c q k t e other = subst (λ u. as_item heads.left c u ∷ (qualifiers_behind (heads.is_reference (items.head c u)) (heads.is_funarr (items.head c u)) q ++ []) ≡ qualified_left c q u) (sym e) (qualified-node s us ts c q k other)
 
 -- ## References and pointers
 

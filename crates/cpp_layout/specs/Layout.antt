@@ -1,21 +1,24 @@
 -- The items of code as items of trees, and their parts.
-use Rattle.std.specs.Prelude.{◌≡◌, ℕ, ◌<◌, ◌≤◌, ◌+◌, ◌*◌, List, [], ◌∷◌, ◌++◌, take, length, Bool, true, false, cond, nat_eq}
-use Rattle.std.specs.List.{All}
+use Rattle.std.specs.Prelude.{◌≡◌, ℕ, ◌<◌, ◌≤◌, ◌+◌, ◌*◌, List, [], ◌∷◌, take, length, Bool, true, false, cond, nat_eq}
 use Rattle.sym_print.specs.declared.layout.Item.{Item}
 use Rattle.sym_print.specs.declared.layout.Part.{Part}
 use Rattle.sym_print.specs.declared.layout.Part.TheVariants as part
 use Rattle.sym_print.specs.declared.detail.Detail.{Detail}
 use Rattle.sym_print.specs.Unshared.{Unshared}
-use Rattle.sym_print.specs.Unfold.{PartOf, text, AreParts, printed}
+use Rattle.sym_print.specs.Unfold.{PartOf, text, printed_parts, printed}
+use Rattle.sym_print.specs.Stacked.{Stacked}
+use Rattle.sym_print.specs.Held.{Held}
 use Rattle.cpp_term.specs.Term as term
 use Rattle.cpp_term.specs.Term.{Term}
+use Rattle.cpp_grammar.specs.Answer as answer
 use Rattle.cpp_grammar.specs.Items as heads
 use Rattle.cpp_term.specs.Items as items
+use Rattle.cpp_grammar.specs.Term as plain
 use Rattle.cpp_grammar.specs.Term.{Qualifiers}
 use Rattle.cpp_grammar.specs.Parts.{blank_last, qualifier_text}
-use Rattle.cpp_term.specs.Parts.{not_empty, text_part, parts}
+use Rattle.cpp_term.specs.Parts.{not_empty, text_part, says, parts}
 use Rattle.cpp_term.specs.Ranks.{rank}
-use Rattle.cpp_term.specs.Answer.{noted_shown}
+use Rattle.cpp_term.specs.Erased.{erase, CarriesArguments}
 use Rattle.cpp_tree.specs.declared.node.Node.{Node}
 use Rattle.cpp_layout.specs.declared.context.Context.{Context}
 use Rattle.cpp_tree.specs.Nodes.{Stored, Table, over, trees, tree_at, bytes_at, IsWithin, IsTable}
@@ -33,12 +36,13 @@ pub record ReadSymbol : Type 0 where
 abbrev pub table_of : ReadSymbol → Table
 table_of y = over y.bytes y.table
 
--- What holds of each symbol that was read: its nodes are a table, the root is the node of the whole, and each count is within its
--- bound.
+-- What holds of each symbol that was read: its nodes are a table, the root is the node of the whole, in which each free parameter
+-- carries its argument, and each count is within its bound.
 pub record IsRead (y : ReadSymbol) : Type 0 where
   pub table : IsTable (table_of y)
   pub root : y.root < length y.table.nodes
   pub whole : (encoding : Term) × (suffix : List ℕ) × (tree_at (trees (table_of y)) y.root ≡ term.symbol encoding suffix)
+  pub carries : CarriesArguments (tree_at (trees (table_of y)) y.root)
   pub fits : length y.bytes ≤ 16777216
   pub rows : y.rows ≤ 4 * length y.bytes + 4
   pub nodes : length y.table.nodes ≤ 2 * length y.bytes + 8
@@ -86,27 +90,6 @@ MayCome y (part.List span) = ⊥
 MayCome y (part.Fixed number) = 0 < length (fixed_text number)
 MayCome y (part.Own bytes count) = (0 < count) × (count ≤ 24) × (length bytes ≡ 24)
 
-abbrev pub Are : Table → List (Part Context) → List (PartOf items.Item) → Type 0
-Are y parts others = AreParts (item_of y) (bytes_of y) parts (not_empty others)
-
--- an item of the part is shown in this detail
-abbrev pub HasDetail : Detail → Part Context → Type 0
-HasDetail d (part.Sub i) = i.ctx.detail ≡ d
-HasDetail d _ = Unit {0}
-
-abbrev pub Comes : Table → Detail → Part Context → Type 0
-Comes y d p = MayCome y p × HasDetail d p
-
--- The parts may come, and are those so far, whatever stands behind them.
-pub record Shows (y : Table) (d : Detail) (parts : List (Part Context)) (so_far : List (PartOf items.Item) → List (PartOf items.Item)) : Type 0 where
-  pub all : All (Comes y d) parts
-  pub are : (more : List (Part Context)) (others : List (PartOf items.Item)) → Are y more others → Are y (parts ++ more) (so_far others)
-
--- The parts may come, and are all of these.
-pub record Fills (y : Table) (d : Detail) (parts : List (Part Context)) (whole : List (PartOf items.Item)) : Type 0 where
-  pub all : All (Comes y d) parts
-  pub are : Are y parts whole
-
 -- the part has these bytes of its own
 abbrev pub IsOwn : Part Context → List ℕ → Type 0
 IsOwn (part.Own bytes count) own = (take count bytes ≡ own) × (count ≡ length own) × (length bytes ≡ 24)
@@ -129,12 +112,16 @@ abbrev pub text_if : Bool → List ℕ → List (PartOf items.Item) → List (Pa
 text_if true t others = text t ∷ others
 text_if false t others = others
 
--- an item with qualifiers behind it: none where it is a reference, and with the blank last before a bracket
-abbrev pub qualified_with : (reference function : Bool) → PartOf items.Item → Qualifiers → List (PartOf items.Item)
-qualified_with reference function i q = elim reference [
-  | true ↦ i ∷ []
-  | false ↦ elim function [ true ↦ i ∷ text_part (blank_last (qualifier_text q)) | false ↦ i ∷ text_part (qualifier_text q) ]
-]
+-- the qualifiers behind a type: none behind a reference, and with the blank last before a bracket
+abbrev pub qualifiers_behind : (reference function : Bool) → Qualifiers → List (PartOf items.Item)
+qualifiers_behind true function q = []
+qualifiers_behind false true q = text_part (blank_last (qualifier_text q))
+qualifiers_behind false false q = text_part (qualifier_text q)
+
+-- the suffix of a clone in brackets, if there is one
+abbrev pub clone_suffix : List ℕ → List (PartOf items.Item)
+clone_suffix [] = []
+clone_suffix (b ∷ bs) = says " (" ∷ text (b ∷ bs) ∷ says ")" ∷ []
 
 -- the node is no name
 abbrev pub IsNoName : Node → Type 0
@@ -192,6 +179,21 @@ bytes_of_part y p = bytes_of (table_of y) p
 abbrev pub MayBeAsked : ReadSymbol → Part Context → Type 0
 MayBeAsked y p = IsTable (table_of y) × MayCome (table_of y) p
 
+-- the tree of a symbol that was read, in which a parameter is its number alone
+abbrev pub whole_of : ReadSymbol → plain.Term
+whole_of y = erase (tree_at (trees (table_of y)) y.root)
+
 -- what a symbol prints
 abbrev pub shown_symbol : Detail → ReadSymbol → Unshared
-shown_symbol detail y = noted_shown detail (tree_at (trees (table_of y)) y.root)
+shown_symbol detail y = answer.shown detail (answer.root_item (whole_of y))
+
+-- ## Lists of parts
+
+-- what parts print in a detail
+abbrev pub shown : Detail → List (PartOf items.Item) → Unshared
+shown d others = printed_parts (printed (parts d) rank) (not_empty others)
+
+-- The parts that a list was given may come, and are these; the first stands last.
+pub record Shows (y : ReadSymbol) (d : Detail) (below held : Held Context) (others : List (PartOf items.Item)) : Type 0 where
+  pub stacked : Stacked (unshared_of y) (bytes_of_part y) (MayCome (table_of y)) below.items held.items (shown d others)
+  pub capacity : held.capacity ≡ below.capacity

@@ -2,8 +2,8 @@
 #![tactic(auto)]
 
 ghost use Rattle.std.specs.Prelude.{◌≡◌, ℕ, ◌+◌, ◌<◌, ◌≤◌, ◌++◌, ◌∷◌, [], List, length, slice_get};
-ghost use Rattle.arrayvec.specs.ArrayVec.{array_vec_len};
-ghost use Rattle.sym_print.specs.Unfold.{PartOf, text, sub};
+ghost use Rattle.sym_print.specs.Held.{Held};
+ghost use Rattle.sym_print.specs.Unfold.{PartOf, text};
 ghost use Rattle.sym_print.specs.declared.detail.Detail.{Detail};
 ghost use Rattle.cpp_term.specs.Items as items;
 ghost use Rattle.cpp_term.specs.Term as term;
@@ -13,16 +13,15 @@ ghost use Rattle.cpp_grammar.specs.Texts.{look_up, special_texts};
 ghost use Rattle.cpp_term.specs.Parts.{as_item, function_bare, function_full, full_parts, bare_parts, root_parts, text_part};
 ghost use Rattle.cpp_tree.specs.Nodes.{tree_at, trees, IsTable, IsWithin, bytes_at, thunk_of, qualifiers_of, mark_of};
 ghost use Rattle.cpp_layout.specs.Texts.{fixed_text, bit, mark_number, suffix_of};
-ghost use Rattle.cpp_layout.specs.Layout.{table_of, context_of, text_if, Shows, Fills};
+ghost use Rattle.cpp_layout.specs.Layout.{table_of, text_if, clone_suffix, Shows};
 
 use crate::codes::special;
 use crate::context::Context;
 use crate::symbol::Symbol;
 use crate::{form, texts};
-use arrayvec::ArrayVec;
 use cpp_tree::node::{Adjustment, Mark, Node, Qualifiers, Thunk};
 use sym_core::Span;
-use sym_print::{Detail, Part};
+use sym_print::{Detail, PartList};
 
 /// 1 for what is so.
 #[tactic(auto, unfolding(crate::specs::Texts::bit))]
@@ -78,17 +77,17 @@ fn suffix_number(qualifiers: Qualifiers, mark: Mark, noexcept: bool) -> u16
 
 impl Symbol {
     /// Adds what stands behind a function's parameters, if that is something.
-    pub(crate) fn push_suffix(
+    pub(crate) fn push_suffix<S: PartList<Context>>(
         &self,
-        parts: &mut ArrayVec<Part<Context>, 8>,
+        parts: &mut S,
         qualifiers: Qualifiers,
         mark: Mark,
         noexcept: bool,
     )
-        requires room { array_vec_len parts.old < 8 }
-        ensures shows { (d : Detail) (so_far : List (PartOf items.Item) → List (PartOf items.Item)) → Shows (table_of self.now) d parts.old.items so_far
-            → Shows (table_of self.now) d parts.new.items (λ rest. so_far (text_part (suffix_of (qualifiers_of qualifiers) (mark_of mark) noexcept) ++ rest)) }
-        ensures len { array_vec_len parts.new ≤ array_vec_len parts.old + 1 }
+        requires room { 0 < S.room parts.old }
+        ensures shows { (d : Detail) (below : Held Context) (others : List (PartOf items.Item)) → Shows self.now d below (S.held parts.old) others
+            → Shows self.now d below (S.held parts.new) (text_part (suffix_of (qualifiers_of qualifiers) (mark_of mark) noexcept) ++ others) }
+        ensures room { S.room parts.old ≤ S.room parts.new + 1 }
     {
         let number = suffix_number(qualifiers, mark, noexcept);
         if number > texts::SUFFIX {
@@ -96,10 +95,10 @@ impl Symbol {
         }
     }
 
-    /// The parts of a function without its return type.
-    pub(crate) fn fill_bare(
+    /// Adds the parts of a function without its return type.
+    fn push_bare<S: PartList<Context>>(
         &self,
-        parts: &mut ArrayVec<Part<Context>, 8>,
+        parts: &mut S,
         name: u32,
         qualifiers: Qualifiers,
         mark: Mark,
@@ -109,24 +108,26 @@ impl Symbol {
         requires table { IsTable (table_of self.now) }
         requires name { name < length self.now.table.nodes }
         requires parameters { parameters < length self.now.table.nodes }
-        requires empty { parts.old.items ≡ [] }
-        ensures { Fills (table_of self.now) detail parts.new.items (function_bare (tree_at (trees (table_of self.now)) name) (qualifiers_of qualifiers) (mark_of mark) (tree_at (trees (table_of self.now)) parameters)) }
+        requires room { 5 ≤ S.room parts.old }
+        ensures shows { (below : Held Context) (others : List (PartOf items.Item)) → Shows self.now detail below (S.held parts.old) others
+            → Shows self.now detail below (S.held parts.new) (function_bare (tree_at (trees (table_of self.now)) name) (qualifiers_of qualifiers) (mark_of mark) (tree_at (trees (table_of self.now)) parameters) ++ others) }
+        ensures room { S.room parts.old ≤ S.room parts.new + 5 }
     {
         let ctx = Context {
             index: None,
             detail,
         };
-        self.push_item(parts, name, form::LEFT, 0, ctx);
-        self.push_text(parts, texts::LEFT);
-        self.push_list(parts, parameters, form::FIRST, ctx);
-        self.push_text(parts, texts::RIGHT);
         self.push_suffix(parts, qualifiers, mark, false);
+        self.push_text(parts, texts::RIGHT);
+        self.push_list(parts, parameters, form::FIRST, ctx);
+        self.push_text(parts, texts::LEFT);
+        self.push_item(parts, name, form::LEFT, 0, ctx);
     }
 
     /// The parts of a function with its return type.
-    pub(crate) fn fill_returning(
+    pub(crate) fn fill_returning<S: PartList<Context>>(
         &self,
-        parts: &mut ArrayVec<Part<Context>, 8>,
+        parts: &mut S,
         name: u32,
         qualifiers: Qualifiers,
         mark: Mark,
@@ -139,28 +140,25 @@ impl Symbol {
         requires returned { returned < length self.now.table.nodes }
         requires parameters { parameters < length self.now.table.nodes }
         requires there { tree_at (trees (table_of self.now)) returned ≡ term.absent → ⊥ }
-        requires empty { parts.old.items ≡ [] }
-        ensures { Fills (table_of self.now) detail parts.new.items (function_full (tree_at (trees (table_of self.now)) name) (qualifiers_of qualifiers) (mark_of mark) (tree_at (trees (table_of self.now)) returned) (tree_at (trees (table_of self.now)) parameters)) }
+        requires room { 8 ≤ S.room parts.old }
+        ensures shows { Shows self.now detail (S.held parts.old) (S.held parts.new) (function_full (tree_at (trees (table_of self.now)) name) (qualifiers_of qualifiers) (mark_of mark) (tree_at (trees (table_of self.now)) returned) (tree_at (trees (table_of self.now)) parameters)) }
+        ensures few { S.room parts.old ≤ S.room parts.new + 8 }
     {
         let ctx = Context {
             index: None,
             detail,
         };
-        self.push_item(parts, returned, form::LEFT, 0, ctx);
-        self.push_text(parts, texts::BLANK);
-        self.push_item(parts, name, form::LEFT, 0, ctx);
-        self.push_text(parts, texts::LEFT);
-        self.push_list(parts, parameters, form::FIRST, ctx);
-        self.push_text(parts, texts::RIGHT);
-        self.push_suffix(parts, qualifiers, mark, false);
         self.push_item(parts, returned, form::RIGHT, 0, ctx);
+        self.push_bare(parts, name, qualifiers, mark, parameters, detail);
+        self.push_text(parts, texts::BLANK);
+        self.push_item(parts, returned, form::LEFT, 0, ctx);
     }
 
     /// The parts of an object's name, or of a guard variable's.
     // <encoding> ::= <data name>; <special-name> ::= GV <object name>
-    fn fill_object(
+    fn fill_object<S: PartList<Context>>(
         &self,
-        parts: &mut ArrayVec<Part<Context>, 8>,
+        parts: &mut S,
         name: u32,
         qualifiers: Qualifiers,
         mark: Mark,
@@ -168,67 +166,64 @@ impl Symbol {
         detail: Detail,
     )
         requires name { name < length self.now.table.nodes }
-        requires empty { parts.old.items ≡ [] }
-        ensures { Fills (table_of self.now) detail parts.new.items (text_if guard (fixed_text 22) (as_item heads.left items.closed (tree_at (trees (table_of self.now)) name) ∷ text_part (encoding_text (qualifiers_of qualifiers) (mark_of mark)))) }
+        requires room { 8 ≤ S.room parts.old }
+        ensures shows { Shows self.now detail (S.held parts.old) (S.held parts.new) (text_if guard (fixed_text 22) (as_item heads.left items.closed (tree_at (trees (table_of self.now)) name) ∷ text_part (encoding_text (qualifiers_of qualifiers) (mark_of mark)))) }
+        ensures few { S.room parts.old ≤ S.room parts.new + 8 }
     {
-        self.push_text_if(parts, guard, texts::GUARD);
         let closed = Context {
             index: None,
             detail,
         };
-        self.push_item(parts, name, form::LEFT, 0, closed);
         self.push_suffix(parts, qualifiers, mark, false);
+        self.push_item(parts, name, form::LEFT, 0, closed);
+        self.push_text_if(parts, guard, texts::GUARD);
     }
 
     /// The parts of a virtual table's name and the like.
     // <special-name> ::= TV <type> | TT <type> | TI <type> | TS <type>
-    fn fill_special(
-        &self,
-        parts: &mut ArrayVec<Part<Context>, 8>,
-        letter: u8,
-        ty: u32,
-        detail: Detail,
-    )
+    fn fill_special<S: PartList<Context>>(&self, parts: &mut S, letter: u8, ty: u32, detail: Detail)
         requires ty { ty < length self.now.table.nodes }
-        requires empty { parts.old.items ≡ [] }
-        ensures { Fills (table_of self.now) detail parts.new.items (text (look_up (letter ∷ []) special_texts)
+        requires room { 8 ≤ S.room parts.old }
+        ensures shows { Shows self.now detail (S.held parts.old) (S.held parts.new) (text (look_up (letter ∷ []) special_texts)
             ∷ as_item heads.left items.closed (tree_at (trees (table_of self.now)) ty) ∷ as_item heads.right items.closed (tree_at (trees (table_of self.now)) ty) ∷ []) }
+        ensures few { S.room parts.old ≤ S.room parts.new + 8 }
     {
-        self.push_some(parts, special(letter));
         let ctx = Context {
             index: None,
             detail,
         };
-        self.push_item(parts, ty, form::LEFT, 0, ctx);
         self.push_item(parts, ty, form::RIGHT, 0, ctx);
+        self.push_item(parts, ty, form::LEFT, 0, ctx);
+        self.push_some(parts, special(letter));
     }
 
     /// The parts of a thunk's name.
     // <special-name> ::= T <call-offset> <base encoding> | Tc <call-offset> <call-offset> <base encoding>
-    fn fill_thunk(
+    fn fill_thunk<S: PartList<Context>>(
         &self,
-        parts: &mut ArrayVec<Part<Context>, 8>,
+        parts: &mut S,
         thunk: u32,
         encoding: u32,
         detail: Detail,
     )
         requires encoding { encoding < length self.now.table.nodes }
-        requires empty { parts.old.items ≡ [] }
-        ensures { Fills (table_of self.now) detail parts.new.items (text (thunk_text (thunk_of self.now.bytes (slice_get self.now.table.thunks thunk))) ∷ as_item heads.full items.closed (tree_at (trees (table_of self.now)) encoding) ∷ []) }
+        requires room { 8 ≤ S.room parts.old }
+        ensures shows { Shows self.now detail (S.held parts.old) (S.held parts.new) (text (thunk_text (thunk_of self.now.bytes (slice_get self.now.table.thunks thunk))) ∷ as_item heads.full items.closed (tree_at (trees (table_of self.now)) encoding) ∷ []) }
+        ensures few { S.room parts.old ≤ S.room parts.new + 8 }
     {
-        self.push_text(parts, thunk_number(self.thunk(thunk)));
         let closed = Context {
             index: None,
             detail,
         };
         self.push_item(parts, encoding, form::FULL, 0, closed);
+        self.push_text(parts, thunk_number(self.thunk(thunk)));
     }
 
     /// The parts of a function's name and types.
     // <encoding> ::= <function name> <bare-function-type>
-    fn fill_function(
+    fn fill_function<S: PartList<Context>>(
         &self,
-        parts: &mut ArrayVec<Part<Context>, 8>,
+        parts: &mut S,
         name: u32,
         qualifiers: Qualifiers,
         mark: Mark,
@@ -240,26 +235,23 @@ impl Symbol {
         requires name { name < length self.now.table.nodes }
         requires returned { returned < length self.now.table.nodes }
         requires parameters { parameters < length self.now.table.nodes }
-        requires empty { parts.old.items ≡ [] }
-        ensures { Fills (table_of self.now) detail parts.new.items (function_full (tree_at (trees (table_of self.now)) name) (qualifiers_of qualifiers) (mark_of mark) (tree_at (trees (table_of self.now)) returned) (tree_at (trees (table_of self.now)) parameters)) }
+        requires room { 8 ≤ S.room parts.old }
+        ensures shows { Shows self.now detail (S.held parts.old) (S.held parts.new) (function_full (tree_at (trees (table_of self.now)) name) (qualifiers_of qualifiers) (mark_of mark) (tree_at (trees (table_of self.now)) returned) (tree_at (trees (table_of self.now)) parameters)) }
+        ensures few { S.room parts.old ≤ S.room parts.new + 8 }
     {
         match self.node(returned) {
-            Node::Absent => self.fill_bare(parts, name, qualifiers, mark, parameters, detail),
+            Node::Absent => self.push_bare(parts, name, qualifiers, mark, parameters, detail),
             _ => self.fill_returning(parts, name, qualifiers, mark, returned, parameters, detail),
         }
     }
 
     /// The parts of an encoding.
-    pub(crate) fn fill_full(
-        &self,
-        parts: &mut ArrayVec<Part<Context>, 8>,
-        node: u32,
-        detail: Detail,
-    )
+    pub(crate) fn fill_full<S: PartList<Context>>(&self, parts: &mut S, node: u32, detail: Detail)
         requires table { IsTable (table_of self.now) }
         requires node { node < length self.now.table.nodes }
-        requires empty { parts.old.items ≡ [] }
-        ensures { Fills (table_of self.now) detail parts.new.items (full_parts (tree_at (trees (table_of self.now)) node)) }
+        requires room { 8 ≤ S.room parts.old }
+        ensures shows { Shows self.now detail (S.held parts.old) (S.held parts.new) (full_parts (tree_at (trees (table_of self.now)) node)) }
+        ensures few { S.room parts.old ≤ S.room parts.new + 8 }
     {
         match self.node(node) {
             Node::Function {
@@ -286,16 +278,17 @@ impl Symbol {
     }
 
     /// The parts of an encoding without its return type.
-    pub(crate) fn fill_bare_of(
+    pub(crate) fn fill_bare_of<S: PartList<Context>>(
         &self,
-        parts: &mut ArrayVec<Part<Context>, 8>,
+        parts: &mut S,
         node: u32,
         detail: Detail,
     )
         requires table { IsTable (table_of self.now) }
         requires node { node < length self.now.table.nodes }
-        requires empty { parts.old.items ≡ [] }
-        ensures { Fills (table_of self.now) detail parts.new.items (bare_parts (tree_at (trees (table_of self.now)) node)) }
+        requires room { 8 ≤ S.room parts.old }
+        ensures shows { Shows self.now detail (S.held parts.old) (S.held parts.new) (bare_parts (tree_at (trees (table_of self.now)) node)) }
+        ensures few { S.room parts.old ≤ S.room parts.new + 8 }
     {
         match self.node(node) {
             Node::Function {
@@ -304,48 +297,56 @@ impl Symbol {
                 mark,
                 parameters,
                 ..
-            } => self.fill_bare(parts, name, qualifiers, mark, parameters, detail),
+            } => self.push_bare(parts, name, qualifiers, mark, parameters, detail),
             _ => self.fill_full(parts, node, detail),
+        }
+    }
+
+    /// Adds the suffix of a clone in brackets, if there is one.
+    fn push_clone_suffix<S: PartList<Context>>(&self, parts: &mut S, suffix: Span)
+        requires room { 3 ≤ S.room parts.old }
+        requires suffix { IsWithin suffix self.now.bytes }
+        ensures shows { (d : Detail) (below : Held Context) (others : List (PartOf items.Item)) → Shows self.now d below (S.held parts.old) others
+            → Shows self.now d below (S.held parts.new) (clone_suffix (bytes_at self.now.bytes suffix) ++ others) }
+        ensures room { S.room parts.old ≤ S.room parts.new + 3 }
+    {
+        if suffix.from < suffix.to {
+            self.push_text(parts, texts::RIGHT);
+            self.push_bytes(parts, suffix);
+            self.push_text(parts, texts::BLANK_LEFT);
         }
     }
 
     /// The parts of a whole symbol: its encoding, and the suffix of a clone in brackets.
     // <mangled-name> ::= _Z <encoding> [. <vendor-specific suffix>]
-    fn fill_whole(
+    fn fill_whole<S: PartList<Context>>(
         &self,
-        parts: &mut ArrayVec<Part<Context>, 8>,
+        parts: &mut S,
         encoding: u32,
         suffix: Span,
         detail: Detail,
     )
         requires encoding { encoding < length self.now.table.nodes }
         requires suffix { IsWithin suffix self.now.bytes }
-        requires empty { parts.old.items ≡ [] }
-        ensures { Fills (table_of self.now) detail parts.new.items (root_parts (term.symbol (tree_at (trees (table_of self.now)) encoding) (bytes_at self.now.bytes suffix))) }
+        requires room { 8 ≤ S.room parts.old }
+        ensures shows { Shows self.now detail (S.held parts.old) (S.held parts.new) (root_parts (term.symbol (tree_at (trees (table_of self.now)) encoding) (bytes_at self.now.bytes suffix))) }
+        ensures few { S.room parts.old ≤ S.room parts.new + 8 }
     {
         let closed = Context {
             index: None,
             detail,
         };
+        self.push_clone_suffix(parts, suffix);
         self.push_item(parts, encoding, form::FULL, 0, closed);
-        if suffix.from < suffix.to {
-            self.push_text(parts, texts::BLANK_LEFT);
-            self.push_bytes(parts, suffix);
-            self.push_text(parts, texts::RIGHT);
-        }
     }
 
     /// The parts of the node of a whole symbol.
-    pub(crate) fn fill_root(
-        &self,
-        parts: &mut ArrayVec<Part<Context>, 8>,
-        node: u32,
-        detail: Detail,
-    )
+    pub(crate) fn fill_root<S: PartList<Context>>(&self, parts: &mut S, node: u32, detail: Detail)
         requires table { IsTable (table_of self.now) }
         requires node { node < length self.now.table.nodes }
-        requires empty { parts.old.items ≡ [] }
-        ensures { Fills (table_of self.now) detail parts.new.items (root_parts (tree_at (trees (table_of self.now)) node)) }
+        requires room { 8 ≤ S.room parts.old }
+        ensures shows { Shows self.now detail (S.held parts.old) (S.held parts.new) (root_parts (tree_at (trees (table_of self.now)) node)) }
+        ensures few { S.room parts.old ≤ S.room parts.new + 8 }
     {
         match self.node(node) {
             Node::Whole { encoding, suffix } => self.fill_whole(parts, encoding, suffix, detail),

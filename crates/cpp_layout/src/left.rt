@@ -1,68 +1,46 @@
 // The parts of names and types, left of a declared name.
 #![tactic(auto)]
 
-ghost use Rattle.std.specs.Prelude.{◌≡◌, ℕ, ◌<◌, ◌∷◌, [], List, length};
+ghost use Rattle.std.specs.Prelude.{◌+◌, ◌<◌, ◌≤◌, ◌∷◌, [], length};
 ghost use Rattle.sym_print.specs.Unfold.{text};
-ghost use Rattle.sym_print.specs.declared.detail.Detail.{Detail};
 ghost use Rattle.cpp_grammar.specs.Items as heads;
-ghost use Rattle.cpp_grammar.specs.Parts.{source_text};
-ghost use Rattle.cpp_term.specs.Parts.{as_item, list_part, piece_parts, left_parts, low_parts, base_parts};
-ghost use Rattle.cpp_tree.specs.Nodes.{tree_at, trees, tree_of, IsTable, IsBelow, IsWithin, bytes_at};
+ghost use Rattle.cpp_term.specs.Parts.{as_item, piece_parts, left_parts, low_parts, base_parts};
+ghost use Rattle.cpp_tree.specs.Nodes.{tree_at, trees, tree_of, IsTable, IsBelow};
 ghost use Rattle.cpp_layout.specs.Texts.{fixed_text};
-ghost use Rattle.cpp_layout.specs.Layout.{table_of, context_of, own_piece, Fills, IsNoName, IsNoType};
+ghost use Rattle.cpp_layout.specs.Layout.{table_of, context_of, own_piece, Shows, IsNoName, IsNoType};
 
 use crate::codes::{abbreviation, builtin, builtin_with_d, last_of_abbreviation};
 use crate::context::Context;
 use crate::symbol::Symbol;
 use crate::{form, texts};
-use arrayvec::ArrayVec;
 use cpp_tree::node::Node;
-use sym_core::Span;
-use sym_print::Part;
+use sym_print::PartList;
 
 impl Symbol {
     /// The parts of a name in std.
     // <unscoped-name> ::= St <unqualified-name>
-    fn fill_in_std(&self, parts: &mut ArrayVec<Part<Context>, 8>, node: u32, ctx: Context)
+    fn fill_in_std<S: PartList<Context>>(&self, parts: &mut S, node: u32, ctx: Context)
         requires node { node < length self.now.table.nodes }
-        requires empty { parts.old.items ≡ [] }
-        ensures { Fills (table_of self.now) ctx.detail parts.new.items (text (fixed_text 7) ∷ as_item heads.piece (context_of ctx) (own_piece (tree_at (trees (table_of self.now)) node)) ∷ []) }
+        requires room { 8 ≤ S.room parts.old }
+        ensures shows { Shows self.now ctx.detail (S.held parts.old) (S.held parts.new) (text (fixed_text 7) ∷ as_item heads.piece (context_of ctx) (own_piece (tree_at (trees (table_of self.now)) node)) ∷ []) }
+        ensures few { S.room parts.old ≤ S.room parts.new + 8 }
     {
-        self.push_text(parts, texts::STD);
         self.push_item(parts, node, form::PIECE, 0, ctx);
-    }
-
-    /// The elements of a list.
-    fn fill_list(&self, parts: &mut ArrayVec<Part<Context>, 8>, elements: u32, ctx: Context)
-        requires table { IsTable (table_of self.now) }
-        requires elements { elements < length self.now.table.nodes }
-        requires empty { parts.old.items ≡ [] }
-        ensures { Fills (table_of self.now) ctx.detail parts.new.items (list_part heads.first (context_of ctx) (tree_at (trees (table_of self.now)) elements)) }
-    {
-        self.push_list(parts, elements, form::FIRST, ctx);
-    }
-
-    /// A vendor's name.
-    // <type> ::= u <source-name>
-    fn fill_vendor(&self, parts: &mut ArrayVec<Part<Context>, 8>, name: Span)
-        requires name { IsWithin name self.now.bytes }
-        requires empty { parts.old.items ≡ [] }
-        ensures { (d : Detail) → Fills (table_of self.now) d parts.new.items (text (source_text (bytes_at self.now.bytes name)) ∷ []) }
-    {
-        self.push_name(parts, name);
+        self.push_text(parts, texts::STD);
     }
 
     /// The parts of the piece that a name has of its own.
-    pub(crate) fn fill_own_piece(
+    pub(crate) fn fill_own_piece<S: PartList<Context>>(
         &self,
-        parts: &mut ArrayVec<Part<Context>, 8>,
+        parts: &mut S,
         node: u32,
         ctx: Context,
     )
         requires table { IsTable (table_of self.now) }
         requires node { node < length self.now.table.nodes }
-        requires empty { parts.old.items ≡ [] }
-        ensures { Fills (table_of self.now) ctx.detail parts.new.items (piece_parts (context_of ctx) (own_piece (tree_at (trees (table_of self.now)) node))) }
+        requires room { 8 ≤ S.room parts.old }
+        ensures shows { Shows self.now ctx.detail (S.held parts.old) (S.held parts.new) (piece_parts (context_of ctx) (own_piece (tree_at (trees (table_of self.now)) node))) }
+        ensures few { S.room parts.old ≤ S.room parts.new + 8 }
     {
         match self.node(node) {
             Node::Alone(piece) => self.fill_piece(parts, piece, ctx),
@@ -74,9 +52,9 @@ impl Symbol {
 
     /// The left parts of a template argument that is no type and no name.
     #[inline(always)]
-    fn fill_left_argument(
+    fn fill_left_argument<S: PartList<Context>>(
         &self,
-        parts: &mut ArrayVec<Part<Context>, 8>,
+        parts: &mut S,
         number: u32,
         node: Node,
         ctx: Context,
@@ -85,15 +63,16 @@ impl Symbol {
         requires number { number < length self.now.table.nodes }
         requires below { IsBelow self.now.bytes (length self.now.table.thunks) number node }
         requires kind { IsNoType node }
-        requires empty { parts.old.items ≡ [] }
-        ensures { Fills (table_of self.now) ctx.detail parts.new.items (left_parts ctx.detail (context_of ctx) (tree_of self.now.bytes self.now.table.thunks (trees (table_of self.now)) node)) }
+        requires room { 8 ≤ S.room parts.old }
+        ensures shows { Shows self.now ctx.detail (S.held parts.old) (S.held parts.new) (left_parts ctx.detail (context_of ctx) (tree_of self.now.bytes self.now.table.thunks (trees (table_of self.now)) node)) }
+        ensures few { S.room parts.old ≤ S.room parts.new + 8 }
     {
         match node {
             Node::Expansion(pattern) => self.fill_expansion(parts, pattern, ctx),
-            Node::Pack(elements) => self.fill_list(parts, elements, ctx),
+            Node::Pack(elements) => self.push_list(parts, elements, form::FIRST, ctx),
             Node::Integer { ty, value } => self.fill_integer(parts, ty, value, ctx),
-            Node::Boolean(value) => self.fill_either(parts, value, texts::TRUE, texts::FALSE),
-            Node::NullPointer => self.fill_text(parts, texts::NULLPTR),
+            Node::Boolean(value) => self.push_either(parts, value, texts::TRUE, texts::FALSE),
+            Node::NullPointer => self.push_text(parts, texts::NULLPTR),
             Node::EncodingLiteral(encoding) => {
                 self.fill_encoding_literal(parts, encoding, false, ctx);
             }
@@ -104,9 +83,9 @@ impl Symbol {
 
     /// The left parts of a type that is no name.
     #[inline(always)]
-    fn fill_left_type(
+    fn fill_left_type<S: PartList<Context>>(
         &self,
-        parts: &mut ArrayVec<Part<Context>, 8>,
+        parts: &mut S,
         number: u32,
         node: Node,
         ctx: Context,
@@ -115,13 +94,14 @@ impl Symbol {
         requires number { number < length self.now.table.nodes }
         requires below { IsBelow self.now.bytes (length self.now.table.thunks) number node }
         requires kind { IsNoName node }
-        requires empty { parts.old.items ≡ [] }
-        ensures { Fills (table_of self.now) ctx.detail parts.new.items (left_parts ctx.detail (context_of ctx) (tree_of self.now.bytes self.now.table.thunks (trees (table_of self.now)) node)) }
+        requires room { 8 ≤ S.room parts.old }
+        ensures shows { Shows self.now ctx.detail (S.held parts.old) (S.held parts.new) (left_parts ctx.detail (context_of ctx) (tree_of self.now.bytes self.now.table.thunks (trees (table_of self.now)) node)) }
+        ensures few { S.room parts.old ≤ S.room parts.new + 8 }
     {
         match node {
-            Node::Builtin(letter) => self.fill_text(parts, builtin(letter)),
-            Node::BuiltinWithD(letter) => self.fill_text(parts, builtin_with_d(letter)),
-            Node::Vendor(name) => self.fill_vendor(parts, name),
+            Node::Builtin(letter) => self.push_some(parts, builtin(letter)),
+            Node::BuiltinWithD(letter) => self.push_some(parts, builtin_with_d(letter)),
+            Node::Vendor(name) => self.push_name(parts, name),
             Node::Pointer(ty) => self.fill_marked(parts, ty, texts::LEFT_STAR, texts::STAR, ctx),
             Node::Lvalue(ty) => self.fill_lvalue(parts, ty, ctx),
             Node::Rvalue(ty) => self.fill_rvalue(parts, ty, ctx),
@@ -140,11 +120,12 @@ impl Symbol {
     }
 
     /// The left parts of a node.
-    pub(crate) fn fill_left(&self, parts: &mut ArrayVec<Part<Context>, 8>, node: u32, ctx: Context)
+    pub(crate) fn fill_left<S: PartList<Context>>(&self, parts: &mut S, node: u32, ctx: Context)
         requires table { IsTable (table_of self.now) }
         requires node { node < length self.now.table.nodes }
-        requires empty { parts.old.items ≡ [] }
-        ensures { Fills (table_of self.now) ctx.detail parts.new.items (left_parts ctx.detail (context_of ctx) (tree_at (trees (table_of self.now)) node)) }
+        requires room { 8 ≤ S.room parts.old }
+        ensures shows { Shows self.now ctx.detail (S.held parts.old) (S.held parts.new) (left_parts ctx.detail (context_of ctx) (tree_at (trees (table_of self.now)) node)) }
+        ensures few { S.room parts.old ≤ S.room parts.new + 8 }
     {
         let stored = self.node(node);
         match stored {
@@ -155,8 +136,8 @@ impl Symbol {
                 template,
                 arguments,
             } => self.fill_instance(parts, template, arguments, ctx),
-            Node::Local { entity, .. } => self.fill_item(parts, entity, form::LEFT, ctx),
-            Node::Abbreviation(letter) => self.fill_text(parts, abbreviation(letter)),
+            Node::Local { entity, .. } => self.push_item(parts, entity, form::LEFT, 0, ctx),
+            Node::Abbreviation(letter) => self.push_some(parts, abbreviation(letter)),
             Node::Parameter { argument, .. } => {
                 self.fill_parameter(parts, argument, form::LEFT, ctx);
             }
@@ -165,16 +146,17 @@ impl Symbol {
     }
 
     /// The left parts of a node under a reference to it: a reference is shown as one to an lvalue.
-    pub(crate) fn fill_low(&self, parts: &mut ArrayVec<Part<Context>, 8>, node: u32, ctx: Context)
+    pub(crate) fn fill_low<S: PartList<Context>>(&self, parts: &mut S, node: u32, ctx: Context)
         requires table { IsTable (table_of self.now) }
         requires node { node < length self.now.table.nodes }
-        requires empty { parts.old.items ≡ [] }
-        ensures { Fills (table_of self.now) ctx.detail parts.new.items (low_parts ctx.detail (context_of ctx) (tree_at (trees (table_of self.now)) node)) }
+        requires room { 8 ≤ S.room parts.old }
+        ensures shows { Shows self.now ctx.detail (S.held parts.old) (S.held parts.new) (low_parts ctx.detail (context_of ctx) (tree_at (trees (table_of self.now)) node)) }
+        ensures few { S.room parts.old ≤ S.room parts.new + 8 }
     {
         match self.node(node) {
             Node::Lvalue(ty) => self.fill_lvalue(parts, ty, ctx),
             Node::Rvalue(ty) => self.fill_lvalue(parts, ty, ctx),
-            Node::Qualified { ty, .. } => self.fill_item(parts, ty, form::LOW, ctx),
+            Node::Qualified { ty, .. } => self.push_item(parts, ty, form::LOW, 0, ctx),
             Node::Parameter { argument, .. } => {
                 self.fill_parameter(parts, argument, form::LOW, ctx);
             }
@@ -183,19 +165,20 @@ impl Symbol {
     }
 
     /// The name of a constructor's class.
-    pub(crate) fn fill_base(&self, parts: &mut ArrayVec<Part<Context>, 8>, node: u32, ctx: Context)
+    pub(crate) fn fill_base<S: PartList<Context>>(&self, parts: &mut S, node: u32, ctx: Context)
         requires table { IsTable (table_of self.now) }
         requires node { node < length self.now.table.nodes }
-        requires empty { parts.old.items ≡ [] }
-        ensures { Fills (table_of self.now) ctx.detail parts.new.items (base_parts ctx.detail (context_of ctx) (tree_at (trees (table_of self.now)) node)) }
+        requires room { 8 ≤ S.room parts.old }
+        ensures shows { Shows self.now ctx.detail (S.held parts.old) (S.held parts.new) (base_parts ctx.detail (context_of ctx) (tree_at (trees (table_of self.now)) node)) }
+        ensures few { S.room parts.old ≤ S.room parts.new + 8 }
     {
         match self.node(node) {
             Node::Alone(piece) => self.fill_piece(parts, piece, ctx),
             Node::InStd(piece) => self.fill_piece(parts, piece, ctx),
             Node::Within { prefix, piece } => self.fill_base_within(parts, prefix, piece, ctx),
-            Node::Instance { template, .. } => self.fill_item(parts, template, form::BASE, ctx),
-            Node::Local { entity, .. } => self.fill_item(parts, entity, form::BASE, ctx),
-            Node::Abbreviation(letter) => self.fill_text(parts, last_of_abbreviation(letter)),
+            Node::Instance { template, .. } => self.push_item(parts, template, form::BASE, 0, ctx),
+            Node::Local { entity, .. } => self.push_item(parts, entity, form::BASE, 0, ctx),
+            Node::Abbreviation(letter) => self.push_some(parts, last_of_abbreviation(letter)),
             Node::Parameter { argument, .. } => {
                 self.fill_parameter(parts, argument, form::BASE, ctx);
             }

@@ -18,6 +18,5 @@ mod texts;
 mod types;
 
 pub use context::Context;
-pub use sym_core::Counts;
 pub use sym_print::Detail;
-pub use symbol::Symbol;
+pub use symbol::{Counts, Symbol};

@@ -1,19 +1,18 @@
 // The parts of lists, from an element on.
 #![tactic(auto)]
 
-ghost use Rattle.std.specs.Prelude.{◌≡◌, ℕ, ◌<◌, [], List, length};
+ghost use Rattle.std.specs.Prelude.{◌≡◌, ◌+◌, ◌<◌, ◌≤◌, length};
 ghost use Rattle.cpp_term.specs.Items as items;
 ghost use Rattle.cpp_term.specs.Term as term;
 ghost use Rattle.cpp_term.specs.Parts.{first_parts, more_parts, expansion_parts};
 ghost use Rattle.cpp_tree.specs.Nodes.{tree_at, trees, IsTable};
-ghost use Rattle.cpp_layout.specs.Layout.{table_of, context_of, Fills};
+ghost use Rattle.cpp_layout.specs.Layout.{table_of, context_of, Shows};
 
 use crate::context::Context;
 use crate::symbol::Symbol;
 use crate::{form, texts};
-use arrayvec::ArrayVec;
 use cpp_tree::node::Node;
-use sym_print::Part;
+use sym_print::PartList;
 
 impl Symbol {
     /// Whether a node prints nothing: an expansion over packs of no elements, or a list of such.
@@ -26,9 +25,9 @@ impl Symbol {
     }
 
     /// The parts of a list's elements from the first one on: one that prints nothing is passed over.
-    pub(crate) fn fill_first(
+    pub(crate) fn fill_first<S: PartList<Context>>(
         &self,
-        parts: &mut ArrayVec<Part<Context>, 8>,
+        parts: &mut S,
         first: u32,
         rest: u32,
         ctx: Context,
@@ -36,22 +35,23 @@ impl Symbol {
         requires table { IsTable (table_of self.now) }
         requires first { first < length self.now.table.nodes }
         requires rest { rest < length self.now.table.nodes }
-        requires empty { parts.old.items ≡ [] }
-        ensures { Fills (table_of self.now) ctx.detail parts.new.items (first_parts (context_of ctx) (term.list (tree_at (trees (table_of self.now)) first) (tree_at (trees (table_of self.now)) rest))) }
+        requires room { 8 ≤ S.room parts.old }
+        ensures shows { Shows self.now ctx.detail (S.held parts.old) (S.held parts.new) (first_parts (context_of ctx) (term.list (tree_at (trees (table_of self.now)) first) (tree_at (trees (table_of self.now)) rest))) }
+        ensures few { S.room parts.old ≤ S.room parts.new + 8 }
     {
         if self.prints_nothing(first, ctx) {
             self.push_list(parts, rest, form::FIRST, ctx);
         } else {
-            self.push_item(parts, first, form::LEFT, 0, ctx);
-            self.push_item(parts, first, form::RIGHT, 0, ctx);
             self.push_list(parts, rest, form::MORE, ctx);
+            self.push_item(parts, first, form::RIGHT, 0, ctx);
+            self.push_item(parts, first, form::LEFT, 0, ctx);
         }
     }
 
     /// The parts of a list's elements behind others.
-    pub(crate) fn fill_more(
+    pub(crate) fn fill_more<S: PartList<Context>>(
         &self,
-        parts: &mut ArrayVec<Part<Context>, 8>,
+        parts: &mut S,
         first: u32,
         rest: u32,
         ctx: Context,
@@ -59,16 +59,17 @@ impl Symbol {
         requires table { IsTable (table_of self.now) }
         requires first { first < length self.now.table.nodes }
         requires rest { rest < length self.now.table.nodes }
-        requires empty { parts.old.items ≡ [] }
-        ensures { Fills (table_of self.now) ctx.detail parts.new.items (more_parts (context_of ctx) (term.list (tree_at (trees (table_of self.now)) first) (tree_at (trees (table_of self.now)) rest))) }
+        requires room { 8 ≤ S.room parts.old }
+        ensures shows { Shows self.now ctx.detail (S.held parts.old) (S.held parts.new) (more_parts (context_of ctx) (term.list (tree_at (trees (table_of self.now)) first) (tree_at (trees (table_of self.now)) rest))) }
+        ensures few { S.room parts.old ≤ S.room parts.new + 8 }
     {
         if self.prints_nothing(first, ctx) {
             self.push_list(parts, rest, form::MORE, ctx);
         } else {
-            self.push_text(parts, texts::COMMA);
-            self.push_item(parts, first, form::LEFT, 0, ctx);
-            self.push_item(parts, first, form::RIGHT, 0, ctx);
             self.push_list(parts, rest, form::MORE, ctx);
+            self.push_item(parts, first, form::RIGHT, 0, ctx);
+            self.push_item(parts, first, form::LEFT, 0, ctx);
+            self.push_text(parts, texts::COMMA);
         }
     }
 
@@ -83,22 +84,23 @@ impl Symbol {
 
     /// The parts of an expansion: the pattern with dots where it holds no pack, nothing where its packs are empty, and else
     /// its elements from the first on.
-    pub(crate) fn fill_expansion(
+    pub(crate) fn fill_expansion<S: PartList<Context>>(
         &self,
-        parts: &mut ArrayVec<Part<Context>, 8>,
+        parts: &mut S,
         pattern: u32,
         ctx: Context,
     )
         requires table { IsTable (table_of self.now) }
         requires pattern { pattern < length self.now.table.nodes }
-        requires empty { parts.old.items ≡ [] }
-        ensures { Fills (table_of self.now) ctx.detail parts.new.items (expansion_parts (context_of ctx) (tree_at (trees (table_of self.now)) pattern) (items.packs_of (context_of ctx) (tree_at (trees (table_of self.now)) pattern))) }
+        requires room { 8 ≤ S.room parts.old }
+        ensures shows { Shows self.now ctx.detail (S.held parts.old) (S.held parts.new) (expansion_parts (context_of ctx) (tree_at (trees (table_of self.now)) pattern) (items.packs_of (context_of ctx) (tree_at (trees (table_of self.now)) pattern))) }
+        ensures few { S.room parts.old ≤ S.room parts.new + 8 }
     {
         match self.packs(pattern, ctx) {
             None => {
-                self.push_item(parts, pattern, form::LEFT, 0, ctx);
-                self.push_item(parts, pattern, form::RIGHT, 0, ctx);
                 self.push_text(parts, texts::DOTS);
+                self.push_item(parts, pattern, form::RIGHT, 0, ctx);
+                self.push_item(parts, pattern, form::LEFT, 0, ctx);
             }
             Some(count) => {
                 if count > 0 {
@@ -109,16 +111,12 @@ impl Symbol {
     }
 
     /// The parts of a node in the form of a list's elements.
-    pub(crate) fn fill_first_of(
-        &self,
-        parts: &mut ArrayVec<Part<Context>, 8>,
-        node: u32,
-        ctx: Context,
-    )
+    pub(crate) fn fill_first_of<S: PartList<Context>>(&self, parts: &mut S, node: u32, ctx: Context)
         requires table { IsTable (table_of self.now) }
         requires node { node < length self.now.table.nodes }
-        requires empty { parts.old.items ≡ [] }
-        ensures { Fills (table_of self.now) ctx.detail parts.new.items (first_parts (context_of ctx) (tree_at (trees (table_of self.now)) node)) }
+        requires room { 8 ≤ S.room parts.old }
+        ensures shows { Shows self.now ctx.detail (S.held parts.old) (S.held parts.new) (first_parts (context_of ctx) (tree_at (trees (table_of self.now)) node)) }
+        ensures few { S.room parts.old ≤ S.room parts.new + 8 }
     {
         match self.node(node) {
             Node::Cell { first, rest } => self.fill_first(parts, first, rest, ctx),
@@ -127,16 +125,12 @@ impl Symbol {
     }
 
     /// The parts of a node in the form of elements behind others.
-    pub(crate) fn fill_more_of(
-        &self,
-        parts: &mut ArrayVec<Part<Context>, 8>,
-        node: u32,
-        ctx: Context,
-    )
+    pub(crate) fn fill_more_of<S: PartList<Context>>(&self, parts: &mut S, node: u32, ctx: Context)
         requires table { IsTable (table_of self.now) }
         requires node { node < length self.now.table.nodes }
-        requires empty { parts.old.items ≡ [] }
-        ensures { Fills (table_of self.now) ctx.detail parts.new.items (more_parts (context_of ctx) (tree_at (trees (table_of self.now)) node)) }
+        requires room { 8 ≤ S.room parts.old }
+        ensures shows { Shows self.now ctx.detail (S.held parts.old) (S.held parts.new) (more_parts (context_of ctx) (tree_at (trees (table_of self.now)) node)) }
+        ensures few { S.room parts.old ≤ S.room parts.new + 8 }
     {
         match self.node(node) {
             Node::Cell { first, rest } => self.fill_more(parts, first, rest, ctx),

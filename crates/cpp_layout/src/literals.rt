@@ -1,70 +1,70 @@
 // The parts of template arguments that are no types.
 #![tactic(auto)]
 
-ghost use Rattle.std.specs.Prelude.{◌≡◌, ℕ, ◌+◌, ◌<◌, ◌≤◌, ◌++◌, ◌∷◌, [], List, length, if◌then◌else◌};
-ghost use Rattle.sym_print.specs.Unfold.{PartOf, text};
-ghost use Rattle.sym_print.specs.declared.detail.Detail.{Detail};
+ghost use Rattle.std.specs.Prelude.{◌+◌, ◌<◌, ◌≤◌, ◌++◌, ◌∷◌, [], length};
+ghost use Rattle.sym_print.specs.Unfold.{text};
 ghost use Rattle.cpp_grammar.specs.Items as heads;
 ghost use Rattle.cpp_grammar.specs.Texts.{look_up, literal_endings};
 ghost use Rattle.cpp_term.specs.Items as items;
 ghost use Rattle.cpp_term.specs.Parts.{as_item, says, sign_part, text_part, integer_parts};
 ghost use Rattle.cpp_tree.specs.Nodes.{tree_at, trees, IsTable, IsWithin, bytes_at, signed_of};
 ghost use Rattle.cpp_layout.specs.Texts.{fixed_text};
-ghost use Rattle.cpp_layout.specs.Layout.{table_of, context_of, Fills, text_if};
+ghost use Rattle.cpp_layout.specs.Layout.{table_of, context_of, Shows, text_if};
 
 use crate::codes::{ending, is_plain};
 use crate::context::Context;
 use crate::symbol::Symbol;
 use crate::{form, texts};
-use arrayvec::ArrayVec;
 use cpp_tree::node::{Node, Signed};
-use sym_print::Part;
+use sym_print::PartList;
 
 impl Symbol {
     /// The parts of an integer without a cast: its sign, its digits, and the ending of its type.
     // <expr-primary> ::= L <type> <value number> E
-    fn fill_plain_integer(
+    fn fill_plain_integer<S: PartList<Context>>(
         &self,
-        parts: &mut ArrayVec<Part<Context>, 8>,
+        parts: &mut S,
         letter: u8,
         value: Signed,
         ctx: Context,
     )
         requires digits { IsWithin value.digits self.now.bytes }
-        requires empty { parts.old.items ≡ [] }
-        ensures { Fills (table_of self.now) ctx.detail parts.new.items (sign_part (signed_of self.now.bytes value) ++ (text (bytes_at self.now.bytes value.digits) ∷ text_part (look_up (letter ∷ []) literal_endings))) }
+        requires room { 8 ≤ S.room parts.old }
+        ensures shows { Shows self.now ctx.detail (S.held parts.old) (S.held parts.new) (sign_part (signed_of self.now.bytes value) ++ (text (bytes_at self.now.bytes value.digits) ∷ text_part (look_up (letter ∷ []) literal_endings))) }
+        ensures few { S.room parts.old ≤ S.room parts.new + 8 }
     {
-        self.push_text_if(parts, value.negative, texts::MINUS);
-        self.push_bytes(parts, value.digits);
         self.push_some(parts, ending(letter));
+        self.push_bytes(parts, value.digits);
+        self.push_text_if(parts, value.negative, texts::MINUS);
     }
 
     /// The parts of an integer behind a cast to its type.
-    fn fill_cast_integer(
+    fn fill_cast_integer<S: PartList<Context>>(
         &self,
-        parts: &mut ArrayVec<Part<Context>, 8>,
+        parts: &mut S,
         ty: u32,
         value: Signed,
         ctx: Context,
     )
         requires ty { ty < length self.now.table.nodes }
         requires digits { IsWithin value.digits self.now.bytes }
-        requires empty { parts.old.items ≡ [] }
-        ensures { Fills (table_of self.now) ctx.detail parts.new.items ((says "(" ∷ as_item heads.left (context_of ctx) (tree_at (trees (table_of self.now)) ty) ∷ as_item heads.right (context_of ctx) (tree_at (trees (table_of self.now)) ty) ∷ says ")" ∷ [])
+        requires room { 8 ≤ S.room parts.old }
+        ensures shows { Shows self.now ctx.detail (S.held parts.old) (S.held parts.new) ((says "(" ∷ as_item heads.left (context_of ctx) (tree_at (trees (table_of self.now)) ty) ∷ as_item heads.right (context_of ctx) (tree_at (trees (table_of self.now)) ty) ∷ says ")" ∷ [])
             ++ sign_part (signed_of self.now.bytes value) ++ (text (bytes_at self.now.bytes value.digits) ∷ [])) }
+        ensures few { S.room parts.old ≤ S.room parts.new + 8 }
     {
-        self.push_text(parts, texts::LEFT);
-        self.push_item(parts, ty, form::LEFT, 0, ctx);
-        self.push_item(parts, ty, form::RIGHT, 0, ctx);
-        self.push_text(parts, texts::RIGHT);
-        self.push_text_if(parts, value.negative, texts::MINUS);
         self.push_bytes(parts, value.digits);
+        self.push_text_if(parts, value.negative, texts::MINUS);
+        self.push_text(parts, texts::RIGHT);
+        self.push_item(parts, ty, form::RIGHT, 0, ctx);
+        self.push_item(parts, ty, form::LEFT, 0, ctx);
+        self.push_text(parts, texts::LEFT);
     }
 
     /// The parts of an integer.
-    pub(crate) fn fill_integer(
+    pub(crate) fn fill_integer<S: PartList<Context>>(
         &self,
-        parts: &mut ArrayVec<Part<Context>, 8>,
+        parts: &mut S,
         ty: u32,
         value: Signed,
         ctx: Context,
@@ -72,8 +72,9 @@ impl Symbol {
         requires table { IsTable (table_of self.now) }
         requires ty { ty < length self.now.table.nodes }
         requires digits { IsWithin value.digits self.now.bytes }
-        requires empty { parts.old.items ≡ [] }
-        ensures { Fills (table_of self.now) ctx.detail parts.new.items (integer_parts (context_of ctx) (tree_at (trees (table_of self.now)) ty) (signed_of self.now.bytes value)) }
+        requires room { 8 ≤ S.room parts.old }
+        ensures shows { Shows self.now ctx.detail (S.held parts.old) (S.held parts.new) (integer_parts (context_of ctx) (tree_at (trees (table_of self.now)) ty) (signed_of self.now.bytes value)) }
+        ensures few { S.room parts.old ≤ S.room parts.new + 8 }
     {
         match self.node(ty) {
             Node::Builtin(letter) => {
@@ -87,40 +88,25 @@ impl Symbol {
         }
     }
 
-    /// One of two texts.
-    pub(crate) fn fill_either(
-        &self,
-        parts: &mut ArrayVec<Part<Context>, 8>,
-        test: bool,
-        yes: u16,
-        no: u16,
-    )
-        requires yes { 0 < length (fixed_text yes) }
-        requires no { 0 < length (fixed_text no) }
-        requires empty { parts.old.items ≡ [] }
-        ensures { (d : Detail) → Fills (table_of self.now) d parts.new.items (text (fixed_text (if test then yes else no)) ∷ []) }
-    {
-        self.push_either(parts, test, yes, no);
-    }
-
     /// An encoding without its return type, behind & or not.
     // <expr-primary> ::= L <mangled-name> E
-    pub(crate) fn fill_encoding_literal(
+    pub(crate) fn fill_encoding_literal<S: PartList<Context>>(
         &self,
-        parts: &mut ArrayVec<Part<Context>, 8>,
+        parts: &mut S,
         encoding: u32,
         address: bool,
         ctx: Context,
     )
         requires encoding { encoding < length self.now.table.nodes }
-        requires empty { parts.old.items ≡ [] }
-        ensures { Fills (table_of self.now) ctx.detail parts.new.items (text_if address (fixed_text 10) (as_item heads.bare items.closed (tree_at (trees (table_of self.now)) encoding) ∷ [])) }
+        requires room { 8 ≤ S.room parts.old }
+        ensures shows { Shows self.now ctx.detail (S.held parts.old) (S.held parts.new) (text_if address (fixed_text 10) (as_item heads.bare items.closed (tree_at (trees (table_of self.now)) encoding) ∷ [])) }
+        ensures few { S.room parts.old ≤ S.room parts.new + 8 }
     {
-        self.push_text_if(parts, address, texts::AND);
         let closed = Context {
             index: None,
             detail: ctx.detail,
         };
         self.push_item(parts, encoding, form::BARE, 0, closed);
+        self.push_text_if(parts, address, texts::AND);
     }
 }

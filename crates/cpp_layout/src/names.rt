@@ -1,28 +1,27 @@
 // The parts of names.
 #![tactic(auto)]
 
-ghost use Rattle.std.specs.Prelude.{◌≡◌, ℕ, ◌+◌, ◌<◌, ◌≤◌, ◌∷◌, ◌++◌, [], List, length, codes, decimal, if◌then◌else◌};
-ghost use Rattle.arrayvec.specs.ArrayVec.{array_vec_len};
+ghost use Rattle.std.specs.Prelude.{◌≡◌, ℕ, ◌+◌, ◌<◌, ◌≤◌, ◌∷◌, [], List, length, codes, decimal, if◌then◌else◌};
+ghost use Rattle.sym_print.specs.Held.{Held};
 ghost use Rattle.sym_print.specs.Unfold.{PartOf, text};
 ghost use Rattle.sym_print.specs.declared.detail.Detail.{Detail};
 ghost use Rattle.cpp_grammar.specs.Items.{left, base, piece};
 ghost use Rattle.cpp_grammar.specs.Parts.{begins_with, source_text};
 ghost use Rattle.cpp_term.specs.Term as term;
 ghost use Rattle.cpp_term.specs.Items as items;
-ghost use Rattle.cpp_term.specs.Parts.{as_item, piece_parts, prefix_item, within_parts, base_within, opening_text, last_piece, instance_parts, text_part};
+ghost use Rattle.cpp_term.specs.Parts.{as_item, piece_parts, prefix_item, within_parts, base_within, opening_text, last_piece, instance_parts};
 ghost use Rattle.cpp_tree.specs.Nodes.{tree_at, trees, piece_of, bytes_at, IsTable, IsWithin, IsPieceBelow};
 ghost use Rattle.cpp_layout.specs.Texts.{fixed_text};
-ghost use Rattle.cpp_layout.specs.Layout.{table_of, form_of, own_piece, context_of, Shows, Fills, IsOwn, is_encoding};
+ghost use Rattle.cpp_layout.specs.Layout.{table_of, own_piece, context_of, Shows, IsOwn, is_encoding};
 
 use crate::codes::{is_angle_code, operator};
 use crate::context::Context;
 use crate::symbol::Symbol;
 use crate::{form, texts};
-use arrayvec::ArrayVec;
 use cpp_tree::node::{Node, Piece};
 use itoa::Buffer;
 use sym_core::Span;
-use sym_print::{Detail, Part};
+use sym_print::{Detail, Part, PartList};
 
 /// Whether it is the name of an unnamed namespace.
 fn is_anonymous(name: &[u8]) -> bool
@@ -68,12 +67,13 @@ fn is_encoding(node: Node) -> bool
 
 impl Symbol {
     /// Adds what a source name prints: its bytes, or that it is an unnamed namespace.
-    pub(crate) fn push_name(&self, parts: &mut ArrayVec<Part<Context>, 8>, name: Span)
-        requires room { array_vec_len parts.old < 8 }
+    #[inline(always)]
+    pub(crate) fn push_name<S: PartList<Context>>(&self, parts: &mut S, name: Span)
+        requires room { 0 < S.room parts.old }
         requires name { IsWithin name self.now.bytes }
-        ensures shows { (d : Detail) (so_far : List (PartOf items.Item) → List (PartOf items.Item)) → Shows (table_of self.now) d parts.old.items so_far
-            → Shows (table_of self.now) d parts.new.items (λ rest. so_far (text (source_text (bytes_at self.now.bytes name)) ∷ rest)) }
-        ensures len { array_vec_len parts.new ≤ array_vec_len parts.old + 1 }
+        ensures shows { (d : Detail) (below : Held Context) (others : List (PartOf items.Item)) → Shows self.now d below (S.held parts.old) others
+            → Shows self.now d below (S.held parts.new) (text (source_text (bytes_at self.now.bytes name)) ∷ others) }
+        ensures room { S.room parts.old ≤ S.room parts.new + 1 }
     {
         if is_anonymous(self.bytes_of(name)) {
             self.push_text(parts, texts::ANONYMOUS);
@@ -83,138 +83,107 @@ impl Symbol {
     }
 
     /// Adds a decimal.
-    pub(crate) fn push_decimal(&self, parts: &mut ArrayVec<Part<Context>, 8>, number: u64)
-        requires { array_vec_len parts.old < 8 }
-        ensures shows { (d : Detail) (so_far : List (PartOf items.Item) → List (PartOf items.Item)) → Shows (table_of self.now) d parts.old.items so_far
-            → Shows (table_of self.now) d parts.new.items (λ rest. so_far (text (decimal number) ∷ rest)) }
-        ensures len { array_vec_len parts.new ≡ array_vec_len parts.old + 1 }
+    pub(crate) fn push_decimal<S: PartList<Context>>(&self, parts: &mut S, number: u64)
+        requires { 0 < S.room parts.old }
+        ensures shows { (d : Detail) (below : Held Context) (others : List (PartOf items.Item)) → Shows self.now d below (S.held parts.old) others
+            → Shows self.now d below (S.held parts.new) (text (decimal number) ∷ others) }
+        ensures room { S.room parts.new + 1 ≡ S.room parts.old }
     {
         let mut buffer = Buffer::new();
         let digits = buffer.format(number);
-        parts.push(own(digits.as_bytes()));
+        parts.push_part(own(digits.as_bytes()));
     }
 
     /// Adds the text of a number, if it has one.
-    pub(crate) fn push_some(&self, parts: &mut ArrayVec<Part<Context>, 8>, number: u16)
-        requires room { array_vec_len parts.old < 8 }
+    #[inline(always)]
+    pub(crate) fn push_some<S: PartList<Context>>(&self, parts: &mut S, number: u16)
+        requires room { 0 < S.room parts.old }
         requires few { number < 190 }
-        ensures shows { (d : Detail) (so_far : List (PartOf items.Item) → List (PartOf items.Item)) → Shows (table_of self.now) d parts.old.items so_far
-            → Shows (table_of self.now) d parts.new.items (λ rest. so_far (text (fixed_text number) ∷ rest)) }
-        ensures part { (d : Detail) (so_far : List (PartOf items.Item) → List (PartOf items.Item)) → Shows (table_of self.now) d parts.old.items so_far
-            → Shows (table_of self.now) d parts.new.items (λ rest. so_far (text_part (fixed_text number) ++ rest)) }
-        ensures len { array_vec_len parts.new ≤ array_vec_len parts.old + 1 }
+        ensures shows { (d : Detail) (below : Held Context) (others : List (PartOf items.Item)) → Shows self.now d below (S.held parts.old) others
+            → Shows self.now d below (S.held parts.new) (text (fixed_text number) ∷ others) }
+        ensures room { S.room parts.old ≤ S.room parts.new + 1 }
     {
         if number != texts::NONE {
             self.push_text(parts, number);
         }
     }
 
-    /// One text.
-    pub(crate) fn fill_text(&self, parts: &mut ArrayVec<Part<Context>, 8>, number: u16)
-        requires few { number < 190 }
-        requires empty { parts.old.items ≡ [] }
-        ensures { (d : Detail) → Fills (table_of self.now) d parts.new.items (text (fixed_text number) ∷ []) }
-    {
-        self.push_some(parts, number);
-    }
-
     /// The parts of a lambda's name.
     // <closure-type-name> ::= Ul <lambda-sig> E [ <nonnegative number> ] _
-    fn fill_lambda(
+    fn fill_lambda<S: PartList<Context>>(
         &self,
-        parts: &mut ArrayVec<Part<Context>, 8>,
+        parts: &mut S,
         parameters: u32,
         number: u64,
         ctx: Context,
     )
         requires table { IsTable (table_of self.now) }
         requires parameters { parameters < length self.now.table.nodes }
-        requires empty { parts.old.items ≡ [] }
-        ensures { Fills (table_of self.now) ctx.detail parts.new.items (piece_parts (context_of ctx) (term.lambda (tree_at (trees (table_of self.now)) parameters) number)) }
+        requires room { 8 ≤ S.room parts.old }
+        ensures shows { Shows self.now ctx.detail (S.held parts.old) (S.held parts.new) (piece_parts (context_of ctx) (term.lambda (tree_at (trees (table_of self.now)) parameters) number)) }
+        ensures few { S.room parts.old ≤ S.room parts.new + 8 }
     {
-        self.push_text(parts, texts::LAMBDA);
-        self.push_list(parts, parameters, form::FIRST, ctx);
-        self.push_text(parts, texts::RIGHT_NUMBER);
-        self.push_decimal(parts, number);
         self.push_text(parts, texts::BRACE);
+        self.push_decimal(parts, number);
+        self.push_text(parts, texts::RIGHT_NUMBER);
+        self.push_list(parts, parameters, form::FIRST, ctx);
+        self.push_text(parts, texts::LAMBDA);
     }
 
     /// The parts of an unnamed type's name.
     // <unnamed-type-name> ::= Ut [ <nonnegative number> ] _
-    fn fill_unnamed(&self, parts: &mut ArrayVec<Part<Context>, 8>, number: u64, ctx: Context)
-        requires empty { parts.old.items ≡ [] }
-        ensures { Fills (table_of self.now) ctx.detail parts.new.items (piece_parts (context_of ctx) (term.unnamed number)) }
+    fn fill_unnamed<S: PartList<Context>>(&self, parts: &mut S, number: u64, ctx: Context)
+        requires room { 8 ≤ S.room parts.old }
+        ensures shows { Shows self.now ctx.detail (S.held parts.old) (S.held parts.new) (piece_parts (context_of ctx) (term.unnamed number)) }
+        ensures few { S.room parts.old ≤ S.room parts.new + 8 }
     {
-        self.push_text(parts, texts::UNNAMED);
-        self.push_decimal(parts, number);
         self.push_text(parts, texts::BRACE);
+        self.push_decimal(parts, number);
+        self.push_text(parts, texts::UNNAMED);
     }
 
     /// The parts of a literal operator's name.
     // <operator-name> ::= li <source-name>
-    fn fill_literal_operator(
-        &self,
-        parts: &mut ArrayVec<Part<Context>, 8>,
-        name: Span,
-        ctx: Context,
-    )
+    fn fill_literal_operator<S: PartList<Context>>(&self, parts: &mut S, name: Span, ctx: Context)
         requires name { IsWithin name self.now.bytes }
-        requires empty { parts.old.items ≡ [] }
-        ensures { Fills (table_of self.now) ctx.detail parts.new.items (piece_parts (context_of ctx) (term.literal_operator (bytes_at self.now.bytes name))) }
+        requires room { 8 ≤ S.room parts.old }
+        ensures shows { Shows self.now ctx.detail (S.held parts.old) (S.held parts.new) (piece_parts (context_of ctx) (term.literal_operator (bytes_at self.now.bytes name))) }
+        ensures few { S.room parts.old ≤ S.room parts.new + 8 }
     {
-        self.push_text(parts, texts::LITERAL);
         self.push_bytes(parts, name);
-    }
-
-    /// The parts of a source name.
-    // <source-name> ::= <positive length number> <identifier>
-    fn fill_source(
-        &self,
-        parts: &mut ArrayVec<Part<Context>, 8>,
-        internal: bool,
-        name: Span,
-        ctx: Context,
-    )
-        requires name { IsWithin name self.now.bytes }
-        requires empty { parts.old.items ≡ [] }
-        ensures { Fills (table_of self.now) ctx.detail parts.new.items (piece_parts (context_of ctx) (term.source internal (bytes_at self.now.bytes name))) }
-    {
-        self.push_name(parts, name);
+        self.push_text(parts, texts::LITERAL);
     }
 
     /// The parts of a piece of a name.
-    pub(crate) fn fill_piece(
-        &self,
-        parts: &mut ArrayVec<Part<Context>, 8>,
-        piece: Piece,
-        ctx: Context,
-    )
+    pub(crate) fn fill_piece<S: PartList<Context>>(&self, parts: &mut S, piece: Piece, ctx: Context)
         requires table { IsTable (table_of self.now) }
         requires piece { IsPieceBelow self.now.bytes (length self.now.table.nodes) piece }
-        requires empty { parts.old.items ≡ [] }
-        ensures { Fills (table_of self.now) ctx.detail parts.new.items (piece_parts (context_of ctx) (piece_of self.now.bytes (trees (table_of self.now)) piece)) }
+        requires room { 8 ≤ S.room parts.old }
+        ensures shows { Shows self.now ctx.detail (S.held parts.old) (S.held parts.new) (piece_parts (context_of ctx) (piece_of self.now.bytes (trees (table_of self.now)) piece)) }
+        ensures few { S.room parts.old ≤ S.room parts.new + 8 }
     {
         match piece {
-            Piece::Source { internal, bytes } => self.fill_source(parts, internal, bytes, ctx),
-            Piece::Operator(first, second) => self.fill_text(parts, operator(first, second)),
+            Piece::Source { bytes, .. } => self.push_name(parts, bytes),
+            Piece::Operator(first, second) => self.push_some(parts, operator(first, second)),
             Piece::LiteralOperator(name) => self.fill_literal_operator(parts, name, ctx),
             Piece::Lambda { parameters, number } => {
                 self.fill_lambda(parts, parameters, number, ctx);
             }
             Piece::Unnamed(number) => self.fill_unnamed(parts, number, ctx),
-            Piece::StringLiteral => self.fill_text(parts, texts::STRING),
+            Piece::StringLiteral => self.push_text(parts, texts::STRING),
             _ => {}
         }
     }
 
     /// Adds a prefix: a name, or the encoding around a local entity, which is shown without its return type.
-    fn push_prefix(&self, parts: &mut ArrayVec<Part<Context>, 8>, prefix: u32, ctx: Context)
-        requires room { array_vec_len parts.old < 8 }
+    #[inline(always)]
+    fn push_prefix<S: PartList<Context>>(&self, parts: &mut S, prefix: u32, ctx: Context)
+        requires room { 0 < S.room parts.old }
         requires table { IsTable (table_of self.now) }
         requires prefix { prefix < length self.now.table.nodes }
-        ensures shows { (so_far : List (PartOf items.Item) → List (PartOf items.Item)) → Shows (table_of self.now) ctx.detail parts.old.items so_far
-            → Shows (table_of self.now) ctx.detail parts.new.items (λ rest. so_far (prefix_item (context_of ctx) (tree_at (trees (table_of self.now)) prefix) ∷ rest)) }
-        ensures len { array_vec_len parts.new ≡ array_vec_len parts.old + 1 }
+        ensures shows { (below : Held Context) (others : List (PartOf items.Item)) → Shows self.now ctx.detail below (S.held parts.old) others
+            → Shows self.now ctx.detail below (S.held parts.new) (prefix_item (context_of ctx) (tree_at (trees (table_of self.now)) prefix) ∷ others) }
+        ensures room { S.room parts.new + 1 ≡ S.room parts.old }
     {
         if is_encoding(self.node(prefix)) {
             let closed = Context {
@@ -229,48 +198,44 @@ impl Symbol {
 
     /// The parts of a constructor's or a destructor's name.
     // <ctor-dtor-name> ::= C1 | C2 | C3 | D0 | D1 | D2
-    fn fill_structor(
+    fn fill_structor<S: PartList<Context>>(
         &self,
-        parts: &mut ArrayVec<Part<Context>, 8>,
+        parts: &mut S,
         prefix: u32,
         number: u16,
         ctx: Context,
     )
         requires prefix { prefix < length self.now.table.nodes }
         requires number { 0 < length (fixed_text number) }
-        requires empty { parts.old.items ≡ [] }
-        ensures { Fills (table_of self.now) ctx.detail parts.new.items (as_item left (context_of ctx) (tree_at (trees (table_of self.now)) prefix) ∷ text (fixed_text number) ∷ as_item base (context_of ctx) (tree_at (trees (table_of self.now)) prefix) ∷ []) }
+        requires room { 8 ≤ S.room parts.old }
+        ensures shows { Shows self.now ctx.detail (S.held parts.old) (S.held parts.new) (as_item left (context_of ctx) (tree_at (trees (table_of self.now)) prefix) ∷ text (fixed_text number) ∷ as_item base (context_of ctx) (tree_at (trees (table_of self.now)) prefix) ∷ []) }
+        ensures few { S.room parts.old ≤ S.room parts.new + 8 }
     {
-        self.push_item(parts, prefix, form::LEFT, 0, ctx);
-        self.push_text(parts, number);
         self.push_item(parts, prefix, form::BASE, 0, ctx);
+        self.push_text(parts, number);
+        self.push_item(parts, prefix, form::LEFT, 0, ctx);
     }
 
     /// The parts of a piece behind its prefix.
-    fn fill_nested(
-        &self,
-        parts: &mut ArrayVec<Part<Context>, 8>,
-        node: u32,
-        prefix: u32,
-        ctx: Context,
-    )
+    fn fill_nested<S: PartList<Context>>(&self, parts: &mut S, node: u32, prefix: u32, ctx: Context)
         requires table { IsTable (table_of self.now) }
         requires node { node < length self.now.table.nodes }
         requires prefix { prefix < length self.now.table.nodes }
-        requires empty { parts.old.items ≡ [] }
-        ensures { Fills (table_of self.now) ctx.detail parts.new.items (prefix_item (context_of ctx) (tree_at (trees (table_of self.now)) prefix)
+        requires room { 8 ≤ S.room parts.old }
+        ensures shows { Shows self.now ctx.detail (S.held parts.old) (S.held parts.new) (prefix_item (context_of ctx) (tree_at (trees (table_of self.now)) prefix)
             ∷ text (fixed_text 5) ∷ as_item piece (context_of ctx) (own_piece (tree_at (trees (table_of self.now)) node)) ∷ []) }
+        ensures few { S.room parts.old ≤ S.room parts.new + 8 }
     {
-        self.push_prefix(parts, prefix, ctx);
-        self.push_text(parts, texts::COLONS);
         self.push_item(parts, node, form::PIECE, 0, ctx);
+        self.push_text(parts, texts::COLONS);
+        self.push_prefix(parts, prefix, ctx);
     }
 
     /// The parts of a name within another.
     // <nested-name> ::= N [<CV-qualifiers>] [<ref-qualifier>] <prefix> <unqualified-name> E
-    pub(crate) fn fill_within(
+    pub(crate) fn fill_within<S: PartList<Context>>(
         &self,
-        parts: &mut ArrayVec<Part<Context>, 8>,
+        parts: &mut S,
         node: u32,
         prefix: u32,
         piece: Piece,
@@ -280,8 +245,9 @@ impl Symbol {
         requires node { node < length self.now.table.nodes }
         requires prefix { prefix < length self.now.table.nodes }
         requires own { own_piece (tree_at (trees (table_of self.now)) node) ≡ piece_of self.now.bytes (trees (table_of self.now)) piece }
-        requires empty { parts.old.items ≡ [] }
-        ensures { Fills (table_of self.now) ctx.detail parts.new.items (within_parts (context_of ctx) (tree_at (trees (table_of self.now)) prefix) (piece_of self.now.bytes (trees (table_of self.now)) piece)) }
+        requires room { 8 ≤ S.room parts.old }
+        ensures shows { Shows self.now ctx.detail (S.held parts.old) (S.held parts.new) (within_parts (context_of ctx) (tree_at (trees (table_of self.now)) prefix) (piece_of self.now.bytes (trees (table_of self.now)) piece)) }
+        ensures few { S.room parts.old ≤ S.room parts.new + 8 }
     {
         match piece {
             Piece::Constructor(_) => self.fill_structor(parts, prefix, texts::COLONS, ctx),
@@ -310,9 +276,9 @@ impl Symbol {
 
     /// The parts of a template's instance: without its arguments in the brief form.
     // <template-args> ::= I <template-arg>+ E
-    pub(crate) fn fill_instance(
+    pub(crate) fn fill_instance<S: PartList<Context>>(
         &self,
-        parts: &mut ArrayVec<Part<Context>, 8>,
+        parts: &mut S,
         template: u32,
         arguments: u32,
         ctx: Context,
@@ -320,25 +286,26 @@ impl Symbol {
         requires table { IsTable (table_of self.now) }
         requires template { template < length self.now.table.nodes }
         requires arguments { arguments < length self.now.table.nodes }
-        requires empty { parts.old.items ≡ [] }
-        ensures { Fills (table_of self.now) ctx.detail parts.new.items (instance_parts ctx.detail (context_of ctx) (tree_at (trees (table_of self.now)) template) (tree_at (trees (table_of self.now)) arguments)) }
+        requires room { 8 ≤ S.room parts.old }
+        ensures shows { Shows self.now ctx.detail (S.held parts.old) (S.held parts.new) (instance_parts ctx.detail (context_of ctx) (tree_at (trees (table_of self.now)) template) (tree_at (trees (table_of self.now)) arguments)) }
+        ensures few { S.room parts.old ≤ S.room parts.new + 8 }
     {
         match ctx.detail {
-            Detail::Brief => self.fill_item(parts, template, form::LEFT, ctx),
+            Detail::Brief => self.push_item(parts, template, form::LEFT, 0, ctx),
             Detail::Full => {
-                self.push_item(parts, template, form::LEFT, 0, ctx);
                 let blank = self.ends_in_angle(template);
-                self.push_either(parts, blank, texts::BLANK_LESS, texts::LESS);
-                self.push_list(parts, arguments, form::FIRST, ctx);
                 self.push_text(parts, texts::GREATER);
+                self.push_list(parts, arguments, form::FIRST, ctx);
+                self.push_either(parts, blank, texts::BLANK_LESS, texts::LESS);
+                self.push_item(parts, template, form::LEFT, 0, ctx);
             }
         }
     }
 
     /// The parts of a constructor's class in a name within another.
-    pub(crate) fn fill_base_within(
+    pub(crate) fn fill_base_within<S: PartList<Context>>(
         &self,
-        parts: &mut ArrayVec<Part<Context>, 8>,
+        parts: &mut S,
         prefix: u32,
         piece: Piece,
         ctx: Context,
@@ -346,12 +313,13 @@ impl Symbol {
         requires table { IsTable (table_of self.now) }
         requires prefix { prefix < length self.now.table.nodes }
         requires piece { IsPieceBelow self.now.bytes (length self.now.table.nodes) piece }
-        requires empty { parts.old.items ≡ [] }
-        ensures { Fills (table_of self.now) ctx.detail parts.new.items (base_within (context_of ctx) (tree_at (trees (table_of self.now)) prefix) (piece_of self.now.bytes (trees (table_of self.now)) piece)) }
+        requires room { 8 ≤ S.room parts.old }
+        ensures shows { Shows self.now ctx.detail (S.held parts.old) (S.held parts.new) (base_within (context_of ctx) (tree_at (trees (table_of self.now)) prefix) (piece_of self.now.bytes (trees (table_of self.now)) piece)) }
+        ensures few { S.room parts.old ≤ S.room parts.new + 8 }
     {
         match piece {
-            Piece::Constructor(_) => self.fill_item(parts, prefix, form::BASE, ctx),
-            Piece::Destructor(_) => self.fill_item(parts, prefix, form::BASE, ctx),
+            Piece::Constructor(_) => self.push_item(parts, prefix, form::BASE, 0, ctx),
+            Piece::Destructor(_) => self.push_item(parts, prefix, form::BASE, 0, ctx),
             _ => self.fill_piece(parts, piece, ctx),
         }
     }

@@ -1,41 +1,40 @@
-// Lists of parts, to which items and texts are added.
+// Texts and items that are pushed onto a list of parts, the last first.
 #![tactic(auto)]
 
-ghost use Rattle.std.specs.Prelude.{◌≡◌, ℕ, ◌+◌, ◌<◌, ◌≤◌, ◌++◌, ◌∷◌, [], List, length, if◌then◌else◌};
-ghost use Rattle.arrayvec.specs.ArrayVec.{array_vec_len};
+ghost use Rattle.std.specs.Prelude.{◌≡◌, ℕ, ◌+◌, ◌<◌, ◌≤◌, ◌++◌, ◌∷◌, List, length, if◌then◌else◌};
+ghost use Rattle.sym_print.specs.Held.{Held};
 ghost use Rattle.sym_print.specs.Unfold.{PartOf, text, sub};
-ghost use Rattle.cpp_term.specs.Term.{nil};
-ghost use Rattle.cpp_term.specs.Items as items;
-ghost use Rattle.cpp_term.specs.Parts.{list_part, text_part};
-ghost use Rattle.cpp_tree.specs.Nodes.{tree_at, trees, IsTable, bytes_at, IsWithin};
 ghost use Rattle.sym_print.specs.declared.detail.Detail.{Detail};
+ghost use Rattle.cpp_term.specs.Items as items;
+ghost use Rattle.cpp_term.specs.Parts.{list_part};
+ghost use Rattle.cpp_tree.specs.Nodes.{tree_at, trees, IsTable, bytes_at, IsWithin};
 ghost use Rattle.cpp_layout.specs.Texts.{fixed_text};
 ghost use Rattle.cpp_layout.specs.Layout.{table_of, item_in, form_of, context_of, text_if, Shows};
 
 use crate::context::Context;
 use crate::symbol::Symbol;
-use arrayvec::ArrayVec;
 use cpp_tree::node::Node;
 use sym_core::Span;
-use sym_print::{Item, Part};
+use sym_print::{Item, Part, PartList};
 
 impl Symbol {
     /// Adds an item.
-    pub(crate) fn push_item(
+    #[inline(always)]
+    pub(crate) fn push_item<S: PartList<Context>>(
         &self,
-        parts: &mut ArrayVec<Part<Context>, 8>,
+        parts: &mut S,
         node: u32,
         form: u32,
         at: u32,
         ctx: Context,
     )
-        requires { array_vec_len parts.old < 8 }
-        ensures shows { (so_far : List (PartOf items.Item) → List (PartOf items.Item)) → Shows (table_of self.now) ctx.detail parts.old.items so_far
-            → node < length self.now.table.nodes
-            → Shows (table_of self.now) ctx.detail parts.new.items (λ rest. so_far (sub (item_in (trees (table_of self.now)) node form at ctx) ∷ rest)) }
-        ensures len { array_vec_len parts.new ≡ array_vec_len parts.old + 1 }
+        requires room { 0 < S.room parts.old }
+        requires node { node < length self.now.table.nodes }
+        ensures shows { (below : Held Context) (others : List (PartOf items.Item)) → Shows self.now ctx.detail below (S.held parts.old) others
+            → Shows self.now ctx.detail below (S.held parts.new) (sub (item_in (trees (table_of self.now)) node form at ctx) ∷ others) }
+        ensures room { S.room parts.new + 1 ≡ S.room parts.old }
     {
-        parts.push(Part::Sub(Item {
+        parts.push_part(Part::Sub(Item {
             node,
             form,
             at,
@@ -44,30 +43,32 @@ impl Symbol {
     }
 
     /// Adds a fixed text.
-    pub(crate) fn push_text(&self, parts: &mut ArrayVec<Part<Context>, 8>, number: u16)
-        requires room { array_vec_len parts.old < 8 }
+    #[inline(always)]
+    pub(crate) fn push_text<S: PartList<Context>>(&self, parts: &mut S, number: u16)
+        requires room { 0 < S.room parts.old }
         requires text { 0 < length (fixed_text number) }
-        ensures shows { (d : Detail) (so_far : List (PartOf items.Item) → List (PartOf items.Item)) → Shows (table_of self.now) d parts.old.items so_far
-            → Shows (table_of self.now) d parts.new.items (λ rest. so_far (text (fixed_text number) ∷ rest)) }
-        ensures len { array_vec_len parts.new ≡ array_vec_len parts.old + 1 }
+        ensures shows { (d : Detail) (below : Held Context) (others : List (PartOf items.Item)) → Shows self.now d below (S.held parts.old) others
+            → Shows self.now d below (S.held parts.new) (text (fixed_text number) ∷ others) }
+        ensures room { S.room parts.new + 1 ≡ S.room parts.old }
     {
-        parts.push(Part::Fixed(number));
+        parts.push_part(Part::Fixed(number));
     }
 
     /// Adds one of two fixed texts, by a test.
-    pub(crate) fn push_either(
+    #[inline(always)]
+    pub(crate) fn push_either<S: PartList<Context>>(
         &self,
-        parts: &mut ArrayVec<Part<Context>, 8>,
+        parts: &mut S,
         test: bool,
         yes: u16,
         no: u16,
     )
-        requires room { array_vec_len parts.old < 8 }
+        requires room { 0 < S.room parts.old }
         requires yes { 0 < length (fixed_text yes) }
         requires no { 0 < length (fixed_text no) }
-        ensures shows { (d : Detail) (so_far : List (PartOf items.Item) → List (PartOf items.Item)) → Shows (table_of self.now) d parts.old.items so_far
-            → Shows (table_of self.now) d parts.new.items (λ rest. so_far (text (fixed_text (if test then yes else no)) ∷ rest)) }
-        ensures len { array_vec_len parts.new ≡ array_vec_len parts.old + 1 }
+        ensures shows { (d : Detail) (below : Held Context) (others : List (PartOf items.Item)) → Shows self.now d below (S.held parts.old) others
+            → Shows self.now d below (S.held parts.new) (text (fixed_text (if test then yes else no)) ∷ others) }
+        ensures room { S.room parts.new + 1 ≡ S.room parts.old }
     {
         if test {
             self.push_text(parts, yes);
@@ -77,17 +78,13 @@ impl Symbol {
     }
 
     /// Adds a fixed text, by a test.
-    pub(crate) fn push_text_if(
-        &self,
-        parts: &mut ArrayVec<Part<Context>, 8>,
-        test: bool,
-        number: u16,
-    )
-        requires room { array_vec_len parts.old < 8 }
+    #[inline(always)]
+    pub(crate) fn push_text_if<S: PartList<Context>>(&self, parts: &mut S, test: bool, number: u16)
+        requires room { 0 < S.room parts.old }
         requires text { 0 < length (fixed_text number) }
-        ensures shows { (d : Detail) (so_far : List (PartOf items.Item) → List (PartOf items.Item)) → Shows (table_of self.now) d parts.old.items so_far
-            → Shows (table_of self.now) d parts.new.items (λ rest. so_far (text_if test (fixed_text number) rest)) }
-        ensures len { array_vec_len parts.new ≤ array_vec_len parts.old + 1 }
+        ensures shows { (d : Detail) (below : Held Context) (others : List (PartOf items.Item)) → Shows self.now d below (S.held parts.old) others
+            → Shows self.now d below (S.held parts.new) (text_if test (fixed_text number) others) }
+        ensures room { S.room parts.old ≤ S.room parts.new + 1 }
     {
         if test {
             self.push_text(parts, number);
@@ -95,33 +92,35 @@ impl Symbol {
     }
 
     /// Adds bytes of the symbol, if there are any.
-    pub(crate) fn push_bytes(&self, parts: &mut ArrayVec<Part<Context>, 8>, span: Span)
-        requires { array_vec_len parts.old < 8 }
-        ensures shows { (d : Detail) (so_far : List (PartOf items.Item) → List (PartOf items.Item)) → Shows (table_of self.now) d parts.old.items so_far
-            → IsWithin span self.now.bytes
-            → Shows (table_of self.now) d parts.new.items (λ rest. so_far (text (bytes_at self.now.bytes span) ∷ rest)) }
-        ensures len { array_vec_len parts.new ≤ array_vec_len parts.old + 1 }
+    #[inline(always)]
+    pub(crate) fn push_bytes<S: PartList<Context>>(&self, parts: &mut S, span: Span)
+        requires room { 0 < S.room parts.old }
+        requires within { IsWithin span self.now.bytes }
+        ensures shows { (d : Detail) (below : Held Context) (others : List (PartOf items.Item)) → Shows self.now d below (S.held parts.old) others
+            → Shows self.now d below (S.held parts.new) (text (bytes_at self.now.bytes span) ∷ others) }
+        ensures room { S.room parts.old ≤ S.room parts.new + 1 }
     {
         if span.from < span.to {
-            parts.push(Part::Symbol(span));
+            parts.push_part(Part::Symbol(span));
         }
     }
 
     /// Adds a list, unless it is that of no elements.
-    pub(crate) fn push_list(
+    #[inline(always)]
+    pub(crate) fn push_list<S: PartList<Context>>(
         &self,
-        parts: &mut ArrayVec<Part<Context>, 8>,
+        parts: &mut S,
         list: u32,
         form: u32,
         ctx: Context,
     )
-        requires room { array_vec_len parts.old < 8 }
+        requires room { 0 < S.room parts.old }
         requires table { IsTable (table_of self.now) }
         requires list { list < length self.now.table.nodes }
         requires plain { form < 6 }
-        ensures shows { (so_far : List (PartOf items.Item) → List (PartOf items.Item)) → Shows (table_of self.now) ctx.detail parts.old.items so_far
-            → Shows (table_of self.now) ctx.detail parts.new.items (λ rest. so_far (list_part (form_of form 0) (context_of ctx) (tree_at (trees (table_of self.now)) list) ++ rest)) }
-        ensures len { array_vec_len parts.new ≤ array_vec_len parts.old + 1 }
+        ensures shows { (below : Held Context) (others : List (PartOf items.Item)) → Shows self.now ctx.detail below (S.held parts.old) others
+            → Shows self.now ctx.detail below (S.held parts.new) (list_part (form_of form 0) (context_of ctx) (tree_at (trees (table_of self.now)) list) ++ others) }
+        ensures room { S.room parts.old ≤ S.room parts.new + 1 }
     {
         match self.entry(list).node {
             Node::Nil => {}

@@ -1,7 +1,7 @@
 // A symbol as a layout, and its text.
 #![tactic(auto)]
 
-ghost use Rattle.std.specs.Prelude.{◌≡◌, ℕ, ◌+◌, ◌<◌, ◌≤◌, ◌^◌, [], List, length, vec_len, vec_capacity, true, Option, IfOk, IfErr, OnOk, OnErr, ◌⊎◌, Err};
+ghost use Rattle.std.specs.Prelude.{◌≡◌, ℕ, ◌+◌, ◌<◌, ◌≤◌, ◌^◌, ◌++◌, [], List, length, vec_len, vec_capacity, true, Option, IfOk, IfErr, OnOk, OnErr, ◌⊎◌, Err};
 ghost use Rattle.std.specs.List.{All};
 ghost use Rattle.sym_core.specs.declared.Refusal.{Refusal};
 ghost use Rattle.sym_print.specs.declared.layout.Part.{Part};
@@ -9,17 +9,21 @@ ghost use Rattle.sym_print.specs.declared.detail.Detail.{Detail};
 ghost use Rattle.sym_print.specs.Unshared.{text_of, cost_of};
 ghost use Rattle.sym_print.specs.Joined.{joined};
 ghost use Rattle.sym_print.specs.Stacked.{Stacked};
+ghost use Rattle.sym_print.specs.Held.{Held};
+ghost use Rattle.sym_print.specs.Unfold.{PartOf};
+ghost use Rattle.cpp_term.specs.Items as items;
 ghost use Rattle.cpp_grammar.specs.Parts.{is_below};
-ghost use Rattle.cpp_term.specs.Parts.{parts_in, expand_parts};
+ghost use Rattle.cpp_term.specs.Parts.{parts_in, expand_parts, expand_rest};
 ghost use Rattle.cpp_tree.specs.Nodes.{tree_at, trees, IsTable};
-ghost use Rattle.cpp_layout.specs.Layout.{table_of, context_of, form_of, tree_in, Fills, unshared_of, bytes_of_part, MayBeAsked, shown_symbol};
+ghost use Rattle.cpp_layout.specs.Layout.{table_of, context_of, form_of, tree_in, Shows, unshared_of, bytes_of_part, MayBeAsked, shown_symbol};
 
 use crate::context::Context;
 use crate::symbol::Symbol;
 use crate::{form, texts};
 use arrayvec::ArrayVec;
+use cpp_term::texts_are_the_same;
 use sym_core::Refusal;
-use sym_print::{Detail, Item, Layout, Part, print, push_reversed};
+use sym_print::{Detail, Item, Layout, Part, PartList, print};
 
 /// Whether the packs have an element behind this one.
 #[tactic(auto, unfolding(cpp_grammar::specs::Parts::is_below))]
@@ -34,35 +38,43 @@ fn has_next(packs: Option<u32>, at: u32) -> bool
 }
 
 impl Symbol {
-    /// The parts of an expansion's elements from one on.
-    fn fill_expand(
-        &self,
-        parts: &mut ArrayVec<Part<Context>, 8>,
-        pattern: u32,
-        at: u32,
-        ctx: Context,
-    )
+    /// Adds an expansion's elements behind one.
+    fn push_next<S: PartList<Context>>(&self, parts: &mut S, pattern: u32, at: u32, ctx: Context)
         requires table { IsTable (table_of self.now) }
         requires pattern { pattern < length self.now.table.nodes }
-        requires empty { parts.old.items ≡ [] }
-        ensures { Fills (table_of self.now) ctx.detail parts.new.items (expand_parts (context_of ctx) (tree_at (trees (table_of self.now)) pattern) at) }
+        requires room { 0 < S.room parts.old }
+        ensures shows { (below : Held Context) (others : List (PartOf items.Item)) → Shows self.now ctx.detail below (S.held parts.old) others
+            → Shows self.now ctx.detail below (S.held parts.new) (expand_rest (context_of ctx) (tree_at (trees (table_of self.now)) pattern) (at + 1) ++ others) }
+        ensures room { S.room parts.old ≤ S.room parts.new + 1 }
     {
-        let inner = Context {
-            index: Some(at),
-            detail: ctx.detail,
-        };
-        self.push_text_if(parts, at > 0, texts::COMMA);
-        self.push_item(parts, pattern, form::LEFT, 0, inner);
-        self.push_item(parts, pattern, form::RIGHT, 0, inner);
         if has_next(self.packs(pattern, ctx), at) {
             self.push_item(parts, pattern, form::EXPAND, at + 1, ctx);
         }
     }
 
+    /// The parts of an expansion's elements from one on.
+    fn fill_expand<S: PartList<Context>>(&self, parts: &mut S, pattern: u32, at: u32, ctx: Context)
+        requires table { IsTable (table_of self.now) }
+        requires pattern { pattern < length self.now.table.nodes }
+        requires room { 8 ≤ S.room parts.old }
+        ensures shows { Shows self.now ctx.detail (S.held parts.old) (S.held parts.new) (expand_parts (context_of ctx) (tree_at (trees (table_of self.now)) pattern) at) }
+        ensures few { S.room parts.old ≤ S.room parts.new + 8 }
+    {
+        let inner = Context {
+            index: Some(at),
+            detail: ctx.detail,
+        };
+        self.push_next(parts, pattern, at, ctx);
+        self.push_item(parts, pattern, form::RIGHT, 0, inner);
+        self.push_item(parts, pattern, form::LEFT, 0, inner);
+        self.push_text_if(parts, at > 0, texts::COMMA);
+    }
+
     /// The parts of a node in a form.
-    fn fill_form(
+    #[inline(always)]
+    fn fill_form<S: PartList<Context>>(
         &self,
-        parts: &mut ArrayVec<Part<Context>, 8>,
+        parts: &mut S,
         node: u32,
         form: u32,
         at: u32,
@@ -70,8 +82,9 @@ impl Symbol {
     )
         requires table { IsTable (table_of self.now) }
         requires node { node < length self.now.table.nodes }
-        requires empty { parts.old.items ≡ [] }
-        ensures { Fills (table_of self.now) ctx.detail parts.new.items (parts_in ctx.detail (context_of ctx) (form_of form at) (tree_in form (tree_at (trees (table_of self.now)) node))) }
+        requires room { 8 ≤ S.room parts.old }
+        ensures shows { Shows self.now ctx.detail (S.held parts.old) (S.held parts.new) (parts_in ctx.detail (context_of ctx) (form_of form at) (tree_in form (tree_at (trees (table_of self.now)) node))) }
+        ensures few { S.room parts.old ≤ S.room parts.new + 8 }
     {
         match form {
             form::LEFT => self.fill_left(parts, node, ctx),
@@ -108,8 +121,10 @@ impl Layout for Symbol {
         ensures may_come { All (MayBeAsked self.now) parts.new.items }
     {
         self.fill_form(parts, item.node, item.form, item.at, item.ctx);
+        parts.as_mut_slice().reverse();
     }
 
+    #[inline(always)]
     fn push_parts(&self, item: Item<Context>, stack: &mut Vec<Part<Context>>)
         requires may_come { MayBeAsked self.now (Part.Sub item) }
         requires room { vec_len stack.old + 8 ≤ vec_capacity stack.old }
@@ -117,9 +132,7 @@ impl Layout for Symbol {
         ensures few { vec_len stack.new ≤ vec_len stack.old + 8 }
         ensures capacity { vec_capacity stack.new ≡ vec_capacity stack.old }
     {
-        let mut parts = ArrayVec::new();
-        self.fill(item, &mut parts);
-        push_reversed(stack, parts.as_slice());
+        self.fill_form(stack, item.node, item.form, item.at, item.ctx);
     }
 
     #[inline(always)]
@@ -149,6 +162,7 @@ impl Symbol {
         ensures may_come { MayBeAsked self.now (Part.Sub result) }
         ensures shows { unshared_of self.now result ≡ shown_symbol detail self.now }
     {
+        texts_are_the_same();
         Item {
             node: self.root_node(),
             form: form::ROOT,

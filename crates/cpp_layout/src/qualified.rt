@@ -2,24 +2,23 @@
 #![tactic(auto)]
 
 ghost use Rattle.std.specs.Prelude.{◌≡◌, ℕ, ◌+◌, ◌<◌, ◌≤◌, ◌++◌, [], List, length};
-ghost use Rattle.arrayvec.specs.ArrayVec.{array_vec_len};
+ghost use Rattle.sym_print.specs.Held.{Held};
 ghost use Rattle.sym_print.specs.Unfold.{PartOf};
 ghost use Rattle.sym_print.specs.declared.detail.Detail.{Detail};
 ghost use Rattle.cpp_grammar.specs.Items as heads;
 ghost use Rattle.cpp_grammar.specs.Parts.{blank_last, qualifier_text};
 ghost use Rattle.cpp_term.specs.Items as items;
-ghost use Rattle.cpp_term.specs.Parts.{as_item, text_part, qualified_left};
+ghost use Rattle.cpp_term.specs.Parts.{text_part, qualified_left};
 ghost use Rattle.cpp_tree.specs.Nodes.{tree_at, trees, IsTable, qualifiers_of};
 ghost use Rattle.cpp_layout.specs.Texts.{fixed_text};
-ghost use Rattle.cpp_layout.specs.Layout.{table_of, context_of, Shows, Fills, qualified_with};
+ghost use Rattle.cpp_layout.specs.Layout.{table_of, context_of, Shows, qualifiers_behind};
 
 use crate::context::Context;
 use crate::encodings::bit;
 use crate::symbol::Symbol;
 use crate::{form, texts};
-use arrayvec::ArrayVec;
 use cpp_tree::node::{Mark, Node, Qualifiers};
-use sym_print::Part;
+use sym_print::PartList;
 
 /// The number of the text of qualifiers whose blank stands behind them.
 fn blanked_number(qualifiers: Qualifiers) -> u16
@@ -34,11 +33,11 @@ fn blanked_number(qualifiers: Qualifiers) -> u16
 
 impl Symbol {
     /// Adds qualifiers before a bracket: the blank stands behind them.
-    fn push_blanked(&self, parts: &mut ArrayVec<Part<Context>, 8>, qualifiers: Qualifiers)
-        requires { array_vec_len parts.old < 8 }
-        ensures shows { (d : Detail) (so_far : List (PartOf items.Item) → List (PartOf items.Item)) → Shows (table_of self.now) d parts.old.items so_far
-            → Shows (table_of self.now) d parts.new.items (λ rest. so_far (text_part (blank_last (qualifier_text (qualifiers_of qualifiers))) ++ rest)) }
-        ensures len { array_vec_len parts.new ≤ array_vec_len parts.old + 1 }
+    fn push_blanked<S: PartList<Context>>(&self, parts: &mut S, qualifiers: Qualifiers)
+        requires { 0 < S.room parts.old }
+        ensures shows { (d : Detail) (below : Held Context) (others : List (PartOf items.Item)) → Shows self.now d below (S.held parts.old) others
+            → Shows self.now d below (S.held parts.new) (text_part (blank_last (qualifier_text (qualifiers_of qualifiers))) ++ others) }
+        ensures room { S.room parts.old ≤ S.room parts.new + 1 }
     {
         let number = blanked_number(qualifiers);
         if number > texts::BLANKED {
@@ -46,22 +45,22 @@ impl Symbol {
         }
     }
 
-    /// The left parts of a type that is no function type, with qualifiers: a reference has none.
-    fn fill_qualified_type(
+    /// Adds the qualifiers of a type that is no function type: a reference has none.
+    fn push_qualifiers<S: PartList<Context>>(
         &self,
-        parts: &mut ArrayVec<Part<Context>, 8>,
+        parts: &mut S,
         qualifiers: Qualifiers,
         ty: u32,
         ctx: Context,
     )
         requires table { IsTable (table_of self.now) }
         requires ty { ty < length self.now.table.nodes }
-        requires empty { parts.old.items ≡ [] }
-        ensures { Fills (table_of self.now) ctx.detail parts.new.items (qualified_with (heads.is_reference (items.head (context_of ctx) (tree_at (trees (table_of self.now)) ty)))
-            (heads.is_funarr (items.head (context_of ctx) (tree_at (trees (table_of self.now)) ty)))
-            (as_item heads.left (context_of ctx) (tree_at (trees (table_of self.now)) ty)) (qualifiers_of qualifiers)) }
+        requires room { 0 < S.room parts.old }
+        ensures shows { (below : Held Context) (others : List (PartOf items.Item)) → Shows self.now ctx.detail below (S.held parts.old) others
+            → Shows self.now ctx.detail below (S.held parts.new) (qualifiers_behind (heads.is_reference (items.head (context_of ctx) (tree_at (trees (table_of self.now)) ty)))
+            (heads.is_funarr (items.head (context_of ctx) (tree_at (trees (table_of self.now)) ty))) (qualifiers_of qualifiers) ++ others) }
+        ensures room { S.room parts.old ≤ S.room parts.new + 1 }
     {
-        self.push_item(parts, ty, form::LEFT, 0, ctx);
         if self.is_reference(ty, ctx) {
             return;
         }
@@ -74,21 +73,25 @@ impl Symbol {
 
     /// The left parts of a qualified type.
     // <type> ::= <CV-qualifiers> <type>
-    pub(crate) fn fill_qualified_left(
+    pub(crate) fn fill_qualified_left<S: PartList<Context>>(
         &self,
-        parts: &mut ArrayVec<Part<Context>, 8>,
+        parts: &mut S,
         qualifiers: Qualifiers,
         ty: u32,
         ctx: Context,
     )
         requires table { IsTable (table_of self.now) }
         requires ty { ty < length self.now.table.nodes }
-        requires empty { parts.old.items ≡ [] }
-        ensures { Fills (table_of self.now) ctx.detail parts.new.items (qualified_left (context_of ctx) (qualifiers_of qualifiers) (tree_at (trees (table_of self.now)) ty)) }
+        requires room { 8 ≤ S.room parts.old }
+        ensures shows { Shows self.now ctx.detail (S.held parts.old) (S.held parts.new) (qualified_left (context_of ctx) (qualifiers_of qualifiers) (tree_at (trees (table_of self.now)) ty)) }
+        ensures few { S.room parts.old ≤ S.room parts.new + 8 }
     {
         match self.node(ty) {
-            Node::FunctionType { .. } => self.fill_item(parts, ty, form::LEFT, ctx),
-            _ => self.fill_qualified_type(parts, qualifiers, ty, ctx),
+            Node::FunctionType { .. } => self.push_item(parts, ty, form::LEFT, 0, ctx),
+            _ => {
+                self.push_qualifiers(parts, qualifiers, ty, ctx);
+                self.push_item(parts, ty, form::LEFT, 0, ctx);
+            }
         }
     }
 }

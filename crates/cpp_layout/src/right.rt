@@ -1,24 +1,23 @@
 // The parts of types, right of a name.
 #![tactic(auto)]
 
-ghost use Rattle.std.specs.Prelude.{◌≡◌, ℕ, ◌<◌, [], List, length};
+ghost use Rattle.std.specs.Prelude.{◌+◌, ◌<◌, ◌≤◌, length};
 ghost use Rattle.cpp_grammar.specs.Parts.{qualifier_text};
 ghost use Rattle.cpp_term.specs.Parts.{right_parts, function_right, qualified_right};
 ghost use Rattle.cpp_tree.specs.Nodes.{tree_at, trees, IsTable, qualifiers_of, mark_of};
-ghost use Rattle.cpp_layout.specs.Layout.{table_of, context_of, Fills};
+ghost use Rattle.cpp_layout.specs.Layout.{table_of, context_of, Shows};
 
 use crate::context::Context;
 use crate::symbol::Symbol;
 use crate::{form, texts};
-use arrayvec::ArrayVec;
 use cpp_tree::node::{Mark, Node, Qualifiers};
-use sym_print::Part;
+use sym_print::PartList;
 
 impl Symbol {
     /// The right parts of a function's type.
-    pub(crate) fn fill_function_right(
+    pub(crate) fn fill_function_right<S: PartList<Context>>(
         &self,
-        parts: &mut ArrayVec<Part<Context>, 8>,
+        parts: &mut S,
         qualifiers: Qualifiers,
         mark: Mark,
         noexcept: bool,
@@ -29,28 +28,30 @@ impl Symbol {
         requires table { IsTable (table_of self.now) }
         requires returned { returned < length self.now.table.nodes }
         requires parameters { parameters < length self.now.table.nodes }
-        requires empty { parts.old.items ≡ [] }
-        ensures { Fills (table_of self.now) ctx.detail parts.new.items (function_right (context_of ctx) (qualifier_text (qualifiers_of qualifiers)) (mark_of mark) noexcept (tree_at (trees (table_of self.now)) returned) (tree_at (trees (table_of self.now)) parameters)) }
+        requires room { 8 ≤ S.room parts.old }
+        ensures shows { Shows self.now ctx.detail (S.held parts.old) (S.held parts.new) (function_right (context_of ctx) (qualifier_text (qualifiers_of qualifiers)) (mark_of mark) noexcept (tree_at (trees (table_of self.now)) returned) (tree_at (trees (table_of self.now)) parameters)) }
+        ensures few { S.room parts.old ≤ S.room parts.new + 8 }
     {
-        self.push_text(parts, texts::LEFT);
-        self.push_list(parts, parameters, form::FIRST, ctx);
-        self.push_text(parts, texts::RIGHT);
-        self.push_suffix(parts, qualifiers, mark, noexcept);
         self.push_item(parts, returned, form::RIGHT, 0, ctx);
+        self.push_suffix(parts, qualifiers, mark, noexcept);
+        self.push_text(parts, texts::RIGHT);
+        self.push_list(parts, parameters, form::FIRST, ctx);
+        self.push_text(parts, texts::LEFT);
     }
 
     /// The right parts of a qualified type: a function has its qualifiers there.
-    pub(crate) fn fill_qualified_right(
+    pub(crate) fn fill_qualified_right<S: PartList<Context>>(
         &self,
-        parts: &mut ArrayVec<Part<Context>, 8>,
+        parts: &mut S,
         qualifiers: Qualifiers,
         ty: u32,
         ctx: Context,
     )
         requires table { IsTable (table_of self.now) }
         requires ty { ty < length self.now.table.nodes }
-        requires empty { parts.old.items ≡ [] }
-        ensures { Fills (table_of self.now) ctx.detail parts.new.items (qualified_right (context_of ctx) (qualifiers_of qualifiers) (tree_at (trees (table_of self.now)) ty)) }
+        requires room { 8 ≤ S.room parts.old }
+        ensures shows { Shows self.now ctx.detail (S.held parts.old) (S.held parts.new) (qualified_right (context_of ctx) (qualifiers_of qualifiers) (tree_at (trees (table_of self.now)) ty)) }
+        ensures few { S.room parts.old ≤ S.room parts.new + 8 }
     {
         match self.node(ty) {
             Node::FunctionType {
@@ -62,16 +63,17 @@ impl Symbol {
             } => self.fill_function_right(
                 parts, qualifiers, mark, noexcept, returned, parameters, ctx,
             ),
-            _ => self.fill_item(parts, ty, form::RIGHT, ctx),
+            _ => self.push_item(parts, ty, form::RIGHT, 0, ctx),
         }
     }
 
     /// The right parts of a type.
-    pub(crate) fn fill_right(&self, parts: &mut ArrayVec<Part<Context>, 8>, node: u32, ctx: Context)
+    pub(crate) fn fill_right<S: PartList<Context>>(&self, parts: &mut S, node: u32, ctx: Context)
         requires table { IsTable (table_of self.now) }
         requires node { node < length self.now.table.nodes }
-        requires empty { parts.old.items ≡ [] }
-        ensures { Fills (table_of self.now) ctx.detail parts.new.items (right_parts (context_of ctx) (tree_at (trees (table_of self.now)) node)) }
+        requires room { 8 ≤ S.room parts.old }
+        ensures shows { Shows self.now ctx.detail (S.held parts.old) (S.held parts.new) (right_parts (context_of ctx) (tree_at (trees (table_of self.now)) node)) }
+        ensures few { S.room parts.old ≤ S.room parts.new + 8 }
     {
         match self.node(node) {
             Node::Pointer(ty) => self.fill_closing(parts, ty, ctx),
@@ -84,8 +86,8 @@ impl Symbol {
             Node::Qualified { qualifiers, ty } => {
                 self.fill_qualified_right(parts, qualifiers, ty, ctx);
             }
-            Node::Vector { element, .. } => self.fill_item(parts, element, form::RIGHT, ctx),
-            Node::Complex(ty) => self.fill_item(parts, ty, form::RIGHT, ctx),
+            Node::Vector { element, .. } => self.push_item(parts, element, form::RIGHT, 0, ctx),
+            Node::Complex(ty) => self.push_item(parts, ty, form::RIGHT, 0, ctx),
             Node::Parameter { argument, .. } => {
                 self.fill_parameter(parts, argument, form::RIGHT, ctx);
             }

@@ -13,7 +13,7 @@ use cpp_tree::Nodes;
 use cpp_tree::node::{Entry, Node, Thunk};
 use std::alloc::Global;
 use std::marker::Model;
-use sym_core::{Counts, Span};
+use sym_core::Span;
 
 /// A symbol that was read: its bytes, its nodes, and what reading it took.
 #[derive(Drop)]
@@ -33,6 +33,14 @@ impl Model for Symbol {
     ghost view = { λ s. record { bytes = s.bytes.items; table = s.nodes; root = s.root; rows = s.rows; steps = s.steps } };
 
     ghost invariant = { λ s. IsRead (record { bytes = s.bytes.items; table = s.nodes; root = s.root; rows = s.rows; steps = s.steps }) };
+}
+
+/// How much reading took.
+#[derive(Clone, Copy, Debug, PartialEq, Eq)]
+pub struct Counts {
+    pub rows: u32,
+    pub nodes: u32,
+    pub steps: u32,
 }
 
 impl Symbol {
@@ -68,7 +76,6 @@ impl Symbol {
         ensures nodes_bound { result.nodes ≤ 2 * length self.now.bytes + 8 }
         ensures steps_bound { result.steps ≤ 32 * length self.now.bytes + 48 }
         ensures counted { result.rows ≤ result.steps }
-        ensures is_read { IsRead self.now }
     {
         Counts {
             rows: self.rows,

@@ -1,14 +1,67 @@
 // A rule begins.
 
-ghost use Rattle.std.specs.Prelude.{◌≡◌, ℕ, ◌<◌, ◌≤◌, List, length, OnOk};
+ghost use Rattle.std.specs.Prelude.{◌≡◌, ℕ, ◌-◌, ◌^◌, ◌<◌, ◌≤◌, List, length, get_or, slice_range, nat_lt, OnOk, IfOk, IfErr};
+ghost use Rattle.sym_core.specs.declared.refusal.Refusal.TheVariants as refusals;
+ghost use Rattle.sym_shape.specs.declared.rule.Row.{Row};
 ghost use Rattle.sym_link.specs.Linking.{Adds, Pays};
 ghost use Rattle.sym_link.specs.Threads.{BeginsIn};
+ghost use Rattle.cpp_grammar.specs.Values.{local_number};
+ghost use Rattle.cpp_link.specs.Numbered.{is_numbered};
 ghost use Rattle.cpp_link.specs.View.{Surrounds, cpp_view};
 
+use crate::dispatch::production_of;
 use crate::linked::Linked;
+use crate::numbers::decimal;
 use crate::part::Kept;
+use cpp_grammar::production::Production;
 use sym_core::Refusal;
 use sym_shape::rule::Row;
+
+/// Whether a production ends with a number that counts as one more than its digits do.
+#[tactic(auto, unfolding(crate::specs::Numbered::is_numbered))]
+fn is_numbered(production: Production) -> bool
+    ensures { result ≡ is_numbered production }
+{
+    match production {
+        Production::Lambda => true,
+        Production::Unnamed => true,
+        _ => false,
+    }
+}
+
+/// Whether the number of a lambda or an unnamed type, of which these are the digits, has 64 bits at most.
+///
+/// # Errors
+///
+/// `Memory` where a byte is no digit, which is in no token.
+#[tactic(auto, unfolding(cpp_grammar::specs::Values::local_number))]
+fn fits(digits: &[u8]) -> Result<bool, Refusal>
+    ensures is { IfOk result (λ fits. fits ≡ nat_lt (local_number digits.now) (2 ^ 64)) }
+    ensures memory { IfErr result (λ e. e ≡ refusals.Memory) }
+{
+    match decimal(digits)? {
+        Some(counted) => Ok(counted < u64::MAX),
+        None => Ok(false),
+    }
+}
+
+/// Whether the number that the last row of the rule of a row is has 64 bits at most.
+///
+/// # Errors
+///
+/// `Memory` where no digits stand there, as in no lambda and no unnamed type.
+fn last_fits(symbol: &[u8], rows: &[Row], row: Row) -> Result<bool, Refusal>
+    ensures is { IfOk result (λ fits. (other : Row) → fits ≡ nat_lt (local_number (slice_range symbol.now (get_or rows.now (row.end - 1) other).from (get_or rows.now (row.end - 1) other).to)) (2 ^ 64)) }
+    ensures memory { IfErr result (λ e. e ≡ refusals.Memory) }
+{
+    let Some(last) = rows.get((row.end as usize).saturating_sub(1)) else {
+        return Err(Refusal::Memory);
+    };
+    let Some(digits) = symbol.get(last.from as usize..last.to as usize) else {
+        return Err(Refusal::Memory);
+    };
+    fits(digits)
+}
 
 impl Linked {
     /// The rule of a row begins, around which this holds. The number of a lambda or an unnamed type is tested (ABI 5.1.8).
@@ -29,6 +82,15 @@ impl Linked {
         ensures adds { OnOk result (Adds (cpp_view symbol.now) self.old self.new 0 0) }
         ensures pays { OnOk result ((at : ℕ) → Pays (cpp_view symbol.now) self.old self.new at at) }
     {
-        Err(Refusal::Memory)
+        let packs = self.packs;
+        if !is_numbered(production_of(row.rule)) {
+            return Ok(Kept { packs, ..context });
+        }
+        if last_fits(symbol, rows, row)? {
+            return Ok(Kept { packs, ..context });
+        }
+        Err(Refusal::BadValue {
+            at: row.from.saturating_sub(1),
+        })
     }
 }

@@ -1,21 +1,168 @@
 // What is done before the next part of a rule.
 
-ghost use Rattle.std.specs.Prelude.{◌≡◌, ℕ, ◌≤◌, List, length, OnOk};
+ghost use Rattle.std.specs.Prelude.{◌≡◌, ℕ, ◌+◌, ◌<◌, ◌≤◌, ◌∷◌, List, length, take, drop, true, false, Some, None, IfOk, IfErr, OnOk};
+ghost use Rattle.cpp_grammar.specs.declared.production.Production.{Production};
+ghost use Rattle.sym_core.specs.declared.refusal.Refusal.TheVariants as refusals;
 ghost use Rattle.sym_link.specs.Linking.{HasRoom, Adds, Pays, owed_behind, owed_next};
 ghost use Rattle.sym_link.specs.Threads.{GoesOn};
+ghost use Rattle.cpp_tree.specs.Nodes.{IsArgumentsBelow, IsBelow, tree_at};
+ghost use Rattle.cpp_link.specs.Grows.{Grows, HasPlace};
+ghost use Rattle.cpp_link.specs.Making.{state_of};
+ghost use Rattle.cpp_link.specs.Parts.{trees_in, tree_of_node, around_of, candidates_of, AreThere, IsKeptThere, AreCandidatesThere, IsStepThere};
+ghost use Rattle.cpp_link.specs.Reads.{with_candidate, appended_if};
+ghost use Rattle.cpp_link.specs.Stepping.{IsStepOf, Takes, behind_if};
 ghost use Rattle.cpp_link.specs.View.{Surrounds, cpp_view};
 
+use crate::dispatch::production_of;
 use crate::linked::Linked;
-use crate::part::{Kept, Part};
+use crate::part::{Kept, Part, Step};
+use crate::steps::behind;
+use cpp_tree::node::Node;
 use sym_core::Refusal;
 use sym_link::language::Frame;
 
+/// Puts a part in the place of the one at the base.
+#[inline(always)]
+fn put_first(parts: &mut Vec<Part>, base: usize, part: Part)
+    requires { base < length parts.old.items }
+    ensures own { drop base parts.new.items ≡ part ∷ drop (base + 1) parts.old.items }
+    ensures lower { take base parts.new.items ≡ take base parts.old.items }
+    ensures count { length parts.new.items ≡ length parts.old.items }
+{
+    parts[base] = part;
+}
+
+/// The node itself, if it is to become a candidate.
+fn candidate_if(is_candidate: bool, node: u32) -> Option<u32>
+    ensures { result ≡ elim is_candidate [ true ↦ Some node | false ↦ None ] }
+{
+    if is_candidate { Some(node) } else { None }
+}
+
+/// What surrounds the part behind a tree that has been made.
+fn behind_if(is_name: bool, kept: Kept, node: u32, listed: bool) -> Kept
+    ensures { result ≡ behind_if is_name kept node listed }
+{
+    if is_name {
+        return behind(kept, node, listed);
+    }
+    kept
+}
+
 impl Linked {
+    /// A tree becomes a candidate or none does, and the packs have this length.
+    ///
+    /// # Errors
+    ///
+    /// `Memory` where the candidates couldn't grow.
+    #[inline(always)]
+    fn note(
+        &mut self,
+        symbol: &[u8],
+        kept: Kept,
+        candidate: Option<u32>,
+        packs: Option<u32>,
+    ) -> Result<(), Refusal>
+        requires candidate { IsArgumentsBelow (length self.old.nodes.nodes) candidate }
+        requires there { AreCandidatesThere (length self.old.nodes.nodes) self.old.candidates.items }
+        ensures nodes { self.new.nodes ≡ self.old.nodes }
+        ensures there { OnOk result (AreCandidatesThere (length self.old.nodes.nodes) self.new.candidates.items) }
+        ensures is { OnOk result (with_candidate (around_of (trees_in symbol.now self.old.nodes) kept) (trees_in symbol.now self.old.nodes) candidate
+            (record { candidates = candidates_of (trees_in symbol.now self.old.nodes) self.old.candidates.items; packs = packs }) ≡ state_of symbol.now self.new) }
+        ensures memory { IfErr result (λ e. e ≡ refusals.Memory) }
+    {
+        self.append(symbol, kept, candidate)?;
+        self.packs = packs;
+        Ok(())
+    }
+
+    /// Adds a node, which may become a candidate. The packs have this length then. It answers the node's number.
+    ///
+    /// # Errors
+    ///
+    /// `Memory` where a list couldn't grow.
+    #[inline(always)]
+    fn add_noted(
+        &mut self,
+        symbol: &[u8],
+        kept: Kept,
+        node: Node,
+        is_candidate: bool,
+        packs: Option<u32>,
+    ) -> Result<u32, Refusal>
+        requires place { HasPlace symbol.now self.old.nodes 1 }
+        requires below { IsBelow symbol.now (length self.old.nodes.thunks) (length self.old.nodes.nodes) node }
+        requires kept { IsKeptThere (length self.old.nodes.nodes) kept }
+        requires there { AreCandidatesThere (length self.old.nodes.nodes) self.old.candidates.items }
+        ensures grows { Grows symbol.now self.old.nodes self.new.nodes 1 }
+        ensures thunks { self.new.nodes.thunks ≡ self.old.nodes.thunks }
+        ensures tree { IfOk result (λ number. tree_at (trees_in symbol.now self.new.nodes) number ≡ tree_of_node symbol.now self.old.nodes node) }
+        ensures below { IfOk result (λ number. number < length self.new.nodes.nodes) }
+        ensures there { OnOk result (AreCandidatesThere (length self.new.nodes.nodes) self.new.candidates.items) }
+        ensures is { OnOk result (appended_if is_candidate (around_of (trees_in symbol.now self.old.nodes) kept) (tree_of_node symbol.now self.old.nodes node)
+            (record { candidates = candidates_of (trees_in symbol.now self.old.nodes) self.old.candidates.items; packs = packs }) ≡ state_of symbol.now self.new) }
+        ensures memory { IfErr result (λ e. e ≡ refusals.Memory) }
+    {
+        let number = self.add(symbol, node)?;
+        self.note(symbol, kept, candidate_if(is_candidate, number), packs)?;
+        Ok(number)
+    }
+
+    /// Takes a step before the next part of a rule, whose parts begin at the base. It answers what surrounds that part.
+    ///
+    /// # Errors
+    ///
+    /// `Memory` where a list couldn't grow.
+    fn take_step(
+        &mut self,
+        symbol: &[u8],
+        kept: Kept,
+        base: usize,
+        step: Step,
+        parts: &mut Vec<Part>,
+    ) -> Result<Kept, Refusal>
+        requires place { HasPlace symbol.now self.old.nodes 1 }
+        requires step { IsStepThere symbol.now (length self.old.nodes.thunks) (length self.old.nodes.nodes) step }
+        requires of { (production : Production) × IsStepOf production (length (drop base parts.old.items)) step }
+        requires kept { IsKeptThere (length self.old.nodes.nodes) kept }
+        requires there { AreCandidatesThere (length self.old.nodes.nodes) self.old.candidates.items }
+        requires parts { AreThere symbol.now (length self.old.nodes.nodes) (drop base parts.old.items) }
+        ensures takes { IfOk result (λ then. Takes symbol.now self.old self.new kept base parts.old.items parts.new.items step then) }
+        ensures memory { IfErr result (λ e. e ≡ refusals.Memory) }
+    {
+        match step {
+            Step::Go {
+                candidate,
+                then,
+                packs,
+            } => {
+                self.note(symbol, kept, candidate, packs)?;
+                Ok(then)
+            }
+            Step::Named { node, listed } => {
+                put_first(parts, base, Part::Tree { node, listed });
+                Ok(behind(kept, node, listed))
+            }
+            Step::Made {
+                node,
+                listed,
+                is_name,
+                is_candidate,
+                packs,
+            } => {
+                let node = self.add_noted(symbol, kept, node, is_candidate, packs)?;
+                put_first(parts, base, Part::Tree { node, listed });
+                Ok(behind_if(is_name, kept, node, listed))
+            }
+        }
+    }
+
     /// What is done before the next part of the rule of the frame, and what surrounds that part.
     ///
     /// # Errors
     ///
-    /// `BadReference` and `BadValue` at a bad token, `Memory` where a list couldn't grow.
+    /// `BadReference` at a parameter that names no argument that it may name, `Memory` where a list couldn't grow, or where a
+    /// part isn't there, which is so of no symbol.
     pub fn go_on(
         &mut self,
         symbol: &[u8],
@@ -29,6 +176,13 @@ impl Linked {
         ensures pays { OnOk result ((at : ℕ) → Pays (cpp_view symbol.now) self.old self.new at at) }
         ensures count { OnOk result (length parts.new.items ≡ length parts.old.items) }
     {
-        Err(Refusal::Memory)
+        let own = &parts[frame.base..];
+        if !self.has_kept(frame.kept) || !self.has_parts(symbol, own) {
+            return Err(Refusal::Memory);
+        }
+        let production = production_of(frame.rule);
+        let step = self.step(symbol, production, frame.place, frame.kept, own)?;
+        let then = self.take_step(symbol, frame.kept, frame.base, step, parts)?;
+        Ok(then)
     }
 }

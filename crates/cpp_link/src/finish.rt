@@ -1,21 +1,179 @@
 // A rule closes over all its parts.
 
-ghost use Rattle.std.specs.Prelude.{◌≡◌, ℕ, ◌<◌, ◌≤◌, List, length, OnOk};
+ghost use Rattle.std.specs.Prelude.{◌≡◌, ℕ, ◌+◌, ◌-◌, ◌<◌, ◌≤◌, ◌++◌, ◌∷◌, ◌^◌, [], MatchOption, List, length, take, slice_get, slice_index, true, Ok, IfOk, IfErr, IfSome, OnOk};
+ghost use Rattle.sym_core.specs.Number.{FitsSymbol};
+ghost use Rattle.sym_core.specs.Value.{counted_value};
+ghost use Rattle.sym_core.specs.declared.NumberKind.TheVariants as kinds;
+ghost use Rattle.sym_core.specs.declared.refusal.Refusal.TheVariants as refusals;
+ghost use Rattle.sym_link.specs.Driving.{Fails};
 ghost use Rattle.sym_link.specs.Linking.{HasRoom, Adds, Pays, owed_behind};
 ghost use Rattle.sym_link.specs.Threads.{ClosesAll};
-ghost use Rattle.cpp_link.specs.View.{cpp_view};
+ghost use Rattle.sym_link.specs.Unfold.{found};
+ghost use Rattle.cpp_term.specs.Values.{State, part, text_of};
+ghost use Rattle.cpp_term.specs.References.{substituted};
+ghost use Rattle.cpp_term.specs.Meaning.{meaning};
+ghost use Rattle.cpp_term.specs.Unfolding as unfolding_;
+ghost use Rattle.cpp_tree.specs.Nodes.{bytes_at, IsWithin};
+ghost use Rattle.cpp_link.specs.Grows.{HasPlace};
+ghost use Rattle.cpp_link.specs.Making.{state_of};
+ghost use Rattle.cpp_link.specs.Owed.{made_at_end};
+ghost use Rattle.cpp_link.specs.Parts.{trees_in, value_in, values_in, around_of, candidates_of, IsThere, AreThere, IsKeptThere, AreCandidatesThere};
+ghost use Rattle.cpp_link.specs.Reads.{maybe_candidate};
+ghost use Rattle.cpp_link.specs.View.{GoesOn, IsPaid, cpp_view};
 
+use crate::dispatch::production_of;
 use crate::linked::Linked;
-use crate::part::{Kept, Part};
-use sym_core::Refusal;
+use crate::numbers::base36;
+use crate::part::{Candidate, Kept, Part};
+use cpp_grammar::production::Production;
+use sym_core::{Refusal, Span};
 use sym_link::language::Frame;
 
+/// Puts a part in the place of those from the base on.
+#[inline(always)]
+fn put(parts: &mut Vec<Part>, base: usize, part: Part) -> Result<(), Refusal>
+    requires { base ≤ length parts.old.items }
+    ensures items { OnOk result (parts.new.items ≡ take base parts.old.items ++ part ∷ []) }
+    ensures memory { IfErr result (λ e. e ≡ refusals.Memory) }
+{
+    parts.truncate(base);
+    parts.push(part)?;
+    Ok(())
+}
+
+/// The candidate of a number.
+fn numbered(candidates: &[Candidate], counted: Option<u64>) -> Option<Candidate>
+    ensures { (k : ℕ) → MatchOption counted (2 ^ 64 ≤ k) (λ v. v ≡ k) → result ≡ slice_get candidates.now k }
+{
+    match counted {
+        Some(number) => match candidates.get(number as usize) {
+            Some(candidate) => Some(*candidate),
+            None => None,
+        },
+        None => None,
+    }
+}
+
 impl Linked {
+    /// The candidate that these digits name: none are the first, and 0 is the next.
+    ///
+    /// # Errors
+    ///
+    /// `Memory` where a byte is no digit, which is in no token.
+    fn candidate(&self, symbol: &[u8], digits: Span) -> Result<Option<Candidate>, Refusal>
+        requires digits { IsWithin digits symbol.now }
+        requires candidates { AreCandidatesThere (length self.now.nodes.nodes) self.now.candidates.items }
+        ensures is { IfOk result (λ found. maybe_candidate (trees_in symbol.now self.now.nodes) found ≡ slice_get (candidates_of (trees_in symbol.now self.now.nodes) self.now.candidates.items) (counted_value kinds.Seq36 (bytes_at symbol.now digits))) }
+        ensures there { IfOk result (λ found. IfSome found (λ c. c.node < length self.now.nodes.nodes)) }
+        ensures memory { IfErr result (λ e. e ≡ refusals.Memory) }
+    {
+        let counted = base36(&symbol[digits.from as usize..digits.to as usize])?;
+        Ok(numbered(&self.candidates, counted))
+    }
+
+    /// A substitution closes: its part is the candidate that it names.
+    ///
+    /// # Errors
+    ///
+    /// `BadReference` one byte before the place, at the `S`, where it may name no such candidate.
+    fn substitute(
+        &mut self,
+        symbol: &[u8],
+        place: u32,
+        kept: Kept,
+        parts: &[Part],
+    ) -> Result<Part, Refusal>
+        requires paid { IsPaid symbol.now self.old }
+        requires there { AreThere symbol.now (length self.old.nodes.nodes) parts.now }
+        ensures is { IfOk result (λ made. substituted (around_of (trees_in symbol.now self.old.nodes) kept) (place - 1) (slice_get (state_of symbol.now self.old).candidates (counted_value kinds.Seq36 (text_of (part (values_in symbol.now self.old.nodes parts.now) 0)))) (state_of symbol.now self.old) ≡ Ok (found (value_in symbol.now self.new.nodes made) (state_of symbol.now self.new))) }
+        ensures refused { IfErr result (λ e. Fails e (substituted (around_of (trees_in symbol.now self.old.nodes) kept) (place - 1) (slice_get (state_of symbol.now self.old).candidates (counted_value kinds.Seq36 (text_of (part (values_in symbol.now self.old.nodes parts.now) 0)))) (state_of symbol.now self.old))) }
+        ensures there { IfOk result (λ made. IsThere symbol.now (length self.new.nodes.nodes) made) }
+        ensures nodes { self.new.nodes ≡ self.old.nodes }
+        ensures candidates { self.new.candidates ≡ self.old.candidates }
+    {
+        let candidate = self.candidate(symbol, self.text(symbol, parts, 0))?;
+        let (node, packs) = self.substituted(symbol, kept, place.saturating_sub(1), candidate)?;
+        self.packs = packs;
+        Ok(Part::Tree { node, listed: true })
+    }
+
+    /// Another rule closes: the node of what it stands for is made, and a type may become a candidate.
+    ///
+    /// # Errors
+    ///
+    /// `Memory` where a list couldn't grow.
+    fn make(
+        &mut self,
+        symbol: &[u8],
+        production: Production,
+        place: u32,
+        kept: Kept,
+        parts: &[Part],
+    ) -> Result<Part, Refusal>
+        requires fits { FitsSymbol symbol.now }
+        requires place { place < length symbol.now }
+        requires room { HasPlace symbol.now self.old.nodes 2 }
+        requires paid { IsPaid symbol.now self.old }
+        requires there { AreThere symbol.now (length self.old.nodes.nodes) parts.now }
+        requires kept { IsKeptThere (length self.old.nodes.nodes) kept }
+        ensures value { IfOk result (λ made. value_in symbol.now self.new.nodes made ≡ meaning production (slice_index symbol.now place) (around_of (trees_in symbol.now self.old.nodes) kept) (values_in symbol.now self.old.nodes parts.now)) }
+        ensures state { OnOk result ((began : State) → began.packs ≡ kept.packs
+            → unfolding_.behind production (slice_index symbol.now place) (around_of (trees_in symbol.now self.old.nodes) kept) began (values_in symbol.now self.old.nodes parts.now) (state_of symbol.now self.old) ≡ state_of symbol.now self.new) }
+        ensures there { IfOk result (λ made. IsThere symbol.now (length self.new.nodes.nodes) made) }
+        ensures grows { OnOk result (GoesOn symbol.now self.old self.new) }
+        ensures few { OnOk result (length self.new.nodes.nodes ≤ length self.old.nodes.nodes + made_at_end production) }
+        ensures paid { OnOk result (IsPaid symbol.now self.new) }
+        ensures memory { IfErr result (λ e. e ≡ refusals.Memory) }
+    {
+        let byte = symbol[place as usize];
+        let meant = self.meant(symbol, production, place, kept, parts)?;
+        let made = self.settle(symbol, meant)?;
+        let behind = self.behind(symbol, production, byte, kept, parts, made);
+        self.append(symbol, kept, behind.candidate)?;
+        self.packs = behind.packs;
+        Ok(made)
+    }
+
+    /// What a production closes to that begins at a place, with these parts.
+    ///
+    /// # Errors
+    ///
+    /// `BadReference` at a substitution that names no candidate that it may name, `Memory` where a list couldn't grow.
+    fn close_production(
+        &mut self,
+        symbol: &[u8],
+        production: Production,
+        place: u32,
+        kept: Kept,
+        parts: &[Part],
+    ) -> Result<Part, Refusal>
+        requires fits { FitsSymbol symbol.now }
+        requires place { place < length symbol.now }
+        requires room { HasPlace symbol.now self.old.nodes 2 }
+        requires paid { IsPaid symbol.now self.old }
+        requires there { AreThere symbol.now (length self.old.nodes.nodes) parts.now }
+        requires kept { IsKeptThere (length self.old.nodes.nodes) kept }
+        ensures is { IfOk result (λ made. (began : State) → began.packs ≡ kept.packs
+            → unfolding_.close production (slice_index symbol.now place) (around_of (trees_in symbol.now self.old.nodes) kept) place began (values_in symbol.now self.old.nodes parts.now) (state_of symbol.now self.old) ≡ Ok (found (value_in symbol.now self.new.nodes made) (state_of symbol.now self.new))) }
+        ensures refused { IfErr result (λ e. (began : State)
+            → Fails e (unfolding_.close production (slice_index symbol.now place) (around_of (trees_in symbol.now self.old.nodes) kept) place began (values_in symbol.now self.old.nodes parts.now) (state_of symbol.now self.old))) }
+        ensures there { IfOk result (λ made. IsThere symbol.now (length self.new.nodes.nodes) made) }
+        ensures grows { OnOk result (GoesOn symbol.now self.old self.new) }
+        ensures few { OnOk result (length self.new.nodes.nodes ≤ length self.old.nodes.nodes + made_at_end production) }
+        ensures paid { OnOk result (IsPaid symbol.now self.new) }
+    {
+        match production {
+            Production::Substitution => self.substitute(symbol, place, kept, parts),
+            _ => self.make(symbol, production, place, kept, parts),
+        }
+    }
+
     /// The rule of the frame closes over all its parts: what it means takes their place.
     ///
     /// # Errors
     ///
-    /// `BadReference` and `BadValue` at a bad token, `Memory` where a list couldn't grow.
+    /// `BadReference` at a substitution that names no candidate that it may name. `Memory` where a list couldn't grow, or where
+    /// what the frame and its parts stand for isn't there, which nothing of a symbol comes to.
     pub fn finish_rule(
         &mut self,
         symbol: &[u8],
@@ -29,6 +187,18 @@ impl Linked {
         ensures adds { OnOk result (Adds (cpp_view symbol.now) self.old self.new (owed_behind (cpp_view symbol.now) frame parts.old.items) 0) }
         ensures pays { OnOk result ((at : ℕ) → Pays (cpp_view symbol.now) self.old self.new at at) }
     {
-        Err(Refusal::Memory)
+        if !self.has_kept(frame.kept) || !self.has_parts(symbol, &parts[frame.base..]) {
+            return Err(Refusal::Memory);
+        }
+        let production = production_of(frame.rule);
+        let made = self.close_production(
+            symbol,
+            production,
+            frame.place,
+            frame.kept,
+            &parts[frame.base..],
+        )?;
+        put(parts, frame.base, made)?;
+        Ok(())
     }
 }

@@ -1,15 +1,18 @@
 //! A C++ symbol's nodes, from its rows.
 #![tactic(auto)]
 
+pub mod ahead;
 pub mod begin;
 pub mod between;
 pub mod closing;
 pub mod dispatch;
 pub mod finish;
+pub mod language;
 pub mod linked;
 pub mod meaning;
 pub mod numbers;
 pub mod part;
+pub mod presence;
 pub mod references;
 pub mod settling;
 pub mod shapes;

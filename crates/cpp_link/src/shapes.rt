@@ -1,6 +1,6 @@
 // What productions stand for whose parts are told apart.
 
-ghost use Rattle.std.specs.Prelude.{◌≡◌, ℕ, ◌<◌, ◌∷◌, List, length, not, ◌&&◌, IfOk, IfErr, Option};
+ghost use Rattle.std.specs.Prelude.{◌≡◌, ℕ, ◌<◌, ◌≤◌, ◌∷◌, List, length, not, ◌&&◌, IfOk, IfErr, Option};
 ghost use Rattle.sym_core.specs.declared.refusal.Refusal.TheVariants as refusals;
 ghost use Rattle.cpp_term.specs.Term as term;
 ghost use Rattle.cpp_term.specs.Term.{Term};
@@ -12,6 +12,7 @@ ghost use Rattle.cpp_grammar.specs.Values.{local_number};
 ghost use Rattle.cpp_tree.specs.Nodes as nodes;
 ghost use Rattle.cpp_tree.specs.declared.node.Thunk as thunks;
 ghost use Rattle.cpp_tree.specs.Nodes.{over, tree_at, IsTable, IsSpan, IsPieceBelow, IsBelow};
+ghost use Rattle.cpp_link.specs.Making.{nodes_of_meant};
 ghost use Rattle.cpp_link.specs.Parts.{trees_in, tree_of_node, value_of, value_in, values_in, prefix_of, meant_value, IsThere, AreThere, IsMeantThere, IsPrefixThere};
 
 use crate::linked::Linked;
@@ -70,13 +71,14 @@ impl Linked {
     }
 
     /// A name, with arguments where there are some.
-    #[tactic(auto, unfolding(cpp_term::specs::Between::applied, crate::specs::Parts::meant_value, crate::specs::Parts::value_of, cpp_tree::specs::Nodes::tree_of))]
+    #[tactic(auto, unfolding(cpp_term::specs::Between::applied, crate::specs::Parts::meant_value, crate::specs::Parts::value_of, cpp_tree::specs::Nodes::tree_of, crate::specs::Making::nodes_of_meant))]
     #[inline(always)]
     pub fn applied(&self, symbol: &[u8], parts: &[Part], listed: bool) -> Meant
         requires table { IsTable (over symbol.now self.now.nodes) }
         requires there { AreThere symbol.now (length self.now.nodes.nodes) parts.now }
         ensures is { meant_value symbol.now self.now.nodes result ≡ values.tree (applied (tree_of (part (values_in symbol.now self.now.nodes parts.now) 0)) (part (values_in symbol.now self.now.nodes parts.now) 1)) (listed && not (is_there (part (values_in symbol.now self.now.nodes parts.now) 1))) }
         ensures there { IsMeantThere symbol.now (length self.now.nodes.thunks) (length self.now.nodes.nodes) result }
+        ensures nodes { nodes_of_meant result ≤ 1 }
     {
         let name = self.tree(symbol, parts, 0);
         if self.there(symbol, parts, 1) {
@@ -93,12 +95,13 @@ impl Linked {
     }
 
     /// What the end of a nested name stands for: the name so far.
-    #[tactic(auto, unfolding(crate::specs::Parts::meant_value, crate::specs::Parts::value_of, crate::specs::Parts::prefix_of, cpp_term::specs::Values::prefix_tree, cpp_term::specs::Values::prefix_listed))]
+    #[tactic(auto, unfolding(crate::specs::Parts::meant_value, crate::specs::Parts::value_of, crate::specs::Parts::prefix_of, cpp_term::specs::Values::prefix_tree, cpp_term::specs::Values::prefix_listed, crate::specs::Making::nodes_of_meant))]
     pub fn nest_end(&self, symbol: &[u8], prefix: Prefix) -> Meant
         requires table { IsTable (over symbol.now self.now.nodes) }
         requires there { IsPrefixThere (length self.now.nodes.nodes) prefix }
         ensures is { meant_value symbol.now self.now.nodes result ≡ values.tree (prefix_tree (prefix_of (trees_in symbol.now self.now.nodes) prefix)) (prefix_listed (prefix_of (trees_in symbol.now self.now.nodes) prefix)) }
         ensures there { IsMeantThere symbol.now (length self.now.nodes.thunks) (length self.now.nodes.nodes) result }
+        ensures nodes { nodes_of_meant result ≡ 0 }
     {
         match prefix {
             Prefix::Outermost => Meant::Given(Part::Tree {
@@ -110,12 +113,13 @@ impl Linked {
     }
 
     /// What a reference stands for.
-    #[tactic(auto, unfolding(crate::specs::Parts::meant_value, cpp_tree::specs::Nodes::tree_of, cpp_term::specs::Meaning::listed_value, cpp_term::specs::Meaning::reference_to, cpp_term::specs::Values::tree_of))]
+    #[tactic(auto, unfolding(crate::specs::Parts::meant_value, cpp_tree::specs::Nodes::tree_of, cpp_term::specs::Meaning::listed_value, cpp_term::specs::Meaning::reference_to, cpp_term::specs::Values::tree_of, crate::specs::Making::nodes_of_meant))]
     pub fn reference_meant(&self, symbol: &[u8], byte: u8, parts: &[Part]) -> Meant
         requires table { IsTable (over symbol.now self.now.nodes) }
         requires there { AreThere symbol.now (length self.now.nodes.nodes) parts.now }
         ensures is { meant_value symbol.now self.now.nodes result ≡ listed_value (reference_to byte (part (values_in symbol.now self.now.nodes parts.now) 0)) }
         ensures there { IsMeantThere symbol.now (length self.now.nodes.thunks) (length self.now.nodes.nodes) result }
+        ensures nodes { nodes_of_meant result ≤ 1 }
     {
         let inner = self.tree(symbol, parts, 0);
         if byte == b'R' {
@@ -125,12 +129,13 @@ impl Linked {
     }
 
     /// What the rest of a signature stands for that has a mark.
-    #[tactic(auto, unfolding(cpp_term::specs::Meaning::signature_or, crate::specs::Parts::meant_value, crate::specs::Parts::value_of))]
+    #[tactic(auto, unfolding(cpp_term::specs::Meaning::signature_or, crate::specs::Parts::meant_value, crate::specs::Parts::value_of, crate::specs::Making::nodes_of_meant))]
     pub fn signature_or(&self, symbol: &[u8], mark: Mark, rest: Part) -> Meant
         requires table { IsTable (over symbol.now self.now.nodes) }
         requires there { IsThere symbol.now (length self.now.nodes.nodes) rest }
         ensures is { meant_value symbol.now self.now.nodes result ≡ signature_or (nodes.mark_of mark) (value_in symbol.now self.now.nodes rest) }
         ensures there { IsMeantThere symbol.now (length self.now.nodes.thunks) (length self.now.nodes.nodes) result }
+        ensures nodes { nodes_of_meant result ≡ 0 }
     {
         match rest {
             Part::Nothing => Meant::Given(Part::Signature { list: NIL, mark }),
@@ -139,11 +144,12 @@ impl Linked {
     }
 
     /// The operator of two letters, or a literal operator.
-    #[tactic(auto, unfolding(cpp_term::specs::Meaning::operator_or_literal, crate::specs::Parts::meant_value, crate::specs::Parts::value_of, cpp_tree::specs::Nodes::piece_of))]
+    #[tactic(auto, unfolding(cpp_term::specs::Meaning::operator_or_literal, crate::specs::Parts::meant_value, crate::specs::Parts::value_of, cpp_tree::specs::Nodes::piece_of, crate::specs::Making::nodes_of_meant))]
     pub fn operator_or_literal(&self, symbol: &[u8], first: u8, rest: Part) -> Meant
         requires there { IsThere symbol.now (length self.now.nodes.nodes) rest }
         ensures is { meant_value symbol.now self.now.nodes result ≡ operator_or_literal first (value_in symbol.now self.now.nodes rest) }
         ensures there { IsMeantThere symbol.now (length self.now.nodes.thunks) (length self.now.nodes.nodes) result }
+        ensures nodes { nodes_of_meant result ≡ 0 }
     {
         match rest {
             Part::Letter(second) => Meant::Given(Part::Piece(Piece::Operator(first, second))),
@@ -156,12 +162,13 @@ impl Linked {
     /// # Errors
     ///
     /// `Memory` where its number is past 64 bits, which is refused where the lambda begins.
-    #[tactic(auto, unfolding(crate::specs::Parts::meant_value, crate::specs::Parts::value_of, cpp_tree::specs::Nodes::piece_of, cpp_term::specs::Meaning::parameters))]
+    #[tactic(auto, unfolding(crate::specs::Parts::meant_value, crate::specs::Parts::value_of, cpp_tree::specs::Nodes::piece_of, cpp_term::specs::Meaning::parameters, crate::specs::Making::nodes_of_meant))]
     pub fn lambda(&self, symbol: &[u8], parts: &[Part]) -> Result<Meant, Refusal>
         requires table { IsTable (over symbol.now self.now.nodes) }
         requires there { AreThere symbol.now (length self.now.nodes.nodes) parts.now }
         ensures is { IfOk result (λ meant. meant_value symbol.now self.now.nodes meant ≡ values.piece (term.lambda (parameters (term.list (tree_of (part (values_in symbol.now self.now.nodes parts.now) 0)) (no_items (part (values_in symbol.now self.now.nodes parts.now) 1)))) (local_number (text_of (part (values_in symbol.now self.now.nodes parts.now) 3))))) }
         ensures there { IfOk result (λ meant. IsMeantThere symbol.now (length self.now.nodes.thunks) (length self.now.nodes.nodes) meant) }
+        ensures nodes { IfOk result (λ meant. nodes_of_meant meant ≤ 1) }
         ensures memory { IfErr result (λ e. e ≡ refusals.Memory) }
     {
         let number = local_number(symbol, self.text(symbol, parts, 3))?;

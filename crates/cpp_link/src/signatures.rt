@@ -1,6 +1,6 @@
 // Encodings and function types: what is read of lists.
 
-ghost use Rattle.std.specs.Prelude.{◌≡◌, ℕ, ◌<◌, ◌&&◌, length, Option, Some, None, IfSome, List, true};
+ghost use Rattle.std.specs.Prelude.{◌≡◌, ℕ, ◌<◌, ◌≤◌, ◌&&◌, length, Option, Some, None, IfSome, List, true};
 ghost use Rattle.cpp_term.specs.Term.{Term};
 ghost use Rattle.cpp_term.specs.Values as values;
 ghost use Rattle.cpp_term.specs.Values.{part};
@@ -9,6 +9,7 @@ ghost use Rattle.cpp_term.specs.Meaning.{parameters, encoding_of, is_void, is_ni
 ghost use Rattle.cpp_tree.specs.Nodes.{over, tree_at, tree_of, IsTable};
 ghost use Rattle.cpp_tree.specs.declared.node.Node.{Node};
 ghost use Rattle.cpp_link.specs.Parts.{trees_in, values_in, meant_value, AreThere, IsMeantThere};
+ghost use Rattle.cpp_link.specs.Making.{nodes_of_meant};
 ghost use Rattle.cpp_link.specs.Reads.{void_node, nil_node, cell_of, parameters_by, encoding_by};
 ghost use Rattle.cpp_term.specs.Scope.{has_return_type};
 
@@ -98,12 +99,13 @@ impl Linked {
     }
 
     /// What an encoding stands for: an object, or a function with its return type.
-    #[tactic(auto, unfolding(crate::specs::Parts::meant_value, cpp_tree::specs::Nodes::tree_of, crate::specs::Reads::encoding_by))]
+    #[tactic(auto, unfolding(crate::specs::Parts::meant_value, cpp_tree::specs::Nodes::tree_of, crate::specs::Reads::encoding_by, crate::specs::Making::nodes_of_meant))]
     pub fn encoding(&self, symbol: &[u8], parts: &[Part]) -> Meant
         requires table { IsTable (over symbol.now self.now.nodes) }
         requires there { AreThere symbol.now (length self.now.nodes.nodes) parts.now }
         ensures is { meant_value symbol.now self.now.nodes result ≡ values.tree (encoding_of (part (values_in symbol.now self.now.nodes parts.now) 0) (no_items (part (values_in symbol.now self.now.nodes parts.now) 1))) true }
         ensures there { IsMeantThere symbol.now (length self.now.nodes.thunks) (length self.now.nodes.nodes) result }
+        ensures nodes { nodes_of_meant result ≤ 1 }
     {
         let name = self.tree(symbol, parts, 0);
         let qualifiers = self.qualifiers(symbol, parts, 0);

@@ -14,6 +14,7 @@ ghost use Rattle.cpp_tree.specs.Nodes.{over, tree_at, bytes_at, IsWithin, IsPiec
 ghost use Rattle.cpp_link.specs.declared.part.Step.{Step};
 ghost use Rattle.cpp_link.specs.Parts.{trees_in, value_in, values_in, prefix_of, around_of, IsThere, AreThere, IsPrefixThere, IsKeptThere, IsStepThere};
 ghost use Rattle.cpp_link.specs.Reads.{with_candidate, goes_on};
+ghost use Rattle.cpp_link.specs.Stepping.{IsStepOf};
 
 use crate::linked::Linked;
 use crate::part::{Kept, Part, Prefix, Step};
@@ -55,7 +56,7 @@ fn in_encoding(kept: Kept, place: u32, scope: Option<u32>) -> Kept
 }
 
 /// Behind this name.
-fn behind(kept: Kept, node: u32, listed: bool) -> Kept
+pub fn behind(kept: Kept, node: u32, listed: bool) -> Kept
     ensures { result ≡ record { scope = kept.scope; encoding = kept.encoding; in_lambda = kept.in_lambda; in_expansion = kept.in_expansion; prefix = prefixes.Behind node listed; packs = kept.packs } }
 {
     Kept {
@@ -168,6 +169,7 @@ impl Linked {
         requires kept { IsKeptThere (length self.now.nodes.nodes) kept }
         ensures is { (cs : List values.Candidate) → between production (around_of (trees_in symbol.now self.now.nodes) kept) place [] (record { candidates = cs; packs = self.now.packs }) ≡ goes_on symbol.now self.now.nodes kept [] cs self.now.packs result }
         ensures there { IsStepThere symbol.now (length self.now.nodes.thunks) (length self.now.nodes.nodes) result }
+        ensures of { (held : ℕ) → IsStepOf production held result }
     {
         match production {
             Production::Encoding => self.go(in_encoding(kept, place, None)),
@@ -233,7 +235,7 @@ impl Linked {
     }
 
     /// What is done before the second part, of a production that is no parameter.
-    #[tactic(auto, unfolding(cpp_term::specs::Between::between, cpp_term::specs::Between::in_name, cpp_term::specs::Between::in_types, cpp_term::specs::Between::in_signature, cpp_term::specs::Between::under_expansion, cpp_term::specs::Between::after, cpp_term::specs::Between::inside, cpp_term::specs::Between::applied, cpp_term::specs::Between::piece_so_far, cpp_term::specs::Between::named_so_far, cpp_term::specs::Between::listed_so_far, cpp_term::specs::Values::tree_of, crate::specs::Parts::around_of, crate::specs::Parts::prefix_of, cpp_tree::specs::Nodes::arguments_are, cpp_tree::specs::Nodes::tree_of, cpp_tree::specs::Nodes::piece_of, crate::specs::Reads::goes_on, crate::specs::Reads::behind_first, crate::specs::Reads::named_if, crate::specs::Reads::appended_if, crate::specs::Reads::with_candidate))]
+    #[tactic(auto, unfolding(cpp_term::specs::Between::between, cpp_term::specs::Between::in_name, cpp_term::specs::Between::in_types, cpp_term::specs::Between::in_signature, cpp_term::specs::Between::under_expansion, cpp_term::specs::Between::after, cpp_term::specs::Between::inside, cpp_term::specs::Between::applied, cpp_term::specs::Between::piece_so_far, cpp_term::specs::Between::named_so_far, cpp_term::specs::Between::listed_so_far, cpp_term::specs::Values::tree_of, crate::specs::Parts::around_of, crate::specs::Parts::prefix_of, cpp_tree::specs::Nodes::arguments_are, cpp_tree::specs::Nodes::tree_of, cpp_tree::specs::Nodes::piece_of, crate::specs::Reads::goes_on, crate::specs::Reads::behind_first, crate::specs::Reads::named_if, crate::specs::Reads::appended_if, crate::specs::Reads::with_candidate, crate::specs::Owed::made_before))]
     fn step_second(
         &self,
         symbol: &[u8],
@@ -249,6 +251,7 @@ impl Linked {
         requires nest { production ≡ productions.NestParameter → ⊥ }
         ensures is { (cs : List values.Candidate) → between production (around_of (trees_in symbol.now self.now.nodes) kept) place (value_in symbol.now self.now.nodes first ∷ []) (record { candidates = cs; packs = self.now.packs }) ≡ goes_on symbol.now self.now.nodes kept (value_in symbol.now self.now.nodes first ∷ []) cs self.now.packs result }
         ensures there { IsStepThere symbol.now (length self.now.nodes.thunks) (length self.now.nodes.nodes) result }
+        ensures of { IsStepOf production 1 result }
     {
         match production {
             Production::Special => self.go(in_encoding(kept, place, None)),
@@ -372,7 +375,7 @@ impl Linked {
     }
 
     /// What is done before the third part.
-    #[tactic(auto, unfolding(cpp_term::specs::Between::between, cpp_term::specs::Between::in_name, cpp_term::specs::Between::in_types, cpp_term::specs::Between::in_signature, cpp_term::specs::Between::under_expansion, cpp_term::specs::Between::after, cpp_term::specs::Between::inside, cpp_term::specs::Between::applied, cpp_term::specs::Between::piece_so_far, cpp_term::specs::Between::named_so_far, cpp_term::specs::Between::listed_so_far, cpp_term::specs::Values::tree_of, crate::specs::Parts::around_of, crate::specs::Parts::prefix_of, cpp_tree::specs::Nodes::arguments_are, cpp_tree::specs::Nodes::tree_of, cpp_tree::specs::Nodes::piece_of, crate::specs::Reads::goes_on, crate::specs::Reads::behind_first, crate::specs::Reads::named_if, crate::specs::Reads::appended_if, crate::specs::Reads::with_candidate))]
+    #[tactic(auto, unfolding(cpp_term::specs::Between::between, cpp_term::specs::Between::in_name, cpp_term::specs::Between::in_types, cpp_term::specs::Between::in_signature, cpp_term::specs::Between::under_expansion, cpp_term::specs::Between::after, cpp_term::specs::Between::inside, cpp_term::specs::Between::applied, cpp_term::specs::Between::piece_so_far, cpp_term::specs::Between::named_so_far, cpp_term::specs::Between::listed_so_far, cpp_term::specs::Values::tree_of, crate::specs::Parts::around_of, crate::specs::Parts::prefix_of, cpp_tree::specs::Nodes::arguments_are, cpp_tree::specs::Nodes::tree_of, cpp_tree::specs::Nodes::piece_of, crate::specs::Reads::goes_on, crate::specs::Reads::behind_first, crate::specs::Reads::named_if, crate::specs::Reads::appended_if, crate::specs::Reads::with_candidate, crate::specs::Owed::made_before))]
     fn step_third(
         &self,
         symbol: &[u8],
@@ -388,6 +391,7 @@ impl Linked {
         requires second { IsThere symbol.now (length self.now.nodes.nodes) second }
         ensures is { (cs : List values.Candidate) → between production (around_of (trees_in symbol.now self.now.nodes) kept) place (value_in symbol.now self.now.nodes first ∷ value_in symbol.now self.now.nodes second ∷ []) (record { candidates = cs; packs = self.now.packs }) ≡ goes_on symbol.now self.now.nodes kept (value_in symbol.now self.now.nodes first ∷ value_in symbol.now self.now.nodes second ∷ []) cs self.now.packs result }
         ensures there { IsStepThere symbol.now (length self.now.nodes.thunks) (length self.now.nodes.nodes) result }
+        ensures of { IsStepOf production 2 result }
     {
         match production {
             Production::Special => self.go(in_encoding(kept, place, None)),
@@ -458,6 +462,7 @@ impl Linked {
         requires third { IsThere symbol.now (length self.now.nodes.nodes) third }
         ensures is { (cs : List values.Candidate) → between production (around_of (trees_in symbol.now self.now.nodes) kept) place (value_in symbol.now self.now.nodes first ∷ value_in symbol.now self.now.nodes second ∷ value_in symbol.now self.now.nodes third ∷ []) (record { candidates = cs; packs = self.now.packs }) ≡ goes_on symbol.now self.now.nodes kept (value_in symbol.now self.now.nodes first ∷ value_in symbol.now self.now.nodes second ∷ value_in symbol.now self.now.nodes third ∷ []) cs self.now.packs result }
         ensures there { IsStepThere symbol.now (length self.now.nodes.thunks) (length self.now.nodes.nodes) result }
+        ensures of { (held : ℕ) → IsStepOf production held result }
     {
         match production {
             Production::Special => self.go(in_encoding(kept, place, None)),
@@ -497,6 +502,7 @@ impl Linked {
         requires first { IsThere symbol.now (length self.now.nodes.nodes) first }
         ensures is { (v w x : values.Value) (vs : List values.Value) (cs : List values.Candidate) → between production (around_of (trees_in symbol.now self.now.nodes) kept) place (value_in symbol.now self.now.nodes first ∷ v ∷ w ∷ x ∷ vs) (record { candidates = cs; packs = self.now.packs }) ≡ goes_on symbol.now self.now.nodes kept (value_in symbol.now self.now.nodes first ∷ v ∷ w ∷ x ∷ vs) cs self.now.packs result }
         ensures there { IsStepThere symbol.now (length self.now.nodes.thunks) (length self.now.nodes.nodes) result }
+        ensures of { (held : ℕ) → IsStepOf production held result }
     {
         match production {
             Production::Special => self.go(in_encoding(kept, place, None)),
@@ -541,6 +547,7 @@ impl Linked {
             ≡ goes_on symbol.now self.now.nodes kept (value_in symbol.now self.now.nodes first ∷ []) cs self.now.packs step) }
         ensures refused { IfErr result (λ e. (cs : List values.Candidate) → Fails e (between production (around_of (trees_in symbol.now self.now.nodes) kept) place (value_in symbol.now self.now.nodes first ∷ []) (record { candidates = cs; packs = self.now.packs }))) }
         ensures there { IfOk result (λ step. IsStepThere symbol.now (length self.now.nodes.thunks) (length self.now.nodes.nodes) step) }
+        ensures of { IfOk result (λ step. IsStepOf production 1 step) }
     {
         match production {
             Production::Parameter => {
@@ -575,6 +582,7 @@ impl Linked {
             ≡ goes_on symbol.now self.now.nodes kept (values_in symbol.now self.now.nodes parts.now) cs self.now.packs step) }
         ensures refused { IfErr result (λ e. (cs : List values.Candidate) → Fails e (between production (around_of (trees_in symbol.now self.now.nodes) kept) place (values_in symbol.now self.now.nodes parts.now) (record { candidates = cs; packs = self.now.packs }))) }
         ensures there { IfOk result (λ step. IsStepThere symbol.now (length self.now.nodes.thunks) (length self.now.nodes.nodes) step) }
+        ensures of { IfOk result (λ step. IsStepOf production (length parts.now) step) }
     {
         if parts.is_empty() {
             return Ok(self.step_first(symbol, production, place, kept));

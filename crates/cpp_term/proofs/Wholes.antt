@@ -1,9 +1,9 @@
 -- What a symbol is read into is a whole symbol.
-use Rattle.std.proofs.Common.{◌≡◌, refl, ap, sym, ◌∙◌, ℕ, ◌+◌, List, [], ◌∷◌, length, Bool, true, false, cond, Some, None, Ok, lit≤, arith}
+use Rattle.std.proofs.Common.{◌≡◌, refl, ap, sym, subst, ◌∙◌, ℕ, ◌+◌, List, [], ◌∷◌, length, Bool, true, false, cond, Some, None, Ok, lit≤, arith}
 use Rattle.std.proofs.lemmas.Bool.{true≢false}
 use Rattle.sym_shape.specs.declared.rule.Sym.TheVariants.{Kind as OfKind}
 use Rattle.sym_shape.specs.Tree.{Tree, branch, empty, token, fixed, IsTree}
-use Rattle.sym_link.specs.Reading.{Open, ◌>>=◌}
+use Rattle.sym_link.specs.Reading.{Found, Open, ◌>>=◌}
 use Rattle.sym_link.specs.Unfold.{found, alone, standing, unfold_tree, unfold_forest}
 use Rattle.cpp_grammar.specs.declared.kind.Kind.{Kind}
 use Rattle.cpp_grammar.specs.declared.production.Production.{Production}
@@ -13,10 +13,12 @@ use Rattle.cpp_grammar.specs.Unfolding.{production_at, byte_of}
 use Rattle.cpp_grammar.proofs.ClosedStates.{ok_same, behind_bind}
 use Rattle.cpp_grammar.proofs.ClosedTrees.{at_number, known}
 use Rattle.cpp_term.specs.Term.{Term, symbol}
-use Rattle.cpp_term.specs.Values.{State, Around, tree_of, text_of, part}
+use Rattle.cpp_term.specs.Values.{State, Around, Value, tree, tree_of, text_of, part}
 use Rattle.cpp_term.specs.Meaning.{meaning}
 use Rattle.cpp_term.specs.Unfolding.{opening, behind, close, cpp, first_around, first_state, first_tree, unfold_cpp}
+use Rattle.cpp_term.specs.ReadAs.{IsReadAs}
 use Rattle.cpp_term.proofs.EncodingsClosed.{chosen_rule}
+use Rattle.cpp_term.proofs.Erasing.{IsSymbolTree, reading_stands}
 
 first_kind : (kind : Kind) → 0 ≡ number_of_kind kind → kind ≡ Kind.Symbol
 unfolding number_of_kind
@@ -35,35 +37,54 @@ symbol_there : abi.may_be_empty 0 ≡ false
 unfolding abi sheet sheet_with kinds may_be_empty
 symbol_there = refl
 
-pub record IsWhole (t : Term) : Type 0 where
+-- the values are one tree, that of an encoding with what stands behind it
+pub record IsWhole (values : List Value) : Type 0 where
   pub encoding : Term
   pub suffix : List ℕ
-  pub is : t ≡ symbol encoding suffix
+  pub one : values ≡ tree (symbol encoding suffix) true ∷ []
 
-pub whole_symbol : (shape : Tree) (t : Term) → IsTree abi (OfKind 0) shape → unfold_cpp shape ≡ Ok t → IsWhole t
-unfolding unfold_cpp cpp first_tree close meaning tree_of
-whole_symbol (branch rule taken parts) t tree e =
+pub whole_reading : (shape : Tree) (r : Found (List Value) State) → IsTree abi (OfKind 0) shape → unfold_tree cpp first_around 0 shape first_state ≡ Ok r → IsWhole r.value
+unfolding cpp close meaning
+whole_reading (branch rule taken parts) r is e =
     let whole : Open State Around = standing rule taken 0 first_around first_state in
     let byte = byte_of taken in
-    let c = chosen_rule 0 rule taken (known 0 (lit≤ tt)) tree.0 in
+    let c = chosen_rule 0 rule taken (known 0 (lit≤ tt)) is.0 in
     let only : c.production ≡ Production.Symbol = symbol_alone c.byte c.production (sym (ap (λ k. choose k c.byte) (first_kind c.kind c.number)) ∙ c.chosen) in
     let number : production_at rule.number ≡ Production.Symbol = ap (λ x. production_at x.number) c.is ∙ at_number c.production ∙ only in
-    let read = behind_bind (unfold_tree cpp first_around 0 (branch rule taken parts) first_state) (λ r. Ok (first_tree r.value)) t e in
     let begun = behind_bind (opening (production_at rule.number) parts 0 first_state)
-    (λ begun. unfold_forest cpp whole [] (0 + length taken) parts begun >>= λ inner. close (production_at rule.number) byte first_around 0 first_state inner.value inner.state >>= alone) read.value read.is in
+    (λ begun. unfold_forest cpp whole [] (0 + length taken) parts begun >>= λ inner. close (production_at rule.number) byte first_around 0 first_state inner.value inner.state >>= alone) r e in
     let inner = behind_bind (unfold_forest cpp whole [] (0 + length taken) parts begun.value)
-    (λ inner. close (production_at rule.number) byte first_around 0 first_state inner.value inner.state >>= alone) read.value begun.next in
+    (λ inner. close (production_at rule.number) byte first_around 0 first_state inner.value inner.state >>= alone) r begun.next in
     let vs = inner.value.value in
-    let ended = behind_bind (close (production_at rule.number) byte first_around 0 first_state vs inner.value.state) alone read.value inner.next in
+    let ended = behind_bind (close (production_at rule.number) byte first_around 0 first_state vs inner.value.state) alone r inner.next in
     let one = ended.value in
-    let same : found (one.value ∷ []) one.state ≡ read.value = ok_same (found (one.value ∷ []) one.state) read.value ended.next in
+    let same : found (one.value ∷ []) one.state ≡ r = ok_same (found (one.value ∷ []) one.state) r ended.next in
     let closed : close Production.Symbol byte first_around 0 first_state vs inner.value.state ≡ Ok one = sym (ap (λ q. close q byte first_around 0 first_state vs inner.value.state) number) ∙ ended.is in
     let means = ok_same (found (meaning Production.Symbol byte first_around vs) (behind Production.Symbol byte first_around first_state vs inner.value.state)) one closed in
     record {
       encoding = tree_of (part vs 1);
       suffix = text_of (part vs 2);
-      is = sym (ok_same (first_tree read.value.value) t read.next) ∙ sym (ap (λ x. first_tree x.value) same) ∙ sym (ap (λ x. tree_of x.value) means);
+      one = sym (ap (λ x. x.value) same) ∙ sym (ap (λ x. x.value ∷ []) means);
     }
-whole_symbol empty t tree e = absurd (true≢false (sym tree ∙ symbol_there))
-whole_symbol (token u) t tree e = absurd tree
-whole_symbol (fixed byte) t tree e = absurd tree
+whole_reading empty r is e = absurd (true≢false (sym is ∙ symbol_there))
+whole_reading (token u) r is e = absurd is
+whole_reading (fixed byte) r is e = absurd is
+
+pub read_as : (shape : Tree) (r : Found (List Value) State) → IsTree abi (OfKind 0) shape → unfold_tree cpp first_around 0 shape first_state ≡ Ok r → IsReadAs shape r.value
+unfolding first_tree tree_of
+read_as shape r is e =
+    let w = whole_reading shape r is e in
+    let stands : IsSymbolTree shape (symbol w.encoding w.suffix) = subst (λ vs. IsSymbolTree shape (first_tree vs)) w.one (reading_stands shape r is e) in
+    record { encoding = w.encoding; suffix = w.suffix; one = w.one; plain = stands.plain; carries = stands.carries }
+
+pub record IsWholeTree (t : Term) : Type 0 where
+  pub encoding : Term
+  pub suffix : List ℕ
+  pub is : t ≡ symbol encoding suffix
+
+pub whole_symbol : (shape : Tree) (t : Term) → IsTree abi (OfKind 0) shape → unfold_cpp shape ≡ Ok t → IsWholeTree t
+unfolding unfold_cpp first_tree tree_of
+whole_symbol shape t is e =
+    let read = behind_bind (unfold_tree cpp first_around 0 shape first_state) (λ r. Ok (first_tree r.value)) t e in
+    let w = whole_reading shape read.value is read.is in
+    record { encoding = w.encoding; suffix = w.suffix; is = sym (ok_same (first_tree read.value.value) t read.next) ∙ ap first_tree w.one }

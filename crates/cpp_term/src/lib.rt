@@ -8,6 +8,8 @@ ghost use Rattle.sym_core.specs.declared.refusal.Refusal.{Refusal};
 ghost use Rattle.sym_print.specs.declared.detail.Detail.{Detail};
 ghost use Rattle.sym_shape.specs.Tree.{Tree, IsTree};
 ghost use Rattle.sym_shape.specs.declared.rule.Sym.TheVariants.{Kind};
+ghost use Rattle.sym_link.specs.Reading.{Found};
+ghost use Rattle.sym_link.specs.Unfold.{unfold_tree};
 ghost use Rattle.cpp_grammar.specs.Table.{abi};
 ghost use Rattle.cpp_grammar.specs.Answer.{shown, root_item, answer_within};
 ghost use Rattle.cpp_grammar.specs.Items.{Item};
@@ -18,7 +20,9 @@ ghost use Rattle.cpp_term.specs.Unfolding as unfolded_;
 ghost use Rattle.cpp_term.specs.Annotated.{noted_item, noted_parts, noted_tree};
 ghost use Rattle.cpp_term.specs.Answer.{noted_shown, noted_answer};
 ghost use Rattle.cpp_term.specs.Erased.{erase, CarriesArguments};
+ghost use Rattle.cpp_term.specs.ReadAs.{IsReadAs};
 ghost use Rattle.cpp_term.specs.Term.{Term, symbol};
+ghost use Rattle.cpp_term.specs.Values.{Value, State};
 
 /// What is shown of an item whose parameters carry their arguments is what is shown of the item without them: the same texts,
 /// and the same items with their arguments, in each detail and form. So texts and costs are the same.
@@ -39,6 +43,11 @@ pub fn arguments_are_erased()
     ensures carries { (shape : Tree) (t : Term) → IsTree abi (Kind 0) shape → unfolded_.unfold_cpp shape ≡ Ok t → CarriesArguments t }
     ensures whole { (shape : Tree) (t : Term) → IsTree abi (Kind 0) shape → unfolded_.unfold_cpp shape ≡ Ok t → (encoding : Term) × (suffix : List ℕ) × (t ≡ symbol encoding suffix) }
     ensures refused { (shape : Tree) (refusal : Refusal) → IsTree abi (Kind 0) shape → unfolded_.unfold_cpp shape ≡ Err refusal → unfolding_.unfold_cpp shape ≡ Err refusal }
+{}
+
+/// What a well shaped symbol is read as, part by part, is one tree, which without its arguments is the tree of the symbol.
+pub fn symbols_are_read_as_trees()
+    ensures { (shape : Tree) (read : Found (List Value) State) → IsTree abi (Kind 0) shape → unfold_tree unfolded_.cpp unfolded_.first_around 0 shape unfolded_.first_state ≡ Ok read → IsReadAs shape read.value }
 {}
 
 /// A tree whose parameters carry their arguments has the text and the cost of the tree without them, in either detail.

@@ -6,7 +6,7 @@ ghost use Rattle.sym_core.specs.declared.refusal.Refusal.TheVariants as refusals
 ghost use Rattle.sym_shape.specs.Tree.{AreRowsOf};
 ghost use Rattle.sym_shape.specs.Reader.{AreFew};
 ghost use Rattle.sym_demangle.specs.Mangled.{StandsFor, IsRefused};
-ghost use Rattle.sym_demangle.specs.Standing.{Progress, unlinked, AreFewInAll, AreLinkSteps};
+ghost use Rattle.sym_demangle.specs.Standing.{Progress, unlinked, AreFewInAll, AreLinkSteps, IsLinker};
 
 use crate::mangling::Mangling;
 use std::alloc::Global;
@@ -36,6 +36,26 @@ impl<M: Mangling> Model for Linker<M> {
     ghost view = { λ l. record { bytes = l.bytes.items; rows = length l.shape.rows; read_steps = l.shape.steps; steps = l.driver.steps; done = l.done; refused = l.driver.refused } };
 
     ghost invariant = { λ l. IsLinker (M.Linked.view l.bytes.items) l.bytes.items l.shape.rows l.shape.steps l.linked l.driver.steps l.driver.refused l.driver.next l.driver.frames.items l.driver.parts.items l.done };
+}
+
+/// The symbol over whose rows a driver has gone. It takes no memory.
+#[inline(always)]
+pub(crate) fn finished<M: Mangling>(
+    bytes: Vec<u8>,
+    shape: &Shape,
+    linked: &mut M::Linked,
+    driver: &Driver<M::Linked>,
+) -> M::Symbol
+    requires { IsLinker (M.Linked.view bytes.items) bytes.items shape.now.rows shape.now.steps linked.old driver.now.steps driver.now.refused driver.now.next driver.now.frames.items driver.now.parts.items true }
+    ensures bytes { M.bytes_of result ≡ bytes.items }
+    ensures stands { StandsFor M.mangled bytes.items (Ok (M.whole_of result)) }
+    ensures rows { M.rows_of result ≡ length shape.now.rows }
+    ensures steps { M.steps_of result ≡ shape.now.steps + driver.now.steps }
+    ensures all_steps { AreLinkSteps M.mangled.table bytes.items driver.now.steps }
+{
+    let rows = shape.rows().len() as u32;
+    let steps = shape.steps() + driver.steps;
+    M::finish(bytes, linked, &driver.parts, rows, steps)
 }
 
 impl<M: Mangling> Linker<M> {
@@ -170,8 +190,6 @@ impl<M: Mangling> Linker<M> {
             driver,
             ..
         } = self;
-        let rows = shape.rows().len() as u32;
-        let steps = shape.steps() + driver.steps;
-        M::finish(bytes, &mut linked, &driver.parts, rows, steps)
+        finished::<M>(bytes, &shape, &mut linked, &driver)
     }
 }

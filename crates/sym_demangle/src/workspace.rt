@@ -10,6 +10,7 @@ ghost use Rattle.sym_shape.specs.declared.rule.Row.{Row};
 ghost use Rattle.sym_demangle.specs.Mangled.{IsReading, IsAnswer, StandsFor, IsRefused};
 ghost use Rattle.sym_demangle.specs.Standing.{AreStepsInAll};
 
+use crate::linker::finished;
 use crate::mangling::Mangling;
 use std::alloc::Global;
 use std::mem;
@@ -176,10 +177,8 @@ impl<M: Mangling> Workspace<M> {
         self.driver.reset();
         self.driver
             .run(&mut self.linked, &self.bytes, self.shape.rows())?;
-        let rows = self.shape.rows().len() as u32;
-        let steps = self.shape.steps() + self.driver.steps;
         let bytes = mem::replace(&mut self.bytes, Vec::new(self.alloc));
-        Ok(M::finish(bytes, &mut self.linked, &self.driver.parts, rows, steps))
+        Ok(finished::<M>(bytes, &self.shape, &mut self.linked, &self.driver))
     }
 
     /// Reads a symbol, as the function `read` does.

@@ -37,7 +37,13 @@ impl Counted for Abi {
     ghost nodes_a_byte = { 2 };
 
     fn counts(symbol: &itanium::Symbol) -> Counts {
-        symbol.counts()
+        let _root = symbol.root_node();
+        let counts = symbol.counts();
+        Counts {
+            rows: counts.rows,
+            nodes: counts.nodes,
+            steps: counts.steps,
+        }
     }
 }
 

@@ -5,7 +5,8 @@ use Rattle.std.proofs.lemmas.List.{length-take-le}
 use Rattle.sym_core.specs.declared.refusal.Refusal.{Refusal}
 use Rattle.sym_shape.specs.declared.rule.Row.{Row}
 use Rattle.sym_shape.specs.declared.rule.Rule.{Rule}
-use Rattle.sym_shape.specs.Tree.{Forest, branch, empty, token, fixed, nothing, grown, spell_all}
+use Rattle.sym_shape.specs.declared.rule.Sym.TheVariants.{Kind}
+use Rattle.sym_shape.specs.Tree.{Forest, branch, empty, token, fixed, nothing, grown, spell_all, IsTree}
 use Rattle.sym_link.specs.declared.language.Frame.{Frame}
 use Rattle.sym_shape.specs.Table.{Token}
 use Rattle.sym_link.specs.Reading.{Found, Open, Reading, ◌>>=◌}
@@ -18,7 +19,7 @@ use Rattle.sym_link.specs.Threads.{skips, IsThere, IsAt, GoesOn, BeginsIn, Close
 use Rattle.sym_link.proofs.Cases.{as_many}
 use Rattle.sym_link.proofs.Lists.{all_push, all_stay, dropped_front, taken_front}
 use Rattle.sym_link.proofs.Following.{fails_carried}
-use Rattle.sym_link.proofs.Standing.{stands_next}
+use Rattle.sym_link.proofs.Standing.{stands_next, tree_next}
 use Rattle.sym_link.proofs.Taking.{of_ok}
 
 -- the parts behind the one that is passed, and where they stand
@@ -192,6 +193,9 @@ module _ {N P K V S C : Type 0} (view : View N P K V S C) (s : List ℕ) (laws :
     next_there : (behind : List ℕ) × (drop (skipped_from from left) s ≡ taken ++ (spell_all inner ++ behind))
     next_there = stands_next view.table s (length view.reading.rowless) rule (length known) from left inside taken inner rest is.stands left_is
 
+    tree_there : (kind : ℕ) × (kind < view.table.kinds) × IsTree view.table (Kind kind) (branch inside taken inner)
+    tree_there = tree_next view.table s (length view.reading.rowless) rule (length known) from left inside taken inner rest laws.linking.lawful is.stands left_is
+
     abbrev whole : Result (Begun V S C) Refusal
     whole = next_of view.reading rule known from left state >>= begun view.reading inside taken (skipped_from from left) inner
 
@@ -217,13 +221,13 @@ module _ {N P K V S C : Type 0} (view : View N P K V S C) (s : List ℕ) (laws :
           let r = standing inside taken (skipped_from from left) next.context next.state in
           let then_of : S → Result (Begun V S C) Refusal = λ st. Ok (record { rule = r; values = next.values; state = st }) in
           rw (passes.1, went)
-          (fails_carried e (view.reading.begin r inner) then_of (view.reading.begin r inner >>= then_of) (begins next.context next.state inside taken inner (skipped_from from left) row_is next_there.0 next_there.1 surrounds held) refl)
+          (fails_carried e (view.reading.begin r inner) then_of (view.reading.begin r inner >>= then_of) (begins next.context next.state inside taken inner (skipped_from from left) row_is tree_there.0 tree_there.1 tree_there.2 next_there.0 next_there.1 surrounds held) refl)
 
       pub begins_right : (new : N) (context kept : K) → GoesOn view s Surrounds middle later frame passed_parts new_parts (Ok context) → view.Grows later new
           → BeginsIn view s Surrounds rows later new context row (Ok kept) → Begins view new (take frame.base parts) new_parts (Ok kept) whole
       begins_right new context kept goes grown_on begins =
           let (next, went, surrounds, held, own, own_is, own_are) = goes rule passes.0.known passes.0.state (passed_at middle passed_parts passes.0 grows passes.5 passes.2) in
-          let (after, began, is_kept, holds) = begins next.context next.state inside taken inner (skipped_from from left) row_is next_there.0 next_there.1 surrounds held in
+          let (after, began, is_kept, holds) = begins next.context next.state inside taken inner (skipped_from from left) row_is tree_there.0 tree_there.1 tree_there.2 next_there.0 next_there.1 surrounds held in
           let r = standing inside taken (skipped_from from left) next.context next.state in
           rw (passes.1, went, began) (
             record { rule = r; values = next.values; state = after },

@@ -189,6 +189,17 @@ stands_next g s n rule held from left inner_rule taken inner rest st is =
           ∙ append_assoc (taken ++ spell_all inner) (spell_all rest) at.behind ∙ append_assoc taken (spell_all inner) (spell_all rest ++ at.behind),
     )
 
+-- the next part with a row, which is a rule's, is a tree of a kind
+pub tree_next : {S C : Type 0} (g : Table) (s : List ℕ) (n : ℕ) (rule : Open S C) (held from : ℕ) (left : Forest) (inner_rule : Rule) (taken : List ℕ) (inner rest : Forest)
+    → IsLawful g → Stands g s n rule held from left → skipped left ≡ grown (branch inner_rule taken inner) rest
+    → (kind : ℕ) × (kind < g.kinds) × IsTree g (Kind kind) (branch inner_rule taken inner)
+tree_next g s n rule held from left inner_rule taken inner rest lawful st is =
+    let at : Stands g s n rule (held + values_in n (passed_by left)) (skipped_from from left) (grown (branch inner_rule taken inner) rest) =
+    subst (λ f. Stands g s n rule (held + values_in n (passed_by left)) (skipped_from from left) f) is (stands_skip g s n rule held from left st) in
+    let symbols = (lawful.rule at.kind at.takes.byte rule.rule at.is_kind at.takes.is_byte at.takes.found).symbols in
+    let part = tree_at g (symbols_of rule.rule) at.passed (branch inner_rule taken inner) rest symbols at.trees in
+    let own = branch_of g part.0 inner_rule taken inner part.1 part.2 in (own.0, own.1, (own.2, own.3))
+
 -- a rule of the symbol begins at one of its bytes
 pub stands_within : {S C : Type 0} (g : Table) (s : List ℕ) (n : ℕ) (rule : Open S C) (held from : ℕ) (left : Forest) → IsLawful g → Stands g s n rule held from left
     → rule.place < length s

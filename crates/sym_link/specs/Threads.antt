@@ -4,7 +4,8 @@ use Rattle.sym_core.specs.declared.refusal.Refusal.{Refusal}
 use Rattle.sym_shape.specs.declared.rule.Row.{Row}
 use Rattle.sym_shape.specs.declared.rule.Rule.{Rule}
 use Rattle.sym_shape.specs.Table.{Table, Token}
-use Rattle.sym_shape.specs.Tree.{Forest, branch, empty, token, fixed, grown, row_count_all, spell_all, TakesRule}
+use Rattle.sym_shape.specs.declared.rule.Sym.TheVariants.{Kind}
+use Rattle.sym_shape.specs.Tree.{Forest, branch, empty, token, fixed, grown, row_count_all, spell_all, TakesRule, IsTree}
 use Rattle.sym_link.specs.declared.language.Frame.{Frame}
 use Rattle.sym_link.specs.Reading.{Open, Next}
 use Rattle.sym_link.specs.Unfold.{standing}
@@ -92,10 +93,11 @@ abbrev pub BeginsAs : {N P K V S C : Type 0} → View N P K V S C → (nodes : N
 BeginsAs {S = S} view nodes rule (Ok kept) read = (state : S) × (read ≡ Ok state) × view.IsKept nodes kept rule × view.Holds nodes state
 BeginsAs view nodes rule (Err e) read = Fails e read
 
--- The rule of a row begins in a context as the reading says.
+-- The rule of a row, which is one of the grammar, begins in a context as the reading says.
 abbrev pub BeginsIn : {N P K V S C : Type 0} → View N P K V S C → (s : List ℕ) → (Surrounds : N → K → C → Type 0) → (rows : List Row) → (old new : N) → (context : K) → Row → Result K Refusal → Type 0
 BeginsIn {S = S} {C = C} view s Surrounds rows old new context row result =
     (around : C) (state : S) (rule : Rule) (taken : List ℕ) (inner : Forest) (place : ℕ) → IsRuleRow rows row rule taken inner place
+    → (kind : ℕ) → kind < view.table.kinds → IsTree view.table (Kind kind) (branch rule taken inner)
     → (behind : List ℕ) → drop place s ≡ taken ++ (spell_all inner ++ behind) → Surrounds old context around → view.Holds old state
     → BeginsAs view new (standing rule taken place around state) result (view.reading.begin (standing rule taken place around state) inner)
 

@@ -150,6 +150,10 @@ fn advance<L: Linking>(
     ensures language { result ≡ Ok None → language.new ≡ language.old }
     ensures frames { result ≡ Ok None → frames.new.items ≡ frames.old.items }
     ensures parts { result ≡ Ok None → parts.new.items ≡ parts.old.items }
+    // Nothing is left to do exactly where no rule is open any more.
+    ensures over { frames.old.items ≡ [] → 0 < next → result ≡ Ok None }
+    ensures closed { result ≡ Ok None → frames.old.items ≡ [] }
+    ensures begun { result ≡ Ok None → 0 < next }
 {
     let Some(frame) = innermost(frames) else {
         if next > 0 {
@@ -248,6 +252,10 @@ impl<L: Linking> Driver<L> {
         ensures frames { result ≡ Ok true → self.new.frames.items ≡ self.old.frames.items }
         ensures parts { result ≡ Ok true → self.new.parts.items ≡ self.old.parts.items }
         ensures next { result ≡ Ok true → self.new.next ≡ self.old.next }
+        // Nothing is left to do exactly where no rule is open any more: a driver that has answered true answers it again.
+        ensures over { self.old.refused ≡ None → self.old.frames.items ≡ [] → 0 < self.old.next → result ≡ Ok true }
+        ensures closed { result ≡ Ok true → self.new.frames.items ≡ [] }
+        ensures begun { result ≡ Ok true → 0 < self.new.next }
         ensures again { IfSome self.old.refused (λ refusal. result ≡ Err refusal) }
     {
         if let Some(refusal) = self.refused {

@@ -1,14 +1,13 @@
-use Rattle.std.proofs.Common.{sym, ap}
+use Rattle.std.proofs.Common.{ap, append-nil, sym, ◌∙◌}
+use Rattle.cpp_layout.proofs.Functions.{bare-other}
+use Rattle.cpp_layout.proofs.Growing.{fills, starts}
 use Rattle.cpp_term.specs.Parts.{bare_parts}
 use Rattle.cpp_tree.specs.Nodes.{tree_of}
-use Rattle.cpp_layout.specs.Layout.{table_of}
-use Rattle.cpp_layout.proofs.Growing.{fills-same}
-use Rattle.cpp_layout.proofs.Functions.{bare-other}
 use Rattle.cpp_layout.proofs.symbol.Symbol.fill_bare_of.Goals as goal
 
-pub returns-in-Function : goal.returns-in-Function
+pub returns-in-Function-clause-shows : goal.returns-in-Function-clause-shows
 unfolding tree_of bare_parts
-returns-in-Function c = fills-same (table_of c.args.self.now) c.args.detail _ _ _ (ap (λ t. bare_parts t) (sym c.in-Function.ensures.tree)) c.fill_bare.ensures
+returns-in-Function-clause-shows g c = fills c.args.self.now c.args.detail _ _ _ (c.push_bare.ensures.shows _ _ (starts c.args.self.now c.args.detail _)) (append-nil _ ∙ ap (λ t. bare_parts t) (sym c.in-Function.ensures.tree))
 
-pub returns-in_default : goal.returns-in_default
-returns-in_default c = fills-same (table_of c.args.self.now) c.args.detail _ _ _ (bare-other _ _ _ c.node.result _ c.node.ensures.tree c.in_default.not-Function) c.fill_full.ensures
+pub returns-in_default-clause-shows : goal.returns-in_default-clause-shows
+returns-in_default-clause-shows g c = fills c.args.self.now c.args.detail _ _ _ c.fill_full.ensures.shows (bare-other _ _ _ c.node.result _ c.node.ensures.tree c.in_default.not-Function)

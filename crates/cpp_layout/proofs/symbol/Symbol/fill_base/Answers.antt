@@ -1,39 +1,39 @@
-use Rattle.std.proofs.Common.{sym, ◌∙◌, ap, [], ◌∷◌}
-use Rattle.sym_print.specs.Unfold.{text}
+use Rattle.std.proofs.Common.{[], ap, sym, ◌∙◌, ◌∷◌}
+use Rattle.cpp_layout.proofs.Growing.{fills, starts}
+use Rattle.cpp_layout.proofs.Typing.{base-other-node}
+use Rattle.cpp_layout.specs.Layout.{context_of}
 use Rattle.cpp_term.specs.Parts.{base_parts}
 use Rattle.cpp_tree.specs.Nodes.{tree_of}
-use Rattle.cpp_layout.specs.Layout.{table_of, context_of}
-use Rattle.cpp_layout.proofs.Growing.{fills-same}
-use Rattle.cpp_layout.proofs.Typing.{base-other-node}
+use Rattle.sym_print.specs.Unfold.{text}
 use Rattle.cpp_layout.proofs.symbol.Symbol.fill_base.Goals as goal
 
-pub returns-in-Alone : goal.returns-in-Alone
+pub returns-in-Alone-clause-shows : goal.returns-in-Alone-clause-shows
 unfolding tree_of base_parts
-returns-in-Alone c = fills-same (table_of c.args.self.now) c.args.ctx.detail _ _ _ (ap (λ t. base_parts c.args.ctx.detail (context_of c.args.ctx) t) (sym c.in-Alone.ensures.tree)) c.fill_piece.ensures
+returns-in-Alone-clause-shows g c = fills c.args.self.now c.args.ctx.detail _ _ _ c.fill_piece.ensures.shows (ap (λ t. base_parts c.args.ctx.detail (context_of c.args.ctx) t) (sym c.in-Alone.ensures.tree))
 
-pub returns-in-InStd : goal.returns-in-InStd
+pub returns-in-InStd-clause-shows : goal.returns-in-InStd-clause-shows
 unfolding tree_of base_parts
-returns-in-InStd c = fills-same (table_of c.args.self.now) c.args.ctx.detail _ _ _ (ap (λ t. base_parts c.args.ctx.detail (context_of c.args.ctx) t) (sym c.in-InStd.ensures.tree)) c.fill_piece-in-InStd.ensures
+returns-in-InStd-clause-shows g c = fills c.args.self.now c.args.ctx.detail _ _ _ c.fill_piece-in-InStd.ensures.shows (ap (λ t. base_parts c.args.ctx.detail (context_of c.args.ctx) t) (sym c.in-InStd.ensures.tree))
 
-pub returns-in-Within : goal.returns-in-Within
+pub returns-in-Within-clause-shows : goal.returns-in-Within-clause-shows
 unfolding tree_of base_parts
-returns-in-Within c = fills-same (table_of c.args.self.now) c.args.ctx.detail _ _ _ (ap (λ t. base_parts c.args.ctx.detail (context_of c.args.ctx) t) (sym c.in-Within.ensures.tree)) c.fill_base_within.ensures
+returns-in-Within-clause-shows g c = fills c.args.self.now c.args.ctx.detail _ _ _ c.fill_base_within.ensures.shows (ap (λ t. base_parts c.args.ctx.detail (context_of c.args.ctx) t) (sym c.in-Within.ensures.tree))
 
-pub returns-in-Instance : goal.returns-in-Instance
+pub returns-in-Instance-clause-shows : goal.returns-in-Instance-clause-shows
 unfolding tree_of base_parts
-returns-in-Instance c = fills-same (table_of c.args.self.now) c.args.ctx.detail _ _ _ (ap (λ t. base_parts c.args.ctx.detail (context_of c.args.ctx) t) (sym c.in-Instance.ensures.tree)) c.fill_item.ensures
+returns-in-Instance-clause-shows g c = fills c.args.self.now c.args.ctx.detail _ _ _ (c.push_item.ensures.shows _ _ (starts c.args.self.now c.args.ctx.detail _)) (ap (λ t. base_parts c.args.ctx.detail (context_of c.args.ctx) t) (sym c.in-Instance.ensures.tree))
 
-pub returns-in-Local : goal.returns-in-Local
+pub returns-in-Local-clause-shows : goal.returns-in-Local-clause-shows
 unfolding tree_of base_parts
-returns-in-Local c = fills-same (table_of c.args.self.now) c.args.ctx.detail _ _ _ (ap (λ t. base_parts c.args.ctx.detail (context_of c.args.ctx) t) (sym c.in-Local.ensures.tree)) c.fill_item-in-Local.ensures
+returns-in-Local-clause-shows g c = fills c.args.self.now c.args.ctx.detail _ _ _ (c.push_item-in-Local.ensures.shows _ _ (starts c.args.self.now c.args.ctx.detail _)) (ap (λ t. base_parts c.args.ctx.detail (context_of c.args.ctx) t) (sym c.in-Local.ensures.tree))
 
-pub returns-in-Abbreviation : goal.returns-in-Abbreviation
+pub returns-in-Abbreviation-clause-shows : goal.returns-in-Abbreviation-clause-shows
 unfolding tree_of base_parts
-returns-in-Abbreviation c = fills-same (table_of c.args.self.now) c.args.ctx.detail _ _ _ (ap (λ t. text t ∷ []) c.last_of_abbreviation.ensures.text ∙ ap (λ t. base_parts c.args.ctx.detail (context_of c.args.ctx) t) (sym c.in-Abbreviation.ensures.tree)) (c.fill_text.ensures c.args.ctx.detail)
+returns-in-Abbreviation-clause-shows g c = fills c.args.self.now c.args.ctx.detail _ _ _ (c.push_some.ensures.shows _ _ _ (starts c.args.self.now c.args.ctx.detail _)) (ap (λ t. text t ∷ []) c.last_of_abbreviation.ensures.text ∙ ap (λ t. base_parts c.args.ctx.detail (context_of c.args.ctx) t) (sym c.in-Abbreviation.ensures.tree))
 
-pub returns-in-Parameter : goal.returns-in-Parameter
+pub returns-in-Parameter-clause-shows : goal.returns-in-Parameter-clause-shows
 unfolding tree_of base_parts
-returns-in-Parameter c = fills-same (table_of c.args.self.now) c.args.ctx.detail _ _ _ (ap (λ t. base_parts c.args.ctx.detail (context_of c.args.ctx) t) (sym c.in-Parameter.ensures.tree)) c.fill_parameter.ensures
+returns-in-Parameter-clause-shows g c = fills c.args.self.now c.args.ctx.detail _ _ _ c.fill_parameter.ensures.shows (ap (λ t. base_parts c.args.ctx.detail (context_of c.args.ctx) t) (sym c.in-Parameter.ensures.tree))
 
-pub returns-in_default : goal.returns-in_default
-returns-in_default c = fills-same (table_of c.args.self.now) c.args.ctx.detail _ _ _ (base-other-node _ _ _ c.args.ctx.detail (context_of c.args.ctx) c.node.result _ c.node.ensures.tree c.in_default.not-Alone c.in_default.not-InStd c.in_default.not-Within c.in_default.not-Instance c.in_default.not-Local c.in_default.not-Abbreviation c.in_default.not-Parameter) c.fill_left.ensures
+pub returns-in_default-clause-shows : goal.returns-in_default-clause-shows
+returns-in_default-clause-shows g c = fills c.args.self.now c.args.ctx.detail _ _ _ c.fill_left.ensures.shows (base-other-node _ _ _ c.args.ctx.detail (context_of c.args.ctx) c.node.result _ c.node.ensures.tree c.in_default.not-Alone c.in_default.not-InStd c.in_default.not-Within c.in_default.not-Instance c.in_default.not-Local c.in_default.not-Abbreviation c.in_default.not-Parameter)

@@ -1,7 +1,6 @@
 use Rattle.std.proofs.Common.{refl}
-use Rattle.cpp_layout.specs.Layout.{table_of}
-use Rattle.cpp_layout.proofs.Growing.{starts, fills}
+use Rattle.cpp_layout.proofs.Growing.{fills, starts}
 use Rattle.cpp_layout.proofs.symbol.Symbol.fill_encoding_literal.Goals as goal
 
-pub returns : goal.returns
-returns c = fills (table_of c.args.self.now) c.args.ctx.detail _ _ _ (c.push_item.ensures.shows _ (c.push_text_if.ensures.shows _ _ (starts (table_of c.args.self.now) _ c.args.parts.now.items c.requires.empty)) c.requires.encoding) refl
+pub returns-clause-shows : goal.returns-clause-shows
+returns-clause-shows g c = fills c.args.self.now c.args.ctx.detail _ _ _ (c.push_text_if.ensures.shows _ _ _ (c.push_item.ensures.shows _ _ (starts c.args.self.now c.args.ctx.detail _))) refl

@@ -1,30 +1,29 @@
-use Rattle.std.proofs.Common.{sym, ap}
+use Rattle.std.proofs.Common.{ap, sym}
+use Rattle.cpp_layout.proofs.Functions.{full-none}
+use Rattle.cpp_layout.proofs.Growing.{fills, starts}
 use Rattle.cpp_term.specs.Parts.{full_parts}
 use Rattle.cpp_tree.specs.Nodes.{tree_of}
-use Rattle.cpp_layout.specs.Layout.{table_of}
-use Rattle.cpp_layout.proofs.Growing.{starts, fills, fills-same}
-use Rattle.cpp_layout.proofs.Functions.{full-none}
 use Rattle.cpp_layout.proofs.symbol.Symbol.fill_full.Goals as goal
 
-pub returns-in-Function : goal.returns-in-Function
+pub returns-in-Function-clause-shows : goal.returns-in-Function-clause-shows
 unfolding tree_of full_parts
-returns-in-Function c = fills-same (table_of c.args.self.now) c.args.detail _ _ _ (ap (λ t. full_parts t) (sym c.in-Function.ensures.tree)) c.fill_function.ensures
+returns-in-Function-clause-shows g c = fills c.args.self.now c.args.detail _ _ _ c.fill_function.ensures.shows (ap (λ t. full_parts t) (sym c.in-Function.ensures.tree))
 
-pub returns-in-Object : goal.returns-in-Object
+pub returns-in-Object-clause-shows : goal.returns-in-Object-clause-shows
 unfolding tree_of full_parts
-returns-in-Object c = fills-same (table_of c.args.self.now) c.args.detail _ _ _ (ap (λ t. full_parts t) (sym c.in-Object.ensures.tree)) c.fill_object.ensures
+returns-in-Object-clause-shows g c = fills c.args.self.now c.args.detail _ _ _ c.fill_object.ensures.shows (ap (λ t. full_parts t) (sym c.in-Object.ensures.tree))
 
-pub returns-in-Special : goal.returns-in-Special
+pub returns-in-Special-clause-shows : goal.returns-in-Special-clause-shows
 unfolding tree_of full_parts
-returns-in-Special c = fills-same (table_of c.args.self.now) c.args.detail _ _ _ (ap (λ t. full_parts t) (sym c.in-Special.ensures.tree)) c.fill_special.ensures
+returns-in-Special-clause-shows g c = fills c.args.self.now c.args.detail _ _ _ c.fill_special.ensures.shows (ap (λ t. full_parts t) (sym c.in-Special.ensures.tree))
 
-pub returns-in-Thunk : goal.returns-in-Thunk
+pub returns-in-Thunk-clause-shows : goal.returns-in-Thunk-clause-shows
 unfolding tree_of full_parts
-returns-in-Thunk c = fills-same (table_of c.args.self.now) c.args.detail _ _ _ (ap (λ t. full_parts t) (sym c.in-Thunk.ensures.tree)) c.fill_thunk.ensures
+returns-in-Thunk-clause-shows g c = fills c.args.self.now c.args.detail _ _ _ c.fill_thunk.ensures.shows (ap (λ t. full_parts t) (sym c.in-Thunk.ensures.tree))
 
-pub returns-in-Guard : goal.returns-in-Guard
+pub returns-in-Guard-clause-shows : goal.returns-in-Guard-clause-shows
 unfolding tree_of full_parts
-returns-in-Guard c = fills-same (table_of c.args.self.now) c.args.detail _ _ _ (ap (λ t. full_parts t) (sym c.in-Guard.ensures.tree)) c.fill_object-in-Guard.ensures
+returns-in-Guard-clause-shows g c = fills c.args.self.now c.args.detail _ _ _ c.fill_object-in-Guard.ensures.shows (ap (λ t. full_parts t) (sym c.in-Guard.ensures.tree))
 
-pub returns-in_default : goal.returns-in_default
-returns-in_default c = fills (table_of c.args.self.now) c.args.detail _ _ _ ((starts (table_of c.args.self.now) _ c.args.parts.now.items c.requires.empty)) (full-none _ _ _ c.node.result _ c.node.ensures.tree c.in_default.not-Function c.in_default.not-Object c.in_default.not-Special c.in_default.not-Thunk c.in_default.not-Guard)
+pub returns-in_default-clause-shows : goal.returns-in_default-clause-shows
+returns-in_default-clause-shows g c = fills c.args.self.now c.args.detail _ _ _ (starts c.args.self.now c.args.detail _) (full-none _ _ _ c.node.result _ c.node.ensures.tree c.in_default.not-Function c.in_default.not-Object c.in_default.not-Special c.in_default.not-Thunk c.in_default.not-Guard)

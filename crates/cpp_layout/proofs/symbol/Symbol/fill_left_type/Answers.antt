@@ -1,59 +1,59 @@
-use Rattle.std.proofs.Common.{refl, sym, ◌∙◌, ap, [], ◌∷◌}
-use Rattle.sym_print.specs.Unfold.{text}
-use Rattle.cpp_term.specs.Parts.{left_parts}
-use Rattle.cpp_tree.specs.Nodes.{trees, tree_of}
-use Rattle.cpp_layout.specs.Layout.{table_of, context_of}
-use Rattle.cpp_layout.proofs.Growing.{fills-same}
+use Rattle.std.proofs.Common.{[], ap, refl, sym, ◌∙◌, ◌∷◌}
+use Rattle.cpp_layout.proofs.Growing.{fills, starts}
 use Rattle.cpp_layout.proofs.Typing.{marked-whole, no-type}
+use Rattle.cpp_layout.specs.Layout.{context_of, table_of}
+use Rattle.cpp_term.specs.Parts.{left_parts}
+use Rattle.cpp_tree.specs.Nodes.{tree_of, trees}
+use Rattle.sym_print.specs.Unfold.{text}
 use Rattle.cpp_layout.proofs.symbol.Symbol.fill_left_type.Goals as goal
 
-pub returns-in-Builtin : goal.returns-in-Builtin
+pub returns-in-Builtin-clause-shows : goal.returns-in-Builtin-clause-shows
 unfolding tree_of left_parts
-returns-in-Builtin c = fills-same (table_of c.args.self.now) c.args.ctx.detail _ _ _ (ap (λ t. text t ∷ []) c.builtin.ensures.text ∙ ap (λ n. left_parts c.args.ctx.detail (context_of c.args.ctx) (tree_of c.args.self.now.bytes c.args.self.now.table.thunks (trees (table_of c.args.self.now)) n)) (sym c.in-Builtin.is)) (c.fill_text.ensures c.args.ctx.detail)
+returns-in-Builtin-clause-shows g c = fills c.args.self.now c.args.ctx.detail _ _ _ (c.push_some.ensures.shows _ _ _ (starts c.args.self.now c.args.ctx.detail _)) (ap (λ t. text t ∷ []) c.builtin.ensures.text ∙ ap (λ n. left_parts c.args.ctx.detail (context_of c.args.ctx) (tree_of c.args.self.now.bytes c.args.self.now.table.thunks (trees (table_of c.args.self.now)) n)) (sym c.in-Builtin.is))
 
-pub returns-in-BuiltinWithD : goal.returns-in-BuiltinWithD
+pub returns-in-BuiltinWithD-clause-shows : goal.returns-in-BuiltinWithD-clause-shows
 unfolding tree_of left_parts
-returns-in-BuiltinWithD c = fills-same (table_of c.args.self.now) c.args.ctx.detail _ _ _ (ap (λ t. text t ∷ []) c.builtin_with_d.ensures.text ∙ ap (λ n. left_parts c.args.ctx.detail (context_of c.args.ctx) (tree_of c.args.self.now.bytes c.args.self.now.table.thunks (trees (table_of c.args.self.now)) n)) (sym c.in-BuiltinWithD.is)) (c.fill_text-in-BuiltinWithD.ensures c.args.ctx.detail)
+returns-in-BuiltinWithD-clause-shows g c = fills c.args.self.now c.args.ctx.detail _ _ _ (c.push_some-in-BuiltinWithD.ensures.shows _ _ _ (starts c.args.self.now c.args.ctx.detail _)) (ap (λ t. text t ∷ []) c.builtin_with_d.ensures.text ∙ ap (λ n. left_parts c.args.ctx.detail (context_of c.args.ctx) (tree_of c.args.self.now.bytes c.args.self.now.table.thunks (trees (table_of c.args.self.now)) n)) (sym c.in-BuiltinWithD.is))
 
-pub returns-in-Vendor : goal.returns-in-Vendor
+pub returns-in-Vendor-clause-shows : goal.returns-in-Vendor-clause-shows
 unfolding tree_of left_parts
-returns-in-Vendor c = fills-same (table_of c.args.self.now) c.args.ctx.detail _ _ _ (ap (λ n. left_parts c.args.ctx.detail (context_of c.args.ctx) (tree_of c.args.self.now.bytes c.args.self.now.table.thunks (trees (table_of c.args.self.now)) n)) (sym c.in-Vendor.is)) (c.fill_vendor.ensures c.args.ctx.detail)
+returns-in-Vendor-clause-shows g c = fills c.args.self.now c.args.ctx.detail _ _ _ (c.push_name.ensures.shows _ _ _ (starts c.args.self.now c.args.ctx.detail _)) (ap (λ n. left_parts c.args.ctx.detail (context_of c.args.ctx) (tree_of c.args.self.now.bytes c.args.self.now.table.thunks (trees (table_of c.args.self.now)) n)) (sym c.in-Vendor.is))
 
-pub returns-in-Pointer : goal.returns-in-Pointer
+pub returns-in-Pointer-clause-shows : goal.returns-in-Pointer-clause-shows
 unfolding tree_of left_parts
-returns-in-Pointer c = fills-same (table_of c.args.self.now) c.args.ctx.detail _ _ _ (marked-whole (context_of c.args.ctx) _ "*" _ refl ∙ ap (λ n. left_parts c.args.ctx.detail (context_of c.args.ctx) (tree_of c.args.self.now.bytes c.args.self.now.table.thunks (trees (table_of c.args.self.now)) n)) (sym c.in-Pointer.is)) c.fill_marked.ensures
+returns-in-Pointer-clause-shows g c = fills c.args.self.now c.args.ctx.detail _ _ _ c.fill_marked.ensures.shows (marked-whole (context_of c.args.ctx) _ "*" _ refl ∙ ap (λ n. left_parts c.args.ctx.detail (context_of c.args.ctx) (tree_of c.args.self.now.bytes c.args.self.now.table.thunks (trees (table_of c.args.self.now)) n)) (sym c.in-Pointer.is))
 
-pub returns-in-Lvalue : goal.returns-in-Lvalue
+pub returns-in-Lvalue-clause-shows : goal.returns-in-Lvalue-clause-shows
 unfolding tree_of left_parts
-returns-in-Lvalue c = fills-same (table_of c.args.self.now) c.args.ctx.detail _ _ _ (ap (λ n. left_parts c.args.ctx.detail (context_of c.args.ctx) (tree_of c.args.self.now.bytes c.args.self.now.table.thunks (trees (table_of c.args.self.now)) n)) (sym c.in-Lvalue.is)) c.fill_lvalue.ensures
+returns-in-Lvalue-clause-shows g c = fills c.args.self.now c.args.ctx.detail _ _ _ c.fill_lvalue.ensures.shows (ap (λ n. left_parts c.args.ctx.detail (context_of c.args.ctx) (tree_of c.args.self.now.bytes c.args.self.now.table.thunks (trees (table_of c.args.self.now)) n)) (sym c.in-Lvalue.is))
 
-pub returns-in-Rvalue : goal.returns-in-Rvalue
+pub returns-in-Rvalue-clause-shows : goal.returns-in-Rvalue-clause-shows
 unfolding tree_of left_parts
-returns-in-Rvalue c = fills-same (table_of c.args.self.now) c.args.ctx.detail _ _ _ (ap (λ n. left_parts c.args.ctx.detail (context_of c.args.ctx) (tree_of c.args.self.now.bytes c.args.self.now.table.thunks (trees (table_of c.args.self.now)) n)) (sym c.in-Rvalue.is)) c.fill_rvalue.ensures
+returns-in-Rvalue-clause-shows g c = fills c.args.self.now c.args.ctx.detail _ _ _ c.fill_rvalue.ensures.shows (ap (λ n. left_parts c.args.ctx.detail (context_of c.args.ctx) (tree_of c.args.self.now.bytes c.args.self.now.table.thunks (trees (table_of c.args.self.now)) n)) (sym c.in-Rvalue.is))
 
-pub returns-in-Array : goal.returns-in-Array
+pub returns-in-Array-clause-shows : goal.returns-in-Array-clause-shows
 unfolding tree_of left_parts
-returns-in-Array c = fills-same (table_of c.args.self.now) c.args.ctx.detail _ _ _ (ap (λ n. left_parts c.args.ctx.detail (context_of c.args.ctx) (tree_of c.args.self.now.bytes c.args.self.now.table.thunks (trees (table_of c.args.self.now)) n)) (sym c.in-Array.is)) c.fill_array.ensures
+returns-in-Array-clause-shows g c = fills c.args.self.now c.args.ctx.detail _ _ _ c.fill_array.ensures.shows (ap (λ n. left_parts c.args.ctx.detail (context_of c.args.ctx) (tree_of c.args.self.now.bytes c.args.self.now.table.thunks (trees (table_of c.args.self.now)) n)) (sym c.in-Array.is))
 
-pub returns-in-FunctionType : goal.returns-in-FunctionType
+pub returns-in-FunctionType-clause-shows : goal.returns-in-FunctionType-clause-shows
 unfolding tree_of left_parts
-returns-in-FunctionType c = fills-same (table_of c.args.self.now) c.args.ctx.detail _ _ _ (ap (λ n. left_parts c.args.ctx.detail (context_of c.args.ctx) (tree_of c.args.self.now.bytes c.args.self.now.table.thunks (trees (table_of c.args.self.now)) n)) (sym c.in-FunctionType.is)) c.fill_left_text.ensures
+returns-in-FunctionType-clause-shows g c = fills c.args.self.now c.args.ctx.detail _ _ _ c.fill_left_text.ensures.shows (ap (λ n. left_parts c.args.ctx.detail (context_of c.args.ctx) (tree_of c.args.self.now.bytes c.args.self.now.table.thunks (trees (table_of c.args.self.now)) n)) (sym c.in-FunctionType.is))
 
-pub returns-in-MemberPointer : goal.returns-in-MemberPointer
+pub returns-in-MemberPointer-clause-shows : goal.returns-in-MemberPointer-clause-shows
 unfolding tree_of left_parts
-returns-in-MemberPointer c = fills-same (table_of c.args.self.now) c.args.ctx.detail _ _ _ (ap (λ n. left_parts c.args.ctx.detail (context_of c.args.ctx) (tree_of c.args.self.now.bytes c.args.self.now.table.thunks (trees (table_of c.args.self.now)) n)) (sym c.in-MemberPointer.is)) c.fill_member.ensures
+returns-in-MemberPointer-clause-shows g c = fills c.args.self.now c.args.ctx.detail _ _ _ c.fill_member.ensures.shows (ap (λ n. left_parts c.args.ctx.detail (context_of c.args.ctx) (tree_of c.args.self.now.bytes c.args.self.now.table.thunks (trees (table_of c.args.self.now)) n)) (sym c.in-MemberPointer.is))
 
-pub returns-in-Qualified : goal.returns-in-Qualified
+pub returns-in-Qualified-clause-shows : goal.returns-in-Qualified-clause-shows
 unfolding tree_of left_parts
-returns-in-Qualified c = fills-same (table_of c.args.self.now) c.args.ctx.detail _ _ _ (ap (λ n. left_parts c.args.ctx.detail (context_of c.args.ctx) (tree_of c.args.self.now.bytes c.args.self.now.table.thunks (trees (table_of c.args.self.now)) n)) (sym c.in-Qualified.is)) c.fill_qualified_left.ensures
+returns-in-Qualified-clause-shows g c = fills c.args.self.now c.args.ctx.detail _ _ _ c.fill_qualified_left.ensures.shows (ap (λ n. left_parts c.args.ctx.detail (context_of c.args.ctx) (tree_of c.args.self.now.bytes c.args.self.now.table.thunks (trees (table_of c.args.self.now)) n)) (sym c.in-Qualified.is))
 
-pub returns-in-Vector : goal.returns-in-Vector
+pub returns-in-Vector-clause-shows : goal.returns-in-Vector-clause-shows
 unfolding tree_of left_parts
-returns-in-Vector c = fills-same (table_of c.args.self.now) c.args.ctx.detail _ _ _ (ap (λ n. left_parts c.args.ctx.detail (context_of c.args.ctx) (tree_of c.args.self.now.bytes c.args.self.now.table.thunks (trees (table_of c.args.self.now)) n)) (sym c.in-Vector.is)) (c.fill_vector.ensures c.args.ctx.detail)
+returns-in-Vector-clause-shows g c = fills c.args.self.now c.args.ctx.detail _ _ _ c.fill_vector.ensures.shows (ap (λ n. left_parts c.args.ctx.detail (context_of c.args.ctx) (tree_of c.args.self.now.bytes c.args.self.now.table.thunks (trees (table_of c.args.self.now)) n)) (sym c.in-Vector.is))
 
-pub returns-in-Complex : goal.returns-in-Complex
+pub returns-in-Complex-clause-shows : goal.returns-in-Complex-clause-shows
 unfolding tree_of left_parts
-returns-in-Complex c = fills-same (table_of c.args.self.now) c.args.ctx.detail _ _ _ (ap (λ n. left_parts c.args.ctx.detail (context_of c.args.ctx) (tree_of c.args.self.now.bytes c.args.self.now.table.thunks (trees (table_of c.args.self.now)) n)) (sym c.in-Complex.is)) c.fill_left_text-in-Complex.ensures
+returns-in-Complex-clause-shows g c = fills c.args.self.now c.args.ctx.detail _ _ _ c.fill_left_text-in-Complex.ensures.shows (ap (λ n. left_parts c.args.ctx.detail (context_of c.args.ctx) (tree_of c.args.self.now.bytes c.args.self.now.table.thunks (trees (table_of c.args.self.now)) n)) (sym c.in-Complex.is))
 
 pub fill_left_argument-requires-clause-kind : goal.fill_left_argument-requires-clause-kind
-fill_left_argument-requires-clause-kind c = no-type c.args.node c.requires.kind c.in_default.not-Builtin c.in_default.not-BuiltinWithD c.in_default.not-Vendor c.in_default.not-Pointer c.in_default.not-Lvalue c.in_default.not-Rvalue c.in_default.not-Array c.in_default.not-FunctionType c.in_default.not-MemberPointer c.in_default.not-Qualified c.in_default.not-Vector c.in_default.not-Complex
+fill_left_argument-requires-clause-kind g c = no-type c.args.node c.requires.kind c.in_default.not-Builtin c.in_default.not-BuiltinWithD c.in_default.not-Vendor c.in_default.not-Pointer c.in_default.not-Lvalue c.in_default.not-Rvalue c.in_default.not-Array c.in_default.not-FunctionType c.in_default.not-MemberPointer c.in_default.not-Qualified c.in_default.not-Vector c.in_default.not-Complex

@@ -1,26 +1,26 @@
-use Rattle.std.proofs.Common.{sym, ap}
+use Rattle.std.proofs.Common.{ap, sym}
+use Rattle.cpp_layout.proofs.Growing.{fills, starts}
+use Rattle.cpp_layout.proofs.Typing.{low-other}
+use Rattle.cpp_layout.specs.Layout.{context_of}
 use Rattle.cpp_term.specs.Parts.{low_parts}
 use Rattle.cpp_tree.specs.Nodes.{tree_of}
-use Rattle.cpp_layout.specs.Layout.{table_of, context_of}
-use Rattle.cpp_layout.proofs.Growing.{fills-same}
-use Rattle.cpp_layout.proofs.Typing.{low-other}
 use Rattle.cpp_layout.proofs.symbol.Symbol.fill_low.Goals as goal
 
-pub returns-in-Lvalue : goal.returns-in-Lvalue
+pub returns-in-Lvalue-clause-shows : goal.returns-in-Lvalue-clause-shows
 unfolding tree_of low_parts
-returns-in-Lvalue c = fills-same (table_of c.args.self.now) c.args.ctx.detail _ _ _ (ap (λ t. low_parts c.args.ctx.detail (context_of c.args.ctx) t) (sym c.in-Lvalue.ensures.tree)) c.fill_lvalue.ensures
+returns-in-Lvalue-clause-shows g c = fills c.args.self.now c.args.ctx.detail _ _ _ c.fill_lvalue.ensures.shows (ap (λ t. low_parts c.args.ctx.detail (context_of c.args.ctx) t) (sym c.in-Lvalue.ensures.tree))
 
-pub returns-in-Rvalue : goal.returns-in-Rvalue
+pub returns-in-Rvalue-clause-shows : goal.returns-in-Rvalue-clause-shows
 unfolding tree_of low_parts
-returns-in-Rvalue c = fills-same (table_of c.args.self.now) c.args.ctx.detail _ _ _ (ap (λ t. low_parts c.args.ctx.detail (context_of c.args.ctx) t) (sym c.in-Rvalue.ensures.tree)) c.fill_lvalue-in-Rvalue.ensures
+returns-in-Rvalue-clause-shows g c = fills c.args.self.now c.args.ctx.detail _ _ _ c.fill_lvalue-in-Rvalue.ensures.shows (ap (λ t. low_parts c.args.ctx.detail (context_of c.args.ctx) t) (sym c.in-Rvalue.ensures.tree))
 
-pub returns-in-Qualified : goal.returns-in-Qualified
+pub returns-in-Qualified-clause-shows : goal.returns-in-Qualified-clause-shows
 unfolding tree_of low_parts
-returns-in-Qualified c = fills-same (table_of c.args.self.now) c.args.ctx.detail _ _ _ (ap (λ t. low_parts c.args.ctx.detail (context_of c.args.ctx) t) (sym c.in-Qualified.ensures.tree)) c.fill_item.ensures
+returns-in-Qualified-clause-shows g c = fills c.args.self.now c.args.ctx.detail _ _ _ (c.push_item.ensures.shows _ _ (starts c.args.self.now c.args.ctx.detail _)) (ap (λ t. low_parts c.args.ctx.detail (context_of c.args.ctx) t) (sym c.in-Qualified.ensures.tree))
 
-pub returns-in-Parameter : goal.returns-in-Parameter
+pub returns-in-Parameter-clause-shows : goal.returns-in-Parameter-clause-shows
 unfolding tree_of low_parts
-returns-in-Parameter c = fills-same (table_of c.args.self.now) c.args.ctx.detail _ _ _ (ap (λ t. low_parts c.args.ctx.detail (context_of c.args.ctx) t) (sym c.in-Parameter.ensures.tree)) c.fill_parameter.ensures
+returns-in-Parameter-clause-shows g c = fills c.args.self.now c.args.ctx.detail _ _ _ c.fill_parameter.ensures.shows (ap (λ t. low_parts c.args.ctx.detail (context_of c.args.ctx) t) (sym c.in-Parameter.ensures.tree))
 
-pub returns-in_default : goal.returns-in_default
-returns-in_default c = fills-same (table_of c.args.self.now) c.args.ctx.detail _ _ _ (low-other _ _ _ c.args.ctx.detail (context_of c.args.ctx) c.node.result _ c.node.ensures.tree c.in_default.not-Lvalue c.in_default.not-Rvalue c.in_default.not-Qualified c.in_default.not-Parameter) c.fill_left.ensures
+pub returns-in_default-clause-shows : goal.returns-in_default-clause-shows
+returns-in_default-clause-shows g c = fills c.args.self.now c.args.ctx.detail _ _ _ c.fill_left.ensures.shows (low-other _ _ _ c.args.ctx.detail (context_of c.args.ctx) c.node.result _ c.node.ensures.tree c.in_default.not-Lvalue c.in_default.not-Rvalue c.in_default.not-Qualified c.in_default.not-Parameter)

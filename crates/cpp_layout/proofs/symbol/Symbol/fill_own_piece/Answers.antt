@@ -1,22 +1,22 @@
-use Rattle.std.proofs.Common.{sym, ap}
+use Rattle.std.proofs.Common.{ap, sym}
+use Rattle.cpp_layout.proofs.Growing.{fills, starts}
+use Rattle.cpp_layout.proofs.Typing.{own-none}
+use Rattle.cpp_layout.specs.Layout.{context_of, own_piece}
 use Rattle.cpp_term.specs.Parts.{piece_parts}
 use Rattle.cpp_tree.specs.Nodes.{tree_of}
-use Rattle.cpp_layout.specs.Layout.{table_of, context_of, own_piece}
-use Rattle.cpp_layout.proofs.Growing.{starts, fills, fills-same}
-use Rattle.cpp_layout.proofs.Typing.{own-none}
 use Rattle.cpp_layout.proofs.symbol.Symbol.fill_own_piece.Goals as goal
 
-pub returns-in-Alone : goal.returns-in-Alone
+pub returns-in-Alone-clause-shows : goal.returns-in-Alone-clause-shows
 unfolding tree_of own_piece
-returns-in-Alone c = fills-same (table_of c.args.self.now) c.args.ctx.detail _ _ _ (ap (λ t. piece_parts (context_of c.args.ctx) (own_piece t)) (sym c.in-Alone.ensures.tree)) c.fill_piece.ensures
+returns-in-Alone-clause-shows g c = fills c.args.self.now c.args.ctx.detail _ _ _ c.fill_piece.ensures.shows (ap (λ t. piece_parts (context_of c.args.ctx) (own_piece t)) (sym c.in-Alone.ensures.tree))
 
-pub returns-in-InStd : goal.returns-in-InStd
+pub returns-in-InStd-clause-shows : goal.returns-in-InStd-clause-shows
 unfolding tree_of own_piece
-returns-in-InStd c = fills-same (table_of c.args.self.now) c.args.ctx.detail _ _ _ (ap (λ t. piece_parts (context_of c.args.ctx) (own_piece t)) (sym c.in-InStd.ensures.tree)) c.fill_piece-in-InStd.ensures
+returns-in-InStd-clause-shows g c = fills c.args.self.now c.args.ctx.detail _ _ _ c.fill_piece-in-InStd.ensures.shows (ap (λ t. piece_parts (context_of c.args.ctx) (own_piece t)) (sym c.in-InStd.ensures.tree))
 
-pub returns-in-Within : goal.returns-in-Within
+pub returns-in-Within-clause-shows : goal.returns-in-Within-clause-shows
 unfolding tree_of own_piece
-returns-in-Within c = fills-same (table_of c.args.self.now) c.args.ctx.detail _ _ _ (ap (λ t. piece_parts (context_of c.args.ctx) (own_piece t)) (sym c.in-Within.ensures.tree)) c.fill_piece-in-Within.ensures
+returns-in-Within-clause-shows g c = fills c.args.self.now c.args.ctx.detail _ _ _ c.fill_piece-in-Within.ensures.shows (ap (λ t. piece_parts (context_of c.args.ctx) (own_piece t)) (sym c.in-Within.ensures.tree))
 
-pub returns-in_default : goal.returns-in_default
-returns-in_default c = fills (table_of c.args.self.now) c.args.ctx.detail _ _ _ ((starts (table_of c.args.self.now) _ c.args.parts.now.items c.requires.empty)) (own-none _ _ _ (context_of c.args.ctx) c.node.result _ c.node.ensures.tree c.in_default.not-Alone c.in_default.not-InStd c.in_default.not-Within)
+pub returns-in_default-clause-shows : goal.returns-in_default-clause-shows
+returns-in_default-clause-shows g c = fills c.args.self.now c.args.ctx.detail _ _ _ (starts c.args.self.now c.args.ctx.detail _) (own-none _ _ _ (context_of c.args.ctx) c.node.result _ c.node.ensures.tree c.in_default.not-Alone c.in_default.not-InStd c.in_default.not-Within)

@@ -1,4 +1,4 @@
-use Rattle.std.proofs.Common.{◌≡◌, sym, ◌∙◌, ap, subst, ℕ, ◌<◌, List, [], ◌∷◌}
+use Rattle.std.proofs.Common.{◌≡◌, sym, ◌∙◌, ap, subst, ℕ, ◌<◌, List, [], ◌∷◌, length}
 use Rattle.std.specs.Prelude.{IfOk, IfErr}
 use Rattle.sym_core.specs.declared.refusal.Refusal.{Refusal}
 use Rattle.sym_link.specs.Driving.{Fails}
@@ -11,6 +11,7 @@ use Rattle.cpp_link.specs.declared.part.Kept.{Kept}
 use Rattle.cpp_link.specs.declared.part.Step.{Step}
 use Rattle.cpp_link.specs.Parts.{trees_in, value_in, values_in, around_of}
 use Rattle.cpp_link.specs.Reads.{goes_on}
+use Rattle.cpp_link.specs.Stepping.{IsStepOf}
 use Rattle.cpp_link.proofs.Places.{values_length, none_are, one_is, two_are, three_are, later_are, empty_length, many_more}
 use Rattle.cpp_link.proofs.linked.Linked.step.Goals as goal
 
@@ -68,3 +69,18 @@ returns-clause-is c =
     later.are ∙ ap (λ v. v ∷ later.second ∷ later.third ∷ later.fourth ∷ later.rest) (sym c.given-first.ensures.is) in
     subst (λ xs. Goes c.args.symbol.now c.args.self.now c.args.production c.args.place c.args.kept xs c.step_later.result) (sym are)
     (c.step_later.ensures.is later.second later.third later.fourth later.rest)
+
+pub returns-then-is_empty-clause-of : goal.returns-then-is_empty-clause-of
+returns-then-is_empty-clause-of c = c.step_first.ensures.of (length c.args.parts.now)
+
+pub returns-then-parts-eq1-clause-of : goal.returns-then-parts-eq1-clause-of
+returns-then-parts-eq1-clause-of c = subst (λ held. IfOk c.step_behind_first.result (λ step. IsStepOf c.args.production held step)) (sym c.if-parts-eq1.true) c.step_behind_first.ensures.of
+
+pub returns-then-parts-eq2-clause-of : goal.returns-then-parts-eq2-clause-of
+returns-then-parts-eq2-clause-of c = subst (λ held. IsStepOf c.args.production held c.step_third.result) (sym c.if-parts-eq2.true) c.step_third.ensures.of
+
+pub returns-then-parts-eq3-clause-of : goal.returns-then-parts-eq3-clause-of
+returns-then-parts-eq3-clause-of c = c.step_fourth.ensures.of (length c.args.parts.now)
+
+pub returns-clause-of : goal.returns-clause-of
+returns-clause-of c = c.step_later.ensures.of (length c.args.parts.now)

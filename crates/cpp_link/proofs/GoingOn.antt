@@ -1,0 +1,93 @@
+-- The next part of a rule is gone on to as the reading says.
+use Rattle.std.proofs.Common.{◌≡◌, refl, sym, ◌∙◌, ap, arith, ℕ, suc, ◌+◌, ◌-◌, ◌≤◌, List, ◌++◌, length, drop, Option, Ok, Err}
+use Rattle.std.proofs.lemmas.List.{length-drop, take-append-drop}
+use Rattle.sym_core.specs.declared.refusal.Refusal.{Refusal}
+use Rattle.sym_link.specs.declared.language.Frame.{Frame}
+use Rattle.sym_link.specs.Reading.{Open}
+use Rattle.sym_link.specs.Driving.{Fails}
+use Rattle.sym_link.specs.Linking.{Adds, owed_behind, owed_next}
+use Rattle.sym_link.specs.Threads.{IsAt, GoesOn}
+use Rattle.cpp_grammar.specs.declared.production.Production.{Production}
+use Rattle.cpp_grammar.specs.Unfolding.{production_at}
+use Rattle.cpp_term.specs.Values as values
+use Rattle.cpp_term.specs.Values.{State, Value, Around}
+use Rattle.cpp_term.specs.Between.{between}
+use Rattle.cpp_term.specs.Unfolding.{cpp}
+use Rattle.cpp_link.specs.declared.linked.Linked.{Linked}
+use Rattle.cpp_link.specs.declared.part.Kept.{Kept}
+use Rattle.cpp_link.specs.declared.part.Part.{Part}
+use Rattle.cpp_link.specs.declared.part.Step.{Step}
+use Rattle.cpp_link.specs.Making.{state_of}
+use Rattle.cpp_link.specs.Owed.{owes}
+use Rattle.cpp_link.specs.Parts.{trees_in, values_in, around_of}
+use Rattle.cpp_link.specs.Reads.{goes_on}
+use Rattle.cpp_link.specs.Stepping.{IsStepOf, Takes, nodes_of_step}
+use Rattle.cpp_link.specs.View.{IsPaid, Surrounds, cpp_view}
+use Rattle.cpp_link.proofs.Stepping.{step_owed}
+use Rattle.cpp_link.proofs.Viewing.{parts_are, parts_all}
+
+same_between : (m n q p : ℕ) (code around : Around) (us vs : List Value) (cs : List values.Candidate) (packs : Option ℕ) (state : State)
+    → m ≡ n → q ≡ p → code ≡ around → us ≡ vs → cs ≡ state.candidates → packs ≡ state.packs
+    → between (production_at n) around p vs state ≡ between (production_at m) code q us (record { candidates = cs; packs = packs })
+same_between m n q p code around us vs cs packs state number place context known candidates same = rw (number, place, context, known, candidates, same) refl
+
+-- what is done before the next part of the open rule of the reading, in terms of the frame
+read_is : (s : List ℕ) (old : Linked) (frame : Frame Kept) (own : List Part) (rule : Open State Around) (known : List Value) (state : State) → IsAt (cpp_view s) s old frame own rule known state
+    → cpp.between rule known state ≡ between (production_at frame.rule) (around_of (trees_in s old.nodes) frame.kept) frame.place (values_in s old.nodes own) (state_of s old)
+unfolding cpp
+read_is s old frame own rule known state is =
+    same_between frame.rule rule.rule.number frame.place rule.place (around_of (trees_in s old.nodes) frame.kept) rule.context (values_in s old.nodes own) known _ old.packs state
+    is.number is.place is.kept.surrounds.is (parts_are s old own known is.parts).1 is.holds.candidates is.holds.packs
+
+-- the step that was taken is that of the reading
+pub goes_right : (s : List ℕ) (old new : Linked) (frame : Frame Kept) (parts new_parts own : List Part) (production : Production) (step : Step) (then : Kept)
+    → own ≡ drop frame.base parts → production ≡ production_at frame.rule
+    → ((cs : List values.Candidate) → between production (around_of (trees_in s old.nodes) frame.kept) frame.place (values_in s old.nodes own) (record { candidates = cs; packs = old.packs })
+    ≡ goes_on s old.nodes frame.kept (values_in s old.nodes own) cs old.packs step)
+    → Takes s old new frame.kept frame.base parts new_parts step then
+    → GoesOn (cpp_view s) s (Surrounds s) old new frame parts new_parts (Ok then)
+goes_right s old new frame parts new_parts own production step then same numbered step_is takes rule known state is = (
+  record { values = values_in s new.nodes (drop frame.base new_parts); context = around_of (trees_in s new.nodes) then; state = state_of s new },
+  read_is s old frame (drop frame.base parts) rule known state is ∙ stepped own production same numbered step_is ∙ takes.is,
+  record { there = takes.around; is = refl },
+  record { table = takes.grows.table; there = takes.candidates; candidates = refl; packs = refl },
+  drop frame.base new_parts,
+  sym (take-append-drop frame.base new_parts) ∙ ap (λ ps. ps ++ drop frame.base new_parts) takes.lower,
+  parts_all s new (drop frame.base new_parts) takes.there,
+)
+  where
+    stepped : (own : List Part) (production : Production) → own ≡ drop frame.base parts → production ≡ production_at frame.rule
+        → ((cs : List values.Candidate) → between production (around_of (trees_in s old.nodes) frame.kept) frame.place (values_in s old.nodes own) (record { candidates = cs; packs = old.packs })
+        ≡ goes_on s old.nodes frame.kept (values_in s old.nodes own) cs old.packs step)
+        → between (production_at frame.rule) (around_of (trees_in s old.nodes) frame.kept) frame.place (values_in s old.nodes (drop frame.base parts)) (state_of s old)
+        ≡ goes_on s old.nodes frame.kept (values_in s old.nodes (drop frame.base parts)) (state_of s old).candidates old.packs step
+    stepped own production same numbered step_is = rw (← same, ← numbered) (step_is (state_of s old).candidates)
+
+-- the refusal of a step is that of the reading
+pub refused_right : (s : List ℕ) (old new : Linked) (frame : Frame Kept) (parts new_parts own : List Part) (production : Production) (e : Refusal)
+    → own ≡ drop frame.base parts → production ≡ production_at frame.rule
+    → ((cs : List values.Candidate) → Fails e (between production (around_of (trees_in s old.nodes) frame.kept) frame.place (values_in s old.nodes own) (record { candidates = cs; packs = old.packs })))
+    → GoesOn (cpp_view s) s (Surrounds s) old new frame parts new_parts (Err e)
+refused_right s old new frame parts new_parts own production e same numbered refused rule known state is =
+    rw (read_is s old frame (drop frame.base parts) rule known state is, ← same, ← numbered) (refused (state_of s old).candidates)
+
+next_owes : (number held m : ℕ) (step : Step) → IsStepOf (production_at number) held step → m ≡ held → nodes_of_step step + owes number (m + 1) ≤ owes number held
+unfolding owes
+next_owes number held m step of same =
+    let behind : m + 1 ≡ suc held = omega (arith, same) in
+    rw behind (step_owed (production_at number) held step of)
+
+-- the nodes are the old ones and those that the production makes before this part
+pub adds_right : (s : List ℕ) (old new : Linked) (frame : Frame Kept) (parts new_parts own : List Part) (production : Production) (step : Step) (then : Kept)
+    → own ≡ drop frame.base parts → production ≡ production_at frame.rule → IsPaid s old → IsStepOf production (length own) step
+    → Takes s old new frame.kept frame.base parts new_parts step then
+    → Adds (cpp_view s) old new (owed_behind (cpp_view s) frame parts) (owed_next (cpp_view s) frame new_parts)
+adds_right s old new frame parts new_parts own production step then same numbered paid of takes =
+    let held : length own ≡ length parts - frame.base = ap (λ ps. length ps) same ∙ length-drop frame.base parts in (
+      record { least = takes.grows.least; stays = takes.grows.stays },
+      sizes (length old.nodes.nodes) (length new.nodes.nodes) (nodes_of_step step) (owes frame.rule (length new_parts - frame.base + 1)) (owes frame.rule (length parts - frame.base)) paid.begun takes.grows.few
+          (rw held at (next_owes frame.rule (length own) (length new_parts - frame.base) step (rw (← numbered) of) (ap (λ n. n - frame.base) takes.count ∙ sym held))),
+    )
+  where
+    sizes : (m n made behind before : ℕ) → 3 ≤ m → n ≤ m + made → made + behind ≤ before → n - 3 + behind ≤ m - 3 + before
+    sizes m n made behind before begun few owed = omega (arith, begun, few, owed)

@@ -1,0 +1,116 @@
+-- What comes behind a rule, in terms of the nodes that are there once its own is made.
+use Rattle.std.proofs.Common.{◌≡◌, refl, sym, ◌∙◌, ap, subst, arith, ℕ, zero, suc, ◌+◌, ◌-◌, ◌<◌, ◌≤◌, List, [], ◌∷◌, length, Option, Result, Ok, Err}
+use Rattle.std.specs.Prelude.{slice_get, IfSome, IfOk, IfErr, OnOk}
+use Rattle.sym_core.specs.Value.{counted_value}
+use Rattle.sym_core.specs.declared.NumberKind.TheVariants.{Seq36}
+use Rattle.sym_core.specs.declared.refusal.Refusal.{Refusal}
+use Rattle.sym_link.specs.Reading.{Found}
+use Rattle.sym_link.specs.Unfold.{found}
+use Rattle.sym_link.specs.Driving.{Fails}
+use Rattle.cpp_grammar.specs.declared.production.Production.{Production}
+use Rattle.cpp_grammar.specs.Unfolding.{production_at}
+use Rattle.cpp_term.specs.Term.{Term}
+use Rattle.cpp_term.specs.Values as values
+use Rattle.cpp_term.specs.Values.{State, Value, Around, part, text_of}
+use Rattle.cpp_term.specs.Meaning.{meaning}
+use Rattle.cpp_term.specs.References.{substituted}
+use Rattle.cpp_term.specs.Unfolding.{behind, close}
+use Rattle.cpp_tree.specs.Nodes.{tree_at}
+use Rattle.cpp_link.specs.declared.linked.Linked.{Linked}
+use Rattle.cpp_link.specs.declared.part.Candidate.{Candidate}
+use Rattle.cpp_link.specs.declared.part.Kept.{Kept}
+use Rattle.cpp_link.specs.declared.part.Part.{Part}
+use Rattle.cpp_link.specs.Making.{state_of}
+use Rattle.cpp_link.specs.Owed.{made_at_end, owes_of, owes}
+use Rattle.cpp_link.specs.Parts.{trees_in, values_in, around_of, candidates_of, AreThere, IsKeptThere, AreCandidatesThere}
+use Rattle.cpp_link.specs.Reads.{with_candidate, maybe_candidate}
+use Rattle.cpp_link.specs.Staying.{values_stay, around_stays, candidates_stay, there_more}
+
+pub parts_more : (s : List ℕ) (m n : ℕ) (ps : List Part) → m ≤ n → AreThere s m ps → AreThere s n ps
+parts_more s m n [] le there = tt
+parts_more s m n (p ∷ ps) le there = (there_more s m n p le there.0, parts_more s m n ps le there.1)
+
+-- a candidate by its number
+pub candidate_at : (ts : List Term) (cs : List Candidate) (k : ℕ) → maybe_candidate ts (slice_get cs k) ≡ slice_get (candidates_of ts cs) k
+unfolding maybe_candidate
+candidate_at ts [] k = refl
+candidate_at ts (c ∷ cs) zero = refl
+candidate_at ts (c ∷ cs) (suc k) = candidate_at ts cs k
+
+pub candidate_there : (n : ℕ) (cs : List Candidate) (k : ℕ) → AreCandidatesThere n cs → IfSome (slice_get cs k) (λ c. c.node < n)
+candidate_there n [] k there = tt
+candidate_there n (c ∷ cs) zero there = there.0
+candidate_there n (c ∷ cs) (suc k) there = candidate_there n cs k there.1
+
+same_behind : (p : Production) (byte : ℕ) (later around : Around) (began : State) (us vs : List Value) (ds cs : List values.Candidate) (then packs : Option ℕ)
+    → later ≡ around → us ≡ vs → ds ≡ cs → then ≡ packs
+    → behind p byte around began vs (record { candidates = cs; packs = packs }) ≡ behind p byte later began us (record { candidates = ds; packs = then })
+same_behind p byte later around began us vs ds cs then packs context known candidates same = rw (context, known, candidates, same) refl
+
+-- the state behind a rule, once its node is made and what becomes a candidate is one
+pub state_behind : (s : List ℕ) (old mid last : Linked) (p : Production) (byte : ℕ) (kept : Kept) (parts : List Part) (candidate packs : Option ℕ) (began : State)
+    → ((i : ℕ) → i < length old.nodes.nodes → tree_at (trees_in s mid.nodes) i ≡ tree_at (trees_in s old.nodes) i)
+    → IsKeptThere (length old.nodes.nodes) kept → AreThere s (length old.nodes.nodes) parts → AreCandidatesThere (length old.nodes.nodes) old.candidates.items
+    → mid.candidates ≡ old.candidates → mid.packs ≡ old.packs
+    → ((cs : List values.Candidate) → behind p byte (around_of (trees_in s mid.nodes) kept) began (values_in s mid.nodes parts) (record { candidates = cs; packs = mid.packs })
+    ≡ with_candidate (around_of (trees_in s mid.nodes) kept) (trees_in s mid.nodes) candidate (record { candidates = cs; packs = packs }))
+    → with_candidate (around_of (trees_in s mid.nodes) kept) (trees_in s mid.nodes) candidate (record { candidates = candidates_of (trees_in s mid.nodes) mid.candidates.items; packs = packs })
+    ≡ record { candidates = candidates_of (trees_in s mid.nodes) last.candidates.items; packs = packs }
+    → last.nodes ≡ mid.nodes → last.packs ≡ packs
+    → behind p byte (around_of (trees_in s old.nodes) kept) began (values_in s old.nodes parts) (state_of s old) ≡ state_of s last
+state_behind s old mid last p byte kept parts candidate packs began stays kept_there there candidates_there candidates before comes appended nodes after =
+    let cs : candidates_of (trees_in s mid.nodes) mid.candidates.items ≡ candidates_of (trees_in s old.nodes) old.candidates.items =
+    ap (λ v. candidates_of (trees_in s mid.nodes) v.items) candidates ∙ candidates_stay s old.nodes mid.nodes stays old.candidates.items candidates_there in
+    same_behind p byte (around_of (trees_in s mid.nodes) kept) (around_of (trees_in s old.nodes) kept) began (values_in s mid.nodes parts) (values_in s old.nodes parts)
+    (candidates_of (trees_in s mid.nodes) mid.candidates.items) _ mid.packs old.packs
+    (around_stays s old.nodes mid.nodes stays kept kept_there) (values_stay s old.nodes mid.nodes stays parts there) cs before
+    ∙ comes (candidates_of (trees_in s mid.nodes) mid.candidates.items) ∙ appended
+    ∙ rw (nodes, after) refl
+
+-- no more nodes are made than are owed
+pub few_owed : (number held old new : ℕ) → new ≤ old + made_at_end (production_at number) → new - 3 + 0 ≤ old - 3 + owes number held
+unfolding owes owes_of
+few_owed number held old new few = omega (arith, few)
+
+-- ## What a production closes to
+
+other_close : (p : Production) (byte : ℕ) (around : Around) (place : ℕ) (began : State) (vs : List Value) (state : State) → (p ≡ Production.Substitution → ⊥)
+    → close p byte around place began vs state ≡ Ok (found (meaning p byte around vs) (behind p byte around began vs state))
+unfolding close
+other_close Production.Substitution byte around place began vs state other = absurd (other refl)
+other_close _ byte around place began vs state other = refl
+
+module _ (p : Production) (byte : ℕ) (around : Around) (place : ℕ) (vs : List Value) (state then : State) (packs : Option ℕ) (value : Part → Value) (result : Result Part Refusal) where
+  abbrev named : Result (Found Value State) Refusal
+  named = substituted around (place - 1) (slice_get state.candidates (counted_value Seq36 (text_of (part vs 0)))) state
+
+  pub substitution_closes : p ≡ Production.Substitution → IfOk result (λ made. named ≡ Ok (found (value made) then))
+      → IfOk result (λ made. (began : State) → began.packs ≡ packs → close p byte around place began vs state ≡ Ok (found (value made) then))
+  unfolding close
+  substitution_closes is = go result
+    where
+      go : (r : Result Part Refusal) → IfOk r (λ made. named ≡ Ok (found (value made) then))
+          → IfOk r (λ made. (began : State) → began.packs ≡ packs → close p byte around place began vs state ≡ Ok (found (value made) then))
+      go (Ok made) closes = λ began same. ap (λ q. close q byte around place began vs state) is ∙ closes
+      go (Err e) closes = tt
+
+  pub substitution_refused : p ≡ Production.Substitution → IfErr result (λ e. Fails e named) → IfErr result (λ e. (began : State) → Fails e (close p byte around place began vs state))
+  unfolding close
+  substitution_refused is = go result
+    where
+      go : (r : Result Part Refusal) → IfErr r (λ e. Fails e named) → IfErr r (λ e. (began : State) → Fails e (close p byte around place began vs state))
+      go (Ok made) refused = tt
+      go (Err e) refused = λ began. subst (λ q. Fails e (close q byte around place began vs state)) (sym is) refused
+
+  pub other_closes : (p ≡ Production.Substitution → ⊥) → IfOk result (λ made. value made ≡ meaning p byte around vs)
+      → OnOk result ((began : State) → began.packs ≡ packs → behind p byte around began vs state ≡ then)
+      → IfOk result (λ made. (began : State) → began.packs ≡ packs → close p byte around place began vs state ≡ Ok (found (value made) then))
+  other_closes other = go result
+    where
+      go : (r : Result Part Refusal) → IfOk r (λ made. value made ≡ meaning p byte around vs)
+          → OnOk r ((began : State) → began.packs ≡ packs → behind p byte around began vs state ≡ then)
+          → IfOk r (λ made. (began : State) → began.packs ≡ packs → close p byte around place began vs state ≡ Ok (found (value made) then))
+      go (Ok made) is comes = λ began same.
+          other_close p byte around place began vs state other
+          ∙ ap (λ v. Ok (found v (behind p byte around began vs state))) (sym is) ∙ ap (λ t. Ok (found (value made) t)) (comes began same)
+      go (Err e) is comes = tt

@@ -1,0 +1,202 @@
+-- A step is taken as the reading says.
+use Rattle.std.proofs.Common.{◌≡◌, refl, sym, ◌∙◌, ap, arith, ℕ, zero, suc, ◌+◌, ◌<◌, ◌≤◌, Bool, true, false, List, [], ◌∷◌, length, take, drop, get_or, Option, Some, None, Result, Ok, Err}
+use Rattle.std.specs.Prelude.{IfOk}
+use Rattle.std.specs.List.{AllByRecursion}
+use Rattle.sym_core.specs.declared.refusal.Refusal.{Refusal}
+use Rattle.cpp_grammar.specs.declared.production.Production.{Production}
+use Rattle.cpp_term.specs.Term.{Term}
+use Rattle.cpp_term.specs.Values as values
+use Rattle.cpp_term.specs.Values.{State, Value, Around}
+use Rattle.cpp_term.specs.Between.{Going, after}
+use Rattle.cpp_tree.specs.Nodes.{Stored, over, tree_at, IsTable}
+use Rattle.cpp_tree.specs.declared.node.Node.{Node}
+use Rattle.cpp_link.specs.declared.linked.Linked.{Linked}
+use Rattle.cpp_link.specs.declared.part.Part.{Part}
+use Rattle.cpp_link.specs.declared.part.Kept.{Kept}
+use Rattle.cpp_link.specs.declared.part.Step.{Step}
+use Rattle.cpp_link.specs.declared.part.Candidate.{Candidate}
+use Rattle.cpp_link.specs.Grows.{Grows}
+use Rattle.cpp_link.specs.Making.{state_of}
+use Rattle.cpp_link.specs.Owed.{made_before, sum_all, owes_of}
+use Rattle.cpp_link.specs.Parts.{trees_in, tree_of_node, value_of, values_of, values_in, prefix_of, around_of, candidates_of, IsThere, AreThere, IsKeptThere, AreCandidatesThere}
+use Rattle.cpp_link.specs.Reads.{behind_first, named_if, appended_if, with_candidate, goes_on}
+use Rattle.cpp_link.specs.Staying.{values_stay, around_stays, candidates_stay, kept_more}
+use Rattle.cpp_link.specs.Stepping.{IsStepOf, Takes, nodes_of_step, behind_if}
+use Rattle.cpp_link.proofs.Making.{parts_more}
+
+-- ## Nodes that steps make
+
+-- a parameter makes its node behind its digits
+pub parameter_steps : (result : Result Step Refusal) → IfOk result (λ step. IsStepOf Production.Parameter 1 step)
+unfolding made_before
+parameter_steps (Err e) = tt
+parameter_steps (Ok (Step.Go candidate then packs)) = tt
+parameter_steps (Ok (Step.Named node listed)) = omega arith
+parameter_steps (Ok (Step.Made node listed is_name is_candidate packs)) = (omega arith, refl)
+
+pub nest_parameter_steps : (result : Result Step Refusal) → IfOk result (λ step. IsStepOf Production.NestParameter 1 step)
+unfolding made_before
+nest_parameter_steps (Err e) = tt
+nest_parameter_steps (Ok (Step.Go candidate then packs)) = tt
+nest_parameter_steps (Ok (Step.Named node listed)) = omega arith
+nest_parameter_steps (Ok (Step.Made node listed is_name is_candidate packs)) = (omega arith, refl)
+
+sum_next : (ns : List ℕ) (held : ℕ) → sum_all (drop held ns) ≡ get_or ns held 0 + sum_all (drop (suc held) ns)
+unfolding sum_all
+sum_next [] zero = refl
+sum_next [] (suc held) = refl
+sum_next (n ∷ ns) zero = refl
+sum_next (n ∷ ns) (suc held) = sum_next ns held
+
+-- what a production owes pays for the nodes of a step
+pub step_owed : (p : Production) (held : ℕ) (step : Step) → IsStepOf p held step → nodes_of_step step + owes_of p (suc held) ≤ owes_of p held
+unfolding owes_of
+step_owed p held (Step.Go candidate then packs) of = omega (arith, sum_next (made_before p) held)
+step_owed p held (Step.Named node listed) of = omega (arith, sum_next (made_before p) held)
+step_owed p held (Step.Made node listed is_name is_candidate packs) of = omega (arith, sum_next (made_before p) held, of.1)
+
+-- ## Parts
+
+-- the parts behind the first
+rest_values : (s : List ℕ) (ts : List Term) (base : ℕ) (parts : List Part) → behind_first (values_of s ts (drop base parts)) ≡ values_of s ts (drop (suc base) parts)
+unfolding behind_first values_of
+rest_values s ts zero [] = refl
+rest_values s ts zero (p ∷ ps) = refl
+rest_values s ts (suc base) [] = refl
+rest_values s ts (suc base) (p ∷ ps) = rest_values s ts base ps
+
+rest_there : (s : List ℕ) (n base : ℕ) (parts : List Part) → AreThere s n (drop base parts) → AreThere s n (drop (suc base) parts)
+rest_there s n zero [] there = tt
+rest_there s n zero (p ∷ ps) there = there.1
+rest_there s n (suc base) [] there = tt
+rest_there s n (suc base) (p ∷ ps) there = rest_there s n base ps there
+
+pub all_there : (s : List ℕ) (n : ℕ) (ps : List Part) → AllByRecursion (IsThere s n) ps → AreThere s n ps
+all_there s n [] all = tt
+all_there s n (p ∷ ps) all = (all.0, all_there s n ps all.1)
+
+-- the tree that is the first part now is there with those behind it
+first_there : (s : List ℕ) (n base : ℕ) (parts new_parts : List Part) (node : ℕ) (listed : Bool) → AreThere s n (drop base parts) → node < n
+    → drop base new_parts ≡ Part.Tree node listed ∷ drop (base + 1) parts → AreThere s n (drop base new_parts)
+first_there s n base parts new_parts node listed there less own =
+    let after_one : base + 1 ≡ suc base = omega arith in
+    rw (own, after_one) (less, rest_there s n base parts there)
+
+first_values : (s : List ℕ) (ts : List Term) (base : ℕ) (parts new_parts : List Part) (node : ℕ) (listed : Bool)
+    → drop base new_parts ≡ Part.Tree node listed ∷ drop (base + 1) parts
+    → values.tree (tree_at ts node) listed ∷ behind_first (values_of s ts (drop base parts)) ≡ values_of s ts (drop base new_parts)
+unfolding value_of values_of
+first_values s ts base parts new_parts node listed own =
+    let after_one : suc base ≡ base + 1 = omega arith in
+    ap (λ vs. values.tree (tree_at ts node) listed ∷ vs) (rest_values s ts base parts ∙ ap (λ k. values_of s ts (drop k parts)) after_one)
+    ∙ ap (λ ps. values_of s ts ps) (sym own)
+
+abbrev going : List Value → Around → State → Going
+going vs around state = Ok (record { values = vs; context = around; state = state })
+
+same_going : (vs ws : List Value) (a b : Around) (x y : State) → vs ≡ ws → a ≡ b → x ≡ y
+    → going vs a x ≡ going ws b y
+same_going vs ws a b x y values context state = rw (values, context, state) refl
+
+behind_there : (n : ℕ) (is_name : Bool) (kept : Kept) (node : ℕ) (listed : Bool) → IsKeptThere n kept → node < n → IsKeptThere n (behind_if is_name kept node listed)
+behind_there n false kept node listed there less = there
+behind_there n true kept node listed there less = (there.0, less)
+
+behind_is : (ts : List Term) (a : Around) (is_name : Bool) (kept : Kept) (node : ℕ) (t : Term) (listed : Bool) → around_of ts kept ≡ a → tree_at ts node ≡ t
+    → named_if is_name a t listed ≡ around_of ts (behind_if is_name kept node listed)
+unfolding named_if after around_of prefix_of
+behind_is ts a false kept node t listed same tree = sym same
+behind_is ts a true kept node t listed same tree = ap (λ x. after t listed x) (sym same) ∙ ap (λ u. after u listed (around_of ts kept)) (sym tree)
+
+-- ## Steps that are taken
+
+grown : (s : List ℕ) (y z : Stored) → IsTable (over s y) → z ≡ y → Grows s y z 0
+grown s y z table same = rw same (record { table = table; stays = λ i less. refl; least = omega arith; few = omega arith; thunks = omega arith; few_thunks = omega arith })
+
+-- nothing is made: a tree may become a candidate
+pub takes_go : (s : List ℕ) (old new : Linked) (kept : Kept) (base : ℕ) (parts : List Part) (candidate : Option ℕ) (then : Kept) (packs : Option ℕ)
+    → IsTable (over s old.nodes) → new.nodes ≡ old.nodes → AreCandidatesThere (length old.nodes.nodes) new.candidates.items
+    → IsKeptThere (length old.nodes.nodes) then → AreThere s (length old.nodes.nodes) (drop base parts)
+    → with_candidate (around_of (trees_in s old.nodes) kept) (trees_in s old.nodes) candidate (record { candidates = candidates_of (trees_in s old.nodes) old.candidates.items; packs = packs }) ≡ state_of s new
+    → Takes s old new kept base parts parts (Step.Go candidate then packs) then
+unfolding goes_on
+takes_go s old new kept base parts candidate then packs table same candidates around there is = record {
+  grows = grown s old.nodes new.nodes table same;
+  thunks = ap (λ y. y.thunks) same;
+  candidates = rw same candidates;
+  around = rw same around;
+  there = rw same there;
+  lower = refl;
+  count = refl;
+  is = same_going _ _ _ _ _ _ (ap (λ y. values_in s y (drop base parts)) (sym same)) (ap (λ y. around_of (trees_in s y) then) (sym same)) is;
+}
+
+-- the first part is a tree that is there, and stands before the next one
+pub takes_named : (s : List ℕ) (l : Linked) (kept : Kept) (base : ℕ) (parts new_parts : List Part) (node : ℕ) (listed : Bool)
+    → IsTable (over s l.nodes) → AreCandidatesThere (length l.nodes.nodes) l.candidates.items
+    → IsKeptThere (length l.nodes.nodes) kept → AreThere s (length l.nodes.nodes) (drop base parts) → node < length l.nodes.nodes
+    → drop base new_parts ≡ Part.Tree node listed ∷ drop (base + 1) parts → take base new_parts ≡ take base parts → length new_parts ≡ length parts
+    → Takes s l l kept base parts new_parts (Step.Named node listed) (behind_if true kept node listed)
+unfolding goes_on named_if
+takes_named s l kept base parts new_parts node listed table candidates around there less own lower count = record {
+  grows = grown s l.nodes l.nodes table refl;
+  thunks = refl;
+  candidates = candidates;
+  around = behind_there _ true kept node listed around less;
+  there = first_there s _ base parts new_parts node listed there less own;
+  lower = lower;
+  count = count;
+  is = same_going _ _ _ _ _ _ (first_values s (trees_in s l.nodes) base parts new_parts node listed own)
+      (behind_is (trees_in s l.nodes) _ true kept node _ listed refl refl) refl;
+}
+
+-- the first part is the tree of a node that has been made
+pub takes_made : (s : List ℕ) (old new : Linked) (kept : Kept) (base : ℕ) (parts new_parts : List Part) (node : Node) (number : ℕ) (listed is_name is_candidate : Bool) (packs : Option ℕ)
+    → Grows s old.nodes new.nodes 1 → new.nodes.thunks ≡ old.nodes.thunks → AreCandidatesThere (length new.nodes.nodes) new.candidates.items
+    → IsKeptThere (length old.nodes.nodes) kept → AreThere s (length old.nodes.nodes) (drop base parts)
+    → tree_at (trees_in s new.nodes) number ≡ tree_of_node s old.nodes node → number < length new.nodes.nodes
+    → drop base new_parts ≡ Part.Tree number listed ∷ drop (base + 1) parts → take base new_parts ≡ take base parts → length new_parts ≡ length parts
+    → appended_if is_candidate (around_of (trees_in s old.nodes) kept) (tree_of_node s old.nodes node)
+    (record { candidates = candidates_of (trees_in s old.nodes) old.candidates.items; packs = packs }) ≡ state_of s new
+    → Takes s old new kept base parts new_parts (Step.Made node listed is_name is_candidate packs) (behind_if is_name kept number listed)
+unfolding goes_on
+takes_made s old new kept base parts new_parts node number listed is_name is_candidate packs grows thunks candidates around there tree less own lower count state = record {
+  grows = grows;
+  thunks = thunks;
+  candidates = candidates;
+  around = behind_there _ is_name kept number listed (kept_more _ _ kept grows.least around) less;
+  there = first_there s _ base parts new_parts number listed (parts_more s _ _ (drop base parts) grows.least there) less own;
+  lower = lower;
+  count = count;
+  is = same_going _ _ _ _ _ _
+      (ap (λ u. values.tree u listed ∷ behind_first (values_in s old.nodes (drop base parts))) (sym tree)
+      ∙ ap (λ vs. values.tree (tree_at (trees_in s new.nodes) number) listed ∷ behind_first vs) (sym (values_stay s old.nodes new.nodes grows.stays (drop base parts) there))
+      ∙ first_values s (trees_in s new.nodes) base parts new_parts number listed own)
+      (behind_is (trees_in s new.nodes) _ is_name kept number _ listed (around_stays s old.nodes new.nodes grows.stays kept around) tree) state;
+}
+
+pub taken_as : (s : List ℕ) (old new : Linked) (kept : Kept) (base : ℕ) (parts new_parts : List Part) (step taken : Step) (then left : Kept) → taken ≡ step → left ≡ then
+    → Takes s old new kept base parts new_parts step then → Takes s old new kept base parts new_parts taken left
+taken_as s old new kept base parts new_parts step taken then left same is takes = rw (same, is) takes
+
+-- ## A node that may become a candidate
+
+choice : (a : Around) (ts : List Term) (number : ℕ) (state : State) (b : Bool) → appended_if b a (tree_at ts number) state ≡ with_candidate a ts (elim b [ true ↦ Some number | false ↦ None ]) state
+unfolding appended_if with_candidate
+choice a ts number state false = refl
+choice a ts number state true = refl
+
+pub noted_is : (s : List ℕ) (y z : Stored) (kept : Kept) (cs : List Candidate) (number : ℕ) (t : Term) (is_candidate : Bool) (candidate : Option ℕ) (packs : Option ℕ) (state : State)
+    → ((i : ℕ) → i < length y.nodes → tree_at (trees_in s z) i ≡ tree_at (trees_in s y) i)
+    → IsKeptThere (length y.nodes) kept → AreCandidatesThere (length y.nodes) cs → tree_at (trees_in s z) number ≡ t
+    → candidate ≡ elim is_candidate [ true ↦ Some number | false ↦ None ]
+    → with_candidate (around_of (trees_in s z) kept) (trees_in s z) candidate (record { candidates = candidates_of (trees_in s z) cs; packs = packs }) ≡ state
+    → appended_if is_candidate (around_of (trees_in s y) kept) t (record { candidates = candidates_of (trees_in s y) cs; packs = packs }) ≡ state
+noted_is s y z kept cs number t is_candidate candidate packs state stays there listed tree chosen is =
+    same is_candidate _ _ _ _ _ _ packs (sym (around_stays s y z stays kept there)) (sym tree) (sym (candidates_stay s y z stays cs listed))
+    ∙ choice (around_of (trees_in s z) kept) (trees_in s z) number (record { candidates = candidates_of (trees_in s z) cs; packs = packs }) is_candidate
+    ∙ ap (λ o. with_candidate (around_of (trees_in s z) kept) (trees_in s z) o (record { candidates = candidates_of (trees_in s z) cs; packs = packs })) (sym chosen) ∙ is
+  where
+    same : (b : Bool) (a c : Around) (t u : Term) (cs ds : List values.Candidate) (packs : Option ℕ) → a ≡ c → t ≡ u → cs ≡ ds
+        → appended_if b a t (record { candidates = cs; packs = packs }) ≡ appended_if b c u (record { candidates = ds; packs = packs })
+    same b a c t u cs ds packs around tree candidates = rw (around, tree, candidates) refl

@@ -1,0 +1,15 @@
+use Rattle.std.proofs.Common.{◌≡◌, refl, sym, ◌∙◌, ap, []}
+use Rattle.sym_link.specs.Unfold.{standing}
+use Rattle.cpp_grammar.specs.declared.production.Production.{Production}
+use Rattle.cpp_grammar.specs.Unfolding.{production_at}
+use Rattle.cpp_term.specs.Unfolding.{cpp, opening, first_around, first_state}
+use Rattle.cpp_tree.specs.Nodes.{arguments_are}
+use Rattle.cpp_link.specs.Parts.{around_of, prefix_of}
+use Rattle.cpp_link.proofs.language.LinkedLinking.root.Goals as goal
+
+pub returns-in-Symbol-clause-opens : goal.returns-in-Symbol-clause-opens
+unfolding cpp opening first_around first_state arguments_are around_of prefix_of
+returns-in-Symbol-clause-opens c rule taken parts is holds =
+    let production : production_at rule.number ≡ Production.Symbol = ap production_at (sym is.rule_is) ∙ sym c.production_of.ensures ∙ c.in-Symbol.is in
+    rw production
+    (record { rule = standing rule taken 0 first_around first_state; values = []; state = first_state }, refl, record { surrounds = record { there = (tt, tt); is = refl }; packs = refl }, holds, [], refl, tt)

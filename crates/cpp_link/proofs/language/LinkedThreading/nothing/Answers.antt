@@ -1,0 +1,8 @@
+use Rattle.std.proofs.Common.{refl}
+use Rattle.cpp_term.specs.Unfolding.{cpp}
+use Rattle.cpp_link.specs.Parts.{value_of}
+use Rattle.cpp_link.proofs.language.LinkedThreading.nothing.Goals as goal
+
+pub returns : goal.returns
+unfolding cpp value_of
+returns c s = (record { there = tt; is = refl }, tt)

@@ -1,0 +1,33 @@
+use Rattle.std.proofs.Common.{sym, ◌∙◌, ap, ◌-◌}
+use Rattle.std.specs.Prelude.{slice_get}
+use Rattle.std.proofs.lemmas.Result.{err_from_is_err_and}
+use Rattle.sym_core.specs.Value.{counted_value}
+use Rattle.sym_core.specs.declared.NumberKind.TheVariants.{Seq36}
+use Rattle.cpp_term.specs.References.{substituted}
+use Rattle.cpp_link.specs.Making.{state_of}
+use Rattle.cpp_link.specs.Parts.{trees_in, around_of, candidates_of, value_of}
+use Rattle.cpp_link.specs.Reads.{maybe_candidate, node_read}
+use Rattle.cpp_link.proofs.Candidates.{fails_is}
+use Rattle.cpp_link.proofs.linked.Linked.substitute.Goals as goal
+
+pub returns-in_err-node-clause-refused : goal.returns-in_err-node-clause-refused
+unfolding node_read
+returns-in_err-node-clause-refused c =
+    let ts = trees_in c.args.symbol.now c.args.self.now.nodes in
+    let around = around_of ts c.args.kept in
+    let cs = candidates_of ts c.args.self.now.candidates.items in
+    let state = state_of c.args.symbol.now c.args.self.now in
+    let p = err_from_is_err_and c.from_residual-in_err-node.result c.from_residual-in_err-node.ensures.1 in
+    let named = c.in_ok-candidate.ensures.is ∙ ap (λ bytes. slice_get cs (counted_value Seq36 bytes)) c.text.ensures.is in
+    rw (p.1, p.2) (fails_is c.in_err-node.field-0.0 _
+    (ap (λ o. substituted around (c.args.place - 1) o state) (sym named) ∙ ap (λ n. substituted around n (maybe_candidate ts c.in_ok-candidate.candidate) state) (sym c.saturating_sub.ensures) ∙ c.in_err-node.ensures.is cs))
+
+pub returns-clause-is : goal.returns-clause-is
+unfolding node_read value_of
+returns-clause-is c =
+    let ts = trees_in c.args.symbol.now c.args.self.now.nodes in
+    let around = around_of ts c.args.kept in
+    let cs = candidates_of ts c.args.self.now.candidates.items in
+    let state = state_of c.args.symbol.now c.args.self.now in
+    let named = c.in_ok-candidate.ensures.is ∙ ap (λ bytes. slice_get cs (counted_value Seq36 bytes)) c.text.ensures.is in
+    ap (λ o. substituted around (c.args.place - 1) o state) (sym named) ∙ ap (λ n. substituted around n (maybe_candidate ts c.in_ok-candidate.candidate) state) (sym c.saturating_sub.ensures) ∙ c.in_ok-node.ensures.is cs

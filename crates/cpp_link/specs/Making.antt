@@ -1,0 +1,16 @@
+-- What is made where a rule closes.
+use Rattle.std.specs.Prelude.{ℕ, List}
+use Rattle.cpp_term.specs.Values.{State}
+use Rattle.cpp_link.specs.declared.linked.Linked.{Linked}
+use Rattle.cpp_link.specs.declared.part.Meant.{Meant}
+use Rattle.cpp_link.specs.Parts.{trees_in, candidates_of}
+
+-- how many nodes are made of what a production stands for
+unfoldable pub nodes_of_meant : Meant → ℕ
+nodes_of_meant (Meant.Given part) = 0
+nodes_of_meant (Meant.Character letter value) = 2
+nodes_of_meant _ = 1
+
+-- the state in which the nodes are
+abbrev pub state_of : List ℕ → Linked → State
+state_of s l = record { candidates = candidates_of (trees_in s l.nodes) l.candidates.items; packs = l.packs }

@@ -1,0 +1,43 @@
+-- What is done by a step before the next part of a rule.
+use Rattle.std.specs.Prelude.{◌≡◌, ℕ, ◌<◌, List, length, take, drop, get_or, Bool, true, false, Ok}
+use Rattle.cpp_grammar.specs.declared.production.Production.{Production}
+use Rattle.cpp_link.specs.declared.linked.Linked.{Linked}
+use Rattle.cpp_link.specs.declared.part.Part.{Part}
+use Rattle.cpp_link.specs.declared.part.Prefix.{Prefix}
+use Rattle.cpp_link.specs.declared.part.Kept.{Kept}
+use Rattle.cpp_link.specs.declared.part.Step.{Step}
+use Rattle.cpp_link.specs.Grows.{Grows}
+use Rattle.cpp_link.specs.Making.{state_of}
+use Rattle.cpp_link.specs.Owed.{made_before}
+use Rattle.cpp_link.specs.Parts.{trees_in, values_in, around_of, candidates_of, AreThere, IsKeptThere, AreCandidatesThere}
+use Rattle.cpp_link.specs.Reads.{goes_on}
+
+-- how many nodes a step makes
+abbrev pub nodes_of_step : Step → ℕ
+nodes_of_step (Step.Made node listed is_name is_candidate packs) = 1
+nodes_of_step _ = 0
+
+-- A step behind so many parts of a production: one that makes another part of the first has a first part, and a node is one
+-- that the production makes there.
+abbrev pub IsStepOf : Production → (held : ℕ) → Step → Type 0
+IsStepOf production held (Step.Go candidate then packs) = Unit {0}
+IsStepOf production held (Step.Named node listed) = 0 < held
+IsStepOf production held (Step.Made node listed is_name is_candidate packs) = (0 < held) × (get_or (made_before production) held 0 ≡ 1)
+
+-- behind this name, if it is one
+abbrev pub behind_if : Bool → Kept → (node : ℕ) → (listed : Bool) → Kept
+behind_if false kept node listed = kept
+behind_if true kept node listed = record { scope = kept.scope; encoding = kept.encoding; in_lambda = kept.in_lambda; in_expansion = kept.in_expansion; prefix = Prefix.Behind node listed; packs = kept.packs }
+
+-- A step is taken before the next part of a rule, which this surrounds then: what the nodes, the candidates and the rule's
+-- parts stand for now is what the step comes to.
+pub record Takes (s : List ℕ) (old new : Linked) (kept : Kept) (base : ℕ) (parts new_parts : List Part) (step : Step) (then : Kept) : Type 0 where
+  pub grows : Grows s old.nodes new.nodes (nodes_of_step step)
+  pub thunks : new.nodes.thunks ≡ old.nodes.thunks
+  pub candidates : AreCandidatesThere (length new.nodes.nodes) new.candidates.items
+  pub around : IsKeptThere (length new.nodes.nodes) then
+  pub there : AreThere s (length new.nodes.nodes) (drop base new_parts)
+  pub lower : take base new_parts ≡ take base parts
+  pub count : length new_parts ≡ length parts
+  pub is : goes_on s old.nodes kept (values_in s old.nodes (drop base parts)) (candidates_of (trees_in s old.nodes) old.candidates.items) old.packs step
+      ≡ Ok (record { values = values_in s new.nodes (drop base new_parts); context = around_of (trees_in s new.nodes) then; state = state_of s new })

@@ -1,0 +1,204 @@
+// The number of the next part of a rule that has a row.
+
+ghost use Rattle.std.specs.Prelude.{◌≡◌, ℕ, ◌<◌, List, length};
+ghost use Rattle.sym_link.specs.Threads.{IsAhead, IsAheadToken, IsCount};
+ghost use Rattle.cpp_grammar.specs.Grammar.{parts_of};
+ghost use Rattle.cpp_grammar.specs.Unfolding.{production_at};
+ghost use Rattle.cpp_link.specs.Next.{at_least, over, is_mark, is_list, is_argument, is_element, nested_mark, type_mark, behind_bytes, next_part, token_part};
+ghost use Rattle.cpp_link.specs.View.{cpp_view};
+
+use crate::dispatch::production_of;
+use crate::linked::Linked;
+use crate::part::Kept;
+use cpp_grammar::production::Production;
+use sym_link::language::Frame;
+use sym_shape::rule::Row;
+
+/// How many parts each production has, in the order of their numbers.
+const PART_COUNTS: [u8; 112] = [
+    0, 2, 2, 2, 2, 1, 1, 1, 5, 3, 1, 1, 1, 2, 2, 1, 3, 5, 3, 2, 4, 1, 1, 1, 4, 2, 2, 1, 1, 2, 2, 2,
+    2, 3, 2, 4, 2, 0, 2, 2, 0, 1, 0, 1, 1, 0, 2, 4, 1, 3, 2, 1, 1, 1, 1, 1, 1, 1, 1, 1, 0, 3, 4, 1,
+    2, 2, 2, 4, 0, 1, 2, 3, 1, 1, 1, 0, 1, 1, 2, 0, 2, 2, 2, 2, 3, 3, 4, 2, 3, 4, 2, 5, 2, 1, 1, 2,
+    1, 1, 1, 1, 1, 1, 1, 1, 1, 1, 1, 1, 1, 1, 1, 1,
+];
+
+#[tactic(auto, unfolding(crate::specs::Next::at_least))]
+fn at_least(least: usize, held: usize) -> usize
+    ensures { result ≡ at_least least held }
+{
+    if held < least { least } else { held }
+}
+
+/// Behind a fixed byte, if that is next.
+#[tactic(auto, unfolding(crate::specs::Next::over))]
+fn over(byte: usize, held: usize) -> usize
+    requires { byte < 5 }
+    ensures { result ≡ over byte held }
+{
+    if held == byte { byte + 1 } else { held }
+}
+
+/// Whether the rule is a lone byte.
+#[tactic(auto, unfolding(crate::specs::Next::is_mark, cpp_grammar::specs::Grammar::number_of))]
+fn is_mark(rule: u16) -> bool
+    ensures { result ≡ is_mark rule }
+{
+    rule == Production::Mark as u16
+}
+
+/// Whether the rule is a list of arguments.
+#[tactic(auto, unfolding(crate::specs::Next::is_list, cpp_grammar::specs::Grammar::number_of))]
+fn is_list(rule: u16) -> bool
+    ensures { result ≡ is_list rule }
+{
+    rule == Production::Arguments as u16
+}
+
+/// Whether the rule begins with an argument.
+#[tactic(auto, unfolding(crate::specs::Next::is_argument, cpp_grammar::specs::Grammar::number_of))]
+fn is_argument(rule: u16) -> bool
+    ensures { result ≡ is_argument rule }
+{
+    Production::PackArgument as u16 <= rule && rule <= Production::TypeArgument as u16
+}
+
+/// Whether the rule begins with an element of a pack.
+#[tactic(auto, unfolding(crate::specs::Next::is_element, cpp_grammar::specs::Grammar::number_of))]
+fn is_element(rule: u16) -> bool
+    ensures { result ≡ is_element rule }
+{
+    Production::LiteralElement as u16 <= rule && rule <= Production::TypeElement as u16
+}
+
+/// Which of the marks of a nested name it is: `r`, `V`, `K`, or one of `R` and `O`.
+#[tactic(auto, unfolding(crate::specs::Next::nested_mark))]
+fn nested_mark(byte: u8) -> usize
+    ensures { result ≡ nested_mark byte }
+{
+    match byte {
+        b'r' => 0,
+        b'V' => 1,
+        b'K' => 2,
+        _ => 3,
+    }
+}
+
+/// Which of the marks behind a type's `r` it is: `V` or `K`.
+#[tactic(auto, unfolding(crate::specs::Next::type_mark))]
+fn type_mark(byte: u8) -> usize
+    ensures { result ≡ type_mark byte }
+{
+    if byte == b'V' { 0 } else { 1 }
+}
+
+/// The number of the next part that has a row, where only fixed bytes have none.
+#[tactic(auto, unfolding(crate::specs::Next::behind_bytes))]
+fn behind_bytes(production: Production, held: usize) -> usize
+    ensures { result ≡ behind_bytes production held }
+{
+    match production {
+        Production::Symbol => at_least(1, held),
+        Production::Guard => at_least(1, held),
+        Production::EncodingLiteral => at_least(1, held),
+        Production::AddressArgument => at_least(2, held),
+        Production::AddressElement => at_least(2, held),
+        Production::Address => at_least(2, held),
+        Production::NonVirtualThunk => over(1, held),
+        Production::VirtualThunk => over(3, over(1, held)),
+        Production::VirtualOffset => over(1, held),
+        Production::LocalName => over(1, held),
+        Production::LocalType => over(1, held),
+        Production::Vector => over(1, held),
+        Production::LiteralArgument => over(1, held),
+        Production::LiteralElement => over(1, held),
+        _ => held,
+    }
+}
+
+/// The number of the next part, which has a row of this rule that begins with this byte.
+#[tactic(auto, unfolding(crate::specs::Next::next_part))]
+fn next_part(production: Production, held: usize, rule: u16, byte: u8) -> usize
+    ensures { result ≡ next_part production held rule byte }
+{
+    match production {
+        Production::NestedName => if is_mark(rule) { nested_mark(byte) } else { 4 },
+        Production::RestrictType => if is_mark(rule) { type_mark(byte) } else { 2 },
+        Production::VolatileType => if is_mark(rule) { 0 } else { 1 },
+        Production::NestStd => if held == 0 {
+            0
+        } else if is_list(rule) {
+            1
+        } else {
+            2
+        },
+        Production::NestArguments => if is_argument(rule) {
+            0
+        } else {
+            at_least(2, held)
+        },
+        Production::NoexceptFunction => if is_mark(rule) { 1 } else { at_least(2, held) },
+        Production::Function => if is_mark(rule) { 0 } else { at_least(1, held) },
+        Production::PackArgument => if is_element(rule) { 0 } else { 2 },
+        _ => behind_bytes(production, held),
+    }
+}
+
+/// The number of the next part, which is a token.
+#[tactic(auto, unfolding(crate::specs::Next::token_part))]
+fn token_part(production: Production, held: usize) -> usize
+    ensures { result ≡ token_part production held }
+{
+    match production {
+        Production::Lambda => 3,
+        _ => held,
+    }
+}
+
+/// How many parts the production with a number has.
+fn part_count(number: u16) -> usize
+    ensures { result ≡ length (parts_of (production_at number)) }
+{
+    match PART_COUNTS.get(number as usize) {
+        Some(count) => *count as usize,
+        None => 0,
+    }
+}
+
+impl Linked {
+    /// The number of the next part of the rule of the frame that has a row: a rule's, of which so many parts have begun.
+    #[inline(always)]
+    pub fn next_rule(
+        &self,
+        symbol: &[u8],
+        rows: &[Row],
+        frame: Frame<Kept>,
+        held: usize,
+        row: Row,
+    ) -> usize
+        requires place { row.from < length symbol.now }
+        ensures { IsAhead (cpp_view symbol.now) symbol.now rows.now self.now frame held row result }
+    {
+        next_part(
+            production_of(frame.rule),
+            held,
+            row.rule,
+            symbol[row.from as usize],
+        )
+    }
+
+    /// The number of the next part of the rule of the frame that has a row: a token's, of which so many parts have begun.
+    #[inline(always)]
+    pub fn next_token(&self, symbol: &[u8], frame: Frame<Kept>, held: usize) -> usize
+        ensures { IsAheadToken (cpp_view symbol.now) symbol.now self.now frame held result }
+    {
+        token_part(production_of(frame.rule), held)
+    }
+
+    /// The number of the parts of the rule of the frame, where no row is left.
+    #[inline(always)]
+    pub fn count_parts(&self, symbol: &[u8], frame: Frame<Kept>, held: usize) -> usize
+        ensures { IsCount (cpp_view symbol.now) symbol.now self.now frame held result }
+    {
+        part_count(frame.rule)
+    }
+}

@@ -1,0 +1,222 @@
+// The moments at which the driver asks C++'s language: at the root, and where a rule opens, a token comes and a rule closes.
+// Something is done before each part, also before those without a row (`Threading`).
+
+ghost use Rattle.std.specs.Prelude.{◌≡◌, ℕ, ◌+◌, ◌-◌, ◌<◌, ◌≤◌, ◌∷◌, [], List, length, take, drop, OnOk};
+ghost use Rattle.sym_link.specs.Driving.{AreAll};
+ghost use Rattle.sym_link.specs.Linking.{HasRoom, OpensRoot, Opens, TakesToken, ClosesRule, Adds, Pays, owed_behind, owed_next};
+ghost use Rattle.sym_link.specs.Threads.{GoesOn, BeginsIn, ClosesAll, IsTaken, IsAhead, IsAheadToken, IsCount};
+ghost use Rattle.cpp_term.specs.Values.{Value, State, Around};
+ghost use Rattle.cpp_link.specs.View.{Surrounds, cpp_view};
+ghost use Rattle.cpp_link.specs.ViewLaws.{cpp_laws, cpp_threads};
+
+use crate::dispatch::production_of;
+use crate::linked::Linked;
+use crate::part::{Kept, Part, Prefix};
+use cpp_grammar::production::Production;
+use sym_core::Refusal;
+use sym_link::language::{Frame, Linking};
+use sym_link::threads::{Threading, close_by, enter_by, token_by};
+use sym_shape::rule::Row;
+
+/// What surrounds a whole symbol.
+const OUTSIDE: Kept = Kept {
+    scope: None,
+    encoding: 0,
+    in_lambda: false,
+    in_expansion: false,
+    prefix: Prefix::Outermost,
+    packs: None,
+};
+
+impl Threading for Linked {
+    type Part = Part;
+
+    type Kept = Kept;
+
+    ghost Value = { Value };
+
+    ghost State = { State };
+
+    ghost Context = { Around };
+
+    ghost view = { cpp_view };
+
+    ghost surrounds = { Surrounds };
+
+    fn nothing(&self) -> Part
+        ensures { (s : List ℕ) → AreAll ((cpp_view s).IsPart self.now) (result ∷ []) (cpp_view s).reading.rowless }
+    {
+        Part::Nothing
+    }
+
+    fn between(
+        &mut self,
+        symbol: &[u8],
+        frame: Frame<Kept>,
+        parts: &mut Vec<Part>,
+    ) -> Result<Kept, Refusal>
+        requires room { HasRoom (cpp_view symbol.now) symbol.now self.old (owed_behind (cpp_view symbol.now) frame parts.old.items) }
+        requires base { frame.base ≤ length parts.old.items }
+        ensures goes { GoesOn (cpp_view symbol.now) symbol.now (Surrounds symbol.now) self.old self.new frame parts.old.items parts.new.items result }
+        ensures adds { OnOk result (Adds (cpp_view symbol.now) self.old self.new (owed_behind (cpp_view symbol.now) frame parts.old.items) (owed_next (cpp_view symbol.now) frame parts.new.items)) }
+        ensures pays { OnOk result ((at : ℕ) → Pays (cpp_view symbol.now) self.old self.new at at) }
+        ensures count { OnOk result (length parts.new.items ≡ length parts.old.items) }
+    {
+        self.go_on(symbol, frame, parts)
+    }
+
+    fn begin(
+        &mut self,
+        symbol: &[u8],
+        rows: &[Row],
+        context: Kept,
+        row: Row,
+    ) -> Result<Kept, Refusal>
+        requires place { row.from < length symbol.now }
+        requires end { row.end ≤ length rows.now }
+        ensures begins { BeginsIn (cpp_view symbol.now) symbol.now (Surrounds symbol.now) rows.now self.old self.new context row result }
+        ensures adds { OnOk result (Adds (cpp_view symbol.now) self.old self.new 0 0) }
+        ensures pays { OnOk result ((at : ℕ) → Pays (cpp_view symbol.now) self.old self.new at at) }
+    {
+        self.begin_rule(symbol, rows, context, row)
+    }
+
+    fn finish(
+        &mut self,
+        symbol: &[u8],
+        frame: Frame<Kept>,
+        parts: &mut Vec<Part>,
+    ) -> Result<(), Refusal>
+        requires room { HasRoom (cpp_view symbol.now) symbol.now self.old (owed_behind (cpp_view symbol.now) frame parts.old.items) }
+        requires base { frame.base ≤ length parts.old.items }
+        requires place { frame.place < length symbol.now }
+        ensures closes { ClosesAll (cpp_view symbol.now) symbol.now self.old self.new frame parts.old.items parts.new.items result }
+        ensures adds { OnOk result (Adds (cpp_view symbol.now) self.old self.new (owed_behind (cpp_view symbol.now) frame parts.old.items) 0) }
+        ensures pays { OnOk result ((at : ℕ) → Pays (cpp_view symbol.now) self.old self.new at at) }
+    {
+        self.finish_rule(symbol, frame, parts)
+    }
+
+    fn ahead(
+        &self,
+        symbol: &[u8],
+        rows: &[Row],
+        frame: Frame<Kept>,
+        held: usize,
+        row: Row,
+    ) -> usize
+        requires place { row.from < length symbol.now }
+        ensures { IsAhead (cpp_view symbol.now) symbol.now rows.now self.now frame held row result }
+    {
+        self.next_rule(symbol, rows, frame, held, row)
+    }
+
+    fn text(&mut self, symbol: &[u8], row: Row) -> Result<Part, Refusal>
+        requires from { row.from ≤ row.to }
+        requires to { row.to ≤ length symbol.now }
+        ensures taken { IsTaken (cpp_view symbol.now) symbol.now self.old self.new row result }
+        ensures adds { OnOk result (Adds (cpp_view symbol.now) self.old self.new 0 0) }
+        ensures pays { OnOk result ((at : ℕ) → Pays (cpp_view symbol.now) self.old self.new at at) }
+    {
+        Ok(self.text_at(symbol, row))
+    }
+
+    fn ahead_token(&self, symbol: &[u8], frame: Frame<Kept>, held: usize) -> usize
+        ensures { IsAheadToken (cpp_view symbol.now) symbol.now self.now frame held result }
+    {
+        self.next_token(symbol, frame, held)
+    }
+
+    fn count(&self, symbol: &[u8], frame: Frame<Kept>, held: usize) -> usize
+        ensures { IsCount (cpp_view symbol.now) symbol.now self.now frame held result }
+    {
+        self.count_parts(symbol, frame, held)
+    }
+
+    ghost laws = { cpp_threads };
+}
+
+impl Linking for Linked {
+    type Part = Part;
+
+    type Kept = Kept;
+
+    ghost Value = { Value };
+
+    ghost State = { State };
+
+    ghost Context = { Around };
+
+    ghost view = { cpp_view };
+
+    fn root(&mut self, symbol: &[u8], rows: &[Row], row: Row) -> Result<Kept, Refusal>
+        requires room { HasRoom (cpp_view symbol.now) symbol.now self.old 0 }
+        requires end { row.end ≤ length rows.now }
+        ensures opens { OpensRoot (cpp_view symbol.now) symbol.now rows.now self.old self.new row result }
+        ensures adds { OnOk result (Adds (cpp_view symbol.now) self.old self.new 0 0) }
+        ensures pays { OnOk result (Pays (cpp_view symbol.now) self.old self.new 0 0) }
+    {
+        match production_of(row.rule) {
+            Production::Symbol => Ok(OUTSIDE),
+            // no symbol begins with another rule
+            _ => Err(Refusal::Memory),
+        }
+    }
+
+    fn enter(
+        &mut self,
+        symbol: &[u8],
+        rows: &[Row],
+        frame: Frame<Kept>,
+        parts: &mut Vec<Part>,
+        row: Row,
+    ) -> Result<Kept, Refusal>
+        requires room { HasRoom (cpp_view symbol.now) symbol.now self.old (owed_behind (cpp_view symbol.now) frame parts.old.items) }
+        requires base { frame.base ≤ length parts.old.items }
+        requires place { row.from < length symbol.now }
+        requires end { row.end ≤ length rows.now }
+        ensures opens { Opens (cpp_view symbol.now) symbol.now rows.now self.old self.new frame parts.old.items parts.new.items row result }
+        ensures adds { OnOk result (Adds (cpp_view symbol.now) self.old self.new (owed_behind (cpp_view symbol.now) frame parts.old.items) (owed_next (cpp_view symbol.now) frame parts.new.items)) }
+        ensures pays { OnOk result ((at : ℕ) → at ≤ row.from → Pays (cpp_view symbol.now) self.old self.new at row.from) }
+    {
+        enter_by(self, symbol, rows, frame, parts, row)
+    }
+
+    fn token(
+        &mut self,
+        symbol: &[u8],
+        frame: Frame<Kept>,
+        parts: &mut Vec<Part>,
+        row: Row,
+    ) -> Result<(), Refusal>
+        requires room { HasRoom (cpp_view symbol.now) symbol.now self.old (owed_behind (cpp_view symbol.now) frame parts.old.items) }
+        requires base { frame.base ≤ length parts.old.items }
+        requires from { row.from ≤ row.to }
+        requires to { row.to ≤ length symbol.now }
+        ensures takes { TakesToken (cpp_view symbol.now) symbol.now self.old self.new frame parts.old.items parts.new.items row result }
+        ensures adds { OnOk result (Adds (cpp_view symbol.now) self.old self.new (owed_behind (cpp_view symbol.now) frame parts.old.items) (owed_behind (cpp_view symbol.now) frame parts.new.items)) }
+        ensures pays { OnOk result ((at : ℕ) → at ≤ row.from → (length parts.old.items ≡ frame.base → at ≤ frame.place)
+            → Pays (cpp_view symbol.now) self.old self.new at row.to) }
+    {
+        token_by(self, symbol, frame, parts, row)?;
+        Ok(())
+    }
+
+    fn close(
+        &mut self,
+        symbol: &[u8],
+        frame: Frame<Kept>,
+        parts: &mut Vec<Part>,
+    ) -> Result<(), Refusal>
+        requires room { HasRoom (cpp_view symbol.now) symbol.now self.old (owed_behind (cpp_view symbol.now) frame parts.old.items) }
+        requires base { frame.base ≤ length parts.old.items }
+        requires place { frame.place < length symbol.now }
+        ensures closes { ClosesRule (cpp_view symbol.now) symbol.now self.old self.new frame parts.old.items parts.new.items result }
+        ensures adds { OnOk result (Adds (cpp_view symbol.now) self.old self.new (owed_behind (cpp_view symbol.now) frame parts.old.items) 0) }
+        ensures pays { OnOk result ((at : ℕ) → Pays (cpp_view symbol.now) self.old self.new at at) }
+    {
+        close_by(self, symbol, frame, parts)
+    }
+
+    ghost laws = { cpp_laws };
+}

@@ -1,0 +1,33 @@
+// The grammar of C++ symbols, as the reader of shapes takes it.
+
+use sym_core::NameClass;
+use sym_shape::grammar::Grammar;
+use sym_shape::rule::Rule;
+
+/// The grammar of C++ symbols (Itanium C++ ABI 5.1), that of [`cpp_grammar::Abi`].
+#[derive(Clone, Copy, Debug)]
+pub struct Abi;
+
+impl Grammar for Abi {
+    ghost use Rattle.cpp_grammar.specs.Table.{abi};
+    ghost use Rattle.cpp_grammar.specs.TableLaws.{lawful};
+
+    ghost table = { abi };
+
+    #[inline(always)]
+    fn rule(&self, kind: u16, byte: u8) -> Option<Rule> {
+        cpp_grammar::Abi.rule(kind, byte)
+    }
+
+    #[inline(always)]
+    fn may_be_empty(&self, kind: u16) -> bool {
+        cpp_grammar::Abi.may_be_empty(kind)
+    }
+
+    #[inline(always)]
+    fn name_class(&self) -> NameClass {
+        cpp_grammar::Abi.name_class()
+    }
+
+    ghost lawful = { lawful };
+}

@@ -1,0 +1,18 @@
+//! C++'s mangling (Itanium C++ ABI, chapter 5.1): from the bytes of a symbol to its text.
+#![tactic(auto)]
+
+mod demangling;
+mod grammar;
+mod mangling;
+
+pub use cpp_layout::{Counts, Detail, Symbol};
+pub use demangling::{demangle, demangle_as, read, read_fed};
+pub use grammar::Abi;
+pub use sym_demangle::{each_has_an_answer, each_refusal_has_a_reason, one_answer, read_answers};
+pub use sym_shape::Reader;
+
+/// Links a symbol.
+pub type Linker = sym_demangle::Linker<Abi>;
+
+/// The lists with which symbols are read and printed, one after the other.
+pub type Workspace = sym_demangle::Workspace<Abi>;

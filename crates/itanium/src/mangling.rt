@@ -1,0 +1,120 @@
+// C++'s mangling, as the demangler takes it.
+
+ghost use Rattle.std.specs.Prelude.{◌≡◌, ℕ, ◌∷◌, [], Bool, OnOk, IfErr, Ok};
+ghost use Rattle.sym_core.specs.Number.{FitsSymbol};
+ghost use Rattle.sym_core.specs.declared.refusal.Refusal.TheVariants as refusals;
+ghost use Rattle.sym_print.specs.declared.layout.Part.TheVariants as parts;
+ghost use Rattle.sym_shape.specs.Tree.{Tree};
+ghost use Rattle.sym_demangle.specs.Standing.{Begins, IsLinked};
+ghost use Rattle.cpp_grammar.specs.Answer.{shown, root_item};
+ghost use Rattle.cpp_grammar.specs.Unfolding.{unfold_cpp};
+ghost use Rattle.cpp_layout.specs.Layout.{MayBeAsked, unshared_of, whole_of};
+ghost use Rattle.cpp_link.specs.declared.part.Part.TheVariants as part;
+ghost use Rattle.cpp_link.specs.View.{cpp_view};
+
+use crate::grammar::Abi;
+use cpp_layout::{Context, Detail, Symbol};
+use cpp_link::linked::Linked;
+use cpp_link::part::Part;
+use cpp_term::symbols_are_read_as_trees;
+use cpp_tree::Nodes;
+use std::alloc::Global;
+use std::mem;
+use sym_core::Refusal;
+use sym_demangle::Mangling;
+use sym_print::Item;
+
+/// The node of a whole symbol, for which the one part stands.
+fn whole_node(parts: &[Part]) -> u32
+    requires { (node : ℕ) × (listed : Bool) × (parts.now ≡ part.Tree node listed ∷ []) }
+    ensures { (listed : Bool) × (parts.now ≡ part.Tree result listed ∷ []) }
+{
+    match parts {
+        [Part::Tree { node, .. }] => *node,
+        _ => unreachable!(),
+    }
+}
+
+impl Mangling for Abi {
+    ghost use Rattle.std.specs.Prelude.{refl};
+    ghost use Rattle.cpp_grammar.specs.Mangled.{cpp_mangled};
+    ghost use Rattle.cpp_grammar.specs.Term.{Term};
+    ghost use Rattle.cpp_layout.specs.Layout.{whole_of};
+    ghost use Rattle.itanium.specs.Failing.{cpp_fails};
+
+    type Linked = Linked;
+
+    type Symbol = Symbol;
+
+    ghost Whole = { Term };
+
+    ghost mangled = { cpp_mangled };
+
+    ghost whole_of = { whole_of };
+
+    ghost bytes_of = { λ y. y.bytes };
+
+    ghost rows_of = { λ y. y.rows };
+
+    ghost steps_of = { λ y. y.steps };
+
+    fn grammar() -> Abi {
+        Abi
+    }
+
+    fn idle(alloc: Global) -> Linked {
+        Linked::new(alloc)
+    }
+
+    fn restart(linked: &mut Linked, _symbol: &[u8]) -> Result<(), Refusal>
+        requires { FitsSymbol _symbol.now }
+        ensures begins { OnOk result (Begins (cpp_view _symbol.now) linked.new) }
+        ensures memory { IfErr result (λ e. e ≡ refusals.Memory) }
+    {
+        linked.restart()?;
+        Ok(())
+    }
+
+    fn finish(
+        bytes: Vec<u8>,
+        linked: &mut Linked,
+        parts: &[Part],
+        rows: u32,
+        steps: u32,
+    ) -> Symbol
+        requires { (shape : Tree) × IsLinked (cpp_view bytes.items) bytes.items linked.old parts.now rows steps shape }
+        ensures bytes { result.bytes ≡ bytes.items }
+        ensures whole { (shape : Tree) → IsLinked (cpp_view bytes.items) bytes.items linked.old parts.now rows steps shape → Ok (whole_of result) ≡ unfold_cpp shape }
+        ensures rows { result.rows ≡ rows }
+        ensures steps { result.steps ≡ steps }
+    {
+        symbols_are_read_as_trees();
+        let root = whole_node(parts);
+        let empty = Nodes::new(*bytes.allocator());
+        let nodes = mem::replace(&mut linked.nodes, empty);
+        Symbol::new(bytes, nodes, root, rows, steps)
+    }
+
+    fn root(symbol: &Symbol, detail: Detail) -> Item<Context>
+        ensures may_come { MayBeAsked symbol.now (parts.Sub result) }
+        ensures shows { unshared_of symbol.now result ≡ shown detail (root_item (whole_of symbol.now)) }
+    {
+        symbol.root_as(detail)
+    }
+
+    fn recycle(linked: &mut Linked, symbol: Symbol) -> Vec<u8> {
+        let (bytes, nodes) = symbol.into_lists();
+        linked.nodes = nodes;
+        bytes
+    }
+
+    fn refuses_bad_tokens() {
+        cpp_grammar::refuses_bad_tokens();
+    }
+
+    ghost table_is = { refl };
+
+    ghost view_table = { λ s. refl };
+
+    ghost fails = { cpp_fails };
+}
