@@ -75,13 +75,7 @@ impl Mangling for Abi {
         Ok(())
     }
 
-    fn finish(
-        bytes: Vec<u8>,
-        linked: &mut Linked,
-        parts: &[Part],
-        rows: u32,
-        steps: u32,
-    ) -> Symbol
+    fn finish(bytes: Vec<u8>, linked: &mut Linked, parts: &[Part], rows: u32, steps: u32) -> Symbol
         requires { (shape : Tree) × IsLinked (cpp_view bytes.items) bytes.items linked.old parts.now rows steps shape }
         ensures bytes { result.bytes ≡ bytes.items }
         ensures whole { (shape : Tree) → IsLinked (cpp_view bytes.items) bytes.items linked.old parts.now rows steps shape → Ok (whole_of result) ≡ unfold_cpp shape }
