@@ -60,11 +60,17 @@ static void texts(void)
     has_text("_RNvC3foo3bar", 11, SYMDEMANGLE_FULL, "foo::bar");
     has_text("_RNvMC3fooINtB2_1AhE3baz", 99, SYMDEMANGLE_FULL, "<foo::A<u8>>::baz");
     has_text("_RNvMC3fooINtB2_1AhE3baz", 99, SYMDEMANGLE_BRIEF, "<foo::A>::baz");
+    has_text("_Z1fIJicEEvDpT_", 56, SYMDEMANGLE_FULL, "void f<int, char>(int, char)");
+    has_text("_Z1fIJicEEvDpT_", 99, SYMDEMANGLE_BRIEF, "void f(int, char)");
     is_refused("_RNvC3foo3bar", 10, SYMDEMANGLE_FULL, SYMDEMANGLE_TOO_LONG, 0);
     is_refused("_RNvC3foo3bar", 0, SYMDEMANGLE_FULL, SYMDEMANGLE_TOO_LONG, 0);
     is_refused("_RNvC3fo", 99, SYMDEMANGLE_FULL, SYMDEMANGLE_MALFORMED, 8);
     is_refused("_RNvB_3foo", 99, SYMDEMANGLE_FULL, SYMDEMANGLE_BAD_REFERENCE, 4);
     is_refused("_RNvCszzzzzzzzzzz_3foo3bar", 99, SYMDEMANGLE_FULL, SYMDEMANGLE_BAD_VALUE, 5);
+    is_refused("_Z1fv", 5, SYMDEMANGLE_FULL, SYMDEMANGLE_TOO_LONG, 0);
+    is_refused("_Z1fQ", 99, SYMDEMANGLE_FULL, SYMDEMANGLE_MALFORMED, 4);
+    is_refused("_Z1fS_", 99, SYMDEMANGLE_FULL, SYMDEMANGLE_BAD_REFERENCE, 4);
+    is_refused("_ZN1AUt18446744073709551614_E", 99, SYMDEMANGLE_FULL, SYMDEMANGLE_BAD_VALUE, 5);
     is_refused("_RNvC3foo3bar", 99, 2, SYMDEMANGLE_DETAIL, 0);
 }
 
@@ -87,8 +93,8 @@ static void other_calls(void)
 {
     symdemangle_answer answer;
     symdemangle_counts counts;
-    const char *log = "at _RNvC3foo3bar. (_RNvC3fo)";
-    const char *filtered = "at foo::bar. (_RNvC3fo)";
+    const char *log = "at _RNvC3foo3bar. (_RNvC3fo) _Z1fv.";
+    const char *filtered = "at foo::bar. (_RNvC3fo) f().";
     memset(room, '#', sizeof room);
     check(symdemangle_filter(bytes(log), strlen(log), 99, 0, room, sizeof room, &answer) == SYMDEMANGLE_OK, "filter", log);
     check(answer.length == strlen(filtered) && memcmp(room, filtered, answer.length) == 0 && is_kept(answer.length), "lines", log);

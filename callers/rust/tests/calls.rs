@@ -14,6 +14,8 @@ fn texts_and_refusals() {
     assert_eq!(answer("_RNvC3foo3bar", 11, Detail::Full), Ok("foo::bar".into()));
     assert_eq!(answer("_RNvC3foo3bar", 10, Detail::Full), Err(Error::TooLong));
     assert_eq!(demangle("_RNvC3fo"), Err(Error::Malformed { at: 8 }));
+    assert_eq!(answer("_Z1fv", 6, Detail::Full), Ok("f()".into()));
+    assert_eq!(demangle("_Z1fS_"), Err(Error::BadReference { at: 4 }));
     assert_eq!(demangle("_RNvB_3foo"), Err(Error::BadReference { at: 4 }));
     assert_eq!(demangle("_RNvCszzzzzzzzzzz_3foo3bar"), Err(Error::BadValue { at: 5 }));
     assert!(matches!(demangle(""), Err(Error::Malformed { .. })));

@@ -7,6 +7,9 @@ use Rattle.sym_shape.specs.declared.rule.Row.{Row}
 use Rattle.sym_shape.specs.Tree.{AreRowsOf}
 use Rattle.sym_demangle.specs.Mangled.{Mangled, IsReading, answer}
 use Rattle.sym_demangle.specs.Standing.{AreStepsInAll}
+use Rattle.cpp_grammar.specs.Mangled.{cpp_mangled}
+use Rattle.cpp_grammar.specs.Term.{Term}
+use Rattle.cpp_layout.specs.Layout as cpp
 use Rattle.rust_tree.specs.Counts.{IsRead}
 use Rattle.rust_tree.specs.Layout.{ReadSymbol}
 use Rattle.rust_tree.specs.Symbol.{Symbol}
@@ -17,9 +20,9 @@ use Rattle.sym_filter.specs.declared.kinds.Kind.{Kind}
 use Rattle.sym_filter.specs.declared.kinds.Lang.{Lang}
 use Rattle.sym_filter.specs.declared.kinds.Lang.TheVariants.{Cpp, Rust}
 
--- At a limit and a detail. No C++ symbol is read yet.
+-- at a limit and a detail
 abbrev pub language_answer : ℕ → Detail → Lang → List ℕ → Result (List ℕ) Refusal
-language_answer limit detail Cpp symbol = Err (Malformed 1)
+language_answer limit detail Cpp symbol = answer cpp_mangled detail symbol limit
 language_answer limit detail Rust symbol = answer v0_mangled detail symbol limit
 
 -- the text is the same whether an underscore was dropped or not
@@ -35,7 +38,7 @@ abbrev pub behind_front : List ℕ → Result (List ℕ) Refusal → Result (Lis
 behind_front front (Ok text) = Ok (front ++ text)
 behind_front front (Err refusal) = Err refusal
 
--- Where symbols are pressed: the pressed spelling, behind the underscore that was dropped. No C++ symbol is read yet.
+-- Where symbols are pressed: the pressed spelling, behind the underscore that was dropped. No C++ symbol is pressed yet.
 abbrev pub pressed_language : Lang → (skip : ℕ) → List ℕ → Result (List ℕ) Refusal
 pressed_language Cpp skip symbol = Err (Malformed 1)
 pressed_language Rust skip symbol = behind_front (underscore_of skip) (pressed_answer symbol)
@@ -53,6 +56,16 @@ pub record Readings (W R : Type 0) : Type 1 where
   pub nodes_of : R → ℕ
   -- the most nodes that a byte brings
   pub nodes_a_byte : ℕ
+
+abbrev pub cpp_readings : Readings Term cpp.ReadSymbol
+cpp_readings = record {
+  mangled = cpp_mangled;
+  IsRead = λ read. cpp.IsRead read;
+  bytes_of = λ read. read.bytes;
+  whole_of = λ read. cpp.whole_of read;
+  nodes_of = λ read. length read.table.nodes;
+  nodes_a_byte = 2;
+}
 
 abbrev pub v0_readings : Readings Symbol ReadSymbol
 v0_readings = record {
@@ -80,7 +93,6 @@ pub record AreCounts {W R : Type 0} (readings : Readings W R) (symbol : List ℕ
   pub steps_few : counts.steps ≤ 32 * length symbol + 48
   pub steps_enough : counts.rows ≤ counts.steps
 
--- No C++ symbol is read yet.
 abbrev pub AreCountsOf : Lang → List ℕ → Counts → Type 0
-AreCountsOf Cpp symbol counts = ⊥
+AreCountsOf Cpp symbol counts = AreCounts cpp_readings symbol counts
 AreCountsOf Rust symbol counts = AreCounts v0_readings symbol counts

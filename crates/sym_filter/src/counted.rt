@@ -1,7 +1,8 @@
 // What reading a symbol of a mangling took.
 ghost use Rattle.std.specs.Prelude.{◌≡◌, ◌+◌, ◌*◌, ◌≤◌, ℕ, length};
 
-use rust_v0::{Symbol, V0};
+use itanium::Abi;
+use rust_v0::V0;
 use sym_core::Counts;
 use sym_demangle::Mangling;
 
@@ -26,6 +27,26 @@ pub trait Counted: Mangling {
         ensures steps_enough { result.rows ≤ result.steps };
 }
 
+impl Counted for Abi {
+    ghost use Rattle.cpp_layout.specs.Layout.{IsRead};
+
+    ghost is_read = { λ symbol. IsRead symbol };
+
+    ghost nodes_of = { λ symbol. length symbol.table.nodes };
+
+    ghost nodes_a_byte = { 2 };
+
+    fn counts(symbol: &itanium::Symbol) -> Counts {
+        let _root = symbol.root_node();
+        let counts = symbol.counts();
+        Counts {
+            rows: counts.rows,
+            nodes: counts.nodes,
+            steps: counts.steps,
+        }
+    }
+}
+
 impl Counted for V0 {
     ghost use Rattle.rust_tree.specs.Counts.{IsRead};
 
@@ -35,7 +56,7 @@ impl Counted for V0 {
 
     ghost nodes_a_byte = { 4 };
 
-    fn counts(symbol: &Symbol) -> Counts {
+    fn counts(symbol: &rust_v0::Symbol) -> Counts {
         symbol.counts()
     }
 }

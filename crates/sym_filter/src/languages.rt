@@ -7,14 +7,12 @@ ghost use Rattle.sym_filter.specs.Languages.{answer_of, AreCounts, AreCountsOf};
 use crate::counted::Counted;
 use crate::demangler::{Demangled, Demangler};
 use crate::kinds::{Kind, Lang};
+use itanium::Abi;
 use rust_v0::V0;
 use std::alloc::{AllocError, Global};
 use sym_core::Refusal;
 use sym_demangle::Workspace;
 use sym_print::Detail;
-
-/// No symbol of C++ is read yet.
-pub const UNREAD: Refusal = Refusal::Malformed { at: 1 };
 
 /// Both manglings, at a limit on the cost of a text and a detail.
 #[derive(Clone, Copy, Drop)]
@@ -26,12 +24,14 @@ pub struct Languages {
 /// The lists of both languages.
 #[derive(Drop)]
 pub struct Lists {
+    pub cpp: Workspace<Abi>,
     pub rust: Workspace<V0>,
 }
 
 impl Lists {
     pub fn new(alloc: Global) -> Lists {
         Lists {
+            cpp: Workspace::new(alloc),
             rust: Workspace::new(alloc),
         }
     }
@@ -41,7 +41,7 @@ impl Lists {
         requires { FitsSymbol front.now }
     {
         match lang {
-            Lang::Cpp => {}
+            Lang::Cpp => self.cpp.read_ahead(front),
             Lang::Rust => self.rust.read_ahead(front),
         }
     }
@@ -70,7 +70,7 @@ impl Demangler for Languages {
         out: &mut Vec<u8>,
     ) -> Demangled {
         match kind.lang {
-            Lang::Cpp => Demangled::Refused(UNREAD),
+            Lang::Cpp => demangle_in(&mut lists.cpp, symbol, self.limit, self.detail, out),
             Lang::Rust => demangle_in(&mut lists.rust, symbol, self.limit, self.detail, out),
         }
     }

@@ -8,12 +8,15 @@ ghost use Rattle.sym_core.specs.Number.{FitsSymbol};
 use crate::counted::Counted;
 use crate::demangler::{Demangled, Demangler};
 use crate::kinds::{Kind, Lang};
-use crate::languages::{Lists, UNREAD};
+use crate::languages::Lists;
 use rust_v0::V0;
 use std::alloc::{AllocError, Global};
 use sym_core::Refusal;
 use sym_demangle::Workspace;
 use sym_press::{press_rust, reading_is_pressed};
+
+/// No symbol of C++ is pressed yet.
+const UNPRESSED: Refusal = Refusal::Malformed { at: 1 };
 
 /// Both manglings, where the text of a symbol is its pressed spelling: each repeated part is a reference. It has no limit, so
 /// that no symbol is too long.
@@ -43,7 +46,7 @@ impl Demangler for Pressing {
         out: &mut Vec<u8>,
     ) -> Demangled {
         match kind.lang {
-            Lang::Cpp => Demangled::Refused(UNREAD),
+            Lang::Cpp => Demangled::Refused(UNPRESSED),
             Lang::Rust => press_rust_into(&mut lists.rust, kind.skip, symbol, out),
         }
     }

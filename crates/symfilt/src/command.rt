@@ -30,7 +30,8 @@ pub const FAULT: u8 = 3;
 /// The greatest cost of a text where no other limit is asked for.
 const DEFAULT_LIMIT: u32 = 1_000_000;
 
-const VERSION: &str = "0.1.0 (Rust v0 by RFC 2603; proved with rattle-kit-13b)";
+const VERSION: &str =
+    "0.1.0 (C++ by the Itanium ABI 5.1, Rust v0 by RFC 2603; proved with rattle-kit-13b)";
 
 /// How symbols are answered.
 #[derive(Clone, Copy, Debug, PartialEq, Eq)]
@@ -91,18 +92,16 @@ fn command_line<'a>(alloc: Global, words: &'a [&'a str]) -> Result<ArgMatches<'a
         );
     let stats = flag(alloc, "stats").help("Show the rows, nodes and steps of each symbol");
     let press = flag(alloc, "press").help(
-        "Spell each symbol again with its repeated parts as references, in place of printing it",
+        "Spell each Rust symbol again with its repeated parts as references, in place of printing it; C++ symbols are refused",
     );
-    let brief = flag(alloc, "brief").help("Leave out generic arguments");
+    let brief = flag(alloc, "brief").help("Leave out template and generic arguments");
     let symbols = Arg::new(alloc, "SYMBOL")
         .num_args(0..)
         .action(ArgAction::Append)
         .help("Symbols; with none, standard input is filtered");
     Command::new(alloc, "symfilt")
         .version(VERSION)
-        .about(
-            "Prints Rust (v0) symbols. C++ symbols pass through the filter as they are, and are refused as arguments",
-        )
+        .about("Prints C++ (Itanium ABI) and Rust (v0) symbols")
         .arg(limit)?
         .arg(stats)?
         .arg(press)?

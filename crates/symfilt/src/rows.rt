@@ -1,11 +1,27 @@
-// Rows of Rust symbols on the command line: texts at their exact costs, refusals at their places, and texts in brief.
+// Rows of C++ and Rust symbols on the command line: texts at their exact costs, refusals at their places, and texts in brief.
 use crate::outcome::Run;
 use crate::run;
 use std::alloc::{AllocError, Global};
 use std::test::Fail;
 
-/// Symbols with their texts and what these cost. All rows stand in tests/vectors.tsv.
-static TEXTS: [(&str, &str, u32); 4] = [
+/// Symbols with their texts and what these cost. All rows stand in tests/vectors.tsv and tests/vectors_cpp.tsv.
+static TEXTS: [(&str, &str, u32); 8] = [
+    ("_Z1fv", "f()", 6),
+    (
+        "_ZNSt6vectorIiSaIiEE9push_backERKi",
+        "std::vector<int, std::allocator<int>>::push_back(int const&)",
+        84,
+    ),
+    (
+        "_ZZ4mainENKUlvE_clEv",
+        "main::{lambda()#1}::operator()() const",
+        47,
+    ),
+    (
+        "_Z1fIJicEEvDpT_",
+        "void f<int, char>(int, char)",
+        56,
+    ),
     ("_RNvC3foo3bar", "foo::bar", 11),
     (
         "_RNvNtNtC7mycrateu8gdel_5qa6escher4bach",
@@ -21,7 +37,10 @@ static TEXTS: [(&str, &str, u32); 4] = [
 ];
 
 /// Symbols that have no text, and why.
-static REFUSED: [(&str, &str); 4] = [
+static REFUSED: [(&str, &str); 7] = [
+    ("_Z1fQ", "malformed at 4"),
+    ("_Z1fS_", "bad reference at 4"),
+    ("_ZN1AUt18446744073709551614_E", "bad value at 5"),
     ("_RNvC3fo", "malformed at 8"),
     ("_RNvB_3foo", "bad reference at 4"),
     ("_RNvCszzzzzzzzzzz_3foo3bar", "bad value at 5"),
@@ -114,6 +133,11 @@ fn refusals_at_their_places(rt: HostRuntime) -> Result<(), Fail> {
 #[test]
 fn texts_in_brief(rt: HostRuntime) -> Result<(), Fail> {
     let alloc = rt.alloc();
+    let push_back = "_ZNSt6vectorIiSaIiEE9push_backERKi";
+    let brief = "std::vector::push_back(int const&)";
+    assert!(rt; answers(alloc, "symfilt", "--brief", push_back, brief, "")?);
+    let doubled = "_Z1f1AIiiES_IS0_S0_ES_IS1_S1_E";
+    assert!(rt; answers(alloc, "symfilt", "--brief", doubled, "f(A, A, A)", "")?);
     let impl_of = "_RNvMC3fooINtB2_1AhE3baz";
     assert!(rt; answers(alloc, "symfilt", "--brief", impl_of, "<foo::A>::baz", "")?);
     let boxed = TEXTS[TEXTS.len() - 1].0;
@@ -142,5 +166,7 @@ fn pressed_spellings(rt: HostRuntime) -> Result<(), Fail> {
             "{pressed}"
         );
     }
+    let complaint = "symfilt: _Z1fv: malformed at 1\n";
+    assert!(rt; answers(rt.alloc(), "symfilt", "--press", "_Z1fv", "_Z1fv", complaint)?);
     Ok(())
 }

@@ -11,9 +11,11 @@ use sym_print::Detail;
 
 const LIMIT: u32 = 1_000_000;
 
-const TEXT: &[u8] = b"x_RNvC1a1b _RNvC1a1b@plt __RNvC1a1b _Z1fQ_R... a_R._R (_RNvC1a1b..a.)";
+const TEXT: &[u8] =
+    b"x_RNvC1a1b _RNvC1a1b@plt __RNvC1a1b x_Z1fv _Z1fv@plt __Z1fv _Z1fQ_R... a_R._R (_RNvC1a1b..a.)";
 
-const FILTERED: &[u8] = b"x_RNvC1a1b a::b@plt a::b _Z1fQ_R... a_R._R (a::b (..a).)";
+const FILTERED: &[u8] =
+    b"x_RNvC1a1b a::b@plt a::b x_Z1fv f()@plt f() _Z1fQ_R... a_R._R (a::b (..a).)";
 
 /// Filters a text in pieces of a length, and compares what went out and the tally.
 fn filters(
@@ -39,12 +41,13 @@ fn filters(
 #[test]
 fn filters_however_cut(rt: HostRuntime) {
     for piece in 1..=TEXT.len() {
-        filters(&rt, rt.alloc(), TEXT, piece, FILTERED, (4, 3, 1));
+        filters(&rt, rt.alloc(), TEXT, piece, FILTERED, (6, 5, 1));
     }
     filters(&rt, rt.alloc(), b"", 1, b"", (0, 0, 0));
     filters(&rt, rt.alloc(), b"_RC1a.a.", 1, b"a (.a).", (1, 1, 0));
     filters(&rt, rt.alloc(), b"..._RC1a .", 1, b"..._RC1a .", (0, 0, 0));
     filters(&rt, rt.alloc(), b"at _RC1a.\n", 1, b"at a.\n", (1, 1, 0));
+    filters(&rt, rt.alloc(), b"at _Z1fv.a.\n", 1, b"at f() (.a).\n", (1, 1, 0));
 }
 
 #[test]
@@ -132,7 +135,7 @@ fn answers_words(rt: HostRuntime) -> Result<(), Fail> {
     assert!(rt;
         holds(
             err.bytes(),
-            b"symfilt: _Z1fQ: malformed at 1\nsymfilt: foo: not a symbol\n"
+            b"symfilt: _Z1fQ: malformed at 4\nsymfilt: foo: not a symbol\n"
         )
     );
     let mut out = ScriptedSink::new(alloc, &[]);
@@ -237,7 +240,7 @@ fn says_why_there_is_no_text(rt: HostRuntime) {
     let words = ["symfilt", "_Z1fQ"];
     assert!(rt; run(rt.alloc(), &words, &mut out, &mut err) == Run::Done(1));
     assert!(rt; holds(&out, b"_Z1fQ\n"));
-    assert!(rt; holds(&err, b"symfilt: _Z1fQ: malformed at 1\n"));
+    assert!(rt; holds(&err, b"symfilt: _Z1fQ: malformed at 4\n"));
     err.clear();
     let words = ["symfilt", "--stats"];
     assert!(rt; run(rt.alloc(), &words, &mut out, &mut err) == Run::Done(2));

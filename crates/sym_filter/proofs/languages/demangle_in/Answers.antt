@@ -1,7 +1,6 @@
-use Rattle.std.proofs.Common.{refl, rules, search}
+use Rattle.std.proofs.Common.{refl, rules}
 use Rattle.sym_shape.specs.Decided.{AreBytes}
 use Rattle.sym_demangle.proofs.Answering.{answer_appended, answer_too_long}
-use Rattle.sym_filter.specs.Languages.{Readings}
 use Rattle.sym_filter.proofs.LanguageLemmas.{text_answered, too_long_answered, unread_answered, read_counts}
 use Rattle.sym_filter.proofs.languages.demangle_in.Goals as goal
 
@@ -18,9 +17,9 @@ returns-in-Ok-printed g c =
     let m = g.M.Mangling.mangled in
     let read = c.in-Ok.read in
     let known = c.in-Ok.ensures in
-    let counted = c.counts.ensures in (
+    let counted = c.counts-counts.ensures in (
       read_counts (record { mangled = m; IsRead = g.M.Counted.is_read; bytes_of = g.M.Mangling.bytes_of; whole_of = g.M.Mangling.whole_of; nodes_of = g.M.Counted.nodes_of; nodes_a_byte = g.M.Counted.nodes_a_byte })
-          symbol read c.counts.result (g.M.Mangling.rows_of read) (g.M.Mangling.steps_of read) known.rows known.bytes known.symbol known.steps
+          symbol read c.counts-counts.result (g.M.Mangling.rows_of read) (g.M.Mangling.steps_of read) known.rows known.bytes known.symbol known.steps
           counted.is_read counted.rows counted.nodes counted.steps counted.nodes_few counted.steps_few counted.steps_enough,
       text_answered m c.args.limit c.args.detail symbol bytes c.args.out.now.items c.print-printed.new.out.items c.print-printed.result c.in-Ok-printed.field-0 c.in-Ok-printed.is
           (answer_appended m c.args.detail symbol c.args.limit (g.M.Mangling.whole_of read) c.args.out.now.items c.print-printed.new.out.items c.print-printed.result known.symbol c.print-printed.ensures.text c.print-printed.ensures.within),
@@ -33,9 +32,9 @@ returns-in-TooLong g c =
     let m = g.M.Mangling.mangled in
     let read = c.in-Ok.read in
     let known = c.in-Ok.ensures in
-    let counted = c.counts.ensures in (
+    let counted = c.counts-counts.ensures in (
       read_counts (record { mangled = m; IsRead = g.M.Counted.is_read; bytes_of = g.M.Mangling.bytes_of; whole_of = g.M.Mangling.whole_of; nodes_of = g.M.Counted.nodes_of; nodes_a_byte = g.M.Counted.nodes_a_byte })
-          symbol read c.counts.result (g.M.Mangling.rows_of read) (g.M.Mangling.steps_of read) known.rows known.bytes known.symbol known.steps
+          symbol read c.counts-counts.result (g.M.Mangling.rows_of read) (g.M.Mangling.steps_of read) known.rows known.bytes known.symbol known.steps
           counted.is_read counted.rows counted.nodes counted.steps counted.nodes_few counted.steps_few counted.steps_enough,
       too_long_answered m c.args.limit c.args.detail symbol bytes c.print-printed.result c.in-Err-printed.refusal c.in-Err-printed.is c.in-TooLong.is
           (answer_too_long m c.args.detail symbol c.args.limit (g.M.Mangling.whole_of read) c.print-printed.result known.symbol c.print-printed.ensures.refusals c.print-printed.ensures.too_long),
