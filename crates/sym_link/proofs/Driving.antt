@@ -14,7 +14,7 @@ use Rattle.sym_link.specs.Unfold.{standing}
 use Rattle.sym_link.specs.Parts.{skipped, skipped_from, values_in, Stands}
 use Rattle.sym_link.specs.Driving.{Fails}
 use Rattle.sym_link.specs.Linking.{View, IsLinking, HasRoom, IsOpen, IsRuleRow, IsTokenRow, owed_behind, owed_next, Adds, ClosesRule, TakesToken, Opens, OpensRoot}
-use Rattle.sym_link.specs.Stepping.{link_steps, link_steps_all, Due, waiting, starting, closes_at_once, IsDue, CountsClose, CountsToken}
+use Rattle.sym_link.specs.Stepping.{link_steps, link_steps_all, Due, waiting, starting, closes_at_once, CountsClose, CountsToken}
 use Rattle.sym_link.specs.Following.{Follows, FollowsAfter, CanClose, CanTake, CanBegin, EndsWith, IsShape, IsFresh, IsOnWay, IsDone, HoldsAll, Moves, CountsMove, IsDriving, IsStepTo, meaning_of}
 use Rattle.sym_link.proofs.Standing.{NextPart, a_rule, a_token, next_part, passed_by, skip_from, skip_count, stands_within, stands_end, stands_inner, stands_skip, rows_length_all}
 use Rattle.sym_link.proofs.Stepping.{rule_not_at_once, token_not_at_once, push_due, some_due, chosen}
