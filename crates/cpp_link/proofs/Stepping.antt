@@ -1,7 +1,6 @@
 -- A step is taken as the reading says.
 use Rattle.std.proofs.Common.{◌≡◌, refl, sym, ◌∙◌, ap, arith, ℕ, zero, suc, ◌+◌, ◌<◌, ◌≤◌, Bool, true, false, List, [], ◌∷◌, length, take, drop, get_or, Option, Some, None, Result, Ok, Err}
 use Rattle.std.specs.Prelude.{IfOk}
-use Rattle.std.specs.List.{AllByRecursion}
 use Rattle.sym_core.specs.declared.refusal.Refusal.{Refusal}
 use Rattle.cpp_grammar.specs.declared.production.Production.{Production}
 use Rattle.cpp_term.specs.Term.{Term}
@@ -70,10 +69,6 @@ rest_there s n zero [] there = tt
 rest_there s n zero (p ∷ ps) there = there.1
 rest_there s n (suc base) [] there = tt
 rest_there s n (suc base) (p ∷ ps) there = rest_there s n base ps there
-
-pub all_there : (s : List ℕ) (n : ℕ) (ps : List Part) → AllByRecursion (IsThere s n) ps → AreThere s n ps
-all_there s n [] all = tt
-all_there s n (p ∷ ps) all = (all.0, all_there s n ps all.1)
 
 -- the tree that is the first part now is there with those behind it
 first_there : (s : List ℕ) (n base : ℕ) (parts new_parts : List Part) (node : ℕ) (listed : Bool) → AreThere s n (drop base parts) → node < n

@@ -1,11 +1,14 @@
 -- Parts that stand for values are there, and stand for the values that they have.
-use Rattle.std.proofs.Common.{◌≡◌, refl, ℕ, List, [], ◌∷◌, length}
+use Rattle.std.proofs.Common.{◌≡◌, refl, sym, subst, ℕ, List, [], ◌∷◌, length, drop}
+use Rattle.sym_link.specs.declared.language.Frame.{Frame}
 use Rattle.sym_link.specs.Driving.{AreAll}
+use Rattle.sym_link.specs.Threads.{IsOpenAt}
 use Rattle.cpp_term.specs.Values.{Value}
+use Rattle.cpp_link.specs.declared.part.Kept.{Kept}
 use Rattle.cpp_link.specs.declared.part.Part.{Part}
 use Rattle.cpp_link.specs.declared.linked.Linked.{Linked}
 use Rattle.cpp_link.specs.Parts.{values_of, values_in, AreThere}
-use Rattle.cpp_link.specs.View.{IsPart}
+use Rattle.cpp_link.specs.View.{IsPart, cpp_view}
 
 pub parts_are : (s : List ℕ) (l : Linked) (own : List Part) (known : List Value) → AreAll (IsPart s l) own known
     → AreThere s (length l.nodes.nodes) own × (values_in s l.nodes own ≡ known)
@@ -14,6 +17,12 @@ parts_are s l [] [] are = (tt, refl)
 parts_are s l (p ∷ ps) (v ∷ vs) are = let rest = parts_are s l ps vs are.1 in ((are.0.there, rest.0), rw (are.0.is, rest.1) refl)
 parts_are s l [] (v ∷ vs) are = absurd are
 parts_are s l (p ∷ ps) [] are = absurd are
+
+-- the parts of a rule that stands open are there
+pub open_there : (s : List ℕ) (l : Linked) (frame : Frame Kept) (parts own : List Part) → IsOpenAt (cpp_view s) s l frame parts → own ≡ drop frame.base parts
+    → AreThere s (length l.nodes.nodes) own
+open_there s l frame parts own o same =
+    subst (λ ps. AreThere s (length l.nodes.nodes) ps) (sym same) (parts_are s l (drop frame.base parts) o.known o.at.parts).0
 
 pub parts_all : (s : List ℕ) (l : Linked) (own : List Part) → AreThere s (length l.nodes.nodes) own → AreAll (IsPart s l) own (values_in s l.nodes own)
 unfolding values_of

@@ -4,7 +4,7 @@ ghost use Rattle.std.specs.Prelude.{◌≡◌, ℕ, ◌+◌, ◌<◌, ◌≤◌,
 ghost use Rattle.cpp_grammar.specs.declared.production.Production.{Production};
 ghost use Rattle.sym_core.specs.declared.refusal.Refusal.TheVariants as refusals;
 ghost use Rattle.sym_link.specs.Linking.{HasRoom, Adds, Pays, owed_behind, owed_next};
-ghost use Rattle.sym_link.specs.Threads.{GoesOn};
+ghost use Rattle.sym_link.specs.Threads.{IsOpenAt, GoesOn};
 ghost use Rattle.cpp_tree.specs.Nodes.{IsArgumentsBelow, IsBelow, tree_at};
 ghost use Rattle.cpp_link.specs.Grows.{Grows, HasPlace};
 ghost use Rattle.cpp_link.specs.Making.{state_of};
@@ -161,8 +161,7 @@ impl Linked {
     ///
     /// # Errors
     ///
-    /// `BadReference` at a parameter that names no argument that it may name, `Memory` where a list couldn't grow, or where a
-    /// part isn't there, which is so of no symbol.
+    /// `BadReference` at a parameter that names no argument that it may name, `Memory` where a list couldn't grow.
     pub fn go_on(
         &mut self,
         symbol: &[u8],
@@ -170,6 +169,7 @@ impl Linked {
         parts: &mut Vec<Part>,
     ) -> Result<Kept, Refusal>
         requires room { HasRoom (cpp_view symbol.now) symbol.now self.old (owed_behind (cpp_view symbol.now) frame parts.old.items) }
+        requires open { IsOpenAt (cpp_view symbol.now) symbol.now self.old frame parts.old.items }
         requires base { frame.base ≤ length parts.old.items }
         ensures goes { GoesOn (cpp_view symbol.now) symbol.now (Surrounds symbol.now) self.old self.new frame parts.old.items parts.new.items result }
         ensures adds { OnOk result (Adds (cpp_view symbol.now) self.old self.new (owed_behind (cpp_view symbol.now) frame parts.old.items) (owed_next (cpp_view symbol.now) frame parts.new.items)) }
@@ -177,9 +177,6 @@ impl Linked {
         ensures count { OnOk result (length parts.new.items ≡ length parts.old.items) }
     {
         let own = &parts[frame.base..];
-        if !self.has_kept(frame.kept) || !self.has_parts(symbol, own) {
-            return Err(Refusal::Memory);
-        }
         let production = production_of(frame.rule);
         let step = self.step(symbol, production, frame.place, frame.kept, own)?;
         let then = self.take_step(symbol, frame.kept, frame.base, step, parts)?;

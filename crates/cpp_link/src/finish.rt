@@ -7,7 +7,7 @@ ghost use Rattle.sym_core.specs.declared.NumberKind.TheVariants as kinds;
 ghost use Rattle.sym_core.specs.declared.refusal.Refusal.TheVariants as refusals;
 ghost use Rattle.sym_link.specs.Driving.{Fails};
 ghost use Rattle.sym_link.specs.Linking.{HasRoom, Adds, Pays, owed_behind};
-ghost use Rattle.sym_link.specs.Threads.{ClosesAll};
+ghost use Rattle.sym_link.specs.Threads.{IsOpenAt, ClosesAll};
 ghost use Rattle.sym_link.specs.Unfold.{found};
 ghost use Rattle.cpp_term.specs.Values.{State, part, text_of};
 ghost use Rattle.cpp_term.specs.References.{substituted};
@@ -172,8 +172,7 @@ impl Linked {
     ///
     /// # Errors
     ///
-    /// `BadReference` at a substitution that names no candidate that it may name. `Memory` where a list couldn't grow, or where
-    /// what the frame and its parts stand for isn't there, which nothing of a symbol comes to.
+    /// `BadReference` at a substitution that names no candidate that it may name, `Memory` where a list couldn't grow.
     pub fn finish_rule(
         &mut self,
         symbol: &[u8],
@@ -181,15 +180,13 @@ impl Linked {
         parts: &mut Vec<Part>,
     ) -> Result<(), Refusal>
         requires room { HasRoom (cpp_view symbol.now) symbol.now self.old (owed_behind (cpp_view symbol.now) frame parts.old.items) }
+        requires open { IsOpenAt (cpp_view symbol.now) symbol.now self.old frame parts.old.items }
         requires base { frame.base ≤ length parts.old.items }
         requires place { frame.place < length symbol.now }
         ensures closes { ClosesAll (cpp_view symbol.now) symbol.now self.old self.new frame parts.old.items parts.new.items result }
         ensures adds { OnOk result (Adds (cpp_view symbol.now) self.old self.new (owed_behind (cpp_view symbol.now) frame parts.old.items) 0) }
         ensures pays { OnOk result ((at : ℕ) → Pays (cpp_view symbol.now) self.old self.new at at) }
     {
-        if !self.has_kept(frame.kept) || !self.has_parts(symbol, &parts[frame.base..]) {
-            return Err(Refusal::Memory);
-        }
         let production = production_of(frame.rule);
         let made = self.close_production(
             symbol,

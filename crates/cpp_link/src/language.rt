@@ -3,8 +3,8 @@
 
 ghost use Rattle.std.specs.Prelude.{◌≡◌, ℕ, ◌+◌, ◌-◌, ◌<◌, ◌≤◌, ◌∷◌, [], List, length, take, drop, OnOk};
 ghost use Rattle.sym_link.specs.Driving.{AreAll};
-ghost use Rattle.sym_link.specs.Linking.{HasRoom, OpensRoot, Opens, TakesToken, ClosesRule, Adds, Pays, owed_behind, owed_next};
-ghost use Rattle.sym_link.specs.Threads.{GoesOn, BeginsIn, ClosesAll, IsTaken, IsAhead, IsAheadToken, IsCount};
+ghost use Rattle.sym_link.specs.Linking.{HasRoom, IsOpen, OpensRoot, Opens, TakesToken, ClosesRule, Adds, Pays, owed_behind, owed_next};
+ghost use Rattle.sym_link.specs.Threads.{IsOpenAt, GoesOn, BeginsIn, ClosesAll, IsTaken, IsAhead, IsAheadToken, IsCount};
 ghost use Rattle.cpp_term.specs.Values.{Value, State, Around};
 ghost use Rattle.cpp_link.specs.View.{Surrounds, cpp_view};
 ghost use Rattle.cpp_link.specs.ViewLaws.{cpp_laws, cpp_threads};
@@ -56,6 +56,7 @@ impl Threading for Linked {
         parts: &mut Vec<Part>,
     ) -> Result<Kept, Refusal>
         requires room { HasRoom (cpp_view symbol.now) symbol.now self.old (owed_behind (cpp_view symbol.now) frame parts.old.items) }
+        requires open { IsOpenAt (cpp_view symbol.now) symbol.now self.old frame parts.old.items }
         requires base { frame.base ≤ length parts.old.items }
         ensures goes { GoesOn (cpp_view symbol.now) symbol.now (Surrounds symbol.now) self.old self.new frame parts.old.items parts.new.items result }
         ensures adds { OnOk result (Adds (cpp_view symbol.now) self.old self.new (owed_behind (cpp_view symbol.now) frame parts.old.items) (owed_next (cpp_view symbol.now) frame parts.new.items)) }
@@ -88,6 +89,7 @@ impl Threading for Linked {
         parts: &mut Vec<Part>,
     ) -> Result<(), Refusal>
         requires room { HasRoom (cpp_view symbol.now) symbol.now self.old (owed_behind (cpp_view symbol.now) frame parts.old.items) }
+        requires open { IsOpenAt (cpp_view symbol.now) symbol.now self.old frame parts.old.items }
         requires base { frame.base ≤ length parts.old.items }
         requires place { frame.place < length symbol.now }
         ensures closes { ClosesAll (cpp_view symbol.now) symbol.now self.old self.new frame parts.old.items parts.new.items result }
@@ -165,6 +167,7 @@ impl Linking for Linked {
         row: Row,
     ) -> Result<Kept, Refusal>
         requires room { HasRoom (cpp_view symbol.now) symbol.now self.old (owed_behind (cpp_view symbol.now) frame parts.old.items) }
+        requires open { IsOpen (cpp_view symbol.now) symbol.now self.old frame parts.old.items }
         requires base { frame.base ≤ length parts.old.items }
         requires place { row.from < length symbol.now }
         requires end { row.end ≤ length rows.now }
@@ -183,6 +186,7 @@ impl Linking for Linked {
         row: Row,
     ) -> Result<(), Refusal>
         requires room { HasRoom (cpp_view symbol.now) symbol.now self.old (owed_behind (cpp_view symbol.now) frame parts.old.items) }
+        requires open { IsOpen (cpp_view symbol.now) symbol.now self.old frame parts.old.items }
         requires base { frame.base ≤ length parts.old.items }
         requires from { row.from ≤ row.to }
         requires to { row.to ≤ length symbol.now }
@@ -202,6 +206,7 @@ impl Linking for Linked {
         parts: &mut Vec<Part>,
     ) -> Result<(), Refusal>
         requires room { HasRoom (cpp_view symbol.now) symbol.now self.old (owed_behind (cpp_view symbol.now) frame parts.old.items) }
+        requires open { IsOpen (cpp_view symbol.now) symbol.now self.old frame parts.old.items }
         requires base { frame.base ≤ length parts.old.items }
         requires place { frame.place < length symbol.now }
         ensures closes { ClosesRule (cpp_view symbol.now) symbol.now self.old self.new frame parts.old.items parts.new.items result }

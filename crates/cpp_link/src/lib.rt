@@ -12,7 +12,6 @@ pub mod linked;
 pub mod meaning;
 pub mod numbers;
 pub mod part;
-pub mod presence;
 pub mod references;
 pub mod settling;
 pub mod shapes;

@@ -295,7 +295,7 @@ impl RustNodes {
 
 impl Linking for RustNodes {
     ghost use Rattle.std.specs.Prelude.{◌≡◌, ℕ, ◌+◌, ◌<◌, ◌≤◌, [], List, length, take, drop, OnOk};
-    ghost use Rattle.sym_link.specs.Linking.{HasRoom, OpensRoot, Opens, TakesToken, ClosesRule, Adds, Pays, owed_behind, owed_next};
+    ghost use Rattle.sym_link.specs.Linking.{HasRoom, IsOpen, OpensRoot, Opens, TakesToken, ClosesRule, Adds, Pays, owed_behind, owed_next};
     ghost use Rattle.rust_v0.specs.Value.{Value, State};
     ghost use Rattle.rust_v0.specs.RustNodes.{v0_view};
     ghost use Rattle.rust_v0.specs.LanguageLaws.{v0_laws};
@@ -331,6 +331,7 @@ impl Linking for RustNodes {
         row: Row,
     ) -> Result<BoundLifetimes, Refusal>
         requires room { HasRoom (v0_view symbol.now) symbol.now self.old (owed_behind (v0_view symbol.now) frame parts.old.items) }
+        requires open { IsOpen (v0_view symbol.now) symbol.now self.old frame parts.old.items }
         requires base { frame.base ≤ length parts.old.items }
         requires place { row.from < length symbol.now }
         requires end { row.end ≤ length _rows.now }
@@ -351,6 +352,7 @@ impl Linking for RustNodes {
         row: Row,
     ) -> Result<(), Refusal>
         requires room { HasRoom (v0_view symbol.now) symbol.now self.old (owed_behind (v0_view symbol.now) frame parts.old.items) }
+        requires open { IsOpen (v0_view symbol.now) symbol.now self.old frame parts.old.items }
         requires base { frame.base ≤ length parts.old.items }
         requires from { row.from ≤ row.to }
         requires to { row.to ≤ length symbol.now }
@@ -376,6 +378,7 @@ impl Linking for RustNodes {
         parts: &mut Vec<Part>,
     ) -> Result<(), Refusal>
         requires room { HasRoom (v0_view symbol.now) symbol.now self.old (owed_behind (v0_view symbol.now) frame parts.old.items) }
+        requires open { IsOpen (v0_view symbol.now) symbol.now self.old frame parts.old.items }
         requires base { frame.base ≤ length parts.old.items }
         requires place { frame.place < length symbol.now }
         ensures closes { ClosesRule (v0_view symbol.now) symbol.now self.old self.new frame parts.old.items parts.new.items result }

@@ -38,12 +38,7 @@ impl Counted for Abi {
 
     fn counts(symbol: &itanium::Symbol) -> Counts {
         let _root = symbol.root_node();
-        let counts = symbol.counts();
-        Counts {
-            rows: counts.rows,
-            nodes: counts.nodes,
-            steps: counts.steps,
-        }
+        symbol.counts()
     }
 }
 

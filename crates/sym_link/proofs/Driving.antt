@@ -13,8 +13,8 @@ use Rattle.sym_link.specs.Machine as machine
 use Rattle.sym_link.specs.Unfold.{standing}
 use Rattle.sym_link.specs.Parts.{skipped, skipped_from, values_in, Stands}
 use Rattle.sym_link.specs.Driving.{Fails}
-use Rattle.sym_link.specs.Linking.{View, IsLinking, HasRoom, IsRuleRow, IsTokenRow, owed_behind, owed_next, Adds, ClosesRule, TakesToken, Opens, OpensRoot}
-use Rattle.sym_link.specs.Stepping.{link_steps, link_steps_all, Due, waiting, starting, closes_at_once, IsDue, CountsClose, CountsToken}
+use Rattle.sym_link.specs.Linking.{View, IsLinking, HasRoom, IsOpen, IsRuleRow, IsTokenRow, owed_behind, owed_next, Adds, ClosesRule, TakesToken, Opens, OpensRoot}
+use Rattle.sym_link.specs.Stepping.{link_steps, link_steps_all, Due, waiting, starting, closes_at_once, CountsClose, CountsToken}
 use Rattle.sym_link.specs.Following.{Follows, FollowsAfter, CanClose, CanTake, CanBegin, EndsWith, IsShape, IsFresh, IsOnWay, IsDone, HoldsAll, Moves, CountsMove, IsDriving, IsStepTo, meaning_of}
 use Rattle.sym_link.proofs.Standing.{NextPart, a_rule, a_token, next_part, passed_by, skip_from, skip_count, stands_within, stands_end, stands_inner, stands_skip, rows_length_all}
 use Rattle.sym_link.proofs.Stepping.{rule_not_at_once, token_not_at_once, push_due, some_due, chosen}
@@ -48,6 +48,16 @@ closing_place view s nodes frame parts laws can =
 pub closing_base : {N P K V S C : Type 0} (view : View N P K V S C) (s : List ℕ) (nodes : N) (frame : Frame K) (parts : List P)
     → CanClose view s nodes frame parts → frame.base ≤ length parts
 closing_base view s nodes frame parts can = (closing view s nodes frame parts can).base
+
+pub inner_open : {N P K V S C : Type 0} (view : View N P K V S C) (s : List ℕ) (shape : List Row) (whole : Result (Found (List V) S) Refusal) (due : Due)
+    (nodes : N) (next : ℕ) (lower : List (Frame K)) (code : Frame K) (parts : List P) → Innermost view s shape whole due nodes next lower code parts → IsOpen view s nodes code parts
+inner_open view s shape whole due nodes next lower code parts i =
+    record { rule = i.top.rule; known = i.known; from = i.top.from; left = i.top.left; state = i.state; inside = i.inside }
+
+pub closing_open : {N P K V S C : Type 0} (view : View N P K V S C) (s : List ℕ) (nodes : N) (frame : Frame K) (parts : List P)
+    → CanClose view s nodes frame parts → IsOpen view s nodes frame parts
+closing_open view s nodes frame parts can =
+    inner_open view s can.shape can.whole can.due nodes can.next can.lower frame parts (closing view s nodes frame parts can)
 
 no_row_left : {N P K V S C : Type 0} (view : View N P K V S C) (s : List ℕ) (shape : List Row) (whole : Result (Found (List V) S) Refusal) (due : Due)
     (nodes : N) (next : ℕ) (lower : List (Frame K)) (code : Frame K) (parts : List P) (i : Innermost view s shape whole due nodes next lower code parts) → code.end ≡ next
@@ -193,6 +203,7 @@ more_rows view s shape due nodes next codes code parts d laws can =
 -- what is asked where a token is taken
 pub record TokenAsks {N P K V S C : Type 0} (view : View N P K V S C) (s : List ℕ) (nodes : N) (frame : Frame K) (parts : List P) (row : Row) : Type 0 where
   pub room : HasRoom view s nodes (owed_behind view frame parts)
+  pub stands : IsOpen view s nodes frame parts
   pub base : frame.base ≤ length parts
   pub from : row.from ≤ row.to
   pub to : row.to ≤ length s
@@ -205,6 +216,7 @@ token_asks view s shape due nodes next codes code parts row d laws can row_is is
     let stands = token_stands view s shape can.whole due nodes next can.last.0 code parts t.i t.t t.rest t.left_is in
     record {
       room = room_inside view s shape can.whole due nodes next can.last.0 code parts laws can.fits.symbol t.i;
+      stands = inner_open view s shape can.whole due nodes next can.last.0 code parts t.i;
       base = t.i.base;
       from = omega (arith, t.row_is.to);
       to = omega (
@@ -232,6 +244,7 @@ row_ends shape place row rule taken inner is =
 -- what is asked where a rule begins
 pub record RuleAsks {N P K V S C : Type 0} (view : View N P K V S C) (s : List ℕ) (shape : List Row) (nodes : N) (frame : Frame K) (parts : List P) (row : Row) : Type 0 where
   pub room : HasRoom view s nodes (owed_behind view frame parts)
+  pub stands : IsOpen view s nodes frame parts
   pub base : frame.base ≤ length parts
   pub place : row.from < length s
   pub end : row.end ≤ length shape
@@ -246,6 +259,7 @@ rule_asks view s shape due nodes next codes code parts row d laws can row_is no_
     let stands = rule_stands view s shape can.whole due nodes next can.last.0 code parts r.i r.rule r.taken r.inner r.rest laws r.left_is in
     record {
       room = room_inside view s shape can.whole due nodes next can.last.0 code parts laws can.fits.symbol r.i;
+      stands = inner_open view s shape can.whole due nodes next can.last.0 code parts r.i;
       base = r.i.base;
       place = omega (arith, r.row_is.from, stands_within view.table s n (standing r.rule r.taken place r.i.top.rule.context r.i.state) 0 (place + length r.taken) r.inner laws.lawful stands);
       end = row_ends shape place row r.rule r.taken r.inner r.row_is;

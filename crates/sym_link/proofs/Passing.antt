@@ -15,7 +15,7 @@ use Rattle.sym_link.specs.Parts.{skipped, skipped_from, joined}
 use Rattle.sym_link.specs.Machine.{Passed, passed, ended}
 use Rattle.sym_link.specs.Driving.{AreAll, Fails}
 use Rattle.sym_link.specs.Linking.{View, IsInside, IsRuleRow, IsTokenRow, taken_in, Takes, next_of, Begun, begun, Begins, Puts, HasRoom, Adds, owed_behind, owed_next}
-use Rattle.sym_link.specs.Threads.{skips, IsThere, IsAt, GoesOn, BeginsIn, ClosesAll, IsTaken, IsThreading, Passing, Passes}
+use Rattle.sym_link.specs.Threads.{skips, IsThere, IsAt, IsOpenAt, GoesOn, BeginsIn, ClosesAll, IsTaken, IsThreading, Passing, Passes}
 use Rattle.sym_link.proofs.Cases.{as_many}
 use Rattle.sym_link.proofs.Lists.{all_push, all_stay, dropped_front, taken_front}
 use Rattle.sym_link.proofs.Following.{fails_carried}
@@ -105,6 +105,21 @@ module _ {N P K V S C : Type 0} (view : View N P K V S C) (s : List ℕ) (Surrou
       fails_carried e (view.reading.between p.rule p.known p.state) (λ next. passed view.reading p.rule (next.values ++ view.reading.rowless) after.from after.rest next.state) whole
       (goes p.rule p.known p.state p.at) (sym after.passes ∙ p.coming)
 
+-- the rule stands open still
+pub open_next : {N P K V S C : Type 0} (view : View N P K V S C) (s : List ℕ) (Surrounds : N → K → C → Type 0) → IsThreading view → (old new : N) (frame : Frame K)
+    (parts middle : List P) → frame.base ≤ length parts → IsOpenAt view s old frame parts
+    → (context : K) (part : P) → GoesOn view s Surrounds old new frame parts middle (Ok context) → view.Grows old new
+    → AreAll (view.IsPart new) (part ∷ []) view.reading.rowless
+    → IsOpenAt view s new frame (middle ++ part ∷ [])
+open_next view s Surrounds laws old new frame parts middle base o context part goes grows is =
+    let left : Forest = grown empty nothing in
+    let whole = passed view.reading o.rule o.known 0 left o.state in
+    let first : Passing view s old frame (take frame.base parts) parts (length o.known + 1) whole =
+    record { rule = o.rule; known = o.known; from = 0; left = left; state = o.state; base = base; below = refl; at = o.at; coming = refl; count = refl } in
+    let less : length parts - frame.base < length o.known + 1 = omega (arith, own_length view s old frame parts o.rule o.known o.state o.at) in
+    let next = passing_next view s Surrounds laws old new frame (take frame.base parts) parts middle (length o.known + 1) whole first less context part goes grows is in
+    record { rule = next.rule; known = next.known; state = next.state; at = next.at }
+
 -- all are passed
 pub passing_done : {N P K V S C : Type 0} (view : View N P K V S C) (s : List ℕ) (nodes : N) (frame : Frame K) (lower parts : List P) (to : ℕ) (whole : Result (Passed V S) Refusal)
     → Passing view s nodes frame lower parts to whole → to ≤ length parts - frame.base → Passes view nodes frame lower parts (Ok tt) whole
@@ -148,6 +163,13 @@ module _ {N P K V S C : Type 0} (view : View N P K V S C) (s : List ℕ) (laws :
     spelled = is.stands.spelled;
   }
 
+  first_at : IsAt view s old frame (drop frame.base parts) rule known state
+  first_at = record { there = there; number = is.number; place = is.place; kept = is.kept; parts = is.parts; holds = is.holds }
+
+  -- the rule stands open
+  pub open_first : IsOpenAt view s old frame parts
+  open_first = record { rule = rule; known = known; state = state; at = first_at }
+
   -- nothing is passed yet
   pub passing_first : (to : ℕ) → to ≡ length known + skips left → Passing view s old frame (take frame.base parts) parts to (passed view.reading rule known from left state)
   passing_first to to_is = record {
@@ -158,7 +180,7 @@ module _ {N P K V S C : Type 0} (view : View N P K V S C) (s : List ℕ) (laws :
     state = state;
     base = base;
     below = refl;
-    at = record { there = there; number = is.number; place = is.place; kept = is.kept; parts = is.parts; holds = is.holds };
+    at = first_at;
     coming = refl;
     count = sym to_is;
   }

@@ -79,6 +79,15 @@ pub record IsInside {N P K V S C : Type 0} (view : View N P K V S C) (s : List �
   pub holds : view.Holds nodes state
   pub stands : Stands view.table s (length view.reading.rowless) rule (length known) from left
 
+-- The frame and the parts from its base on are those of a rule that stands open in the symbol.
+pub record IsOpen {N P K V S C : Type 0} (view : View N P K V S C) (s : List ℕ) (nodes : N) (frame : Frame K) (parts : List P) : Type 0 where
+  pub rule : Open S C
+  pub known : List V
+  pub from : ℕ
+  pub left : Forest
+  pub state : S
+  pub inside : IsInside view s nodes frame (drop frame.base parts) rule known from left state
+
 -- the row is that of a rule at a place, and the rows of its parts are behind it
 pub record IsRuleRow (rows : List Row) (row : Row) (rule : Rule) (taken : List ℕ) (parts : Forest) (place : ℕ) : Type 0 where
   pub number : ℕ

@@ -38,6 +38,13 @@ pub record IsAt {N P K V S C : Type 0} (view : View N P K V S C) (s : List ℕ) 
   pub parts : AreAll (view.IsPart nodes) own known
   pub holds : view.Holds nodes state
 
+-- The frame and the parts from its base on are those of an open rule at its place.
+pub record IsOpenAt {N P K V S C : Type 0} (view : View N P K V S C) (s : List ℕ) (nodes : N) (frame : Frame K) (parts : List P) : Type 0 where
+  pub rule : Open S C
+  pub known : List V
+  pub state : S
+  pub at : IsAt view s nodes frame (drop frame.base parts) rule known state
+
 -- What goes into the next part is what is read: its context, the values so far, and the state.
 abbrev pub Goes : {N P K V S C : Type 0} → View N P K V S C → (IsContext : N → K → C → Type 0) → (nodes : N) → (lower parts : List P)
     → Result K Refusal → Result (Next V S C) Refusal → Type 0

@@ -29,7 +29,7 @@ pub struct Counts {
 
 impl Linking for Counts {
     ghost use Rattle.std.specs.Prelude.{◌≡◌, ℕ, ◌+◌, ◌<◌, ◌≤◌, [], List, length, take, drop, OnOk};
-    ghost use Rattle.sym_link.specs.Linking.{View, IsLinking, HasRoom, OpensRoot, Opens, TakesToken, ClosesRule, Adds, Pays, owed_behind, owed_next};
+    ghost use Rattle.sym_link.specs.Linking.{View, IsLinking, HasRoom, IsOpen, OpensRoot, Opens, TakesToken, ClosesRule, Adds, Pays, owed_behind, owed_next};
     ghost use Rattle.sym_link.specs.Counting.{counting};
     ghost use Rattle.sym_link.specs.CountingLaws.{counting_laws};
 
@@ -64,6 +64,7 @@ impl Linking for Counts {
         _row: Row,
     ) -> Result<(), Refusal>
         requires room { HasRoom (counting _symbol.now) _symbol.now self.old (owed_behind (counting _symbol.now) _frame _parts.old.items) }
+        requires open { IsOpen (counting _symbol.now) _symbol.now self.old _frame _parts.old.items }
         requires base { _frame.base ≤ length _parts.old.items }
         requires place { _row.from < length _symbol.now }
         requires end { _row.end ≤ length _rows.now }
@@ -82,6 +83,7 @@ impl Linking for Counts {
         row: Row,
     ) -> Result<(), Refusal>
         requires room { HasRoom (counting symbol.now) symbol.now self.old (owed_behind (counting symbol.now) frame parts.old.items) }
+        requires open { IsOpen (counting symbol.now) symbol.now self.old frame parts.old.items }
         requires base { frame.base ≤ length parts.old.items }
         requires from { row.from ≤ row.to }
         requires to { row.to ≤ length symbol.now }
@@ -106,6 +108,7 @@ impl Linking for Counts {
         parts: &mut Vec<Part>,
     ) -> Result<(), Refusal>
         requires room { HasRoom (counting symbol.now) symbol.now self.old (owed_behind (counting symbol.now) frame parts.old.items) }
+        requires open { IsOpen (counting symbol.now) symbol.now self.old frame parts.old.items }
         requires base { frame.base ≤ length parts.old.items }
         requires place { frame.place < length symbol.now }
         ensures closes { ClosesRule (counting symbol.now) symbol.now self.old self.new frame parts.old.items parts.new.items result }

@@ -22,7 +22,7 @@
 // An impl writes the clauses of its methods out, with its own view in the place of `view`.
 
 ghost use Rattle.std.specs.Prelude.{◌≡◌, ℕ, ◌+◌, ◌<◌, ◌≤◌, [], List, length, take, drop, OnOk};
-ghost use Rattle.sym_link.specs.Linking.{View, IsLinking, HasRoom, OpensRoot, Opens, TakesToken, ClosesRule, Adds, Pays, owed_behind, owed_next};
+ghost use Rattle.sym_link.specs.Linking.{View, IsLinking, HasRoom, IsOpen, OpensRoot, Opens, TakesToken, ClosesRule, Adds, Pays, owed_behind, owed_next};
 
 use sym_core::Refusal;
 use sym_shape::rule::Row;
@@ -72,6 +72,7 @@ pub trait Linking {
         row: Row,
     ) -> Result<Self::Kept, Refusal>
         requires room { HasRoom (view symbol.now) symbol.now self.old (owed_behind (view symbol.now) frame parts.old.items) }
+        requires open { IsOpen (view symbol.now) symbol.now self.old frame parts.old.items }
         requires base { frame.base ≤ length parts.old.items }
         requires place { row.from < length symbol.now }
         requires end { row.end ≤ length rows.now }
@@ -88,6 +89,7 @@ pub trait Linking {
         row: Row,
     ) -> Result<(), Refusal>
         requires room { HasRoom (view symbol.now) symbol.now self.old (owed_behind (view symbol.now) frame parts.old.items) }
+        requires open { IsOpen (view symbol.now) symbol.now self.old frame parts.old.items }
         requires base { frame.base ≤ length parts.old.items }
         requires from { row.from ≤ row.to }
         requires to { row.to ≤ length symbol.now }
@@ -104,6 +106,7 @@ pub trait Linking {
         parts: &mut Vec<Self::Part>,
     ) -> Result<(), Refusal>
         requires room { HasRoom (view symbol.now) symbol.now self.old (owed_behind (view symbol.now) frame parts.old.items) }
+        requires open { IsOpen (view symbol.now) symbol.now self.old frame parts.old.items }
         requires base { frame.base ≤ length parts.old.items }
         requires place { frame.place < length symbol.now }
         ensures closes { ClosesRule (view symbol.now) symbol.now self.old self.new frame parts.old.items parts.new.items result }

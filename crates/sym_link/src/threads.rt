@@ -7,8 +7,8 @@ ghost use Rattle.std.specs.Prelude.{◌≡◌, ℕ, ◌+◌, ◌-◌, ◌<◌, �
 ghost use Rattle.sym_core.specs.declared.refusal.Refusal.{Refusal};
 ghost use Rattle.sym_link.specs.Machine.{Passed};
 ghost use Rattle.sym_link.specs.Driving.{AreAll};
-ghost use Rattle.sym_link.specs.Linking.{View, HasRoom, Opens, TakesToken, ClosesRule, Adds, Pays, owed_behind, owed_next};
-ghost use Rattle.sym_link.specs.Threads.{GoesOn, BeginsIn, ClosesAll, IsTaken, IsAhead, IsAheadToken, IsCount, IsThreading, Passing, PassesOne, Passes};
+ghost use Rattle.sym_link.specs.Linking.{View, HasRoom, IsOpen, Opens, TakesToken, ClosesRule, Adds, Pays, owed_behind, owed_next};
+ghost use Rattle.sym_link.specs.Threads.{IsOpenAt, GoesOn, BeginsIn, ClosesAll, IsTaken, IsAhead, IsAheadToken, IsCount, IsThreading, Passing, PassesOne, Passes};
 
 use crate::language::Frame;
 use sym_core::Refusal;
@@ -44,6 +44,7 @@ pub trait Threading {
         parts: &mut Vec<Self::Part>,
     ) -> Result<Self::Kept, Refusal>
         requires room { HasRoom (view symbol.now) symbol.now self.old (owed_behind (view symbol.now) frame parts.old.items) }
+        requires open { IsOpenAt (view symbol.now) symbol.now self.old frame parts.old.items }
         requires base { frame.base ≤ length parts.old.items }
         ensures goes { GoesOn (view symbol.now) symbol.now (surrounds symbol.now) self.old self.new frame parts.old.items parts.new.items result }
         ensures adds { OnOk result (Adds (view symbol.now) self.old self.new (owed_behind (view symbol.now) frame parts.old.items) (owed_next (view symbol.now) frame parts.new.items)) }
@@ -72,6 +73,7 @@ pub trait Threading {
         parts: &mut Vec<Self::Part>,
     ) -> Result<(), Refusal>
         requires room { HasRoom (view symbol.now) symbol.now self.old (owed_behind (view symbol.now) frame parts.old.items) }
+        requires open { IsOpenAt (view symbol.now) symbol.now self.old frame parts.old.items }
         requires base { frame.base ≤ length parts.old.items }
         requires place { frame.place < length symbol.now }
         ensures closes { ClosesAll (view symbol.now) symbol.now self.old self.new frame parts.old.items parts.new.items result }
@@ -117,10 +119,12 @@ fn pass_one<L: Threading>(
     parts: &mut Vec<L::Part>,
 ) -> Result<(), Refusal>
     requires room { HasRoom (L.view symbol.now) symbol.now language.old (owed_behind (L.view symbol.now) frame parts.old.items) }
+    requires open { IsOpenAt (L.view symbol.now) symbol.now language.old frame parts.old.items }
     requires base { frame.base ≤ length parts.old.items }
     ensures passing { (lower : List L.Part) (to : ℕ) (whole : Result (Passed L.Value L.State) Refusal)
         → Passing (L.view symbol.now) symbol.now language.old frame lower parts.old.items to whole → length parts.old.items - frame.base < to
         → PassesOne (L.view symbol.now) symbol.now language.new frame lower parts.new.items to whole result }
+    ensures open { OnOk result (IsOpenAt (L.view symbol.now) symbol.now language.new frame parts.new.items) }
     ensures adds { OnOk result (Adds (L.view symbol.now) language.old language.new (owed_behind (L.view symbol.now) frame parts.old.items) (owed_behind (L.view symbol.now) frame parts.new.items)) }
     ensures pays { OnOk result ((at : ℕ) → Pays (L.view symbol.now) language.old language.new at at) }
     ensures count { OnOk result (length parts.new.items ≡ length parts.old.items + 1) }
@@ -139,10 +143,12 @@ pub fn pass<L: Threading>(
     to: usize,
 ) -> Result<(), Refusal>
     requires room { HasRoom (L.view symbol.now) symbol.now language.old (owed_behind (L.view symbol.now) frame parts.old.items) }
+    requires open { IsOpenAt (L.view symbol.now) symbol.now language.old frame parts.old.items }
     requires base { frame.base ≤ length parts.old.items }
     ensures passes { (lower : List L.Part) (whole : Result (Passed L.Value L.State) Refusal)
         → Passing (L.view symbol.now) symbol.now language.old frame lower parts.old.items to whole
         → Passes (L.view symbol.now) language.new frame lower parts.new.items result whole }
+    ensures open { OnOk result (IsOpenAt (L.view symbol.now) symbol.now language.new frame parts.new.items) }
     ensures adds { OnOk result (Adds (L.view symbol.now) language.old language.new (owed_behind (L.view symbol.now) frame parts.old.items) (owed_behind (L.view symbol.now) frame parts.new.items)) }
     ensures pays { OnOk result ((at : ℕ) → Pays (L.view symbol.now) language.old language.new at at) }
     ensures base { OnOk result (frame.base ≤ length parts.new.items) }
@@ -163,6 +169,7 @@ pub fn enter_by<L: Threading>(
     row: Row,
 ) -> Result<L::Kept, Refusal>
     requires room { HasRoom (L.view symbol.now) symbol.now language.old (owed_behind (L.view symbol.now) frame parts.old.items) }
+    requires open { IsOpen (L.view symbol.now) symbol.now language.old frame parts.old.items }
     requires base { frame.base ≤ length parts.old.items }
     requires place { row.from < length symbol.now }
     requires end { row.end ≤ length rows.now }
@@ -185,6 +192,7 @@ pub fn close_by<L: Threading>(
     parts: &mut Vec<L::Part>,
 ) -> Result<(), Refusal>
     requires room { HasRoom (L.view symbol.now) symbol.now language.old (owed_behind (L.view symbol.now) frame parts.old.items) }
+    requires open { IsOpen (L.view symbol.now) symbol.now language.old frame parts.old.items }
     requires base { frame.base ≤ length parts.old.items }
     requires place { frame.place < length symbol.now }
     ensures closes { ClosesRule (L.view symbol.now) symbol.now language.old language.new frame parts.old.items parts.new.items result }
@@ -206,6 +214,7 @@ pub fn token_by<L: Threading>(
     row: Row,
 ) -> Result<(), Refusal>
     requires room { HasRoom (L.view symbol.now) symbol.now language.old (owed_behind (L.view symbol.now) frame parts.old.items) }
+    requires open { IsOpen (L.view symbol.now) symbol.now language.old frame parts.old.items }
     requires base { frame.base ≤ length parts.old.items }
     requires from { row.from ≤ row.to }
     requires to { row.to ≤ length symbol.now }

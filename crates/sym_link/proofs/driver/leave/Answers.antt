@@ -1,11 +1,15 @@
 use Rattle.std.proofs.Common.{refl, ◌+◌}
 use Rattle.sym_link.specs.Stepping.{waiting}
-use Rattle.sym_link.proofs.Driving.{closing_room, closing_place, closing_base, closed}
+use Rattle.sym_link.proofs.Driving.{closing_room, closing_open, closing_place, closing_base, closed}
 use Rattle.sym_link.proofs.driver.leave.Goals as goal
 
 pub close-requires-clause-room : goal.close-requires-clause-room
 close-requires-clause-room g c =
     closing_room (g.L.Linking.view c.args.symbol.now) c.args.symbol.now c.args.language.now c.args.frame c.args.parts.now.items (g.met.L.Linking.laws c.args.symbol.now) c.requires
+
+pub close-requires-clause-open : goal.close-requires-clause-open
+close-requires-clause-open g c =
+    closing_open (g.L.Linking.view c.args.symbol.now) c.args.symbol.now c.args.language.now c.args.frame c.args.parts.now.items c.requires
 
 pub close-requires-clause-base : goal.close-requires-clause-base
 close-requires-clause-base g c =

@@ -2,13 +2,18 @@ use Rattle.std.proofs.Common.{refl, Ok, Err, ◌+◌, ◌++◌, ◌∷◌, []}
 use Rattle.std.specs.Prelude.{slice_index_or}
 use Rattle.std.proofs.lemmas.Result.{err_from_is_err_and}
 use Rattle.sym_link.specs.Stepping.{waiting, starting}
-use Rattle.sym_link.proofs.Driving.{more_rows, token_asks, token_taken, closing_room, closing_place, closing_base, closed, begun_waits}
+use Rattle.sym_link.proofs.Driving.{more_rows, token_asks, token_taken, closing_room, closing_open, closing_place, closing_base, closed, begun_waits}
 use Rattle.sym_link.proofs.driver.settle.Goals as goal
 use Rattle.sym_link.proofs.driver.settle.Goals.{else-row-via-then-row+else-frame-next-2, else-row-via-else-row}
 
 pub close-requires-clause-room : goal.close-requires-clause-room
 close-requires-clause-room g c =
     closing_room (g.L.Linking.view c.args.symbol.now) c.args.symbol.now c.args.language.now c.args.frame c.args.parts.now.items (g.met.L.Linking.laws c.args.symbol.now)
+    (record { whole = c.requires.whole; shape = c.args.rows.now; due = starting c.requires.steps; lower = c.args.frames.now.items; next = c.args.next; follows = c.requires.follows; ends = c.if-frame-next.true; fits = c.requires.fits })
+
+pub close-requires-clause-open : goal.close-requires-clause-open
+close-requires-clause-open g c =
+    closing_open (g.L.Linking.view c.args.symbol.now) c.args.symbol.now c.args.language.now c.args.frame c.args.parts.now.items
     (record { whole = c.requires.whole; shape = c.args.rows.now; due = starting c.requires.steps; lower = c.args.frames.now.items; next = c.args.next; follows = c.requires.follows; ends = c.if-frame-next.true; fits = c.requires.fits })
 
 pub close-requires-clause-place : goal.close-requires-clause-place
@@ -42,6 +47,12 @@ token-requires-clause-room g c =
     (slice_index_or c.args.rows.now c.args.next (record { rule = 0; from = 0; to = 0; end = 0 })) (record { rule = 0; from = 0; to = 0; end = 0 }) (g.met.L.Linking.laws c.args.symbol.now)
     (record { whole = c.requires.whole; follows = c.requires.follows; last = (c.args.frames.now.items, refl); open_still = c.if-frame-next.false; fits = c.requires.fits }) refl c.if-row.true).room
 
+pub token-requires-clause-open : goal.token-requires-clause-open
+token-requires-clause-open g c =
+    (token_asks (g.L.Linking.view c.args.symbol.now) c.args.symbol.now c.args.rows.now (starting c.requires.steps) c.args.language.now c.args.next (c.args.frames.now.items ++ c.args.frame ∷ []) c.args.frame c.args.parts.now.items
+    (slice_index_or c.args.rows.now c.args.next (record { rule = 0; from = 0; to = 0; end = 0 })) (record { rule = 0; from = 0; to = 0; end = 0 }) (g.met.L.Linking.laws c.args.symbol.now)
+    (record { whole = c.requires.whole; follows = c.requires.follows; last = (c.args.frames.now.items, refl); open_still = c.if-frame-next.false; fits = c.requires.fits }) refl c.if-row.true).stands
+
 pub token-requires-clause-from : goal.token-requires-clause-from
 token-requires-clause-from g c =
     (token_asks (g.L.Linking.view c.args.symbol.now) c.args.symbol.now c.args.rows.now (starting c.requires.steps) c.args.language.now c.args.next (c.args.frames.now.items ++ c.args.frame ∷ []) c.args.frame c.args.parts.now.items
@@ -71,6 +82,16 @@ close-requires-then-frame-next-2-clause-room g c =
     (g.met.L.Linking.laws c.args.symbol.now) (c.args.frames.now.items, refl) c.requires.follows c.if-frame-next.false refl c.if-row.true
     c.in_ok-token.ensures.takes c.in_ok-token.ensures.adds c.in_ok-token.ensures.pays (c.requires.steps + 1) (refl, c.if-frame-next-2.true) in
     closing_room (g.L.Linking.view c.args.symbol.now) c.args.symbol.now c.token.new.self c.args.frame c.token.new.parts.items (g.met.L.Linking.laws c.args.symbol.now)
+    (record { whole = c.requires.whole; shape = c.args.rows.now; due = waiting (c.requires.steps + 1); lower = c.args.frames.now.items; next = c.args.next + 1; follows = behind; ends = c.if-frame-next-2.true; fits = c.requires.fits })
+
+pub close-requires-then-frame-next-2-clause-open : goal.close-requires-then-frame-next-2-clause-open
+close-requires-then-frame-next-2-clause-open g c =
+    let behind =
+    token_taken (g.L.Linking.view c.args.symbol.now) c.args.symbol.now c.args.rows.now c.requires.whole (starting c.requires.steps) c.args.language.now c.token.new.self c.args.next (c.args.frames.now.items ++ c.args.frame ∷ []) c.args.frame
+    c.args.parts.now.items c.token.new.parts.items (slice_index_or c.args.rows.now c.args.next (record { rule = 0; from = 0; to = 0; end = 0 })) (record { rule = 0; from = 0; to = 0; end = 0 }) (Ok tt)
+    (g.met.L.Linking.laws c.args.symbol.now) (c.args.frames.now.items, refl) c.requires.follows c.if-frame-next.false refl c.if-row.true
+    c.in_ok-token.ensures.takes c.in_ok-token.ensures.adds c.in_ok-token.ensures.pays (c.requires.steps + 1) (refl, c.if-frame-next-2.true) in
+    closing_open (g.L.Linking.view c.args.symbol.now) c.args.symbol.now c.token.new.self c.args.frame c.token.new.parts.items
     (record { whole = c.requires.whole; shape = c.args.rows.now; due = waiting (c.requires.steps + 1); lower = c.args.frames.now.items; next = c.args.next + 1; follows = behind; ends = c.if-frame-next-2.true; fits = c.requires.fits })
 
 pub close-requires-then-frame-next-2-clause-base : goal.close-requires-then-frame-next-2-clause-base

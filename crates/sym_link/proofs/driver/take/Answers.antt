@@ -15,6 +15,11 @@ token-requires-clause-room g c =
     (token_asks (g.L.Linking.view c.args.symbol.now) c.args.symbol.now c.args.rows.now (waiting (c.requires.0 + 1)) c.args.language.now c.args.next c.args.frames.now.items c.args.frame c.args.parts.now.items
     (slice_index_or c.args.rows.now c.args.next (record { rule = 0; from = 0; to = 0; end = 0 })) (record { rule = 0; from = 0; to = 0; end = 0 }) (g.met.L.Linking.laws c.args.symbol.now) c.requires.1 refl c.if-row.true).room
 
+pub token-requires-clause-open : goal.token-requires-clause-open
+token-requires-clause-open g c =
+    (token_asks (g.L.Linking.view c.args.symbol.now) c.args.symbol.now c.args.rows.now (waiting (c.requires.0 + 1)) c.args.language.now c.args.next c.args.frames.now.items c.args.frame c.args.parts.now.items
+    (slice_index_or c.args.rows.now c.args.next (record { rule = 0; from = 0; to = 0; end = 0 })) (record { rule = 0; from = 0; to = 0; end = 0 }) (g.met.L.Linking.laws c.args.symbol.now) c.requires.1 refl c.if-row.true).stands
+
 pub token-requires-clause-from : goal.token-requires-clause-from
 token-requires-clause-from g c =
     (token_asks (g.L.Linking.view c.args.symbol.now) c.args.symbol.now c.args.rows.now (waiting (c.requires.0 + 1)) c.args.language.now c.args.next c.args.frames.now.items c.args.frame c.args.parts.now.items
@@ -43,6 +48,11 @@ pub enter-requires-clause-room : goal.enter-requires-clause-room
 enter-requires-clause-room g c =
     (rule_asks (g.L.Linking.view c.args.symbol.now) c.args.symbol.now c.args.rows.now (waiting (c.requires.0 + 1)) c.args.language.now c.args.next c.args.frames.now.items c.args.frame c.args.parts.now.items
     (slice_index_or c.args.rows.now c.args.next (record { rule = 0; from = 0; to = 0; end = 0 })) (record { rule = 0; from = 0; to = 0; end = 0 }) (g.met.L.Linking.laws c.args.symbol.now) c.requires.1 refl c.if-row.false).room
+
+pub enter-requires-clause-open : goal.enter-requires-clause-open
+enter-requires-clause-open g c =
+    (rule_asks (g.L.Linking.view c.args.symbol.now) c.args.symbol.now c.args.rows.now (waiting (c.requires.0 + 1)) c.args.language.now c.args.next c.args.frames.now.items c.args.frame c.args.parts.now.items
+    (slice_index_or c.args.rows.now c.args.next (record { rule = 0; from = 0; to = 0; end = 0 })) (record { rule = 0; from = 0; to = 0; end = 0 }) (g.met.L.Linking.laws c.args.symbol.now) c.requires.1 refl c.if-row.false).stands
 
 pub enter-requires-clause-place : goal.enter-requires-clause-place
 enter-requires-clause-place g c =

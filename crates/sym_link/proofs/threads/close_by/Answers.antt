@@ -2,8 +2,13 @@ use Rattle.std.proofs.Common.{◌≡◌, ◌-◌, arith, Ok, Err, drop, length, 
 use Rattle.std.specs.Prelude.{take}
 use Rattle.std.proofs.lemmas.Result.{err_from_is_err_and}
 use Rattle.sym_link.specs.Machine.{passed}
-use Rattle.sym_link.proofs.Passing.{passing_first, closed_all, closed_none}
+use Rattle.sym_link.proofs.Passing.{passing_first, open_first, closed_all, closed_none}
 use Rattle.sym_link.proofs.threads.close_by.Goals as goal
+
+pub pass-requires-clause-open : goal.pass-requires-clause-open
+pass-requires-clause-open g c =
+    open_first (g.L.Threading.view c.args.symbol.now) c.args.symbol.now (g.met.L.Threading.laws c.args.symbol.now) c.args.language.now c.args.frame c.args.parts.now.items c.requires.base
+    c.requires.open.rule c.requires.open.known c.requires.open.from c.requires.open.left c.requires.open.state c.requires.open.inside
 
 pub returns-in_err-pass-clause-closes : goal.returns-in_err-pass-clause-closes
 returns-in_err-pass-clause-closes g c rule known from left state is none =

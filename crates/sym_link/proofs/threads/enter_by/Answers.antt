@@ -2,8 +2,13 @@ use Rattle.std.proofs.Common.{◌≡◌, ◌-◌, arith, drop, length, length-dr
 use Rattle.std.specs.Prelude.{take}
 use Rattle.std.proofs.lemmas.Result.{err_from_is_err_and}
 use Rattle.sym_link.specs.Machine.{passed}
-use Rattle.sym_link.proofs.Passing.{passing_first, begins_passed, begins_gone, begins_refused, begins_right}
+use Rattle.sym_link.proofs.Passing.{passing_first, open_first, begins_passed, begins_gone, begins_refused, begins_right}
 use Rattle.sym_link.proofs.threads.enter_by.Goals as goal
+
+pub pass-requires-clause-open : goal.pass-requires-clause-open
+pass-requires-clause-open g c =
+    open_first (g.L.Threading.view c.args.symbol.now) c.args.symbol.now (g.met.L.Threading.laws c.args.symbol.now) c.args.language.now c.args.frame c.args.parts.now.items c.requires.base
+    c.requires.open.rule c.requires.open.known c.requires.open.from c.requires.open.left c.requires.open.state c.requires.open.inside
 
 pub returns-in_err-pass-clause-opens : goal.returns-in_err-pass-clause-opens
 returns-in_err-pass-clause-opens g c around known from left state rule taken inner rest is left_is row_is =

@@ -4,7 +4,7 @@ use Rattle.std.specs.Prelude.{Result}
 use Rattle.sym_core.specs.declared.refusal.Refusal.{Refusal}
 use Rattle.sym_link.specs.Machine.{Passed}
 use Rattle.sym_link.specs.Linking.{HasRoom, Adds, Pays, owed_behind}
-use Rattle.sym_link.specs.Threads.{Passing}
+use Rattle.sym_link.specs.Threads.{IsOpenAt, Passing}
 use Rattle.sym_link.proofs.threads.pass.Given as goal
 
 abbrev pub invariant-parts : goal.invariant-parts
@@ -16,6 +16,7 @@ invariant-parts g l =
     × ((lower : List g.row.L-Part.Denot) (whole : Result (Passed g.L.Threading.Value g.L.Threading.State) Refusal)
     → Passing (g.L.Threading.view l.symbol) l.symbol l.fn.language l.frame lower l.fn.parts.items l.to whole
     → Passing (g.L.Threading.view l.symbol) l.symbol l.language l.frame lower l.parts.items l.to whole)
+    × IsOpenAt (g.L.Threading.view l.symbol) l.symbol l.language l.frame l.parts.items
 
 abbrev pub decreases-parts : goal.decreases-parts
 decreases-parts g l = l.to - (length l.parts.items - l.frame.base)

@@ -1,8 +1,8 @@
 use Rattle.std.proofs.Common.{arith, sym, subst, ap, ◌∷◌, [], length, length-append}
 use Rattle.std.proofs.lemmas.Result.{err_from_is_err_and}
-use Rattle.sym_link.specs.Threads.{Passing}
+use Rattle.sym_link.specs.Threads.{IsOpenAt, Passing}
 use Rattle.sym_link.specs.Linking.{owed_behind}
-use Rattle.sym_link.proofs.Passing.{passing_next, passing_fails, owed_pushed}
+use Rattle.sym_link.proofs.Passing.{passing_next, open_next, passing_fails, owed_pushed}
 use Rattle.sym_link.proofs.threads.pass_one.Goals as goal
 
 pub returns-in_err-between-clause-passing : goal.returns-in_err-between-clause-passing
@@ -17,6 +17,13 @@ returns-clause-passing g c lower to whole passing less =
     subst (λ ps. Passing (g.L.Threading.view c.args.symbol.now) c.args.symbol.now c.between.new.self c.args.frame lower ps to whole) (sym c.in_ok-push.ensures.items)
     (passing_next (g.L.Threading.view c.args.symbol.now) c.args.symbol.now (g.L.Threading.surrounds c.args.symbol.now) (g.met.L.Threading.laws c.args.symbol.now) c.args.language.now c.between.new.self c.args.frame
     lower c.args.parts.now.items c.between.new.parts.items to whole passing less c.in_ok-between.field-0 c.nothing.result c.in_ok-between.ensures.goes c.in_ok-between.ensures.adds.0
+    (c.nothing.ensures c.args.symbol.now))
+
+pub returns-clause-open : goal.returns-clause-open
+returns-clause-open g c =
+    subst (λ ps. IsOpenAt (g.L.Threading.view c.args.symbol.now) c.args.symbol.now c.between.new.self c.args.frame ps) (sym c.in_ok-push.ensures.items)
+    (open_next (g.L.Threading.view c.args.symbol.now) c.args.symbol.now (g.L.Threading.surrounds c.args.symbol.now) (g.met.L.Threading.laws c.args.symbol.now) c.args.language.now c.between.new.self c.args.frame
+    c.args.parts.now.items c.between.new.parts.items c.requires.base c.requires.open c.in_ok-between.field-0 c.nothing.result c.in_ok-between.ensures.goes c.in_ok-between.ensures.adds.0
     (c.nothing.ensures c.args.symbol.now))
 
 pub returns-clause-adds : goal.returns-clause-adds

@@ -5,8 +5,13 @@ use Rattle.sym_link.specs.Machine.{passed}
 use Rattle.sym_link.specs.Linking.{Takes, next_of, taken_in}
 use Rattle.sym_link.specs.Parts.{skipped_from}
 use Rattle.sym_link.specs.Reading.{◌>>=◌}
-use Rattle.sym_link.proofs.Passing.{passing_first, token_passed, token_gone, token_refused, token_right}
+use Rattle.sym_link.proofs.Passing.{passing_first, open_first, token_passed, token_gone, token_refused, token_right}
 use Rattle.sym_link.proofs.threads.token_by.Goals as goal
+
+pub pass-requires-clause-open : goal.pass-requires-clause-open
+pass-requires-clause-open g c =
+    open_first (g.L.Threading.view c.args.symbol.now) c.args.symbol.now (g.met.L.Threading.laws c.args.symbol.now) c.args.language.now c.args.frame c.args.parts.now.items c.requires.base
+    c.requires.open.rule c.requires.open.known c.requires.open.from c.requires.open.left c.requires.open.state c.requires.open.inside
 
 pub returns-in_err-pass-clause-takes : goal.returns-in_err-pass-clause-takes
 returns-in_err-pass-clause-takes g c around known from left state t rest is left_is row_is =

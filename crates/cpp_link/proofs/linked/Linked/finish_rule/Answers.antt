@@ -4,19 +4,27 @@ use Rattle.sym_link.proofs.Lists.{rest_all}
 use Rattle.cpp_link.specs.Owed.{made_at_end}
 use Rattle.cpp_link.proofs.Finishing.{put_right, refused_right}
 use Rattle.cpp_link.proofs.Making.{few_owed}
+use Rattle.cpp_link.proofs.Viewing.{open_there}
 use Rattle.cpp_link.proofs.linked.Linked.finish_rule.Goals as goal
+
+pub close_production-requires-clause-there : goal.close_production-requires-clause-there
+close_production-requires-clause-there c =
+    open_there c.args.symbol.now c.args.self.now c.args.frame c.args.parts.now.items _ c.requires.open (rw c.deref.ensures.value (rest_all c.args.parts.now.items c.args.frame.base))
+
+pub close_production-requires-clause-kept : goal.close_production-requires-clause-kept
+close_production-requires-clause-kept c = c.requires.open.at.kept.surrounds.there
 
 pub returns-in_err-made-clause-closes : goal.returns-in_err-made-clause-closes
 returns-in_err-made-clause-closes c rule known state is =
     let p = err_from_is_err_and c.from_residual.result c.from_residual.ensures.1 in
     rw (p.1, p.2) (refused_right c.args.symbol.now c.args.self.now c.args.frame (drop c.args.frame.base c.args.parts.now.items) _ c.production_of-production.result c.in_err-made.field-0.0 rule known state is
-    c.production_of-production.ensures (rw c.deref-2.ensures.value (rest_all c.args.parts.now.items c.args.frame.base)) c.in_err-made.ensures.refused)
+    c.production_of-production.ensures (rw c.deref.ensures.value (rest_all c.args.parts.now.items c.args.frame.base)) c.in_err-made.ensures.refused)
 
 pub returns-clause-closes : goal.returns-clause-closes
 returns-clause-closes c rule known state is =
     put_right c.args.symbol.now c.args.self.now c.close_production.new.self c.args.frame (drop c.args.frame.base c.args.parts.now.items) _ (take c.args.frame.base c.args.parts.now.items) c.put.new.parts.items
     c.production_of-production.result c.in_ok-made.made c.in_ok-put.field-0 rule known state is
-    c.production_of-production.ensures (rw c.deref-2.ensures.value (rest_all c.args.parts.now.items c.args.frame.base)) c.in_ok-made.ensures.is c.in_ok-made.ensures.there c.in_ok-made.ensures.paid c.in_ok-put.ensures.items
+    c.production_of-production.ensures (rw c.deref.ensures.value (rest_all c.args.parts.now.items c.args.frame.base)) c.in_ok-made.ensures.is c.in_ok-made.ensures.there c.in_ok-made.ensures.paid c.in_ok-put.ensures.items
 
 pub returns-clause-adds : goal.returns-clause-adds
 returns-clause-adds c = (

@@ -1,11 +1,19 @@
-use Rattle.std.proofs.Common.{◌≡◌, ◌∙◌, ap, subst, ◌-◌, List, length, take, drop}
+use Rattle.std.proofs.Common.{◌≡◌, refl, ◌∙◌, ap, ◌-◌, List, length, take, drop}
 use Rattle.std.proofs.lemmas.Result.{err_from_is_err_and}
 use Rattle.sym_link.proofs.Lists.{rest_all}
 use Rattle.cpp_link.specs.declared.part.Part.{Part}
-use Rattle.cpp_link.specs.Parts.{AreThere}
 use Rattle.cpp_link.proofs.GoingOn.{goes_right, refused_right, adds_right}
-use Rattle.cpp_link.proofs.Stepping.{all_there}
+use Rattle.cpp_link.proofs.Viewing.{open_there}
 use Rattle.cpp_link.proofs.linked.Linked.go_on.Goals as goal
+
+pub step-requires-clause-kept : goal.step-requires-clause-kept
+step-requires-clause-kept c = c.requires.open.at.kept.surrounds.there
+
+pub step-requires-clause-there : goal.step-requires-clause-there
+step-requires-clause-there c =
+    let own : List Part = take (length c.deref.result.now - c.args.frame.base) (drop c.args.frame.base c.deref.result.now) in
+    let same : own ≡ drop c.args.frame.base c.args.parts.now.items = rest_all c.deref.result.now c.args.frame.base ∙ ap (λ ps. drop c.args.frame.base ps) c.deref.ensures.value in
+    open_there c.args.symbol.now c.args.self.now c.args.frame c.args.parts.now.items own c.requires.open same
 
 pub returns-in_err-step-clause-goes : goal.returns-in_err-step-clause-goes
 returns-in_err-step-clause-goes c rule known state is =
@@ -16,11 +24,11 @@ returns-in_err-step-clause-goes c rule known state is =
     (refused_right c.args.symbol.now c.args.self.now c.args.self.now c.args.frame c.args.parts.now.items c.args.parts.now.items own c.production_of-production.result c.in_err-step.field-0.0
     same c.production_of-production.ensures c.in_err-step.ensures.refused rule known state is)
 
+pub take_step-requires-clause-kept : goal.take_step-requires-clause-kept
+take_step-requires-clause-kept c = c.requires.open.at.kept.surrounds.there
+
 pub take_step-requires-clause-parts : goal.take_step-requires-clause-parts
-take_step-requires-clause-parts c =
-    let own : List Part = take (length c.deref.result.now - c.args.frame.base) (drop c.args.frame.base c.deref.result.now) in
-    let same : own ≡ drop c.args.frame.base c.args.parts.now.items = rest_all c.deref.result.now c.args.frame.base ∙ ap (λ ps. drop c.args.frame.base ps) c.deref.ensures.value in
-    subst (λ ps. AreThere c.args.symbol.now (length c.args.self.now.nodes.nodes) ps) same (all_there c.args.symbol.now (length c.args.self.now.nodes.nodes) own c.if-not-has_parts.ensures)
+take_step-requires-clause-parts c = open_there c.args.symbol.now c.args.self.now c.args.frame c.args.parts.now.items (drop c.args.frame.base c.args.parts.now.items) c.requires.open refl
 
 pub returns-clause-goes : goal.returns-clause-goes
 returns-clause-goes c rule known state is =
