@@ -1,7 +1,7 @@
 #!/usr/bin/env python3
-"""Writes the rows `cut` and `put` of tests/vectors.tsv for symbols, as another implementation answers them.
+"""Writes the rows `cut` and `put` of crates/check_rows/stdin for symbols, as another implementation answers them.
 
-    tests/changes.py REFERENCE < SYMBOLS >> tests/vectors.tsv
+    tests/changes.py REFERENCE < SYMBOLS >> crates/check_rows/stdin
 
 REFERENCE is a Python module with demangle(symbol, limit, brief, lang), whose result has `answer` ("text", "Malformed",
 "BadReference" or "BadValue"), `text` and `at`. SYMBOLS has one symbol that is well shaped a line.

@@ -66,7 +66,7 @@ refuse_each() {
 refuse_each_in_calls() {
     local number=1 status answered=0
     grep -aE $'^(text\tfull\t[0-9]+|refused|press)\t_R(NvC3foo3bar|INvC3foo3barFG_RL0_hEuE|NvB_3foo|NvC3fo)\t' \
-        "$here/vectors.tsv" >"$work/rows"
+        "$here/../crates/check_rows/stdin" >"$work/rows"
     if ! "$check_rows" <"$work/rows" >"$work/whole" || [ "$(cat "$work/whole")" != 'each row holds' ]; then
         echo "calls: $check_rows doesn't answer that each row holds" >&2
         exit 2

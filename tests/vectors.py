@@ -3,7 +3,7 @@
 
     tests/vectors.py SYMFILT [FILE..]
 
-SYMFILT is the built program. Without files the rows are those of tests/vectors.tsv; docs/TESTING.md says how rows are
+SYMFILT is the built program. Without files the rows are those of crates/check_rows/stdin; docs/TESTING.md says how rows are
 written. The status is 1 where a row doesn't hold, 2 where the program can't be run or there is no row.
 """
 
@@ -201,7 +201,7 @@ def main():
         if not program.run(["--version"])[1].startswith(b"symfilt"):
             print(f"{sys.argv[1]} isn't the program", file=sys.stderr)
             sys.exit(2)
-        for path in sys.argv[2:] or [os.path.join(HERE, "vectors.tsv")]:
+        for path in sys.argv[2:] or [os.path.join(HERE, "..", "crates", "check_rows", "stdin")]:
             with open(path, "rb") as file:
                 lines = file.read().split(b"\n")
             for number, row in enumerate(lines, 1):

@@ -266,7 +266,7 @@ pub fn holds(alloc: Global, lists: &mut Lists, row: &[u8]) -> Result<bool, Refus
         (b"put ff", [word, others @ ..]) => {
             are_changes_answered(alloc, lists, Change::Put(0xff), word, others)
         }
-        // those of the program, which tests/vectors.py runs
+        // the program's own, which tests/vectors.py runs
         (b"filter" | b"command", _) => Ok(true),
         _ => Ok(false),
     }

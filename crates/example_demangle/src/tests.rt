@@ -1,4 +1,4 @@
-// The views of a symbol's nodes, and the calls of the library example. What each call answers stands in tests/vectors.tsv.
+// The views of a symbol's nodes, and the calls of the library example. What each call answers is shown by `check_rows`.
 #![tactic(auto)]
 
 use rust_v0::tree_production::{CRATE_ROOT, INHERENT_IMPL, NESTED, SYMBOL};

@@ -4,7 +4,7 @@ use crate::run;
 use std::alloc::{AllocError, Global};
 use std::test::Fail;
 
-/// Symbols with their texts and what these cost. All rows stand in tests/vectors.tsv and tests/vectors_cpp.tsv.
+/// Symbols with their texts and what these cost. All rows stand in crates/check_rows/stdin.
 static TEXTS: [(&str, &str, u32); 8] = [
     ("_Z1fv", "f()", 6),
     (
