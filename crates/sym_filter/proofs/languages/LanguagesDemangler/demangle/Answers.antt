@@ -8,4 +8,4 @@ returns-in-Cpp c =
 
 pub returns-in-Rust : goal.returns-in-Rust
 returns-in-Rust c =
-    demangled_in c.args.self.now.limit c.args.self.now.detail c.args.kind.lang Rust c.args.symbol.now c.args.out.now.items c.demangle_in-2.new.out.items c.demangle_in-2.result c.in-Rust.is c.demangle_in-2.ensures
+    demangled_in c.args.self.now.limit c.args.self.now.detail c.args.kind.lang Rust c.args.symbol.now c.args.out.now.items c.demangle_in-in-Rust.new.out.items c.demangle_in-in-Rust.result c.in-Rust.is c.demangle_in-in-Rust.ensures
