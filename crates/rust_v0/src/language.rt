@@ -361,10 +361,13 @@ impl Linking for RustNodes {
         ensures pays { OnOk result ((at : ℕ) → at ≤ row.from → (length parts.old.items ≡ frame.base → at ≤ frame.place)
             → Pays (v0_view symbol.now) self.old self.new at row.to) }
     {
-        match numbered(frame.rule) {
-            // the token of most rules
-            Some(Production::PlainName) => {
+        match sort_of(frame.rule) {
+            // the tokens of most rules
+            TokenSort::PlainName => {
                 self.take_as(symbol, TokenSort::PlainName, frame, parts, row)
+            }
+            TokenSort::CountedNumber => {
+                self.take_as(symbol, TokenSort::CountedNumber, frame, parts, row)
             }
             _ => self.take_rare(symbol, frame, parts, row),
         }
