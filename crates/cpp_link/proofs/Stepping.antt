@@ -17,7 +17,7 @@ use Rattle.cpp_link.specs.declared.part.Candidate.{Candidate}
 use Rattle.cpp_link.specs.Grows.{Grows}
 use Rattle.cpp_link.specs.Making.{state_of}
 use Rattle.cpp_link.specs.Owed.{made_before, sum_all, owes_of}
-use Rattle.cpp_link.specs.Parts.{trees_in, tree_of_node, value_of, values_of, values_in, prefix_of, around_of, candidates_of, IsThere, AreThere, IsKeptThere, AreCandidatesThere}
+use Rattle.cpp_link.specs.Parts.{trees_in, tree_of_node, value_of, values_of, values_in, prefix_of, around_of, candidates_of, AreThere, IsKeptThere, AreCandidatesThere}
 use Rattle.cpp_link.specs.Reads.{behind_first, named_if, appended_if, with_candidate, goes_on}
 use Rattle.cpp_link.specs.Staying.{values_stay, around_stays, candidates_stay, kept_more}
 use Rattle.cpp_link.specs.Stepping.{IsStepOf, Takes, nodes_of_step, behind_if}

@@ -7,6 +7,8 @@
 // reading, for the values of its parts so far and for the state, then behind the call they stand for what the reading
 // says, or the refusal is the reading's. A refusal for want of memory says nothing.
 //
+// - At each moment but the root's a rule stands open at the frame (`IsOpen`), so the language may go by what the frame and its
+//   parts stand for.
 // - The premises of a moment are one record, `IsInside`. A language that gives no value to parts without a row uses of it
 //   `kept`, `parts`, `holds` and `place` alone. Where the language is one by meaning (`specs/Cases.antt`), `plain_next` and
 //   `plain_ended` in `proofs/Cases.antt` bring the reading's side to what the next part goes into, and to what the rule means.

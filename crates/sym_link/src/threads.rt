@@ -2,6 +2,8 @@
 //
 // Such a language says what is done before a part, whatever part that is, and its code need not know of parts without a
 // row: `pass` does what stands before each of those, as soon as a part with a row is there, or the rule closes.
+//
+// Where something is done before a part, or a rule closes, the frame and the parts are those of an open rule (`IsOpenAt`).
 
 ghost use Rattle.std.specs.Prelude.{◌≡◌, ℕ, ◌+◌, ◌-◌, ◌<◌, ◌≤◌, ◌∷◌, [], List, length, take, drop, Result, OnOk};
 ghost use Rattle.sym_core.specs.declared.refusal.Refusal.{Refusal};
