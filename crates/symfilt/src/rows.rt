@@ -44,11 +44,7 @@ static TEXTS: [(&str, &str, u32); 42] = [
         "void f<int, char, bool, short>(std::pair<int, bool>, std::pair<char, short>)",
         133,
     ),
-    (
-        "_Z1fDv4_fS_",
-        "f(float __vector(4), float __vector(4))",
-        52,
-    ),
+    ("_Z1fDv4_fS_", "f(float __vector(4), float __vector(4))", 52),
     (
         "_ZN4core3ptr13drop_in_place17h0123456789abcdefE",
         "core::ptr::drop_in_place::h0123456789abcdef",
@@ -277,7 +273,16 @@ fn pressed_spellings(rt: HostRuntime) -> Result<(), Fail> {
         );
     }
     let complaint = "symfilt: _Z1fv: malformed at 1\n";
-    assert!(rt; answers(rt.alloc(), "symfilt", "--press", "_Z1fv", "_Z1fv", complaint)?);
+    assert!(rt;
+        answers(
+            rt.alloc(),
+            "symfilt",
+            "--press",
+            "_Z1fv",
+            "_Z1fv",
+            complaint
+        )?
+    );
     Ok(())
 }
 
