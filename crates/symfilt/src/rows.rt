@@ -17,11 +17,7 @@ static TEXTS: [(&str, &str, u32); 8] = [
         "main::{lambda()#1}::operator()() const",
         47,
     ),
-    (
-        "_Z1fIJicEEvDpT_",
-        "void f<int, char>(int, char)",
-        56,
-    ),
+    ("_Z1fIJicEEvDpT_", "void f<int, char>(int, char)", 56),
     ("_RNvC3foo3bar", "foo::bar", 11),
     (
         "_RNvNtNtC7mycrateu8gdel_5qa6escher4bach",
@@ -167,6 +163,15 @@ fn pressed_spellings(rt: HostRuntime) -> Result<(), Fail> {
         );
     }
     let complaint = "symfilt: _Z1fv: malformed at 1\n";
-    assert!(rt; answers(rt.alloc(), "symfilt", "--press", "_Z1fv", "_Z1fv", complaint)?);
+    assert!(rt;
+        answers(
+            rt.alloc(),
+            "symfilt",
+            "--press",
+            "_Z1fv",
+            "_Z1fv",
+            complaint
+        )?
+    );
     Ok(())
 }

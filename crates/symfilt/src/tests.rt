@@ -47,7 +47,14 @@ fn filters_however_cut(rt: HostRuntime) {
     filters(&rt, rt.alloc(), b"_RC1a.a.", 1, b"a (.a).", (1, 1, 0));
     filters(&rt, rt.alloc(), b"..._RC1a .", 1, b"..._RC1a .", (0, 0, 0));
     filters(&rt, rt.alloc(), b"at _RC1a.\n", 1, b"at a.\n", (1, 1, 0));
-    filters(&rt, rt.alloc(), b"at _Z1fv.a.\n", 1, b"at f() (.a).\n", (1, 1, 0));
+    filters(
+        &rt,
+        rt.alloc(),
+        b"at _Z1fv.a.\n",
+        1,
+        b"at f() (.a).\n",
+        (1, 1, 0),
+    );
 }
 
 #[test]
