@@ -1,4 +1,4 @@
-use Rattle.std.proofs.Common.{◌∙◌, ap, ◌∷◌, [], Ok}
+use Rattle.std.proofs.Common.{◌∷◌, []}
 use Rattle.sym_link.specs.Unfold.{found}
 use Rattle.itanium.proofs.Standing.{has_whole, whole_stands, reads}
 use Rattle.itanium.proofs.mangling.AbiMangling.finish.Goals as goal
