@@ -18,7 +18,7 @@ use Rattle.cpp_link.specs.declared.part.Kept.{Kept}
 use Rattle.cpp_link.specs.declared.part.Part.{Part}
 use Rattle.cpp_link.specs.Making.{state_of}
 use Rattle.cpp_link.specs.Parts.{trees_in, value_in, values_in, around_of, IsThere}
-use Rattle.cpp_link.specs.View.{IsPaid, cpp_view}
+use Rattle.cpp_link.specs.View.{IsWhole, cpp_view}
 use Rattle.cpp_link.proofs.Bytes.{byte_serves}
 use Rattle.cpp_link.proofs.Viewing.{parts_are}
 
@@ -52,9 +52,9 @@ pub put_right : (s : List ℕ) (old new : Linked) (frame : Frame Kept) (own give
     → IsAt (cpp_view s) s old frame own rule known state → p ≡ production_at frame.rule → given ≡ own
     → ((began : State) → began.packs ≡ frame.kept.packs
     → close p (slice_index s frame.place) (around_of (trees_in s old.nodes) frame.kept) frame.place began (values_in s old.nodes given) (state_of s old) ≡ Ok (found (value_in s new.nodes made) (state_of s new)))
-    → IsThere s (length new.nodes.nodes) made → IsPaid s new → new_parts ≡ lower ++ made ∷ []
+    → IsThere s (length new.nodes.nodes) made → IsWhole s new → new_parts ≡ lower ++ made ∷ []
     → Puts (cpp_view s) new lower new_parts (Ok done) (cpp.close rule known state)
-put_right s old new frame own given lower new_parts p made done rule known state is production same closes there paid items = (
+put_right s old new frame own given lower new_parts p made done rule known state is production same closes there whole items = (
   made,
   items,
   (
@@ -62,7 +62,7 @@ put_right s old new frame own given lower new_parts p made done rule known state
     state_of s new,
     given_is s old frame own given p rule known state is production same ∙ closes rule.before (sym is.kept.packs),
     record { there = there; is = refl },
-    record { table = paid.table; there = paid.there; candidates = refl; packs = refl },
+    record { table = whole.table; there = whole.there; candidates = refl; packs = refl },
   ),
 )
 

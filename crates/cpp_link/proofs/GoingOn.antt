@@ -80,7 +80,7 @@ next_owes number held m step of same =
 
 -- the nodes are the old ones and those that the production makes before this part
 pub adds_right : (s : List ℕ) (old new : Linked) (frame : Frame Kept) (parts new_parts own : List Part) (production : Production) (step : Step) (then : Kept)
-    → own ≡ drop frame.base parts → production ≡ production_at frame.rule → IsPaid s old → IsStepOf production (length own) step
+    → own ≡ drop frame.base parts → production ≡ production_at frame.rule → IsPaid old → IsStepOf production (length own) step
     → Takes s old new frame.kept frame.base parts new_parts step then
     → Adds (cpp_view s) old new (owed_behind (cpp_view s) frame parts) (owed_next (cpp_view s) frame new_parts)
 adds_right s old new frame parts new_parts own production step then same numbered paid of takes =

@@ -38,10 +38,13 @@ pub record GoesOn (s : List ℕ) (old new : Linked) : Type 0 where
   pub least : length old.nodes.nodes ≤ length new.nodes.nodes
   pub stays : (i : ℕ) → i < length old.nodes.nodes → tree_at (trees_in s new.nodes) i ≡ tree_at (trees_in s old.nodes) i
 
--- the nodes are a table, which has its first three nodes, the candidates are nodes of it, and a thunk is adjusted by a node
-pub record IsPaid (s : List ℕ) (l : Linked) : Type 0 where
+-- the nodes are a table, and the candidates are nodes of it
+pub record IsWhole (s : List ℕ) (l : Linked) : Type 0 where
   pub table : IsTable (over s l.nodes)
   pub there : AreCandidatesThere (length l.nodes.nodes) l.candidates.items
+
+-- the table has its first three nodes, and a thunk is adjusted by a node
+pub record IsPaid (l : Linked) : Type 0 where
   pub begun : 3 ≤ length l.nodes.nodes
   pub thunks : length l.nodes.thunks ≤ length l.nodes.nodes
 
@@ -58,5 +61,5 @@ cpp_view s = record {
   size = λ l. length l.nodes.nodes - 3;
   owes = owes;
   most = λ bytes. 2 * bytes;
-  IsPaid = λ l bytes. IsPaid s l;
+  IsPaid = λ l bytes. IsPaid l;
 }

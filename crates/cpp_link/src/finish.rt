@@ -19,7 +19,7 @@ ghost use Rattle.cpp_link.specs.Making.{state_of};
 ghost use Rattle.cpp_link.specs.Owed.{made_at_end};
 ghost use Rattle.cpp_link.specs.Parts.{trees_in, value_in, values_in, around_of, candidates_of, IsThere, AreThere, IsKeptThere, AreCandidatesThere};
 ghost use Rattle.cpp_link.specs.Reads.{maybe_candidate};
-ghost use Rattle.cpp_link.specs.View.{GoesOn, IsPaid, cpp_view};
+ghost use Rattle.cpp_link.specs.View.{GoesOn, IsPaid, IsWhole, cpp_view};
 
 use crate::dispatch::production_of;
 use crate::linked::Linked;
@@ -83,7 +83,7 @@ impl Linked {
         kept: Kept,
         parts: &[Part],
     ) -> Result<Part, Refusal>
-        requires paid { IsPaid symbol.now self.old }
+        requires whole { IsWhole symbol.now self.old }
         requires there { AreThere symbol.now (length self.old.nodes.nodes) parts.now }
         ensures is { IfOk result (λ made. substituted (around_of (trees_in symbol.now self.old.nodes) kept) (place - 1) (slice_get (state_of symbol.now self.old).candidates (counted_value kinds.Seq36 (text_of (part (values_in symbol.now self.old.nodes parts.now) 0)))) (state_of symbol.now self.old) ≡ Ok (found (value_in symbol.now self.new.nodes made) (state_of symbol.now self.new))) }
         ensures refused { IfErr result (λ e. Fails e (substituted (around_of (trees_in symbol.now self.old.nodes) kept) (place - 1) (slice_get (state_of symbol.now self.old).candidates (counted_value kinds.Seq36 (text_of (part (values_in symbol.now self.old.nodes parts.now) 0)))) (state_of symbol.now self.old))) }
@@ -113,7 +113,8 @@ impl Linked {
         requires fits { FitsSymbol symbol.now }
         requires place { place < length symbol.now }
         requires room { HasPlace symbol.now self.old.nodes 2 }
-        requires paid { IsPaid symbol.now self.old }
+        requires paid { IsPaid self.old }
+        requires whole { IsWhole symbol.now self.old }
         requires there { AreThere symbol.now (length self.old.nodes.nodes) parts.now }
         requires kept { IsKeptThere (length self.old.nodes.nodes) kept }
         ensures value { IfOk result (λ made. value_in symbol.now self.new.nodes made ≡ meaning production (slice_index symbol.now place) (around_of (trees_in symbol.now self.old.nodes) kept) (values_in symbol.now self.old.nodes parts.now)) }
@@ -122,7 +123,8 @@ impl Linked {
         ensures there { IfOk result (λ made. IsThere symbol.now (length self.new.nodes.nodes) made) }
         ensures grows { OnOk result (GoesOn symbol.now self.old self.new) }
         ensures few { OnOk result (length self.new.nodes.nodes ≤ length self.old.nodes.nodes + made_at_end production) }
-        ensures paid { OnOk result (IsPaid symbol.now self.new) }
+        ensures paid { OnOk result (IsPaid self.new) }
+        ensures whole { OnOk result (IsWhole symbol.now self.new) }
         ensures memory { IfErr result (λ e. e ≡ refusals.Memory) }
     {
         let byte = symbol[place as usize];
@@ -150,7 +152,8 @@ impl Linked {
         requires fits { FitsSymbol symbol.now }
         requires place { place < length symbol.now }
         requires room { HasPlace symbol.now self.old.nodes 2 }
-        requires paid { IsPaid symbol.now self.old }
+        requires paid { IsPaid self.old }
+        requires whole { IsWhole symbol.now self.old }
         requires there { AreThere symbol.now (length self.old.nodes.nodes) parts.now }
         requires kept { IsKeptThere (length self.old.nodes.nodes) kept }
         ensures is { IfOk result (λ made. (began : State) → began.packs ≡ kept.packs
@@ -160,7 +163,8 @@ impl Linked {
         ensures there { IfOk result (λ made. IsThere symbol.now (length self.new.nodes.nodes) made) }
         ensures grows { OnOk result (GoesOn symbol.now self.old self.new) }
         ensures few { OnOk result (length self.new.nodes.nodes ≤ length self.old.nodes.nodes + made_at_end production) }
-        ensures paid { OnOk result (IsPaid symbol.now self.new) }
+        ensures paid { OnOk result (IsPaid self.new) }
+        ensures whole { OnOk result (IsWhole symbol.now self.new) }
     {
         match production {
             Production::Substitution => self.substitute(symbol, place, kept, parts),

@@ -41,7 +41,7 @@ impl Linked {
     pub fn restart(&mut self) -> Result<(), Refusal>
         ensures holds { OnOk result ((s : List ℕ) → Holds s self.new first_state) }
         ensures size { OnOk result (length self.new.nodes.nodes ≡ 3) }
-        ensures paid { OnOk result ((s : List ℕ) → IsPaid s self.new) }
+        ensures paid { OnOk result (IsPaid self.new) }
         ensures memory { IfErr result (λ e. e ≡ refusals.Memory) }
     {
         self.candidates.clear();

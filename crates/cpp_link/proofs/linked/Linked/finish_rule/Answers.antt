@@ -11,6 +11,9 @@ pub close_production-requires-clause-there : goal.close_production-requires-clau
 close_production-requires-clause-there c =
     open_there c.args.symbol.now c.args.self.now c.args.frame c.args.parts.now.items _ c.requires.open (rw c.deref.ensures.value (rest_all c.args.parts.now.items c.args.frame.base))
 
+pub close_production-requires-clause-whole : goal.close_production-requires-clause-whole
+close_production-requires-clause-whole c = record { table = c.requires.open.at.holds.table; there = c.requires.open.at.holds.there }
+
 pub close_production-requires-clause-kept : goal.close_production-requires-clause-kept
 close_production-requires-clause-kept c = c.requires.open.at.kept.surrounds.there
 
@@ -24,7 +27,7 @@ pub returns-clause-closes : goal.returns-clause-closes
 returns-clause-closes c rule known state is =
     put_right c.args.symbol.now c.args.self.now c.close_production.new.self c.args.frame (drop c.args.frame.base c.args.parts.now.items) _ (take c.args.frame.base c.args.parts.now.items) c.put.new.parts.items
     c.production_of-production.result c.in_ok-made.made c.in_ok-put.field-0 rule known state is
-    c.production_of-production.ensures (rw c.deref.ensures.value (rest_all c.args.parts.now.items c.args.frame.base)) c.in_ok-made.ensures.is c.in_ok-made.ensures.there c.in_ok-made.ensures.paid c.in_ok-put.ensures.items
+    c.production_of-production.ensures (rw c.deref.ensures.value (rest_all c.args.parts.now.items c.args.frame.base)) c.in_ok-made.ensures.is c.in_ok-made.ensures.there c.in_ok-made.ensures.whole c.in_ok-put.ensures.items
 
 pub returns-clause-adds : goal.returns-clause-adds
 returns-clause-adds c = (

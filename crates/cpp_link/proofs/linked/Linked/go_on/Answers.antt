@@ -6,6 +6,9 @@ use Rattle.cpp_link.proofs.GoingOn.{goes_right, refused_right, adds_right, quiet
 use Rattle.cpp_link.proofs.Viewing.{open_there}
 use Rattle.cpp_link.proofs.linked.Linked.go_on.Goals as goal
 
+pub step-requires-clause-table : goal.step-requires-clause-table
+step-requires-clause-table c = c.requires.open.at.holds.table
+
 pub step-requires-clause-kept : goal.step-requires-clause-kept
 step-requires-clause-kept c = c.requires.open.at.kept.surrounds.there
 
@@ -23,6 +26,9 @@ returns-in_err-step-clause-goes c rule known state is =
     rw (p.1, p.2)
     (refused_right c.args.symbol.now c.args.self.now c.args.self.now c.args.frame c.args.parts.now.items c.args.parts.now.items own c.production_of-production.result c.in_err-step.field-0.0
     same c.production_of-production.ensures c.in_err-step.ensures.refused rule known state is)
+
+pub take_step-requires-clause-there : goal.take_step-requires-clause-there
+take_step-requires-clause-there c = c.requires.open.at.holds.there
 
 pub take_step-requires-clause-kept : goal.take_step-requires-clause-kept
 take_step-requires-clause-kept c = c.requires.open.at.kept.surrounds.there

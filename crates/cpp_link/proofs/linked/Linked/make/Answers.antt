@@ -23,12 +23,12 @@ behind-behind-requires-clause-value c =
 pub append-requires-clause-there : goal.append-requires-clause-there
 append-requires-clause-there c =
     subst (λ v. AreCandidatesThere (length c.settle.new.self.nodes.nodes) v.items) (sym c.in_ok-made.ensures.candidates)
-    (candidates_more _ _ c.args.self.now.candidates.items c.in_ok-made.ensures.grows.least c.requires.paid.there)
+    (candidates_more _ _ c.args.self.now.candidates.items c.in_ok-made.ensures.grows.least c.requires.whole.there)
 
 pub returns-clause-state : goal.returns-clause-state
 returns-clause-state c began same =
     let last : Linked = record { nodes = c.append.new.self.nodes; candidates = c.append.new.self.candidates; packs = c.behind-behind.result.packs } in
     state_behind c.args.symbol.now c.args.self.now c.settle.new.self last c.args.production (slice_index c.args.symbol.now c.args.place) c.args.kept c.args.parts.now
-    c.behind-behind.result.candidate c.behind-behind.result.packs began c.in_ok-made.ensures.grows.stays c.requires.kept c.requires.there c.requires.paid.there
+    c.behind-behind.result.candidate c.behind-behind.result.packs began c.in_ok-made.ensures.grows.stays c.requires.kept c.requires.there c.requires.whole.there
     c.in_ok-made.ensures.candidates c.in_ok-made.ensures.packs (λ cs. c.behind-behind.ensures.is began cs same) (c.in_ok-append.ensures.is c.behind-behind.result.packs)
     c.append.ensures.nodes refl

@@ -5,5 +5,5 @@ pub returns-clause-begins : goal.returns-clause-begins
 returns-clause-begins c = record {
   size = omega (arith, c.in_ok-restart.ensures.size);
   holds = c.in_ok-restart.ensures.holds c.args._symbol.now;
-  paid = c.in_ok-restart.ensures.paid c.args._symbol.now;
+  paid = c.in_ok-restart.ensures.paid;
 }
