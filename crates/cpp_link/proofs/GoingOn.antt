@@ -1,5 +1,7 @@
 -- The next part of a rule is gone on to as the reading says.
-use Rattle.std.proofs.Common.{◌≡◌, refl, sym, ◌∙◌, ap, arith, ℕ, suc, ◌+◌, ◌-◌, ◌≤◌, List, [], ◌∷◌, ◌++◌, length, drop, true, Option, Ok, Err}
+use Rattle.std.proofs.Common.{◌≡◌, refl, sym, ◌∙◌, ap, arith, ℕ, suc, ◌+◌, ◌-◌, ◌≤◌, List, [], ◌∷◌, ◌++◌, length, drop, true, false, Option, Ok, Err}
+use Rattle.std.specs.Prelude.{nat_eq}
+use Rattle.std.proofs.lemmas.Bool.{eqb-true}
 use Rattle.std.proofs.lemmas.List.{length-drop, take-append-drop}
 use Rattle.sym_core.specs.declared.refusal.Refusal.{Refusal}
 use Rattle.sym_link.specs.declared.language.Frame.{Frame}
@@ -95,61 +97,64 @@ adds_right s old new frame parts new_parts own production step then same numbere
 
 -- ## Where nothing is done
 
+never : {A : Type 0} (xs : List A) → nat_eq (suc (length xs)) 0 ≡ true → ⊥
+never xs none = absurd (omega (arith, eqb-true (suc (length xs)) 0 none))
+
 quiet_between : (p : Production) (around : Around) (place : ℕ) (vs : List Value) (state : State) → is_quiet p (length vs) ≡ true
     → between p around place vs state ≡ Ok (record { values = vs; context = around; state = state })
 unfolding between is_quiet
-quiet_between Production.Encoding around place vs state quiet = absurd quiet
-quiet_between Production.Special around place vs state quiet = absurd quiet
-quiet_between Production.Guard around place vs state quiet = absurd quiet
-quiet_between Production.NestArguments around place vs state quiet = absurd quiet
-quiet_between Production.NestNext around place vs state quiet = absurd quiet
-quiet_between Production.Arguments around place vs state quiet = absurd quiet
-quiet_between Production.Lambda around place vs state quiet = absurd quiet
-quiet_between Production.Expansion around place vs state quiet = absurd quiet
+quiet_between Production.Encoding around place vs state quiet = absurd (let e : false ≡ true = quiet in cc)
+quiet_between Production.Special around place vs state quiet = absurd (let e : false ≡ true = quiet in cc)
+quiet_between Production.Guard around place vs state quiet = absurd (let e : false ≡ true = quiet in cc)
+quiet_between Production.NestArguments around place vs state quiet = absurd (let e : false ≡ true = quiet in cc)
+quiet_between Production.NestNext around place vs state quiet = absurd (let e : false ≡ true = quiet in cc)
+quiet_between Production.Arguments around place vs state quiet = absurd (let e : false ≡ true = quiet in cc)
+quiet_between Production.Lambda around place vs state quiet = absurd (let e : false ≡ true = quiet in cc)
+quiet_between Production.Expansion around place vs state quiet = absurd (let e : false ≡ true = quiet in cc)
 quiet_between Production.LocalName around place [] state quiet = refl
-quiet_between Production.LocalName around place (v ∷ vs) state quiet = absurd quiet
+quiet_between Production.LocalName around place (v ∷ vs) state quiet = absurd (never vs quiet)
 quiet_between Production.LocalType around place [] state quiet = refl
-quiet_between Production.LocalType around place (v ∷ vs) state quiet = absurd quiet
+quiet_between Production.LocalType around place (v ∷ vs) state quiet = absurd (never vs quiet)
 quiet_between Production.InternalName around place [] state quiet = refl
-quiet_between Production.InternalName around place (v ∷ vs) state quiet = absurd quiet
+quiet_between Production.InternalName around place (v ∷ vs) state quiet = absurd (never vs quiet)
 quiet_between Production.SourceName around place [] state quiet = refl
-quiet_between Production.SourceName around place (v ∷ vs) state quiet = absurd quiet
+quiet_between Production.SourceName around place (v ∷ vs) state quiet = absurd (never vs quiet)
 quiet_between Production.LocalTypeName around place [] state quiet = refl
-quiet_between Production.LocalTypeName around place (v ∷ vs) state quiet = absurd quiet
+quiet_between Production.LocalTypeName around place (v ∷ vs) state quiet = absurd (never vs quiet)
 quiet_between Production.OperatorName around place [] state quiet = refl
-quiet_between Production.OperatorName around place (v ∷ vs) state quiet = absurd quiet
+quiet_between Production.OperatorName around place (v ∷ vs) state quiet = absurd (never vs quiet)
 quiet_between Production.Constructor around place [] state quiet = refl
-quiet_between Production.Constructor around place (v ∷ vs) state quiet = absurd quiet
+quiet_between Production.Constructor around place (v ∷ vs) state quiet = absurd (never vs quiet)
 quiet_between Production.Destructor around place [] state quiet = refl
-quiet_between Production.Destructor around place (v ∷ vs) state quiet = absurd quiet
+quiet_between Production.Destructor around place (v ∷ vs) state quiet = absurd (never vs quiet)
 quiet_between Production.StdName around place [] state quiet = refl
-quiet_between Production.StdName around place (v ∷ vs) state quiet = absurd quiet
+quiet_between Production.StdName around place (v ∷ vs) state quiet = absurd (never vs quiet)
 quiet_between Production.AbbreviatedName around place [] state quiet = refl
-quiet_between Production.AbbreviatedName around place (v ∷ vs) state quiet = absurd quiet
+quiet_between Production.AbbreviatedName around place (v ∷ vs) state quiet = absurd (never vs quiet)
 quiet_between Production.NestStd around place [] state quiet = refl
-quiet_between Production.NestStd around place (v ∷ vs) state quiet = absurd quiet
+quiet_between Production.NestStd around place (v ∷ vs) state quiet = absurd (never vs quiet)
 quiet_between Production.NestAbbreviated around place [] state quiet = refl
-quiet_between Production.NestAbbreviated around place (v ∷ vs) state quiet = absurd quiet
+quiet_between Production.NestAbbreviated around place (v ∷ vs) state quiet = absurd (never vs quiet)
 quiet_between Production.NestParameter around place [] state quiet = refl
-quiet_between Production.NestParameter around place (v ∷ vs) state quiet = absurd quiet
+quiet_between Production.NestParameter around place (v ∷ vs) state quiet = absurd (never vs quiet)
 quiet_between Production.NestInternal around place [] state quiet = refl
-quiet_between Production.NestInternal around place (v ∷ vs) state quiet = absurd quiet
+quiet_between Production.NestInternal around place (v ∷ vs) state quiet = absurd (never vs quiet)
 quiet_between Production.NestSource around place [] state quiet = refl
-quiet_between Production.NestSource around place (v ∷ vs) state quiet = absurd quiet
+quiet_between Production.NestSource around place (v ∷ vs) state quiet = absurd (never vs quiet)
 quiet_between Production.NestLocalType around place [] state quiet = refl
-quiet_between Production.NestLocalType around place (v ∷ vs) state quiet = absurd quiet
+quiet_between Production.NestLocalType around place (v ∷ vs) state quiet = absurd (never vs quiet)
 quiet_between Production.PackArgument around place [] state quiet = refl
-quiet_between Production.PackArgument around place (v ∷ vs) state quiet = absurd quiet
+quiet_between Production.PackArgument around place (v ∷ vs) state quiet = absurd (never vs quiet)
 quiet_between Production.Parameter around place [] state quiet = refl
-quiet_between Production.Parameter around place (v ∷ vs) state quiet = absurd quiet
+quiet_between Production.Parameter around place (v ∷ vs) state quiet = absurd (never vs quiet)
 quiet_between Production.TypeWithS around place [] state quiet = refl
-quiet_between Production.TypeWithS around place (v ∷ vs) state quiet = absurd quiet
+quiet_between Production.TypeWithS around place (v ∷ vs) state quiet = absurd (never vs quiet)
 quiet_between Production.LvalueItem around place [] state quiet = refl
-quiet_between Production.LvalueItem around place (v ∷ vs) state quiet = absurd quiet
+quiet_between Production.LvalueItem around place (v ∷ vs) state quiet = absurd (never vs quiet)
 quiet_between Production.RvalueItem around place [] state quiet = refl
-quiet_between Production.RvalueItem around place (v ∷ vs) state quiet = absurd quiet
+quiet_between Production.RvalueItem around place (v ∷ vs) state quiet = absurd (never vs quiet)
 quiet_between Production.IntegerLiteral around place [] state quiet = refl
-quiet_between Production.IntegerLiteral around place (v ∷ vs) state quiet = absurd quiet
+quiet_between Production.IntegerLiteral around place (v ∷ vs) state quiet = absurd (never vs quiet)
 quiet_between _ around place vs state quiet = refl
 
 pub quiet_right : (s : List ℕ) (old : Linked) (frame : Frame Kept) (parts own : List Part) (production : Production)
