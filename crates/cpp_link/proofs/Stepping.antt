@@ -47,6 +47,11 @@ sum_next [] (suc held) = refl
 sum_next (n ∷ ns) zero = refl
 sum_next (n ∷ ns) (suc held) = sum_next ns held
 
+-- a production owes no more behind one part more
+pub quiet_owed : (p : Production) (held : ℕ) → owes_of p (suc held) ≤ owes_of p held
+unfolding owes_of
+quiet_owed p held = omega (arith, sum_next (made_before p) held)
+
 -- what a production owes pays for the nodes of a step
 pub step_owed : (p : Production) (held : ℕ) (step : Step) → IsStepOf p held step → nodes_of_step step + owes_of p (suc held) ≤ owes_of p held
 unfolding owes_of

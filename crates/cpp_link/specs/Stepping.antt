@@ -1,5 +1,5 @@
 -- What is done by a step before the next part of a rule.
-use Rattle.std.specs.Prelude.{◌≡◌, ℕ, ◌<◌, List, length, take, drop, get_or, Bool, true, false, Ok}
+use Rattle.std.specs.Prelude.{◌≡◌, ℕ, ◌<◌, List, length, take, drop, get_or, nat_eq, Bool, true, false, Ok}
 use Rattle.cpp_grammar.specs.declared.production.Production.{Production}
 use Rattle.cpp_link.specs.declared.linked.Linked.{Linked}
 use Rattle.cpp_link.specs.declared.part.Part.{Part}
@@ -41,3 +41,37 @@ pub record Takes (s : List ℕ) (old new : Linked) (kept : Kept) (base : ℕ) (p
   pub count : length new_parts ≡ length parts
   pub is : goes_on s old.nodes kept (values_in s old.nodes (drop base parts)) (candidates_of (trees_in s old.nodes) old.candidates.items) old.packs step
       ≡ Ok (record { values = values_in s new.nodes (drop base new_parts); context = around_of (trees_in s new.nodes) then; state = state_of s new })
+
+-- Nothing is done before the next part of this production, behind so many parts: before its first part, or before none.
+unfoldable pub is_quiet : Production → (held : ℕ) → Bool
+is_quiet Production.Encoding held = false
+is_quiet Production.Special held = false
+is_quiet Production.Guard held = false
+is_quiet Production.NestArguments held = false
+is_quiet Production.NestNext held = false
+is_quiet Production.Arguments held = false
+is_quiet Production.Lambda held = false
+is_quiet Production.Expansion held = false
+is_quiet Production.LocalName held = nat_eq held 0
+is_quiet Production.LocalType held = nat_eq held 0
+is_quiet Production.InternalName held = nat_eq held 0
+is_quiet Production.SourceName held = nat_eq held 0
+is_quiet Production.LocalTypeName held = nat_eq held 0
+is_quiet Production.OperatorName held = nat_eq held 0
+is_quiet Production.Constructor held = nat_eq held 0
+is_quiet Production.Destructor held = nat_eq held 0
+is_quiet Production.StdName held = nat_eq held 0
+is_quiet Production.AbbreviatedName held = nat_eq held 0
+is_quiet Production.NestStd held = nat_eq held 0
+is_quiet Production.NestAbbreviated held = nat_eq held 0
+is_quiet Production.NestParameter held = nat_eq held 0
+is_quiet Production.NestInternal held = nat_eq held 0
+is_quiet Production.NestSource held = nat_eq held 0
+is_quiet Production.NestLocalType held = nat_eq held 0
+is_quiet Production.PackArgument held = nat_eq held 0
+is_quiet Production.Parameter held = nat_eq held 0
+is_quiet Production.TypeWithS held = nat_eq held 0
+is_quiet Production.LvalueItem held = nat_eq held 0
+is_quiet Production.RvalueItem held = nat_eq held 0
+is_quiet Production.IntegerLiteral held = nat_eq held 0
+is_quiet _ held = true

@@ -1,7 +1,6 @@
 // What is done before the next part of a rule.
 
 ghost use Rattle.std.specs.Prelude.{◌≡◌, ℕ, ◌+◌, ◌<◌, ◌≤◌, ◌∷◌, List, length, take, drop, true, false, Some, None, IfOk, IfErr, OnOk};
-ghost use Rattle.cpp_grammar.specs.declared.production.Production.{Production};
 ghost use Rattle.sym_core.specs.declared.refusal.Refusal.TheVariants as refusals;
 ghost use Rattle.sym_link.specs.Linking.{HasRoom, Adds, Pays, owed_behind, owed_next};
 ghost use Rattle.sym_link.specs.Threads.{IsOpenAt, GoesOn};
@@ -10,13 +9,14 @@ ghost use Rattle.cpp_link.specs.Grows.{Grows, HasPlace};
 ghost use Rattle.cpp_link.specs.Making.{state_of};
 ghost use Rattle.cpp_link.specs.Parts.{trees_in, tree_of_node, around_of, candidates_of, AreThere, IsKeptThere, AreCandidatesThere, IsStepThere};
 ghost use Rattle.cpp_link.specs.Reads.{with_candidate, appended_if};
-ghost use Rattle.cpp_link.specs.Stepping.{IsStepOf, Takes, behind_if};
+ghost use Rattle.cpp_link.specs.Stepping.{IsStepOf, Takes, behind_if, is_quiet};
 ghost use Rattle.cpp_link.specs.View.{Surrounds, cpp_view};
 
 use crate::dispatch::production_of;
 use crate::linked::Linked;
 use crate::part::{Kept, Part, Step};
 use crate::steps::behind;
+use cpp_grammar::production::Production;
 use cpp_tree::node::Node;
 use sym_core::Refusal;
 use sym_link::language::Frame;
@@ -47,6 +47,46 @@ fn behind_if(is_name: bool, kept: Kept, node: u32, listed: bool) -> Kept
         return behind(kept, node, listed);
     }
     kept
+}
+
+/// Whether nothing is done before the next part of a production, behind so many parts.
+#[tactic(auto, unfolding(crate::specs::Stepping::is_quiet))]
+fn is_quiet(production: Production, held: usize) -> bool
+    ensures { result ≡ is_quiet production held }
+{
+    match production {
+        Production::Encoding => false,
+        Production::Special => false,
+        Production::Guard => false,
+        Production::NestArguments => false,
+        Production::NestNext => false,
+        Production::Arguments => false,
+        Production::Lambda => false,
+        Production::Expansion => false,
+        Production::LocalName => held == 0,
+        Production::LocalType => held == 0,
+        Production::InternalName => held == 0,
+        Production::SourceName => held == 0,
+        Production::LocalTypeName => held == 0,
+        Production::OperatorName => held == 0,
+        Production::Constructor => held == 0,
+        Production::Destructor => held == 0,
+        Production::StdName => held == 0,
+        Production::AbbreviatedName => held == 0,
+        Production::NestStd => held == 0,
+        Production::NestAbbreviated => held == 0,
+        Production::NestParameter => held == 0,
+        Production::NestInternal => held == 0,
+        Production::NestSource => held == 0,
+        Production::NestLocalType => held == 0,
+        Production::PackArgument => held == 0,
+        Production::Parameter => held == 0,
+        Production::TypeWithS => held == 0,
+        Production::LvalueItem => held == 0,
+        Production::RvalueItem => held == 0,
+        Production::IntegerLiteral => held == 0,
+        _ => true,
+    }
 }
 
 impl Linked {
@@ -178,6 +218,9 @@ impl Linked {
     {
         let own = &parts[frame.base..];
         let production = production_of(frame.rule);
+        if is_quiet(production, own.len()) {
+            return Ok(frame.kept);
+        }
         let step = self.step(symbol, production, frame.place, frame.kept, own)?;
         let then = self.take_step(symbol, frame.kept, frame.base, step, parts)?;
         Ok(then)

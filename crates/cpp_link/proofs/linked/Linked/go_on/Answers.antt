@@ -1,8 +1,8 @@
-use Rattle.std.proofs.Common.{◌≡◌, refl, ◌∙◌, ap, ◌-◌, List, length, take, drop}
+use Rattle.std.proofs.Common.{◌≡◌, refl, sym, ◌∙◌, ap, ◌-◌, List, length, take, drop}
 use Rattle.std.proofs.lemmas.Result.{err_from_is_err_and}
 use Rattle.sym_link.proofs.Lists.{rest_all}
 use Rattle.cpp_link.specs.declared.part.Part.{Part}
-use Rattle.cpp_link.proofs.GoingOn.{goes_right, refused_right, adds_right}
+use Rattle.cpp_link.proofs.GoingOn.{goes_right, refused_right, adds_right, quiet_right, quiet_adds}
 use Rattle.cpp_link.proofs.Viewing.{open_there}
 use Rattle.cpp_link.proofs.linked.Linked.go_on.Goals as goal
 
@@ -49,3 +49,13 @@ returns-clause-adds c =
     let same : own ≡ drop c.args.frame.base c.args.parts.now.items = rest_all c.deref.result.now c.args.frame.base ∙ ap (λ ps. drop c.args.frame.base ps) c.deref.ensures.value in
     adds_right c.args.symbol.now c.args.self.now c.take_step.new.self c.args.frame c.args.parts.now.items c.take_step.new.parts.items own c.production_of-production.result c.in_ok-step.step c.in_ok-then.then
     same c.production_of-production.ensures c.requires.room.paid c.in_ok-step.ensures.of c.in_ok-then.ensures.takes
+
+pub returns-then-is_quiet-clause-goes : goal.returns-then-is_quiet-clause-goes
+returns-then-is_quiet-clause-goes c =
+    let own : List Part = take (length c.deref.result.now - c.args.frame.base) (drop c.args.frame.base c.deref.result.now) in
+    let same : own ≡ drop c.args.frame.base c.args.parts.now.items = rest_all c.deref.result.now c.args.frame.base ∙ ap (λ ps. drop c.args.frame.base ps) c.deref.ensures.value in
+    quiet_right c.args.symbol.now c.args.self.now c.args.frame c.args.parts.now.items own c.production_of-production.result
+    same c.production_of-production.ensures (sym c.is_quiet.ensures ∙ c.if-is_quiet.true)
+
+pub returns-then-is_quiet-clause-adds : goal.returns-then-is_quiet-clause-adds
+returns-then-is_quiet-clause-adds c = quiet_adds c.args.symbol.now c.args.self.now c.args.frame c.args.parts.now.items
