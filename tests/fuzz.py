@@ -128,11 +128,11 @@ class Pair:
 
     def answers(self, options, words):
         own = self.run([*self.symfilt, *options, "--", *words])
-        return own, self.run([*self.reference, "command", *options, "--", *words])
+        return own, self.run([*self.reference, *options, "--", *words])
 
     def texts(self, text):
         own = self.run(self.symfilt, text)
-        return own[:2], self.run([*self.reference, "filter"], text)[:2]
+        return own[:2], self.run(self.reference, text)[:2]
 
     def answers_differ(self, options, words):
         own, other = self.answers(options, words)
