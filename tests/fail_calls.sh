@@ -17,6 +17,7 @@ work=$(mktemp -d)
 trap 'rm -rf "$work"' EXIT
 failed=0
 
+. "$here/usual_run.sh"
 "${CC:-cc}" -O1 -fPIC -shared -o "$work/fail_calls.so" "$here/fail_calls.c" -ldl || exit 2
 long=_RC3000$(printf '%03000d' 0 | tr 0 i)
 for _ in 1 2 3; do
@@ -44,14 +45,9 @@ ends_well() {
 # fail_each NAME STATUS WORD..: runs the program on the words until no call is left to fail; the status is that of a run in
 # which none fails
 fail_each() {
-    local name=$1 wanted=$2 which how number status tried=0
+    local name=$1 usual=$2 which how number status tried=0
+    usual_run "$@"
     shift 2
-    "$symfilt" "$@" <"$work/text" >"$work/whole" 2>"$work/complaints"
-    local usual=$?
-    if [ "$usual" -ne "$wanted" ]; then
-        echo "$name: status $usual, not $wanted, where no call fails: is $symfilt the program?" >&2
-        exit 2
-    fi
     for which in read write; do
         for how in error none short; do
             [ "$which$how" = readnone ] && continue

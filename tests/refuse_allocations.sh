@@ -19,6 +19,7 @@ here=$(dirname "$0")
 work=$(mktemp -d)
 trap 'rm -rf "$work"' EXIT
 
+. "$here/usual_run.sh"
 "${CC:-cc}" -O1 -fPIC -shared -o "$work/refuse_malloc.so" "$here/refuse_malloc.c" -ldl || exit 1
 printf 'x _RNvC3foo3bar _Z1fv. (_RNvC3fo) _RNvNtC3foo3bar3baz end\n' >"$work/text"
 
@@ -27,14 +28,9 @@ failed=0
 # refuse_each NAME STATUS WORD..: runs the program on the words until no allocation is left to refuse; the status is that
 # of a run with ample memory
 refuse_each() {
-    local name=$1 wanted=$2 number=1 status
+    local name=$1 usual=$2 number=1 status
+    usual_run "$@"
     shift 2
-    "$symfilt" "$@" <"$work/text" >"$work/whole" 2>"$work/complaints"
-    local usual=$?
-    if [ "$usual" -ne "$wanted" ]; then
-        echo "$name: status $usual, not $wanted, with ample memory: is $symfilt the program?" >&2
-        exit 2
-    fi
     while :; do
         rm -f "$work/mark"
         REFUSE=$number REFUSE_MARK="$work/mark" LD_PRELOAD="$work/refuse_malloc.so" \

@@ -1,5 +1,6 @@
 // A symbol through each call: whole and in pieces, step by step, with lists of its own and with lists that are used again.
 
+ghost use Rattle.std.specs.Prelude.{◌≡◌, true, IfOk, IfSome};
 ghost use Rattle.sym_core.specs.Number.{FitsSymbol};
 
 use crate::answer::says;
@@ -27,6 +28,32 @@ fn are_few(counts: Counts, len: usize) -> bool {
         && steps as usize <= len.saturating_mul(32).saturating_add(48)
 }
 
+/// What a demangler answered for a symbol of so many bytes, with what a list then has.
+fn answered(alloc: Global, answer: Demangled, len: usize, out: &[u8]) -> Result<Vec<u8>, Refusal> {
+    let Some(text) = out.strip_prefix(BEFORE) else {
+        return broken(alloc, b"(the list was changed)");
+    };
+    match answer {
+        Demangled::Text(counts) => {
+            if !are_few(counts, len) {
+                return broken(alloc, b"(the counts are too great)");
+            }
+            Ok(Vec::from_slice(alloc, text)?)
+        }
+        Demangled::TooLong(_counts) => refused(alloc, Refusal::TooLong, text),
+        Demangled::Refused(refusal) => refused(alloc, refusal, text),
+    }
+}
+
+/// A refusal, behind which a list has to be as before.
+fn refused(alloc: Global, refusal: Refusal, appended: &[u8]) -> Result<Vec<u8>, Refusal> {
+    if appended.is_empty() {
+        Err(refusal)
+    } else {
+        broken(alloc, b"(the list was changed)")
+    }
+}
+
 /// The answer of a demangler, which appends it to a list.
 pub fn by_demangler<D: Demangler>(
     alloc: Global,
@@ -39,20 +66,7 @@ pub fn by_demangler<D: Demangler>(
 {
     let mut out = Vec::from_slice(alloc, BEFORE)?;
     let answer = demangler.demangle(lists, kind, s, &mut out);
-    let Some(text) = out.strip_prefix(BEFORE) else {
-        return broken(alloc, b"(the list was changed)");
-    };
-    match answer {
-        Demangled::Text(counts) => {
-            if !are_few(counts, s.len()) {
-                return broken(alloc, b"(the counts are too great)");
-            }
-            Ok(Vec::from_slice(alloc, text)?)
-        }
-        Demangled::TooLong(_) if text.is_empty() => Err(Refusal::TooLong),
-        Demangled::Refused(refusal) if text.is_empty() => Err(refusal),
-        _ => broken(alloc, b"(the list was changed)"),
-    }
+    answered(alloc, answer, s.len(), &out)
 }
 
 /// Feeds a reader a piece, and reads what is there step by step, each of which is counted.
@@ -81,63 +95,94 @@ fn feed(reader: &mut Reader<V0>, piece: &[u8]) -> Result<bool, Refusal> {
     Ok(false)
 }
 
-/// A symbol of which a piece is fed first, and the rest in pieces of a size.
+/// Feeds a reader pieces, and then its end.
+fn feed_all(reader: &mut Reader<V0>, pieces: &[&[u8]]) -> Result<bool, Refusal> {
+    for piece in pieces {
+        if !piece.is_empty() && !feed(reader, piece)? {
+            return Ok(false);
+        }
+    }
+    feed(reader, b"")
+}
+
+/// A symbol that is fed in pieces.
 fn in_pieces(
     alloc: Global,
-    first: &[u8],
-    rest: &[u8],
-    size: usize,
+    pieces: &[&[u8]],
     limit: u32,
     detail: Detail,
 ) -> Result<Vec<u8>, Refusal> {
     let mut reader = Reader::new(alloc, &V0)?;
-    if !first.is_empty() && !feed(&mut reader, first)? {
-        return broken(alloc, b"(a reader stepped otherwise)");
-    }
-    if size > 0 {
-        for piece in rest.chunks(size) {
-            if !feed(&mut reader, piece)? {
-                return broken(alloc, b"(a reader stepped otherwise)");
-            }
-        }
-    }
-    if !feed(&mut reader, b"")? {
+    if !feed_all(&mut reader, pieces)? {
         return broken(alloc, b"(a reader stepped otherwise)");
     }
     if !reader.ended() {
         return broken(alloc, b"(a reader has no end)");
     }
-    read_fed(alloc, reader)?.text_as(limit, detail)
+    let symbol = read_fed(alloc, reader)?;
+    symbol.text_as(limit, detail)
+}
+
+/// A linker of a symbol.
+fn linker_of(alloc: Global, s: &[u8]) -> Result<Linker, Refusal>
+    requires { FitsSymbol s.now }
+{
+    let shape = sym_shape::read(alloc, &V0, s)?;
+    let bytes = Vec::from_slice(alloc, s)?;
+    Linker::new(alloc, bytes, shape)
+}
+
+/// One step of a linker that took so many: whether nothing is left to do, or none where it isn't counted, or answers otherwise
+/// when it is asked again.
+fn step(linker: &mut Linker, taken: u32) -> Result<Option<bool>, Refusal>
+    ensures { IfOk result (λ step. IfSome step (λ done. done ≡ true → linker.new.done ≡ true)) }
+{
+    if linker.steps() != taken {
+        return Ok(None);
+    }
+    match linker.step() {
+        Ok(false) => Ok(Some(false)),
+        Ok(true) => {
+            if linker.steps() == taken && linker.step()? {
+                Ok(Some(true))
+            } else {
+                Ok(None)
+            }
+        }
+        Err(refusal) => {
+            if linker.step() == Err(refusal) {
+                Err(refusal)
+            } else {
+                Ok(None)
+            }
+        }
+    }
+}
+
+/// Steps until nothing is left to do; false where a step isn't as it has to be.
+fn step_all(linker: &mut Linker) -> Result<bool, Refusal>
+    ensures { IfOk result (λ done. done ≡ true → linker.new.done ≡ true) }
+{
+    for taken in 0..u32::MAX {
+        match step(linker, taken)? {
+            Some(true) => return Ok(true),
+            Some(false) => {}
+            None => return Ok(false),
+        }
+    }
+    Ok(false)
 }
 
 /// A symbol that is linked step by step, each of which is counted.
 fn step_by_step(alloc: Global, s: &[u8], limit: u32, detail: Detail) -> Result<Vec<u8>, Refusal>
     requires { FitsSymbol s.now }
 {
-    let shape = sym_shape::read(alloc, &V0, s)?;
-    let mut linker = Linker::new(alloc, Vec::from_slice(alloc, s)?, shape)?;
-    for taken in 0..u32::MAX {
-        if linker.steps() != taken {
-            return broken(alloc, b"(a linker stepped otherwise)");
-        }
-        match linker.step() {
-            Ok(true) => {
-                if linker.steps() != taken || !linker.step()? {
-                    return broken(alloc, b"(a linker stepped otherwise)");
-                }
-                let symbol: Symbol = linker.finish();
-                return symbol.text_as(limit, detail);
-            }
-            Ok(false) => {}
-            Err(refusal) => {
-                if linker.step() != Err(refusal) {
-                    return broken(alloc, b"(a linker stepped otherwise)");
-                }
-                return Err(refusal);
-            }
-        }
+    let mut linker = linker_of(alloc, s)?;
+    if !step_all(&mut linker)? {
+        return broken(alloc, b"(a linker stepped otherwise)");
     }
-    broken(alloc, b"(a linker stepped otherwise)")
+    let symbol: Symbol = linker.finish();
+    symbol.text_as(limit, detail)
 }
 
 /// A symbol that is read whole, and printed.
@@ -155,8 +200,7 @@ fn read_and_printed(alloc: Global, s: &[u8], limit: u32, detail: Detail) -> Resu
 fn linked_at_once(alloc: Global, s: &[u8], limit: u32, detail: Detail) -> Result<Vec<u8>, Refusal>
     requires { FitsSymbol s.now }
 {
-    let shape = sym_shape::read(alloc, &V0, s)?;
-    let mut linker = Linker::new(alloc, Vec::from_slice(alloc, s)?, shape)?;
+    let mut linker = linker_of(alloc, s)?;
     linker.run()?;
     let symbol: Symbol = linker.finish();
     symbol.text_as(limit, detail)
@@ -224,7 +268,8 @@ pub fn rust_calls_say(
     if !says(alloc, &kept, wanted)? {
         return Ok(false);
     }
-    let byte_by_byte = in_pieces(alloc, b"", s, 1, limit, detail);
+    let bytes: Vec<&[u8]> = s.chunks(1).collect(alloc)?;
+    let byte_by_byte = in_pieces(alloc, &bytes, limit, detail);
     says(alloc, &byte_by_byte, wanted)
 }
 
@@ -237,7 +282,7 @@ pub fn rust_pieces_say(
     wanted: &[u8],
 ) -> Result<bool, Refusal> {
     for cut in 0..s.len() {
-        let answer = in_pieces(alloc, &s[..cut], &s[cut..], usize::MAX, limit, detail);
+        let answer = in_pieces(alloc, &[&s[..cut], &s[cut..]], limit, detail);
         if !says(alloc, &answer, wanted)? {
             return Ok(false);
         }

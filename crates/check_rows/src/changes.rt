@@ -2,9 +2,9 @@
 
 use crate::answer::says;
 use crate::calls::by_demangler;
-use crate::rows::Lists;
 use std::alloc::Global;
 use sym_core::{Refusal, fits};
+use sym_filter::languages::Lists;
 use sym_filter::{Kind, Languages};
 
 /// How a symbol is changed at a place.
@@ -66,7 +66,7 @@ pub fn hold(
         if !fits(&changed) {
             return Ok(false);
         }
-        let answer = by_demangler(alloc, languages, &mut lists.languages, kind, &changed);
+        let answer = by_demangler(alloc, languages, lists, kind, &changed);
         if !says(alloc, &answer, &wanted)? {
             return Ok(false);
         }

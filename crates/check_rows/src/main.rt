@@ -7,10 +7,11 @@ mod calls;
 mod changes;
 mod rows;
 
-use rows::{Lists, holds};
+use rows::holds;
 use std::io::{self, Read};
 use std::process::ExitCode;
 use sym_core::Refusal;
+use sym_filter::languages::Lists;
 
 /// The status where each row holds.
 const HELD: u8 = 0;

@@ -3,30 +3,15 @@
 use crate::answer::says;
 use crate::calls::{by_demangler, rust_calls_say, rust_pieces_say};
 use crate::changes::{self, Change};
-use rust_v0::{Detail, Workspace};
+use rust_v0::Detail;
 use std::alloc::Global;
 use std::str;
 use sym_core::{Refusal, fits};
-use sym_filter::{Lang, Languages, Pressing, kind_of, languages};
+use sym_filter::languages::Lists;
+use sym_filter::{Lang, Languages, Pressing, kind_of};
 
 /// The limit where a row has none.
 const LIMIT: u32 = 1_000_000;
-
-/// Lists that are used again from row to row.
-#[derive(Drop)]
-pub struct Lists {
-    pub languages: languages::Lists,
-    pub workspace: Workspace,
-}
-
-impl Lists {
-    pub fn new(alloc: Global) -> Lists {
-        Lists {
-            languages: languages::Lists::new(alloc),
-            workspace: Workspace::new(alloc),
-        }
-    }
-}
 
 /// The number of these digits.
 fn number(digits: &[u8]) -> Option<u32> {
@@ -65,13 +50,13 @@ fn is_answered(
         return Ok(false);
     }
     let languages = Languages { limit, detail };
-    let answer = by_demangler(alloc, &languages, &mut lists.languages, kind, s);
+    let answer = by_demangler(alloc, &languages, lists, kind, s);
     if !says(alloc, &answer, wanted)? {
         return Ok(false);
     }
     match kind.lang {
         Lang::Cpp => Ok(true),
-        Lang::Rust => rust_calls_say(alloc, &mut lists.workspace, s, limit, detail, wanted),
+        Lang::Rust => rust_calls_say(alloc, &mut lists.rust, s, limit, detail, wanted),
     }
 }
 
@@ -145,7 +130,7 @@ fn has_length(
     if !fits(s) {
         return Ok(false);
     }
-    let text = by_demangler(alloc, &languages, &mut lists.languages, kind, s)?;
+    let text = by_demangler(alloc, &languages, lists, kind, s)?;
     Ok(
         text.len() == len as usize
             && cost > 0
@@ -191,7 +176,7 @@ fn is_pressed(
         if !fits(s) {
             return Ok(false);
         }
-        let answer = by_demangler(alloc, &Pressing, &mut lists.languages, kind, s);
+        let answer = by_demangler(alloc, &Pressing, lists, kind, s);
         if !says(alloc, &answer, pressed)? {
             return Ok(false);
         }
@@ -217,6 +202,118 @@ fn are_changes_answered(
     changes::hold(alloc, &languages, lists, kind, word, change, others)
 }
 
+/// Whether a row `text` holds.
+fn of_text(alloc: Global, lists: &mut Lists, fields: &[&[u8]]) -> Result<bool, Refusal> {
+    let [detail, cost, word, text] = fields else {
+        return Ok(false);
+    };
+    let Some(detail) = detail_of(detail) else {
+        return Ok(false);
+    };
+    match number(cost) {
+        Some(cost) => has_text(alloc, lists, detail, cost, word, text),
+        None => Ok(false),
+    }
+}
+
+/// Whether a word has a text that costs and is as long as two fields say.
+fn of_length(
+    alloc: Global,
+    lists: &mut Lists,
+    detail: &[u8],
+    cost: &[u8],
+    word: &[u8],
+    len: &[u8],
+) -> Result<bool, Refusal> {
+    let Some(detail) = detail_of(detail) else {
+        return Ok(false);
+    };
+    let Some(cost) = number(cost) else {
+        return Ok(false);
+    };
+    match number(len) {
+        Some(len) => has_length(alloc, lists, detail, cost, word, len),
+        None => Ok(false),
+    }
+}
+
+/// Whether a row `long` holds.
+fn of_long(alloc: Global, lists: &mut Lists, fields: &[&[u8]]) -> Result<bool, Refusal> {
+    match fields {
+        [detail, cost, word, len] => of_length(alloc, lists, detail, cost, word, len),
+        _ => Ok(false),
+    }
+}
+
+/// Whether a row `repeated` holds.
+fn of_repeated(alloc: Global, lists: &mut Lists, fields: &[&[u8]]) -> Result<bool, Refusal> {
+    let [detail, cost, front, count, bytes, end, len] = fields else {
+        return Ok(false);
+    };
+    let Some(count) = number(count) else {
+        return Ok(false);
+    };
+    let word = repeated(alloc, front, count, bytes, end)?;
+    of_length(alloc, lists, detail, cost, &word, len)
+}
+
+/// Whether a row `refused` holds.
+fn of_refused(alloc: Global, lists: &mut Lists, fields: &[&[u8]]) -> Result<bool, Refusal> {
+    match fields {
+        [word, reason] => is_refused(alloc, lists, word, reason),
+        _ => Ok(false),
+    }
+}
+
+/// Whether a row `press` holds.
+fn of_press(alloc: Global, lists: &mut Lists, fields: &[&[u8]]) -> Result<bool, Refusal> {
+    match fields {
+        [word, pressed] => is_pressed(alloc, lists, word, pressed),
+        _ => Ok(false),
+    }
+}
+
+/// The change that a row is of.
+fn change_of(what: &[u8]) -> Option<Change> {
+    match what {
+        b"cut" => Some(Change::Cut),
+        b"put !" => Some(Change::Put(b'!')),
+        b"put 0" => Some(Change::Put(b'0')),
+        b"put ff" => Some(Change::Put(0xff)),
+        _ => None,
+    }
+}
+
+/// Whether a row `cut` or `put` holds.
+fn of_changes(
+    alloc: Global,
+    lists: &mut Lists,
+    change: Change,
+    fields: &[&[u8]],
+) -> Result<bool, Refusal> {
+    match fields {
+        [word, others @ ..] => are_changes_answered(alloc, lists, change, word, others),
+        [] => Ok(false),
+    }
+}
+
+/// Whether each call answers what stands in a row of these fields.
+fn hold(alloc: Global, lists: &mut Lists, what: &[u8], fields: &[&[u8]]) -> Result<bool, Refusal> {
+    if let Some(change) = change_of(what) {
+        return of_changes(alloc, lists, change, fields);
+    }
+    match what {
+        b"text" => of_text(alloc, lists, fields),
+        b"long" => of_long(alloc, lists, fields),
+        b"repeated" => of_repeated(alloc, lists, fields),
+        b"refused" => of_refused(alloc, lists, fields),
+        b"press" => of_press(alloc, lists, fields),
+        // the program's own, which tests/vectors.py runs
+        b"filter" | b"command" => Ok(true),
+        _ => Ok(false),
+    }
+}
+
 /// Whether each call answers what stands in a row.
 ///
 /// # Errors
@@ -224,50 +321,8 @@ fn are_changes_answered(
 /// `Memory` where a call answers that.
 pub fn holds(alloc: Global, lists: &mut Lists, row: &[u8]) -> Result<bool, Refusal> {
     let fields: Vec<&[u8]> = row.split(|byte| *byte == b'\t').collect(alloc)?;
-    let [what, fields @ ..] = fields.as_slice() else {
-        return Ok(false);
-    };
-    match (*what, fields) {
-        (b"text", [detail, cost, word, text]) => match (detail_of(detail), number(cost)) {
-            (Some(detail), Some(cost)) => has_text(alloc, lists, detail, cost, word, text),
-            _ => Ok(false),
-        },
-        (b"long", [detail, cost, word, len]) => {
-            match (detail_of(detail), number(cost), number(len)) {
-                (Some(detail), Some(cost), Some(len)) => {
-                    has_length(alloc, lists, detail, cost, word, len)
-                }
-                _ => Ok(false),
-            }
-        }
-        (b"repeated", [detail, cost, front, count, bytes, end, len]) => {
-            let word = match number(count) {
-                Some(count) => repeated(alloc, front, count, bytes, end)?,
-                None => return Ok(false),
-            };
-            match (detail_of(detail), number(cost), number(len)) {
-                (Some(detail), Some(cost), Some(len)) => {
-                    has_length(alloc, lists, detail, cost, &word, len)
-                }
-                _ => Ok(false),
-            }
-        }
-        (b"refused", [word, reason]) => is_refused(alloc, lists, word, reason),
-        (b"press", [word, pressed]) => is_pressed(alloc, lists, word, pressed),
-        (b"cut", [word, others @ ..]) => {
-            are_changes_answered(alloc, lists, Change::Cut, word, others)
-        }
-        (b"put !", [word, others @ ..]) => {
-            are_changes_answered(alloc, lists, Change::Put(b'!'), word, others)
-        }
-        (b"put 0", [word, others @ ..]) => {
-            are_changes_answered(alloc, lists, Change::Put(b'0'), word, others)
-        }
-        (b"put ff", [word, others @ ..]) => {
-            are_changes_answered(alloc, lists, Change::Put(0xff), word, others)
-        }
-        // the program's own, which tests/vectors.py runs
-        (b"filter" | b"command", _) => Ok(true),
-        _ => Ok(false),
+    match fields.as_slice() {
+        [what, fields @ ..] => hold(alloc, lists, what, fields),
+        [] => Ok(false),
     }
 }
