@@ -63,6 +63,14 @@ fn last_fits(symbol: &[u8], rows: &[Row], row: Row) -> Result<bool, Refusal>
     fits(digits)
 }
 
+#[inline(always)]
+fn with_packs(kept: Kept, packs: Option<u32>) -> Kept {
+    match packs {
+        Some(length) => Kept { length, has_packs: true, ..kept },
+        None => Kept { has_packs: false, ..kept },
+    }
+}
+
 impl Linked {
     /// The rule of a row begins, around which this holds. The number of a lambda or an unnamed type is tested (ABI 5.1.8).
     ///
@@ -84,10 +92,10 @@ impl Linked {
     {
         let packs = self.packs;
         if !is_numbered(production_of(row.rule)) {
-            return Ok(Kept { packs, ..context });
+            return Ok(with_packs(context, packs));
         }
         if last_fits(symbol, rows, row)? {
-            return Ok(Kept { packs, ..context });
+            return Ok(with_packs(context, packs));
         }
         Err(Refusal::BadValue {
             at: row.from.saturating_sub(1),

@@ -110,7 +110,7 @@ impl Linked {
             },
             Production::Expansion => Behind {
                 candidate: None,
-                packs: kept.packs,
+                packs: kept.packs(),
             },
             _ => Behind {
                 candidate: None,

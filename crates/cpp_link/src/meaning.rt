@@ -384,7 +384,7 @@ impl Linked {
             },
             Production::ReferenceType => self.reference_meant(symbol, byte, parts),
             Production::Encoding => self.encoding(symbol, parts),
-            Production::NestEnd => self.nest_end(symbol, kept.prefix),
+            Production::NestEnd => self.nest_end(symbol, kept.prefix()),
             Production::RestLvalue => self.signature_or(
                 symbol,
                 Mark::Lvalue,
@@ -401,7 +401,7 @@ impl Linked {
                 self.given(symbol, parts, 0),
             ),
             Production::StringLiteral => made(
-                self.extended(symbol, kept.prefix, Piece::StringLiteral),
+                self.extended(symbol, kept.prefix(), Piece::StringLiteral),
                 true,
             ),
             Production::OneDigit => Meant::Given(Part::Text(one_byte(symbol, place))),

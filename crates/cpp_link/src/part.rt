@@ -66,17 +66,80 @@ pub enum Prefix {
     Behind { node: u32, listed: bool },
 }
 
-/// What surrounds a part, and the length of the packs where its rule began.
+/// What parameters name: nothing, nothing since they are in the signature of a lambda, or arguments.
+#[derive(Clone, Copy)]
+pub enum Scope {
+    Nothing,
+    Lambda,
+    Arguments,
+}
+
+/// Whether there is a name so far, and whether it is a candidate already or never is one.
+#[derive(Clone, Copy)]
+pub enum Naming {
+    Outermost,
+    Unlisted,
+    Listed,
+}
+
+/// What surrounds a part, and the length of the packs where its rule began: four words and four bytes with no gap, since
+/// each call copies it.
 #[derive(Clone, Copy)]
 pub struct Kept {
-    /// The arguments that parameters name.
-    pub scope: Option<u32>,
+    /// The arguments that parameters name, if they name any.
+    pub arguments: u32,
     /// The place where the innermost encoding begins.
     pub encoding: u32,
-    pub in_lambda: bool,
+    /// The name so far, if there is one.
+    pub name: u32,
+    /// The length of the packs, if there are any.
+    pub length: u32,
+    pub scope: Scope,
+    pub naming: Naming,
     pub in_expansion: bool,
-    pub prefix: Prefix,
-    pub packs: Option<u32>,
+    pub has_packs: bool,
+}
+
+impl Kept {
+    /// The arguments that parameters name.
+    #[inline(always)]
+    pub fn scope(&self) -> Option<u32> {
+        match self.scope {
+            Scope::Arguments => Some(self.arguments),
+            _ => None,
+        }
+    }
+
+    /// Whether it is in the signature of a lambda.
+    #[inline(always)]
+    pub fn in_lambda(&self) -> bool {
+        match self.scope {
+            Scope::Lambda => true,
+            _ => false,
+        }
+    }
+
+    /// The name so far.
+    #[inline(always)]
+    pub fn prefix(&self) -> Prefix {
+        match self.naming {
+            Naming::Outermost => Prefix::Outermost,
+            Naming::Unlisted => Prefix::Behind {
+                node: self.name,
+                listed: false,
+            },
+            Naming::Listed => Prefix::Behind {
+                node: self.name,
+                listed: true,
+            },
+        }
+    }
+
+    /// The length of the packs where the rule began.
+    #[inline(always)]
+    pub fn packs(&self) -> Option<u32> {
+        if self.has_packs { Some(self.length) } else { None }
+    }
 }
 
 /// A tree that a substitution may name, and the place where the encoding begins in which it was made.

@@ -67,7 +67,7 @@ fn below(counted: Option<u64>, count: u32) -> Option<u32>
 fn is_foreign(kept: Kept, is_open: bool, encoding: u32) -> bool
     ensures { result ≡ (is_open && (kept.in_lambda || not (nat_eq encoding kept.encoding))) }
 {
-    is_open && (kept.in_lambda || encoding != kept.encoding)
+    is_open && (kept.in_lambda() || encoding != kept.encoding)
 }
 
 /// The elements of a pack.
@@ -186,7 +186,7 @@ impl Linked {
         ensures refused { IfErr result (λ e. (cs : List values.Candidate) → Fails e (parameter_so_far (around_of (trees_in symbol.now self.now.nodes) kept) place (counted_value kinds.Decimal (bytes_at symbol.now digits)) [] (record { candidates = cs; packs = self.now.packs }))) }
         ensures there { IfOk result (λ step. IsStepThere symbol.now (length self.now.nodes.thunks) (length self.now.nodes.nodes) step) }
     {
-        let Some(scope) = kept.scope else {
+        let Some(scope) = kept.scope() else {
             return Err(Refusal::BadReference { at: place });
         };
         let count = self.count(symbol, scope);

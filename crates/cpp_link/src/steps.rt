@@ -17,7 +17,7 @@ ghost use Rattle.cpp_link.specs.Reads.{with_candidate, goes_on};
 ghost use Rattle.cpp_link.specs.Stepping.{IsStepOf};
 
 use crate::linked::Linked;
-use crate::part::{Kept, Part, Prefix, Step};
+use crate::part::{Kept, Naming, Part, Prefix, Scope, Step};
 use crate::values::{is_listed, is_there, letter_of, list_of, node_of, piece_of, text_of};
 use cpp_grammar::production::Production;
 use cpp_tree::node::{Node, Piece};
@@ -30,7 +30,7 @@ fn prefix_candidate(kept: Kept) -> Option<u32>
     ensures is { (ts : List term.Term) (state : State) → with_prefix (around_of ts kept) state ≡ with_candidate (around_of ts kept) ts result state }
     ensures there { (n : ℕ) → IsPrefixThere n kept.prefix → IsArgumentsBelow n result }
 {
-    match kept.prefix {
+    match kept.prefix() {
         Prefix::Outermost => None,
         Prefix::Behind { node, listed } => {
             if listed {
@@ -42,47 +42,52 @@ fn prefix_candidate(kept: Kept) -> Option<u32>
 }
 
 /// In an encoding that begins at this place.
-fn in_encoding(kept: Kept, place: u32, scope: Option<u32>) -> Kept
-    ensures { result ≡ record { scope = scope; encoding = place; in_lambda = false; in_expansion = false; prefix = prefixes.Outermost; packs = kept.packs } }
-{
-    Kept {
-        scope,
+#[inline(always)]
+fn in_encoding(kept: Kept, place: u32, scope: Option<u32>) -> Kept {
+    let outside = Kept {
+        arguments: 0,
         encoding: place,
-        in_lambda: false,
+        name: 0,
+        scope: Scope::Nothing,
+        naming: Naming::Outermost,
         in_expansion: false,
-        prefix: Prefix::Outermost,
-        packs: kept.packs,
+        ..kept
+    };
+    match scope {
+        Some(arguments) => Kept {
+            arguments,
+            scope: Scope::Arguments,
+            ..outside
+        },
+        None => outside,
     }
 }
 
 /// Behind this name.
-pub fn behind(kept: Kept, node: u32, listed: bool) -> Kept
-    ensures { result ≡ record { scope = kept.scope; encoding = kept.encoding; in_lambda = kept.in_lambda; in_expansion = kept.in_expansion; prefix = prefixes.Behind node listed; packs = kept.packs } }
-{
+#[inline(always)]
+pub fn behind(kept: Kept, node: u32, listed: bool) -> Kept {
     Kept {
-        prefix: Prefix::Behind { node, listed },
+        name: node,
+        naming: if listed { Naming::Listed } else { Naming::Unlisted },
         ..kept
     }
 }
 
 /// In the signature of a lambda.
-fn in_lambda(kept: Kept) -> Kept
-    ensures { result ≡ record { scope = None; encoding = kept.encoding; in_lambda = true; in_expansion = kept.in_expansion; prefix = prefixes.Outermost; packs = kept.packs } }
-{
+#[inline(always)]
+fn in_lambda(kept: Kept) -> Kept {
     Kept {
-        scope: None,
-        in_lambda: true,
-        prefix: Prefix::Outermost,
+        scope: Scope::Lambda,
+        naming: Naming::Outermost,
         ..kept
     }
 }
 
 /// With no name so far.
-fn inside(kept: Kept) -> Kept
-    ensures { result ≡ record { scope = kept.scope; encoding = kept.encoding; in_lambda = kept.in_lambda; in_expansion = kept.in_expansion; prefix = prefixes.Outermost; packs = kept.packs } }
-{
+#[inline(always)]
+fn inside(kept: Kept) -> Kept {
     Kept {
-        prefix: Prefix::Outermost,
+        naming: Naming::Outermost,
         ..kept
     }
 }
@@ -196,7 +201,7 @@ impl Linked {
             },
             Production::NestNext => Step::Go {
                 candidate: self.prefix_candidate(symbol, kept),
-                then: behind(kept, self.prefix_node(symbol, kept.prefix), true),
+                then: behind(kept, self.prefix_node(symbol, kept.prefix()), true),
                 packs: self.packs,
             },
             _ => self.go(kept),
@@ -273,7 +278,7 @@ impl Linked {
             Production::LocalType => self.go(behind(kept, self.node(symbol, first), true)),
             Production::InternalName => self.named(self.extended(
                 symbol,
-                kept.prefix,
+                kept.prefix(),
                 Piece::Source {
                     internal: true,
                     bytes: self.text_in(symbol, first),
@@ -281,7 +286,7 @@ impl Linked {
             )),
             Production::NestInternal => self.named(self.extended(
                 symbol,
-                kept.prefix,
+                kept.prefix(),
                 Piece::Source {
                     internal: true,
                     bytes: self.text_in(symbol, first),
@@ -289,7 +294,7 @@ impl Linked {
             )),
             Production::SourceName => self.named(self.extended(
                 symbol,
-                kept.prefix,
+                kept.prefix(),
                 Piece::Source {
                     internal: false,
                     bytes: self.text_in(symbol, first),
@@ -297,7 +302,7 @@ impl Linked {
             )),
             Production::NestSource => self.named(self.extended(
                 symbol,
-                kept.prefix,
+                kept.prefix(),
                 Piece::Source {
                     internal: false,
                     bytes: self.text_in(symbol, first),
@@ -305,27 +310,27 @@ impl Linked {
             )),
             Production::LocalTypeName => self.named(self.extended(
                 symbol,
-                kept.prefix,
+                kept.prefix(),
                 self.piece_in(symbol, first),
             )),
             Production::OperatorName => self.named(self.extended(
                 symbol,
-                kept.prefix,
+                kept.prefix(),
                 self.piece_in(symbol, first),
             )),
             Production::NestLocalType => self.named(self.extended(
                 symbol,
-                kept.prefix,
+                kept.prefix(),
                 self.piece_in(symbol, first),
             )),
             Production::Constructor => self.named(self.extended(
                 symbol,
-                kept.prefix,
+                kept.prefix(),
                 Piece::Constructor(letter_of(first)),
             )),
             Production::Destructor => self.named(self.extended(
                 symbol,
-                kept.prefix,
+                kept.prefix(),
                 Piece::Destructor(letter_of(first)),
             )),
             Production::StdName => self.named(Node::InStd(self.piece_in(symbol, first))),
@@ -426,7 +431,7 @@ impl Linked {
                 }
             }
             Production::NestArguments => {
-                let template = self.prefix_node(symbol, kept.prefix);
+                let template = self.prefix_node(symbol, kept.prefix());
                 let arguments = self.list_in(symbol, first);
                 Step::Made {
                     node: Node::Instance {
