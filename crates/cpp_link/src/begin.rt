@@ -63,14 +63,6 @@ fn last_fits(symbol: &[u8], rows: &[Row], row: Row) -> Result<bool, Refusal>
     fits(digits)
 }
 
-#[inline(always)]
-fn with_packs(kept: Kept, packs: Option<u32>) -> Kept {
-    match packs {
-        Some(length) => Kept { length, has_packs: true, ..kept },
-        None => Kept { has_packs: false, ..kept },
-    }
-}
-
 impl Linked {
     /// The rule of a row begins, around which this holds. The number of a lambda or an unnamed type is tested (ABI 5.1.8).
     ///
@@ -90,12 +82,12 @@ impl Linked {
         ensures adds { OnOk result (Adds (cpp_view symbol.now) self.old self.new 0 0) }
         ensures pays { OnOk result ((at : ℕ) → Pays (cpp_view symbol.now) self.old self.new at at) }
     {
-        let packs = self.packs;
+        let kept = context.with_packs(self.packs);
         if !is_numbered(production_of(row.rule)) {
-            return Ok(with_packs(context, packs));
+            return Ok(kept);
         }
         if last_fits(symbol, rows, row)? {
-            return Ok(with_packs(context, packs));
+            return Ok(kept);
         }
         Err(Refusal::BadValue {
             at: row.from.saturating_sub(1),

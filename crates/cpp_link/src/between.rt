@@ -4,18 +4,18 @@ ghost use Rattle.std.specs.Prelude.{◌≡◌, ℕ, ◌+◌, ◌<◌, ◌≤◌,
 ghost use Rattle.sym_core.specs.declared.refusal.Refusal.TheVariants as refusals;
 ghost use Rattle.sym_link.specs.Linking.{HasRoom, Adds, Pays, owed_behind, owed_next};
 ghost use Rattle.sym_link.specs.Threads.{IsOpenAt, GoesOn};
+ghost use Rattle.cpp_term.specs.Term.{Term};
 ghost use Rattle.cpp_tree.specs.Nodes.{IsArgumentsBelow, IsBelow, tree_at};
 ghost use Rattle.cpp_link.specs.Grows.{Grows, HasPlace};
 ghost use Rattle.cpp_link.specs.Making.{state_of};
 ghost use Rattle.cpp_link.specs.Parts.{trees_in, tree_of_node, around_of, candidates_of, AreThere, IsKeptThere, AreCandidatesThere, IsStepThere};
-ghost use Rattle.cpp_link.specs.Reads.{with_candidate, appended_if};
-ghost use Rattle.cpp_link.specs.Stepping.{IsStepOf, Takes, behind_if, is_quiet};
+ghost use Rattle.cpp_link.specs.Reads.{with_candidate, named_if, appended_if};
+ghost use Rattle.cpp_link.specs.Stepping.{IsStepOf, Takes, is_quiet};
 ghost use Rattle.cpp_link.specs.View.{Surrounds, cpp_view};
 
 use crate::dispatch::production_of;
 use crate::linked::Linked;
 use crate::part::{Kept, Part, Step};
-use crate::steps::behind;
 use cpp_grammar::production::Production;
 use cpp_tree::node::Node;
 use sym_core::Refusal;
@@ -40,11 +40,13 @@ fn candidate_if(is_candidate: bool, node: u32) -> Option<u32>
 }
 
 /// What surrounds the part behind a tree that has been made.
+#[tactic(auto, unfolding(crate::specs::Reads::named_if))]
 fn behind_if(is_name: bool, kept: Kept, node: u32, listed: bool) -> Kept
-    ensures { result ≡ behind_if is_name kept node listed }
+    ensures around { (ts : List Term) → around_of ts result ≡ named_if is_name (around_of ts kept) (tree_at ts node) listed }
+    ensures there { (n : ℕ) → IsKeptThere n kept → node < n → IsKeptThere n result }
 {
     if is_name {
-        return behind(kept, node, listed);
+        return kept.behind(node, listed);
     }
     kept
 }
@@ -181,7 +183,7 @@ impl Linked {
             }
             Step::Named { node, listed } => {
                 put_first(parts, base, Part::Tree { node, listed });
-                Ok(behind(kept, node, listed))
+                Ok(kept.behind(node, listed))
             }
             Step::Made {
                 node,

@@ -23,7 +23,7 @@ const OUTSIDE: Kept = Kept {
     arguments: 0,
     encoding: 0,
     name: 0,
-    length: 0,
+    pack_length: 0,
     scope: Scope::Nothing,
     naming: Naming::Outermost,
     in_expansion: false,

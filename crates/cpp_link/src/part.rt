@@ -1,5 +1,12 @@
 // What the parts of a symbol stand for, in terms of nodes, and what is kept of what surrounds them.
 
+ghost use Rattle.std.specs.Prelude.{◌≡◌, ℕ, ◌<◌, List, false};
+ghost use Rattle.cpp_term.specs.Term.{Term};
+ghost use Rattle.cpp_term.specs.Values.{outermost};
+ghost use Rattle.cpp_term.specs.Between.{in_signature, under_expansion, after, inside};
+ghost use Rattle.cpp_tree.specs.Nodes.{tree_at, arguments_are, IsArgumentsBelow};
+ghost use Rattle.cpp_link.specs.Parts.{scope_of, is_lambda, name_of, packs_of, around_of, IsKeptThere};
+
 use cpp_tree::node::{Adjustment, Mark, Node, Piece, Qualifiers, Signed, Thunk};
 use sym_core::Span;
 
@@ -66,7 +73,7 @@ pub enum Prefix {
     Behind { node: u32, listed: bool },
 }
 
-/// What parameters name: nothing, nothing since they are in the signature of a lambda, or arguments.
+/// What parameters name: nothing, nothing as in the signature of a lambda, or arguments.
 #[derive(Clone, Copy)]
 pub enum Scope {
     Nothing,
@@ -82,18 +89,19 @@ pub enum Naming {
     Listed,
 }
 
-/// What surrounds a part, and the length of the packs where its rule began: four words and four bytes with no gap, since
-/// each call copies it.
+/// What surrounds a part, and the length of the packs where its rule began.
+///
+/// Its fields leave no gap in memory, since it goes from call to call.
 #[derive(Clone, Copy)]
 pub struct Kept {
-    /// The arguments that parameters name, if they name any.
+    /// The arguments that parameters name, if `scope` says that they name some.
     pub arguments: u32,
     /// The place where the innermost encoding begins.
     pub encoding: u32,
-    /// The name so far, if there is one.
+    /// The name so far, if `naming` says that there is one.
     pub name: u32,
     /// The length of the packs, if there are any.
-    pub length: u32,
+    pub pack_length: u32,
     pub scope: Scope,
     pub naming: Naming,
     pub in_expansion: bool,
@@ -102,43 +110,161 @@ pub struct Kept {
 
 impl Kept {
     /// The arguments that parameters name.
+    #[tactic(auto, unfolding(crate::specs::Parts::arguments_in))]
     #[inline(always)]
-    pub fn scope(&self) -> Option<u32> {
+    pub fn in_scope(self) -> Option<u32>
+        ensures { result ≡ scope_of self }
+    {
         match self.scope {
+            Scope::Nothing => None,
+            Scope::Lambda => None,
             Scope::Arguments => Some(self.arguments),
-            _ => None,
         }
     }
 
     /// Whether it is in the signature of a lambda.
+    #[tactic(auto, unfolding(crate::specs::Parts::is_lambda))]
     #[inline(always)]
-    pub fn in_lambda(&self) -> bool {
+    pub fn in_lambda(self) -> bool
+        ensures { result ≡ is_lambda self.scope }
+    {
         match self.scope {
+            Scope::Nothing => false,
             Scope::Lambda => true,
-            _ => false,
+            Scope::Arguments => false,
         }
     }
 
     /// The name so far.
+    #[tactic(auto, unfolding(crate::specs::Parts::prefix_in))]
     #[inline(always)]
-    pub fn prefix(&self) -> Prefix {
+    pub fn prefix(self) -> Prefix
+        ensures { result ≡ name_of self }
+    {
+        let node = self.name;
         match self.naming {
             Naming::Outermost => Prefix::Outermost,
             Naming::Unlisted => Prefix::Behind {
-                node: self.name,
+                node,
                 listed: false,
             },
-            Naming::Listed => Prefix::Behind {
-                node: self.name,
-                listed: true,
-            },
+            Naming::Listed => Prefix::Behind { node, listed: true },
         }
     }
 
     /// The length of the packs where the rule began.
+    #[tactic(auto, unfolding(crate::specs::Parts::packs_in))]
     #[inline(always)]
-    pub fn packs(&self) -> Option<u32> {
-        if self.has_packs { Some(self.length) } else { None }
+    pub fn packs(self) -> Option<u32>
+        ensures { result ≡ packs_of self }
+    {
+        if self.has_packs { Some(self.pack_length) } else { None }
+    }
+
+    /// The same, where a rule begins when the packs have this length.
+    #[tactic(auto, unfolding(crate::specs::Parts::around_of, crate::specs::Parts::packs_in))]
+    #[inline(always)]
+    pub fn with_packs(self, packs: Option<u32>) -> Kept
+        ensures around { (ts : List Term) → around_of ts result ≡ around_of ts self }
+        ensures there { (n : ℕ) → IsKeptThere n self → IsKeptThere n result }
+        ensures packs { packs_of result ≡ packs }
+    {
+        match packs {
+            Some(pack_length) => Kept {
+                pack_length,
+                has_packs: true,
+                ..self
+            },
+            None => Kept {
+                has_packs: false,
+                ..self
+            },
+        }
+    }
+
+    /// In an encoding that begins at this place, where parameters name these arguments.
+    #[tactic(auto, unfolding(crate::specs::Parts::around_of, crate::specs::Parts::arguments_in, crate::specs::Parts::is_lambda, crate::specs::Parts::prefix_in, crate::specs::Parts::prefix_of, cpp_tree::specs::Nodes::arguments_are))]
+    #[inline(always)]
+    pub fn in_encoding(self, place: u32, scope: Option<u32>) -> Kept
+        ensures around { (ts : List Term) → around_of ts result ≡ record { scope = arguments_are ts scope; encoding = place; in_lambda = false; in_expansion = false; prefix = outermost } }
+        ensures there { (n : ℕ) → IsArgumentsBelow n scope → IsKeptThere n result }
+    {
+        let outside = Kept {
+            encoding: place,
+            scope: Scope::Nothing,
+            naming: Naming::Outermost,
+            in_expansion: false,
+            ..self
+        };
+        match scope {
+            Some(arguments) => Kept {
+                arguments,
+                scope: Scope::Arguments,
+                ..outside
+            },
+            None => outside,
+        }
+    }
+
+    /// Behind this name.
+    #[tactic(auto, unfolding(crate::specs::Parts::around_of, crate::specs::Parts::prefix_in, crate::specs::Parts::prefix_of, cpp_term::specs::Between::after))]
+    #[inline(always)]
+    pub fn behind(self, node: u32, listed: bool) -> Kept
+        ensures around { (ts : List Term) → around_of ts result ≡ after (tree_at ts node) listed (around_of ts self) }
+        ensures there { (n : ℕ) → IsKeptThere n self → node < n → IsKeptThere n result }
+    {
+        if listed {
+            return Kept {
+                name: node,
+                naming: Naming::Listed,
+                ..self
+            };
+        }
+        Kept {
+            name: node,
+            naming: Naming::Unlisted,
+            ..self
+        }
+    }
+
+    /// In the signature of a lambda.
+    #[tactic(auto, unfolding(crate::specs::Parts::around_of, crate::specs::Parts::arguments_in, crate::specs::Parts::is_lambda, crate::specs::Parts::prefix_in, crate::specs::Parts::prefix_of, cpp_tree::specs::Nodes::arguments_are, cpp_term::specs::Between::in_signature))]
+    #[inline(always)]
+    pub fn in_signature(self) -> Kept
+        ensures around { (ts : List Term) → around_of ts result ≡ in_signature (around_of ts self) }
+        ensures there { (n : ℕ) → IsKeptThere n result }
+    {
+        Kept {
+            scope: Scope::Lambda,
+            naming: Naming::Outermost,
+            ..self
+        }
+    }
+
+    /// Under an expansion.
+    #[tactic(auto, unfolding(crate::specs::Parts::around_of, cpp_term::specs::Between::under_expansion))]
+    #[inline(always)]
+    pub fn expanded(self) -> Kept
+        ensures around { (ts : List Term) → around_of ts result ≡ under_expansion (around_of ts self) }
+        ensures there { (n : ℕ) → IsKeptThere n self → IsKeptThere n result }
+    {
+        Kept {
+            in_expansion: true,
+            ..self
+        }
+    }
+
+    /// With no name so far.
+    #[tactic(auto, unfolding(crate::specs::Parts::around_of, crate::specs::Parts::prefix_in, crate::specs::Parts::prefix_of, cpp_term::specs::Between::inside))]
+    #[inline(always)]
+    pub fn inside(self) -> Kept
+        ensures around { (ts : List Term) → around_of ts result ≡ inside (around_of ts self) }
+        ensures there { (n : ℕ) → IsKeptThere n self → IsKeptThere n result }
+    {
+        Kept {
+            naming: Naming::Outermost,
+            ..self
+        }
     }
 }
 

@@ -5,19 +5,18 @@ ghost use Rattle.sym_link.specs.Driving.{Fails};
 ghost use Rattle.cpp_term.specs.Term as term;
 ghost use Rattle.cpp_grammar.specs.declared.production.Production.TheVariants as productions;
 ghost use Rattle.cpp_term.specs.Values as values;
-ghost use Rattle.cpp_link.specs.declared.part.Prefix.TheVariants as prefixes;
 ghost use Rattle.cpp_term.specs.Values.{State, tree_of, piece_of, text_of, is_listed, prefix_tree};
 ghost use Rattle.cpp_term.specs.Between.{between, no_items};
 ghost use Rattle.cpp_term.specs.References.{with_prefix, with_type, with_unqualified};
 ghost use Rattle.cpp_tree.specs.Nodes as nodes;
 ghost use Rattle.cpp_tree.specs.Nodes.{over, tree_at, bytes_at, IsWithin, IsPieceBelow, arguments_are, IsArgumentsBelow, IsTable};
 ghost use Rattle.cpp_link.specs.declared.part.Step.{Step};
-ghost use Rattle.cpp_link.specs.Parts.{trees_in, value_in, values_in, prefix_of, around_of, IsThere, AreThere, IsPrefixThere, IsKeptThere, IsStepThere};
+ghost use Rattle.cpp_link.specs.Parts.{trees_in, value_in, values_in, prefix_of, name_of, around_of, IsThere, AreThere, IsPrefixThere, IsKeptThere, IsStepThere};
 ghost use Rattle.cpp_link.specs.Reads.{with_candidate, goes_on};
 ghost use Rattle.cpp_link.specs.Stepping.{IsStepOf};
 
 use crate::linked::Linked;
-use crate::part::{Kept, Naming, Part, Prefix, Scope, Step};
+use crate::part::{Kept, Naming, Part, Step};
 use crate::values::{is_listed, is_there, letter_of, list_of, node_of, piece_of, text_of};
 use cpp_grammar::production::Production;
 use cpp_tree::node::{Node, Piece};
@@ -25,70 +24,15 @@ use cpp_tree::nodes::ABSENT;
 use sym_core::{Refusal, Span};
 
 /// The candidate that the name so far becomes.
-#[tactic(auto, unfolding(crate::specs::Parts::around_of, crate::specs::Parts::prefix_of, crate::specs::Reads::with_candidate, cpp_term::specs::References::with_prefix, cpp_term::specs::Values::prefix_tree, cpp_term::specs::Values::prefix_listed))]
+#[tactic(auto, unfolding(crate::specs::Parts::around_of, crate::specs::Parts::prefix_in, crate::specs::Parts::prefix_of, crate::specs::Reads::with_candidate, cpp_term::specs::References::with_prefix, cpp_term::specs::Values::prefix_tree, cpp_term::specs::Values::prefix_listed))]
 fn prefix_candidate(kept: Kept) -> Option<u32>
     ensures is { (ts : List term.Term) (state : State) → with_prefix (around_of ts kept) state ≡ with_candidate (around_of ts kept) ts result state }
-    ensures there { (n : ℕ) → IsPrefixThere n kept.prefix → IsArgumentsBelow n result }
+    ensures there { (n : ℕ) → IsPrefixThere n (name_of kept) → IsArgumentsBelow n result }
 {
-    match kept.prefix() {
-        Prefix::Outermost => None,
-        Prefix::Behind { node, listed } => {
-            if listed {
-                return None;
-            }
-            Some(node)
-        }
-    }
-}
-
-/// In an encoding that begins at this place.
-#[inline(always)]
-fn in_encoding(kept: Kept, place: u32, scope: Option<u32>) -> Kept {
-    let outside = Kept {
-        arguments: 0,
-        encoding: place,
-        name: 0,
-        scope: Scope::Nothing,
-        naming: Naming::Outermost,
-        in_expansion: false,
-        ..kept
-    };
-    match scope {
-        Some(arguments) => Kept {
-            arguments,
-            scope: Scope::Arguments,
-            ..outside
-        },
-        None => outside,
-    }
-}
-
-/// Behind this name.
-#[inline(always)]
-pub fn behind(kept: Kept, node: u32, listed: bool) -> Kept {
-    Kept {
-        name: node,
-        naming: if listed { Naming::Listed } else { Naming::Unlisted },
-        ..kept
-    }
-}
-
-/// In the signature of a lambda.
-#[inline(always)]
-fn in_lambda(kept: Kept) -> Kept {
-    Kept {
-        scope: Scope::Lambda,
-        naming: Naming::Outermost,
-        ..kept
-    }
-}
-
-/// With no name so far.
-#[inline(always)]
-fn inside(kept: Kept) -> Kept {
-    Kept {
-        naming: Naming::Outermost,
-        ..kept
+    match kept.naming {
+        Naming::Outermost => None,
+        Naming::Unlisted => Some(kept.name),
+        Naming::Listed => None,
     }
 }
 
@@ -154,16 +98,17 @@ impl Linked {
     }
 
     /// The node of the name so far.
-    #[tactic(auto, unfolding(crate::specs::Parts::prefix_of, cpp_term::specs::Values::prefix_tree))]
-    fn prefix_node(&self, symbol: &[u8], prefix: Prefix) -> u32
+    #[tactic(auto, unfolding(crate::specs::Parts::prefix_in, crate::specs::Parts::prefix_of, cpp_term::specs::Values::prefix_tree))]
+    fn prefix_node(&self, symbol: &[u8], kept: Kept) -> u32
         requires table { IsTable (over symbol.now self.now.nodes) }
-        requires prefix { IsPrefixThere (length self.now.nodes.nodes) prefix }
-        ensures is { tree_at (trees_in symbol.now self.now.nodes) result ≡ prefix_tree (prefix_of (trees_in symbol.now self.now.nodes) prefix) }
+        requires kept { IsKeptThere (length self.now.nodes.nodes) kept }
+        ensures is { tree_at (trees_in symbol.now self.now.nodes) result ≡ prefix_tree (prefix_of (trees_in symbol.now self.now.nodes) (name_of kept)) }
         ensures there { result < length self.now.nodes.nodes }
     {
-        match prefix {
-            Prefix::Outermost => ABSENT,
-            Prefix::Behind { node, .. } => node,
+        match kept.naming {
+            Naming::Outermost => ABSENT,
+            Naming::Unlisted => kept.name,
+            Naming::Listed => kept.name,
         }
     }
 
@@ -177,31 +122,28 @@ impl Linked {
         ensures of { (held : ℕ) → IsStepOf production held result }
     {
         match production {
-            Production::Encoding => self.go(in_encoding(kept, place, None)),
-            Production::Special => self.go(in_encoding(kept, place, None)),
-            Production::Guard => self.go(in_encoding(kept, place, None)),
-            Production::Lambda => self.go(in_lambda(kept)),
+            Production::Encoding => self.go(kept.in_encoding(place, None)),
+            Production::Special => self.go(kept.in_encoding(place, None)),
+            Production::Guard => self.go(kept.in_encoding(place, None)),
+            Production::Lambda => self.go(kept.in_signature()),
             Production::Expansion => Step::Go {
                 candidate: None,
-                then: Kept {
-                    in_expansion: true,
-                    ..kept
-                },
+                then: kept.expanded(),
                 packs: None,
             },
             Production::NestArguments => Step::Go {
                 candidate: self.prefix_candidate(symbol, kept),
-                then: inside(kept),
+                then: kept.inside(),
                 packs: self.packs,
             },
             Production::Arguments => Step::Go {
                 candidate: self.prefix_candidate(symbol, kept),
-                then: inside(kept),
+                then: kept.inside(),
                 packs: self.packs,
             },
             Production::NestNext => Step::Go {
                 candidate: self.prefix_candidate(symbol, kept),
-                then: behind(kept, self.prefix_node(symbol, kept.prefix()), true),
+                then: kept.behind(self.prefix_node(symbol, kept), true),
                 packs: self.packs,
             },
             _ => self.go(kept),
@@ -259,23 +201,20 @@ impl Linked {
         ensures of { IsStepOf production 1 result }
     {
         match production {
-            Production::Special => self.go(in_encoding(kept, place, None)),
-            Production::Guard => self.go(in_encoding(kept, place, None)),
-            Production::Lambda => self.go(in_lambda(kept)),
+            Production::Special => self.go(kept.in_encoding(place, None)),
+            Production::Guard => self.go(kept.in_encoding(place, None)),
+            Production::Lambda => self.go(kept.in_signature()),
             Production::Expansion => Step::Go {
                 candidate: None,
-                then: Kept {
-                    in_expansion: true,
-                    ..kept
-                },
+                then: kept.expanded(),
                 packs: None,
             },
             Production::Encoding => {
                 let name = self.node(symbol, first);
-                self.go(in_encoding(kept, place, self.arguments(symbol, name)))
+                self.go(kept.in_encoding(place, self.arguments(symbol, name)))
             }
-            Production::LocalName => self.go(behind(kept, self.node(symbol, first), true)),
-            Production::LocalType => self.go(behind(kept, self.node(symbol, first), true)),
+            Production::LocalName => self.go(kept.behind(self.node(symbol, first), true)),
+            Production::LocalType => self.go(kept.behind(self.node(symbol, first), true)),
             Production::InternalName => self.named(self.extended(
                 symbol,
                 kept.prefix(),
@@ -343,12 +282,8 @@ impl Linked {
                 node: self.node(symbol, first),
                 listed: true,
             },
-            Production::NestNext => self.go(behind(kept, self.node(symbol, first), false)),
-            Production::TypeWithS => self.go(behind(
-                kept,
-                self.node(symbol, first),
-                is_listed(first),
-            )),
+            Production::NestNext => self.go(kept.behind(self.node(symbol, first), false)),
+            Production::TypeWithS => self.go(kept.behind(self.node(symbol, first), is_listed(first))),
             Production::PackArgument => Step::Made {
                 node: Node::Pack(self.list_in(symbol, first)),
                 listed: true,
@@ -399,23 +334,20 @@ impl Linked {
         ensures of { IsStepOf production 2 result }
     {
         match production {
-            Production::Special => self.go(in_encoding(kept, place, None)),
-            Production::Guard => self.go(in_encoding(kept, place, None)),
-            Production::Lambda => self.go(in_lambda(kept)),
+            Production::Special => self.go(kept.in_encoding(place, None)),
+            Production::Guard => self.go(kept.in_encoding(place, None)),
+            Production::Lambda => self.go(kept.in_signature()),
             Production::Expansion => Step::Go {
                 candidate: None,
-                then: Kept {
-                    in_expansion: true,
-                    ..kept
-                },
+                then: kept.expanded(),
                 packs: None,
             },
             Production::Encoding => {
                 let name = self.node(symbol, first);
-                self.go(in_encoding(kept, place, self.arguments(symbol, name)))
+                self.go(kept.in_encoding(place, self.arguments(symbol, name)))
             }
-            Production::LocalName => self.go(behind(kept, self.node(symbol, first), true)),
-            Production::LocalType => self.go(behind(kept, self.node(symbol, first), true)),
+            Production::LocalName => self.go(kept.behind(self.node(symbol, first), true)),
+            Production::LocalType => self.go(kept.behind(self.node(symbol, first), true)),
             Production::NestStd => {
                 let name = self.node(symbol, first);
                 if is_there(second) {
@@ -431,7 +363,7 @@ impl Linked {
                 }
             }
             Production::NestArguments => {
-                let template = self.prefix_node(symbol, kept.prefix());
+                let template = self.prefix_node(symbol, kept);
                 let arguments = self.list_in(symbol, first);
                 Step::Made {
                     node: Node::Instance {
@@ -470,24 +402,21 @@ impl Linked {
         ensures of { (held : ℕ) → IsStepOf production held result }
     {
         match production {
-            Production::Special => self.go(in_encoding(kept, place, None)),
-            Production::Guard => self.go(in_encoding(kept, place, None)),
-            Production::Lambda => self.go(in_lambda(kept)),
+            Production::Special => self.go(kept.in_encoding(place, None)),
+            Production::Guard => self.go(kept.in_encoding(place, None)),
+            Production::Lambda => self.go(kept.in_signature()),
             Production::Expansion => Step::Go {
                 candidate: None,
-                then: Kept {
-                    in_expansion: true,
-                    ..kept
-                },
+                then: kept.expanded(),
                 packs: None,
             },
             Production::Encoding => {
                 let name = self.node(symbol, first);
-                self.go(in_encoding(kept, place, self.arguments(symbol, name)))
+                self.go(kept.in_encoding(place, self.arguments(symbol, name)))
             }
-            Production::LocalName => self.go(behind(kept, self.node(symbol, first), true)),
-            Production::LocalType => self.go(behind(kept, self.node(symbol, first), true)),
-            Production::NestArguments => self.go(behind(kept, self.node(symbol, third), false)),
+            Production::LocalName => self.go(kept.behind(self.node(symbol, first), true)),
+            Production::LocalType => self.go(kept.behind(self.node(symbol, first), true)),
+            Production::NestArguments => self.go(kept.behind(self.node(symbol, third), false)),
             _ => self.go(kept),
         }
     }
@@ -510,23 +439,20 @@ impl Linked {
         ensures of { (held : ℕ) → IsStepOf production held result }
     {
         match production {
-            Production::Special => self.go(in_encoding(kept, place, None)),
-            Production::Guard => self.go(in_encoding(kept, place, None)),
-            Production::Lambda => self.go(in_lambda(kept)),
+            Production::Special => self.go(kept.in_encoding(place, None)),
+            Production::Guard => self.go(kept.in_encoding(place, None)),
+            Production::Lambda => self.go(kept.in_signature()),
             Production::Expansion => Step::Go {
                 candidate: None,
-                then: Kept {
-                    in_expansion: true,
-                    ..kept
-                },
+                then: kept.expanded(),
                 packs: None,
             },
             Production::Encoding => {
                 let name = self.node(symbol, first);
-                self.go(in_encoding(kept, place, self.arguments(symbol, name)))
+                self.go(kept.in_encoding(place, self.arguments(symbol, name)))
             }
-            Production::LocalName => self.go(behind(kept, self.node(symbol, first), true)),
-            Production::LocalType => self.go(behind(kept, self.node(symbol, first), true)),
+            Production::LocalName => self.go(kept.behind(self.node(symbol, first), true)),
+            Production::LocalType => self.go(kept.behind(self.node(symbol, first), true)),
             _ => self.go(kept),
         }
     }
