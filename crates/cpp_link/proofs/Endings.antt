@@ -25,6 +25,7 @@ use Rattle.cpp_term.specs.Unfolding.{number_tested, opening}
 use Rattle.cpp_term.specs.Values.{State, Around}
 use Rattle.cpp_link.specs.declared.part.Kept.{Kept}
 use Rattle.cpp_link.specs.declared.linked.Linked.{Linked}
+use Rattle.cpp_term.specs.Term.{Term}
 use Rattle.cpp_link.specs.Parts.{packs_of, around_of, IsKeptThere}
 use Rattle.cpp_link.specs.Numbered.{is_numbered}
 use Rattle.cpp_link.specs.View.{Surrounds, IsKept, Holds}

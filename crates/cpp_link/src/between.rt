@@ -39,18 +39,6 @@ fn candidate_if(is_candidate: bool, node: u32) -> Option<u32>
     if is_candidate { Some(node) } else { None }
 }
 
-/// What surrounds the part behind a tree that has been made.
-#[tactic(auto, unfolding(crate::specs::Reads::named_if))]
-fn behind_if(is_name: bool, kept: Kept, node: u32, listed: bool) -> Kept
-    ensures around { (ts : List Term) → around_of ts result ≡ named_if is_name (around_of ts kept) (tree_at ts node) listed }
-    ensures there { (n : ℕ) → IsKeptThere n kept → node < n → IsKeptThere n result }
-{
-    if is_name {
-        return kept.behind(node, listed);
-    }
-    kept
-}
-
 /// Whether nothing is done before the next part of a production, behind so many parts.
 #[tactic(auto, unfolding(crate::specs::Stepping::is_quiet))]
 fn is_quiet(production: Production, held: usize) -> bool
@@ -150,6 +138,21 @@ impl Linked {
         Ok(number)
     }
 
+    /// What surrounds the part behind a tree that has been made.
+    #[tactic(auto, unfolding(crate::specs::Reads::named_if))]
+    #[inline(always)]
+    fn behind_if(&self, is_name: bool, kept: Kept, node: u32, listed: bool) -> Kept
+        requires kept { IsKeptThere (length self.now.nodes.nodes) kept }
+        requires node { node < length self.now.nodes.nodes }
+        ensures around { (ts : List Term) → around_of ts result ≡ named_if is_name (around_of ts kept) (tree_at ts node) listed }
+        ensures there { IsKeptThere (length self.now.nodes.nodes) result }
+    {
+        if is_name {
+            return self.behind_name(kept, node, listed);
+        }
+        kept
+    }
+
     /// Takes a step before the next part of a rule, whose parts begin at the base. It answers what surrounds that part.
     ///
     /// # Errors
@@ -183,7 +186,7 @@ impl Linked {
             }
             Step::Named { node, listed } => {
                 put_first(parts, base, Part::Tree { node, listed });
-                Ok(kept.behind(node, listed))
+                Ok(self.behind_name(kept, node, listed))
             }
             Step::Made {
                 node,
@@ -194,7 +197,7 @@ impl Linked {
             } => {
                 let node = self.add_noted(symbol, kept, node, is_candidate, packs)?;
                 put_first(parts, base, Part::Tree { node, listed });
-                Ok(behind_if(is_name, kept, node, listed))
+                Ok(self.behind_if(is_name, kept, node, listed))
             }
         }
     }

@@ -1,10 +1,7 @@
 // What the parts of a symbol stand for, in terms of nodes, and what is kept of what surrounds them.
 
-ghost use Rattle.std.specs.Prelude.{◌≡◌, ℕ, ◌<◌, List, false};
+ghost use Rattle.std.specs.Prelude.{◌≡◌, ℕ, List};
 ghost use Rattle.cpp_term.specs.Term.{Term};
-ghost use Rattle.cpp_term.specs.Values.{outermost};
-ghost use Rattle.cpp_term.specs.Between.{in_signature, under_expansion, after, inside};
-ghost use Rattle.cpp_tree.specs.Nodes.{tree_at, arguments_are, IsArgumentsBelow};
 ghost use Rattle.cpp_link.specs.Parts.{scope_of, is_lambda, name_of, packs_of, around_of, IsKeptThere};
 
 use cpp_tree::node::{Adjustment, Mark, Node, Piece, Qualifiers, Signed, Thunk};
@@ -158,7 +155,11 @@ impl Kept {
     pub fn packs(self) -> Option<u32>
         ensures { result ≡ packs_of self }
     {
-        if self.has_packs { Some(self.pack_length) } else { None }
+        if self.has_packs {
+            Some(self.pack_length)
+        } else {
+            None
+        }
     }
 
     /// The same, where a rule begins when the packs have this length.
@@ -179,91 +180,6 @@ impl Kept {
                 has_packs: false,
                 ..self
             },
-        }
-    }
-
-    /// In an encoding that begins at this place, where parameters name these arguments.
-    #[tactic(auto, unfolding(crate::specs::Parts::around_of, crate::specs::Parts::arguments_in, crate::specs::Parts::is_lambda, crate::specs::Parts::prefix_in, crate::specs::Parts::prefix_of, cpp_tree::specs::Nodes::arguments_are))]
-    #[inline(always)]
-    pub fn in_encoding(self, place: u32, scope: Option<u32>) -> Kept
-        ensures around { (ts : List Term) → around_of ts result ≡ record { scope = arguments_are ts scope; encoding = place; in_lambda = false; in_expansion = false; prefix = outermost } }
-        ensures there { (n : ℕ) → IsArgumentsBelow n scope → IsKeptThere n result }
-    {
-        let outside = Kept {
-            encoding: place,
-            scope: Scope::Nothing,
-            naming: Naming::Outermost,
-            in_expansion: false,
-            ..self
-        };
-        match scope {
-            Some(arguments) => Kept {
-                arguments,
-                scope: Scope::Arguments,
-                ..outside
-            },
-            None => outside,
-        }
-    }
-
-    /// Behind this name.
-    #[tactic(auto, unfolding(crate::specs::Parts::around_of, crate::specs::Parts::prefix_in, crate::specs::Parts::prefix_of, cpp_term::specs::Between::after))]
-    #[inline(always)]
-    pub fn behind(self, node: u32, listed: bool) -> Kept
-        ensures around { (ts : List Term) → around_of ts result ≡ after (tree_at ts node) listed (around_of ts self) }
-        ensures there { (n : ℕ) → IsKeptThere n self → node < n → IsKeptThere n result }
-    {
-        if listed {
-            return Kept {
-                name: node,
-                naming: Naming::Listed,
-                ..self
-            };
-        }
-        Kept {
-            name: node,
-            naming: Naming::Unlisted,
-            ..self
-        }
-    }
-
-    /// In the signature of a lambda.
-    #[tactic(auto, unfolding(crate::specs::Parts::around_of, crate::specs::Parts::arguments_in, crate::specs::Parts::is_lambda, crate::specs::Parts::prefix_in, crate::specs::Parts::prefix_of, cpp_tree::specs::Nodes::arguments_are, cpp_term::specs::Between::in_signature))]
-    #[inline(always)]
-    pub fn in_signature(self) -> Kept
-        ensures around { (ts : List Term) → around_of ts result ≡ in_signature (around_of ts self) }
-        ensures there { (n : ℕ) → IsKeptThere n result }
-    {
-        Kept {
-            scope: Scope::Lambda,
-            naming: Naming::Outermost,
-            ..self
-        }
-    }
-
-    /// Under an expansion.
-    #[tactic(auto, unfolding(crate::specs::Parts::around_of, cpp_term::specs::Between::under_expansion))]
-    #[inline(always)]
-    pub fn expanded(self) -> Kept
-        ensures around { (ts : List Term) → around_of ts result ≡ under_expansion (around_of ts self) }
-        ensures there { (n : ℕ) → IsKeptThere n self → IsKeptThere n result }
-    {
-        Kept {
-            in_expansion: true,
-            ..self
-        }
-    }
-
-    /// With no name so far.
-    #[tactic(auto, unfolding(crate::specs::Parts::around_of, crate::specs::Parts::prefix_in, crate::specs::Parts::prefix_of, cpp_term::specs::Between::inside))]
-    #[inline(always)]
-    pub fn inside(self) -> Kept
-        ensures around { (ts : List Term) → around_of ts result ≡ inside (around_of ts self) }
-        ensures there { (n : ℕ) → IsKeptThere n self → IsKeptThere n result }
-    {
-        Kept {
-            naming: Naming::Outermost,
-            ..self
         }
     }
 }

@@ -6,7 +6,7 @@ ghost use Rattle.cpp_term.specs.Term as term;
 ghost use Rattle.cpp_grammar.specs.declared.production.Production.TheVariants as productions;
 ghost use Rattle.cpp_term.specs.Values as values;
 ghost use Rattle.cpp_term.specs.Values.{State, tree_of, piece_of, text_of, is_listed, prefix_tree};
-ghost use Rattle.cpp_term.specs.Between.{between, no_items};
+ghost use Rattle.cpp_term.specs.Between.{between, no_items, in_signature, under_expansion, after, inside};
 ghost use Rattle.cpp_term.specs.References.{with_prefix, with_type, with_unqualified};
 ghost use Rattle.cpp_tree.specs.Nodes as nodes;
 ghost use Rattle.cpp_tree.specs.Nodes.{over, tree_at, bytes_at, IsWithin, IsPieceBelow, arguments_are, IsArgumentsBelow, IsTable};
@@ -16,7 +16,7 @@ ghost use Rattle.cpp_link.specs.Reads.{with_candidate, goes_on};
 ghost use Rattle.cpp_link.specs.Stepping.{IsStepOf};
 
 use crate::linked::Linked;
-use crate::part::{Kept, Naming, Part, Step};
+use crate::part::{Kept, Naming, Part, Scope, Step};
 use crate::values::{is_listed, is_there, letter_of, list_of, node_of, piece_of, text_of};
 use cpp_grammar::production::Production;
 use cpp_tree::node::{Node, Piece};
@@ -37,6 +37,96 @@ fn prefix_candidate(kept: Kept) -> Option<u32>
 }
 
 impl Linked {
+    /// In an encoding that begins at this place, where parameters name these arguments.
+    #[tactic(auto, unfolding(crate::specs::Parts::around_of, crate::specs::Parts::arguments_in, crate::specs::Parts::is_lambda, crate::specs::Parts::prefix_in, crate::specs::Parts::prefix_of, cpp_tree::specs::Nodes::arguments_are))]
+    #[inline(always)]
+    fn in_encoding(&self, kept: Kept, place: u32, scope: Option<u32>) -> Kept
+        requires scope { IsArgumentsBelow (length self.now.nodes.nodes) scope }
+        ensures around { (ts : List term.Term) → around_of ts result ≡ record { scope = arguments_are ts scope; encoding = place; in_lambda = false; in_expansion = false; prefix = values.outermost } }
+        ensures there { IsKeptThere (length self.now.nodes.nodes) result }
+    {
+        let outside = Kept {
+            encoding: place,
+            scope: Scope::Nothing,
+            naming: Naming::Outermost,
+            in_expansion: false,
+            ..kept
+        };
+        match scope {
+            Some(arguments) => Kept {
+                arguments,
+                scope: Scope::Arguments,
+                ..outside
+            },
+            None => outside,
+        }
+    }
+
+    /// Behind this name.
+    #[tactic(auto, unfolding(crate::specs::Parts::around_of, crate::specs::Parts::prefix_in, crate::specs::Parts::prefix_of, cpp_term::specs::Between::after))]
+    #[inline(always)]
+    pub fn behind_name(&self, kept: Kept, node: u32, listed: bool) -> Kept
+        requires kept { IsKeptThere (length self.now.nodes.nodes) kept }
+        requires node { node < length self.now.nodes.nodes }
+        ensures around { (ts : List term.Term) → around_of ts result ≡ after (tree_at ts node) listed (around_of ts kept) }
+        ensures there { IsKeptThere (length self.now.nodes.nodes) result }
+    {
+        if listed {
+            return Kept {
+                name: node,
+                naming: Naming::Listed,
+                ..kept
+            };
+        }
+        Kept {
+            name: node,
+            naming: Naming::Unlisted,
+            ..kept
+        }
+    }
+
+    /// In the signature of a lambda.
+    #[tactic(auto, unfolding(crate::specs::Parts::around_of, crate::specs::Parts::arguments_in, crate::specs::Parts::is_lambda, crate::specs::Parts::prefix_in, crate::specs::Parts::prefix_of, cpp_tree::specs::Nodes::arguments_are, cpp_term::specs::Between::in_signature))]
+    #[inline(always)]
+    fn in_signature(&self, kept: Kept) -> Kept
+        ensures around { (ts : List term.Term) → around_of ts result ≡ in_signature (around_of ts kept) }
+        ensures there { IsKeptThere (length self.now.nodes.nodes) result }
+    {
+        Kept {
+            scope: Scope::Lambda,
+            naming: Naming::Outermost,
+            ..kept
+        }
+    }
+
+    /// Under an expansion.
+    #[tactic(auto, unfolding(crate::specs::Parts::around_of, cpp_term::specs::Between::under_expansion))]
+    #[inline(always)]
+    fn under_expansion(&self, kept: Kept) -> Kept
+        requires kept { IsKeptThere (length self.now.nodes.nodes) kept }
+        ensures around { (ts : List term.Term) → around_of ts result ≡ under_expansion (around_of ts kept) }
+        ensures there { IsKeptThere (length self.now.nodes.nodes) result }
+    {
+        Kept {
+            in_expansion: true,
+            ..kept
+        }
+    }
+
+    /// With no name so far.
+    #[tactic(auto, unfolding(crate::specs::Parts::around_of, crate::specs::Parts::prefix_in, crate::specs::Parts::prefix_of, cpp_term::specs::Between::inside))]
+    #[inline(always)]
+    fn inside(&self, kept: Kept) -> Kept
+        requires kept { IsKeptThere (length self.now.nodes.nodes) kept }
+        ensures around { (ts : List term.Term) → around_of ts result ≡ inside (around_of ts kept) }
+        ensures there { IsKeptThere (length self.now.nodes.nodes) result }
+    {
+        Kept {
+            naming: Naming::Outermost,
+            ..kept
+        }
+    }
+
     /// Nothing is done, and this surrounds the next part.
     #[inline(always)]
     fn go(&self, then: Kept) -> Step
@@ -122,28 +212,28 @@ impl Linked {
         ensures of { (held : ℕ) → IsStepOf production held result }
     {
         match production {
-            Production::Encoding => self.go(kept.in_encoding(place, None)),
-            Production::Special => self.go(kept.in_encoding(place, None)),
-            Production::Guard => self.go(kept.in_encoding(place, None)),
-            Production::Lambda => self.go(kept.in_signature()),
+            Production::Encoding => self.go(self.in_encoding(kept, place, None)),
+            Production::Special => self.go(self.in_encoding(kept, place, None)),
+            Production::Guard => self.go(self.in_encoding(kept, place, None)),
+            Production::Lambda => self.go(self.in_signature(kept)),
             Production::Expansion => Step::Go {
                 candidate: None,
-                then: kept.expanded(),
+                then: self.under_expansion(kept),
                 packs: None,
             },
             Production::NestArguments => Step::Go {
                 candidate: self.prefix_candidate(symbol, kept),
-                then: kept.inside(),
+                then: self.inside(kept),
                 packs: self.packs,
             },
             Production::Arguments => Step::Go {
                 candidate: self.prefix_candidate(symbol, kept),
-                then: kept.inside(),
+                then: self.inside(kept),
                 packs: self.packs,
             },
             Production::NestNext => Step::Go {
                 candidate: self.prefix_candidate(symbol, kept),
-                then: kept.behind(self.prefix_node(symbol, kept), true),
+                then: self.behind_name(kept, self.prefix_node(symbol, kept), true),
                 packs: self.packs,
             },
             _ => self.go(kept),
@@ -201,20 +291,28 @@ impl Linked {
         ensures of { IsStepOf production 1 result }
     {
         match production {
-            Production::Special => self.go(kept.in_encoding(place, None)),
-            Production::Guard => self.go(kept.in_encoding(place, None)),
-            Production::Lambda => self.go(kept.in_signature()),
+            Production::Special => self.go(self.in_encoding(kept, place, None)),
+            Production::Guard => self.go(self.in_encoding(kept, place, None)),
+            Production::Lambda => self.go(self.in_signature(kept)),
             Production::Expansion => Step::Go {
                 candidate: None,
-                then: kept.expanded(),
+                then: self.under_expansion(kept),
                 packs: None,
             },
             Production::Encoding => {
                 let name = self.node(symbol, first);
-                self.go(kept.in_encoding(place, self.arguments(symbol, name)))
+                self.go(self.in_encoding(kept, place, self.arguments(symbol, name)))
             }
-            Production::LocalName => self.go(kept.behind(self.node(symbol, first), true)),
-            Production::LocalType => self.go(kept.behind(self.node(symbol, first), true)),
+            Production::LocalName => self.go(self.behind_name(
+                kept,
+                self.node(symbol, first),
+                true,
+            )),
+            Production::LocalType => self.go(self.behind_name(
+                kept,
+                self.node(symbol, first),
+                true,
+            )),
             Production::InternalName => self.named(self.extended(
                 symbol,
                 kept.prefix(),
@@ -282,8 +380,16 @@ impl Linked {
                 node: self.node(symbol, first),
                 listed: true,
             },
-            Production::NestNext => self.go(kept.behind(self.node(symbol, first), false)),
-            Production::TypeWithS => self.go(kept.behind(self.node(symbol, first), is_listed(first))),
+            Production::NestNext => self.go(self.behind_name(
+                kept,
+                self.node(symbol, first),
+                false,
+            )),
+            Production::TypeWithS => self.go(self.behind_name(
+                kept,
+                self.node(symbol, first),
+                is_listed(first),
+            )),
             Production::PackArgument => Step::Made {
                 node: Node::Pack(self.list_in(symbol, first)),
                 listed: true,
@@ -334,20 +440,28 @@ impl Linked {
         ensures of { IsStepOf production 2 result }
     {
         match production {
-            Production::Special => self.go(kept.in_encoding(place, None)),
-            Production::Guard => self.go(kept.in_encoding(place, None)),
-            Production::Lambda => self.go(kept.in_signature()),
+            Production::Special => self.go(self.in_encoding(kept, place, None)),
+            Production::Guard => self.go(self.in_encoding(kept, place, None)),
+            Production::Lambda => self.go(self.in_signature(kept)),
             Production::Expansion => Step::Go {
                 candidate: None,
-                then: kept.expanded(),
+                then: self.under_expansion(kept),
                 packs: None,
             },
             Production::Encoding => {
                 let name = self.node(symbol, first);
-                self.go(kept.in_encoding(place, self.arguments(symbol, name)))
+                self.go(self.in_encoding(kept, place, self.arguments(symbol, name)))
             }
-            Production::LocalName => self.go(kept.behind(self.node(symbol, first), true)),
-            Production::LocalType => self.go(kept.behind(self.node(symbol, first), true)),
+            Production::LocalName => self.go(self.behind_name(
+                kept,
+                self.node(symbol, first),
+                true,
+            )),
+            Production::LocalType => self.go(self.behind_name(
+                kept,
+                self.node(symbol, first),
+                true,
+            )),
             Production::NestStd => {
                 let name = self.node(symbol, first);
                 if is_there(second) {
@@ -402,21 +516,33 @@ impl Linked {
         ensures of { (held : ℕ) → IsStepOf production held result }
     {
         match production {
-            Production::Special => self.go(kept.in_encoding(place, None)),
-            Production::Guard => self.go(kept.in_encoding(place, None)),
-            Production::Lambda => self.go(kept.in_signature()),
+            Production::Special => self.go(self.in_encoding(kept, place, None)),
+            Production::Guard => self.go(self.in_encoding(kept, place, None)),
+            Production::Lambda => self.go(self.in_signature(kept)),
             Production::Expansion => Step::Go {
                 candidate: None,
-                then: kept.expanded(),
+                then: self.under_expansion(kept),
                 packs: None,
             },
             Production::Encoding => {
                 let name = self.node(symbol, first);
-                self.go(kept.in_encoding(place, self.arguments(symbol, name)))
+                self.go(self.in_encoding(kept, place, self.arguments(symbol, name)))
             }
-            Production::LocalName => self.go(kept.behind(self.node(symbol, first), true)),
-            Production::LocalType => self.go(kept.behind(self.node(symbol, first), true)),
-            Production::NestArguments => self.go(kept.behind(self.node(symbol, third), false)),
+            Production::LocalName => self.go(self.behind_name(
+                kept,
+                self.node(symbol, first),
+                true,
+            )),
+            Production::LocalType => self.go(self.behind_name(
+                kept,
+                self.node(symbol, first),
+                true,
+            )),
+            Production::NestArguments => self.go(self.behind_name(
+                kept,
+                self.node(symbol, third),
+                false,
+            )),
             _ => self.go(kept),
         }
     }
@@ -439,20 +565,28 @@ impl Linked {
         ensures of { (held : ℕ) → IsStepOf production held result }
     {
         match production {
-            Production::Special => self.go(kept.in_encoding(place, None)),
-            Production::Guard => self.go(kept.in_encoding(place, None)),
-            Production::Lambda => self.go(kept.in_signature()),
+            Production::Special => self.go(self.in_encoding(kept, place, None)),
+            Production::Guard => self.go(self.in_encoding(kept, place, None)),
+            Production::Lambda => self.go(self.in_signature(kept)),
             Production::Expansion => Step::Go {
                 candidate: None,
-                then: kept.expanded(),
+                then: self.under_expansion(kept),
                 packs: None,
             },
             Production::Encoding => {
                 let name = self.node(symbol, first);
-                self.go(kept.in_encoding(place, self.arguments(symbol, name)))
+                self.go(self.in_encoding(kept, place, self.arguments(symbol, name)))
             }
-            Production::LocalName => self.go(kept.behind(self.node(symbol, first), true)),
-            Production::LocalType => self.go(kept.behind(self.node(symbol, first), true)),
+            Production::LocalName => self.go(self.behind_name(
+                kept,
+                self.node(symbol, first),
+                true,
+            )),
+            Production::LocalType => self.go(self.behind_name(
+                kept,
+                self.node(symbol, first),
+                true,
+            )),
             _ => self.go(kept),
         }
     }
