@@ -1,7 +1,5 @@
 -- The next part of a rule is gone on to as the reading says.
-use Rattle.std.proofs.Common.{◌≡◌, refl, sym, ◌∙◌, ap, arith, ℕ, suc, ◌+◌, ◌-◌, ◌≤◌, List, [], ◌∷◌, ◌++◌, length, drop, true, false, Option, Ok, Err}
-use Rattle.std.specs.Prelude.{nat_eq}
-use Rattle.std.proofs.lemmas.Bool.{eqb-true}
+use Rattle.std.proofs.Common.{◌≡◌, refl, sym, ◌∙◌, ap, arith, ℕ, suc, ◌+◌, ◌-◌, ◌<◌, ◌≤◌, List, [], ◌∷◌, ◌++◌, length, drop, Option, Ok, Err}
 use Rattle.std.proofs.lemmas.List.{length-drop, take-append-drop}
 use Rattle.sym_core.specs.declared.refusal.Refusal.{Refusal}
 use Rattle.sym_link.specs.declared.language.Frame.{Frame}
@@ -23,7 +21,7 @@ use Rattle.cpp_link.specs.Making.{state_of}
 use Rattle.cpp_link.specs.Owed.{owes}
 use Rattle.cpp_link.specs.Parts.{trees_in, values_in, around_of}
 use Rattle.cpp_link.specs.Reads.{goes_on}
-use Rattle.cpp_link.specs.Stepping.{IsStepOf, Takes, nodes_of_step, is_quiet}
+use Rattle.cpp_link.specs.Stepping.{IsStepOf, Takes, nodes_of_step, quiet_parts}
 use Rattle.cpp_link.specs.View.{IsPaid, Surrounds, cpp_view}
 use Rattle.cpp_link.proofs.Stepping.{step_owed, quiet_owed}
 use Rattle.cpp_link.proofs.Places.{values_length}
@@ -97,83 +95,83 @@ adds_right s old new frame parts new_parts own production step then same numbere
 
 -- ## Where nothing is done
 
-never : {A : Type 0} (xs : List A) → nat_eq (suc (length xs)) 0 ≡ true → ⊥
-never xs none = absurd (omega (arith, eqb-true (suc (length xs)) 0 none))
+never : {A : Type 0} (xs : List A) → length xs < 0 → ⊥
+never xs less = absurd (omega (arith, less))
 
-quiet_between : (p : Production) (around : Around) (place : ℕ) (vs : List Value) (state : State) → is_quiet p (length vs) ≡ true
+not_first : {A : Type 0} (xs : List A) → suc (length xs) < 1 → ⊥
+not_first xs less = absurd (omega (arith, less))
+
+quiet_between : (p : Production) (around : Around) (place : ℕ) (vs : List Value) (state : State) → length vs < quiet_parts p
     → between p around place vs state ≡ Ok (record { values = vs; context = around; state = state })
-unfolding between is_quiet
-quiet_between Production.Encoding around place vs state quiet = absurd (let e : false ≡ true = quiet in cc)
-quiet_between Production.Special around place vs state quiet = absurd (let e : false ≡ true = quiet in cc)
-quiet_between Production.Guard around place vs state quiet = absurd (let e : false ≡ true = quiet in cc)
-quiet_between Production.NestArguments around place vs state quiet = absurd (let e : false ≡ true = quiet in cc)
-quiet_between Production.NestNext around place vs state quiet = absurd (let e : false ≡ true = quiet in cc)
-quiet_between Production.Arguments around place vs state quiet = absurd (let e : false ≡ true = quiet in cc)
-quiet_between Production.Lambda around place vs state quiet = absurd (let e : false ≡ true = quiet in cc)
-quiet_between Production.Expansion around place vs state quiet = absurd (let e : false ≡ true = quiet in cc)
-quiet_between Production.LocalName around place [] state quiet = refl
-quiet_between Production.LocalName around place (v ∷ vs) state quiet = absurd (never vs quiet)
-quiet_between Production.LocalType around place [] state quiet = refl
-quiet_between Production.LocalType around place (v ∷ vs) state quiet = absurd (never vs quiet)
-quiet_between Production.InternalName around place [] state quiet = refl
-quiet_between Production.InternalName around place (v ∷ vs) state quiet = absurd (never vs quiet)
-quiet_between Production.SourceName around place [] state quiet = refl
-quiet_between Production.SourceName around place (v ∷ vs) state quiet = absurd (never vs quiet)
-quiet_between Production.LocalTypeName around place [] state quiet = refl
-quiet_between Production.LocalTypeName around place (v ∷ vs) state quiet = absurd (never vs quiet)
-quiet_between Production.OperatorName around place [] state quiet = refl
-quiet_between Production.OperatorName around place (v ∷ vs) state quiet = absurd (never vs quiet)
-quiet_between Production.Constructor around place [] state quiet = refl
-quiet_between Production.Constructor around place (v ∷ vs) state quiet = absurd (never vs quiet)
-quiet_between Production.Destructor around place [] state quiet = refl
-quiet_between Production.Destructor around place (v ∷ vs) state quiet = absurd (never vs quiet)
-quiet_between Production.StdName around place [] state quiet = refl
-quiet_between Production.StdName around place (v ∷ vs) state quiet = absurd (never vs quiet)
-quiet_between Production.AbbreviatedName around place [] state quiet = refl
-quiet_between Production.AbbreviatedName around place (v ∷ vs) state quiet = absurd (never vs quiet)
-quiet_between Production.NestStd around place [] state quiet = refl
-quiet_between Production.NestStd around place (v ∷ vs) state quiet = absurd (never vs quiet)
-quiet_between Production.NestAbbreviated around place [] state quiet = refl
-quiet_between Production.NestAbbreviated around place (v ∷ vs) state quiet = absurd (never vs quiet)
-quiet_between Production.NestParameter around place [] state quiet = refl
-quiet_between Production.NestParameter around place (v ∷ vs) state quiet = absurd (never vs quiet)
-quiet_between Production.NestInternal around place [] state quiet = refl
-quiet_between Production.NestInternal around place (v ∷ vs) state quiet = absurd (never vs quiet)
-quiet_between Production.NestSource around place [] state quiet = refl
-quiet_between Production.NestSource around place (v ∷ vs) state quiet = absurd (never vs quiet)
-quiet_between Production.NestLocalType around place [] state quiet = refl
-quiet_between Production.NestLocalType around place (v ∷ vs) state quiet = absurd (never vs quiet)
-quiet_between Production.PackArgument around place [] state quiet = refl
-quiet_between Production.PackArgument around place (v ∷ vs) state quiet = absurd (never vs quiet)
-quiet_between Production.Parameter around place [] state quiet = refl
-quiet_between Production.Parameter around place (v ∷ vs) state quiet = absurd (never vs quiet)
-quiet_between Production.TypeWithS around place [] state quiet = refl
-quiet_between Production.TypeWithS around place (v ∷ vs) state quiet = absurd (never vs quiet)
-quiet_between Production.LvalueItem around place [] state quiet = refl
-quiet_between Production.LvalueItem around place (v ∷ vs) state quiet = absurd (never vs quiet)
-quiet_between Production.RvalueItem around place [] state quiet = refl
-quiet_between Production.RvalueItem around place (v ∷ vs) state quiet = absurd (never vs quiet)
-quiet_between Production.IntegerLiteral around place [] state quiet = refl
-quiet_between Production.IntegerLiteral around place (v ∷ vs) state quiet = absurd (never vs quiet)
-quiet_between _ around place vs state quiet = refl
+unfolding between quiet_parts
+quiet_between Production.Encoding around place vs state less = absurd (never vs less)
+quiet_between Production.Special around place vs state less = absurd (never vs less)
+quiet_between Production.Guard around place vs state less = absurd (never vs less)
+quiet_between Production.NestArguments around place vs state less = absurd (never vs less)
+quiet_between Production.NestNext around place vs state less = absurd (never vs less)
+quiet_between Production.Arguments around place vs state less = absurd (never vs less)
+quiet_between Production.Lambda around place vs state less = absurd (never vs less)
+quiet_between Production.Expansion around place vs state less = absurd (never vs less)
+quiet_between Production.LocalName around place [] state less = refl
+quiet_between Production.LocalName around place (v ∷ vs) state less = absurd (not_first vs less)
+quiet_between Production.LocalType around place [] state less = refl
+quiet_between Production.LocalType around place (v ∷ vs) state less = absurd (not_first vs less)
+quiet_between Production.InternalName around place [] state less = refl
+quiet_between Production.InternalName around place (v ∷ vs) state less = absurd (not_first vs less)
+quiet_between Production.SourceName around place [] state less = refl
+quiet_between Production.SourceName around place (v ∷ vs) state less = absurd (not_first vs less)
+quiet_between Production.LocalTypeName around place [] state less = refl
+quiet_between Production.LocalTypeName around place (v ∷ vs) state less = absurd (not_first vs less)
+quiet_between Production.OperatorName around place [] state less = refl
+quiet_between Production.OperatorName around place (v ∷ vs) state less = absurd (not_first vs less)
+quiet_between Production.Constructor around place [] state less = refl
+quiet_between Production.Constructor around place (v ∷ vs) state less = absurd (not_first vs less)
+quiet_between Production.Destructor around place [] state less = refl
+quiet_between Production.Destructor around place (v ∷ vs) state less = absurd (not_first vs less)
+quiet_between Production.StdName around place [] state less = refl
+quiet_between Production.StdName around place (v ∷ vs) state less = absurd (not_first vs less)
+quiet_between Production.AbbreviatedName around place [] state less = refl
+quiet_between Production.AbbreviatedName around place (v ∷ vs) state less = absurd (not_first vs less)
+quiet_between Production.NestStd around place [] state less = refl
+quiet_between Production.NestStd around place (v ∷ vs) state less = absurd (not_first vs less)
+quiet_between Production.NestAbbreviated around place [] state less = refl
+quiet_between Production.NestAbbreviated around place (v ∷ vs) state less = absurd (not_first vs less)
+quiet_between Production.NestParameter around place [] state less = refl
+quiet_between Production.NestParameter around place (v ∷ vs) state less = absurd (not_first vs less)
+quiet_between Production.NestInternal around place [] state less = refl
+quiet_between Production.NestInternal around place (v ∷ vs) state less = absurd (not_first vs less)
+quiet_between Production.NestSource around place [] state less = refl
+quiet_between Production.NestSource around place (v ∷ vs) state less = absurd (not_first vs less)
+quiet_between Production.NestLocalType around place [] state less = refl
+quiet_between Production.NestLocalType around place (v ∷ vs) state less = absurd (not_first vs less)
+quiet_between Production.PackArgument around place [] state less = refl
+quiet_between Production.PackArgument around place (v ∷ vs) state less = absurd (not_first vs less)
+quiet_between Production.Parameter around place [] state less = refl
+quiet_between Production.Parameter around place (v ∷ vs) state less = absurd (not_first vs less)
+quiet_between Production.TypeWithS around place [] state less = refl
+quiet_between Production.TypeWithS around place (v ∷ vs) state less = absurd (not_first vs less)
+quiet_between Production.LvalueItem around place [] state less = refl
+quiet_between Production.LvalueItem around place (v ∷ vs) state less = absurd (not_first vs less)
+quiet_between Production.RvalueItem around place [] state less = refl
+quiet_between Production.RvalueItem around place (v ∷ vs) state less = absurd (not_first vs less)
+quiet_between Production.IntegerLiteral around place [] state less = refl
+quiet_between Production.IntegerLiteral around place (v ∷ vs) state less = absurd (not_first vs less)
+quiet_between _ around place vs state less = refl
 
-pub quiet_right : (s : List ℕ) (old : Linked) (frame : Frame Kept) (parts own : List Part) (production : Production)
-    → own ≡ drop frame.base parts → production ≡ production_at frame.rule → is_quiet production (length own) ≡ true
+pub quiet_right : (s : List ℕ) (old : Linked) (frame : Frame Kept) (parts : List Part) (held : ℕ)
+    → held ≡ length parts - frame.base → held < quiet_parts (production_at frame.rule)
     → GoesOn (cpp_view s) s (Surrounds s) old old frame parts parts (Ok frame.kept)
-quiet_right s old frame parts own production same numbered quiet rule known state is = (
+quiet_right s old frame parts held counted less rule known state is = (
   record { values = values_in s old.nodes (drop frame.base parts); context = around_of (trees_in s old.nodes) frame.kept; state = state_of s old },
   read_is s old frame (drop frame.base parts) rule known state is
       ∙ quiet_between (production_at frame.rule) (around_of (trees_in s old.nodes) frame.kept) frame.place (values_in s old.nodes (drop frame.base parts)) (state_of s old)
-      (ap (λ n. is_quiet (production_at frame.rule) n) (values_length s (trees_in s old.nodes) (drop frame.base parts)) ∙ here production numbered quiet),
+      (omega (arith, values_length s (trees_in s old.nodes) (drop frame.base parts), length-drop frame.base parts, counted, less)),
   record { there = is.kept.surrounds.there; is = refl },
   record { table = is.holds.table; there = is.holds.there; candidates = refl; packs = refl },
   drop frame.base parts,
   sym (take-append-drop frame.base parts),
   parts_all s old (drop frame.base parts) (parts_are s old (drop frame.base parts) known is.parts).0,
 )
-  where
-    here : (production : Production) → production ≡ production_at frame.rule → is_quiet production (length own) ≡ true → is_quiet (production_at frame.rule) (length (drop frame.base parts)) ≡ true
-    here production numbered quiet = rw (← same, ← numbered) quiet
 
 quiet_owes : (number held m : ℕ) → m ≡ held → owes number (m + 1) ≤ owes number held
 unfolding owes

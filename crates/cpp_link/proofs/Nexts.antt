@@ -1,5 +1,5 @@
 -- The next part with a row of a production of C++.
-use Rattle.std.proofs.Common.{◌≡◌, refl, sym, ◌∙◌, ap, subst, arith, ℕ, zero, suc, ◌+◌, ◌<◌, ◌≤◌, List, [], ◌∷◌, ◌++◌, length, drop, map, get_or, slice_get, Some, None, Bool, true, ◌&&◌, length-drop, append_assoc, inl, inr}
+use Rattle.std.proofs.Common.{◌≡◌, refl, sym, ◌∙◌, ap, subst, arith, ℕ, zero, suc, ◌+◌, ◌<◌, ◌≤◌, List, [], ◌∷◌, ◌++◌, length, drop, Bool, true, ◌&&◌, length-drop, append_assoc, inl, inr}
 use Rattle.std.specs.Prelude.{nat_le, slice_index}
 use Rattle.std.proofs.lemmas.Bool.{and_parts, cases_eq, cases_lt, leb-true}
 use Rattle.std.proofs.lemmas.List.{drop_all, nil_from_length}
@@ -79,18 +79,6 @@ stops_at p held = elim (cases_lt held 5) [
   | inl less ↦ one_below (stops_behind p) 5 held (each_stops p) less
   | inr past ↦ ap (λ ss. stops abi (token_part p held) held ss) (none_behind p held past)
 ]
-
--- ## Their numbers of parts
-
-counted : (ps : List Production) (k : ℕ) → get_or (map (λ p. length (parts_of p)) ps) k 0 ≡ length (parts_of (elim (slice_get ps k) [ Some p ↦ p | None ↦ Production.Mark ]))
-unfolding parts_of
-counted [] k = refl
-counted (p ∷ ps) zero = refl
-counted (p ∷ ps) (suc k) = counted ps k
-
-pub part_counts : (k : ℕ) → get_or (map (λ p. length (parts_of p)) productions) k 0 ≡ length (parts_of (production_at k))
-unfolding production_at
-part_counts k = counted productions k
 
 -- ## The byte at which a rule begins
 

@@ -1,5 +1,5 @@
 -- What is read of nodes.
-use Rattle.std.proofs.Common.{◌≡◌, refl, sym, ◌∙◌, ap, arith, ℕ, zero, suc, ◌<◌, List, [], ◌∷◌, get_or, slice_get, true, false, Option, Some, None}
+use Rattle.std.proofs.Common.{◌≡◌, refl, sym, ◌∙◌, ap, arith, ℕ, zero, suc, ◌<◌, List, [], ◌∷◌, map, get_or, slice_get, true, false, Option, Some, None}
 use Rattle.std.specs.Prelude.{IfSome}
 use Rattle.cpp_grammar.specs.declared.production.Production.{Production}
 use Rattle.cpp_grammar.specs.Grammar.{productions}
@@ -27,6 +27,16 @@ got (x ∷ xs) (suc k) d = got xs k d
 pub production_got : (k : ℕ) → get_or productions k Production.Mark ≡ production_at k
 unfolding production_at
 production_got k = got productions k Production.Mark
+
+-- a count of each production, by number
+pub count_got : (f : Production → ℕ) (k : ℕ) → get_or (map f productions) k (f Production.Mark) ≡ f (production_at k)
+unfolding production_at
+count_got f k = go productions k
+  where
+    go : (ps : List Production) (k : ℕ) → get_or (map f ps) k (f Production.Mark) ≡ f (elim (slice_get ps k) [ Some p ↦ p | None ↦ Production.Mark ])
+    go [] k = refl
+    go (p ∷ ps) zero = refl
+    go (p ∷ ps) (suc k) = go ps k
 
 -- ## Lists
 

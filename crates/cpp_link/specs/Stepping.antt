@@ -1,5 +1,5 @@
 -- What is done by a step before the next part of a rule.
-use Rattle.std.specs.Prelude.{◌≡◌, ℕ, ◌<◌, List, length, take, drop, get_or, nat_eq, Bool, true, false, Ok}
+use Rattle.std.specs.Prelude.{◌≡◌, ℕ, ◌<◌, List, length, take, drop, get_or, Bool, true, false, Ok}
 use Rattle.cpp_grammar.specs.declared.production.Production.{Production}
 use Rattle.cpp_link.specs.declared.linked.Linked.{Linked}
 use Rattle.cpp_link.specs.declared.part.Part.{Part}
@@ -36,36 +36,36 @@ pub record Takes (s : List ℕ) (old new : Linked) (kept : Kept) (base : ℕ) (p
   pub is : goes_on s old.nodes kept (values_in s old.nodes (drop base parts)) (candidates_of (trees_in s old.nodes) old.candidates.items) old.packs step
       ≡ Ok (record { values = values_in s new.nodes (drop base new_parts); context = around_of (trees_in s new.nodes) then; state = state_of s new })
 
--- Nothing is done before the next part of this production, behind so many parts: before its first part, or before none.
-unfoldable pub is_quiet : Production → (held : ℕ) → Bool
-is_quiet Production.Encoding held = false
-is_quiet Production.Special held = false
-is_quiet Production.Guard held = false
-is_quiet Production.NestArguments held = false
-is_quiet Production.NestNext held = false
-is_quiet Production.Arguments held = false
-is_quiet Production.Lambda held = false
-is_quiet Production.Expansion held = false
-is_quiet Production.LocalName held = nat_eq held 0
-is_quiet Production.LocalType held = nat_eq held 0
-is_quiet Production.InternalName held = nat_eq held 0
-is_quiet Production.SourceName held = nat_eq held 0
-is_quiet Production.LocalTypeName held = nat_eq held 0
-is_quiet Production.OperatorName held = nat_eq held 0
-is_quiet Production.Constructor held = nat_eq held 0
-is_quiet Production.Destructor held = nat_eq held 0
-is_quiet Production.StdName held = nat_eq held 0
-is_quiet Production.AbbreviatedName held = nat_eq held 0
-is_quiet Production.NestStd held = nat_eq held 0
-is_quiet Production.NestAbbreviated held = nat_eq held 0
-is_quiet Production.NestParameter held = nat_eq held 0
-is_quiet Production.NestInternal held = nat_eq held 0
-is_quiet Production.NestSource held = nat_eq held 0
-is_quiet Production.NestLocalType held = nat_eq held 0
-is_quiet Production.PackArgument held = nat_eq held 0
-is_quiet Production.Parameter held = nat_eq held 0
-is_quiet Production.TypeWithS held = nat_eq held 0
-is_quiet Production.LvalueItem held = nat_eq held 0
-is_quiet Production.RvalueItem held = nat_eq held 0
-is_quiet Production.IntegerLiteral held = nat_eq held 0
-is_quiet _ held = true
+-- Before so many of the parts of a production nothing is done: before none, the first, or all, which are five at most.
+unfoldable pub quiet_parts : Production → ℕ
+quiet_parts Production.Encoding = 0
+quiet_parts Production.Special = 0
+quiet_parts Production.Guard = 0
+quiet_parts Production.NestArguments = 0
+quiet_parts Production.NestNext = 0
+quiet_parts Production.Arguments = 0
+quiet_parts Production.Lambda = 0
+quiet_parts Production.Expansion = 0
+quiet_parts Production.LocalName = 1
+quiet_parts Production.LocalType = 1
+quiet_parts Production.InternalName = 1
+quiet_parts Production.SourceName = 1
+quiet_parts Production.LocalTypeName = 1
+quiet_parts Production.OperatorName = 1
+quiet_parts Production.Constructor = 1
+quiet_parts Production.Destructor = 1
+quiet_parts Production.StdName = 1
+quiet_parts Production.AbbreviatedName = 1
+quiet_parts Production.NestStd = 1
+quiet_parts Production.NestAbbreviated = 1
+quiet_parts Production.NestParameter = 1
+quiet_parts Production.NestInternal = 1
+quiet_parts Production.NestSource = 1
+quiet_parts Production.NestLocalType = 1
+quiet_parts Production.PackArgument = 1
+quiet_parts Production.Parameter = 1
+quiet_parts Production.TypeWithS = 1
+quiet_parts Production.LvalueItem = 1
+quiet_parts Production.RvalueItem = 1
+quiet_parts Production.IntegerLiteral = 1
+quiet_parts _ = 5

@@ -5,12 +5,13 @@ ghost use Rattle.sym_core.specs.declared.refusal.Refusal.TheVariants as refusals
 ghost use Rattle.sym_link.specs.Linking.{HasRoom, Adds, Pays, owed_behind, owed_next};
 ghost use Rattle.sym_link.specs.Threads.{IsOpenAt, GoesOn};
 ghost use Rattle.cpp_term.specs.Term.{Term};
+ghost use Rattle.cpp_grammar.specs.Unfolding.{production_at};
 ghost use Rattle.cpp_tree.specs.Nodes.{IsArgumentsBelow, IsBelow, tree_at};
 ghost use Rattle.cpp_link.specs.Grows.{Grows, HasPlace};
 ghost use Rattle.cpp_link.specs.Making.{state_of};
 ghost use Rattle.cpp_link.specs.Parts.{trees_in, tree_of_node, around_of, candidates_of, AreThere, IsKeptThere, AreCandidatesThere, IsStepThere};
 ghost use Rattle.cpp_link.specs.Reads.{with_candidate, named_if, appended_if};
-ghost use Rattle.cpp_link.specs.Stepping.{IsStepOf, Takes, is_quiet};
+ghost use Rattle.cpp_link.specs.Stepping.{IsStepOf, Takes, quiet_parts};
 ghost use Rattle.cpp_link.specs.View.{Surrounds, cpp_view};
 
 use crate::dispatch::production_of;
@@ -20,6 +21,15 @@ use cpp_grammar::production::Production;
 use cpp_tree::node::Node;
 use sym_core::Refusal;
 use sym_link::language::Frame;
+
+/// Before how many of its parts nothing is done in each production, in the order of their numbers: before none, the first, or
+/// all, which are five at most.
+const QUIET_PARTS: [u8; 112] = [
+    5, 1, 1, 1, 1, 5, 5, 5, 5, 5, 5, 5, 0, 0, 0, 5, 5, 5, 5, 5, 5, 5, 5, 5, 1, 1, 1, 5, 5, 1, 1, 1,
+    1, 1, 1, 0, 0, 5, 1, 1, 5, 5, 5, 5, 5, 5, 5, 0, 5, 5, 5, 5, 5, 5, 5, 5, 5, 5, 0, 5, 5, 5, 5, 5,
+    5, 1, 1, 1, 5, 5, 5, 5, 5, 5, 5, 5, 5, 5, 5, 5, 1, 1, 5, 0, 1, 5, 5, 5, 5, 5, 5, 5, 5, 5, 5, 1,
+    5, 5, 5, 5, 5, 5, 5, 5, 5, 5, 5, 5, 5, 5, 5, 5,
+];
 
 /// Puts a part in the place of the one at the base.
 #[inline(always)]
@@ -39,43 +49,14 @@ fn candidate_if(is_candidate: bool, node: u32) -> Option<u32>
     if is_candidate { Some(node) } else { None }
 }
 
-/// Whether nothing is done before the next part of a production, behind so many parts.
-#[tactic(auto, unfolding(crate::specs::Stepping::is_quiet))]
-fn is_quiet(production: Production, held: usize) -> bool
-    ensures { result ≡ is_quiet production held }
+/// Before how many parts of a production nothing is done.
+#[inline(always)]
+fn quiet_parts(number: u16) -> usize
+    ensures { result ≡ quiet_parts (production_at number) }
 {
-    match production {
-        Production::Encoding => false,
-        Production::Special => false,
-        Production::Guard => false,
-        Production::NestArguments => false,
-        Production::NestNext => false,
-        Production::Arguments => false,
-        Production::Lambda => false,
-        Production::Expansion => false,
-        Production::LocalName => held == 0,
-        Production::LocalType => held == 0,
-        Production::InternalName => held == 0,
-        Production::SourceName => held == 0,
-        Production::LocalTypeName => held == 0,
-        Production::OperatorName => held == 0,
-        Production::Constructor => held == 0,
-        Production::Destructor => held == 0,
-        Production::StdName => held == 0,
-        Production::AbbreviatedName => held == 0,
-        Production::NestStd => held == 0,
-        Production::NestAbbreviated => held == 0,
-        Production::NestParameter => held == 0,
-        Production::NestInternal => held == 0,
-        Production::NestSource => held == 0,
-        Production::NestLocalType => held == 0,
-        Production::PackArgument => held == 0,
-        Production::Parameter => held == 0,
-        Production::TypeWithS => held == 0,
-        Production::LvalueItem => held == 0,
-        Production::RvalueItem => held == 0,
-        Production::IntegerLiteral => held == 0,
-        _ => true,
+    match QUIET_PARTS.get(number as usize) {
+        Some(count) => *count as usize,
+        None => 5,
     }
 }
 
@@ -202,12 +183,13 @@ impl Linked {
         }
     }
 
-    /// What is done before the next part of the rule of the frame, and what surrounds that part.
+    /// Does what is to be done before the next part of the rule of the frame, and answers what surrounds that part.
     ///
     /// # Errors
     ///
-    /// `BadReference` at a parameter that names no argument that it may name, `Memory` where a list couldn't grow.
-    pub fn go_on(
+    /// Those of `go_on`.
+    #[inline(never)]
+    fn go_by_step(
         &mut self,
         symbol: &[u8],
         frame: Frame<Kept>,
@@ -223,11 +205,34 @@ impl Linked {
     {
         let own = &parts[frame.base..];
         let production = production_of(frame.rule);
-        if is_quiet(production, own.len()) {
-            return Ok(frame.kept);
-        }
         let step = self.step(symbol, production, frame.place, frame.kept, own)?;
         let then = self.take_step(symbol, frame.kept, frame.base, step, parts)?;
         Ok(then)
+    }
+
+    /// What is done before the next part of the rule of the frame, and what surrounds that part.
+    ///
+    /// # Errors
+    ///
+    /// `BadReference` at a parameter that names no argument that it may name, `Memory` where a list couldn't grow.
+    #[inline(always)]
+    pub fn go_on(
+        &mut self,
+        symbol: &[u8],
+        frame: Frame<Kept>,
+        parts: &mut Vec<Part>,
+    ) -> Result<Kept, Refusal>
+        requires room { HasRoom (cpp_view symbol.now) symbol.now self.old (owed_behind (cpp_view symbol.now) frame parts.old.items) }
+        requires open { IsOpenAt (cpp_view symbol.now) symbol.now self.old frame parts.old.items }
+        requires base { frame.base ≤ length parts.old.items }
+        ensures goes { GoesOn (cpp_view symbol.now) symbol.now (Surrounds symbol.now) self.old self.new frame parts.old.items parts.new.items result }
+        ensures adds { OnOk result (Adds (cpp_view symbol.now) self.old self.new (owed_behind (cpp_view symbol.now) frame parts.old.items) (owed_next (cpp_view symbol.now) frame parts.new.items)) }
+        ensures pays { OnOk result ((at : ℕ) → Pays (cpp_view symbol.now) self.old self.new at at) }
+        ensures count { OnOk result (length parts.new.items ≡ length parts.old.items) }
+    {
+        if parts.len() - frame.base < quiet_parts(frame.rule) {
+            return Ok(frame.kept);
+        }
+        self.go_by_step(symbol, frame, parts)
     }
 }
