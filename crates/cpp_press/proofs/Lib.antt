@@ -1,0 +1,3 @@
+mod Row
+mod ListedRows
+mod GeneratedRows
