@@ -1,0 +1,4 @@
+mod Row
+mod ListedRows
+mod GeneratedRows
+pub mod Sameness

@@ -1,0 +1,4 @@
+pub mod Same
+pub mod Texts
+pub mod Components
+pub mod Pressing

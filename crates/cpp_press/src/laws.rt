@@ -1,0 +1,11 @@
+// What holds of the test by which pressing compares trees.
+ghost use Rattle.std.specs.Prelude.{◌≡◌, true};
+ghost use Rattle.cpp_grammar.specs.Term.{Term};
+ghost use Rattle.cpp_press.specs.Same.{same_tree};
+
+/// Pressing takes two trees for the same where they are equal, and nowhere else: no mark, number, name or discriminator is left
+/// out.
+pub fn trees_are_compared()
+    ensures equal { (one other : Term) → same_tree one other ≡ true → one ≡ other }
+    ensures itself { (tree : Term) → same_tree tree tree ≡ true }
+{}

@@ -1,0 +1,2 @@
+pub mod Pressing
+pub mod Digits

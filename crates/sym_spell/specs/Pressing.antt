@@ -1,0 +1,28 @@
+-- Spellings in which a repeated part is a reference: what they say, and the components that references may name.
+use Rattle.std.specs.Prelude.{ℕ, ◌+◌, List, [], ◌∷◌, ◌++◌, length}
+
+-- what is spelled, and the components so far
+pub record Pressed (C : Type 0) : Type 0 where
+  pub bytes : List ℕ
+  pub components : List C
+
+-- a spelling from a place on, behind these components
+abbrev pub Pressing : Type 0 → Type 0
+Pressing C = (place : ℕ) → List C → Pressed C
+
+infixr 5 ◌and◌
+abbrev pub ◌and◌ : {C : Type 0} → Pressing C → Pressing C → Pressing C
+(first and rest) place components =
+    let one = first place components in
+    let others = rest (place + length one.bytes) one.components in
+    record { bytes = one.bytes ++ others.bytes; components = others.components }
+
+-- fixed bytes, a letter, nothing
+abbrev pub text : {C : Type 0} → List ℕ → Pressing C
+text bytes place components = record { bytes = bytes; components = components }
+
+abbrev pub letter : {C : Type 0} → ℕ → Pressing C
+letter byte = text (byte ∷ [])
+
+abbrev pub nothing : {C : Type 0} → Pressing C
+nothing = text []
