@@ -8,7 +8,6 @@ ghost use Rattle.sym_core.specs.declared.refusal.Refusal.TheVariants as refusals
 ghost use Rattle.sym_link.specs.Linking.{HasRoom, TakesToken, ClosesRule, Adds, Pays, owed_behind, owed_next};
 ghost use Rattle.rust_tree.specs.declared.node.Name.{Name};
 ghost use Rattle.rust_v0.specs.declared.part.Part.{Part};
-ghost use Rattle.rust_v0.specs.declared.production.Production.TheVariants as rules;
 ghost use Rattle.rust_v0.specs.RustNodes.{v0_view};
 ghost use Rattle.rust_v0.specs.Productions.{production_of};
 ghost use Rattle.rust_v0.specs.CodeOperands as operands;
@@ -231,7 +230,7 @@ impl RustNodes {
         frame: Frame<BoundLifetimes>,
         parts: &mut Vec<Part>,
     ) -> Result<(), Refusal>
-        requires made { IsMadeBy made frame (drop frame.base parts.old.items) }
+        requires made { semantics.IsMadeBy made frame.rule (drop frame.base parts.old.items) }
         requires room { HasRoom (v0_view _symbol.now) _symbol.now self.old (owed_behind (v0_view _symbol.now) frame parts.old.items) }
         requires base { frame.base ≤ length parts.old.items }
         requires place { frame.place < length _symbol.now }
