@@ -1,6 +1,6 @@
 -- Not a definition: what `semantics.rt` computes of the parts of a rule, said again so that contracts can name it. What a
 -- production means is `Unfold.meaning`; `proofs/SemanticsLemmas` has that the two agree.
-use Rattle.std.specs.Prelude.{ℕ, ◌+◌, length, slice_index, List, Bool, true, false, nat_le, nat_lt, if◌then◌else◌, Option, Some, None, Result, Ok, Err}
+use Rattle.std.specs.Prelude.{◌≡◌, ℕ, ◌+◌, length, slice_index, List, Bool, true, false, nat_le, nat_lt, if◌then◌else◌, Option, Some, None, Result, Ok, Err}
 use Rattle.sym_core.specs.declared.refusal.Refusal.{Refusal}
 use Rattle.sym_core.specs.declared.refusal.Refusal.TheVariants.{BadReference, BadValue}
 use Rattle.sym_core.specs.declared.Span.{Span}
@@ -18,6 +18,7 @@ use Rattle.rust_tree.specs.declared.node.Constant.{Constant}
 use Rattle.rust_v0.specs.declared.production.Production.{Production}
 use Rattle.rust_v0.specs.declared.production.Production.TheVariants as rules
 use Rattle.rust_v0.specs.CodeOperands as operands
+use Rattle.rust_v0.specs.Productions.{production_of}
 use Rattle.rust_v0.specs.Unfold.{greatest_u64, is_scalar, stray}
 use Rattle.rust_v0.specs.declared.nodes.Target.{Target}
 use Rattle.rust_v0.specs.declared.operands.TheConstants.{EMPTY_BOUNDS}
@@ -359,3 +360,10 @@ makes_part rules.Minus = true
 makes_part rules.False = true
 makes_part rules.True = true
 makes_part _ = false
+
+-- the rule of this number has made this node of its parts, or is refused, wherever it stands
+pub record IsMadeBy (result : Result Node Refusal) (number : ℕ) (own : List Part) : Type 0 where
+  pub production : Production
+  pub is : production_of number ≡ Some production
+  pub no_reference : is_reference production ≡ false
+  pub made_is : (s : List ℕ) (place bound : ℕ) → of_node result ≡ made production s place bound own

@@ -8,7 +8,6 @@ ghost use Rattle.sym_core.specs.declared.refusal.Refusal.TheVariants as refusals
 ghost use Rattle.sym_link.specs.Linking.{HasRoom, TakesToken, ClosesRule, Adds, Pays, owed_behind, owed_next};
 ghost use Rattle.rust_tree.specs.declared.node.Name.{Name};
 ghost use Rattle.rust_v0.specs.declared.part.Part.{Part};
-ghost use Rattle.rust_v0.specs.declared.production.Production.TheVariants as rules;
 ghost use Rattle.rust_v0.specs.RustNodes.{v0_view};
 ghost use Rattle.rust_v0.specs.Productions.{production_of};
 ghost use Rattle.rust_v0.specs.CodeOperands as operands;
@@ -18,8 +17,9 @@ ghost use Rattle.rust_v0.specs.CodeSemantics as semantics;
 use crate::nodes::{BoundLifetimes, RustNodes};
 use crate::part::{Part, STRAY, part_of};
 use crate::production::{Production, numbered};
-use crate::semantics::{Site, makes_part, nested, part_by};
+use crate::semantics::{Site, crate_root, makes_part, nested, part_by};
 use crate::tokens::{TokenSort, sort_of};
+use rust_tree::node::Node;
 use sym_core::{Refusal, Span};
 use sym_link::language::{Frame, Linking};
 use sym_shape::rule::Row;
@@ -221,23 +221,23 @@ impl RustNodes {
         put(parts, frame.base, part)
     }
 
-    /// Closes the rule of a frame, which is that of a name in a path.
+    /// Closes the rule of a frame, which has made a node of its parts.
     #[inline(always)]
-    fn close_nested(
+    fn close_node(
         &mut self,
-        symbol: &[u8],
+        _symbol: &[u8],
+        made: Result<Node, Refusal>,
         frame: Frame<BoundLifetimes>,
         parts: &mut Vec<Part>,
     ) -> Result<(), Refusal>
-        requires production { production_of frame.rule ≡ Some rules.Nested }
-        requires room { HasRoom (v0_view symbol.now) symbol.now self.old (owed_behind (v0_view symbol.now) frame parts.old.items) }
+        requires made { semantics.IsMadeBy made frame.rule (drop frame.base parts.old.items) }
+        requires room { HasRoom (v0_view _symbol.now) _symbol.now self.old (owed_behind (v0_view _symbol.now) frame parts.old.items) }
         requires base { frame.base ≤ length parts.old.items }
-        requires place { frame.place < length symbol.now }
-        ensures closes { ClosesRule (v0_view symbol.now) symbol.now self.old self.new frame parts.old.items parts.new.items result }
-        ensures adds { OnOk result (Adds (v0_view symbol.now) self.old self.new (owed_behind (v0_view symbol.now) frame parts.old.items) 0) }
-        ensures pays { OnOk result ((at : ℕ) → Pays (v0_view symbol.now) self.old self.new at at) }
+        requires place { frame.place < length _symbol.now }
+        ensures closes { ClosesRule (v0_view _symbol.now) _symbol.now self.old self.new frame parts.old.items parts.new.items result }
+        ensures adds { OnOk result (Adds (v0_view _symbol.now) self.old self.new (owed_behind (v0_view _symbol.now) frame parts.old.items) 0) }
+        ensures pays { OnOk result ((at : ℕ) → Pays (v0_view _symbol.now) self.old self.new at at) }
     {
-        let made = nested(&parts[frame.base..]);
         let added = self.add_made(frame.place, made)?;
         put(parts, frame.base, part_of(added))
     }
@@ -394,7 +394,17 @@ impl Linking for RustNodes {
             Some(Production::Namespace) => {
                 self.close_part(symbol, Production::Namespace, frame, parts)
             }
-            Some(Production::Nested) => self.close_nested(symbol, frame, parts),
+            Some(Production::DisambiguatedIdentifier) => {
+                self.close_part(symbol, Production::DisambiguatedIdentifier, frame, parts)
+            }
+            Some(Production::Crate) => {
+                let made = crate_root(&parts[frame.base..]);
+                self.close_node(symbol, made, frame, parts)
+            }
+            Some(Production::Nested) => {
+                let made = nested(&parts[frame.base..]);
+                self.close_node(symbol, made, frame, parts)
+            }
             _ => self.close_rare(symbol, frame, parts),
         }
     }

@@ -14,7 +14,7 @@ use Rattle.sym_link.specs.Parts.{Stands}
 use Rattle.sym_link.specs.Driving.{AreAll, Fails}
 use Rattle.sym_link.specs.Linking.{View}
 use Rattle.sym_link.specs.Owing.{owed}
-use Rattle.sym_link.specs.Stepping.{link_steps, Due, waiting, starting, IsDue}
+use Rattle.sym_link.specs.Stepping.{link_steps, Due, waiting, starting, IsDue, CountsClose}
 
 -- these are the rows of a tree that spells the symbol
 pub record IsShape (g : Table) (s : List ℕ) (rows : List Row) (tree : Tree) : Type 0 where
@@ -98,6 +98,15 @@ abbrev pub FollowsOn : {N P K V S C : Type 0} → View N P K V S C → (s : List
     → (nodes : N) → List (Frame K) → List P → Result ℕ Refusal → Type 0
 FollowsOn view s shape whole steps nodes codes parts (Ok next) = Follows view s shape whole (waiting steps) nodes next codes parts
 FollowsOn view s shape whole steps nodes codes parts (Err e) = Fails e whole
+
+-- Behind the token that is all a rule has, and where the rule has none, the rule may close with so many steps left behind it; or it
+-- has other rows, and waits for them with so many steps left.
+abbrev pub FollowsAlone : {N P K V S C : Type 0} → View N P K V S C → (s : List ℕ) → (shape : List Row) → (whole : Result (Found (List V) S) Refusal) → (left : ℕ)
+    → (nodes : N) → (lower : List (Frame K)) → (frame : Frame K) → List P → Result ℕ Refusal → Type 0
+FollowsAlone view s shape whole left nodes lower frame parts (Ok behind) =
+    (due : Due) × CountsClose due left × Follows view s shape whole due nodes behind (lower ++ frame ∷ []) parts
+    × (frame.end ≢ behind → Follows view s shape whole (waiting left) nodes behind (lower ++ frame ∷ []) parts)
+FollowsAlone view s shape whole left nodes lower frame parts (Err e) = Fails e whole
 
 -- this is the last item
 abbrev pub EndsWith : {A : Type 0} → List A → A → Type 0

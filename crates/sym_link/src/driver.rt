@@ -4,7 +4,7 @@ ghost use Rattle.std.specs.Prelude.{◌≡◌, ◌≢◌, ℕ, ◌+◌, ◌-◌,
 ghost use Rattle.sym_shape.specs.Tree.{Tree};
 ghost use Rattle.sym_link.specs.Reading.{Found};
 ghost use Rattle.sym_link.specs.Stepping.{link_steps, Due, waiting, starting};
-ghost use Rattle.sym_link.specs.Following.{IsShape, Follows, FollowsAfter, FollowsOn, EndsWith, CanClose, CanSettle, CanTake, CanBegin, CanMove, IsOnWay, Moves, CountsMove, Fits, IsDriving, IsStepTo, IsDone, meaning_of};
+ghost use Rattle.sym_link.specs.Following.{IsShape, Follows, FollowsAfter, FollowsOn, FollowsAlone, EndsWith, CanClose, CanSettle, CanTake, CanBegin, CanMove, IsOnWay, Moves, CountsMove, Fits, IsDriving, IsStepTo, IsDone, meaning_of};
 
 use crate::language::{Frame, Linking};
 use std::alloc::Global;
@@ -41,6 +41,29 @@ fn leave<L: Linking>(
     language.close(symbol, frame, parts)
 }
 
+/// Takes the token of a rule that has begun, if its rows are a token alone. It answers the number of the next row.
+#[inline(always)]
+fn take_alone<L: Linking>(
+    language: &mut L,
+    symbol: &[u8],
+    rows: &[Row],
+    next: u32,
+    parts: &mut Vec<L::Part>,
+    frame: Frame<L::Kept>,
+) -> Result<u32, Refusal>
+    requires { (lower : List (Frame L.Kept)) × CanSettle (L.view symbol.now) symbol.now rows.now language.old next lower frame parts.old.items }
+    ensures follows { (whole : Result (Found (List L.Value) L.State) Refusal) (left : ℕ) (lower : List (Frame L.Kept))
+        → Follows (L.view symbol.now) symbol.now rows.now whole (starting left) language.old next (lower ++ frame ∷ []) parts.old.items
+        → FollowsAlone (L.view symbol.now) symbol.now rows.now whole left language.new lower frame parts.new.items result }
+    ensures counts { IfOk result (λ behind. (next ≤ behind) × (behind ≤ next + 1)) }
+{
+    if frame.end == next + 1 && rows[next as usize].rule == TOKEN {
+        language.token(symbol, frame, parts, rows[next as usize])?;
+        return Ok(next + 1);
+    }
+    Ok(next)
+}
+
 /// Puts the frame of a rule that has begun on the others. A rule that has no row of its own closes at once, and one that has
 /// a token alone takes it and closes. It answers the number of the next row.
 #[inline(always)]
@@ -59,18 +82,13 @@ fn settle<L: Linking>(
         → FollowsOn (L.view symbol.now) symbol.now rows.now whole left language.new frames.new.items parts.new.items result }
     ensures counts { IfOk result (λ behind. (2 * next + length frames.new.items ≤ 2 * behind + length frames.old.items + 1) × (behind ≤ next + 1)) }
 {
-    if frame.end == next {
-        language.close(symbol, frame, parts)?;
-        return Ok(next);
+    let behind = take_alone(language, symbol, rows, next, parts, frame)?;
+    if frame.end != behind {
+        frames.push(frame)?;
+        return Ok(behind);
     }
-    let row = rows[next as usize];
-    if row.rule == TOKEN && frame.end == next + 1 {
-        language.token(symbol, frame, parts, row)?;
-        language.close(symbol, frame, parts)?;
-        return Ok(next + 1);
-    }
-    frames.push(frame)?;
-    Ok(next)
+    language.close(symbol, frame, parts)?;
+    Ok(behind)
 }
 
 /// Takes the row of a token or a rule, which stands in the innermost rule. It answers the number of the next row.
