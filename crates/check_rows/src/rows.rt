@@ -8,7 +8,7 @@ use std::alloc::Global;
 use std::str;
 use sym_core::{Refusal, fits};
 use sym_filter::languages::Lists;
-use sym_filter::{Lang, Languages, Pressing, kind_of};
+use sym_filter::{Kind, Lang, Languages, Pressing, kind_of};
 
 /// The limit where a row has none.
 const LIMIT: u32 = 1_000_000;
@@ -33,19 +33,16 @@ fn detail_of(name: &[u8]) -> Option<Detail> {
     }
 }
 
-/// Whether a word has this answer at a limit, by each call.
+/// Whether a symbol has this answer at a limit, by each call.
 fn is_answered(
     alloc: Global,
     lists: &mut Lists,
-    word: &[u8],
+    kind: Kind,
+    s: &[u8],
     limit: u32,
     detail: Detail,
     wanted: &[u8],
 ) -> Result<bool, Refusal> {
-    let Some(kind) = kind_of(word) else {
-        return Ok(false);
-    };
-    let s = kind.symbol_of(word);
     if !fits(s) {
         return Ok(false);
     }
@@ -60,89 +57,80 @@ fn is_answered(
     }
 }
 
-/// Whether a word that is cut at each place in turn has this answer at a limit.
+/// Whether a symbol that is cut at each place in turn has this answer at a limit.
 fn is_answered_in_pieces(
     alloc: Global,
-    word: &[u8],
+    kind: Kind,
+    s: &[u8],
     limit: u32,
     detail: Detail,
     wanted: &[u8],
 ) -> Result<bool, Refusal> {
-    let Some(kind) = kind_of(word) else {
-        return Ok(false);
-    };
     match kind.lang {
         Lang::Cpp => Ok(true),
-        Lang::Rust => rust_pieces_say(alloc, kind.symbol_of(word), limit, detail, wanted),
+        Lang::Rust => rust_pieces_say(alloc, s, limit, detail, wanted),
     }
 }
 
-/// Whether a word has this text at its cost, and is too long one below and at 0.
+/// Whether a symbol has this text at its cost, and is too long one below and at 0.
 fn has_text(
     alloc: Global,
     lists: &mut Lists,
+    kind: Kind,
+    s: &[u8],
     detail: Detail,
     cost: u32,
-    word: &[u8],
     text: &[u8],
 ) -> Result<bool, Refusal> {
     let too_long = b"too long";
+    let below = cost.saturating_sub(1);
     Ok(
         cost > 0
-            && is_answered(alloc, lists, word, cost, detail, text)?
-            && is_answered(alloc, lists, word, cost.saturating_sub(1), detail, too_long)?
-            && is_answered(alloc, lists, word, 0, detail, too_long)?
-            && is_answered_in_pieces(alloc, word, cost, detail, text)?,
+            && is_answered(alloc, lists, kind, s, cost, detail, text)?
+            && is_answered(alloc, lists, kind, s, below, detail, too_long)?
+            && is_answered(alloc, lists, kind, s, 0, detail, too_long)?
+            && is_answered_in_pieces(alloc, kind, s, cost, detail, text)?,
     )
 }
 
-/// Whether a word is refused for this reason, whatever the limit.
+/// Whether a symbol is refused for this reason, whatever the limit.
 fn is_refused(
     alloc: Global,
     lists: &mut Lists,
-    word: &[u8],
+    kind: Kind,
+    s: &[u8],
     reason: &[u8],
 ) -> Result<bool, Refusal> {
     Ok(
-        is_answered(alloc, lists, word, LIMIT, Detail::Full, reason)?
-            && is_answered(alloc, lists, word, 0, Detail::Brief, reason)?
-            && is_answered_in_pieces(alloc, word, 0, Detail::Full, reason)?,
+        is_answered(alloc, lists, kind, s, LIMIT, Detail::Full, reason)?
+            && is_answered(alloc, lists, kind, s, 0, Detail::Brief, reason)?
+            && is_answered_in_pieces(alloc, kind, s, 0, Detail::Full, reason)?,
     )
 }
 
-/// Whether a word has a text of so many bytes at its cost, and is too long one below.
+/// Whether a symbol has a text of so many bytes at its cost, and is too long one below.
 fn has_length(
     alloc: Global,
     lists: &mut Lists,
+    kind: Kind,
+    s: &[u8],
     detail: Detail,
     cost: u32,
-    word: &[u8],
     len: u32,
 ) -> Result<bool, Refusal> {
-    let Some(kind) = kind_of(word) else {
+    if !fits(s) {
         return Ok(false);
-    };
+    }
     let languages = Languages {
         limit: cost,
         detail,
     };
-    let s = kind.symbol_of(word);
-    if !fits(s) {
+    let text = by_demangler(alloc, &languages, lists, kind, s)?;
+    if text.len() != len as usize || cost == 0 {
         return Ok(false);
     }
-    let text = by_demangler(alloc, &languages, lists, kind, s)?;
-    Ok(
-        text.len() == len as usize
-            && cost > 0
-            && is_answered(
-                alloc,
-                lists,
-                word,
-                cost.saturating_sub(1),
-                detail,
-                b"too long",
-            )?,
-    )
+    let below = cost.saturating_sub(1);
+    is_answered(alloc, lists, kind, s, below, detail, b"too long")
 }
 
 /// A front, with bytes behind it so many times, and an end.
@@ -153,12 +141,12 @@ fn repeated(
     bytes: &[u8],
     end: &[u8],
 ) -> Result<Vec<u8>, Refusal> {
-    let mut word = Vec::from_slice(alloc, front)?;
+    let mut whole = Vec::from_slice(alloc, front)?;
     for _ in 0..count {
-        word.extend_from_slice(bytes)?;
+        whole.extend_from_slice(bytes)?;
     }
-    word.extend_from_slice(end)?;
-    Ok(word)
+    whole.extend_from_slice(end)?;
+    Ok(whole)
 }
 
 /// Whether a word's pressed spelling is this one, and is pressed again unchanged.
@@ -207,22 +195,27 @@ fn of_text(alloc: Global, lists: &mut Lists, fields: &[&[u8]]) -> Result<bool, R
     let [detail, cost, word, text] = fields else {
         return Ok(false);
     };
+    let Some(kind) = kind_of(word) else {
+        return Ok(false);
+    };
     let Some(detail) = detail_of(detail) else {
         return Ok(false);
     };
-    match number(cost) {
-        Some(cost) => has_text(alloc, lists, detail, cost, word, text),
-        None => Ok(false),
-    }
+    let Some(cost) = number(cost) else {
+        return Ok(false);
+    };
+    let s = kind.symbol_of(word);
+    has_text(alloc, lists, kind, s, detail, cost, text)
 }
 
-/// Whether a word has a text that costs and is as long as two fields say.
+/// Whether a symbol has a text in the detail, at the cost and of the length that three fields say.
 fn of_length(
     alloc: Global,
     lists: &mut Lists,
+    kind: Kind,
+    s: &[u8],
     detail: &[u8],
     cost: &[u8],
-    word: &[u8],
     len: &[u8],
 ) -> Result<bool, Refusal> {
     let Some(detail) = detail_of(detail) else {
@@ -232,36 +225,46 @@ fn of_length(
         return Ok(false);
     };
     match number(len) {
-        Some(len) => has_length(alloc, lists, detail, cost, word, len),
+        Some(len) => has_length(alloc, lists, kind, s, detail, cost, len),
         None => Ok(false),
     }
 }
 
 /// Whether a row `long` holds.
 fn of_long(alloc: Global, lists: &mut Lists, fields: &[&[u8]]) -> Result<bool, Refusal> {
-    match fields {
-        [detail, cost, word, len] => of_length(alloc, lists, detail, cost, word, len),
-        _ => Ok(false),
-    }
+    let [detail, cost, word, len] = fields else {
+        return Ok(false);
+    };
+    let Some(kind) = kind_of(word) else {
+        return Ok(false);
+    };
+    let s = kind.symbol_of(word);
+    of_length(alloc, lists, kind, s, detail, cost, len)
 }
 
-/// Whether a row `repeated` holds.
+/// Whether a row `repeated` holds. The symbol may be longer than any word that the filter takes.
 fn of_repeated(alloc: Global, lists: &mut Lists, fields: &[&[u8]]) -> Result<bool, Refusal> {
     let [detail, cost, front, count, bytes, end, len] = fields else {
+        return Ok(false);
+    };
+    let Some(kind) = kind_of(front) else {
         return Ok(false);
     };
     let Some(count) = number(count) else {
         return Ok(false);
     };
-    let word = repeated(alloc, front, count, bytes, end)?;
-    of_length(alloc, lists, detail, cost, &word, len)
+    let s = repeated(alloc, kind.symbol_of(front), count, bytes, end)?;
+    of_length(alloc, lists, kind, &s, detail, cost, len)
 }
 
 /// Whether a row `refused` holds.
 fn of_refused(alloc: Global, lists: &mut Lists, fields: &[&[u8]]) -> Result<bool, Refusal> {
-    match fields {
-        [word, reason] => is_refused(alloc, lists, word, reason),
-        _ => Ok(false),
+    let [word, reason] = fields else {
+        return Ok(false);
+    };
+    match kind_of(word) {
+        Some(kind) => is_refused(alloc, lists, kind, kind.symbol_of(word), reason),
+        None => Ok(false),
     }
 }
 

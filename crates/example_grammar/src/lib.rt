@@ -7,6 +7,8 @@ use sym_shape::{ByteRange, Choice, Grammar, Rule, Sym, choose};
 
 #[cfg(test)]
 mod tests;
+#[cfg(test)]
+mod tokens;
 
 const SYMBOL: u16 = 0;
 

@@ -8,8 +8,6 @@ pub mod counts;
 mod names;
 mod numbers;
 pub mod refusal;
-#[cfg(test)]
-mod tests;
 mod tokens;
 mod values;
 

@@ -5,6 +5,7 @@ use crate::run;
 use crate::scripted::{Call, ScriptedSink, ScriptedSource};
 use std::alloc::{AllocError, Global};
 use std::process::Abort;
+use std::str;
 use std::test::Fail;
 use sym_filter::{FilterFault, Languages, filter};
 use sym_print::Detail;
@@ -151,15 +152,6 @@ fn answers_words(rt: HostRuntime) -> Result<(), Fail> {
     Ok(())
 }
 
-/// A word whose text is a name of 3,000 bytes.
-fn long_word(alloc: Global) -> Result<String, AllocError> {
-    let mut word = String::from_str(alloc, "_RC3000")?;
-    for _ in 0..3000 {
-        word.push('i')?;
-    }
-    Ok(word)
-}
-
 /// The calls of which one fails behind so many that move at most a thousand bytes.
 fn calls_with(good: usize, failure: Call) -> [Call; 16] {
     let mut calls = [Call::Moves(1_000); 16];
@@ -172,8 +164,12 @@ fn calls_with(good: usize, failure: Call) -> [Call; 16] {
 #[test]
 fn each_write_of_lines_fails(rt: HostRuntime) -> Result<(), Fail> {
     let alloc = rt.alloc();
-    let long = long_word(alloc)?;
-    let long = long.as_str();
+    // a word whose text is a name of 3,000 bytes
+    let word = long(alloc, b"_RC3000", 3_007)?;
+    let Ok(long) = str::from_utf8(&word) else {
+        assert!(rt; false);
+        return Ok(());
+    };
     // two pages of answers, each with a complaint
     let words = ["symfilt", long, "_Z1fQ", long, "foo", long];
     let mut answers = Vec::new(alloc);

@@ -1,16 +1,17 @@
-// Numbers and names, by their published texts and by hand.
+// `sym_core`'s numbers and names, by their published texts and by hand.
 #![tactic(auto)]
 
 ghost use Rattle.std.specs.Prelude.{◌≡◌, ◌+◌, ◌*◌, ◌<◌, ◌≤◌, ◌^◌, length, IfOk};
 ghost use Rattle.sym_core.specs.Token.{AreNameBytes};
+ghost use Rattle.sym_core.specs.declared.NameClass.{NameClass};
 
-use crate::{
+use std::alloc::Global;
+use std::test::Fail;
+use sym_core::{
     NameClass, NumberKind, Refusal, Span, TokenPlace, are_digits, are_name_bytes, find_name,
     find_number, fits, length_of, number, push_decimal, push_name, value10, value16, value36,
     value62,
 };
-use std::alloc::Global;
-use std::test::Fail;
 
 /// The digits of the number that the bytes begin with.
 fn spelled(s: &[u8], kind: NumberKind) -> Result<(u32, u32), usize>

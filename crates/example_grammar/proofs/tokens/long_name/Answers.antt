@@ -1,7 +1,7 @@
 use Rattle.std.proofs.Common.{rules, ◌≡◌, ℕ, List, [], ◌∷◌, ◌++◌, zero, suc, refl, sym, ap, ◌∙◌, subst, replicate}
 use Rattle.sym_core.specs.Token.{AreNameBytes}
 use Rattle.sym_core.specs.declared.NameClass.TheVariants.{Rust}
-use Rattle.sym_core.proofs.tests.long_name.Goals as goal
+use Rattle.example_grammar.proofs.tokens.long_name.Goals as goal
 
 letters_and_mark : (n : ℕ) → AreNameBytes Rust (replicate n 97 ++ 95 ∷ [])
 letters_and_mark zero = (refl, tt)
