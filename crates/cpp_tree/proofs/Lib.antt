@@ -1,3 +1,4 @@
 pub mod Trees
 pub mod Pushed
 pub mod Noting
+pub mod Compacting

@@ -1,2 +1,3 @@
+pub mod Compact
 pub mod Nodes
 pub mod Notes

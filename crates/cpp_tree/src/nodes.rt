@@ -4,9 +4,10 @@
 ghost use Rattle.std.specs.Prelude.{◌≡◌, ℕ, ◌+◌, ◌<◌, ◌≤◌, ◌^◌, ◌++◌, ◌∷◌, [], List, length, slice_get, None, false, IfOk, IfErr, OnOk, OnErr};
 ghost use Rattle.sym_core.specs.declared.Refusal.{Refusal};
 ghost use Rattle.cpp_tree.specs.Nodes.{over, tree_at, trees, tree_of, entry_at, IsBelow, IsThunkWithin, IsTable};
-ghost use Rattle.cpp_tree.specs.Notes.{noting, bare_entry};
+ghost use Rattle.cpp_tree.specs.Compact.{entry_of};
 
-use crate::node::{Entry, Head, HeadClass, Node, Thunk};
+use crate::compact::{Compact, bare};
+use crate::node::{Entry, Node, Thunk};
 use std::alloc::Global;
 use std::marker::Model;
 use sym_core::Refusal;
@@ -14,16 +15,18 @@ use sym_core::Refusal;
 /// The nodes of a symbol, each behind its parts, and what its thunks adjust.
 #[derive(Drop)]
 pub struct Nodes {
-    pub(crate) entries: Vec<Entry>,
+    pub(crate) entries: Vec<Compact>,
     pub(crate) thunks: Vec<Thunk>,
 }
 
 impl Model for Nodes {
+    ghost use Rattle.std.specs.Prelude.{map};
+    ghost use Rattle.cpp_tree.specs.Compact.{entry_of};
     ghost use Rattle.cpp_tree.specs.Nodes.{Stored};
 
     ghost Value = { Stored };
 
-    ghost view = { λ t. record { nodes = t.entries.items; thunks = t.thunks.items } };
+    ghost view = { λ t. record { nodes = map entry_of t.entries.items; thunks = t.thunks.items } };
 }
 
 /// The node where no tree is.
@@ -34,23 +37,6 @@ pub const NIL: u32 = 1;
 
 /// The pack of no elements.
 pub const NO_ELEMENTS: u32 = 2;
-
-/// A node of which nothing is noted.
-fn bare(node: Node, is_empty: bool) -> Entry
-    ensures { result ≡ bare_entry node is_empty }
-{
-    Entry {
-        node,
-        packs: None,
-        is_open: false,
-        is_empty,
-        class: HeadClass::Known(Head::Plain),
-        arguments: None,
-        returns: false,
-        count: 0,
-        run: 0,
-    }
-}
 
 impl Nodes {
     /// A table of no nodes.
@@ -94,13 +80,22 @@ impl Nodes {
         self.entries.len()
     }
 
+    /// A node and what is noted of it, in few bytes.
+    #[inline(always)]
+    pub(crate) fn at(&self, node: u32) -> Compact
+        requires { node < length self.now.nodes }
+        ensures { entry_of result ≡ entry_at self.now.nodes node }
+    {
+        self.entries[node as usize]
+    }
+
     /// A node, and what is noted of it.
     #[inline(always)]
     pub fn entry(&self, node: u32) -> Entry
         requires { node < length self.now.nodes }
         ensures { result ≡ entry_at self.now.nodes node }
     {
-        self.entries[node as usize]
+        self.at(node).entry()
     }
 
     /// What a thunk adjusts, if there is one of this number.
@@ -147,12 +142,12 @@ impl Nodes {
         ensures same { OnErr result (self.new ≡ self.old) }
         ensures memory { IfErr result (λ e. e ≡ Refusal.Memory) }
     {
-        let number = self.entries.len() as u32;
-        let entry = self.noted(symbol, node);
+        let number = self.len() as u32;
+        let compact = self.noted(symbol, node);
         if self.entries.reserve(1).is_err() {
             return Err(Refusal::Memory);
         }
-        self.entries.push_reserved(entry);
+        self.entries.push_reserved(compact);
         Ok(number)
     }
 

@@ -1,320 +1,391 @@
 // What is noted of a node.
 #![tactic(auto)]
 
-ghost use Rattle.std.specs.Prelude.{◌≡◌, ℕ, ◌+◌, ◌<◌, ◌^◌, List, length};
+ghost use Rattle.std.specs.Prelude.{◌≡◌, ℕ, ◌+◌, ◌<◌, ◌^◌, ◌||◌, ◌&&◌, Bool, Some, None, List, Option, length, true, false, nat_eq, cond, not, if◌then◌else◌};
+ghost use Rattle.cpp_grammar.specs.Items as heads;
 ghost use Rattle.cpp_grammar.specs.Scope.{first_of};
+ghost use Rattle.cpp_tree.specs.declared.node.Node.{Node};
+ghost use Rattle.cpp_tree.specs.declared.compact.Words.{Words};
+ghost use Rattle.cpp_tree.specs.Compact.{packs_kept, class_kept, arguments_kept, returns_kept, entry_of, kept, with_head, with_arguments};
 ghost use Rattle.cpp_tree.specs.Nodes.{over, entry_at, IsBelow, IsPieceBelow, IsTable};
-ghost use Rattle.cpp_tree.specs.Notes.{open_at, piece_opens, opens, empties, ends_in, argument_class, collapses, classes, argument_packs, piece_packs, packing, returning, counting, running, is_structor_piece, is_structor_node, noting};
+ghost use Rattle.cpp_tree.specs.Notes.{piece_opens, piece_packs, argument_packs, argument_class, collapses, is_structor_node, noting};
 
-use crate::node::{Entry, Head, HeadClass, Node, Piece};
+use crate::compact::{Compact, Words, bare};
+use crate::node::{Node, Piece};
 use crate::nodes::Nodes;
 
-impl Nodes {
-    /// Whether a node's tree has free parameters.
-    fn open_at(&self, node: u32) -> bool
-        requires { node < length self.now.nodes }
-        ensures { result ≡ open_at self.now.nodes node }
-    {
-        self.entry(node).is_open
+/// What two words tell of a reference to an rvalue of a type.
+#[inline(always)]
+#[tactic(auto, unfolding(crate::specs::Compact::class_kept, crate::specs::Compact::arguments_kept, crate::specs::Compact::returns_kept, crate::specs::Compact::count_kept, crate::specs::Compact::run_kept, crate::specs::Notes::collapses))]
+fn collapsed(words: Words) -> Words
+    ensures { (n : Node) (packs : Option ℕ) (is_open : Bool) (first : ℕ) → kept n packs is_open false result first 0 ≡ with_head n packs is_open (collapses (class_kept words first)) }
+{
+    match words {
+        Words::Lvalue => Words::Lvalue,
+        Words::OfElement => Words::CollapsedOfElement,
+        Words::CollapsedOfElement => Words::CollapsedOfElement,
+        _ => Words::Rvalue,
     }
+}
 
-    /// Whether a piece of a name has free parameters.
-    #[tactic(auto, unfolding(crate::specs::Notes::piece_opens))]
-    fn piece_opens(&self, symbol: &[u8], piece: Piece) -> bool
-        requires { IsPieceBelow symbol.now (length self.now.nodes) piece }
-        ensures { result ≡ piece_opens self.now.nodes piece }
+/// What two words tell of a type with the head of a type.
+#[inline(always)]
+#[tactic(auto, unfolding(crate::specs::Compact::class_kept, crate::specs::Compact::arguments_kept, crate::specs::Compact::returns_kept, crate::specs::Compact::count_kept, crate::specs::Compact::run_kept))]
+fn of_type(words: Words) -> Words
+    ensures { (n : Node) (packs : Option ℕ) (is_open : Bool) (first : ℕ) → kept n packs is_open false result first 0 ≡ with_head n packs is_open (class_kept words first) }
+{
+    match words {
+        Words::Arguments => Words::Plain,
+        Words::ReturningArguments => Words::Plain,
+        Words::Elements => Words::Plain,
+        _ => words,
+    }
+}
+
+/// What two words tell of a name that ends in a name.
+#[inline(always)]
+#[tactic(auto, unfolding(crate::specs::Compact::class_kept, crate::specs::Compact::arguments_kept, crate::specs::Compact::returns_kept, crate::specs::Compact::count_kept, crate::specs::Compact::run_kept))]
+fn of_name(words: Words) -> Words
+    ensures { (n : Node) (packs : Option ℕ) (is_open : Bool) (first : ℕ) → kept n packs is_open false result first 0 ≡ with_arguments n packs is_open (arguments_kept words first) (returns_kept words) }
+{
+    match words {
+        Words::Arguments => Words::Arguments,
+        Words::ReturningArguments => Words::ReturningArguments,
+        _ => Words::Plain,
+    }
+}
+
+/// What two words tell of an instance of a template.
+#[inline(always)]
+#[tactic(auto, unfolding(crate::specs::Compact::class_kept, crate::specs::Compact::arguments_kept, crate::specs::Compact::returns_kept, crate::specs::Compact::count_kept, crate::specs::Compact::run_kept, crate::specs::Notes::is_structor_node, crate::specs::Notes::is_structor_piece))]
+fn of_instance(template: Node) -> Words
+    ensures { (n : Node) (packs : Option ℕ) (is_open : Bool) (first : ℕ) → kept n packs is_open false result first 0 ≡ with_arguments n packs is_open (Some first) (not (is_structor_node template)) }
+{
+    match template {
+        Node::Within {
+            piece: Piece::Constructor(_),
+            ..
+        } => Words::Arguments,
+        Node::Within {
+            piece: Piece::Destructor(_),
+            ..
+        } => Words::Arguments,
+        _ => Words::ReturningArguments,
+    }
+}
+
+/// A node whose parameters are those of a part.
+#[inline(always)]
+fn noted_over(node: Node, part: Compact, words: Words, first: u32) -> Compact
+    ensures { entry_of result ≡ kept node (packs_kept part.has_packs part.packs) part.is_open false words first 0 }
+{
+    Compact {
+        node,
+        packs: part.packs,
+        first,
+        second: 0,
+        has_packs: part.has_packs,
+        is_open: part.is_open,
+        is_empty: false,
+        words,
+    }
+}
+
+/// The length of the packs of the first of two parts that has some.
+#[inline(always)]
+fn packs_of_two(one: Compact, other: Compact) -> u32
+    ensures { result ≡ if one.has_packs then one.packs else other.packs }
+{
+    if one.has_packs {
+        one.packs
+    } else {
+        other.packs
+    }
+}
+
+/// Whether a part has packs of no elements.
+#[inline(always)]
+#[tactic(auto, unfolding(crate::specs::Compact::packs_kept, cpp_grammar::specs::Items::is_none_of))]
+fn has_empty_packs(part: Compact) -> bool
+    ensures { result ≡ heads.is_none_of (packs_kept part.has_packs part.packs) }
+{
+    part.has_packs && part.packs == 0
+}
+
+/// A node whose parameters are those of two parts.
+#[inline(always)]
+fn noted_over_two(
+    node: Node,
+    one: Compact,
+    other: Compact,
+    is_empty: bool,
+    words: Words,
+    first: u32,
+    second: u32,
+) -> Compact
+    ensures { entry_of result ≡ kept node (first_of (packs_kept one.has_packs one.packs) (packs_kept other.has_packs other.packs)) (one.is_open || other.is_open) is_empty words first second }
+{
+    Compact {
+        node,
+        packs: packs_of_two(one, other),
+        first,
+        second,
+        has_packs: one.has_packs | other.has_packs,
+        is_open: one.is_open | other.is_open,
+        is_empty,
+        words,
+    }
+}
+
+impl Nodes {
+    /// A name of a piece behind no other.
+    #[inline(always)]
+    fn noted_piece(&self, symbol: &[u8], node: Node, piece: Piece) -> Compact
+        requires below { IsPieceBelow symbol.now (length self.now.nodes) piece }
+        ensures { entry_of result ≡ kept node (piece_packs self.now.nodes piece) (piece_opens self.now.nodes piece) false Words.Plain 0 0 }
     {
         match piece {
-            Piece::Lambda { parameters, .. } => self.open_at(parameters),
-            _ => false,
+            Piece::Lambda { parameters, .. } => noted_over(
+                node,
+                self.at(parameters),
+                Words::Plain,
+                0,
+            ),
+            _ => bare(node, false),
         }
     }
 
-    /// Whether the tree of a node to come has free parameters.
-    #[tactic(auto, unfolding(crate::specs::Notes::opens))]
-    pub(crate) fn opens(&self, symbol: &[u8], node: Node) -> bool
-        requires { IsBelow symbol.now (length self.now.thunks) (length self.now.nodes) node }
-        ensures { result ≡ opens self.now.nodes node }
+    /// A name of a piece behind a prefix.
+    #[inline(always)]
+    fn noted_within(&self, symbol: &[u8], node: Node, prefix: u32, piece: Piece) -> Compact
+        requires prefix { prefix < length self.now.nodes }
+        requires below { IsPieceBelow symbol.now (length self.now.nodes) piece }
+        ensures { entry_of result ≡ kept node (first_of (entry_at self.now.nodes prefix).packs (piece_packs self.now.nodes piece)) ((entry_at self.now.nodes prefix).is_open || piece_opens self.now.nodes piece) false Words.Plain 0 0 }
     {
-        match node {
-            Node::Parameter { .. } => true,
-            Node::Alone(piece) => self.piece_opens(symbol, piece),
-            Node::InStd(piece) => self.piece_opens(symbol, piece),
-            Node::Within { prefix, piece } => self.open_at(prefix)
-                || self.piece_opens(symbol, piece),
-            Node::Instance {
-                template,
-                arguments,
-            } => self.open_at(template) || self.open_at(arguments),
-            Node::Local { entity, .. } => self.open_at(entity),
-            Node::Pointer(ty) => self.open_at(ty),
-            Node::Lvalue(ty) => self.open_at(ty),
-            Node::Rvalue(ty) => self.open_at(ty),
-            Node::Array { element, .. } => self.open_at(element),
-            Node::MemberPointer { class, member } => self.open_at(class) || self.open_at(member),
-            Node::FunctionType {
-                returned,
-                parameters,
-                ..
-            } => self.open_at(returned) || self.open_at(parameters),
-            Node::Qualified { ty, .. } => self.open_at(ty),
-            Node::Vector { element, .. } => self.open_at(element),
-            Node::Complex(ty) => self.open_at(ty),
-            Node::Expansion(pattern) => self.open_at(pattern),
-            Node::Integer { ty, .. } => self.open_at(ty),
-            Node::Pack(elements) => self.open_at(elements),
-            Node::Cell { first, rest } => self.open_at(first) || self.open_at(rest),
-            _ => false,
+        match piece {
+            Piece::Lambda { parameters, .. } => noted_over_two(
+                node,
+                self.at(prefix),
+                self.at(parameters),
+                false,
+                Words::Plain,
+                0,
+                0,
+            ),
+            _ => noted_over(node, self.at(prefix), Words::Plain, 0),
         }
     }
 
-    /// Whether the tree of a node to come prints nothing.
-    #[tactic(auto, unfolding(crate::specs::Notes::empties, cpp_grammar::specs::Items::is_none_of))]
-    pub(crate) fn empties(&self, symbol: &[u8], node: Node) -> bool
-        requires { IsBelow symbol.now (length self.now.thunks) (length self.now.nodes) node }
-        ensures { result ≡ empties self.now.nodes node }
-    {
-        match node {
-            Node::Expansion(pattern) => match self.entry(pattern).packs {
-                None => false,
-                Some(count) => count == 0,
-            },
-            Node::Pack(elements) => self.entry(elements).is_empty,
-            Node::Nil => true,
-            Node::Cell { first, rest } => self.entry(first).is_empty && self.entry(rest).is_empty,
-            _ => false,
-        }
-    }
-
-    /// The arguments that the tree of a node to come ends in.
-    #[tactic(auto, unfolding(crate::specs::Notes::ends_in))]
-    pub(crate) fn ends_in(&self, symbol: &[u8], node: Node) -> Option<u32>
-        requires { IsBelow symbol.now (length self.now.thunks) (length self.now.nodes) node }
-        ensures { result ≡ ends_in self.now.nodes node }
-    {
-        match node {
-            Node::Instance { arguments, .. } => Some(arguments),
-            Node::Local { entity, .. } => self.entry(entity).arguments,
-            _ => None,
-        }
-    }
-
-    /// The head of an argument's parameter.
-    #[tactic(auto, unfolding(crate::specs::Notes::argument_class))]
-    fn argument_class(&self, argument: u32) -> HeadClass
-        requires { argument < length self.now.nodes }
-        ensures { result ≡ argument_class (entry_at self.now.nodes argument).node (entry_at self.now.nodes argument).class }
-    {
-        match self.entry(argument).node {
-            Node::Pack(elements) => HeadClass::OfElement(elements),
-            _ => self.entry(argument).class,
-        }
-    }
-
-    /// The head of the tree of a node to come.
-    #[tactic(auto, unfolding(crate::specs::Notes::classes))]
-    pub(crate) fn classes(&self, symbol: &[u8], node: Node) -> HeadClass
-        requires { IsBelow symbol.now (length self.now.thunks) (length self.now.nodes) node }
-        ensures { result ≡ classes self.now.nodes node }
-    {
-        match node {
-            Node::Lvalue(_) => HeadClass::Known(Head::Lvalue),
-            Node::Rvalue(ty) => collapses(self.entry(ty).class),
-            Node::Qualified { ty, .. } => self.entry(ty).class,
-            Node::Parameter { argument, .. } => self.argument_class(argument),
-            Node::FunctionType { .. } => HeadClass::Known(Head::FunctionOrArray),
-            Node::Array { .. } => HeadClass::Known(Head::FunctionOrArray),
-            _ => HeadClass::Known(Head::Plain),
-        }
-    }
-
-    /// The length of an argument that is a pack.
-    #[tactic(auto, unfolding(crate::specs::Notes::argument_packs))]
-    fn argument_packs(&self, symbol: &[u8], argument: u32) -> Option<u32>
+    /// A parameter with its argument.
+    #[inline(always)]
+    fn noted_parameter(&self, symbol: &[u8], node: Node, argument: u32) -> Compact
         requires table { IsTable (over symbol.now self.now) }
         requires argument { argument < length self.now.nodes }
-        ensures { result ≡ argument_packs self.now.nodes (entry_at self.now.nodes argument).node }
+        ensures { entry_of result ≡ with_head node (argument_packs self.now.nodes (entry_at self.now.nodes argument).node) true (argument_class (entry_at self.now.nodes argument).node (entry_at self.now.nodes argument).class) }
     {
+        let held = self.at(argument);
         match self.node(symbol, argument) {
-            Node::Pack(elements) => Some(self.entry(elements).count),
-            _ => None,
+            Node::Pack(elements) => Compact {
+                node,
+                packs: self.at(elements).entry().count,
+                first: elements,
+                second: 0,
+                has_packs: true,
+                is_open: true,
+                is_empty: false,
+                words: Words::OfElement,
+            },
+            _ => Compact {
+                node,
+                packs: 0,
+                first: held.first,
+                second: 0,
+                has_packs: false,
+                is_open: true,
+                is_empty: false,
+                words: of_type(held.words),
+            },
         }
     }
 
-    /// The length of the packs of the first of two trees that has some.
-    fn packs_of_two(&self, first: u32, second: u32) -> Option<u32>
-        requires first { first < length self.now.nodes }
-        requires second { second < length self.now.nodes }
-        ensures { result ≡ first_of (entry_at self.now.nodes first).packs (entry_at self.now.nodes second).packs }
+    /// An expansion over a pattern.
+    #[inline(always)]
+    fn noted_expansion(&self, node: Node, pattern: u32) -> Compact
+        requires pattern { pattern < length self.now.nodes }
+        ensures { entry_of result ≡ kept node None (entry_at self.now.nodes pattern).is_open (heads.is_none_of (entry_at self.now.nodes pattern).packs) Words.Plain 0 0 }
     {
-        first_of(self.entry(first).packs, self.entry(second).packs)
-    }
-
-    /// The length of the packs of a piece of a name.
-    #[tactic(auto, unfolding(crate::specs::Notes::piece_packs))]
-    fn piece_packs(&self, symbol: &[u8], piece: Piece) -> Option<u32>
-        requires { IsPieceBelow symbol.now (length self.now.nodes) piece }
-        ensures { result ≡ piece_packs self.now.nodes piece }
-    {
-        match piece {
-            Piece::Lambda { parameters, .. } => self.entry(parameters).packs,
-            _ => None,
+        let held = self.at(pattern);
+        Compact {
+            is_open: held.is_open,
+            ..bare(node, has_empty_packs(held))
         }
     }
 
-    /// The length of the packs of a node to come.
-    #[tactic(auto, unfolding(crate::specs::Notes::packing))]
-    fn packing(&self, symbol: &[u8], node: Node) -> Option<u32>
-        requires table { IsTable (over symbol.now self.now) }
-        requires below { IsBelow symbol.now (length self.now.thunks) (length self.now.nodes) node }
-        ensures { result ≡ packing self.now.nodes node }
+    /// A pack of a list's elements.
+    #[inline(always)]
+    fn noted_pack(&self, node: Node, elements: u32) -> Compact
+        requires elements { elements < length self.now.nodes }
+        ensures { entry_of result ≡ kept node (entry_at self.now.nodes elements).packs (entry_at self.now.nodes elements).is_open (entry_at self.now.nodes elements).is_empty Words.Plain 0 0 }
     {
-        match node {
-            Node::Parameter { argument, .. } => self.argument_packs(symbol, argument),
-            Node::Alone(piece) => self.piece_packs(symbol, piece),
-            Node::InStd(piece) => self.piece_packs(symbol, piece),
-            Node::Within { prefix, piece } => {
-                first_of(self.entry(prefix).packs, self.piece_packs(symbol, piece))
-            }
-            Node::Instance {
-                template,
-                arguments,
-            } => self.packs_of_two(template, arguments),
-            Node::Local { entity, .. } => self.entry(entity).packs,
-            Node::Pointer(ty) => self.entry(ty).packs,
-            Node::Lvalue(ty) => self.entry(ty).packs,
-            Node::Rvalue(ty) => self.entry(ty).packs,
-            Node::Array { element, .. } => self.entry(element).packs,
-            Node::MemberPointer { class, member } => self.packs_of_two(class, member),
-            Node::FunctionType {
-                returned,
-                parameters,
-                ..
-            } => self.packs_of_two(returned, parameters),
-            Node::Qualified { ty, .. } => self.entry(ty).packs,
-            Node::Vector { element, .. } => self.entry(element).packs,
-            Node::Complex(ty) => self.entry(ty).packs,
-            Node::Integer { ty, .. } => self.entry(ty).packs,
-            Node::Pack(elements) => self.entry(elements).packs,
-            Node::Cell { first, rest } => self.packs_of_two(first, rest),
-            _ => None,
-        }
-    }
-
-    /// Whether an encoding whose name is the node to come has a return type.
-    #[tactic(auto, unfolding(crate::specs::Notes::returning))]
-    fn returning(&self, symbol: &[u8], node: Node) -> bool
-        requires { IsBelow symbol.now (length self.now.thunks) (length self.now.nodes) node }
-        ensures { result ≡ returning self.now.nodes node }
-    {
-        match node {
-            Node::Instance { template, .. } => !is_structor_node(self.entry(template).node),
-            Node::Local { entity, .. } => self.entry(entity).returns,
-            _ => false,
-        }
-    }
-
-    /// How many elements the list to come has.
-    #[tactic(auto, unfolding(crate::specs::Notes::counting))]
-    fn counting(&self, symbol: &[u8], node: Node) -> u32
-        requires table { IsTable (over symbol.now self.now) }
-        requires below { IsBelow symbol.now (length self.now.thunks) (length self.now.nodes) node }
-        requires room { length self.now.nodes + 1 < 2 ^ 32 }
-        ensures { result ≡ counting self.now.nodes node }
-    {
-        match node {
-            Node::Cell { rest, .. } => self.entry(rest).count + 1,
-            _ => 0,
+        let held = self.at(elements);
+        Compact {
+            is_empty: held.is_empty,
+            ..noted_over(node, held, Words::Plain, 0)
         }
     }
 
     /// How many of the nodes before the cell to come are the cells behind it.
-    #[tactic(auto, unfolding(crate::specs::Notes::running))]
-    fn running(&self, symbol: &[u8], node: Node) -> u32
-        requires table { IsTable (over symbol.now self.now) }
-        requires below { IsBelow symbol.now (length self.now.thunks) (length self.now.nodes) node }
+    #[inline(always)]
+    fn run_to(&self, rest: u32) -> u32
+        requires rest { rest < length self.now.nodes }
         requires room { length self.now.nodes + 1 < 2 ^ 32 }
-        ensures { result ≡ running self.now.nodes node }
+        requires run { (entry_at self.now.nodes rest).run + 1 < 2 ^ 32 }
+        ensures { result ≡ cond (nat_eq (rest + 1) (length self.now.nodes)) ((entry_at self.now.nodes rest).run + 1) 0 }
     {
-        match node {
-            Node::Cell { rest, .. } => {
-                if rest as usize + 1 == self.len() {
-                    self.entry(rest).run + 1
-                } else {
-                    0
-                }
-            }
-            _ => 0,
+        if rest as usize + 1 == self.len() {
+            self.at(rest).entry().run + 1
+        } else {
+            0
         }
+    }
+
+    /// A cell of a list.
+    #[inline(always)]
+    fn noted_cell(&self, symbol: &[u8], node: Node, first: u32, rest: u32) -> Compact
+        requires table { IsTable (over symbol.now self.now) }
+        requires first { first < length self.now.nodes }
+        requires rest { rest < length self.now.nodes }
+        requires room { length self.now.nodes + 1 < 2 ^ 32 }
+        ensures { entry_of result ≡ kept node (first_of (entry_at self.now.nodes first).packs (entry_at self.now.nodes rest).packs) ((entry_at self.now.nodes first).is_open || (entry_at self.now.nodes rest).is_open)
+            ((entry_at self.now.nodes first).is_empty && (entry_at self.now.nodes rest).is_empty) Words.Elements ((entry_at self.now.nodes rest).count + 1) (cond (nat_eq (rest + 1) (length self.now.nodes)) ((entry_at self.now.nodes rest).run + 1) 0) }
+    {
+        let one = self.at(first);
+        let other = self.at(rest);
+        let is_empty = one.is_empty & other.is_empty;
+        let count = other.entry().count + 1;
+        noted_over_two(
+            node,
+            one,
+            other,
+            is_empty,
+            Words::Elements,
+            count,
+            self.run_to(rest),
+        )
+    }
+
+    /// A node over a type, of which these words tell.
+    #[inline(always)]
+    fn noted_type(&self, node: Node, ty: u32, words: Words) -> Compact
+        requires { ty < length self.now.nodes }
+        ensures { entry_of result ≡ kept node (entry_at self.now.nodes ty).packs (entry_at self.now.nodes ty).is_open false words 0 0 }
+    {
+        noted_over(node, self.at(ty), words, 0)
+    }
+
+    /// A node over two types, of which these words tell.
+    #[inline(always)]
+    fn noted_types(&self, node: Node, one: u32, other: u32, words: Words) -> Compact
+        requires one { one < length self.now.nodes }
+        requires other { other < length self.now.nodes }
+        ensures { entry_of result ≡ kept node (first_of (entry_at self.now.nodes one).packs (entry_at self.now.nodes other).packs) ((entry_at self.now.nodes one).is_open || (entry_at self.now.nodes other).is_open) false words 0 0 }
+    {
+        noted_over_two(node, self.at(one), self.at(other), false, words, 0, 0)
+    }
+
+    /// A reference to an rvalue of a type.
+    #[inline(always)]
+    fn noted_rvalue(&self, node: Node, ty: u32) -> Compact
+        requires { ty < length self.now.nodes }
+        ensures { entry_of result ≡ with_head node (entry_at self.now.nodes ty).packs (entry_at self.now.nodes ty).is_open (collapses (entry_at self.now.nodes ty).class) }
+    {
+        let held = self.at(ty);
+        noted_over(node, held, collapsed(held.words), held.first)
+    }
+
+    /// A qualified type.
+    #[inline(always)]
+    fn noted_qualified(&self, node: Node, ty: u32) -> Compact
+        requires { ty < length self.now.nodes }
+        ensures { entry_of result ≡ with_head node (entry_at self.now.nodes ty).packs (entry_at self.now.nodes ty).is_open (entry_at self.now.nodes ty).class }
+    {
+        let held = self.at(ty);
+        noted_over(node, held, of_type(held.words), held.first)
+    }
+
+    /// A name in a function.
+    #[inline(always)]
+    fn noted_local(&self, node: Node, entity: u32) -> Compact
+        requires { entity < length self.now.nodes }
+        ensures { entry_of result ≡ with_arguments node (entry_at self.now.nodes entity).packs (entry_at self.now.nodes entity).is_open (entry_at self.now.nodes entity).arguments (entry_at self.now.nodes entity).returns }
+    {
+        let held = self.at(entity);
+        noted_over(node, held, of_name(held.words), held.first)
+    }
+
+    /// An instance of a template.
+    #[inline(always)]
+    fn noted_instance(&self, node: Node, template: u32, arguments: u32) -> Compact
+        requires template { template < length self.now.nodes }
+        requires arguments { arguments < length self.now.nodes }
+        ensures { entry_of result ≡ with_arguments node (first_of (entry_at self.now.nodes template).packs (entry_at self.now.nodes arguments).packs) ((entry_at self.now.nodes template).is_open || (entry_at self.now.nodes arguments).is_open)
+            (Some arguments) (not (is_structor_node (entry_at self.now.nodes template).node)) }
+    {
+        let held = self.at(template);
+        noted_over_two(
+            node,
+            held,
+            self.at(arguments),
+            false,
+            of_instance(held.node),
+            arguments,
+            0,
+        )
     }
 
     /// A node with what is noted of it.
     #[inline(always)]
-    pub(crate) fn noted(&self, symbol: &[u8], node: Node) -> Entry
+    #[tactic(auto, unfolding(crate::specs::Compact::packs_kept, crate::specs::Compact::class_kept, crate::specs::Compact::arguments_kept, crate::specs::Compact::returns_kept, crate::specs::Compact::count_kept, crate::specs::Compact::run_kept, crate::specs::Notes::opens, crate::specs::Notes::empties, crate::specs::Notes::ends_in, crate::specs::Notes::classes, crate::specs::Notes::packing, crate::specs::Notes::returning, crate::specs::Notes::counting, crate::specs::Notes::running))]
+    pub(crate) fn noted(&self, symbol: &[u8], node: Node) -> Compact
         requires table { IsTable (over symbol.now self.now) }
         requires below { IsBelow symbol.now (length self.now.thunks) (length self.now.nodes) node }
         requires room { length self.now.nodes + 1 < 2 ^ 32 }
-        ensures { result ≡ noting self.now.nodes node }
+        ensures { entry_of result ≡ noting self.now.nodes node }
     {
-        Entry {
-            node,
-            packs: self.packing(symbol, node),
-            is_open: self.opens(symbol, node),
-            is_empty: self.empties(symbol, node),
-            class: self.classes(symbol, node),
-            arguments: self.ends_in(symbol, node),
-            returns: self.returning(symbol, node),
-            count: self.counting(symbol, node),
-            run: self.running(symbol, node),
+        match node {
+            Node::Alone(piece) => self.noted_piece(symbol, node, piece),
+            Node::InStd(piece) => self.noted_piece(symbol, node, piece),
+            Node::Within { prefix, piece } => self.noted_within(symbol, node, prefix, piece),
+            Node::Instance {
+                template,
+                arguments,
+            } => self.noted_instance(node, template, arguments),
+            Node::Local { entity, .. } => self.noted_local(node, entity),
+            Node::Parameter { argument, .. } => self.noted_parameter(symbol, node, argument),
+            Node::Pointer(ty) => self.noted_type(node, ty, Words::Plain),
+            Node::Lvalue(ty) => self.noted_type(node, ty, Words::Lvalue),
+            Node::Rvalue(ty) => self.noted_rvalue(node, ty),
+            Node::Array { element, .. } => self.noted_type(node, element, Words::FunctionOrArray),
+            Node::MemberPointer { class, member } => self.noted_types(
+                node,
+                class,
+                member,
+                Words::Plain,
+            ),
+            Node::FunctionType {
+                returned,
+                parameters,
+                ..
+            } => self.noted_types(node, returned, parameters, Words::FunctionOrArray),
+            Node::Qualified { ty, .. } => self.noted_qualified(node, ty),
+            Node::Vector { element, .. } => self.noted_type(node, element, Words::Plain),
+            Node::Complex(ty) => self.noted_type(node, ty, Words::Plain),
+            Node::Expansion(pattern) => self.noted_expansion(node, pattern),
+            Node::Integer { ty, .. } => self.noted_type(node, ty, Words::Plain),
+            Node::Pack(elements) => self.noted_pack(node, elements),
+            Node::Nil => bare(node, true),
+            Node::Cell { first, rest } => self.noted_cell(symbol, node, first, rest),
+            _ => bare(node, false),
         }
-    }
-}
-
-/// The head of an rvalue reference.
-#[tactic(auto, unfolding(crate::specs::Notes::collapses))]
-fn collapses(class: HeadClass) -> HeadClass
-    ensures { result ≡ collapses class }
-{
-    match class {
-        HeadClass::Known(head) => match head {
-            Head::Lvalue => HeadClass::Known(Head::Lvalue),
-            _ => HeadClass::Known(Head::Rvalue),
-        },
-        HeadClass::OfElement(elements) => HeadClass::CollapsedOfElement(elements),
-        HeadClass::CollapsedOfElement(elements) => HeadClass::CollapsedOfElement(elements),
-    }
-}
-
-/// The first of two lengths.
-#[tactic(auto, unfolding(cpp_grammar::specs::Scope::first_of))]
-fn first_of(first: Option<u32>, second: Option<u32>) -> Option<u32>
-    ensures { result ≡ first_of first second }
-{
-    match first {
-        Some(count) => Some(count),
-        None => second,
-    }
-}
-
-/// Whether a piece of a name is that of a constructor or a destructor.
-#[tactic(auto, unfolding(crate::specs::Notes::is_structor_piece))]
-fn is_structor_piece(piece: Piece) -> bool
-    ensures { result ≡ is_structor_piece piece }
-{
-    match piece {
-        Piece::Constructor(_) => true,
-        Piece::Destructor(_) => true,
-        _ => false,
-    }
-}
-
-/// Whether a node is the name of a constructor or a destructor.
-#[tactic(auto, unfolding(crate::specs::Notes::is_structor_node))]
-fn is_structor_node(node: Node) -> bool
-    ensures { result ≡ is_structor_node node }
-{
-    match node {
-        Node::Within { piece, .. } => is_structor_piece(piece),
-        _ => false,
     }
 }

@@ -1,26 +1,31 @@
-use Rattle.std.proofs.Common.{rules}
+use Rattle.std.proofs.Common.{rules, ap}
 use Rattle.cpp_tree.specs.Nodes.{over}
 use Rattle.cpp_tree.specs.Notes.{noting}
 use Rattle.cpp_tree.proofs.Noting.{noted}
+use Rattle.cpp_tree.proofs.Compacting.{held-one-more}
 use Rattle.cpp_tree.proofs.Pushed.{with-one-more, grown-is, pushed, pushed-there, pushed-stays}
 use Rattle.cpp_tree.proofs.nodes.Nodes.push.Goals as goal
 
 pub returns-clause-table : goal.returns-clause-table
 returns-clause-table c =
     let y = over c.args.symbol.now c.args.self.now in
-    pushed y _ (noting c.args.self.now.nodes c.args.node) (with-one-more c.args.symbol.now c.args.self.now _ _ _ (search rules) (search rules)) c.requires.table (noted y c.requires.table c.args.node c.requires.below)
+    let more = held-one-more c.self.inside.entries.items _ c.noted-compact.result c.args.self.now.nodes _ (search rules) (ap (λ v. v.nodes) c.self.view_is) c.noted-compact.ensures in
+    pushed y _ (noting c.args.self.now.nodes c.args.node) (with-one-more c.args.symbol.now c.args.self.now _ _ _ more (search rules)) c.requires.table (noted y c.requires.table c.args.node c.requires.below)
 
 pub returns-clause-trees : goal.returns-clause-trees
 returns-clause-trees c =
     let y = over c.args.symbol.now c.args.self.now in
-    grown-is y _ (noting c.args.self.now.nodes c.args.node) (with-one-more c.args.symbol.now c.args.self.now _ _ _ (search rules) (search rules))
+    let more = held-one-more c.self.inside.entries.items _ c.noted-compact.result c.args.self.now.nodes _ (search rules) (ap (λ v. v.nodes) c.self.view_is) c.noted-compact.ensures in
+    grown-is y _ (noting c.args.self.now.nodes c.args.node) (with-one-more c.args.symbol.now c.args.self.now _ _ _ more (search rules))
 
 pub returns-clause-tree : goal.returns-clause-tree
 returns-clause-tree c =
     let y = over c.args.symbol.now c.args.self.now in
-    pushed-there y _ (noting c.args.self.now.nodes c.args.node) c.len-number.result (with-one-more c.args.symbol.now c.args.self.now _ _ _ (search rules) (search rules)) (search rules) c.requires.table (noted y c.requires.table c.args.node c.requires.below)
+    let more = held-one-more c.self.inside.entries.items _ c.noted-compact.result c.args.self.now.nodes _ (search rules) (ap (λ v. v.nodes) c.self.view_is) c.noted-compact.ensures in
+    pushed-there y _ (noting c.args.self.now.nodes c.args.node) c.len-number.result (with-one-more c.args.symbol.now c.args.self.now _ _ _ more (search rules)) (search rules) c.requires.table (noted y c.requires.table c.args.node c.requires.below)
 
 pub returns-clause-stays : goal.returns-clause-stays
 returns-clause-stays c =
     let y = over c.args.symbol.now c.args.self.now in
-    pushed-stays y _ (noting c.args.self.now.nodes c.args.node) (with-one-more c.args.symbol.now c.args.self.now _ _ _ (search rules) (search rules)) c.requires.table (noted y c.requires.table c.args.node c.requires.below)
+    let more = held-one-more c.self.inside.entries.items _ c.noted-compact.result c.args.self.now.nodes _ (search rules) (ap (λ v. v.nodes) c.self.view_is) c.noted-compact.ensures in
+    pushed-stays y _ (noting c.args.self.now.nodes c.args.node) (with-one-more c.args.symbol.now c.args.self.now _ _ _ more (search rules)) c.requires.table (noted y c.requires.table c.args.node c.requires.below)

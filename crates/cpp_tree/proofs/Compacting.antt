@@ -1,0 +1,148 @@
+-- What is held of a node in few bytes.
+use Rattle.std.proofs.Common.{◌≡◌, refl, ap, ◌∙◌, ℕ, List, [], ◌∷◌, ◌++◌, map, Bool, true, false, ◌||◌, if◌then◌else◌, Option, None, Some}
+use Rattle.std.proofs.lemmas.List.{map-append}
+use Rattle.cpp_grammar.specs.Items as heads
+use Rattle.cpp_grammar.specs.Scope.{first_of}
+use Rattle.cpp_tree.specs.declared.node.Piece.{Piece}
+use Rattle.sym_core.specs.declared.Span.{Span}
+use Rattle.cpp_tree.specs.declared.node.Qualifiers.{Qualifiers}
+use Rattle.cpp_tree.specs.declared.node.Mark.{Mark}
+use Rattle.cpp_tree.specs.declared.node.Signed.{Signed}
+use Rattle.cpp_tree.specs.declared.node.Node.{Node}
+use Rattle.cpp_tree.specs.declared.node.HeadClass.{HeadClass}
+use Rattle.cpp_tree.specs.declared.node.Entry.{Entry}
+use Rattle.cpp_tree.specs.declared.compact.Words.{Words}
+use Rattle.cpp_tree.specs.declared.compact.Compact.{Compact}
+use Rattle.cpp_tree.specs.Nodes.{entry_at}
+use Rattle.cpp_tree.specs.Notes.{piece_opens, piece_packs, argument_packs, argument_class, opens, empties, ends_in, classes, packing, returning, counting, running, noting, bare_entry}
+use Rattle.cpp_tree.specs.Compact.{packs_kept, class_kept, arguments_kept, returns_kept, count_kept, run_kept, kept, with_head, entry_of}
+
+pub two-packs : (a b : Bool) (m n : ℕ) → packs_kept (a || b) (if a then m else n) ≡ first_of (packs_kept a m) (packs_kept b n)
+unfolding packs_kept first_of
+two-packs true b m n = refl
+two-packs false b m n = refl
+
+pub over-is : (n : Node) (w : Words) (first : ℕ) (c part : Compact) (e : Entry) → entry_of part ≡ e
+    → entry_of c ≡ kept n (packs_kept part.has_packs part.packs) part.is_open false w first 0 → entry_of c ≡ kept n e.packs e.is_open false w first 0
+over-is n w first c part e at made = made ∙ ap (λ x. kept n x.packs x.is_open false w first 0) at
+
+pub over-two-is : (n : Node) (empty : Bool) (w : Words) (first second : ℕ) (c one other : Compact) (e f : Entry) → entry_of one ≡ e → entry_of other ≡ f
+    → entry_of c ≡ kept n (first_of (packs_kept one.has_packs one.packs) (packs_kept other.has_packs other.packs)) (one.is_open || other.is_open) empty w first second
+    → entry_of c ≡ kept n (first_of e.packs f.packs) (e.is_open || f.is_open) empty w first second
+over-two-is n empty w first second c one other e f at there made =
+    made ∙ ap (λ x. kept n (first_of x.packs (packs_kept other.has_packs other.packs)) (x.is_open || other.is_open) empty w first second) at
+    ∙ ap (λ x. kept n (first_of e.packs x.packs) (e.is_open || x.is_open) empty w first second) there
+
+abbrev opened : Entry → Bool → Entry
+opened e free = record { node = e.node; packs = e.packs; is_open = free; is_empty = e.is_empty; class = e.class; arguments = e.arguments; returns = e.returns; count = e.count; run = e.run }
+
+pub lambda-alone : (ns : List Entry) (n : Node) (piece : Piece) (p k : ℕ) → piece ≡ Piece.Lambda p k
+    → kept n (entry_at ns p).packs (entry_at ns p).is_open false Words.Plain 0 0 ≡ kept n (piece_packs ns piece) (piece_opens ns piece) false Words.Plain 0 0
+unfolding piece_packs piece_opens
+lambda-alone ns n piece p k is = rw is refl
+
+pub lambda-within : (ns : List Entry) (n : Node) (e : Entry) (piece : Piece) (p k : ℕ) → piece ≡ Piece.Lambda p k
+    → kept n (first_of e.packs (entry_at ns p).packs) (e.is_open || (entry_at ns p).is_open) false Words.Plain 0 0 ≡ kept n (first_of e.packs (piece_packs ns piece)) (e.is_open || piece_opens ns piece) false Words.Plain 0 0
+unfolding piece_packs piece_opens
+lambda-within ns n e piece p k is = rw is refl
+
+pub other-alone : (ns : List Entry) (n : Node) (piece : Piece) → ((p k : ℕ) → piece ≡ Piece.Lambda p k → ⊥)
+    → bare_entry n false ≡ kept n (piece_packs ns piece) (piece_opens ns piece) false Words.Plain 0 0
+unfolding piece_packs piece_opens class_kept arguments_kept returns_kept count_kept run_kept
+other-alone ns n (Piece.Lambda p k) other = absurd (other p k refl)
+other-alone ns n _ other = refl
+
+first-none : (p : Option ℕ) → p ≡ first_of p None
+unfolding first_of
+first-none None = refl
+first-none (Some n) = refl
+
+or-false : (b : Bool) → b ≡ b || false
+or-false true = refl
+or-false false = refl
+
+within-none : (n : Node) (e : Entry) → kept n e.packs e.is_open false Words.Plain 0 0 ≡ kept n (first_of e.packs None) (e.is_open || false) false Words.Plain 0 0
+within-none n e = ap (λ p. kept n p e.is_open false Words.Plain 0 0) (first-none e.packs) ∙ ap (λ b. kept n (first_of e.packs None) b false Words.Plain 0 0) (or-false e.is_open)
+
+pub other-within : (ns : List Entry) (n : Node) (e : Entry) (piece : Piece) → ((p k : ℕ) → piece ≡ Piece.Lambda p k → ⊥)
+    → kept n e.packs e.is_open false Words.Plain 0 0 ≡ kept n (first_of e.packs (piece_packs ns piece)) (e.is_open || piece_opens ns piece) false Words.Plain 0 0
+unfolding piece_packs piece_opens
+other-within ns n e (Piece.Lambda p k) other = absurd (other p k refl)
+other-within ns n e _ other = within-none n e
+
+pub expansion-is : (n : Node) (c held : Compact) (e : Entry) → entry_of held ≡ e → entry_of c ≡ bare_entry n (heads.is_none_of (packs_kept held.has_packs held.packs))
+    → entry_of (record { node = c.node; packs = c.packs; first = c.first; second = c.second; has_packs = c.has_packs; is_open = held.is_open; is_empty = c.is_empty; words = c.words })
+    ≡ kept n None e.is_open (heads.is_none_of e.packs) Words.Plain 0 0
+unfolding class_kept arguments_kept returns_kept count_kept run_kept
+expansion-is n c held e at made =
+    ap (λ x. opened x held.is_open) made ∙ ap (λ x. kept n None x.is_open (heads.is_none_of x.packs) Words.Plain 0 0) at
+
+-- one more is held
+pub held-one-more : (olds news : List Compact) (c : Compact) (ns : List Entry) (e : Entry) → news ≡ olds ++ c ∷ [] → map entry_of olds ≡ ns → entry_of c ≡ e
+    → map entry_of news ≡ ns ++ e ∷ []
+held-one-more olds news c ns e is was made =
+    ap (λ cs. map entry_of cs) is ∙ map-append entry_of olds (c ∷ [])
+    ∙ ap (λ es. es ++ entry_of c ∷ []) was ∙ ap (λ x. ns ++ x ∷ []) made
+
+-- ## The nodes of which nothing is noted
+
+-- the others
+pub record IsOther (n : Node) : Type 0 where
+  pub not_nil : n ≡ Node.Nil → ⊥
+  pub not_alone : (p : Piece) → n ≡ Node.Alone p → ⊥
+  pub not_instd : (p : Piece) → n ≡ Node.InStd p → ⊥
+  pub not_within : (i : ℕ) (p : Piece) → n ≡ Node.Within i p → ⊥
+  pub not_instance : (i : ℕ) (j : ℕ) → n ≡ Node.Instance i j → ⊥
+  pub not_local : (i : ℕ) (j : ℕ) (d : Option Span) → n ≡ Node.Local i j d → ⊥
+  pub not_parameter : (k : ℕ) (i : ℕ) → n ≡ Node.Parameter k i → ⊥
+  pub not_pointer : (i : ℕ) → n ≡ Node.Pointer i → ⊥
+  pub not_lvalue : (i : ℕ) → n ≡ Node.Lvalue i → ⊥
+  pub not_rvalue : (i : ℕ) → n ≡ Node.Rvalue i → ⊥
+  pub not_array : (d : Span) (i : ℕ) → n ≡ Node.Array d i → ⊥
+  pub not_memberpointer : (i : ℕ) (j : ℕ) → n ≡ Node.MemberPointer i j → ⊥
+  pub not_functiontype : (x : Bool) (y : Bool) (m : Mark) (i : ℕ) (j : ℕ) → n ≡ Node.FunctionType x y m i j → ⊥
+  pub not_qualified : (q : Qualifiers) (i : ℕ) → n ≡ Node.Qualified q i → ⊥
+  pub not_vector : (d : Span) (i : ℕ) → n ≡ Node.Vector d i → ⊥
+  pub not_complex : (i : ℕ) → n ≡ Node.Complex i → ⊥
+  pub not_expansion : (i : ℕ) → n ≡ Node.Expansion i → ⊥
+  pub not_integer : (i : ℕ) (v : Signed) → n ≡ Node.Integer i v → ⊥
+  pub not_pack : (i : ℕ) → n ≡ Node.Pack i → ⊥
+  pub not_cell : (i : ℕ) (j : ℕ) → n ≡ Node.Cell i j → ⊥
+
+pub other-node : (ns : List Entry) (n : Node) → IsOther n → bare_entry n false ≡ noting ns n
+unfolding opens empties ends_in classes packing returning counting running
+other-node ns Node.Nil other = absurd (other.not_nil refl)
+other-node ns (Node.Alone p) other = absurd (other.not_alone p refl)
+other-node ns (Node.InStd p) other = absurd (other.not_instd p refl)
+other-node ns (Node.Within i p) other = absurd (other.not_within i p refl)
+other-node ns (Node.Instance i j) other = absurd (other.not_instance i j refl)
+other-node ns (Node.Local i j d) other = absurd (other.not_local i j d refl)
+other-node ns (Node.Parameter k i) other = absurd (other.not_parameter k i refl)
+other-node ns (Node.Pointer i) other = absurd (other.not_pointer i refl)
+other-node ns (Node.Lvalue i) other = absurd (other.not_lvalue i refl)
+other-node ns (Node.Rvalue i) other = absurd (other.not_rvalue i refl)
+other-node ns (Node.Array d i) other = absurd (other.not_array d i refl)
+other-node ns (Node.MemberPointer i j) other = absurd (other.not_memberpointer i j refl)
+other-node ns (Node.FunctionType x y m i j) other = absurd (other.not_functiontype x y m i j refl)
+other-node ns (Node.Qualified q i) other = absurd (other.not_qualified q i refl)
+other-node ns (Node.Vector d i) other = absurd (other.not_vector d i refl)
+other-node ns (Node.Complex i) other = absurd (other.not_complex i refl)
+other-node ns (Node.Expansion i) other = absurd (other.not_expansion i refl)
+other-node ns (Node.Integer i v) other = absurd (other.not_integer i v refl)
+other-node ns (Node.Pack i) other = absurd (other.not_pack i refl)
+other-node ns (Node.Cell i j) other = absurd (other.not_cell i j refl)
+other-node ns _ other = refl
+
+-- ## Parameters
+
+pub pack-argument : (ns : List Entry) (n : Node) (argument elements count : ℕ) → (entry_at ns argument).node ≡ Node.Pack elements → count ≡ (entry_at ns elements).count
+    → entry_of (record { node = n; packs = count; first = elements; second = 0; has_packs = true; is_open = true; is_empty = false; words = Words.OfElement })
+    ≡ with_head n (argument_packs ns (entry_at ns argument).node) true (argument_class (entry_at ns argument).node (entry_at ns argument).class)
+unfolding argument_packs argument_class packs_kept class_kept arguments_kept returns_kept count_kept run_kept
+pack-argument ns n argument elements count is counted = rw (is, counted) refl
+
+pub other-argument : (ns : List Entry) (n m : Node) (c : HeadClass) → ((elements : ℕ) → m ≡ Node.Pack elements → ⊥)
+    → with_head n None true c ≡ with_head n (argument_packs ns m) true (argument_class m c)
+unfolding argument_packs argument_class
+other-argument ns n (Node.Pack elements) c other = absurd (other elements refl)
+other-argument ns n _ c other = refl

@@ -1,0 +1,13 @@
+use Rattle.std.proofs.Common.{◌∙◌}
+use Rattle.cpp_tree.specs.Nodes.{entry_at}
+use Rattle.cpp_tree.specs.declared.compact.Words.{Words}
+use Rattle.cpp_tree.proofs.Compacting.{over-is, lambda-alone, other-alone}
+use Rattle.cpp_tree.proofs.nodes.Nodes.noted_piece.Goals as goal
+
+pub returns-in-Lambda : goal.returns-in-Lambda
+returns-in-Lambda c =
+    over-is c.args.node Words.Plain 0 c.noted_over.result c.at.result (entry_at c.args.self.now.nodes c.in-Lambda.parameters) c.at.ensures c.noted_over.ensures
+    ∙ lambda-alone c.args.self.now.nodes c.args.node c.args.piece c.in-Lambda.parameters c.in-Lambda.number c.in-Lambda.is
+
+pub returns-in_default : goal.returns-in_default
+returns-in_default c = c.bare.ensures ∙ other-alone c.args.self.now.nodes c.args.node c.args.piece c.in_default.not-Lambda

@@ -1,0 +1,13 @@
+use Rattle.std.proofs.Common.{ap, ◌∙◌}
+use Rattle.cpp_tree.specs.Nodes.{entry_at}
+use Rattle.cpp_tree.specs.Notes.{collapses}
+use Rattle.cpp_tree.specs.Compact.{with_head}
+use Rattle.cpp_tree.proofs.Compacting.{over-is}
+use Rattle.cpp_tree.proofs.nodes.Nodes.noted_rvalue.Goals as goal
+
+pub returns : goal.returns
+returns c =
+    let e = entry_at c.args.self.now.nodes c.args.ty in
+    over-is c.args.node c.collapsed.result c.at-held.result.first c.noted_over.result c.at-held.result e c.at-held.ensures c.noted_over.ensures
+    ∙ c.collapsed.ensures c.args.node e.packs e.is_open c.at-held.result.first
+    ∙ ap (λ x. with_head c.args.node e.packs e.is_open (collapses x.class)) c.at-held.ensures

@@ -1,0 +1,147 @@
+// Entries in few bytes, as a table holds them.
+#![tactic(auto)]
+
+ghost use Rattle.std.specs.Prelude.{◌≡◌, false};
+ghost use Rattle.cpp_tree.specs.Compact.{packs_kept, class_kept, arguments_kept, returns_kept, count_kept, run_kept, entry_of};
+ghost use Rattle.cpp_tree.specs.Notes.{bare_entry};
+
+use crate::node::{Entry, Head, HeadClass, Node};
+
+/// What two words beside a node tell: of a type a list of elements, of a name its arguments, of a list its count and its run.
+#[derive(Clone, Copy)]
+pub enum Words {
+    Plain,
+    FunctionOrArray,
+    Lvalue,
+    Rvalue,
+    OfElement,
+    CollapsedOfElement,
+    Arguments,
+    ReturningArguments,
+    Elements,
+}
+
+/// An entry in few bytes: what no node has at once shares the two words.
+#[derive(Clone, Copy)]
+pub struct Compact {
+    pub node: Node,
+    pub packs: u32,
+    pub first: u32,
+    pub second: u32,
+    pub has_packs: bool,
+    pub is_open: bool,
+    pub is_empty: bool,
+    pub words: Words,
+}
+
+/// The length of the packs.
+#[inline(always)]
+#[tactic(auto, unfolding(crate::specs::Compact::packs_kept))]
+fn packs(has_packs: bool, packs: u32) -> Option<u32>
+    ensures { result ≡ packs_kept has_packs packs }
+{
+    if has_packs { Some(packs) } else { None }
+}
+
+/// The head of a type.
+#[inline(always)]
+#[tactic(auto, unfolding(crate::specs::Compact::class_kept))]
+pub(crate) fn class(words: Words, first: u32) -> HeadClass
+    ensures { result ≡ class_kept words first }
+{
+    match words {
+        Words::FunctionOrArray => HeadClass::Known(Head::FunctionOrArray),
+        Words::Lvalue => HeadClass::Known(Head::Lvalue),
+        Words::Rvalue => HeadClass::Known(Head::Rvalue),
+        Words::OfElement => HeadClass::OfElement(first),
+        Words::CollapsedOfElement => HeadClass::CollapsedOfElement(first),
+        _ => HeadClass::Known(Head::Plain),
+    }
+}
+
+/// The arguments that a name ends in.
+#[inline(always)]
+#[tactic(auto, unfolding(crate::specs::Compact::arguments_kept))]
+fn arguments(words: Words, first: u32) -> Option<u32>
+    ensures { result ≡ arguments_kept words first }
+{
+    match words {
+        Words::Arguments => Some(first),
+        Words::ReturningArguments => Some(first),
+        _ => None,
+    }
+}
+
+/// Whether a function of a name has its return type.
+#[inline(always)]
+#[tactic(auto, unfolding(crate::specs::Compact::returns_kept))]
+fn returns(words: Words) -> bool
+    ensures { result ≡ returns_kept words }
+{
+    match words {
+        Words::ReturningArguments => true,
+        _ => false,
+    }
+}
+
+/// How many elements a list has.
+#[inline(always)]
+#[tactic(auto, unfolding(crate::specs::Compact::count_kept))]
+fn count(words: Words, first: u32) -> u32
+    ensures { result ≡ count_kept words first }
+{
+    match words {
+        Words::Elements => first,
+        _ => 0,
+    }
+}
+
+/// How many cells stand before a cell.
+#[inline(always)]
+#[tactic(auto, unfolding(crate::specs::Compact::run_kept))]
+fn run(words: Words, second: u32) -> u32
+    ensures { result ≡ run_kept words second }
+{
+    match words {
+        Words::Elements => second,
+        _ => 0,
+    }
+}
+
+impl Compact {
+    /// The entry that is held.
+    #[inline(always)]
+    pub(crate) fn entry(self) -> Entry
+        ensures { result ≡ entry_of self }
+    {
+        Entry {
+            node: self.node,
+            packs: packs(self.has_packs, self.packs),
+            is_open: self.is_open,
+            is_empty: self.is_empty,
+            class: class(self.words, self.first),
+            arguments: arguments(self.words, self.first),
+            returns: returns(self.words),
+            count: count(self.words, self.first),
+            run: run(self.words, self.second),
+        }
+    }
+}
+
+/// A node of which nothing is noted.
+#[inline(always)]
+#[tactic(auto, unfolding(crate::specs::Compact::packs_kept, crate::specs::Compact::class_kept, crate::specs::Compact::arguments_kept, crate::specs::Compact::returns_kept, crate::specs::Compact::count_kept, crate::specs::Compact::run_kept))]
+pub(crate) fn bare(node: Node, is_empty: bool) -> Compact
+    ensures { entry_of result ≡ bare_entry node is_empty }
+{
+    Compact {
+        node,
+        packs: 0,
+        first: 0,
+        second: 0,
+        has_packs: false,
+        is_open: false,
+        is_empty,
+        words: Words::Plain,
+    }
+}
