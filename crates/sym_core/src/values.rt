@@ -36,7 +36,8 @@ fn digit(kind: NumberKind, byte: u8) -> u8
 }
 
 /// The number that the digits stand for, or None past 64 bits or where a byte is no digit.
-fn value(kind: NumberKind, digits: &[u8]) -> Option<u64>
+#[cold]
+fn long_value(kind: NumberKind, digits: &[u8]) -> Option<u64>
     ensures value { AreDigits kind digits.now → MatchOption result (2 ^ 64 ≤ value_of kind digits.now) (λ v. v ≡ value_of kind digits.now) }
     ensures digits { IfSome result (λ v. AreDigits kind digits.now) }
 {
@@ -49,6 +50,36 @@ fn value(kind: NumberKind, digits: &[u8]) -> Option<u64>
         value = shifted.checked_add(u64::from(digit(kind, *byte)))?;
     }
     Some(value)
+}
+
+/// So many digits of any kind stand for a number that 64 bits hold.
+const SHORT: usize = 10;
+
+/// The number that a few digits stand for, or None where a byte is no digit.
+fn short_value(kind: NumberKind, digits: &[u8]) -> Option<u64>
+    requires { length digits.now ≤ 10 }
+    ensures value { AreDigits kind digits.now → MatchOption result (2 ^ 64 ≤ value_of kind digits.now) (λ v. v ≡ value_of kind digits.now) }
+    ensures digits { IfSome result (λ v. AreDigits kind digits.now) }
+{
+    let mut value: u64 = 0;
+    for byte in digits {
+        if !is_digit(kind, *byte) {
+            return None;
+        }
+        value = value * radix(kind) + u64::from(digit(kind, *byte));
+    }
+    Some(value)
+}
+
+/// The number that the digits stand for, or None past 64 bits or where a byte is no digit.
+fn value(kind: NumberKind, digits: &[u8]) -> Option<u64>
+    ensures value { AreDigits kind digits.now → MatchOption result (2 ^ 64 ≤ value_of kind digits.now) (λ v. v ≡ value_of kind digits.now) }
+    ensures digits { IfSome result (λ v. AreDigits kind digits.now) }
+{
+    if digits.len() > SHORT {
+        return long_value(kind, digits);
+    }
+    short_value(kind, digits)
 }
 
 /// One more than the digits stand for, 0 where there are none, or None past 64 bits or where a byte is no digit.

@@ -1,6 +1,6 @@
 use Rattle.std.proofs.Common.{◌*◌, ◌^◌, ap, arith}
 use Rattle.sym_core.proofs.Horner.{too_large}
-use Rattle.sym_core.proofs.values.value.Goals as goal
+use Rattle.sym_core.proofs.values.long_value.Goals as goal
 
 pub returns-in_err-shifted-clause-value : goal.returns-in_err-shifted-clause-value
 returns-in_err-shifted-clause-value c = λ are.
