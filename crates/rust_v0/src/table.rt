@@ -15,9 +15,9 @@ use crate::kind::{
 };
 use crate::production::Production;
 use sym_core::NumberKind;
-use sym_shape::{END, symbol_at};
 use sym_shape::rule::Rule;
 use sym_shape::rule::Sym::{self, Byte, Kind, Name, Number};
+use sym_shape::{END, symbol_at};
 
 const BASE62: Sym = Number(NumberKind::Base62);
 
