@@ -6,9 +6,7 @@ use Rattle.std.proofs.lemmas.List.{get_or-map, get_or-replicate}
 use Rattle.std.proofs.lemmas.List.FromFn.{get_or-map-range_with_len}
 use Rattle.std.proofs.lemmas.Option.{slice_get-map, get_or_from_slice_get, slice_get_cases}
 use Rattle.std.specs.List.{range_with_len}
-use Rattle.sym_shape.specs.declared.rule.Rule.{Rule}
 use Rattle.sym_shape.specs.declared.rule.Sym.{Sym}
-use Rattle.sym_shape.specs.Listing.{listed_in}
 use Rattle.sym_shape.specs.Table.{symbols_of}
 use Rattle.cpp_grammar.specs.declared.table.Head.{Head}
 use Rattle.cpp_grammar.specs.declared.table.TheConstants.{LETTERS}

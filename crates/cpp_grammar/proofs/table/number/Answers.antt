@@ -1,4 +1,4 @@
-use Rattle.std.proofs.Common.{◌-◌, ap, sym, ◌∙◌, arith}
+use Rattle.std.proofs.Common.{ap, sym, ◌∙◌, arith}
 use Rattle.cpp_grammar.specs.Table.{rule_taken}
 use Rattle.cpp_grammar.proofs.Choosing.{rule_at_kind}
 use Rattle.cpp_grammar.proofs.Letters.{below, above, kind_at, rule_listed, letter_at, chosen_at, none_at, letter_range, blank_is_none, letter_is_some, no_rule, below_66}

@@ -1,4 +1,4 @@
-use Rattle.std.proofs.Common.{◌-◌, arith, ap, sym, ◌∙◌}
+use Rattle.std.proofs.Common.{arith, ap, sym, ◌∙◌}
 use Rattle.rust_v0.proofs.Letters.{rule_of, choice, below, above, none_at, rule_at, letter_at, letter_range, rule_of_letter}
 use Rattle.rust_v0.proofs.table.number.Goals as goal
 use Rattle.rust_v0.proofs.table.number.Goals.{then-byte-lt-FIRST-via-then-byte-lt-FIRST, then-byte-lt-FIRST-via-else-byte-lt-FIRST+then-byte-gt-LAST}
