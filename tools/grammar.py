@@ -296,9 +296,12 @@ def letters(rules):
 def rust_table():
     columns = "".join(chr(b) for b in range(FIRST, LAST + 1))
     out = [f"// {WRITTEN} The rule that a kind takes at a byte.",
-           "ghost use Rattle.std.specs.Prelude.{◌≡◌, ◌<◌};", "ghost use Rattle.cpp_grammar.specs.Table.{abi};", "",
-           "use sym_core::NumberKind;", "use sym_shape::{Rule, Sym};", "",
-           "/// In the place of a symbol that a rule doesn't have.", "const NONE: Sym = Sym::Byte(0);", ""]
+           "ghost use Rattle.std.specs.Prelude.{◌≡◌, ◌<◌, ◌+◌, ◌*◌, [], IfSome, MatchOption};",
+           "ghost use Rattle.sym_shape.specs.Listing.{StandsAt};", "ghost use Rattle.sym_shape.specs.Table.{symbols_of};",
+           "ghost use Rattle.cpp_grammar.specs.Table.{abi, abi_listed, listed_rule};",
+           "ghost use Rattle.cpp_grammar.specs.declared.table.Head.{Head};", "",
+           "use sym_core::NumberKind;", "use sym_shape::{END, Rule, Sym, symbol_at};", "",
+           "/// In the place of a symbol that a rule doesn't have.", "const NONE: Sym = END;", ""]
     for i, k in enumerate(K):
         if any(k in syms for ate, syms in P.values()): out += [f"const {snake(k).upper()}: Sym = Sym::Kind({i});", ""]
     for t in (NAME, DECIMAL, SEQ36, DIGITS): out += [f"const {t.upper()}: Sym = {rust_symbol(t)};", ""]
@@ -316,17 +319,86 @@ def rust_table():
                 f"            eats: {ate},", "            count: $count,", "        }", "    };", "}", ""]
     out += ["// The rules of the productions, in the order of their numbers.", f"static HEADS: [Head; {len(P)}] = ["]
     out += [f"    {'takes' if ate else 'chains'}!({len(syms)}), // {letter(i)} {p}" for i, (p, (ate, syms)) in enumerate(P.items())]
-    out += ["];", "", "// The symbols of the rules, in the same order.", f"static SYMBOLS: [[Sym; 5]; {len(P)}] = ["]
+    names = ["first", "second", "third", "fourth", "fifth"]
+    out += ["];", "", "// The symbols of the rules, in the same order and each rule's in six places, of which the last ones are ends. Before them",
+            "// stands the start kind.", "macro_rules! symbols {",
+            f"    ($([{', '.join(f'${n}:expr' for n in names)}],)*) => {{", "        [", "            Sym::Kind(0), END, END, END, END, END,",
+            f"            $({', '.join(f'${n}' for n in names)}, END,)*", "        ]", "    };", "}", "",
+            f"static SYMBOLS: [Sym; {6 * len(P) + 6}] = symbols! {{"]
     for i, (p, (ate, syms)) in enumerate(P.items()):
         cells = [f"Sym::Byte(b{x})" if sym_class(x) == "byte" else x.upper() if sym_class(x) == "token" else snake(x).upper() for x in syms] + ["NONE"] * (5 - len(syms))
         out.append(f"    [{', '.join(cells)}], // {letter(i)} {p}")
-    out += ["];", "", "/// The rule that a kind takes at a byte, if it takes one.", "#[inline]",
-            "pub fn rule(kind: u16, byte: u8) -> Option<Rule>", "    requires { kind < abi.kinds }", "    ensures { result ≡ abi.rule kind byte }", "{",
-            "    if byte < FIRST || byte > LAST {", "        return None;", "    }",
-            "    let letter = LETTERS[kind as usize][(byte - FIRST) as usize];",
-            "    if letter == BLANK {", "        return None;", "    }",
-            "    let number = (letter - FIRST_LETTER) as usize;", "    let head = &HEADS[number];", "    Some(Rule {", "        number: number as u16,", "        eats: head.eats,",
-            "        count: head.count,", "        symbols: SYMBOLS[number],", "    })", "}"]
+    out += ["};", ""] + f'''/// The place in `SYMBOLS` of the first symbol of the rule with a number.
+fn place_of(number: usize) -> usize
+    requires {{ number < {len(P)} }}
+    ensures {{ result ≡ number * 6 + 6 }}
+{{
+    number * 6 + 6
+}}
+
+/// The number of the rule that a kind takes at a byte, if it takes one.
+#[inline]
+fn number(kind: u16, byte: u8) -> Option<usize>
+    requires {{ kind < abi.kinds }}
+    ensures few {{ IfSome result (λ number. number < {len(P)}) }}
+    ensures rule {{ (head : Head) (none : Sym) → MatchOption result (abi.rule kind byte ≡ None) (λ number. abi.rule kind byte ≡ Some (listed_rule head none number)) }}
+{{
+    if byte < FIRST || byte > LAST {{
+        return None;
+    }}
+    let letter = LETTERS[kind as usize][(byte - FIRST) as usize];
+    if letter == BLANK {{
+        return None;
+    }}
+    Some((letter - FIRST_LETTER) as usize)
+}}
+
+/// The rule that a kind takes at a byte, if it takes one.
+#[inline]
+pub fn rule(kind: u16, byte: u8) -> Option<Rule>
+    requires {{ kind < abi.kinds }}
+    ensures {{ result ≡ abi.rule kind byte }}
+{{
+    match number(kind, byte) {{
+        Some(number) => {{
+            let head = &HEADS[number];
+            let place = place_of(number);
+            Some(Rule {{
+                number: number as u16,
+                eats: head.eats,
+                count: head.count,
+                symbols: [
+                    SYMBOLS[place],
+                    SYMBOLS[place + 1],
+                    SYMBOLS[place + 2],
+                    SYMBOLS[place + 3],
+                    SYMBOLS[place + 4],
+                ],
+            }})
+        }}
+        None => None,
+    }}
+}}
+
+/// The place of its first symbol.
+#[inline]
+pub fn place(kind: u16, byte: u8) -> u32
+    requires {{ kind < abi.kinds }}
+    ensures {{ IfSome (abi.rule kind byte) (λ rule. abi_listed result ≡ symbols_of rule) }}
+{{
+    match number(kind, byte) {{
+        Some(number) => place_of(number) as u32,
+        None => 0,
+    }}
+}}
+
+/// The symbol at a place of `SYMBOLS`, or none where a rule's symbols end.
+#[inline]
+pub fn symbol(place: u32) -> Option<Sym>
+    ensures {{ MatchOption result (abi_listed place ≡ []) (StandsAt abi_listed place) }}
+{{
+    symbol_at(&SYMBOLS, place)
+}}'''.split("\n")
     return "\n".join(out) + "\n"
 
 GRAMMAR_HEAD = '''-- Generated by tools/grammar.py. The grammar of C++ symbols (ABI 5.1) as a table: what begins each kind, and the parts of each production.

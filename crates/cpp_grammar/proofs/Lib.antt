@@ -1,4 +1,5 @@
 pub mod Choosing
+pub mod Letters
 pub mod Growing
 pub mod Reader
 pub mod Row

@@ -1,14 +1,17 @@
 -- The table of C++ symbols: the grammar in the form that the reader takes.
-use Rattle.std.specs.Prelude.{ℕ, zero, suc, List, [], ◌∷◌, ◌++◌, length, map, false, not, Option, Some, None}
+use Rattle.std.specs.Prelude.{ℕ, zero, suc, ◌+◌, ◌*◌, List, [], ◌∷◌, ◌++◌, length, get_or, map, false, not, Option, Some, None}
 use Rattle.sym_shape.specs.declared.rule.Rule.{Rule}
 use Rattle.sym_core.specs.declared.NameClass.TheVariants.{Cpp}
 use Rattle.sym_shape.specs.declared.rule.Sym.{Sym}
 use Rattle.sym_shape.specs.declared.rule.Sym.TheVariants.{Byte}
 use Rattle.sym_shape.specs.declared.sheet.ByteRange.{ByteRange}
 use Rattle.sym_shape.specs.declared.sheet.Choice.{Choice}
+use Rattle.sym_shape.specs.Listing.{listed_in}
 use Rattle.sym_shape.specs.Table.{Table}
 use Rattle.sym_shape.specs.Sheet.{KindSheet, range, table_of}
 use Rattle.cpp_grammar.specs.declared.kind.Kind.{Kind}
+use Rattle.cpp_grammar.specs.declared.table.Head.{Head}
+use Rattle.cpp_grammar.specs.declared.table.TheConstants.{HEADS, SYMBOLS}
 use Rattle.cpp_grammar.specs.declared.production.Production.{Production}
 use Rattle.cpp_grammar.specs.Grammar.{Alternative, alternatives, parts_of, is_chain, number_of, may_be_empty, kinds}
 use Rattle.cpp_grammar.specs.Follow.{after_ranges, rank, height}
@@ -57,6 +60,24 @@ sheet = map (sheet_with alternatives) kinds
 -- the table of C++ symbols
 unfoldable pub abi : Table
 abi = table_of blank sheet Cpp
+
+-- the symbols of its rules from a place of the code's list on
+abbrev pub abi_listed : ℕ → List Sym
+abi_listed place = listed_in SYMBOLS place
+
+-- the rule with a number in the code's lists; `head` and `none` stand for what isn't there
+unfoldable pub listed_rule : Head → Sym → ℕ → Rule
+listed_rule head none number = record {
+  number = number;
+  eats = (get_or HEADS number head).eats;
+  count = (get_or HEADS number head).count;
+  symbols =
+      get_or SYMBOLS (number * 6 + 6) none
+      ∷ get_or SYMBOLS (number * 6 + 6 + 1) none
+      ∷ get_or SYMBOLS (number * 6 + 6 + 2) none
+      ∷ get_or SYMBOLS (number * 6 + 6 + 3) none
+      ∷ get_or SYMBOLS (number * 6 + 6 + 4) none ∷ [];
+}
 
 unfoldable pub sheet_before : List KindSheet
 sheet_before = map (sheet_with alternatives_before) kinds

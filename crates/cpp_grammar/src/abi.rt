@@ -1,12 +1,12 @@
 // The grammar of C++ symbols.
-ghost use Rattle.std.specs.Prelude.{◌≡◌, ◌<◌};
-ghost use Rattle.cpp_grammar.specs.Table.{abi};
+ghost use Rattle.std.specs.Prelude.{◌≡◌, ◌<◌, refl};
+ghost use Rattle.cpp_grammar.specs.Table.{abi, abi_listed};
 ghost use Rattle.cpp_grammar.specs.TableLaws.{lawful};
 
 use crate::kind::{kind_of, may_be_empty};
 use crate::table;
 use sym_core::NameClass;
-use sym_shape::{Grammar, Rule};
+use sym_shape::{Grammar, Rule, Sym};
 
 /// The grammar of C++ symbols (Itanium C++ ABI 5.1), with vector types, noexcept function types and complex types.
 pub struct Abi;
@@ -25,8 +25,20 @@ fn is_optional(kind: u16) -> bool
 impl Grammar for Abi {
     ghost table = { abi };
 
+    ghost listed = { abi_listed };
+
+    ghost start = { refl };
+
     fn rule(&self, kind: u16, byte: u8) -> Option<Rule> {
         table::rule(kind, byte)
+    }
+
+    fn place(&self, kind: u16, byte: u8) -> u32 {
+        table::place(kind, byte)
+    }
+
+    fn symbol(&self, place: u32) -> Option<Sym> {
+        table::symbol(place)
     }
 
     fn may_be_empty(&self, kind: u16) -> bool {

@@ -3,7 +3,7 @@
 #![tactic(auto)]
 
 use sym_core::{NameClass, NumberKind};
-use sym_shape::{ByteRange, Choice, Grammar, Rule, Sym, choose};
+use sym_shape::{ByteRange, Choice, END, Grammar, Rule, Sym, choose, symbol_at};
 
 #[cfg(test)]
 mod tests;
@@ -21,7 +21,7 @@ const TYPES: u16 = 3;
 const LIFE: u16 = 4;
 
 /// Fills the places of a rule's symbols that it doesn't have.
-const NO: Sym = Sym::Byte(0);
+const NO: Sym = END;
 
 /// Fills the places of ranges that a choice doesn't have.
 const NONE: ByteRange = ByteRange { from: 0, to: 0 };
@@ -193,17 +193,45 @@ pub const LIFE_RULES: [Choice; 1] = [Choice {
     },
 }];
 
+// Rows of three symbols in one list, with an end behind each.
+macro_rules! listed {
+    ($([$first:expr, $second:expr, $third:expr],)*) => {
+        [$($first, $second, $third, END,)*]
+    };
+}
+
+/// The symbols of all rules by their numbers, each rule's in four places. Before them stands the start kind.
+pub const SYMBOLS: [Sym; 44] = listed! {
+    [Sym::Kind(SYMBOL), NO, NO], // the start
+    [Sym::Byte(b'T'), Sym::Kind(PATH), NO], // 0
+    [Sym::Name, NO, NO], // 1
+    [Sym::Kind(PATH), Sym::Kind(TYPES), NO], // 2
+    [NO, NO, NO], // 3
+    [Sym::Kind(LIFE), Sym::Kind(TYPE), NO], // 4
+    [Sym::Number(NumberKind::Digits), Sym::Byte(b'_'), Sym::Kind(TYPE)], // 5
+    [Sym::Kind(PATH), NO, NO], // 6
+    [NO, NO, NO], // 7
+    [Sym::Kind(TYPE), Sym::Kind(TYPES), NO], // 8
+    [Sym::Number(NumberKind::Base62), NO, NO], // 9
+};
+
 /// The grammar.
 pub struct Paths;
 
 impl Grammar for Paths {
     ghost use Rattle.std.specs.Prelude.{refl};
     ghost use Rattle.sym_core.specs.declared.NameClass.TheVariants.{Rust};
+    ghost use Rattle.sym_shape.specs.Listing.{listed_in};
     ghost use Rattle.sym_shape.specs.Sheet.{table_of};
+    ghost use Rattle.example_grammar.specs.declared.TheConstants.{SYMBOLS};
     ghost use Rattle.sym_shape.specs.SheetLaws.{lawful_sheet};
     ghost use Rattle.example_grammar.specs.Paths.{blank, sheet};
 
     ghost table = { table_of blank sheet Rust };
+
+    ghost listed = { listed_in SYMBOLS };
+
+    ghost start = { refl };
 
     fn rule(&self, kind: u16, byte: u8) -> Option<Rule> {
         match kind {
@@ -214,6 +242,17 @@ impl Grammar for Paths {
             LIFE => choose(&LIFE_RULES, byte),
             _ => None,
         }
+    }
+
+    fn place(&self, kind: u16, byte: u8) -> u32 {
+        match self.rule(kind, byte) {
+            Some(rule) => u32::from(rule.number) * 4 + 4,
+            None => 0,
+        }
+    }
+
+    fn symbol(&self, place: u32) -> Option<Sym> {
+        symbol_at(&SYMBOLS, place)
     }
 
     fn may_be_empty(&self, kind: u16) -> bool {

@@ -2,21 +2,36 @@
 
 use sym_core::NameClass;
 use sym_shape::grammar::Grammar;
-use sym_shape::rule::Rule;
+use sym_shape::rule::{Rule, Sym};
 
 /// The grammar of C++ symbols (Itanium C++ ABI 5.1), that of [`cpp_grammar::Abi`].
 #[derive(Clone, Copy, Debug)]
 pub struct Abi;
 
 impl Grammar for Abi {
-    ghost use Rattle.cpp_grammar.specs.Table.{abi};
+    ghost use Rattle.std.specs.Prelude.{refl};
+    ghost use Rattle.cpp_grammar.specs.Table.{abi, abi_listed};
     ghost use Rattle.cpp_grammar.specs.TableLaws.{lawful};
 
     ghost table = { abi };
 
+    ghost listed = { abi_listed };
+
+    ghost start = { refl };
+
     #[inline(always)]
     fn rule(&self, kind: u16, byte: u8) -> Option<Rule> {
         cpp_grammar::Abi.rule(kind, byte)
+    }
+
+    #[inline(always)]
+    fn place(&self, kind: u16, byte: u8) -> u32 {
+        cpp_grammar::Abi.place(kind, byte)
+    }
+
+    #[inline(always)]
+    fn symbol(&self, place: u32) -> Option<Sym> {
+        cpp_grammar::Abi.symbol(place)
     }
 
     #[inline(always)]

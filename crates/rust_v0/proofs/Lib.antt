@@ -6,6 +6,7 @@ pub mod Entering
 pub mod OperandLemmas
 pub mod Integers
 pub mod SemanticsLemmas
+pub mod Letters
 pub mod Meanings
 pub mod Noted
 pub mod Places

@@ -1,5 +1,6 @@
 pub mod Productions
 pub mod Rules
+pub mod Listed
 pub mod TableLaws
 pub mod Value
 pub mod Tokens

@@ -3,20 +3,35 @@
 use crate::table;
 use sym_core::NameClass;
 use sym_shape::grammar::Grammar;
-use sym_shape::rule::Rule;
+use sym_shape::rule::{Rule, Sym};
 
 /// The grammar of Rust v0 symbols.
 #[derive(Clone, Copy, Debug)]
 pub struct V0;
 
 impl Grammar for V0 {
+    ghost use Rattle.std.specs.Prelude.{refl};
+    ghost use Rattle.sym_shape.specs.Listing.{listed_in};
+    ghost use Rattle.rust_v0.specs.declared.table.TheConstants.{SYMBOLS};
     ghost use Rattle.rust_v0.specs.Rules.{v0_table};
     ghost use Rattle.rust_v0.specs.TableLaws as laws;
 
     ghost table = { v0_table };
 
+    ghost listed = { listed_in SYMBOLS };
+
+    ghost start = { refl };
+
     fn rule(&self, kind: u16, byte: u8) -> Option<Rule> {
         table::rule(kind, byte)
+    }
+
+    fn place(&self, kind: u16, byte: u8) -> u32 {
+        table::place(kind, byte)
+    }
+
+    fn symbol(&self, place: u32) -> Option<Sym> {
+        table::symbol(place)
     }
 
     fn may_be_empty(&self, kind: u16) -> bool {

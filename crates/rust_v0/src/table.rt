@@ -1,7 +1,12 @@
 // The rule that a kind takes at a byte.
 
-ghost use Rattle.std.specs.Prelude.{◌≡◌, ◌<◌};
+ghost use Rattle.std.specs.Prelude.{◌≡◌, ◌<◌, ◌+◌, ◌*◌, [], IfSome, MatchOption};
+ghost use Rattle.sym_shape.specs.Listing.{listed_in, StandsAt};
+ghost use Rattle.sym_shape.specs.Table.{symbols_of};
+ghost use Rattle.rust_v0.specs.declared.table.TheConstants.{SYMBOLS};
+ghost use Rattle.rust_v0.specs.Listed.{listed_rule};
 ghost use Rattle.rust_v0.specs.Rules.{v0_table};
+ghost use Rattle.rust_v0.specs.declared.table.Head.{Head};
 
 use crate::kind::{
     self, ABI, ABI_NAME, ARGUMENTS, BINDER, BINDINGS, BOUNDS, CONSTANT, DISAMBIGUATOR, IDENTIFIER,
@@ -12,13 +17,14 @@ use crate::production::Production;
 use sym_core::NumberKind;
 use sym_shape::rule::Rule;
 use sym_shape::rule::Sym::{self, Byte, Kind, Name, Number};
+use sym_shape::{END, symbol_at};
 
 const BASE62: Sym = Number(NumberKind::Base62);
 
 const HEX: Sym = Number(NumberKind::Hex);
 
 /// What stands where a rule has no symbol.
-const NONE: Sym = Byte(0);
+const NONE: Sym = END;
 
 /// The first byte that a rule takes in any kind.
 const FIRST: u8 = b'$';
@@ -144,8 +150,18 @@ static HEADS: [Head; 49] = [
     takes!(BoundsEnd, 0), // [
 ];
 
-// The symbols of the rules, in the same order.
-static SYMBOLS: [[Sym; 5]; 49] = [
+// The symbols of the rules, in the same order and each rule's in six places, of which the last ones are ends. Before them
+// stands the start kind.
+macro_rules! symbols {
+    ($([$first:expr, $second:expr, $third:expr, $fourth:expr, $fifth:expr],)*) => {
+        [
+            Kind(kind::SYMBOL), END, END, END, END, END,
+            $($first, $second, $third, $fourth, $fifth, END,)*
+        ]
+    };
+}
+
+static SYMBOLS: [Sym; 300] = symbols! {
     [Kind(TYPE), Kind(TYPES), NONE, NONE, NONE], // +: TypesMore
     [Kind(TYPE), Kind(ARGUMENTS), NONE, NONE, NONE], // ,: TypeArgument
     [NONE, NONE, NONE, NONE, NONE], // -: Minus
@@ -173,13 +189,7 @@ static SYMBOLS: [[Sym; 5]; 49] = [
     [Kind(IDENTIFIER), NONE, NONE, NONE, NONE], // C: Crate
     [Kind(BINDER), Kind(BOUNDS), Kind(LIFETIME), NONE, NONE], // D: Dyn
     [NONE, NONE, NONE, NONE, NONE], // E: TypesEnd
-    [
-        Kind(BINDER),
-        Kind(UNSAFE),
-        Kind(ABI),
-        Kind(TYPES),
-        Kind(TYPE),
-    ], // F: Function
+    [Kind(BINDER), Kind(UNSAFE), Kind(ABI), Kind(TYPES), Kind(TYPE)], // F: Function
     [BASE62, NONE, NONE, NONE, NONE], // G: Binder
     [BASE62, NONE, NONE, NONE, NONE], // H: PathReference
     [Kind(PATH), Kind(ARGUMENTS), Byte(b'E'), NONE, NONE], // I: Generic
@@ -197,23 +207,26 @@ static SYMBOLS: [[Sym; 5]; 49] = [
     [NONE, NONE, NONE, NONE, NONE], // U: Unsafe
     [Kind(ABI_NAME), NONE, NONE, NONE, NONE], // V: Abi
     [NONE, NONE, NONE, NONE, NONE], // W: AbiC
-    [
-        Kind(DISAMBIGUATOR),
-        Kind(PATH),
-        Kind(TYPE),
-        Kind(PATH),
-        NONE,
-    ], // X: TraitImpl
+    [Kind(DISAMBIGUATOR), Kind(PATH), Kind(TYPE), Kind(PATH), NONE], // X: TraitImpl
     [Kind(TYPE), Kind(PATH), NONE, NONE, NONE], // Y: TraitDefinition
     [Byte(b'R'), Kind(PATH), Kind(OTHER_PATH), Kind(SUFFIX), NONE], // Z: Symbol
     [NONE, NONE, NONE, NONE, NONE], // [: BoundsEnd
-];
+};
 
-/// The rule that a kind takes at a byte, if it takes one.
+/// The place in `SYMBOLS` of the first symbol of the rule with a number.
+fn place_of(number: usize) -> usize
+    requires { number < 49 }
+    ensures { result ≡ number * 6 + 6 }
+{
+    number * 6 + 6
+}
+
+/// The number in `HEADS` of the rule that a kind takes at a byte, if it takes one.
 #[inline]
-pub fn rule(kind: u16, byte: u8) -> Option<Rule>
+fn number(kind: u16, byte: u8) -> Option<usize>
     requires { kind < v0_table.kinds }
-    ensures { result ≡ v0_table.rule kind byte }
+    ensures few { IfSome result (λ number. number < 49) }
+    ensures rule { (head : Head) (none : Sym) → MatchOption result (v0_table.rule kind byte ≡ None) (λ number. v0_table.rule kind byte ≡ Some (listed_rule head none number)) }
 {
     if byte < FIRST || byte > LAST {
         return None;
@@ -222,14 +235,54 @@ pub fn rule(kind: u16, byte: u8) -> Option<Rule>
     if letter == BLANK {
         return None;
     }
-    let place = letter as usize - FIRST_LETTER as usize;
-    let head = &HEADS[place];
-    Some(Rule {
-        number: head.number,
-        eats: head.eats,
-        count: head.count,
-        symbols: SYMBOLS[place],
-    })
+    Some(letter as usize - FIRST_LETTER as usize)
+}
+
+/// The rule that a kind takes at a byte, if it takes one.
+#[inline]
+pub fn rule(kind: u16, byte: u8) -> Option<Rule>
+    requires { kind < v0_table.kinds }
+    ensures { result ≡ v0_table.rule kind byte }
+{
+    match number(kind, byte) {
+        Some(number) => {
+            let head = &HEADS[number];
+            let place = place_of(number);
+            Some(Rule {
+                number: head.number,
+                eats: head.eats,
+                count: head.count,
+                symbols: [
+                    SYMBOLS[place],
+                    SYMBOLS[place + 1],
+                    SYMBOLS[place + 2],
+                    SYMBOLS[place + 3],
+                    SYMBOLS[place + 4],
+                ],
+            })
+        }
+        None => None,
+    }
+}
+
+/// The place of its first symbol.
+#[inline]
+pub fn place(kind: u16, byte: u8) -> u32
+    requires { kind < v0_table.kinds }
+    ensures { IfSome (v0_table.rule kind byte) (λ rule. listed_in SYMBOLS result ≡ symbols_of rule) }
+{
+    match number(kind, byte) {
+        Some(number) => place_of(number) as u32,
+        None => 0,
+    }
+}
+
+/// The symbol at a place of `SYMBOLS`, or none where a rule's symbols end.
+#[inline]
+pub fn symbol(place: u32) -> Option<Sym>
+    ensures { MatchOption result (listed_in SYMBOLS place ≡ []) (StandsAt (listed_in SYMBOLS) place) }
+{
+    symbol_at(&SYMBOLS, place)
 }
 
 /// Whether a kind may be empty.

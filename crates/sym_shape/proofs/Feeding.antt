@@ -9,6 +9,7 @@ use Rattle.sym_shape.specs.declared.parse.Parse.{Parse}
 use Rattle.std.proofs.lemmas.Bool.{true≢false}
 use Rattle.sym_core.specs.declared.refusal.Refusal.TheVariants.{Malformed, BadReference, BadValue, TooLong, Memory}
 use Rattle.sym_core.specs.Number.{FitsSymbol}
+use Rattle.sym_shape.specs.declared.rule.Sym.{Sym}
 use Rattle.sym_shape.specs.declared.rule.Sym.TheVariants.{Kind}
 use Rattle.sym_shape.specs.Reading.{Entry, Symbol}
 use Rattle.sym_shape.specs.Law.{IsLawful}
@@ -79,65 +80,65 @@ so_far g false bytes at h (inl lt) = λ more. record {
     longer : (more : List ℕ) → BeginsWellShaped g (take (at + 1) (bytes ++ more)) → BeginsWellShaped g (take (at + 1) bytes)
     longer more b = subst (λ u. BeginsWellShaped g u) (take-append-le (at + 1) bytes more (omega arith)) b
 
-pub step_reason : (g : Table) (ended : Bool) (bytes : List ℕ) (old new : Parse) (refusal : Refusal) → IsAdvance g ended bytes old new (Err refusal) → IsReason g ended bytes refusal × (new.steps ≡ old.steps + 1) × (length new.rows.items ≤ length old.rows.items + 1)
-step_reason g ended bytes old new (Malformed at) h = (so_far g ended bytes at h.0 h.1, h.2, h.3)
-step_reason g ended bytes old new Memory h = (tt, h.0, h.1)
-step_reason g ended bytes old new (BadReference at) h = absurd h
-step_reason g ended bytes old new (BadValue at) h = absurd h
-step_reason g ended bytes old new TooLong h = absurd h
+pub step_reason : (listed : ℕ → List Sym) (g : Table) (ended : Bool) (bytes : List ℕ) (old new : Parse) (refusal : Refusal) → IsAdvance listed g ended bytes old new (Err refusal) → IsReason g ended bytes refusal × (new.steps ≡ old.steps + 1) × (length new.rows.items ≤ length old.rows.items + 1)
+step_reason listed g ended bytes old new (Malformed at) h = (so_far g ended bytes at h.0 h.1, h.2, h.3)
+step_reason listed g ended bytes old new Memory h = (tt, h.0, h.1)
+step_reason listed g ended bytes old new (BadReference at) h = absurd h
+step_reason listed g ended bytes old new (BadValue at) h = absurd h
+step_reason listed g ended bytes old new TooLong h = absurd h
 
-pub run_reason : (g : Table) (ended : Bool) (bytes : List ℕ) (old new : Parse) (refusal : Refusal) → IsRun g ended bytes old new (Err refusal) → IsReason g ended bytes refusal × AreSpent bytes old new
-run_reason g ended bytes old new (Malformed at) h = (so_far g ended bytes at h.0 h.1, h.2)
-run_reason g ended bytes old new Memory h = (tt, h)
-run_reason g ended bytes old new (BadReference at) h = absurd h
-run_reason g ended bytes old new (BadValue at) h = absurd h
-run_reason g ended bytes old new TooLong h = absurd h
+pub run_reason : (listed : ℕ → List Sym) (g : Table) (ended : Bool) (bytes : List ℕ) (old new : Parse) (refusal : Refusal) → IsRun listed g ended bytes old new (Err refusal) → IsReason g ended bytes refusal × AreSpent bytes old new
+run_reason listed g ended bytes old new (Malformed at) h = (so_far g ended bytes at h.0 h.1, h.2)
+run_reason listed g ended bytes old new Memory h = (tt, h)
+run_reason listed g ended bytes old new (BadReference at) h = absurd h
+run_reason listed g ended bytes old new (BadValue at) h = absurd h
+run_reason listed g ended bytes old new TooLong h = absurd h
 
 pub unrefused : (refused : Option Refusal) → ((r : Refusal) → refused ≡ Some r → ⊥) → refused ≡ None
 unrefused None h = refl
 unrefused (Some r) h = absurd (h r refl)
 
 -- what is known of a reader that hasn't refused
-pub open_parsing : (g : Table) (bytes : List ℕ) (ended ready : Bool) (refused : Option Refusal) (parse : Parse) → refused ≡ None → IsFed g bytes ended ready refused parse → IsOver g bytes ended ready None parse
-open_parsing g bytes ended ready refused parse going h = subst (λ r. IsOver g bytes ended ready r parse) going h.over
+pub open_parsing : (listed : ℕ → List Sym) (g : Table) (bytes : List ℕ) (ended ready : Bool) (refused : Option Refusal) (parse : Parse) → refused ≡ None → IsFed listed g bytes ended ready refused parse → IsOver listed g bytes ended ready None parse
+open_parsing listed g bytes ended ready refused parse going h = subst (λ r. IsOver listed g bytes ended ready r parse) going h.over
 
-not_ready : (g : Table) (bytes : List ℕ) (ended ready : Bool) (refused : Option Refusal) (parse : Parse) → ended ≡ false → IsFed g bytes ended ready refused parse → ready ≡ false
-not_ready g bytes ended false refused parse untold h = refl
-not_ready g bytes ended true None parse untold h = (let told = (h.over.1 refl).0 in cc)
-not_ready g bytes ended true (Some r) parse untold h = (let told = h.over.1 in cc)
+not_ready : (listed : ℕ → List Sym) (g : Table) (bytes : List ℕ) (ended ready : Bool) (refused : Option Refusal) (parse : Parse) → ended ≡ false → IsFed listed g bytes ended ready refused parse → ready ≡ false
+not_ready listed g bytes ended false refused parse untold h = refl
+not_ready listed g bytes ended true None parse untold h = (let told = (h.over.1 refl).0 in cc)
+not_ready listed g bytes ended true (Some r) parse untold h = (let told = h.over.1 in cc)
 
 -- a reader that hasn't refused takes more bytes
-pub fed_more : (g : Table) (bytes piece new : List ℕ) (ended ready : Bool) (refused : Option Refusal) (parse : Parse) → refused ≡ None → ended ≡ false → new ≡ bytes ++ piece → length bytes + length piece ≤ 16777216 → IsFed g bytes ended ready refused parse → IsFed g new ended ready refused parse
-fed_more g bytes piece new ended ready refused parse going untold is room h =
-    let parsing = subst (λ e. IsParsing g e bytes parse) untold (open_parsing g bytes ended ready refused parse going h).0 in
-    let fed_on : IsParsing g false (bytes ++ piece) parse = fed g bytes piece parse.steps parse.at (to_do parse) parse.rows.items parsing in
-    let over : IsOver g (bytes ++ piece) ended ready None parse = (subst (λ e. IsParsing g e (bytes ++ piece) parse) (sym untold) fed_on, λ r. absurd (both_not ready r (not_ready g bytes ended ready refused parse untold h))) in
-    subst (λ u. IsFed g u ended ready refused parse) (sym is) (record {
+pub fed_more : (listed : ℕ → List Sym) (g : Table) (bytes piece new : List ℕ) (ended ready : Bool) (refused : Option Refusal) (parse : Parse) → refused ≡ None → ended ≡ false → new ≡ bytes ++ piece → length bytes + length piece ≤ 16777216 → IsFed listed g bytes ended ready refused parse → IsFed listed g new ended ready refused parse
+fed_more listed g bytes piece new ended ready refused parse going untold is room h =
+    let parsing = subst (λ e. IsParsing listed g e bytes parse) untold (open_parsing listed g bytes ended ready refused parse going h).0 in
+    let fed_on : IsParsing listed g false (bytes ++ piece) parse = fed g bytes piece parse.steps parse.at (to_do listed parse) parse.rows.items parsing in
+    let over : IsOver listed g (bytes ++ piece) ended ready None parse = (subst (λ e. IsParsing listed g e (bytes ++ piece) parse) (sym untold) fed_on, λ r. absurd (both_not ready r (not_ready listed g bytes ended ready refused parse untold h))) in
+    subst (λ u. IsFed listed g u ended ready refused parse) (sym is) (record {
       fits = omega (arith, length-append bytes piece);
-      over = subst (λ r. IsOver g (bytes ++ piece) ended ready r parse) (sym going) over;
+      over = subst (λ r. IsOver listed g (bytes ++ piece) ended ready r parse) (sym going) over;
       few = record { steps_few = omega (arith, h.few.steps_few, length-append bytes piece); rows_few = omega (arith, h.few.rows_few, length-append bytes piece); each = h.few.each };
     })
 
 -- a step that refuses
-pub fed_stops : (g : Table) (bytes : List ℕ) (ended ready : Bool) (refused : Option Refusal) (old new : Parse) (refusal : Refusal) → refused ≡ None → IsFed g bytes ended ready refused old → IsAdvance g ended bytes old new (Err refusal) → IsFed g bytes ended ended (Some refusal) new
-fed_stops g bytes ended ready refused old new refusal going h step =
-    let stop = step_reason g ended bytes old new refusal step in
+pub fed_stops : (listed : ℕ → List Sym) (g : Table) (bytes : List ℕ) (ended ready : Bool) (refused : Option Refusal) (old new : Parse) (refusal : Refusal) → refused ≡ None → IsFed listed g bytes ended ready refused old → IsAdvance listed g ended bytes old new (Err refusal) → IsFed listed g bytes ended ended (Some refusal) new
+fed_stops listed g bytes ended ready refused old new refusal going h step =
+    let stop = step_reason listed g ended bytes old new refusal step in
     record {
       fits = h.fits;
       over = (stop.0, refl);
-      few = few_stepped g ended bytes old new (open_parsing g bytes ended ready refused old going h).0 stop.1 stop.2;
+      few = few_stepped listed g ended bytes old new (open_parsing listed g bytes ended ready refused old going h).0 stop.1 stop.2;
     }
 
-pub fed_run_stops : (g : Table) (bytes : List ℕ) (ended : Bool) (old new : Parse) (refusal : Refusal) → FitsSymbol bytes → IsRun g ended bytes old new (Err refusal) → IsFed g bytes ended ended (Some refusal) new
-fed_run_stops g bytes ended old new refusal fits run =
-    let stop = run_reason g ended bytes old new refusal run in
+pub fed_run_stops : (listed : ℕ → List Sym) (g : Table) (bytes : List ℕ) (ended : Bool) (old new : Parse) (refusal : Refusal) → FitsSymbol bytes → IsRun listed g ended bytes old new (Err refusal) → IsFed listed g bytes ended ended (Some refusal) new
+fed_run_stops listed g bytes ended old new refusal fits run =
+    let stop = run_reason listed g ended bytes old new refusal run in
     record { fits = fits; over = (stop.0, refl); few = stop.1.few }
 
 -- nothing is fed yet
-pub fed_start : (g : Table) (lawful : IsLawful g) (bytes : List ℕ) (parse : Parse) → bytes ≡ [] → parse.steps ≡ 0 → parse.at ≡ 0 → (to_do parse) ≡ Symbol (Kind 0) ∷ [] → parse.rows.items ≡ [] → IsFed g bytes false false None parse
-fed_start g lawful bytes parse none steps at stack rows = record {
+pub fed_start : (listed : ℕ → List Sym) (g : Table) (lawful : IsLawful g) (bytes : List ℕ) (parse : Parse) → bytes ≡ [] → parse.steps ≡ 0 → parse.at ≡ 0 → (to_do listed parse) ≡ Symbol (Kind 0) ∷ [] → parse.rows.items ≡ [] → IsFed listed g bytes false false None parse
+fed_start listed g lawful bytes parse none steps at stack rows = record {
   fits = omega (arith, ap length none);
-  over = (same_start g lawful false bytes parse.steps parse.at (to_do parse) parse.rows.items steps at stack rows, λ r. absurd (true≢false (sym r)));
+  over = (same_start g lawful false bytes parse.steps parse.at (to_do listed parse) parse.rows.items steps at stack rows, λ r. absurd (true≢false (sym r)));
   few = record { steps_few = omega (arith, steps); rows_few = omega (arith, ap length rows); each = omega (arith, ap length rows) };
 }
 
@@ -152,24 +153,24 @@ pub made_fed : (v w : Fed) → v ≡ w → (let made : Fed → Result Fed Refusa
 made_fed v w e = (let made : Fed → Result Fed Refusal = λ u. Ok u in ap made e)
 
 -- a reader that is ready and hasn't refused has read all
-pub fed_rows : (g : Table) (bytes : List ℕ) (ended ready : Bool) (refused : Option Refusal) (parse : Parse) → refused ≡ None → ready ≡ true → IsFed g bytes ended ready refused parse → AreRowsOf g bytes parse.rows.items
-fed_rows g bytes ended ready refused parse going done h =
-    let over = open_parsing g bytes ended ready refused parse going h in
+pub fed_rows : (listed : ℕ → List Sym) (g : Table) (bytes : List ℕ) (ended ready : Bool) (refused : Option Refusal) (parse : Parse) → refused ≡ None → ready ≡ true → IsFed listed g bytes ended ready refused parse → AreRowsOf g bytes parse.rows.items
+fed_rows listed g bytes ended ready refused parse going done h =
+    let over = open_parsing listed g bytes ended ready refused parse going h in
     let end = over.1 done in
-    whole_read g ended bytes parse.steps parse.at (to_do parse) parse.rows.items parse.rows.items over.0 end.1 end.2 refl
+    whole_read g ended bytes parse.steps parse.at (to_do listed parse) parse.rows.items parse.rows.items over.0 end.1 end.2 refl
 
-pub fed_steps : (g : Table) (lawful : IsLawful g) (bytes : List ℕ) (ended ready : Bool) (refused : Option Refusal) (parse : Parse) → refused ≡ None → ready ≡ true → IsFed g bytes ended ready refused parse → AreStepsOf g bytes parse.steps
-fed_steps g lawful bytes ended ready refused parse going done h =
-    let over = open_parsing g bytes ended ready refused parse going h in
+pub fed_steps : (listed : ℕ → List Sym) (g : Table) (lawful : IsLawful g) (bytes : List ℕ) (ended ready : Bool) (refused : Option Refusal) (parse : Parse) → refused ≡ None → ready ≡ true → IsFed listed g bytes ended ready refused parse → AreStepsOf g bytes parse.steps
+fed_steps listed g lawful bytes ended ready refused parse going done h =
+    let over = open_parsing listed g bytes ended ready refused parse going h in
     let end = over.1 done in
-    whole_steps g lawful ended bytes parse.steps parse.at (to_do parse) parse.rows.items over.0 end.1 end.2
+    whole_steps g lawful ended bytes parse.steps parse.at (to_do listed parse) parse.rows.items over.0 end.1 end.2
 
 pub same_steps : (g : Table) (s t : List ℕ) (steps made : ℕ) → s ≡ t → made ≡ steps → AreStepsOf g s steps → AreStepsOf g t made
 same_steps g s t steps made p q h = λ tree is spelled. q ∙ h tree is (spelled ∙ sym p)
 
-pub fed_begins : (g : Table) (bytes : List ℕ) (ended ready : Bool) (refused : Option Refusal) (parse : Parse) → refused ≡ None → ready ≡ true → IsFed g bytes ended ready refused parse → BeginsWellShaped g bytes
-fed_begins g bytes ended ready refused parse going done h =
-    let rows = fed_rows g bytes ended ready refused parse going done h in
+pub fed_begins : (listed : ℕ → List Sym) (g : Table) (bytes : List ℕ) (ended ready : Bool) (refused : Option Refusal) (parse : Parse) → refused ≡ None → ready ≡ true → IsFed listed g bytes ended ready refused parse → BeginsWellShaped g bytes
+fed_begins listed g bytes ended ready refused parse going done h =
+    let rows = fed_rows listed g bytes ended ready refused parse going done h in
     ([], (rows.0, rows.1, rows.2 ∙ sym (append-nil bytes)))
 
 pub same_rows : (g : Table) (s t : List ℕ) (rows made : List Row) → s ≡ t → made ≡ rows → AreRowsOf g s rows → AreRowsOf g t made

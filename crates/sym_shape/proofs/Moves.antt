@@ -8,7 +8,7 @@ use Rattle.sym_shape.specs.declared.rule.Sym.{Sym}
 use Rattle.sym_shape.specs.declared.rule.Sym.TheVariants.{Kind, Name, Number, Byte}
 use Rattle.sym_shape.specs.Reading.{Entry, Symbol, Close}
 use Rattle.sym_shape.specs.Table.{Table, Token, symbols_of, bytes_of, IsToken}
-use Rattle.sym_shape.specs.Tree.{branch, empty, token, fixed, Forest, nothing, grown, spell, spell_all, IsTree, AreTrees, TakesRule, rows_of, rows_of_all, row_count, row_count_all, read_steps, read_steps_all, IsWellShaped}
+use Rattle.sym_shape.specs.Tree.{branch, empty, token, fixed, Forest, nothing, grown, spell, spell_all, IsTree, AreTrees, TakesRule, rows_of, rows_of_all, row_count, row_count_all, read_steps_all, IsWellShaped}
 use Rattle.sym_shape.specs.Law.{AreSymbols, IsLawful}
 use Rattle.sym_shape.specs.Reading.{symbols_in, entries_of, closed, finished, steps_left, AreOpen, IsFollowed, Agrees, IsReading, IsCompleted, Spell, open_row, TakesNone}
 use Rattle.sym_shape.proofs.Lists.{true_or, filled}

@@ -425,8 +425,8 @@ pub both_not : (b : Bool) → b ≡ true → b ≡ false → ⊥
 both_not b p q = cc
 
 -- a step that meets the end of memory
-pub out_of_memory : (g : Table) (ended : Bool) (bytes : List ℕ) (old new : Parse) (r : Result Bool Refusal) (y : Refusal) → r ≡ Err y → y ≡ Memory → new.steps ≡ old.steps → MakesRow old new → IsStep g ended bytes old new r
-out_of_memory g ended bytes old new r y p q same few = subst (λ u. IsStep g ended bytes old new u) (sym (p ∙ fault q)) (same, few)
+pub out_of_memory : (listed : ℕ → List Sym) (g : Table) (ended : Bool) (bytes : List ℕ) (old new : Parse) (r : Result Bool Refusal) (y : Refusal) → r ≡ Err y → y ≡ Memory → new.steps ≡ old.steps → MakesRow old new → IsStep listed g ended bytes old new r
+out_of_memory listed g ended bytes old new r y p q same few = subst (λ u. IsStep listed g ended bytes old new u) (sym (p ∙ fault q)) (same, few)
   where
     fault : y ≡ Memory → (let refused : Refusal → Result Bool Refusal = λ u. Err u in refused y ≡ refused Memory)
     fault e = (let refused : Refusal → Result Bool Refusal = λ u. Err u in ap refused e)

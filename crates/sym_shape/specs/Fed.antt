@@ -4,6 +4,7 @@ use Rattle.sym_core.specs.declared.refusal.Refusal.{Refusal}
 use Rattle.sym_core.specs.declared.refusal.Refusal.TheVariants.{Malformed, BadReference, BadValue, TooLong, Memory}
 use Rattle.sym_core.specs.Number.{FitsSymbol}
 use Rattle.sym_shape.specs.declared.parse.Parse.{Parse}
+use Rattle.sym_shape.specs.declared.rule.Sym.{Sym}
 use Rattle.sym_shape.specs.Table.{Table}
 use Rattle.sym_shape.specs.Tree.{IsMalformed}
 use Rattle.sym_shape.specs.Reader.{IsParsing, AreFew, to_do}
@@ -58,12 +59,12 @@ abbrev pub IsWithinBounds : Fed → Type 0
 IsWithinBounds fed = AreFew fed.steps fed.rows (length fed.bytes)
 
 -- a reader that has refused is right to; one that hasn't may go on, and has read all where it is ready
-abbrev pub IsOver : Table → List ℕ → Bool → Bool → Option Refusal → Parse → Type 0
-IsOver g bytes ended ready None parse =
-    IsParsing g ended bytes parse × (ready ≡ true → (ended ≡ true) × (to_do parse ≡ []) × (parse.at ≡ length bytes))
-IsOver g bytes ended ready (Some refusal) parse = IsReason g ended bytes refusal × (ready ≡ ended)
+abbrev pub IsOver : (ℕ → List Sym) → Table → List ℕ → Bool → Bool → Option Refusal → Parse → Type 0
+IsOver listed g bytes ended ready None parse =
+    IsParsing listed g ended bytes parse × (ready ≡ true → (ended ≡ true) × (to_do listed parse ≡ []) × (parse.at ≡ length bytes))
+IsOver listed g bytes ended ready (Some refusal) parse = IsReason g ended bytes refusal × (ready ≡ ended)
 
-pub record IsFed (g : Table) (bytes : List ℕ) (ended ready : Bool) (refused : Option Refusal) (parse : Parse) : Type 0 where
+pub record IsFed (listed : ℕ → List Sym) (g : Table) (bytes : List ℕ) (ended ready : Bool) (refused : Option Refusal) (parse : Parse) : Type 0 where
   pub fits : FitsSymbol bytes
-  pub over : IsOver g bytes ended ready refused parse
+  pub over : IsOver listed g bytes ended ready refused parse
   pub few : AreFew parse.steps (length parse.rows.items) (length bytes)

@@ -2,6 +2,7 @@ pub mod Table
 pub mod Tree
 pub mod Law
 pub mod Reading
+pub mod Listing
 pub mod Frame
 pub mod Reader
 pub mod Sheet

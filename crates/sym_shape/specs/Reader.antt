@@ -48,41 +48,41 @@ pub record IsParse (g : Table) (ended : Bool) (bytes : List ℕ) (steps at : ℕ
   pub counted : IsCounted g steps at stack (length rows)
 
 -- what a parse still has to do
-abbrev pub to_do : Parse → List Entry
-to_do parse = unfolded parse.top (reverse parse.below.items)
+abbrev pub to_do : (ℕ → List Sym) → Parse → List Entry
+to_do listed parse = unfolded listed parse.top (reverse parse.below.items)
 
-abbrev pub IsParsing : Table → Bool → List ℕ → Parse → Type 0
-IsParsing g ended bytes parse = IsParse g ended bytes parse.steps parse.at (to_do parse) parse.rows.items
+abbrev pub IsParsing : (ℕ → List Sym) → Table → Bool → List ℕ → Parse → Type 0
+IsParsing listed g ended bytes parse = IsParse g ended bytes parse.steps parse.at (to_do listed parse) parse.rows.items
 
 -- nothing is left to do with these bytes: they begin a well shaped symbol, and once the end is told all is read
-pub record IsAtRest (g : Table) (ended : Bool) (bytes : List ℕ) (old new : Parse) : Type 0 where
+pub record IsAtRest (listed : ℕ → List Sym) (g : Table) (ended : Bool) (bytes : List ℕ) (old new : Parse) : Type 0 where
   pub same : new ≡ old
   pub begins : BeginsWellShaped g bytes
-  pub read : ended ≡ true → (to_do old ≡ []) × (old.at ≡ length bytes)
+  pub read : ended ≡ true → (to_do listed old ≡ []) × (old.at ≡ length bytes)
 
 -- a step makes at most one row
 abbrev pub MakesRow : Parse → Parse → Type 0
 MakesRow old new = length new.rows.items ≤ length old.rows.items + 1
 
 -- what a step comes to: a move, which is counted; it waits for bytes, or all is read; or a refusal
-abbrev pub IsStep : Table → Bool → List ℕ → Parse → Parse → Result Bool Refusal → Type 0
-IsStep g ended bytes old new (Ok false) = IsParse g ended bytes (old.steps + 1) new.at (to_do new) new.rows.items × (new.steps ≡ old.steps) × MakesRow old new
-IsStep g ended bytes old new (Ok true) = IsAtRest g ended bytes old new
-IsStep g ended bytes old new (Err (Malformed at)) = IsMalformed g bytes at × IsKnown ended bytes at × (new.steps ≡ old.steps) × MakesRow old new
-IsStep g ended bytes old new (Err Memory) = (new.steps ≡ old.steps) × MakesRow old new
-IsStep g ended bytes old new (Err (BadReference at)) = ⊥
-IsStep g ended bytes old new (Err (BadValue at)) = ⊥
-IsStep g ended bytes old new (Err TooLong) = ⊥
+abbrev pub IsStep : (ℕ → List Sym) → Table → Bool → List ℕ → Parse → Parse → Result Bool Refusal → Type 0
+IsStep listed g ended bytes old new (Ok false) = IsParse g ended bytes (old.steps + 1) new.at (to_do listed new) new.rows.items × (new.steps ≡ old.steps) × MakesRow old new
+IsStep listed g ended bytes old new (Ok true) = IsAtRest listed g ended bytes old new
+IsStep listed g ended bytes old new (Err (Malformed at)) = IsMalformed g bytes at × IsKnown ended bytes at × (new.steps ≡ old.steps) × MakesRow old new
+IsStep listed g ended bytes old new (Err Memory) = (new.steps ≡ old.steps) × MakesRow old new
+IsStep listed g ended bytes old new (Err (BadReference at)) = ⊥
+IsStep listed g ended bytes old new (Err (BadValue at)) = ⊥
+IsStep listed g ended bytes old new (Err TooLong) = ⊥
 
 -- the same with the step counted
-abbrev pub IsAdvance : Table → Bool → List ℕ → Parse → Parse → Result Bool Refusal → Type 0
-IsAdvance g ended bytes old new (Ok false) = IsParsing g ended bytes new × (new.steps ≡ old.steps + 1) × MakesRow old new
-IsAdvance g ended bytes old new (Ok true) = IsAtRest g ended bytes old new
-IsAdvance g ended bytes old new (Err (Malformed at)) = IsMalformed g bytes at × IsKnown ended bytes at × (new.steps ≡ old.steps + 1) × MakesRow old new
-IsAdvance g ended bytes old new (Err Memory) = (new.steps ≡ old.steps + 1) × MakesRow old new
-IsAdvance g ended bytes old new (Err (BadReference at)) = ⊥
-IsAdvance g ended bytes old new (Err (BadValue at)) = ⊥
-IsAdvance g ended bytes old new (Err TooLong) = ⊥
+abbrev pub IsAdvance : (ℕ → List Sym) → Table → Bool → List ℕ → Parse → Parse → Result Bool Refusal → Type 0
+IsAdvance listed g ended bytes old new (Ok false) = IsParsing listed g ended bytes new × (new.steps ≡ old.steps + 1) × MakesRow old new
+IsAdvance listed g ended bytes old new (Ok true) = IsAtRest listed g ended bytes old new
+IsAdvance listed g ended bytes old new (Err (Malformed at)) = IsMalformed g bytes at × IsKnown ended bytes at × (new.steps ≡ old.steps + 1) × MakesRow old new
+IsAdvance listed g ended bytes old new (Err Memory) = (new.steps ≡ old.steps + 1) × MakesRow old new
+IsAdvance listed g ended bytes old new (Err (BadReference at)) = ⊥
+IsAdvance listed g ended bytes old new (Err (BadValue at)) = ⊥
+IsAdvance listed g ended bytes old new (Err TooLong) = ⊥
 
 -- the bytes aren't well shaped, and the place is that of the first bad one; or memory ran out
 abbrev pub IsMalformedOrMemory : Table → List ℕ → Refusal → Type 0
@@ -108,36 +108,36 @@ pub record AreSpent (bytes : List ℕ) (old new : Parse) : Type 0 where
   pub few : AreFew new.steps (length new.rows.items) (length bytes)
 
 -- one move or more, none, or no memory for one; how far they have come is told apart from the parse
-abbrev pub HasCome : Table → Bool → List ℕ → Come → Parse → Parse → Result (Option Come) Refusal → Type 0
-HasCome g ended bytes come old new (Ok (Some further)) = IsParse g ended bytes further.steps further.at (to_do new) new.rows.items × (come.steps < further.steps) × (length new.rows.items + come.steps ≤ length old.rows.items + further.steps)
-HasCome g ended bytes come old new (Ok None) = new ≡ old
-HasCome g ended bytes come old new (Err Memory) = MakesRow old new
-HasCome g ended bytes come old new (Err (Malformed at)) = ⊥
-HasCome g ended bytes come old new (Err (BadReference at)) = ⊥
-HasCome g ended bytes come old new (Err (BadValue at)) = ⊥
-HasCome g ended bytes come old new (Err TooLong) = ⊥
+abbrev pub HasCome : (ℕ → List Sym) → Table → Bool → List ℕ → Come → Parse → Parse → Result (Option Come) Refusal → Type 0
+HasCome listed g ended bytes come old new (Ok (Some further)) = IsParse g ended bytes further.steps further.at (to_do listed new) new.rows.items × (come.steps < further.steps) × (length new.rows.items + come.steps ≤ length old.rows.items + further.steps)
+HasCome listed g ended bytes come old new (Ok None) = new ≡ old
+HasCome listed g ended bytes come old new (Err Memory) = MakesRow old new
+HasCome listed g ended bytes come old new (Err (Malformed at)) = ⊥
+HasCome listed g ended bytes come old new (Err (BadReference at)) = ⊥
+HasCome listed g ended bytes come old new (Err (BadValue at)) = ⊥
+HasCome listed g ended bytes come old new (Err TooLong) = ⊥
 
 -- some moves, or no memory for one
-abbrev pub IsHurried : Table → Bool → List ℕ → Parse → Parse → Result (Unit {0}) Refusal → Type 0
-IsHurried g ended bytes old new (Ok done) = IsParsing g ended bytes new × MakeRows old new
-IsHurried g ended bytes old new (Err Memory) = AreSpent bytes old new
-IsHurried g ended bytes old new (Err (Malformed at)) = ⊥
-IsHurried g ended bytes old new (Err (BadReference at)) = ⊥
-IsHurried g ended bytes old new (Err (BadValue at)) = ⊥
-IsHurried g ended bytes old new (Err TooLong) = ⊥
+abbrev pub IsHurried : (ℕ → List Sym) → Table → Bool → List ℕ → Parse → Parse → Result (Unit {0}) Refusal → Type 0
+IsHurried listed g ended bytes old new (Ok done) = IsParsing listed g ended bytes new × MakeRows old new
+IsHurried listed g ended bytes old new (Err Memory) = AreSpent bytes old new
+IsHurried listed g ended bytes old new (Err (Malformed at)) = ⊥
+IsHurried listed g ended bytes old new (Err (BadReference at)) = ⊥
+IsHurried listed g ended bytes old new (Err (BadValue at)) = ⊥
+IsHurried listed g ended bytes old new (Err TooLong) = ⊥
 
 -- steps until nothing is left to do with these bytes
-pub record IsRead (g : Table) (ended : Bool) (bytes : List ℕ) (old new : Parse) : Type 0 where
-  pub parsing : IsParsing g ended bytes new
+pub record IsRead (listed : ℕ → List Sym) (g : Table) (ended : Bool) (bytes : List ℕ) (old new : Parse) : Type 0 where
+  pub parsing : IsParsing listed g ended bytes new
   pub made : MakeRows old new
   pub begins : BeginsWellShaped g bytes
-  pub read : ended ≡ true → (to_do new ≡ []) × (new.at ≡ length bytes)
+  pub read : ended ≡ true → (to_do listed new ≡ []) × (new.at ≡ length bytes)
 
 -- steps until nothing is left to do, or until one refuses
-abbrev pub IsRun : Table → Bool → List ℕ → Parse → Parse → Result (Unit {0}) Refusal → Type 0
-IsRun g ended bytes old new (Ok done) = IsRead g ended bytes old new
-IsRun g ended bytes old new (Err (Malformed at)) = IsMalformed g bytes at × IsKnown ended bytes at × AreSpent bytes old new
-IsRun g ended bytes old new (Err Memory) = AreSpent bytes old new
-IsRun g ended bytes old new (Err (BadReference at)) = ⊥
-IsRun g ended bytes old new (Err (BadValue at)) = ⊥
-IsRun g ended bytes old new (Err TooLong) = ⊥
+abbrev pub IsRun : (ℕ → List Sym) → Table → Bool → List ℕ → Parse → Parse → Result (Unit {0}) Refusal → Type 0
+IsRun listed g ended bytes old new (Ok done) = IsRead listed g ended bytes old new
+IsRun listed g ended bytes old new (Err (Malformed at)) = IsMalformed g bytes at × IsKnown ended bytes at × AreSpent bytes old new
+IsRun listed g ended bytes old new (Err Memory) = AreSpent bytes old new
+IsRun listed g ended bytes old new (Err (BadReference at)) = ⊥
+IsRun listed g ended bytes old new (Err (BadValue at)) = ⊥
+IsRun listed g ended bytes old new (Err TooLong) = ⊥

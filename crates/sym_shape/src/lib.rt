@@ -9,6 +9,7 @@ mod choosing;
 mod frame;
 pub mod grammar;
 pub mod laws;
+mod listing;
 mod parse;
 pub mod reader;
 pub mod rule;
@@ -20,6 +21,7 @@ pub use grammar::Grammar;
 pub use laws::{
     change_is_found_behind, each_is_decided, front_is_cut_off, grown_keeps, one_bad_byte, one_tree,
 };
+pub use listing::{END, symbol_at};
 pub use reader::Reader;
 pub use rule::{Row, Rule, Sym, TOKEN};
 pub use shape::{Shape, read, read_into};

@@ -2,12 +2,13 @@
 ghost use Rattle.std.specs.Prelude.{Some, Ok, ◌≡◌, ℕ, ◌+◌, ◌^◌, ◌∷◌, [], ◌++◌, ◌<◌, ◌≤◌, List, length, take, drop, false, ◌-◌, OnOk, IfOk, OnErr, IfSome, MatchOption};
 ghost use Rattle.std.specs.Bool.{OnTrue, OnFalse};
 ghost use Rattle.sym_core.specs.Number.{FitsSymbol};
-ghost use Rattle.sym_shape.specs.Reading.{Entry, Symbol, closed, IsKnown, IsByteAt, TakesNone, place_behind, place_row, lone_rows};
+ghost use Rattle.sym_shape.specs.Reading.{Entry, entries_of, closed, IsKnown, IsByteAt, TakesNone, place_behind, place_row, lone_rows};
 ghost use Rattle.sym_shape.specs.Table.{symbols_of};
-ghost use Rattle.sym_shape.specs.Frame.{left_of, HasNext, HasLast, IsTaken};
+ghost use Rattle.sym_shape.specs.Frame.{HasNext, HasLast, IsTaken};
+ghost use Rattle.sym_shape.specs.declared.rule.Sym.{Sym};
 ghost use Rattle.sym_shape.specs.Reader.{IsParsing, IsStep, IsAdvance, IsHurried, IsRun, FindsToken, IsWholeToken, IsParse, HasRule, HasNoRule, HasCome, to_do};
 
-use crate::frame::{Frame, upcoming};
+use crate::frame::Frame;
 use crate::grammar::Grammar;
 use crate::rule::{Row, Rule, Sym, TOKEN};
 use std::alloc::Global;
@@ -42,22 +43,7 @@ fn further(come: Come, at: usize, steps: u32) -> Option<Come>
 }
 
 /// The lowest frame, which asks for the start kind alone.
-fn lowest() -> Frame
-    ensures { left_of result ≡ Sym.Kind 0 ∷ [] }
-{
-    Frame {
-        symbols: [
-            Sym::Kind(0),
-            Sym::Kind(0),
-            Sym::Kind(0),
-            Sym::Kind(0),
-            Sym::Kind(0),
-        ],
-        count: 1,
-        next: 0,
-        row: 0,
-    }
-}
+const LOWEST: Frame = Frame { place: 0, row: 0 };
 
 /// Ends the row of a rule.
 fn close_row(rows: &mut Vec<Row>, row: usize, at: u32)
@@ -95,19 +81,20 @@ fn behind(rule: &Rule, at: usize) -> usize
     if rule.eats { at + 1 } else { at }
 }
 
-/// Takes a rule in the place of its kind, behind which the top frame goes on. The rule's frame is then on top, unless it is
-/// a leaf, whose row has ended.
+/// Takes a rule whose symbols stand at a place of the list, behind whose kind the top frame goes on. The rule's frame is
+/// then on top, unless it is a leaf, whose row has ended.
 #[inline(always)]
 fn take_rule(
     below: &mut Vec<Frame>,
     rows: &mut Vec<Row>,
     top: &mut Frame,
     rule: &Rule,
+    place: u32,
     at: usize,
 ) -> Result<(), Refusal>
     requires few { length rows.old.items + 1 < 2 ^ 32 }
-    requires place { at + 1 < 2 ^ 32 }
-    ensures taken { OnOk result (IsTaken rule.now top.old at below.old.items rows.old.items top.new below.new.items rows.new.items) }
+    requires at { at + 1 < 2 ^ 32 }
+    ensures taken { OnOk result (IsTaken rule.now place top.old at below.old.items rows.old.items top.new below.new.items rows.new.items) }
     ensures one { length rows.new.items ≤ length rows.old.items + 1 }
     ensures memory { OnErr result (result ≡ Err Refusal.Memory) }
 {
@@ -130,10 +117,7 @@ fn take_rule(
     })?;
     below.reserve(1)?;
     below.push_reserved(*top);
-    top.symbols = rule.symbols;
-    top.count = rule.count as u32;
-    top.next = 0;
-    top.row = number;
+    *top = Frame { place, row: number };
     Ok(())
 }
 
@@ -260,13 +244,13 @@ fn rule_at<G: Grammar>(grammar: &G, kind: u16, bytes: &[u8], at: usize) -> Optio
 impl Parse {
     /// Before the first step: the start kind is to be read. It takes no memory.
     pub fn new(alloc: Global) -> Parse
-        ensures todo { to_do result ≡ Symbol (Sym.Kind 0) ∷ [] }
+        ensures todo { (listed : ℕ → List Sym) → to_do listed result ≡ entries_of (listed 0) }
         ensures rows { result.rows.items ≡ [] }
         ensures at { result.at ≡ 0 }
         ensures steps { result.steps ≡ 0 }
     {
         Parse {
-            top: lowest(),
+            top: LOWEST,
             below: Vec::new(alloc),
             rows: Vec::new(alloc),
             at: 0,
@@ -276,12 +260,12 @@ impl Parse {
 
     /// Begins another symbol with the lists that are there.
     pub fn restart(&mut self)
-        ensures todo { to_do self.new ≡ Symbol (Sym.Kind 0) ∷ [] }
+        ensures todo { (listed : ℕ → List Sym) → to_do listed self.new ≡ entries_of (listed 0) }
         ensures rows { self.new.rows.items ≡ [] }
         ensures at { self.new.at ≡ 0 }
         ensures steps { self.new.steps ≡ 0 }
     {
-        self.top = lowest();
+        self.top = LOWEST;
         self.below.clear();
         self.rows.clear();
         self.at = 0;
@@ -291,8 +275,8 @@ impl Parse {
     /// Steps until nothing is left to do with these bytes, or until one refuses.
     pub fn run<G: Grammar>(&mut self, grammar: &G, bytes: &[u8], ended: bool) -> Result<(), Refusal>
         requires fits { FitsSymbol bytes.now }
-        requires parsing { IsParsing G.table ended bytes.now self.old }
-        ensures { IsRun G.table ended bytes.now self.old self.new result }
+        requires parsing { IsParsing G.listed G.table ended bytes.now self.old }
+        ensures { IsRun G.listed G.table ended bytes.now self.old self.new result }
     {
         'steps: loop {
             self.hurry(grammar, bytes, ended)?;
@@ -307,15 +291,15 @@ impl Parse {
     /// Moves that need no more bytes and that nothing refuses but memory, one after another, with the state at hand.
     fn hurry<G: Grammar>(&mut self, grammar: &G, bytes: &[u8], ended: bool) -> Result<(), Refusal>
         requires fits { FitsSymbol bytes.now }
-        requires parsing { IsParsing G.table ended bytes.now self.old }
-        ensures { IsHurried G.table ended bytes.now self.old self.new result }
+        requires parsing { IsParsing G.listed G.table ended bytes.now self.old }
+        ensures { IsHurried G.listed G.table ended bytes.now self.old self.new result }
     {
         let mut come = Come {
             at: self.at,
             steps: self.steps,
         };
         'moves: loop {
-            let moved = match upcoming(&self.top) {
+            let moved = match grammar.symbol(self.top.place) {
                 None => Ok(self.leave_rule::<G>(come, bytes, ended)),
                 Some(symbol) => match symbol {
                     Sym::Kind(kind) => self.enter_kind(grammar, kind, come, bytes, ended),
@@ -339,10 +323,10 @@ impl Parse {
     /// Ends the row of a rule all of whose symbols are read, unless it is the lowest.
     #[inline(always)]
     fn leave_rule<G: Grammar>(&mut self, come: Come, bytes: &[u8], ended: bool) -> Option<Come>
-        requires parsing { IsParse G.table ended bytes.now come.steps come.at (to_do self.old) self.old.rows.items }
+        requires parsing { IsParse G.table ended bytes.now come.steps come.at (to_do G.listed self.old) self.old.rows.items }
         requires fits { FitsSymbol bytes.now }
-        requires bare { left_of self.old.top ≡ [] }
-        ensures { HasCome G.table ended bytes.now come self.old self.new (Ok result) }
+        requires bare { G.listed self.old.top.place ≡ [] }
+        ensures { HasCome G.listed G.table ended bytes.now come self.old self.new (Ok result) }
     {
         match uppermost(&self.below) {
             Some(frame) => {
@@ -366,10 +350,10 @@ impl Parse {
         bytes: &[u8],
         ended: bool,
     ) -> Result<Option<Come>, Refusal>
-        requires parsing { IsParse G.table ended bytes.now come.steps come.at (to_do self.old) self.old.rows.items }
+        requires parsing { IsParse G.table ended bytes.now come.steps come.at (to_do G.listed self.old) self.old.rows.items }
         requires fits { FitsSymbol bytes.now }
-        requires next { HasNext self.old.top (Sym.Kind kind) }
-        ensures { HasCome G.table ended bytes.now come self.old self.new result }
+        requires next { HasNext G.listed self.old.top (Sym.Kind kind) }
+        ensures { HasCome G.listed G.table ended bytes.now come self.old self.new result }
     {
         let at = come.at;
         match rule_at(grammar, kind, bytes, at) {
@@ -378,21 +362,29 @@ impl Parse {
                     match whole_token(grammar, symbol, bytes, behind(&rule, at), ended) {
                         Some(place) => {
                             push_lone(&mut self.rows, &rule, at, place)?;
-                            self.top.next += 1;
+                            self.top.place += 1;
                             Ok(further(come, place.end, 3))
                         }
                         None => Ok(None),
                     }
                 }
                 None => {
-                    self.top.next += 1;
-                    take_rule(&mut self.below, &mut self.rows, &mut self.top, &rule, at)?;
+                    let place = grammar.place(kind, bytes[at]);
+                    self.top.place += 1;
+                    take_rule(
+                        &mut self.below,
+                        &mut self.rows,
+                        &mut self.top,
+                        &rule,
+                        place,
+                        at,
+                    )?;
                     Ok(further(come, behind(&rule, at), 1))
                 }
             },
             None if may_go_on(at, bytes, ended) => Ok(None),
             None if grammar.may_be_empty(kind) => {
-                self.top.next += 1;
+                self.top.place += 1;
                 Ok(further(come, at, 1))
             }
             None => Ok(None),
@@ -409,15 +401,15 @@ impl Parse {
         bytes: &[u8],
         ended: bool,
     ) -> Result<Option<Come>, Refusal>
-        requires parsing { IsParse G.table ended bytes.now come.steps come.at (to_do self.old) self.old.rows.items }
+        requires parsing { IsParse G.table ended bytes.now come.steps come.at (to_do G.listed self.old) self.old.rows.items }
         requires fits { FitsSymbol bytes.now }
-        requires next { HasNext self.old.top symbol }
-        ensures { HasCome G.table ended bytes.now come self.old self.new result }
+        requires next { HasNext G.listed self.old.top symbol }
+        ensures { HasCome G.listed G.table ended bytes.now come self.old self.new result }
     {
         match symbol {
             Sym::Byte(byte) => match next_byte(bytes, come.at) {
                 Some(next) if next == byte => {
-                    self.top.next += 1;
+                    self.top.place += 1;
                     Ok(further(come, come.at + 1, 1))
                 }
                 _ => Ok(None),
@@ -425,7 +417,7 @@ impl Parse {
             _ => match whole_token(grammar, symbol, bytes, come.at, ended) {
                 Some(place) => {
                     push_token(&mut self.rows, place)?;
-                    self.top.next += 1;
+                    self.top.place += 1;
                     Ok(further(come, place.end, 1))
                 }
                 None => Ok(None),
@@ -442,8 +434,8 @@ impl Parse {
         ended: bool,
     ) -> Result<bool, Refusal>
         requires fits { FitsSymbol bytes.now }
-        requires parsing { IsParsing G.table ended bytes.now self.old }
-        ensures { IsAdvance G.table ended bytes.now self.old self.new result }
+        requires parsing { IsParsing G.listed G.table ended bytes.now self.old }
+        ensures { IsAdvance G.listed G.table ended bytes.now self.old self.new result }
     {
         let outcome = self.step(grammar, bytes, ended);
         match outcome {
@@ -462,10 +454,10 @@ impl Parse {
     /// The move that the top frame asks for.
     fn step<G: Grammar>(&mut self, grammar: &G, bytes: &[u8], ended: bool) -> Result<bool, Refusal>
         requires fits { FitsSymbol bytes.now }
-        requires parsing { IsParsing G.table ended bytes.now self.old }
-        ensures { IsStep G.table ended bytes.now self.old self.new result }
+        requires parsing { IsParsing G.listed G.table ended bytes.now self.old }
+        ensures { IsStep G.listed G.table ended bytes.now self.old self.new result }
     {
-        match upcoming(&self.top) {
+        match grammar.symbol(self.top.place) {
             None => self.end_frame::<G>(bytes, ended),
             Some(Sym::Byte(byte)) => self.read_byte::<G>(byte, bytes, ended),
             Some(Sym::Kind(kind)) => self.read_kind(grammar, kind, bytes, ended),
@@ -483,9 +475,9 @@ impl Parse {
     /// All symbols of the top frame are read: its row ends; or all is read, or there are bytes behind.
     fn end_frame<G: Grammar>(&mut self, bytes: &[u8], ended: bool) -> Result<bool, Refusal>
         requires fits { FitsSymbol bytes.now }
-        requires parsing { IsParsing G.table ended bytes.now self.old }
-        requires bare { left_of self.old.top ≡ [] }
-        ensures { IsStep G.table ended bytes.now self.old self.new result }
+        requires parsing { IsParsing G.listed G.table ended bytes.now self.old }
+        requires bare { G.listed self.old.top.place ≡ [] }
+        ensures { IsStep G.listed G.table ended bytes.now self.old self.new result }
     {
         match uppermost(&self.below) {
             Some(frame) => {
@@ -511,16 +503,16 @@ impl Parse {
         ended: bool,
     ) -> Result<bool, Refusal>
         requires fits { FitsSymbol bytes.now }
-        requires parsing { IsParsing G.table ended bytes.now self.old }
-        requires next { HasNext self.old.top (Sym.Byte byte) }
-        ensures { IsStep G.table ended bytes.now self.old self.new result }
+        requires parsing { IsParsing G.listed G.table ended bytes.now self.old }
+        requires next { HasNext G.listed self.old.top (Sym.Byte byte) }
+        ensures { IsStep G.listed G.table ended bytes.now self.old self.new result }
     {
         let at = self.at;
         match next_byte(bytes, at) {
             None if !ended => Ok(true),
             None => Err(Refusal::Malformed { at: at as u32 }),
             Some(next) if next == byte => {
-                self.top.next += 1;
+                self.top.place += 1;
                 self.at += 1;
                 Ok(false)
             }
@@ -537,21 +529,23 @@ impl Parse {
         ended: bool,
     ) -> Result<bool, Refusal>
         requires fits { FitsSymbol bytes.now }
-        requires parsing { IsParsing G.table ended bytes.now self.old }
-        requires next { HasNext self.old.top (Sym.Kind kind) }
-        ensures { IsStep G.table ended bytes.now self.old self.new result }
+        requires parsing { IsParsing G.listed G.table ended bytes.now self.old }
+        requires next { HasNext G.listed self.old.top (Sym.Kind kind) }
+        ensures { IsStep G.listed G.table ended bytes.now self.old self.new result }
     {
         match next_byte(bytes, self.at) {
             None if !ended => Ok(true),
             None => self.leave_kind(grammar, kind, bytes, ended),
             Some(next) => match grammar.rule(kind, next) {
                 Some(rule) => {
-                    self.top.next += 1;
+                    let place = grammar.place(kind, next);
+                    self.top.place += 1;
                     take_rule(
                         &mut self.below,
                         &mut self.rows,
                         &mut self.top,
                         &rule,
+                        place,
                         self.at,
                     )?;
                     self.at = behind(&rule, self.at);
@@ -571,13 +565,13 @@ impl Parse {
         ended: bool,
     ) -> Result<bool, Refusal>
         requires fits { FitsSymbol bytes.now }
-        requires parsing { IsParsing G.table ended bytes.now self.old }
-        requires next { HasNext self.old.top (Sym.Kind kind) }
+        requires parsing { IsParsing G.listed G.table ended bytes.now self.old }
+        requires next { HasNext G.listed self.old.top (Sym.Kind kind) }
         requires none { TakesNone G.table kind ended (drop self.old.at bytes.now) }
-        ensures { IsStep G.table ended bytes.now self.old self.new result }
+        ensures { IsStep G.listed G.table ended bytes.now self.old self.new result }
     {
         if grammar.may_be_empty(kind) {
-            self.top.next += 1;
+            self.top.place += 1;
             return Ok(false);
         }
         Err(Refusal::Malformed { at: self.at as u32 })
@@ -592,16 +586,16 @@ impl Parse {
         ended: bool,
     ) -> Result<bool, Refusal>
         requires fits { FitsSymbol bytes.now }
-        requires parsing { IsParsing G.table ended bytes.now self.old }
-        requires next { HasNext self.old.top symbol }
+        requires parsing { IsParsing G.listed G.table ended bytes.now self.old }
+        requires next { HasNext G.listed self.old.top symbol }
         requires found { FindsToken G.table.names symbol bytes.now self.old.at found }
-        ensures { IsStep G.table ended bytes.now self.old self.new result }
+        ensures { IsStep G.listed G.table ended bytes.now self.old self.new result }
     {
         match found {
             Ok(place) if may_go_on(place.end, bytes, ended) => Ok(true),
             Ok(place) => {
                 push_token(&mut self.rows, place)?;
-                self.top.next += 1;
+                self.top.place += 1;
                 self.at = place.end;
                 Ok(false)
             }

@@ -34,7 +34,7 @@ impl<G: Grammar> Model for Reader<G> {
 
     ghost view = { λ r. record { bytes = r.bytes.items; ended = r.ended; ready = r.ready; refused = r.refused; steps = r.parse.steps; rows = length r.parse.rows.items } };
 
-    ghost invariant = { λ r. IsFed G.table r.bytes.items r.ended r.ready r.refused r.parse };
+    ghost invariant = { λ r. IsFed G.listed G.table r.bytes.items r.ended r.ready r.refused r.parse };
 }
 
 impl<G: Grammar> Reader<G> {

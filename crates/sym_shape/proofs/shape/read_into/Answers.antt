@@ -1,4 +1,5 @@
-use Rattle.std.proofs.Common.{true, Ok}
+use Rattle.std.proofs.Common.{true, Ok, ap, ◌∙◌}
+use Rattle.sym_shape.specs.Reading.{entries_of}
 use Rattle.sym_shape.proofs.Steps.{same_start}
 use Rattle.sym_shape.proofs.Runs.{run_rows, run_steps}
 use Rattle.sym_shape.proofs.shape.read_into.Goals as goal
@@ -6,10 +7,10 @@ use Rattle.sym_shape.proofs.shape.read_into.Goals as goal
 pub run-requires-clause-parsing : goal.run-requires-clause-parsing
 run-requires-clause-parsing g c =
     let start = c.restart.ensures in
-    same_start g.G.Grammar.table g.met.G.Grammar.lawful true c.args.s.now _ _ _ _ start.steps start.at start.todo start.rows
+    same_start g.G.Grammar.table g.met.G.Grammar.lawful true c.args.s.now _ _ _ _ start.steps start.at (start.todo g.G.Grammar.listed ∙ ap entries_of g.G.Grammar.start) start.rows
 
 pub returns-in-Ok-clause-rows : goal.returns-in-Ok-clause-rows
-returns-in-Ok-clause-rows g c = run_rows g.G.Grammar.table c.args.s.now c.restart.new.self c.run.new.self (Ok tt) c.in-Ok.ensures
+returns-in-Ok-clause-rows g c = run_rows g.G.Grammar.listed g.G.Grammar.table c.args.s.now c.restart.new.self c.run.new.self (Ok tt) c.in-Ok.ensures
 
 pub returns-in-Ok-clause-steps : goal.returns-in-Ok-clause-steps
-returns-in-Ok-clause-steps g c = run_steps g.G.Grammar.table g.met.G.Grammar.lawful c.args.s.now c.restart.new.self c.run.new.self (Ok tt) c.in-Ok.ensures
+returns-in-Ok-clause-steps g c = run_steps g.G.Grammar.listed g.G.Grammar.table g.met.G.Grammar.lawful c.args.s.now c.restart.new.self c.run.new.self (Ok tt) c.in-Ok.ensures

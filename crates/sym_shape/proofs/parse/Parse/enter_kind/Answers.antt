@@ -1,4 +1,5 @@
-use Rattle.std.proofs.Common.{◌≡◌, ◌+◌, ap, arith, length, length-append, subst, sym, ◌∙◌}
+use Rattle.std.proofs.Common.{◌≡◌, ◌+◌, IfSome, ap, arith, length, length-append, subst, sym, ◌∙◌}
+use Rattle.sym_shape.specs.Table.{symbols_of}
 use Rattle.sym_shape.specs.Reading.{lone_rows}
 use Rattle.sym_shape.specs.Reader.{IsWholeToken}
 use Rattle.sym_shape.proofs.Frames.{IsFramed, frame_rule, frame_lone, frame_empty, next_kind, lone_within}
@@ -8,12 +9,17 @@ use Rattle.sym_shape.proofs.parse.Parse.enter_kind.Goals as goal
 pub rule_at-requires : goal.rule_at-requires
 rule_at-requires g c =
     let old = c.args.self.now in
-    next_kind g.G.Grammar.table c.args.ended c.args.bytes.now c.args.come.steps c.args.come.at c.args.kind old.top old.below.items old.rows.items c.requires.parsing c.requires.next
+    next_kind g.G.Grammar.listed g.G.Grammar.table c.args.ended c.args.bytes.now c.args.come.steps c.args.come.at c.args.kind old.top old.below.items old.rows.items c.requires.parsing c.requires.next
+
+pub place-place-requires : goal.place-place-requires
+place-place-requires g c =
+    let old = c.args.self.now in
+    next_kind g.G.Grammar.listed g.G.Grammar.table c.args.ended c.args.bytes.now c.args.come.steps c.args.come.at c.args.kind old.top old.below.items old.rows.items c.requires.parsing c.requires.next
 
 pub may_be_empty-requires : goal.may_be_empty-requires
 may_be_empty-requires g c =
     let old = c.args.self.now in
-    next_kind g.G.Grammar.table c.args.ended c.args.bytes.now c.args.come.steps c.args.come.at c.args.kind old.top old.below.items old.rows.items c.requires.parsing c.requires.next
+    next_kind g.G.Grammar.listed g.G.Grammar.table c.args.ended c.args.bytes.now c.args.come.steps c.args.come.at c.args.kind old.top old.below.items old.rows.items c.requires.parsing c.requires.next
 
 pub push_lone-requires-clause-place : goal.push_lone-requires-clause-place
 push_lone-requires-clause-place g c =
@@ -38,7 +44,7 @@ returns-in_ok-push_lone-in-Some-whole_token g c =
     let made = c.in_ok-push_lone-in-Some-whole_token.ensures in
     let size : length c.push_lone.new.rows.items ≡ length old.rows.items + 2 = ap length made.rows ∙ length-append old.rows.items (lone_rows c.in-Some.rule come.at place (length old.rows.items)) in
     let whole = subst (λ n. IsWholeToken g.G.Grammar.table.names c.in-Some-lone_token.symbol c.args.ended c.args.bytes.now n c.in-Some-whole_token.place) c.behind.ensures c.in-Some-whole_token.ensures in
-    let moved = frame_lone g.G.Grammar.table g.met.G.Grammar.lawful c.args.ended c.args.bytes.now come.steps come.at c.args.kind chosen.byte c.in-Some.rule c.in-Some-lone_token.symbol place old.top old.below.items old.rows.items c.push_lone.new.rows.items c.requires.parsing c.requires.next chosen.stands.within chosen.stands.is chosen.stands.fits chosen.chosen c.in-Some-lone_token.ensures whole made.rows in
+    let moved = frame_lone g.G.Grammar.listed g.G.Grammar.table g.met.G.Grammar.lawful c.args.ended c.args.bytes.now come.steps come.at c.args.kind chosen.byte c.in-Some.rule c.in-Some-lone_token.symbol place old.top old.below.items old.rows.items c.push_lone.new.rows.items c.requires.parsing c.requires.next chosen.stands.within chosen.stands.is chosen.stands.fits chosen.chosen c.in-Some-lone_token.ensures whole made.rows in
     rw c.further.ensures (moved, omega arith, omega (arith, size))
 
 pub returns-in_ok-take_rule-in-None-lone_token : goal.returns-in_ok-take_rule-in-None-lone_token
@@ -47,8 +53,9 @@ returns-in_ok-take_rule-in-None-lone_token g c =
     let come = c.args.come in
     let chosen = c.in-Some.ensures in
     let taken = c.in_ok-take_rule-in-None-lone_token.ensures in
-    let moved = frame_rule g.G.Grammar.table g.met.G.Grammar.lawful c.args.ended c.args.bytes.now come.steps come.at c.args.kind chosen.byte c.in-Some.rule old.top c.take_rule.new.top old.below.items c.take_rule.new.below.items old.rows.items c.take_rule.new.rows.items c.requires.parsing c.requires.next chosen.stands.within chosen.stands.is chosen.stands.fits chosen.chosen taken.taken in
-    let reached = subst (λ n. IsFramed g.G.Grammar.table c.args.ended c.args.bytes.now (come.steps + 1) n c.take_rule.new.top c.take_rule.new.below.items c.take_rule.new.rows.items) (sym c.behind-in-None-lone_token.ensures) moved in
+    let listed : g.G.Grammar.listed c.place-place.result ≡ symbols_of c.in-Some.rule = subst (λ r. IfSome r (λ rule. g.G.Grammar.listed c.place-place.result ≡ symbols_of rule)) (ap (g.G.Grammar.table.rule c.args.kind) chosen.stands.is ∙ chosen.chosen) c.place-place.ensures in
+    let moved = frame_rule g.G.Grammar.listed g.G.Grammar.table g.met.G.Grammar.lawful c.args.ended c.args.bytes.now come.steps come.at c.args.kind chosen.byte c.place-place.result c.in-Some.rule old.top c.take_rule.new.top old.below.items c.take_rule.new.below.items old.rows.items c.take_rule.new.rows.items c.requires.parsing c.requires.next chosen.stands.within chosen.stands.is chosen.stands.fits chosen.chosen listed taken.taken in
+    let reached = subst (λ n. IsFramed g.G.Grammar.listed g.G.Grammar.table c.args.ended c.args.bytes.now (come.steps + 1) n c.take_rule.new.top c.take_rule.new.below.items c.take_rule.new.rows.items) (sym c.behind-in-None-lone_token.ensures) moved in
     rw c.further-in-None-lone_token.ensures (reached, omega arith, omega (arith, taken.one))
 
 pub returns-in-None-2 : goal.returns-in-None-2
@@ -56,5 +63,5 @@ returns-in-None-2 g c =
     let old = c.args.self.now in
     let come = c.args.come in
     let none = takes_none g.G.Grammar.table c.args.kind c.args.ended c.args.bytes.now come.at c.if-may_go_on.ensures.known c.in-None.ensures in
-    let moved = frame_empty g.G.Grammar.table g.met.G.Grammar.lawful c.args.ended c.args.bytes.now come.steps come.at c.args.kind old.top old.below.items old.rows.items c.requires.parsing c.requires.next (sym c.may_be_empty.ensures ∙ c.if-may_be_empty.true) none in
+    let moved = frame_empty g.G.Grammar.listed g.G.Grammar.table g.met.G.Grammar.lawful c.args.ended c.args.bytes.now come.steps come.at c.args.kind old.top old.below.items old.rows.items c.requires.parsing c.requires.next (sym c.may_be_empty.ensures ∙ c.if-may_be_empty.true) none in
     rw c.further-in-None-2.ensures (moved, omega arith, omega arith)

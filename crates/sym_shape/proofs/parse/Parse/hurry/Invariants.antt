@@ -5,7 +5,7 @@ use Rattle.sym_shape.proofs.parse.Parse.hurry.Given as goal
 
 abbrev pub invariant-moves : goal.invariant-moves
 invariant-moves g l = record {
-  parsing : IsParse g.G.Grammar.table l.ended l.bytes l.come.steps l.come.at (to_do l.self) l.self.rows.items;
+  parsing : IsParse g.G.Grammar.table l.ended l.bytes l.come.steps l.come.at (to_do g.G.Grammar.listed l.self) l.self.rows.items;
   steps : l.fn.self.steps ≤ l.come.steps;
   rows : length l.self.rows.items + l.fn.self.steps ≤ length l.fn.self.rows.items + l.come.steps;
 }

@@ -6,14 +6,14 @@ use Rattle.sym_shape.proofs.parse.Parse.leave_kind.Goals as goal
 pub returns-then-may_be_empty : goal.returns-then-may_be_empty
 returns-then-may_be_empty g c =
     let old = c.args.self.now in
-    (frame_empty g.G.Grammar.table g.met.G.Grammar.lawful c.args.ended c.args.bytes.now old.steps old.at c.args.kind old.top old.below.items old.rows.items c.requires.parsing c.requires.next (sym c.may_be_empty.ensures ∙ c.if-may_be_empty.true) c.requires.none, refl, omega arith)
+    (frame_empty g.G.Grammar.listed g.G.Grammar.table g.met.G.Grammar.lawful c.args.ended c.args.bytes.now old.steps old.at c.args.kind old.top old.below.items old.rows.items c.requires.parsing c.requires.next (sym c.may_be_empty.ensures ∙ c.if-may_be_empty.true) c.requires.none, refl, omega arith)
 
 pub returns : goal.returns
 returns g c =
     let old = c.args.self.now in
-    (frame_kind_refused g.G.Grammar.table g.met.G.Grammar.lawful c.args.ended c.args.bytes.now old.steps old.at c.args.kind old.top old.below.items old.rows.items c.requires.parsing c.requires.next c.requires.none (sym c.may_be_empty.ensures ∙ c.if-may_be_empty.false), none_known g.G.Grammar.table c.args.kind c.args.ended c.args.bytes.now old.at c.requires.none, refl, omega arith)
+    (frame_kind_refused g.G.Grammar.listed g.G.Grammar.table g.met.G.Grammar.lawful c.args.ended c.args.bytes.now old.steps old.at c.args.kind old.top old.below.items old.rows.items c.requires.parsing c.requires.next c.requires.none (sym c.may_be_empty.ensures ∙ c.if-may_be_empty.false), none_known g.G.Grammar.table c.args.kind c.args.ended c.args.bytes.now old.at c.requires.none, refl, omega arith)
 
 pub may_be_empty-requires : goal.may_be_empty-requires
 may_be_empty-requires g c =
     let old = c.args.self.now in
-    next_kind g.G.Grammar.table c.args.ended c.args.bytes.now old.steps old.at c.args.kind old.top old.below.items old.rows.items c.requires.parsing c.requires.next
+    next_kind g.G.Grammar.listed g.G.Grammar.table c.args.ended c.args.bytes.now old.steps old.at c.args.kind old.top old.below.items old.rows.items c.requires.parsing c.requires.next

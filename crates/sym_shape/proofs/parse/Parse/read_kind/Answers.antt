@@ -1,5 +1,6 @@
 use Rattle.std.proofs.lemmas.Result.{err_from_is_err_and}
-use Rattle.std.proofs.Common.{refl, sym, subst, ◌+◌}
+use Rattle.std.proofs.Common.{◌≡◌, IfSome, refl, sym, subst, ◌+◌}
+use Rattle.sym_shape.specs.Table.{symbols_of}
 use Rattle.sym_shape.specs.Reader.{to_do}
 use Rattle.sym_shape.proofs.Steps.{all_begins, both_not, out_of_memory, memory_passed}
 use Rattle.sym_shape.proofs.Frames.{IsFramed, frame_rule, next_kind}
@@ -8,7 +9,12 @@ use Rattle.sym_shape.proofs.parse.Parse.read_kind.Goals as goal
 pub rule-requires : goal.rule-requires
 rule-requires g c =
     let old = c.args.self.now in
-    next_kind g.G.Grammar.table c.args.ended c.args.bytes.now old.steps old.at c.args.kind old.top old.below.items old.rows.items c.requires.parsing c.requires.next
+    next_kind g.G.Grammar.listed g.G.Grammar.table c.args.ended c.args.bytes.now old.steps old.at c.args.kind old.top old.below.items old.rows.items c.requires.parsing c.requires.next
+
+pub place-place-requires : goal.place-place-requires
+place-place-requires g c =
+    let old = c.args.self.now in
+    next_kind g.G.Grammar.listed g.G.Grammar.table c.args.ended c.args.bytes.now old.steps old.at c.args.kind old.top old.below.items old.rows.items c.requires.parsing c.requires.next
 
 pub returns-in_ok-take_rule-in-Some-rule : goal.returns-in_ok-take_rule-in-Some-rule
 returns-in_ok-take_rule-in-Some-rule g c =
@@ -16,15 +22,15 @@ returns-in_ok-take_rule-in-Some-rule g c =
     let byte = c.in-Some.ensures in
     let taken = c.in_ok-take_rule-in-Some-rule.ensures in
     let frame = c.take_rule.new.top in
-    let moved = frame_rule g.G.Grammar.table g.met.G.Grammar.lawful c.args.ended c.args.bytes.now old.steps old.at c.args.kind c.in-Some.next c.in-Some-rule.rule old.top frame old.below.items c.take_rule.new.below.items old.rows.items c.take_rule.new.rows.items c.requires.parsing c.requires.next byte.within byte.is byte.fits (sym c.in-Some-rule.ensures) taken.taken in
-    (subst (λ n. IsFramed g.G.Grammar.table c.args.ended c.args.bytes.now (old.steps + 1) n frame c.take_rule.new.below.items c.take_rule.new.rows.items) (sym c.behind-self.ensures) moved, refl, taken.one)
+    let moved = frame_rule g.G.Grammar.listed g.G.Grammar.table g.met.G.Grammar.lawful c.args.ended c.args.bytes.now old.steps old.at c.args.kind c.in-Some.next c.place-place.result c.in-Some-rule.rule old.top frame old.below.items c.take_rule.new.below.items old.rows.items c.take_rule.new.rows.items c.requires.parsing c.requires.next byte.within byte.is byte.fits (sym c.in-Some-rule.ensures) (subst (λ r. IfSome r (λ rule. g.G.Grammar.listed c.place-place.result ≡ symbols_of rule)) (sym c.in-Some-rule.ensures) c.place-place.ensures) taken.taken in
+    (subst (λ n. IsFramed g.G.Grammar.listed g.G.Grammar.table c.args.ended c.args.bytes.now (old.steps + 1) n frame c.take_rule.new.below.items c.take_rule.new.rows.items) (sym c.behind-self.ensures) moved, refl, taken.one)
 
 pub returns-in-None : goal.returns-in-None
 returns-in-None g c =
     let old = c.args.self.now in
     record {
       same = refl;
-      begins = all_begins g.G.Grammar.table g.met.G.Grammar.lawful c.args.ended c.args.bytes.now old.steps old.at (to_do old) old.rows.items c.requires.parsing c.in-None.ensures;
+      begins = all_begins g.G.Grammar.table g.met.G.Grammar.lawful c.args.ended c.args.bytes.now old.steps old.at (to_do g.G.Grammar.listed old) old.rows.items c.requires.parsing c.in-None.ensures;
       read = λ told. absurd (both_not c.args.ended told c.if-not-ended.true);
     }
 
@@ -32,4 +38,4 @@ pub returns-in_err-take_rule-in-Some-rule : goal.returns-in_err-take_rule-in-Som
 returns-in_err-take_rule-in-Some-rule g c =
     let stop = c.in_err-take_rule-in-Some-rule in
     let handed = err_from_is_err_and c.from_residual.result c.from_residual.ensures.1 in
-    out_of_memory g.G.Grammar.table c.args.ended c.args.bytes.now c.args.self.now (record c.args.self.now { top = c.take_rule.new.top; below = c.take_rule.new.below; rows = c.take_rule.new.rows }) c.from_residual.result handed.0 handed.1 (memory_passed _ stop.field-0.0 handed.0 refl stop.ensures.memory handed.2) refl stop.ensures.one
+    out_of_memory g.G.Grammar.listed g.G.Grammar.table c.args.ended c.args.bytes.now c.args.self.now (record c.args.self.now { top = c.take_rule.new.top; below = c.take_rule.new.below; rows = c.take_rule.new.rows }) c.from_residual.result handed.0 handed.1 (memory_passed _ stop.field-0.0 handed.0 refl stop.ensures.memory handed.2) refl stop.ensures.one

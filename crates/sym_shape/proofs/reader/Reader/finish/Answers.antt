@@ -7,12 +7,12 @@ pub returns-in-None-clause-rows : goal.returns-in-None-clause-rows
 returns-in-None-clause-rows g c =
     let inside = c.self.inside in
     let view = c.self.view_is in
-    let rows = fed_rows g.G.Grammar.table inside.bytes.items inside.ended inside.ready inside.refused inside.parse c.in-None.is (ap (λ (v : Fed). v.ready) view ∙ c.requires) c.self.invariant in
+    let rows = fed_rows g.G.Grammar.listed g.G.Grammar.table inside.bytes.items inside.ended inside.ready inside.refused inside.parse c.in-None.is (ap (λ (v : Fed). v.ready) view ∙ c.requires) c.self.invariant in
     same_rows g.G.Grammar.table inside.bytes.items c.args.self.bytes inside.parse.rows.items c.of.result.rows (ap (λ (v : Fed). v.bytes) view) c.of.ensures.rows rows
 
 pub returns-in-None-clause-steps : goal.returns-in-None-clause-steps
 returns-in-None-clause-steps g c =
     let inside = c.self.inside in
     let view = c.self.view_is in
-    let steps = fed_steps g.G.Grammar.table g.met.G.Grammar.lawful inside.bytes.items inside.ended inside.ready inside.refused inside.parse c.in-None.is (ap (λ (v : Fed). v.ready) view ∙ c.requires) c.self.invariant in
+    let steps = fed_steps g.G.Grammar.listed g.G.Grammar.table g.met.G.Grammar.lawful inside.bytes.items inside.ended inside.ready inside.refused inside.parse c.in-None.is (ap (λ (v : Fed). v.ready) view ∙ c.requires) c.self.invariant in
     same_steps g.G.Grammar.table inside.bytes.items c.args.self.bytes inside.parse.steps c.of.result.steps (ap (λ (v : Fed). v.bytes) view) c.of.ensures.steps steps

@@ -1,11 +1,12 @@
-use Rattle.std.proofs.Common.{refl, ap, length}
+use Rattle.std.proofs.Common.{refl, ap, length, ◌∙◌}
+use Rattle.sym_shape.specs.Reading.{entries_of}
 use Rattle.sym_shape.proofs.Feeding.{fed_start, same_fed, made_fed}
 use Rattle.sym_shape.proofs.reader.Reader.new.Goals as goal
 
 pub invariant_of-result : goal.invariant_of-result
 invariant_of-result g c =
     let start = c.new-2.ensures in
-    fed_start g.G.Grammar.table g.met.G.Grammar.lawful _ _ c.new.ensures.items start.steps start.at start.todo start.rows
+    fed_start g.G.Grammar.listed g.G.Grammar.table g.met.G.Grammar.lawful _ _ c.new.ensures.items start.steps start.at (start.todo g.G.Grammar.listed ∙ ap entries_of g.G.Grammar.start) start.rows
 
 pub returns : goal.returns
 returns g c =

@@ -1,0 +1,23 @@
+-- The symbols of all rules in one list.
+use Rattle.std.specs.Prelude.{◌≡◌, ℕ, zero, suc, ◌+◌, ◌<◌, List, [], ◌∷◌, drop}
+use Rattle.sym_shape.specs.declared.rule.Sym.{Sym}
+use Rattle.sym_shape.specs.declared.rule.Sym.TheVariants.{Kind, Name, Number, Byte}
+
+-- Where `listed` are those symbols that stand from a place on, to the end of their rule: the symbol stands there, and
+-- behind it the others.
+pub record StandsAt (listed : ℕ → List Sym) (place : ℕ) (x : Sym) : Type 0 where
+  pub left : listed place ≡ x ∷ listed (place + 1)
+  pub room : place < 65535
+
+-- the symbols up to a `Byte 0`, which ends a rule
+abbrev pub up_to_end : List Sym → List Sym
+up_to_end [] = []
+up_to_end (Byte zero ∷ xs) = []
+up_to_end (Byte (suc b) ∷ xs) = Byte (suc b) ∷ up_to_end xs
+up_to_end (Kind k ∷ xs) = Kind k ∷ up_to_end xs
+up_to_end (Name ∷ xs) = Name ∷ up_to_end xs
+up_to_end (Number kind ∷ xs) = Number kind ∷ up_to_end xs
+
+-- those of a list from a place on
+abbrev pub listed_in : List Sym → ℕ → List Sym
+listed_in symbols place = up_to_end (drop place symbols)
