@@ -210,7 +210,7 @@ impl Linked {
     /// # Errors
     ///
     /// `BadReference` at a parameter that names no argument that it may name, `Memory` where a list couldn't grow.
-    #[inline(always)]
+    #[inline(never)]
     pub fn go_on(
         &mut self,
         symbol: &[u8],

@@ -114,6 +114,7 @@ pub trait Threading {
 }
 
 /// Passes a part without a row of the rule of the frame.
+#[inline(always)]
 fn pass_one<L: Threading>(
     language: &mut L,
     symbol: &[u8],
@@ -137,6 +138,7 @@ fn pass_one<L: Threading>(
 }
 
 /// Passes the parts without a row of the rule of the frame that stand in front of the part with this number.
+#[inline(always)]
 pub fn pass<L: Threading>(
     language: &mut L,
     symbol: &[u8],
