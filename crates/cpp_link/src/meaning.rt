@@ -14,7 +14,7 @@ ghost use Rattle.cpp_link.specs.declared.part.Part.{Part};
 ghost use Rattle.cpp_tree.specs.declared.node.Node.{Node};
 ghost use Rattle.cpp_link.specs.Parts.{trees_in, value_of, value_in, values_in, around_of, meant_value, AreThere, IsThere, IsMeantThere, IsPrefixThere};
 ghost use Rattle.cpp_link.specs.Owed.{made_at_end};
-ghost use Rattle.cpp_link.specs.Making.{nodes_of_meant};
+ghost use Rattle.cpp_link.specs.Making.{IsRare, nodes_of_meant};
 
 use crate::linked::Linked;
 use crate::numbers::{local_number, normal, one_byte, signed_digits, with_byte};
@@ -82,7 +82,7 @@ impl Linked {
     ///
     /// # Errors
     ///
-    /// Those of `meant`, and `Memory` at a production that `meant` knows itself, which never comes here.
+    /// Those of `meant`.
     #[tactic(auto, unfolding(cpp_term::specs::Meaning::meaning, cpp_term::specs::Meaning::qualified_by, cpp_term::specs::Meaning::listed_value, cpp_term::specs::Meaning::function_of, cpp_term::specs::Meaning::with_item, cpp_term::specs::Values::tree_of, cpp_term::specs::Values::is_there, crate::specs::Parts::around_of, crate::specs::Parts::meant_value, crate::specs::Parts::value_of, cpp_tree::specs::Nodes::tree_of, cpp_tree::specs::Nodes::piece_of, cpp_tree::specs::Nodes::thunk_of, cpp_tree::specs::Nodes::adjustment_of, crate::specs::Owed::made_at_end, crate::specs::Making::nodes_of_meant))]
     #[inline(never)]
     fn meant_rare(
@@ -93,6 +93,7 @@ impl Linked {
         kept: Kept,
         parts: &[Part],
     ) -> Result<Meant, Refusal>
+        requires rare { IsRare production }
         requires fits { FitsSymbol symbol.now }
         requires place { place < length symbol.now }
         requires table { IsTable (over symbol.now self.now.nodes) }
@@ -405,7 +406,23 @@ impl Linked {
                 place,
                 self.text(symbol, parts, 0),
             )?)),
-            _ => return Err(Refusal::Memory),
+            Production::NestNext => unreachable!(),
+            Production::SourceName => unreachable!(),
+            Production::PlainType => unreachable!(),
+            Production::NestEnd => unreachable!(),
+            Production::Items => unreachable!(),
+            Production::NestSource => unreachable!(),
+            Production::Builtin => unreachable!(),
+            Production::TypeArgument => unreachable!(),
+            Production::Symbol => unreachable!(),
+            Production::NestedType => unreachable!(),
+            Production::Encoding => unreachable!(),
+            Production::NestedName => unreachable!(),
+            Production::Arguments => unreachable!(),
+            Production::NestWithS => unreachable!(),
+            Production::NestAbbreviated => unreachable!(),
+            Production::TypeWithS => unreachable!(),
+            Production::AbbreviatedType => unreachable!(),
         })
     }
 
