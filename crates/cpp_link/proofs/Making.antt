@@ -20,7 +20,7 @@ use Rattle.cpp_link.specs.declared.linked.Linked.{Linked}
 use Rattle.cpp_link.specs.declared.part.Candidate.{Candidate}
 use Rattle.cpp_link.specs.declared.part.Kept.{Kept}
 use Rattle.cpp_link.specs.declared.part.Part.{Part}
-use Rattle.cpp_link.specs.Making.{state_of}
+use Rattle.cpp_link.specs.Making.{state_of, IsRare}
 use Rattle.cpp_link.specs.Owed.{made_at_end, owes_of, owes}
 use Rattle.cpp_link.specs.Parts.{trees_in, values_in, around_of, candidates_of, AreThere, IsKeptThere, AreCandidatesThere}
 use Rattle.cpp_link.specs.Reads.{with_candidate, maybe_candidate}
@@ -71,6 +71,27 @@ state_behind s old mid last p byte kept parts candidate packs began stays kept_t
 pub few_owed : (number held old new : ℕ) → new ≤ old + made_at_end (production_at number) → new - 3 + 0 ≤ old - 3 + owes number held
 unfolding owes owes_of
 few_owed number held old new few = omega (arith, few)
+
+-- a production that is none of the commonest is rare
+pub is_rare : (p : Production) → (p ≡ Production.NestNext → ⊥) → (p ≡ Production.SourceName → ⊥) → (p ≡ Production.PlainType → ⊥) → (p ≡ Production.NestEnd → ⊥) → (p ≡ Production.Items → ⊥) → (p ≡ Production.NestSource → ⊥) → (p ≡ Production.Builtin → ⊥) → (p ≡ Production.TypeArgument → ⊥) → (p ≡ Production.Symbol → ⊥) → (p ≡ Production.NestedType → ⊥) → (p ≡ Production.Encoding → ⊥) → (p ≡ Production.NestedName → ⊥) → (p ≡ Production.Arguments → ⊥) → (p ≡ Production.NestWithS → ⊥) → (p ≡ Production.NestAbbreviated → ⊥) → (p ≡ Production.TypeWithS → ⊥) → (p ≡ Production.AbbreviatedType → ⊥) → IsRare p
+is_rare Production.NestNext h0 h1 h2 h3 h4 h5 h6 h7 h8 h9 h10 h11 h12 h13 h14 h15 h16 = absurd (h0 refl)
+is_rare Production.SourceName h0 h1 h2 h3 h4 h5 h6 h7 h8 h9 h10 h11 h12 h13 h14 h15 h16 = absurd (h1 refl)
+is_rare Production.PlainType h0 h1 h2 h3 h4 h5 h6 h7 h8 h9 h10 h11 h12 h13 h14 h15 h16 = absurd (h2 refl)
+is_rare Production.NestEnd h0 h1 h2 h3 h4 h5 h6 h7 h8 h9 h10 h11 h12 h13 h14 h15 h16 = absurd (h3 refl)
+is_rare Production.Items h0 h1 h2 h3 h4 h5 h6 h7 h8 h9 h10 h11 h12 h13 h14 h15 h16 = absurd (h4 refl)
+is_rare Production.NestSource h0 h1 h2 h3 h4 h5 h6 h7 h8 h9 h10 h11 h12 h13 h14 h15 h16 = absurd (h5 refl)
+is_rare Production.Builtin h0 h1 h2 h3 h4 h5 h6 h7 h8 h9 h10 h11 h12 h13 h14 h15 h16 = absurd (h6 refl)
+is_rare Production.TypeArgument h0 h1 h2 h3 h4 h5 h6 h7 h8 h9 h10 h11 h12 h13 h14 h15 h16 = absurd (h7 refl)
+is_rare Production.Symbol h0 h1 h2 h3 h4 h5 h6 h7 h8 h9 h10 h11 h12 h13 h14 h15 h16 = absurd (h8 refl)
+is_rare Production.NestedType h0 h1 h2 h3 h4 h5 h6 h7 h8 h9 h10 h11 h12 h13 h14 h15 h16 = absurd (h9 refl)
+is_rare Production.Encoding h0 h1 h2 h3 h4 h5 h6 h7 h8 h9 h10 h11 h12 h13 h14 h15 h16 = absurd (h10 refl)
+is_rare Production.NestedName h0 h1 h2 h3 h4 h5 h6 h7 h8 h9 h10 h11 h12 h13 h14 h15 h16 = absurd (h11 refl)
+is_rare Production.Arguments h0 h1 h2 h3 h4 h5 h6 h7 h8 h9 h10 h11 h12 h13 h14 h15 h16 = absurd (h12 refl)
+is_rare Production.NestWithS h0 h1 h2 h3 h4 h5 h6 h7 h8 h9 h10 h11 h12 h13 h14 h15 h16 = absurd (h13 refl)
+is_rare Production.NestAbbreviated h0 h1 h2 h3 h4 h5 h6 h7 h8 h9 h10 h11 h12 h13 h14 h15 h16 = absurd (h14 refl)
+is_rare Production.TypeWithS h0 h1 h2 h3 h4 h5 h6 h7 h8 h9 h10 h11 h12 h13 h14 h15 h16 = absurd (h15 refl)
+is_rare Production.AbbreviatedType h0 h1 h2 h3 h4 h5 h6 h7 h8 h9 h10 h11 h12 h13 h14 h15 h16 = absurd (h16 refl)
+is_rare _ h0 h1 h2 h3 h4 h5 h6 h7 h8 h9 h10 h11 h12 h13 h14 h15 h16 = tt
 
 -- ## What a production closes to
 

@@ -1,5 +1,6 @@
 -- What is made where a rule closes.
 use Rattle.std.specs.Prelude.{ℕ, List}
+use Rattle.cpp_grammar.specs.declared.production.Production.{Production}
 use Rattle.cpp_term.specs.Values.{State}
 use Rattle.cpp_link.specs.declared.linked.Linked.{Linked}
 use Rattle.cpp_link.specs.declared.part.Meant.{Meant}
@@ -14,3 +15,24 @@ nodes_of_meant _ = 1
 -- the state in which the nodes are
 abbrev pub state_of : List ℕ → Linked → State
 state_of s l = record { candidates = candidates_of (trees_in s l.nodes) l.candidates.items; packs = l.packs }
+
+-- a production that is none of the commonest, which `meant` has at hand
+abbrev pub IsRare : Production → Type 0
+IsRare Production.NestNext = ⊥
+IsRare Production.SourceName = ⊥
+IsRare Production.PlainType = ⊥
+IsRare Production.NestEnd = ⊥
+IsRare Production.Items = ⊥
+IsRare Production.NestSource = ⊥
+IsRare Production.Builtin = ⊥
+IsRare Production.TypeArgument = ⊥
+IsRare Production.Symbol = ⊥
+IsRare Production.NestedType = ⊥
+IsRare Production.Encoding = ⊥
+IsRare Production.NestedName = ⊥
+IsRare Production.Arguments = ⊥
+IsRare Production.NestWithS = ⊥
+IsRare Production.NestAbbreviated = ⊥
+IsRare Production.TypeWithS = ⊥
+IsRare Production.AbbreviatedType = ⊥
+IsRare _ = Unit {0}

@@ -22,8 +22,8 @@ use cpp_tree::node::Node;
 use sym_core::Refusal;
 use sym_link::language::Frame;
 
-/// Before how many of its parts nothing is done in each production, in the order of their numbers: before none, before the
-/// first, or before all, which are five at most.
+/// Before how many of its parts nothing is done in each production, in the order of their numbers: before none, the
+/// first, or all, which are five at most.
 const QUIET_PARTS: [u8; 112] = [
     5, 1, 1, 1, 1, 5, 5, 5, 5, 5, 5, 5, 0, 0, 0, 5, 5, 5, 5, 5, 5, 5, 5, 5, 1, 1, 1, 5, 5, 1, 1, 1,
     1, 1, 1, 0, 0, 5, 1, 1, 5, 5, 5, 5, 5, 5, 5, 0, 5, 5, 5, 5, 5, 5, 5, 5, 5, 5, 0, 5, 5, 5, 5, 5,

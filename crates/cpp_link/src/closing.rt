@@ -53,6 +53,7 @@ impl Linked {
 
     /// What comes behind a production, given its parts and the part that it is.
     #[tactic(auto, unfolding(cpp_term::specs::Unfolding::behind, crate::specs::Reads::with_candidate))]
+    #[inline(always)]
     pub fn behind(
         &self,
         symbol: &[u8],

@@ -102,6 +102,7 @@ impl Linked {
     /// # Errors
     ///
     /// `Memory` where a list couldn't grow.
+    #[inline(always)]
     fn make(
         &mut self,
         symbol: &[u8],
@@ -136,6 +137,110 @@ impl Linked {
         Ok(made)
     }
 
+    /// The same for productions that are rare: its code is that of all of them, and takes room for the parts of each.
+    ///
+    /// # Errors
+    ///
+    /// `Memory` where a list couldn't grow.
+    #[inline(never)]
+    fn make_rare(
+        &mut self,
+        symbol: &[u8],
+        production: Production,
+        place: u32,
+        kept: Kept,
+        parts: &[Part],
+    ) -> Result<Part, Refusal>
+        requires fits { FitsSymbol symbol.now }
+        requires place { place < length symbol.now }
+        requires room { HasPlace symbol.now self.old.nodes 2 }
+        requires paid { IsPaid self.old }
+        requires whole { IsWhole symbol.now self.old }
+        requires there { AreThere symbol.now (length self.old.nodes.nodes) parts.now }
+        requires kept { IsKeptThere (length self.old.nodes.nodes) kept }
+        ensures value { IfOk result (λ made. value_in symbol.now self.new.nodes made ≡ meaning production (slice_index symbol.now place) (around_of (trees_in symbol.now self.old.nodes) kept) (values_in symbol.now self.old.nodes parts.now)) }
+        ensures state { OnOk result ((began : State) → began.packs ≡ packs_of kept
+            → unfolding_.behind production (slice_index symbol.now place) (around_of (trees_in symbol.now self.old.nodes) kept) began (values_in symbol.now self.old.nodes parts.now) (state_of symbol.now self.old) ≡ state_of symbol.now self.new) }
+        ensures there { IfOk result (λ made. IsThere symbol.now (length self.new.nodes.nodes) made) }
+        ensures grows { OnOk result (GoesOn symbol.now self.old self.new) }
+        ensures few { OnOk result (length self.new.nodes.nodes ≤ length self.old.nodes.nodes + made_at_end production) }
+        ensures paid { OnOk result (IsPaid self.new) }
+        ensures whole { OnOk result (IsWhole symbol.now self.new) }
+        ensures memory { IfErr result (λ e. e ≡ refusals.Memory) }
+    {
+        self.make(symbol, production, place, kept, parts)
+    }
+
+    /// The same, with code of their own for the productions that are common.
+    ///
+    /// # Errors
+    ///
+    /// `Memory` where a list couldn't grow.
+    fn make_common(
+        &mut self,
+        symbol: &[u8],
+        production: Production,
+        place: u32,
+        kept: Kept,
+        parts: &[Part],
+    ) -> Result<Part, Refusal>
+        requires fits { FitsSymbol symbol.now }
+        requires place { place < length symbol.now }
+        requires room { HasPlace symbol.now self.old.nodes 2 }
+        requires paid { IsPaid self.old }
+        requires whole { IsWhole symbol.now self.old }
+        requires there { AreThere symbol.now (length self.old.nodes.nodes) parts.now }
+        requires kept { IsKeptThere (length self.old.nodes.nodes) kept }
+        ensures value { IfOk result (λ made. value_in symbol.now self.new.nodes made ≡ meaning production (slice_index symbol.now place) (around_of (trees_in symbol.now self.old.nodes) kept) (values_in symbol.now self.old.nodes parts.now)) }
+        ensures state { OnOk result ((began : State) → began.packs ≡ packs_of kept
+            → unfolding_.behind production (slice_index symbol.now place) (around_of (trees_in symbol.now self.old.nodes) kept) began (values_in symbol.now self.old.nodes parts.now) (state_of symbol.now self.old) ≡ state_of symbol.now self.new) }
+        ensures there { IfOk result (λ made. IsThere symbol.now (length self.new.nodes.nodes) made) }
+        ensures grows { OnOk result (GoesOn symbol.now self.old self.new) }
+        ensures few { OnOk result (length self.new.nodes.nodes ≤ length self.old.nodes.nodes + made_at_end production) }
+        ensures paid { OnOk result (IsPaid self.new) }
+        ensures whole { OnOk result (IsWhole symbol.now self.new) }
+        ensures memory { IfErr result (λ e. e ≡ refusals.Memory) }
+    {
+        match production {
+            Production::NestNext => self.make(symbol, Production::NestNext, place, kept, parts),
+            Production::SourceName => self.make(symbol, Production::SourceName, place, kept, parts),
+            Production::PlainType => self.make(symbol, Production::PlainType, place, kept, parts),
+            Production::NestEnd => self.make(symbol, Production::NestEnd, place, kept, parts),
+            Production::Items => self.make(symbol, Production::Items, place, kept, parts),
+            Production::NestSource => self.make(symbol, Production::NestSource, place, kept, parts),
+            Production::Builtin => self.make(symbol, Production::Builtin, place, kept, parts),
+            Production::TypeArgument => self.make(
+                symbol,
+                Production::TypeArgument,
+                place,
+                kept,
+                parts,
+            ),
+            Production::Symbol => self.make(symbol, Production::Symbol, place, kept, parts),
+            Production::NestedType => self.make(symbol, Production::NestedType, place, kept, parts),
+            Production::Encoding => self.make(symbol, Production::Encoding, place, kept, parts),
+            Production::NestedName => self.make(symbol, Production::NestedName, place, kept, parts),
+            Production::Arguments => self.make(symbol, Production::Arguments, place, kept, parts),
+            Production::NestWithS => self.make(symbol, Production::NestWithS, place, kept, parts),
+            Production::NestAbbreviated => self.make(
+                symbol,
+                Production::NestAbbreviated,
+                place,
+                kept,
+                parts,
+            ),
+            Production::TypeWithS => self.make(symbol, Production::TypeWithS, place, kept, parts),
+            Production::AbbreviatedType => self.make(
+                symbol,
+                Production::AbbreviatedType,
+                place,
+                kept,
+                parts,
+            ),
+            _ => self.make_rare(symbol, production, place, kept, parts),
+        }
+    }
+
     /// What a production closes to that begins at a place, with these parts.
     ///
     /// # Errors
@@ -168,7 +273,7 @@ impl Linked {
     {
         match production {
             Production::Substitution => self.substitute(symbol, place, kept, parts),
-            _ => self.make(symbol, production, place, kept, parts),
+            _ => self.make_common(symbol, production, place, kept, parts),
         }
     }
 

@@ -14,7 +14,7 @@ ghost use Rattle.cpp_link.specs.declared.part.Part.{Part};
 ghost use Rattle.cpp_tree.specs.declared.node.Node.{Node};
 ghost use Rattle.cpp_link.specs.Parts.{trees_in, value_of, value_in, values_in, around_of, meant_value, AreThere, IsThere, IsMeantThere, IsPrefixThere, name_of};
 ghost use Rattle.cpp_link.specs.Owed.{made_at_end};
-ghost use Rattle.cpp_link.specs.Making.{nodes_of_meant};
+ghost use Rattle.cpp_link.specs.Making.{IsRare, nodes_of_meant};
 
 use crate::linked::Linked;
 use crate::numbers::{local_number, normal, one_byte, signed_digits, with_byte};
@@ -78,14 +78,14 @@ fn qualified(restrict: bool, volatile: bool, const_: bool, ty: u32) -> Meant
 }
 
 impl Linked {
-    /// What a production stands for, that begins at a place with this byte, given its parts.
+    /// The same for a production that is rare: this code takes room for the parts of each.
     ///
     /// # Errors
     ///
-    /// `Memory` where a number is past 64 bits or a suffix isn't behind its byte, which no parts of a symbol come to.
+    /// Those of `meant`.
     #[tactic(auto, unfolding(cpp_term::specs::Meaning::meaning, cpp_term::specs::Meaning::qualified_by, cpp_term::specs::Meaning::listed_value, cpp_term::specs::Meaning::function_of, cpp_term::specs::Meaning::with_item, cpp_term::specs::Values::tree_of, cpp_term::specs::Values::is_there, crate::specs::Parts::around_of, crate::specs::Parts::meant_value, crate::specs::Parts::value_of, cpp_tree::specs::Nodes::tree_of, cpp_tree::specs::Nodes::piece_of, cpp_tree::specs::Nodes::thunk_of, cpp_tree::specs::Nodes::adjustment_of, crate::specs::Owed::made_at_end, crate::specs::Making::nodes_of_meant))]
-    #[inline(always)]
-    pub fn meant(
+    #[inline(never)]
+    fn meant_rare(
         &self,
         symbol: &[u8],
         production: Production,
@@ -93,6 +93,7 @@ impl Linked {
         kept: Kept,
         parts: &[Part],
     ) -> Result<Meant, Refusal>
+        requires rare { IsRare production }
         requires fits { FitsSymbol symbol.now }
         requires place { place < length symbol.now }
         requires table { IsTable (over symbol.now self.now.nodes) }
@@ -109,19 +110,13 @@ impl Linked {
             Production::NameWithS => Meant::Given(self.given(symbol, parts, 0)),
             Production::LocalTypePiece => Meant::Given(self.given(symbol, parts, 0)),
             Production::OperatorPiece => Meant::Given(self.given(symbol, parts, 0)),
-            Production::NestWithS => Meant::Given(self.given(symbol, parts, 0)),
             Production::NestParameter => Meant::Given(self.given(symbol, parts, 1)),
             Production::NestInternal => Meant::Given(self.given(symbol, parts, 1)),
             Production::NestLocalType => Meant::Given(self.given(symbol, parts, 1)),
-            Production::NestSource => Meant::Given(self.given(symbol, parts, 1)),
             Production::NestStd => Meant::Given(self.given(symbol, parts, 2)),
-            Production::NestAbbreviated => Meant::Given(self.given(symbol, parts, 1)),
             Production::NestArguments => Meant::Given(self.given(symbol, parts, 3)),
-            Production::NestNext => Meant::Given(self.given(symbol, parts, 1)),
-            Production::NestedType => Meant::Given(self.given(symbol, parts, 0)),
             Production::Discriminator => Meant::Given(self.given(symbol, parts, 0)),
             Production::ItemIsType => Meant::Given(self.given(symbol, parts, 0)),
-            Production::AbbreviatedType => Meant::Given(self.given(symbol, parts, 0)),
             Production::LiteralWithD => Meant::Given(self.given(symbol, parts, 0)),
             Production::Substitution => Meant::Given(Part::Nothing),
             Production::RefEnd => Meant::Given(Part::Nothing),
@@ -137,13 +132,6 @@ impl Linked {
                 list: NIL,
                 mark: Mark::Any,
             }),
-            Production::Symbol => made(
-                Node::Whole {
-                    encoding: self.tree(symbol, parts, 1),
-                    suffix: self.text(symbol, parts, 2),
-                },
-                true,
-            ),
             Production::Guard => made(
                 Node::Guard {
                     name: self.tree(symbol, parts, 1),
@@ -201,14 +189,12 @@ impl Linked {
             Production::OperatorS => piece(Piece::Operator(byte, self.letter(symbol, parts, 0))),
             Production::OperatorI => piece(Piece::Operator(byte, self.letter(symbol, parts, 0))),
             Production::OperatorG => piece(Piece::Operator(byte, self.letter(symbol, parts, 0))),
-            Production::PlainType => tree(self.tree(symbol, parts, 0), true),
             Production::QualifiedPlain => tree(self.tree(symbol, parts, 0), true),
             Production::TypeWithD => tree(self.tree(symbol, parts, 0), true),
             Production::PlainWithD => tree(self.tree(symbol, parts, 0), true),
             Production::ItemWithD => tree(self.tree(symbol, parts, 0), true),
             Production::Expansion => made(Node::Expansion(self.tree(symbol, parts, 0)), false),
             Production::BuiltinWithD => made(Node::BuiltinWithD(byte), true),
-            Production::Builtin => made(Node::Builtin(byte), true),
             Production::Vendor => made(Node::Vendor(self.text(symbol, parts, 0)), false),
             Production::Complex => made(Node::Complex(self.tree(symbol, parts, 0)), false),
             Production::Pointer => made(Node::Pointer(self.tree(symbol, parts, 0)), false),
@@ -233,13 +219,6 @@ impl Linked {
                 self.tree(symbol, parts, 1),
             ),
             Production::ConstType => qualified(false, false, true, self.tree(symbol, parts, 0)),
-            Production::Items => made(
-                Node::Cell {
-                    first: self.tree(symbol, parts, 0),
-                    rest: self.list(symbol, parts, 1),
-                },
-                true,
-            ),
             Production::PackArgument => made(
                 Node::Cell {
                     first: self.tree(symbol, parts, 0),
@@ -258,13 +237,6 @@ impl Linked {
                 Node::Cell {
                     first: self.tree(symbol, parts, 2),
                     rest: self.list(symbol, parts, 3),
-                },
-                true,
-            ),
-            Production::TypeArgument => made(
-                Node::Cell {
-                    first: self.tree(symbol, parts, 0),
-                    rest: self.list(symbol, parts, 1),
                 },
                 true,
             ),
@@ -289,7 +261,6 @@ impl Linked {
                 },
                 true,
             ),
-            Production::Arguments => tree(self.list(symbol, parts, 0), true),
             Production::LvalueItem => items(
                 self.tree(symbol, parts, 0),
                 self.tree(symbol, parts, 1),
@@ -327,7 +298,6 @@ impl Linked {
                 value: self.signed(symbol, parts, 0),
             },
             Production::InternalName => self.applied(symbol, parts, false),
-            Production::SourceName => self.applied(symbol, parts, false),
             Production::LocalTypeName => self.applied(symbol, parts, false),
             Production::OperatorName => self.applied(symbol, parts, false),
             Production::Constructor => self.applied(symbol, parts, false),
@@ -335,16 +305,6 @@ impl Linked {
             Production::StdName => self.applied(symbol, parts, false),
             Production::AbbreviatedName => self.applied(symbol, parts, false),
             Production::Parameter => self.applied(symbol, parts, true),
-            Production::TypeWithS => self.applied(symbol, parts, self.listed(symbol, parts, 0)),
-            Production::NestedName => Meant::Given(Part::Named {
-                node: self.tree(symbol, parts, 4),
-                qualifiers: Qualifiers {
-                    restrict: self.there(symbol, parts, 0),
-                    volatile: self.there(symbol, parts, 1),
-                    const_: self.there(symbol, parts, 2),
-                },
-                mark: self.mark(symbol, parts, 3),
-            }),
             Production::Function => made(
                 Node::FunctionType {
                     c_linkage: self.there(symbol, parts, 0),
@@ -383,8 +343,6 @@ impl Linked {
                 mark: self.reference(symbol, parts, 2),
             },
             Production::ReferenceType => self.reference_meant(symbol, byte, parts),
-            Production::Encoding => self.encoding(symbol, parts),
-            Production::NestEnd => self.nest_end(symbol, kept.prefix()),
             Production::RestLvalue => self.signature_or(
                 symbol,
                 Mark::Lvalue,
@@ -448,6 +406,97 @@ impl Linked {
                 place,
                 self.text(symbol, parts, 0),
             )?)),
+            Production::NestNext => unreachable!(),
+            Production::SourceName => unreachable!(),
+            Production::PlainType => unreachable!(),
+            Production::NestEnd => unreachable!(),
+            Production::Items => unreachable!(),
+            Production::NestSource => unreachable!(),
+            Production::Builtin => unreachable!(),
+            Production::TypeArgument => unreachable!(),
+            Production::Symbol => unreachable!(),
+            Production::NestedType => unreachable!(),
+            Production::Encoding => unreachable!(),
+            Production::NestedName => unreachable!(),
+            Production::Arguments => unreachable!(),
+            Production::NestWithS => unreachable!(),
+            Production::NestAbbreviated => unreachable!(),
+            Production::TypeWithS => unreachable!(),
+            Production::AbbreviatedType => unreachable!(),
+        })
+    }
+
+    /// What a production stands for, that begins at a place with this byte, given its parts.
+    ///
+    /// # Errors
+    ///
+    /// `Memory` where a number is past 64 bits or a suffix isn't behind its byte, which no parts of a symbol come to.
+    #[tactic(auto, unfolding(cpp_term::specs::Meaning::meaning, cpp_term::specs::Meaning::qualified_by, cpp_term::specs::Meaning::listed_value, cpp_term::specs::Meaning::function_of, cpp_term::specs::Meaning::with_item, cpp_term::specs::Values::tree_of, cpp_term::specs::Values::is_there, crate::specs::Parts::around_of, crate::specs::Parts::meant_value, crate::specs::Parts::value_of, cpp_tree::specs::Nodes::tree_of, cpp_tree::specs::Nodes::piece_of, cpp_tree::specs::Nodes::thunk_of, cpp_tree::specs::Nodes::adjustment_of, crate::specs::Owed::made_at_end, crate::specs::Making::nodes_of_meant))]
+    #[inline(always)]
+    pub fn meant(
+        &self,
+        symbol: &[u8],
+        production: Production,
+        place: u32,
+        kept: Kept,
+        parts: &[Part],
+    ) -> Result<Meant, Refusal>
+        requires fits { FitsSymbol symbol.now }
+        requires place { place < length symbol.now }
+        requires table { IsTable (over symbol.now self.now.nodes) }
+        requires there { AreThere symbol.now (length self.now.nodes.nodes) parts.now }
+        requires prefix { IsPrefixThere (length self.now.nodes.nodes) (name_of kept) }
+        ensures is { IfOk result (λ meant. meant_value symbol.now self.now.nodes meant ≡ meaning production (slice_index symbol.now place) (around_of (trees_in symbol.now self.now.nodes) kept) (values_in symbol.now self.now.nodes parts.now)) }
+        ensures there { IfOk result (λ meant. IsMeantThere symbol.now (length self.now.nodes.thunks) (length self.now.nodes.nodes) meant) }
+        ensures nodes { IfOk result (λ meant. nodes_of_meant meant ≤ made_at_end production) }
+        ensures memory { IfErr result (λ e. e ≡ refusals.Memory) }
+    {
+        let byte = symbol[place as usize];
+        Ok(match production {
+            Production::NestWithS => Meant::Given(self.given(symbol, parts, 0)),
+            Production::NestSource => Meant::Given(self.given(symbol, parts, 1)),
+            Production::NestAbbreviated => Meant::Given(self.given(symbol, parts, 1)),
+            Production::NestNext => Meant::Given(self.given(symbol, parts, 1)),
+            Production::NestedType => Meant::Given(self.given(symbol, parts, 0)),
+            Production::AbbreviatedType => Meant::Given(self.given(symbol, parts, 0)),
+            Production::Symbol => made(
+                Node::Whole {
+                    encoding: self.tree(symbol, parts, 1),
+                    suffix: self.text(symbol, parts, 2),
+                },
+                true,
+            ),
+            Production::PlainType => tree(self.tree(symbol, parts, 0), true),
+            Production::Builtin => made(Node::Builtin(byte), true),
+            Production::Items => made(
+                Node::Cell {
+                    first: self.tree(symbol, parts, 0),
+                    rest: self.list(symbol, parts, 1),
+                },
+                true,
+            ),
+            Production::TypeArgument => made(
+                Node::Cell {
+                    first: self.tree(symbol, parts, 0),
+                    rest: self.list(symbol, parts, 1),
+                },
+                true,
+            ),
+            Production::Arguments => tree(self.list(symbol, parts, 0), true),
+            Production::SourceName => self.applied(symbol, parts, false),
+            Production::TypeWithS => self.applied(symbol, parts, self.listed(symbol, parts, 0)),
+            Production::NestedName => Meant::Given(Part::Named {
+                node: self.tree(symbol, parts, 4),
+                qualifiers: Qualifiers {
+                    restrict: self.there(symbol, parts, 0),
+                    volatile: self.there(symbol, parts, 1),
+                    const_: self.there(symbol, parts, 2),
+                },
+                mark: self.mark(symbol, parts, 3),
+            }),
+            Production::Encoding => self.encoding(symbol, parts),
+            Production::NestEnd => self.nest_end(symbol, kept.prefix()),
+            _ => return self.meant_rare(symbol, production, place, kept, parts),
         })
     }
 }
