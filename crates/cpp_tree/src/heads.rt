@@ -1,11 +1,11 @@
 // The heads of types.
 #![tactic(auto)]
 
-ghost use Rattle.std.specs.Prelude.{◌≡◌, ℕ, ◌<◌, [], List, length, Option};
+ghost use Rattle.std.specs.Prelude.{◌≡◌, ◌<◌, length, Option};
 ghost use Rattle.cpp_grammar.specs.Items as heads;
 ghost use Rattle.cpp_term.specs.Items as items;
 ghost use Rattle.cpp_grammar.specs.Items.{collapsed};
-ghost use Rattle.cpp_term.specs.Items.{head_of_class, class_of, plain_class, element_head};
+ghost use Rattle.cpp_term.specs.Items.{class_of, plain_class, element_head};
 ghost use Rattle.cpp_tree.specs.Nodes.{over, tree_at, trees, IsTable, head_of};
 
 use crate::node::{Head, HeadClass};

@@ -1,7 +1,7 @@
 //! A table of nodes that share their parts, printed as the tree that it stands for.
 #![tactic(auto)]
 
-ghost use Rattle.std.specs.Prelude.{◌≡◌, ℕ, ◌+◌, ◌<◌, ◌≤◌, length, vec_len, vec_capacity, [], IfOk, IfErr};
+ghost use Rattle.std.specs.Prelude.{◌≡◌, ◌+◌, ◌<◌, ◌≤◌, length, vec_len, vec_capacity, [], IfOk, IfErr};
 ghost use Rattle.std.specs.List.{All};
 ghost use Rattle.example_layout.specs.Dag.{IsLinked, doubled};
 ghost use Rattle.sym_core.specs.declared.Refusal.{Refusal};

@@ -15,7 +15,7 @@ use Rattle.rust_tree.specs.declared.node.Bounds.{Bounds}
 use Rattle.rust_tree.specs.declared.node.Bindings.{Bindings}
 use Rattle.rust_tree.specs.declared.node.Constant.{Constant}
 use Rattle.rust_tree.specs.declared.node.Whole.{Whole}
-use Rattle.rust_tree.specs.declared.view.Seen.{Seen}
+use Rattle.rust_tree.specs.declared.view.NodeView.{NodeView}
 use Rattle.rust_tree.specs.Symbol as tree
 use Rattle.rust_tree.specs.Tree.{Tree, of_path, of_arguments, of_type, of_types, of_bounds, of_bindings, of_constant, of_symbol}
 use Rattle.rust_tree.specs.Nodes.{Table, IsTable, trees, bytes_at, is_some, tree_of, path_of, arguments_of, type_of, types_of, bounds_of, bindings_of, constant_of, symbol_of, path_in, arguments_in, type_in, types_in, bounds_in, bindings_in, constant_in, IsPath, IsArguments, IsType, IsTypes, IsBounds, IsBindings, IsConstant, IsWithin, HasParts, HasPathParts, HasArgumentsParts, HasTypeParts, HasTypesParts, HasBoundsParts, HasBindingsParts, HasConstantParts, HasSymbolParts}
@@ -107,74 +107,74 @@ module _ (s : List ℕ) (all : List Tree) (production first second : ℕ) where
 
 -- ## What the code sees of each node
 
-abbrev seen_by : (production number count : ℕ) → List ℕ → Seen
+abbrev seen_by : (production number count : ℕ) → List ℕ → NodeView
 seen_by production number count parts = seen_of production (number ∷ 0 ∷ []) no_text count parts
 
 abbrev named : Name → (plain punycode : ℕ) → ℕ
 named name plain punycode = if is_some name.decoded then punycode else plain
 
-abbrev pub see_path : Path → Seen
-see_path (Path.Crate name d) = seen_of (named name production.CRATE_ROOT production.PUNYCODE_CRATE_ROOT) (d ∷ 0 ∷ []) name.bytes 0 (0 ∷ 0 ∷ 0 ∷ [])
-see_path (Path.InherentImpl d path self_type) = seen_by production.INHERENT_IMPL d 2 (path ∷ self_type ∷ 0 ∷ [])
-see_path (Path.TraitImpl d path self_type implemented) = seen_by production.TRAIT_IMPL d 3 (path ∷ self_type ∷ implemented ∷ [])
-see_path (Path.TraitDefinition self_type implemented) = seen_by production.TRAIT_DEFINITION 0 2 (self_type ∷ implemented ∷ 0 ∷ [])
-see_path (Path.Nested namespace parent name d) =
+abbrev pub view_of_path : Path → NodeView
+view_of_path (Path.Crate name d) = seen_of (named name production.CRATE_ROOT production.PUNYCODE_CRATE_ROOT) (d ∷ 0 ∷ []) name.bytes 0 (0 ∷ 0 ∷ 0 ∷ [])
+view_of_path (Path.InherentImpl d path self_type) = seen_by production.INHERENT_IMPL d 2 (path ∷ self_type ∷ 0 ∷ [])
+view_of_path (Path.TraitImpl d path self_type implemented) = seen_by production.TRAIT_IMPL d 3 (path ∷ self_type ∷ implemented ∷ [])
+view_of_path (Path.TraitDefinition self_type implemented) = seen_by production.TRAIT_DEFINITION 0 2 (self_type ∷ implemented ∷ 0 ∷ [])
+view_of_path (Path.Nested namespace parent name d) =
     seen_of (named name production.NESTED production.PUNYCODE_NESTED) (namespace ∷ d ∷ []) name.bytes 1 (parent ∷ 0 ∷ 0 ∷ [])
-see_path (Path.Generic parent given) = seen_by production.GENERIC 0 2 (parent ∷ given ∷ 0 ∷ [])
+view_of_path (Path.Generic parent given) = seen_by production.GENERIC 0 2 (parent ∷ given ∷ 0 ∷ [])
 
-abbrev pub see_arguments : Arguments → Seen
-see_arguments Arguments.None = seen_by production.NO_ARGUMENTS 0 0 (0 ∷ 0 ∷ 0 ∷ [])
-see_arguments (Arguments.Lifetime lifetime rest) = seen_by production.LIFETIME_ARGUMENT lifetime 1 (rest ∷ 0 ∷ 0 ∷ [])
-see_arguments (Arguments.Constant constant rest) = seen_by production.CONSTANT_ARGUMENT 0 2 (constant ∷ rest ∷ 0 ∷ [])
-see_arguments (Arguments.Ty argument rest) = seen_by production.TYPE_ARGUMENT 0 2 (argument ∷ rest ∷ 0 ∷ [])
+abbrev pub view_of_arguments : Arguments → NodeView
+view_of_arguments Arguments.None = seen_by production.NO_ARGUMENTS 0 0 (0 ∷ 0 ∷ 0 ∷ [])
+view_of_arguments (Arguments.Lifetime lifetime rest) = seen_by production.LIFETIME_ARGUMENT lifetime 1 (rest ∷ 0 ∷ 0 ∷ [])
+view_of_arguments (Arguments.Constant constant rest) = seen_by production.CONSTANT_ARGUMENT 0 2 (constant ∷ rest ∷ 0 ∷ [])
+view_of_arguments (Arguments.Ty argument rest) = seen_by production.TYPE_ARGUMENT 0 2 (argument ∷ rest ∷ 0 ∷ [])
 
-abbrev pub see_function : (binder : ℕ) → (is_unsafe : Bool) → Abi → (parameters returned : ℕ) → Seen
-see_function binder is_unsafe Abi.Rust parameters returned =
+abbrev pub view_of_function : (binder : ℕ) → (is_unsafe : Bool) → Abi → (parameters returned : ℕ) → NodeView
+view_of_function binder is_unsafe Abi.Rust parameters returned =
     seen_of production.FUNCTION (binder ∷ one_if is_unsafe ∷ []) no_text 2 (parameters ∷ returned ∷ 0 ∷ [])
-see_function binder is_unsafe Abi.C parameters returned =
+view_of_function binder is_unsafe Abi.C parameters returned =
     seen_of production.C_FUNCTION (binder ∷ one_if is_unsafe ∷ []) no_text 2 (parameters ∷ returned ∷ 0 ∷ [])
-see_function binder is_unsafe (Abi.Named name) parameters returned =
+view_of_function binder is_unsafe (Abi.Named name) parameters returned =
     seen_of (named name production.ABI_FUNCTION production.PUNYCODE_ABI_FUNCTION) (binder ∷ one_if is_unsafe ∷ []) name.bytes 2 (parameters ∷ returned ∷ 0 ∷ [])
 
-abbrev pub see_type : Ty → Seen
-see_type (Ty.Basic letter) = seen_by production.BASIC letter 0 (0 ∷ 0 ∷ 0 ∷ [])
-see_type (Ty.Array element size) = seen_by production.ARRAY 0 2 (element ∷ size ∷ 0 ∷ [])
-see_type (Ty.Slice element) = seen_by production.SLICE 0 1 (element ∷ 0 ∷ 0 ∷ [])
-see_type (Ty.Tuple elements) = seen_by production.TUPLE 0 1 (elements ∷ 0 ∷ 0 ∷ [])
-see_type (Ty.SharedReference lifetime referent) = seen_by production.SHARED_REFERENCE lifetime 1 (referent ∷ 0 ∷ 0 ∷ [])
-see_type (Ty.MutableReference lifetime referent) = seen_by production.MUTABLE_REFERENCE lifetime 1 (referent ∷ 0 ∷ 0 ∷ [])
-see_type (Ty.ConstPointer pointee) = seen_by production.CONST_POINTER 0 1 (pointee ∷ 0 ∷ 0 ∷ [])
-see_type (Ty.MutPointer pointee) = seen_by production.MUT_POINTER 0 1 (pointee ∷ 0 ∷ 0 ∷ [])
-see_type (Ty.Function binder is_unsafe abi parameters returned) = see_function binder is_unsafe abi parameters returned
-see_type (Ty.Dyn binder given lifetime) = seen_of production.DYN (binder ∷ lifetime ∷ []) no_text 1 (given ∷ 0 ∷ 0 ∷ [])
+abbrev pub view_of_type : Ty → NodeView
+view_of_type (Ty.Basic letter) = seen_by production.BASIC letter 0 (0 ∷ 0 ∷ 0 ∷ [])
+view_of_type (Ty.Array element size) = seen_by production.ARRAY 0 2 (element ∷ size ∷ 0 ∷ [])
+view_of_type (Ty.Slice element) = seen_by production.SLICE 0 1 (element ∷ 0 ∷ 0 ∷ [])
+view_of_type (Ty.Tuple elements) = seen_by production.TUPLE 0 1 (elements ∷ 0 ∷ 0 ∷ [])
+view_of_type (Ty.SharedReference lifetime referent) = seen_by production.SHARED_REFERENCE lifetime 1 (referent ∷ 0 ∷ 0 ∷ [])
+view_of_type (Ty.MutableReference lifetime referent) = seen_by production.MUTABLE_REFERENCE lifetime 1 (referent ∷ 0 ∷ 0 ∷ [])
+view_of_type (Ty.ConstPointer pointee) = seen_by production.CONST_POINTER 0 1 (pointee ∷ 0 ∷ 0 ∷ [])
+view_of_type (Ty.MutPointer pointee) = seen_by production.MUT_POINTER 0 1 (pointee ∷ 0 ∷ 0 ∷ [])
+view_of_type (Ty.Function binder is_unsafe abi parameters returned) = view_of_function binder is_unsafe abi parameters returned
+view_of_type (Ty.Dyn binder given lifetime) = seen_of production.DYN (binder ∷ lifetime ∷ []) no_text 1 (given ∷ 0 ∷ 0 ∷ [])
 
-abbrev pub see_types : Types → Seen
-see_types Types.None = seen_by production.NO_TYPES 0 0 (0 ∷ 0 ∷ 0 ∷ [])
-see_types (Types.More first rest) = seen_by production.MORE_TYPES 0 2 (first ∷ rest ∷ 0 ∷ [])
+abbrev pub view_of_types : Types → NodeView
+view_of_types Types.None = seen_by production.NO_TYPES 0 0 (0 ∷ 0 ∷ 0 ∷ [])
+view_of_types (Types.More first rest) = seen_by production.MORE_TYPES 0 2 (first ∷ rest ∷ 0 ∷ [])
 
-abbrev pub see_bounds : Bounds → Seen
-see_bounds Bounds.None = seen_by production.NO_BOUNDS 0 0 (0 ∷ 0 ∷ 0 ∷ [])
-see_bounds (Bounds.More path given rest) = seen_by production.MORE_BOUNDS 0 3 (path ∷ given ∷ rest ∷ [])
+abbrev pub view_of_bounds : Bounds → NodeView
+view_of_bounds Bounds.None = seen_by production.NO_BOUNDS 0 0 (0 ∷ 0 ∷ 0 ∷ [])
+view_of_bounds (Bounds.More path given rest) = seen_by production.MORE_BOUNDS 0 3 (path ∷ given ∷ rest ∷ [])
 
-abbrev pub see_bindings : Bindings → Seen
-see_bindings Bindings.None = seen_by production.NO_BINDINGS 0 0 (0 ∷ 0 ∷ 0 ∷ [])
-see_bindings (Bindings.More name bound_type rest) =
+abbrev pub view_of_bindings : Bindings → NodeView
+view_of_bindings Bindings.None = seen_by production.NO_BINDINGS 0 0 (0 ∷ 0 ∷ 0 ∷ [])
+view_of_bindings (Bindings.More name bound_type rest) =
     seen_of (named name production.MORE_BINDINGS production.PUNYCODE_MORE_BINDINGS) (0 ∷ 0 ∷ []) name.bytes 2 (bound_type ∷ rest ∷ 0 ∷ [])
 
-abbrev pub see_constant : Constant → Seen
-see_constant (Constant.Integer letter minus digits printed) = seen_of production.INTEGER (letter ∷ one_if minus ∷ []) digits 0 (0 ∷ 0 ∷ 0 ∷ [])
-see_constant (Constant.Boolean truth) = seen_by production.BOOLEAN (one_if truth) 0 (0 ∷ 0 ∷ 0 ∷ [])
-see_constant (Constant.Character character) = seen_by production.CHARACTER character 0 (0 ∷ 0 ∷ 0 ∷ [])
-see_constant Constant.Placeholder = seen_by production.PLACEHOLDER 0 0 (0 ∷ 0 ∷ 0 ∷ [])
+abbrev pub view_of_constant : Constant → NodeView
+view_of_constant (Constant.Integer letter minus digits printed) = seen_of production.INTEGER (letter ∷ one_if minus ∷ []) digits 0 (0 ∷ 0 ∷ 0 ∷ [])
+view_of_constant (Constant.Boolean truth) = seen_by production.BOOLEAN (one_if truth) 0 (0 ∷ 0 ∷ 0 ∷ [])
+view_of_constant (Constant.Character character) = seen_by production.CHARACTER character 0 (0 ∷ 0 ∷ 0 ∷ [])
+view_of_constant Constant.Placeholder = seen_by production.PLACEHOLDER 0 0 (0 ∷ 0 ∷ 0 ∷ [])
 
-abbrev pub see_whole : (path : ℕ) → Option ℕ → Span → Seen
+abbrev pub see_whole : (path : ℕ) → Option ℕ → Span → NodeView
 see_whole path None suffix = seen_of production.SYMBOL (0 ∷ 0 ∷ []) suffix 1 (path ∷ 0 ∷ 0 ∷ [])
 see_whole path (Some other) suffix = seen_of production.SYMBOL (0 ∷ 0 ∷ []) suffix 2 (path ∷ other ∷ 0 ∷ [])
 
 -- ## Each shows the fields of its tree
 
 module _ (s text : List ℕ) (all : List Tree) (bare : HasNoPathType all) where
-  path-seen : (path : Path) → HasPathParts s text all path → IsSeen s all (see_path path) (fields_of (of_path (path_of s all path)))
+  path-seen : (path : Path) → HasPathParts s text all path → IsSeen s all (view_of_path path) (fields_of (of_path (path_of s all path)))
   unfolding path_of
   path-seen (Path.Crate name d) h = no-parts s all _ _ _ name.bytes (bytes_at s name.bytes) h.0 refl
   path-seen (Path.InherentImpl d path self_type) h = plain-two s all _ _ _ path self_type _ _ (path-part all path h.0) (type_part-is all bare self_type h.1)
@@ -185,7 +185,7 @@ module _ (s text : List ℕ) (all : List Tree) (bare : HasNoPathType all) where
   path-seen (Path.Nested namespace parent name d) h = one-part s all _ _ _ name.bytes parent _ h.1.0 (path-part all parent h.0)
   path-seen (Path.Generic parent given) h = plain-two s all _ _ _ parent given _ _ (path-part all parent h.0) (arguments-part all given h.1)
 
-  arguments-seen : (given : Arguments) → HasArgumentsParts all given → IsSeen s all (see_arguments given) (fields_of (of_arguments (arguments_of all given)))
+  arguments-seen : (given : Arguments) → HasArgumentsParts all given → IsSeen s all (view_of_arguments given) (fields_of (of_arguments (arguments_of all given)))
   unfolding arguments_of
   arguments-seen Arguments.None h = plain-none s all _ _ _
   arguments-seen (Arguments.Lifetime lifetime rest) h = plain-one s all _ _ _ rest _ (arguments-part all rest h)
@@ -194,7 +194,7 @@ module _ (s text : List ℕ) (all : List Tree) (bare : HasNoPathType all) where
   arguments-seen (Arguments.Ty argument rest) h = plain-two s all _ _ _ argument rest _ _ (type_part-is all bare argument h.0) (arguments-part all rest h.1)
 
   function-seen : (binder : ℕ) (is_unsafe : Bool) (abi : Abi) (parameters returned : ℕ) → HasTypeParts s text all (Ty.Function binder is_unsafe abi parameters returned)
-      → IsSeen s all (see_function binder is_unsafe abi parameters returned) (fields_of (of_type (type_of s all (Ty.Function binder is_unsafe abi parameters returned))))
+      → IsSeen s all (view_of_function binder is_unsafe abi parameters returned) (fields_of (of_type (type_of s all (Ty.Function binder is_unsafe abi parameters returned))))
   unfolding type_of
   function-seen binder is_unsafe Abi.Rust parameters returned h =
       plain-two s all _ _ _ parameters returned _ _ (types-part all parameters h.2) (type_part-is all bare returned h.3)
@@ -203,7 +203,7 @@ module _ (s text : List ℕ) (all : List Tree) (bare : HasNoPathType all) where
   function-seen binder is_unsafe (Abi.Named name) parameters returned h =
       two-parts s all _ _ _ name.bytes parameters returned _ _ h.1.0 (types-part all parameters h.2) (type_part-is all bare returned h.3)
 
-  type-seen : (type : Ty) → HasTypeParts s text all type → IsSeen s all (see_type type) (fields_of (of_type (type_of s all type)))
+  type-seen : (type : Ty) → HasTypeParts s text all type → IsSeen s all (view_of_type type) (fields_of (of_type (type_of s all type)))
   unfolding type_of
   type-seen (Ty.Basic letter) h = plain-none s all _ _ _
   type-seen (Ty.Array element size) h = plain-two s all _ _ _ element size _ _ (type_part-is all bare element h.0) (constant-part all size h.1)
@@ -216,24 +216,24 @@ module _ (s text : List ℕ) (all : List Tree) (bare : HasNoPathType all) where
   type-seen (Ty.Function binder is_unsafe abi parameters returned) h = function-seen binder is_unsafe abi parameters returned h
   type-seen (Ty.Dyn binder given lifetime) h = plain-one s all _ _ _ given _ (bounds-part all given h.1)
 
-  types-seen : (types : Types) → HasTypesParts all types → IsSeen s all (see_types types) (fields_of (of_types (types_of all types)))
+  types-seen : (types : Types) → HasTypesParts all types → IsSeen s all (view_of_types types) (fields_of (of_types (types_of all types)))
   unfolding types_of
   types-seen Types.None h = plain-none s all _ _ _
   types-seen (Types.More first rest) h = plain-two s all _ _ _ first rest _ _ (type_part-is all bare first h.0) (types-part all rest h.1)
 
-  bounds-seen : (given : Bounds) → HasBoundsParts all given → IsSeen s all (see_bounds given) (fields_of (of_bounds (bounds_of all given)))
+  bounds-seen : (given : Bounds) → HasBoundsParts all given → IsSeen s all (view_of_bounds given) (fields_of (of_bounds (bounds_of all given)))
   unfolding bounds_of
   bounds-seen Bounds.None h = plain-none s all _ _ _
   bounds-seen (Bounds.More path given rest) h =
       three-parts s all _ _ _ path given rest _ _ _ (path-part all path h.0) (bindings-part all given h.1) (bounds-part all rest h.2)
 
-  bindings-seen : (given : Bindings) → HasBindingsParts s text all given → IsSeen s all (see_bindings given) (fields_of (of_bindings (bindings_of s all given)))
+  bindings-seen : (given : Bindings) → HasBindingsParts s text all given → IsSeen s all (view_of_bindings given) (fields_of (of_bindings (bindings_of s all given)))
   unfolding bindings_of
   bindings-seen Bindings.None h = plain-none s all _ _ _
   bindings-seen (Bindings.More name bound_type rest) h =
       two-parts s all _ _ _ name.bytes bound_type rest _ _ h.0.0 (type_part-is all bare bound_type h.1) (bindings-part all rest h.2)
 
-  constant-seen : (constant : Constant) → HasConstantParts s text constant → IsSeen s all (see_constant constant) (fields_of (of_constant (constant_of s constant)))
+  constant-seen : (constant : Constant) → HasConstantParts s text constant → IsSeen s all (view_of_constant constant) (fields_of (of_constant (constant_of s constant)))
   unfolding constant_of
   constant-seen (Constant.Integer letter minus digits printed) h = no-parts s all _ _ _ digits _ h.0 (sym (digits-are (bytes_at s digits) h.4 h.1))
   constant-seen (Constant.Boolean truth) h = plain-none s all _ _ _
@@ -248,46 +248,46 @@ module _ (s text : List ℕ) (all : List Tree) (bare : HasNoPathType all) where
       rw is (two-parts s all _ _ _ whole.suffix whole.path other _ _ h.2 (path-part all whole.path h.0) (path-part all other (rw is at h.1)))
 
   -- the same where the code has gone by cases
-  module _ (seen : Seen) where
-    pub path-by : (path other : Path) → path ≡ other → seen ≡ see_path other → HasPathParts s text all path → IsSeen s all seen (fields_of (of_path (path_of s all path)))
-    path-by path other e is h = subst (λ v. IsSeen s all v (fields_of (of_path (path_of s all path)))) (ap see_path e ∙ sym is) (path-seen path h)
+  module _ (seen : NodeView) where
+    pub path-by : (path other : Path) → path ≡ other → seen ≡ view_of_path other → HasPathParts s text all path → IsSeen s all seen (fields_of (of_path (path_of s all path)))
+    path-by path other e is h = subst (λ v. IsSeen s all v (fields_of (of_path (path_of s all path)))) (ap view_of_path e ∙ sym is) (path-seen path h)
 
-    pub arguments-by : (given other : Arguments) → given ≡ other → seen ≡ see_arguments other → HasArgumentsParts all given → IsSeen s all seen (fields_of (of_arguments (arguments_of all given)))
-    arguments-by given other e is h = subst (λ v. IsSeen s all v (fields_of (of_arguments (arguments_of all given)))) (ap see_arguments e ∙ sym is) (arguments-seen given h)
+    pub arguments-by : (given other : Arguments) → given ≡ other → seen ≡ view_of_arguments other → HasArgumentsParts all given → IsSeen s all seen (fields_of (of_arguments (arguments_of all given)))
+    arguments-by given other e is h = subst (λ v. IsSeen s all v (fields_of (of_arguments (arguments_of all given)))) (ap view_of_arguments e ∙ sym is) (arguments-seen given h)
 
-    pub function-by : (binder : ℕ) (is_unsafe : Bool) (abi other : Abi) (parameters returned : ℕ) → abi ≡ other → seen ≡ see_function binder is_unsafe other parameters returned
+    pub function-by : (binder : ℕ) (is_unsafe : Bool) (abi other : Abi) (parameters returned : ℕ) → abi ≡ other → seen ≡ view_of_function binder is_unsafe other parameters returned
         → HasTypeParts s text all (Ty.Function binder is_unsafe abi parameters returned)
         → IsSeen s all seen (fields_of (of_type (type_of s all (Ty.Function binder is_unsafe abi parameters returned))))
     function-by binder is_unsafe abi other parameters returned e is h =
         subst (λ v. IsSeen s all v (fields_of (of_type (type_of s all (Ty.Function binder is_unsafe abi parameters returned)))))
-        (ap (λ a. see_function binder is_unsafe a parameters returned) e ∙ sym is) (function-seen binder is_unsafe abi parameters returned h)
+        (ap (λ a. view_of_function binder is_unsafe a parameters returned) e ∙ sym is) (function-seen binder is_unsafe abi parameters returned h)
 
-    pub type-by : (type other : Ty) → type ≡ other → seen ≡ see_type other → HasTypeParts s text all type → IsSeen s all seen (fields_of (of_type (type_of s all type)))
-    type-by type other e is h = subst (λ v. IsSeen s all v (fields_of (of_type (type_of s all type)))) (ap see_type e ∙ sym is) (type-seen type h)
+    pub type-by : (type other : Ty) → type ≡ other → seen ≡ view_of_type other → HasTypeParts s text all type → IsSeen s all seen (fields_of (of_type (type_of s all type)))
+    type-by type other e is h = subst (λ v. IsSeen s all v (fields_of (of_type (type_of s all type)))) (ap view_of_type e ∙ sym is) (type-seen type h)
 
-    pub types-by : (types other : Types) → types ≡ other → seen ≡ see_types other → HasTypesParts all types → IsSeen s all seen (fields_of (of_types (types_of all types)))
-    types-by types other e is h = subst (λ v. IsSeen s all v (fields_of (of_types (types_of all types)))) (ap see_types e ∙ sym is) (types-seen types h)
+    pub types-by : (types other : Types) → types ≡ other → seen ≡ view_of_types other → HasTypesParts all types → IsSeen s all seen (fields_of (of_types (types_of all types)))
+    types-by types other e is h = subst (λ v. IsSeen s all v (fields_of (of_types (types_of all types)))) (ap view_of_types e ∙ sym is) (types-seen types h)
 
-    pub bounds-by : (given other : Bounds) → given ≡ other → seen ≡ see_bounds other → HasBoundsParts all given → IsSeen s all seen (fields_of (of_bounds (bounds_of all given)))
-    bounds-by given other e is h = subst (λ v. IsSeen s all v (fields_of (of_bounds (bounds_of all given)))) (ap see_bounds e ∙ sym is) (bounds-seen given h)
+    pub bounds-by : (given other : Bounds) → given ≡ other → seen ≡ view_of_bounds other → HasBoundsParts all given → IsSeen s all seen (fields_of (of_bounds (bounds_of all given)))
+    bounds-by given other e is h = subst (λ v. IsSeen s all v (fields_of (of_bounds (bounds_of all given)))) (ap view_of_bounds e ∙ sym is) (bounds-seen given h)
 
-    pub bindings-by : (given other : Bindings) → given ≡ other → seen ≡ see_bindings other → HasBindingsParts s text all given → IsSeen s all seen (fields_of (of_bindings (bindings_of s all given)))
-    bindings-by given other e is h = subst (λ v. IsSeen s all v (fields_of (of_bindings (bindings_of s all given)))) (ap see_bindings e ∙ sym is) (bindings-seen given h)
+    pub bindings-by : (given other : Bindings) → given ≡ other → seen ≡ view_of_bindings other → HasBindingsParts s text all given → IsSeen s all seen (fields_of (of_bindings (bindings_of s all given)))
+    bindings-by given other e is h = subst (λ v. IsSeen s all v (fields_of (of_bindings (bindings_of s all given)))) (ap view_of_bindings e ∙ sym is) (bindings-seen given h)
 
-    pub constant-by : (constant other : Constant) → constant ≡ other → seen ≡ see_constant other → HasConstantParts s text constant → IsSeen s all seen (fields_of (of_constant (constant_of s constant)))
-    constant-by constant other e is h = subst (λ v. IsSeen s all v (fields_of (of_constant (constant_of s constant)))) (ap see_constant e ∙ sym is) (constant-seen constant h)
+    pub constant-by : (constant other : Constant) → constant ≡ other → seen ≡ view_of_constant other → HasConstantParts s text constant → IsSeen s all seen (fields_of (of_constant (constant_of s constant)))
+    constant-by constant other e is h = subst (λ v. IsSeen s all v (fields_of (of_constant (constant_of s constant)))) (ap view_of_constant e ∙ sym is) (constant-seen constant h)
 
     pub symbol-by : (whole : Whole) (other : Option ℕ) → whole.instantiating ≡ other → seen ≡ see_whole whole.path other whole.suffix → HasSymbolParts s all whole
         → IsSeen s all seen (fields_of (of_symbol (symbol_of s all whole)))
     symbol-by whole other e is h = subst (λ v. IsSeen s all v (fields_of (of_symbol (symbol_of s all whole)))) (sym is) (symbol-seen whole other e h)
 
 -- the production that a name decided
-pub production-by : {seen : Seen} {by other first second count : ℕ} {text : Span} {parts : List ℕ} → seen ≡ seen_of by (first ∷ second ∷ []) text count parts → by ≡ other
+pub production-by : {seen : NodeView} {by other first second count : ℕ} {text : Span} {parts : List ℕ} → seen ≡ seen_of by (first ∷ second ∷ []) text count parts → by ≡ other
     → seen ≡ seen_of other (first ∷ second ∷ []) text count parts
 production-by {first = first} {second = second} {count = count} {text = text} {parts = parts} is e = is ∙ ap (λ p. seen_of p (first ∷ second ∷ []) text count parts) e
 
 -- one sort of nodes after another
-module _ (s text : List ℕ) (all : List Tree) (seen : Seen) where
+module _ (s text : List ℕ) (all : List Tree) (seen : NodeView) where
   pub type-is : (type other : Ty) → type ≡ other → (HasTypeParts s text all other → IsSeen s all seen (fields_of (of_type (type_of s all other))))
       → HasTypeParts s text all type → IsSeen s all seen (fields_of (of_type (type_of s all type)))
   type-is type other e shows h =
@@ -337,7 +337,7 @@ pub read-bare : (inside now : ReadSymbol) → inside ≡ now → IsRead inside �
 read-bare inside now same is = rw (← same) (table-bare inside.bytes inside.table is.table)
 
 -- what the nodes before a node show of it
-pub seen-at : (now : ReadSymbol) (k : ℕ) (node : Node) (seen : Seen) → HasNoPathType (trees_of now)
+pub seen-at : (now : ReadSymbol) (k : ℕ) (node : Node) (seen : NodeView) → HasNoPathType (trees_of now)
     → slice_get (trees_of now) k ≡ Some (tree_of now.bytes (trees_of now) node) → HasParts now.bytes now.table.text (take k (trees_of now)) node
     → ((s text : List ℕ) (all : List Tree) → HasNoPathType all → HasParts s text all node → IsSeen s all seen (fields_of (tree_of s all node)))
     → IsSeen now.bytes (take k (trees_of now)) seen (fields_at now k)
@@ -370,7 +370,7 @@ got-front (suc n) [] k d h = refl
 got-front (suc n) (p ∷ parts) zero d h = refl
 got-front (suc n) (p ∷ parts) (suc k) d h = got-front n parts k d (omega arith)
 
-pub part-got : (s : List ℕ) (before : List Tree) (seen : Seen) (given : Fields) (k d : ℕ) → IsSeen s before seen given → k < length given.parts
+pub part-got : (s : List ℕ) (before : List Tree) (seen : NodeView) (given : Fields) (k d : ℕ) → IsSeen s before seen given → k < length given.parts
     → slice_get before (get_or seen.parts k d) ≡ slice_get given.parts k
 part-got s before seen given k d is h =
     ap (slice_get before) (sym (got-front seen.node.parts seen.parts k d (omega (arith, h, is.view.parts))))

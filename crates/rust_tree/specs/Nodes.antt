@@ -7,6 +7,7 @@ use Rattle.sym_core.specs.Value.{value_of}
 use Rattle.sym_core.specs.declared.NumberKind.{NumberKind}
 use Rattle.rust_tree.specs.Symbol as tree
 use Rattle.rust_tree.specs.Tree.{Tree, of_path, of_arguments, of_type, of_types, of_bounds, of_bindings, of_constant, of_symbol, need_of_tree}
+use Rattle.rust_tree.specs.declared.node.TheConstants.{MOST_BOUND}
 use Rattle.rust_tree.specs.declared.node.Name.{Name}
 use Rattle.rust_tree.specs.declared.node.Abi.{Abi}
 use Rattle.rust_tree.specs.declared.node.Node.{Node}
@@ -218,7 +219,7 @@ IsAbi s text abi spelled = HasAbi s text abi × (abi_of s abi ≡ spelled)
 
 -- the most lifetimes of a binder
 abbrev pub most_bound : ℕ
-most_bound = 1000
+most_bound = MOST_BOUND
 
 -- no zero is in front
 abbrev pub HasNoZero : List ℕ → Type 0

@@ -9,7 +9,7 @@ use Rattle.rust_tree.specs.Fields.{Fields, fields, fields_of}
 use Rattle.sym_core.specs.declared.Span.{Span}
 use Rattle.rust_tree.specs.declared.tree_production.TheConstants.{NESTED, PUNYCODE_NESTED, BASIC, INTEGER}
 use Rattle.rust_tree.specs.declared.view.Node.{Node}
-use Rattle.rust_tree.specs.declared.view.Seen.{Seen}
+use Rattle.rust_tree.specs.declared.view.NodeView.{NodeView}
 
 abbrev pub fields_in : Option Tree → Fields
 fields_in None = fields 0 0 0 [] []
@@ -50,12 +50,12 @@ HasNoPathType all = (k : ℕ) (path : tree.Path) → slice_get all k ≡ Some (o
 abbrev pub no_text : Span
 no_text = record { from = 0; to = 0 }
 
-abbrev pub seen_of : (production : ℕ) → (numbers : List ℕ) → (text : Span) → (count : ℕ) → (parts : List ℕ) → Seen
+abbrev pub seen_of : (production : ℕ) → (numbers : List ℕ) → (text : Span) → (count : ℕ) → (parts : List ℕ) → NodeView
 seen_of production numbers text count parts =
     record { node = record { production = production; numbers = numbers; texts = text ∷ no_text ∷ []; parts = count }; parts = parts }
 
 -- What is seen of a node over the trees of the nodes before it: its view, whose texts are within the symbol, and its parts.
-pub record IsSeen (s : List ℕ) (before : List Tree) (seen : Seen) (given : Fields) : Type 0 where
+pub record IsSeen (s : List ℕ) (before : List Tree) (seen : NodeView) (given : Fields) : Type 0 where
   pub view : IsView s seen.node given
   pub within : All (λ text. IsWithin text s) seen.node.texts
   pub few : seen.node.parts ≤ 3

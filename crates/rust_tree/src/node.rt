@@ -9,6 +9,9 @@ pub struct Name {
     pub decoded: Option<Span>,
 }
 
+/// The most lifetimes of a binder.
+pub const MOST_BOUND: u64 = 1_000;
+
 /// How a function is called.
 #[derive(Clone, Copy)]
 pub enum Abi {

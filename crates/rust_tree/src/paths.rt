@@ -84,7 +84,7 @@ impl Symbol {
 
     /// Adds what stands before arguments.
     #[inline(always)]
-    pub(crate) fn push_less<S: PartList<Context>>(&self, parts: &mut S, value: bool)
+    pub(crate) fn push_open_angle<S: PartList<Context>>(&self, parts: &mut S, value: bool)
         requires { 1 ≤ S.room parts.old }
         ensures shows { (below : Held Context) (so_far : Unshared) → Shows self.now below (S.held parts.old) so_far
             → Shows self.now below (S.held parts.new) ((if value then codes "::<" else codes "<") then so_far) }
@@ -116,7 +116,7 @@ impl Symbol {
             Detail::Full => {
                 self.push_text(parts, texts::GREATER);
                 self.push_arguments(parts, arguments, true, ctx);
-                self.push_less(parts, value);
+                self.push_open_angle(parts, value);
             }
             Detail::Brief => {}
         }

@@ -1,10 +1,9 @@
 // A symbol that was read.
 #![tactic(auto)]
 
-ghost use Rattle.std.specs.Prelude.{◌≡◌, ℕ, ◌+◌, ◌<◌, ◌≤◌, ◌*◌, ◌^◌, List, length, take, slice_get, Some};
+ghost use Rattle.std.specs.Prelude.{◌≡◌, ◌+◌, ◌<◌, ◌≤◌, ◌*◌, ◌^◌, length, take, slice_get, Some};
 ghost use Rattle.rust_tree.specs.Symbol as tree;
-ghost use Rattle.rust_tree.specs.Nodes.{tree_of, path_of, arguments_of, type_of, types_of, bounds_of, bindings_of, constant_of, symbol_of, HasParts, HasPathParts, HasArgumentsParts, HasTypeParts, HasTypesParts, HasBoundsParts, HasBindingsParts, HasConstantParts, HasSymbolParts, IsPath, IsArguments, IsType, IsTypes, IsBounds, IsBindings, IsConstant, IsSymbol, IsWithin, bytes_at};
-ghost use Rattle.rust_tree.specs.Tree.{of_path, of_arguments, of_type, of_types, of_bounds, of_bindings, of_constant, of_symbol};
+ghost use Rattle.rust_tree.specs.Nodes.{tree_of, path_of, arguments_of, types_of, bounds_of, bindings_of, constant_of, symbol_of, HasParts, HasPathParts, HasArgumentsParts, HasTypesParts, HasBoundsParts, HasBindingsParts, HasConstantParts, HasSymbolParts, IsPath, IsArguments, IsTypes, IsBounds, IsBindings, IsConstant, IsSymbol, IsWithin, bytes_at};
 ghost use Rattle.rust_tree.specs.Layout.{trees_of};
 ghost use Rattle.rust_tree.specs.Counts.{IsRead};
 ghost use Rattle.rust_tree.specs.Views.{HasNoPathType};

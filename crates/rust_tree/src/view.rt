@@ -33,7 +33,7 @@ pub struct Node {
 
 /// A node's view, and the nodes that are its parts.
 #[derive(Clone, Copy)]
-struct Seen {
+struct NodeView {
     node: Node,
     parts: [u32; 3],
 }
@@ -41,10 +41,10 @@ struct Seen {
 const NO_TEXT: Span = Span { from: 0, to: 0 };
 
 /// A node of these numbers, this text, and so many of these parts.
-fn view_of(production: u16, numbers: [u64; 2], text: Span, count: u32, parts: [u32; 3]) -> Seen
+fn view_of(production: u16, numbers: [u64; 2], text: Span, count: u32, parts: [u32; 3]) -> NodeView
     ensures { result ≡ seen_of production numbers text count parts }
 {
-    Seen {
+    NodeView {
         node: Node {
             production,
             numbers,
@@ -56,28 +56,28 @@ fn view_of(production: u16, numbers: [u64; 2], text: Span, count: u32, parts: [u
 }
 
 /// A node of one number alone.
-fn leaf(production: u16, number: u64) -> Seen
+fn leaf(production: u16, number: u64) -> NodeView
     ensures { result ≡ seen_of production (number ∷ 0 ∷ []) no_text 0 (0 ∷ 0 ∷ 0 ∷ []) }
 {
     view_of(production, [number, 0], NO_TEXT, 0, [0, 0, 0])
 }
 
 /// A node of one part.
-fn one(production: u16, number: u64, part: u32) -> Seen
+fn one(production: u16, number: u64, part: u32) -> NodeView
     ensures { result ≡ seen_of production (number ∷ 0 ∷ []) no_text 1 (part ∷ 0 ∷ 0 ∷ []) }
 {
     view_of(production, [number, 0], NO_TEXT, 1, [part, 0, 0])
 }
 
 /// A node of two parts.
-fn two(production: u16, number: u64, first: u32, second: u32) -> Seen
+fn two(production: u16, number: u64, first: u32, second: u32) -> NodeView
     ensures { result ≡ seen_of production (number ∷ 0 ∷ []) no_text 2 (first ∷ second ∷ 0 ∷ []) }
 {
     view_of(production, [number, 0], NO_TEXT, 2, [first, second, 0])
 }
 
 /// A node of three parts.
-fn three(production: u16, number: u64, first: u32, second: u32, third: u32) -> Seen
+fn three(production: u16, number: u64, first: u32, second: u32, third: u32) -> NodeView
     ensures { result ≡ seen_of production (number ∷ 0 ∷ []) no_text 3 (first ∷ second ∷ third ∷ []) }
 {
     view_of(production, [number, 0], NO_TEXT, 3, [first, second, third])
@@ -101,7 +101,7 @@ fn one_if(mark: bool) -> u64
     if mark { 1 } else { 0 }
 }
 
-fn see_path(path: Path) -> Seen
+fn view_of_path(path: Path) -> NodeView
     ensures seen { (s text : List ℕ) (all : List Tree) → HasNoPathType all → HasPathParts s text all path → IsSeen s all result (fields_of (of_path (path_of s all path))) }
     ensures letter { IsLettered result.node }
 {
@@ -142,7 +142,7 @@ fn see_path(path: Path) -> Seen
     }
 }
 
-fn see_arguments(arguments: Arguments) -> Seen
+fn view_of_arguments(arguments: Arguments) -> NodeView
     ensures seen { (s text : List ℕ) (all : List Tree) → HasNoPathType all → HasArgumentsParts all arguments → IsSeen s all result (fields_of (of_arguments (arguments_of all arguments))) }
     ensures letter { IsLettered result.node }
 {
@@ -154,7 +154,7 @@ fn see_arguments(arguments: Arguments) -> Seen
     }
 }
 
-fn see_function(binder: u16, is_unsafe: bool, abi: Abi, parameters: u32, returned: u32) -> Seen
+fn view_of_function(binder: u16, is_unsafe: bool, abi: Abi, parameters: u32, returned: u32) -> NodeView
     ensures seen { (s text : List ℕ) (all : List Tree) → HasNoPathType all → HasTypeParts s text all (Ty.Function binder is_unsafe abi parameters returned)
         → IsSeen s all result (fields_of (of_type (type_of s all (Ty.Function binder is_unsafe abi parameters returned)))) }
     ensures letter { IsLettered result.node }
@@ -171,7 +171,7 @@ fn see_function(binder: u16, is_unsafe: bool, abi: Abi, parameters: u32, returne
     }
 }
 
-fn see_type(ty: Ty) -> Seen
+fn view_of_type(ty: Ty) -> NodeView
     ensures seen { (s text : List ℕ) (all : List Tree) → HasNoPathType all → HasTypeParts s text all ty → IsSeen s all result (fields_of (of_type (type_of s all ty))) }
     ensures letter { IsLettered result.node }
 {
@@ -190,7 +190,7 @@ fn see_type(ty: Ty) -> Seen
             abi,
             parameters,
             returned,
-        } => see_function(binder, is_unsafe, abi, parameters, returned),
+        } => view_of_function(binder, is_unsafe, abi, parameters, returned),
         Ty::Dyn {
             binder,
             bounds,
@@ -199,7 +199,7 @@ fn see_type(ty: Ty) -> Seen
     }
 }
 
-fn see_types(types: Types) -> Seen
+fn view_of_types(types: Types) -> NodeView
     ensures seen { (s text : List ℕ) (all : List Tree) → HasNoPathType all → HasTypesParts all types → IsSeen s all result (fields_of (of_types (types_of all types))) }
     ensures letter { IsLettered result.node }
 {
@@ -209,7 +209,7 @@ fn see_types(types: Types) -> Seen
     }
 }
 
-fn see_bounds(bounds: Bounds) -> Seen
+fn view_of_bounds(bounds: Bounds) -> NodeView
     ensures seen { (s text : List ℕ) (all : List Tree) → HasNoPathType all → HasBoundsParts all bounds → IsSeen s all result (fields_of (of_bounds (bounds_of all bounds))) }
     ensures letter { IsLettered result.node }
 {
@@ -223,7 +223,7 @@ fn see_bounds(bounds: Bounds) -> Seen
     }
 }
 
-fn see_bindings(bindings: Bindings) -> Seen
+fn view_of_bindings(bindings: Bindings) -> NodeView
     ensures seen { (s text : List ℕ) (all : List Tree) → HasNoPathType all → HasBindingsParts s text all bindings → IsSeen s all result (fields_of (of_bindings (bindings_of s all bindings))) }
     ensures letter { IsLettered result.node }
 {
@@ -240,7 +240,7 @@ fn see_bindings(bindings: Bindings) -> Seen
     }
 }
 
-fn see_constant(constant: Constant) -> Seen
+fn view_of_constant(constant: Constant) -> NodeView
     ensures seen { (s text : List ℕ) (all : List Tree) → HasNoPathType all → HasConstantParts s text constant → IsSeen s all result (fields_of (of_constant (constant_of s constant))) }
     ensures letter { IsLettered result.node }
 {
@@ -263,7 +263,7 @@ fn see_constant(constant: Constant) -> Seen
     }
 }
 
-fn see_symbol(whole: Whole) -> Seen
+fn view_of_symbol(whole: Whole) -> NodeView
     ensures seen { (s text : List ℕ) (all : List Tree) → HasNoPathType all → HasSymbolParts s all whole → IsSeen s all result (fields_of (of_symbol (symbol_of s all whole))) }
     ensures letter { IsLettered result.node }
 {
@@ -273,31 +273,31 @@ fn see_symbol(whole: Whole) -> Seen
     }
 }
 
-fn see(node: node::Node) -> Seen
+fn view_of_node(node: node::Node) -> NodeView
     ensures seen { (s text : List ℕ) (all : List Tree) → HasNoPathType all → HasParts s text all node → IsSeen s all result (fields_of (tree_of s all node)) }
     ensures letter { IsLettered result.node }
 {
     match node {
-        node::Node::Path(path) => see_path(path),
-        node::Node::Arguments(arguments) => see_arguments(arguments),
-        node::Node::Ty(ty) => see_type(ty),
-        node::Node::Types(types) => see_types(types),
-        node::Node::Bounds(bounds) => see_bounds(bounds),
-        node::Node::Bindings(bindings) => see_bindings(bindings),
-        node::Node::Constant(constant) => see_constant(constant),
-        node::Node::Symbol(whole) => see_symbol(whole),
+        node::Node::Path(path) => view_of_path(path),
+        node::Node::Arguments(arguments) => view_of_arguments(arguments),
+        node::Node::Ty(ty) => view_of_type(ty),
+        node::Node::Types(types) => view_of_types(types),
+        node::Node::Bounds(bounds) => view_of_bounds(bounds),
+        node::Node::Bindings(bindings) => view_of_bindings(bindings),
+        node::Node::Constant(constant) => view_of_constant(constant),
+        node::Node::Symbol(whole) => view_of_symbol(whole),
     }
 }
 
 impl Symbol {
     /// A node's view and parts.
-    fn see_at(&self, node: u32) -> Seen
+    fn view_at(&self, node: u32) -> NodeView
         requires { node < length self.now.table.nodes }
         ensures seen { IsSeen self.now.bytes (take node (trees_of self.now)) result (fields_at self.now node) }
         ensures made { (made : Tree) × (slice_get (trees_of self.now) node ≡ Some made) }
         ensures letter { IsLettered result.node }
     {
-        see(self.stored(node))
+        view_of_node(self.stored(node))
     }
 
     /// The view of a node, which is below `counts().nodes`. It takes no memory.
@@ -312,7 +312,7 @@ impl Symbol {
         ensures few { result.parts ≤ 3 }
         ensures letter { IsLettered result }
     {
-        self.see_at(node).node
+        self.view_at(node).node
     }
 
     /// A part of a node, counted from 0: an earlier node. The node is below `counts().nodes`, and the part below its
@@ -323,6 +323,6 @@ impl Symbol {
         ensures earlier { result < node }
         ensures part { slice_get (trees_of self.now) result ≡ slice_get (fields_at self.now node).parts k }
     {
-        self.see_at(node).parts[k as usize]
+        self.view_at(node).parts[k as usize]
     }
 }

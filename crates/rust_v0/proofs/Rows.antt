@@ -14,13 +14,13 @@ use Rattle.ucd_table.specs.Rows.{in_ranges}
 use Rattle.ucd_derived.specs.XidContinueRanges.{xid_continue_ranges}
 use lib.Utf8.{encode}
 use Rattle.rust_tree.specs.Need.{need}
-use Rattle.rust_v0.specs.Unfold.{stray}
+use Rattle.rust_v0.specs.Unfold.{no_such_parts}
 use Rattle.rust_v0.specs.Mangled.{answer_of_shape}
 use Rattle.rust_v0.proofs.Shapes.{shape_of}
 
--- what the shape that was read is answered with; a symbol that isn't well shaped counts as a stray one
+-- what the shape that was read is answered with; a symbol that isn't well shaped counts as a no_such_parts one
 abbrev pub answer_at : Detail → ℕ → Option Tree → Result (List ℕ) Refusal
-answer_at detail limit None = Err stray
+answer_at detail limit None = Err no_such_parts
 answer_at detail limit (Some shape) = answer_of_shape detail limit shape
 
 abbrev pub answer : Detail → ℕ → List ℕ → Result (List ℕ) Refusal

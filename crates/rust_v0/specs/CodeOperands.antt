@@ -8,7 +8,7 @@ use Rattle.rust_tree.specs.declared.node.Name.{Name}
 use Rattle.rust_tree.specs.declared.node.Abi.{Abi}
 use Rattle.rust_v0.specs.declared.production.Production.{Production}
 use Rattle.rust_v0.specs.declared.production.Production.TheVariants as rules
-use Rattle.rust_v0.specs.Unfold.{greatest_u64, stray}
+use Rattle.rust_v0.specs.Unfold.{greatest_u64, no_such_parts}
 use Rattle.rust_v0.specs.declared.operands.TheConstants.{EMPTY_ARGUMENTS, EMPTY_BINDINGS}
 use Rattle.rust_v0.specs.declared.part.Part.{Part}
 use Rattle.rust_v0.specs.declared.part.Integer.{Integer}
@@ -18,56 +18,56 @@ Operand A = Result (A × List Part) Refusal
 
 abbrev pub number : List Part → Operand (Option ℕ)
 number (Part.Number n ∷ rest) = Ok (n, rest)
-number _ = Err stray
+number _ = Err no_such_parts
 
 abbrev pub integer : List Part → Operand (Option Integer)
 integer (Part.Integer n ∷ rest) = Ok (n, rest)
-integer _ = Err stray
+integer _ = Err no_such_parts
 
 abbrev pub letter : List Part → Operand ℕ
 letter (Part.Letter c ∷ rest) = Ok (c, rest)
-letter _ = Err stray
+letter _ = Err no_such_parts
 
 abbrev pub name : List Part → Operand Name
 name (Part.Name n ∷ rest) = Ok (n, rest)
-name _ = Err stray
+name _ = Err no_such_parts
 
 abbrev pub lifetime : List Part → Operand ℕ
 lifetime (Part.Lifetime n ∷ rest) = Ok (n, rest)
-lifetime _ = Err stray
+lifetime _ = Err no_such_parts
 
 abbrev pub truth : List Part → Operand Bool
 truth (Part.Truth b ∷ rest) = Ok (b, rest)
-truth _ = Err stray
+truth _ = Err no_such_parts
 
 abbrev pub path : List Part → Operand ℕ
 path (Part.Path node ∷ rest) = Ok (node, rest)
-path _ = Err stray
+path _ = Err no_such_parts
 
 abbrev pub constant : List Part → Operand ℕ
 constant (Part.Constant node ∷ rest) = Ok (node, rest)
-constant _ = Err stray
+constant _ = Err no_such_parts
 
 abbrev pub types : List Part → Operand ℕ
 types (Part.Types node ∷ rest) = Ok (node, rest)
-types _ = Err stray
+types _ = Err no_such_parts
 
 -- a path is a type too
 abbrev pub type : List Part → Operand ℕ
 type (Part.Path node ∷ rest) = Ok (node, rest)
 type (Part.Type node ∷ rest) = Ok (node, rest)
-type _ = Err stray
+type _ = Err no_such_parts
 
 -- a name is an identifier without a disambiguator
 abbrev pub identifier : List Part → Operand (Name × ℕ)
 identifier (Part.Identifier n d ∷ rest) = Ok ((n, d), rest)
 identifier (Part.Name n ∷ rest) = Ok ((n, 0), rest)
-identifier _ = Err stray
+identifier _ = Err no_such_parts
 
 abbrev pub abi_value : List Part → Operand Abi
 abi_value (Part.Abi a ∷ rest) = Ok (a, rest)
 abi_value (Part.Name n ∷ rest) = Ok (Abi.Named n, rest)
-abi_value _ = Err stray
+abi_value _ = Err no_such_parts
 
 -- parts that may be missing; lists that are missing are the first three nodes
 
@@ -101,7 +101,7 @@ arguments rest = Ok (EMPTY_ARGUMENTS, rest)
 
 abbrev pub bounds : List Part → Operand ℕ
 bounds (Part.Bounds node ∷ rest) = Ok (node, rest)
-bounds _ = Err stray
+bounds _ = Err no_such_parts
 
 abbrev pub bindings : List Part → Operand ℕ
 bindings (Part.Bindings node ∷ rest) = Ok (node, rest)

@@ -19,7 +19,7 @@ use Rattle.rust_v0.specs.declared.production.Production.{Production}
 use Rattle.rust_v0.specs.declared.production.Production.TheVariants as rules
 use Rattle.rust_v0.specs.CodeOperands as operands
 use Rattle.rust_v0.specs.Productions.{production_of}
-use Rattle.rust_v0.specs.Unfold.{greatest_u64, is_scalar, stray}
+use Rattle.rust_v0.specs.Unfold.{greatest_u64, is_scalar, no_such_parts}
 use Rattle.rust_v0.specs.declared.nodes.Target.{Target}
 use Rattle.rust_v0.specs.declared.operands.TheConstants.{EMPTY_BOUNDS}
 use Rattle.rust_v0.specs.declared.part.Part.{Part}
@@ -259,7 +259,7 @@ char_constant place parts = do
 -- looked up, not made.
 abbrev pub made : Production → (s : List ℕ) → (place bound : ℕ) → List Part → Outcome
 made rules.Symbol s place bound parts = symbol parts
-made rules.PathReference s place bound parts = Err stray
+made rules.PathReference s place bound parts = Err no_such_parts
 made rules.Crate s place bound parts = crate_root parts
 made rules.InherentImpl s place bound parts = inherent_impl parts
 made rules.TraitImpl s place bound parts = trait_impl parts
@@ -277,7 +277,7 @@ made rules.LifetimeArgument s place bound parts = lifetime_argument parts
 made rules.ConstantArgument s place bound parts = constant_argument parts
 made rules.TypeArgument s place bound parts = type_argument parts
 made rules.BasicType s place bound parts = Ok (Made.Node (Node.Ty (Ty.Basic (slice_index s place))))
-made rules.TypeReference s place bound parts = Err stray
+made rules.TypeReference s place bound parts = Err no_such_parts
 made rules.Array s place bound parts = array parts
 made rules.Slice s place bound parts = slice parts
 made rules.Tuple s place bound parts = tuple parts
@@ -302,7 +302,7 @@ made rules.UnsignedConstant s place bound parts = unsigned_constant place (slice
 made rules.BoolConstant s place bound parts = bool_constant parts
 made rules.CharConstant s place bound parts = char_constant place parts
 made rules.Placeholder s place bound parts = Ok (Made.Node (Node.Constant Constant.Placeholder))
-made rules.ConstantReference s place bound parts = Err stray
+made rules.ConstantReference s place bound parts = Err no_such_parts
 made rules.Minus s place bound parts = Ok (Made.Part Part.Minus)
 made rules.False s place bound parts = Ok (Made.Part (Part.Truth false))
 made rules.True s place bound parts = Ok (Made.Part (Part.Truth true))

@@ -14,7 +14,7 @@ use Rattle.rust_v0.specs.declared.part.Part.{Part}
 use Rattle.rust_v0.specs.Rules.{v0_table}
 use Rattle.rust_v0.specs.Value as value
 use Rattle.rust_v0.specs.Value.{Value, State, Ended}
-use Rattle.rust_v0.specs.Unfold.{v0, at_first, ended_at, as_path, as_type, as_constant, At, Meaning, ends, stray, refers_to_path, refers_to_type, refers_to_constant}
+use Rattle.rust_v0.specs.Unfold.{v0, at_first, ended_at, as_path, as_type, as_constant, At, Meaning, ends, no_such_parts, refers_to_path, refers_to_type, refers_to_constant}
 use Rattle.rust_v0.specs.PartValues.{IsPart}
 use Rattle.rust_v0.specs.Made.{ground, HasLists}
 use Rattle.rust_v0.specs.Tokens.{HasZero}
@@ -84,4 +84,4 @@ abbrev pub refers_by : Production → At → Option Value → Meaning
 refers_by rules.PathReference at known = refers_to_path at (as_path known)
 refers_by rules.TypeReference at known = refers_to_type at (as_type known)
 refers_by rules.ConstantReference at known = refers_to_constant at (as_constant known)
-refers_by _ at known = Err stray
+refers_by _ at known = Err no_such_parts

@@ -28,8 +28,8 @@ abbrev pub is_scalar : ℕ → Bool
 is_scalar c = nat_lt c 55296 || (nat_le 57344 c && nat_lt c 1114112)
 
 -- No well shaped symbol has this: the parts aren't those of the rule.
-abbrev pub stray : Refusal
-stray = Malformed 0
+abbrev pub no_such_parts : Refusal
+no_such_parts = Malformed 0
 
 -- the next part, of one sort, and the parts behind it
 abbrev pub Part : Type 0 → Type 0
@@ -37,59 +37,59 @@ Part A = Result (A × List Value) Refusal
 
 abbrev pub number_part : List Value → Part ℕ
 number_part (number n ∷ rest) = Ok (n, rest)
-number_part _ = Err stray
+number_part _ = Err no_such_parts
 
 abbrev pub integer_part : List Value → Part Integer
 integer_part (an_integer integer ∷ rest) = Ok (integer, rest)
-integer_part _ = Err stray
+integer_part _ = Err no_such_parts
 
 abbrev pub letter_part : List Value → Part ℕ
 letter_part (letter c ∷ rest) = Ok (c, rest)
-letter_part _ = Err stray
+letter_part _ = Err no_such_parts
 
 abbrev pub name_part : List Value → Part tree.Name
 name_part (a_name name ∷ rest) = Ok (name, rest)
-name_part _ = Err stray
+name_part _ = Err no_such_parts
 
 abbrev pub identifier_part : List Value → Part tree.Identifier
 identifier_part (an_identifier name ∷ rest) = Ok (name, rest)
 identifier_part (a_name name ∷ rest) = Ok (record { disambiguator = 0; name = name }, rest)
-identifier_part _ = Err stray
+identifier_part _ = Err no_such_parts
 
 abbrev pub path_part : List Value → Part tree.Path
 path_part (a_path path ∷ rest) = Ok (path, rest)
-path_part _ = Err stray
+path_part _ = Err no_such_parts
 
 -- a path is a type too
 abbrev pub type_part : List Value → Part tree.Ty
 type_part (a_path path ∷ rest) = Ok (tree.path_type path, rest)
 type_part (a_type type ∷ rest) = Ok (type, rest)
-type_part _ = Err stray
+type_part _ = Err no_such_parts
 
 abbrev pub constant_part : List Value → Part tree.Constant
 constant_part (a_constant constant ∷ rest) = Ok (constant, rest)
-constant_part _ = Err stray
+constant_part _ = Err no_such_parts
 
 abbrev pub lifetime_part : List Value → Part ℕ
 lifetime_part (a_lifetime lifetime ∷ rest) = Ok (lifetime, rest)
-lifetime_part _ = Err stray
+lifetime_part _ = Err no_such_parts
 
 abbrev pub truth_part : List Value → Part Bool
 truth_part (a_truth truth ∷ rest) = Ok (truth, rest)
-truth_part _ = Err stray
+truth_part _ = Err no_such_parts
 
 abbrev pub abi_value_part : List Value → Part tree.Abi
 abi_value_part (an_abi abi ∷ rest) = Ok (abi, rest)
 abi_value_part (a_name name ∷ rest) = Ok (tree.named_abi name, rest)
-abi_value_part _ = Err stray
+abi_value_part _ = Err no_such_parts
 
 abbrev pub types_part : List Value → Part tree.Tys
 types_part (some_types types ∷ rest) = Ok (types, rest)
-types_part _ = Err stray
+types_part _ = Err no_such_parts
 
 abbrev pub bounds_part : List Value → Part tree.Bounds
 bounds_part (some_bounds bounds ∷ rest) = Ok (bounds, rest)
-bounds_part _ = Err stray
+bounds_part _ = Err no_such_parts
 
 -- parts that may be missing
 abbrev pub disambiguator_part : List Value → Part ℕ
@@ -385,7 +385,7 @@ meaning rules.ConstantReference at parts = do
 meaning rules.Minus at parts = plain at minus_mark
 
 abbrev pub meaning_of : Option Production → At → List Value → Meaning
-meaning_of None at parts = Err stray
+meaning_of None at parts = Err no_such_parts
 meaning_of (Some production) at parts = meaning production at parts
 
 -- How many lifetimes are bound around the next part of a rule: a binder of `F` holds for all behind it, a binder of
@@ -436,7 +436,7 @@ at_first = record { ended = []; inside = None; minus = false }
 -- what the whole symbol stands for
 abbrev pub symbol_of : List Value → Result tree.Symbol Refusal
 symbol_of (a_symbol symbol ∷ []) = Ok symbol
-symbol_of _ = Err stray
+symbol_of _ = Err no_such_parts
 
 abbrev pub unfolded : Tree → Result tree.Symbol Refusal
 unfolded shape = unfold_tree (v0 (spell shape)) 0 0 shape at_first >>= λ whole. symbol_of whole.value

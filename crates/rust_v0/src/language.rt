@@ -2,7 +2,7 @@
 // closes.
 
 ghost use Rattle.std.specs.Bool.{OnTrue, OnFalse};
-ghost use Rattle.std.specs.Prelude.{◌≡◌, ℕ, ◌<◌, ◌≤◌, ◌++◌, ◌∷◌, [], List, length, drop, take, slice_index, Some, true, false, IfErr, OnOk};
+ghost use Rattle.std.specs.Prelude.{◌≡◌, ℕ, ◌<◌, ◌≤◌, ◌++◌, ◌∷◌, [], List, length, drop, take, slice_index, Some, true, IfErr, OnOk};
 ghost use Rattle.sym_core.specs.Number.{FitsSymbol};
 ghost use Rattle.sym_core.specs.declared.refusal.Refusal.TheVariants as refusals;
 ghost use Rattle.sym_link.specs.Linking.{HasRoom, TakesToken, ClosesRule, Adds, Pays, owed_behind, owed_next};
@@ -15,7 +15,7 @@ ghost use Rattle.rust_v0.specs.Tokens as tokens;
 ghost use Rattle.rust_v0.specs.CodeSemantics as semantics;
 
 use crate::nodes::{BoundLifetimes, RustNodes};
-use crate::part::{Part, STRAY, part_of};
+use crate::part::{Part, NO_SUCH_PARTS, part_of};
 use crate::production::{Production, numbered};
 use crate::semantics::{Site, crate_root, makes_part, nested, part_by};
 use crate::tokens::{TokenSort, sort_of};
@@ -258,7 +258,7 @@ impl RustNodes {
         ensures pays { OnOk result ((at : ℕ) → Pays (v0_view symbol.now) self.old self.new at at) }
     {
         let Some(production) = numbered(frame.rule) else {
-            return Err(STRAY);
+            return Err(NO_SUCH_PARTS);
         };
         let site = site_of(symbol, frame);
         let own = &parts[frame.base..];

@@ -19,7 +19,7 @@ ghost use Rattle.sym_core.specs.Number.{FitsSymbol};
 ghost use Rattle.rust_tree.specs.Nodes.{trees};
 
 use crate::operands::number;
-use crate::part::{Added, Part, STRAY};
+use crate::part::{Added, Part, NO_SUCH_PARTS};
 use crate::production::Production;
 use crate::semantics::{
     Site, array, binding, bool_constant, char_constant, const_pointer, constant_argument,
@@ -82,18 +82,18 @@ fn referred(targets: &[Target], number: Option<u64>) -> Target
         return Target::Nothing;
     }
     match targets.get(n as usize + 2) {
-        Some(ending) => *ending,
+        Some(target) => *target,
         None => Target::Nothing,
     }
 }
 
 /// Notes what has ended that began at a place.
-fn note(targets: &mut Vec<Target>, place: u32, ending: Target)
+fn note(targets: &mut Vec<Target>, place: u32, target: Target)
     ensures length { length targets.new.items ≡ length targets.old.items }
-    ensures noted { place < length targets.old.items → targets.new.items ≡ slice_set targets.old.items place ending }
+    ensures noted { place < length targets.old.items → targets.new.items ≡ slice_set targets.old.items place target }
 {
     if (place as usize) < targets.len() {
-        targets[place as usize] = ending;
+        targets[place as usize] = target;
     }
 }
 
@@ -174,9 +174,9 @@ impl RustNodes {
         ensures text { self.new.nodes.text ≡ self.old.nodes.text }
     {
         let number = self.nodes.push(node)?;
-        let (added, ending) = placed(node, number);
-        if let Some(ending) = ending {
-            note(&mut self.targets, place, ending);
+        let (added, target) = placed(node, number);
+        if let Some(target) = target {
+            note(&mut self.targets, place, target);
         }
         Ok(added)
     }
@@ -187,11 +187,11 @@ impl RustNodes {
         place: u32,
         bound: u64,
         node: u32,
-        ending: Target,
+        target: Target,
         part: Part,
     ) -> Result<Part, Refusal>
         ensures gives { (at : At) (t : Tree) (v : Value) → at.place ≡ place → at.bound ≡ bound → place < length self.old.targets.items → Keeps at.symbol self.old at.ended
-            → slice_get (trees at.symbol self.old.nodes.nodes) node ≡ Some t → IsNoted (trees at.symbol self.old.nodes.nodes) ending (Some v)
+            → slice_get (trees at.symbol self.old.nodes.nodes) node ≡ Some t → IsNoted (trees at.symbol self.old.nodes.nodes) target (Some v)
             → IsPart (ground at.symbol self.old.nodes) part v → Gives (v0_view at.symbol) self.new result (refers_to at v (need_of_tree t)) }
         ensures nodes { self.new.nodes ≡ self.old.nodes }
         ensures places { length self.new.targets.items ≡ length self.old.targets.items }
@@ -199,7 +199,7 @@ impl RustNodes {
         if self.nodes.need(node) > bound {
             return Err(Refusal::BadReference { at: place });
         }
-        note(&mut self.targets, place, ending);
+        note(&mut self.targets, place, target);
         Ok(part)
     }
 
@@ -264,7 +264,7 @@ impl RustNodes {
             Production::PathReference => self.refer_to_path(place, bound, found),
             Production::TypeReference => self.refer_to_type(place, bound, found),
             Production::ConstantReference => self.refer_to_constant(place, bound, found),
-            _ => Err(STRAY),
+            _ => Err(NO_SUCH_PARTS),
         }
     }
 
@@ -283,8 +283,8 @@ impl RustNodes {
         ensures places { length self.new.targets.items ≡ length self.old.targets.items }
     {
         let (found, _) = number(parts)?;
-        let ending = referred(&self.targets, found);
-        self.refer_as(production, site.place, site.bound, ending)
+        let target = referred(&self.targets, found);
+        self.refer_as(production, site.place, site.bound, target)
     }
 
     /// Adds the node that a rule at a place has made, if it has made one.
@@ -356,7 +356,7 @@ impl RustNodes {
             Production::BoolConstant => self.add_made(place, bool_constant(parts)),
             Production::CharConstant => self.add_made(place, char_constant(place, parts)),
             Production::Placeholder => self.add(place, Node::Constant(Constant::Placeholder)),
-            _ => Err(STRAY),
+            _ => Err(NO_SUCH_PARTS),
         }
     }
 }

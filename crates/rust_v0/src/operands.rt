@@ -3,7 +3,7 @@
 ghost use Rattle.std.specs.Prelude.{◌≡◌, MatchResult, Ok, Err};
 ghost use Rattle.rust_v0.specs.CodeOperands as operands;
 
-use crate::part::{Integer, Part, STRAY};
+use crate::part::{Integer, Part, NO_SUCH_PARTS};
 use rust_tree::node::{Abi, Name};
 use sym_core::{Refusal, Span};
 
@@ -24,7 +24,7 @@ pub fn letter(parts: &[Part]) -> Result<(u8, &[Part]), Refusal>
 {
     match parts {
         [Part::Letter(c), rest @ ..] => Ok((*c, rest)),
-        _ => Err(STRAY),
+        _ => Err(NO_SUCH_PARTS),
     }
 }
 
@@ -34,7 +34,7 @@ pub fn name(parts: &[Part]) -> Result<(Name, &[Part]), Refusal>
 {
     match parts {
         [Part::Name(n), rest @ ..] => Ok((*n, rest)),
-        _ => Err(STRAY),
+        _ => Err(NO_SUCH_PARTS),
     }
 }
 
@@ -51,7 +51,7 @@ pub fn identifier(parts: &[Part]) -> Result<((Name, u64), &[Part]), Refusal>
             rest @ ..,
         ] => Ok(((*name, *disambiguator), rest)),
         [Part::Name(name), rest @ ..] => Ok(((*name, 0), rest)),
-        _ => Err(STRAY),
+        _ => Err(NO_SUCH_PARTS),
     }
 }
 
@@ -61,7 +61,7 @@ pub fn path(parts: &[Part]) -> Result<(u32, &[Part]), Refusal>
 {
     match parts {
         [Part::Path(node), rest @ ..] => Ok((*node, rest)),
-        _ => Err(STRAY),
+        _ => Err(NO_SUCH_PARTS),
     }
 }
 
@@ -72,7 +72,7 @@ pub fn type_node(parts: &[Part]) -> Result<(u32, &[Part]), Refusal>
     match parts {
         [Part::Path(node), rest @ ..] => Ok((*node, rest)),
         [Part::Type(node), rest @ ..] => Ok((*node, rest)),
-        _ => Err(STRAY),
+        _ => Err(NO_SUCH_PARTS),
     }
 }
 
@@ -82,7 +82,7 @@ pub fn constant(parts: &[Part]) -> Result<(u32, &[Part]), Refusal>
 {
     match parts {
         [Part::Constant(node), rest @ ..] => Ok((*node, rest)),
-        _ => Err(STRAY),
+        _ => Err(NO_SUCH_PARTS),
     }
 }
 
@@ -92,7 +92,7 @@ pub fn lifetime(parts: &[Part]) -> Result<(u64, &[Part]), Refusal>
 {
     match parts {
         [Part::Lifetime(n), rest @ ..] => Ok((*n, rest)),
-        _ => Err(STRAY),
+        _ => Err(NO_SUCH_PARTS),
     }
 }
 
@@ -102,7 +102,7 @@ pub fn truth(parts: &[Part]) -> Result<(bool, &[Part]), Refusal>
 {
     match parts {
         [Part::Truth(b), rest @ ..] => Ok((*b, rest)),
-        _ => Err(STRAY),
+        _ => Err(NO_SUCH_PARTS),
     }
 }
 
@@ -113,7 +113,7 @@ pub fn abi_value(parts: &[Part]) -> Result<(Abi, &[Part]), Refusal>
     match parts {
         [Part::Abi(abi), rest @ ..] => Ok((*abi, rest)),
         [Part::Name(name), rest @ ..] => Ok((Abi::Named(*name), rest)),
-        _ => Err(STRAY),
+        _ => Err(NO_SUCH_PARTS),
     }
 }
 
@@ -123,7 +123,7 @@ pub fn bounds(parts: &[Part]) -> Result<(u32, &[Part]), Refusal>
 {
     match parts {
         [Part::Bounds(node), rest @ ..] => Ok((*node, rest)),
-        _ => Err(STRAY),
+        _ => Err(NO_SUCH_PARTS),
     }
 }
 
@@ -133,7 +133,7 @@ pub fn types(parts: &[Part]) -> Result<(u32, &[Part]), Refusal>
 {
     match parts {
         [Part::Types(node), rest @ ..] => Ok((*node, rest)),
-        _ => Err(STRAY),
+        _ => Err(NO_SUCH_PARTS),
     }
 }
 
@@ -143,7 +143,7 @@ pub fn number(parts: &[Part]) -> Result<(Option<u64>, &[Part]), Refusal>
 {
     match parts {
         [Part::Number(n), rest @ ..] => Ok((*n, rest)),
-        _ => Err(STRAY),
+        _ => Err(NO_SUCH_PARTS),
     }
 }
 
@@ -153,7 +153,7 @@ pub fn integer(parts: &[Part]) -> Result<(Option<Integer>, &[Part]), Refusal>
 {
     match parts {
         [Part::Integer(n), rest @ ..] => Ok((*n, rest)),
-        _ => Err(STRAY),
+        _ => Err(NO_SUCH_PARTS),
     }
 }
 

@@ -73,4 +73,4 @@ pub fn part_of(added: Added) -> Part
 }
 
 /// No well shaped symbol has such parts.
-pub const STRAY: Refusal = Refusal::Malformed { at: 0 };
+pub const NO_SUCH_PARTS: Refusal = Refusal::Malformed { at: 0 };

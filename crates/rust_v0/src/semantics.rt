@@ -7,9 +7,9 @@ ghost use Rattle.rust_v0.specs.CodeSemantics.{of_part, of_node};
 ghost use Rattle.rust_v0.specs.Unfold.{is_scalar as scalar};
 
 use crate::operands::{self, EMPTY_BOUNDS};
-use crate::part::{Integer, Part, STRAY};
+use crate::part::{Integer, Part, NO_SUCH_PARTS};
 use crate::production::Production;
-use rust_tree::node::{Abi, Arguments, Bindings, Bounds, Constant, Node, Path, Ty, Types, Whole};
+use rust_tree::node::{Abi, Arguments, Bindings, Bounds, Constant, MOST_BOUND, Node, Path, Ty, Types, Whole};
 use sym_core::{Refusal, Span};
 
 /// Where a rule stands: its place, the byte there, the symbol's length, and how many lifetimes are bound around it.
@@ -322,9 +322,6 @@ pub fn undisambiguated_identifier(parts: &[Part]) -> Result<Part, Refusal>
     Ok(Part::Name(spelled))
 }
 
-/// The most lifetimes of a binder: `most_bound` of the logic, as the contract below says.
-const MOST_BOUND: u64 = 1_000;
-
 /// `<binder> = "G" <base-62-number>`: one lifetime more than the number.
 pub fn binder(place: u32, parts: &[Part]) -> Result<Part, Refusal>
     ensures { of_part result ≡ semantics.binder place parts.now }
@@ -474,6 +471,6 @@ pub fn part_by(production: Production, at: Site, parts: &[Part]) -> Result<Part,
         Production::Minus => Ok(Part::Minus),
         Production::False => Ok(Part::Truth(false)),
         Production::True => Ok(Part::Truth(true)),
-        _ => Err(STRAY),
+        _ => Err(NO_SUCH_PARTS),
     }
 }

@@ -17,7 +17,7 @@ ghost use Rattle.rust_v0.specs.PartValues.{IsNumber, IsPart};
 ghost use Rattle.rust_v0.specs.Made.{ground};
 
 use crate::nodes::RustNodes;
-use crate::part::{Integer, Part, STRAY};
+use crate::part::{Integer, Part, NO_SUCH_PARTS};
 use crate::production::{Production, numbered};
 use rust_tree::node::Name;
 use sym_core::{
@@ -148,7 +148,7 @@ impl RustNodes {
     {
         let bytes = &symbol[own.from as usize..own.to as usize];
         if !are_digits(NumberKind::Hex, bytes) {
-            return Err(STRAY);
+            return Err(NO_SUCH_PARTS);
         }
         let zeros = without_zeros(bytes) as u32;
         match value16(bytes) {
@@ -181,7 +181,7 @@ impl RustNodes {
     {
         let bytes = &symbol[own.from as usize..own.to as usize];
         if !are_name_bytes(NameClass::Rust, bytes) {
-            return Err(STRAY);
+            return Err(NO_SUCH_PARTS);
         }
         let printed = self.nodes.push_name(self.alloc, bytes)?;
         Ok(Part::Name(Name {
@@ -221,7 +221,7 @@ impl RustNodes {
             })),
             TokenSort::PunycodeName => {
                 if !parts.is_empty() || own.from < place.saturating_add(2) {
-                    return Err(STRAY);
+                    return Err(NO_SUCH_PARTS);
                 }
                 let part = self.punycode_name(symbol, own)?;
                 Ok(part)

@@ -1,7 +1,7 @@
 //! The vocabulary that every layer shares: places in a symbol, refusals, numbers and names.
 #![tactic(auto)]
 
-ghost use Rattle.std.specs.Prelude.{◌≡◌, ◌↔◌, ◌≤◌, IsTrue, length};
+ghost use Rattle.std.specs.Prelude.{◌↔◌, IsTrue};
 ghost use Rattle.sym_core.specs.Number.{FitsSymbol};
 
 pub mod counts;

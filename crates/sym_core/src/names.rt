@@ -1,7 +1,7 @@
 // The text list: names and decimals as they are printed.
 #![tactic(auto)]
 
-ghost use Rattle.std.specs.Prelude.{◌≡◌, ℕ, ◌+◌, ◌*◌, ◌<◌, ◌≤◌, ◌^◌, ◌++◌, ◌≢◌, length, slice_index, chars, vec_len, vec_capacity, string_bytes, Some, None, true, false, IfOk, IfErr, OnErr, MatchOption};
+ghost use Rattle.std.specs.Prelude.{◌≡◌, ℕ, ◌+◌, ◌*◌, ◌<◌, ◌≤◌, ◌^◌, ◌++◌, ◌≢◌, length, slice_index, chars, vec_len, vec_capacity, string_bytes, Some, None, false, IfOk, IfErr, OnErr, MatchOption};
 ghost use Rattle.std.specs.List.{list_all};
 ghost use Rattle.unicode_ident.specs.Ident.{is_xid_continue};
 ghost use Rattle.sym_core.specs.Printed.{signed_text, hyphenated, decoded_name, printed_name};

@@ -1,5 +1,5 @@
 // The filter: words of a text that are symbols are replaced by their texts.
-ghost use Rattle.std.specs.Prelude.{◌≡◌, ◌≢◌, ◌+◌, ◌-◌, ◌^◌, ◌<◌, ◌≤◌, ℕ, List, [], ◌++◌, length, vec_len, replicate, IfOk, OnOk, OnErr, IfErr};
+ghost use Rattle.std.specs.Prelude.{◌≡◌, ◌≢◌, ◌+◌, ◌-◌, ◌^◌, ◌<◌, ℕ, List, [], length, vec_len, replicate, IfOk, OnOk, OnErr, IfErr};
 ghost use Rattle.sym_filter.specs.Languages.{answer_of};
 ghost use Rattle.sym_filter.specs.Streams.{reader_faults, writer_faults, Puts, PutsFront, FiltersAll, FiltersFront};
 ghost use Rattle.sym_filter.specs.Words.{rest_after, tally_after, behind, Takes};

@@ -28,8 +28,8 @@ pub struct Counts {
 }
 
 impl Linking for Counts {
-    ghost use Rattle.std.specs.Prelude.{◌≡◌, ℕ, ◌+◌, ◌<◌, ◌≤◌, [], List, length, take, drop, OnOk};
-    ghost use Rattle.sym_link.specs.Linking.{View, IsLinking, HasRoom, IsOpen, OpensRoot, Opens, TakesToken, ClosesRule, Adds, Pays, owed_behind, owed_next};
+    ghost use Rattle.std.specs.Prelude.{◌≡◌, ℕ, ◌<◌, ◌≤◌, length, OnOk};
+    ghost use Rattle.sym_link.specs.Linking.{HasRoom, IsOpen, OpensRoot, Opens, TakesToken, ClosesRule, Adds, Pays, owed_behind, owed_next};
     ghost use Rattle.sym_link.specs.Counting.{counting};
     ghost use Rattle.sym_link.specs.CountingLaws.{counting_laws};
 

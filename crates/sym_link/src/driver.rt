@@ -1,9 +1,9 @@
 // A machine over the rows of a shape, for any language.
 
-ghost use Rattle.std.specs.Prelude.{◌≡◌, ◌≢◌, ℕ, ◌+◌, ◌-◌, ◌*◌, ◌<◌, ◌≤◌, ◌++◌, ◌∷◌, [], List, length, take, Ok, Err, Some, None, true, Result, IfSome, IfNone, IfOk, IfErr, OnOk};
+ghost use Rattle.std.specs.Prelude.{◌≡◌, ℕ, ◌+◌, ◌-◌, ◌*◌, ◌<◌, ◌≤◌, ◌++◌, ◌∷◌, [], List, length, take, Ok, Err, Some, None, true, Result, IfSome, IfNone, IfOk, IfErr, OnOk};
 ghost use Rattle.sym_shape.specs.Tree.{Tree};
 ghost use Rattle.sym_link.specs.Reading.{Found};
-ghost use Rattle.sym_link.specs.Stepping.{link_steps, Due, waiting, starting};
+ghost use Rattle.sym_link.specs.Stepping.{link_steps, waiting, starting};
 ghost use Rattle.sym_link.specs.Following.{IsShape, Follows, FollowsAfter, FollowsOn, FollowsAlone, EndsWith, CanClose, CanSettle, CanTake, CanBegin, CanMove, IsOnWay, Moves, CountsMove, Fits, IsDriving, IsStepTo, IsDone, meaning_of};
 
 use crate::language::{Frame, Linking};

@@ -1,7 +1,7 @@
 // The printer: a work stack, the text so far, and what was spent.
 #![tactic(auto)]
 
-ghost use Rattle.std.specs.Prelude.{◌≡◌, ℕ, ◌+◌, ◌*◌, ◌<◌, ◌≤◌, ◌++◌, length, vec_len, Some, None, [], ◌∷◌, IfOk, IfErr, OnOk, OnErr, ◌==◌, ◌⊎◌, true, false};
+ghost use Rattle.std.specs.Prelude.{◌≡◌, ◌+◌, ◌*◌, ◌<◌, ◌≤◌, ◌++◌, length, vec_len, Some, None, [], IfOk, IfErr, OnOk, OnErr, ◌==◌, ◌⊎◌, true, false};
 ghost use Rattle.std.specs.List.{All};
 ghost use Rattle.sym_print.specs.Joined.{text_of_stack, cost_of_stack, steps_of_stack, spends, IsNext};
 ghost use Rattle.sym_print.specs.Unshared.{text_of, cost_of};

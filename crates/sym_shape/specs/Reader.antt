@@ -8,7 +8,7 @@ use Rattle.sym_shape.specs.declared.rule.Sym.{Sym}
 use Rattle.sym_core.specs.declared.NameClass.{NameClass}
 use Rattle.sym_core.specs.declared.TokenPlace.{TokenPlace}
 use Rattle.sym_shape.specs.declared.parse.Parse.{Parse}
-use Rattle.sym_shape.specs.declared.parse.Come.{Come}
+use Rattle.sym_shape.specs.declared.parse.Progress.{Progress}
 use Rattle.sym_core.specs.Token.{HasToken, HasNoToken, FindsToken as Finds}
 use Rattle.sym_shape.specs.Table.{Table, IsToken}
 use Rattle.sym_shape.specs.Tree.{IsMalformed, BeginsWellShaped}
@@ -108,23 +108,23 @@ pub record AreSpent (bytes : List ℕ) (old new : Parse) : Type 0 where
   pub few : AreFew new.steps (length new.rows.items) (length bytes)
 
 -- one move or more, none, or no memory for one; how far they have come is told apart from the parse
-abbrev pub HasCome : (ℕ → List Sym) → Table → Bool → List ℕ → Come → Parse → Parse → Result (Option Come) Refusal → Type 0
-HasCome listed g ended bytes come old new (Ok (Some further)) = IsParse g ended bytes further.steps further.at (to_do listed new) new.rows.items × (come.steps < further.steps) × (length new.rows.items + come.steps ≤ length old.rows.items + further.steps)
-HasCome listed g ended bytes come old new (Ok None) = new ≡ old
-HasCome listed g ended bytes come old new (Err Memory) = MakesRow old new
-HasCome listed g ended bytes come old new (Err (Malformed at)) = ⊥
-HasCome listed g ended bytes come old new (Err (BadReference at)) = ⊥
-HasCome listed g ended bytes come old new (Err (BadValue at)) = ⊥
-HasCome listed g ended bytes come old new (Err TooLong) = ⊥
+abbrev pub HasAdvanced : (ℕ → List Sym) → Table → Bool → List ℕ → Progress → Parse → Parse → Result (Option Progress) Refusal → Type 0
+HasAdvanced listed g ended bytes come old new (Ok (Some further)) = IsParse g ended bytes further.steps further.at (to_do listed new) new.rows.items × (come.steps < further.steps) × (length new.rows.items + come.steps ≤ length old.rows.items + further.steps)
+HasAdvanced listed g ended bytes come old new (Ok None) = new ≡ old
+HasAdvanced listed g ended bytes come old new (Err Memory) = MakesRow old new
+HasAdvanced listed g ended bytes come old new (Err (Malformed at)) = ⊥
+HasAdvanced listed g ended bytes come old new (Err (BadReference at)) = ⊥
+HasAdvanced listed g ended bytes come old new (Err (BadValue at)) = ⊥
+HasAdvanced listed g ended bytes come old new (Err TooLong) = ⊥
 
 -- some moves, or no memory for one
-abbrev pub IsHurried : (ℕ → List Sym) → Table → Bool → List ℕ → Parse → Parse → Result (Unit {0}) Refusal → Type 0
-IsHurried listed g ended bytes old new (Ok done) = IsParsing listed g ended bytes new × MakeRows old new
-IsHurried listed g ended bytes old new (Err Memory) = AreSpent bytes old new
-IsHurried listed g ended bytes old new (Err (Malformed at)) = ⊥
-IsHurried listed g ended bytes old new (Err (BadReference at)) = ⊥
-IsHurried listed g ended bytes old new (Err (BadValue at)) = ⊥
-IsHurried listed g ended bytes old new (Err TooLong) = ⊥
+abbrev pub IsBatch : (ℕ → List Sym) → Table → Bool → List ℕ → Parse → Parse → Result (Unit {0}) Refusal → Type 0
+IsBatch listed g ended bytes old new (Ok done) = IsParsing listed g ended bytes new × MakeRows old new
+IsBatch listed g ended bytes old new (Err Memory) = AreSpent bytes old new
+IsBatch listed g ended bytes old new (Err (Malformed at)) = ⊥
+IsBatch listed g ended bytes old new (Err (BadReference at)) = ⊥
+IsBatch listed g ended bytes old new (Err (BadValue at)) = ⊥
+IsBatch listed g ended bytes old new (Err TooLong) = ⊥
 
 -- steps until nothing is left to do with these bytes
 pub record IsRead (listed : ℕ → List Sym) (g : Table) (ended : Bool) (bytes : List ℕ) (old new : Parse) : Type 0 where

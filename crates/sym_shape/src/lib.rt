@@ -1,4 +1,4 @@
-//! A pushdown reader over any grammar that one byte of look-ahead decides.
+//! A pushdown parser for any LL(1) grammar over bytes.
 //!
 //! A grammar is a table of rules (`Grammar`). The reader takes a symbol's bytes whole (`read`) or in pieces (`Reader`), and
 //! answers a row for each rule, chain and token of the one tree that spells them (`Shape`), or their first bad byte. It keeps

@@ -6,7 +6,7 @@ ghost use Rattle.sym_shape.specs.Reading.{Entry, entries_of, closed, IsKnown, Is
 ghost use Rattle.sym_shape.specs.Table.{symbols_of};
 ghost use Rattle.sym_shape.specs.Frame.{HasNext, HasLast, IsTaken};
 ghost use Rattle.sym_shape.specs.declared.rule.Sym.{Sym};
-ghost use Rattle.sym_shape.specs.Reader.{IsParsing, IsStep, IsAdvance, IsHurried, IsRun, FindsToken, IsWholeToken, IsParse, HasRule, HasNoRule, HasCome, to_do};
+ghost use Rattle.sym_shape.specs.Reader.{IsParsing, IsStep, IsAdvance, IsBatch, IsRun, FindsToken, IsWholeToken, IsParse, HasRule, HasNoRule, HasAdvanced, to_do};
 
 use crate::frame::Frame;
 use crate::grammar::Grammar;
@@ -26,17 +26,17 @@ pub struct Parse {
 
 /// The place that moves have come to, and the steps that are counted.
 #[derive(Clone, Copy)]
-struct Come {
+struct Progress {
     at: usize,
     steps: u32,
 }
 
 /// So many steps further, at a place.
-fn further(come: Come, at: usize, steps: u32) -> Option<Come>
+fn further(come: Progress, at: usize, steps: u32) -> Option<Progress>
     requires { come.steps + steps < 2 ^ 32 }
     ensures { result ≡ Some (record { at = at; steps = come.steps + steps }) }
 {
-    Some(Come {
+    Some(Progress {
         at,
         steps: come.steps + steps,
     })
@@ -141,7 +141,7 @@ fn push_token(rows: &mut Vec<Row>, place: TokenPlace) -> Result<(), Refusal>
 }
 
 /// Puts the row of a rule whose only symbol is a token, and the token's, behind the others.
-fn push_lone(rows: &mut Vec<Row>, rule: &Rule, at: usize, place: TokenPlace) -> Result<(), Refusal>
+fn push_rule_with_token(rows: &mut Vec<Row>, rule: &Rule, at: usize, place: TokenPlace) -> Result<(), Refusal>
     requires few { length rows.old.items + 2 < 2 ^ 32 }
     requires at { at < 2 ^ 32 }
     requires own { place.from < 2 ^ 32 }
@@ -190,7 +190,7 @@ fn may_go_on(at: usize, bytes: &[u8], ended: bool) -> bool
 
 /// The place of a token that a symbol asks for, if it stands there whole.
 #[inline(always)]
-fn whole_token<G: Grammar>(
+fn complete_token<G: Grammar>(
     grammar: &G,
     symbol: Sym,
     bytes: &[u8],
@@ -279,7 +279,7 @@ impl Parse {
         ensures { IsRun G.listed G.table ended bytes.now self.old self.new result }
     {
         'steps: loop {
-            self.hurry(grammar, bytes, ended)?;
+            self.run_batch(grammar, bytes, ended)?;
             match self.advance(grammar, bytes, ended) {
                 Ok(true) => return Ok(()),
                 Ok(false) => {}
@@ -289,12 +289,12 @@ impl Parse {
     }
 
     /// Moves that need no more bytes and that nothing refuses but memory, one after another, with the state at hand.
-    fn hurry<G: Grammar>(&mut self, grammar: &G, bytes: &[u8], ended: bool) -> Result<(), Refusal>
+    fn run_batch<G: Grammar>(&mut self, grammar: &G, bytes: &[u8], ended: bool) -> Result<(), Refusal>
         requires fits { FitsSymbol bytes.now }
         requires parsing { IsParsing G.listed G.table ended bytes.now self.old }
-        ensures { IsHurried G.listed G.table ended bytes.now self.old self.new result }
+        ensures { IsBatch G.listed G.table ended bytes.now self.old self.new result }
     {
-        let mut come = Come {
+        let mut come = Progress {
             at: self.at,
             steps: self.steps,
         };
@@ -322,11 +322,11 @@ impl Parse {
 
     /// Ends the row of a rule all of whose symbols are read, unless it is the lowest.
     #[inline(always)]
-    fn leave_rule<G: Grammar>(&mut self, come: Come, bytes: &[u8], ended: bool) -> Option<Come>
+    fn leave_rule<G: Grammar>(&mut self, come: Progress, bytes: &[u8], ended: bool) -> Option<Progress>
         requires parsing { IsParse G.table ended bytes.now come.steps come.at (to_do G.listed self.old) self.old.rows.items }
         requires fits { FitsSymbol bytes.now }
         requires bare { G.listed self.old.top.place ≡ [] }
-        ensures { HasCome G.listed G.table ended bytes.now come self.old self.new (Ok result) }
+        ensures { HasAdvanced G.listed G.table ended bytes.now come self.old self.new (Ok result) }
     {
         match uppermost(&self.below) {
             Some(frame) => {
@@ -346,22 +346,22 @@ impl Parse {
         &mut self,
         grammar: &G,
         kind: u16,
-        come: Come,
+        come: Progress,
         bytes: &[u8],
         ended: bool,
-    ) -> Result<Option<Come>, Refusal>
+    ) -> Result<Option<Progress>, Refusal>
         requires parsing { IsParse G.table ended bytes.now come.steps come.at (to_do G.listed self.old) self.old.rows.items }
         requires fits { FitsSymbol bytes.now }
         requires next { HasNext G.listed self.old.top (Sym.Kind kind) }
-        ensures { HasCome G.listed G.table ended bytes.now come self.old self.new result }
+        ensures { HasAdvanced G.listed G.table ended bytes.now come self.old self.new result }
     {
         let at = come.at;
         match rule_at(grammar, kind, bytes, at) {
             Some(rule) => match lone_token(&rule) {
                 Some(symbol) => {
-                    match whole_token(grammar, symbol, bytes, behind(&rule, at), ended) {
+                    match complete_token(grammar, symbol, bytes, behind(&rule, at), ended) {
                         Some(place) => {
-                            push_lone(&mut self.rows, &rule, at, place)?;
+                            push_rule_with_token(&mut self.rows, &rule, at, place)?;
                             self.top.place += 1;
                             Ok(further(come, place.end, 3))
                         }
@@ -397,14 +397,14 @@ impl Parse {
         &mut self,
         grammar: &G,
         symbol: Sym,
-        come: Come,
+        come: Progress,
         bytes: &[u8],
         ended: bool,
-    ) -> Result<Option<Come>, Refusal>
+    ) -> Result<Option<Progress>, Refusal>
         requires parsing { IsParse G.table ended bytes.now come.steps come.at (to_do G.listed self.old) self.old.rows.items }
         requires fits { FitsSymbol bytes.now }
         requires next { HasNext G.listed self.old.top symbol }
-        ensures { HasCome G.listed G.table ended bytes.now come self.old self.new result }
+        ensures { HasAdvanced G.listed G.table ended bytes.now come self.old self.new result }
     {
         match symbol {
             Sym::Byte(byte) => match next_byte(bytes, come.at) {
@@ -414,7 +414,7 @@ impl Parse {
                 }
                 _ => Ok(None),
             },
-            _ => match whole_token(grammar, symbol, bytes, come.at, ended) {
+            _ => match complete_token(grammar, symbol, bytes, come.at, ended) {
                 Some(place) => {
                     push_token(&mut self.rows, place)?;
                     self.top.place += 1;

@@ -1,5 +1,5 @@
 // The text of one symbol, and a text with those of all symbols in it.
-ghost use Rattle.std.specs.Prelude.{◌≡◌, ◌⊎◌, List, ℕ};
+ghost use Rattle.std.specs.Prelude.{◌≡◌};
 ghost use Rattle.symdemangle.specs.Calls.{EndsAs, detail_of, filter_told, press_told, symbol_kind, text_told};
 
 use crate::room::{DETAIL, MEMORY, SIZE, SymdemangleAnswer, finish, tell, write};

@@ -1,5 +1,5 @@
 // The command line.
-ghost use Rattle.std.specs.Prelude.{◌≡◌, ◌≢◌, ◌⊎◌, ◌+◌, ◌-◌, ◌^◌, ◌<◌, List, ℕ, ◌++◌, OnOk, OnErr, IfOk, IfErr, map};
+ghost use Rattle.std.specs.Prelude.{◌≡◌, ◌≢◌, ◌⊎◌, ◌+◌, ◌-◌, ◌^◌, ◌<◌, List, ℕ, ◌++◌, OnErr, IfOk, IfErr, map};
 ghost use Rattle.sym_filter.specs.Streams.{writer_faults};
 ghost use Rattle.sym_filter.specs.Languages.{AreCountsOf};
 ghost use Rattle.symfilt.specs.Command.{Took, answers_of, Says, AnswersWords, AnswersFront, IsRun, IsStopped};

@@ -10,7 +10,7 @@ use Rattle.rust_tree.proofs.symbol.Symbol.push_argument_list.Goals as goal
 pub returns-in-Full-clause-shows : goal.returns-in-Full-clause-shows
 returns-in-Full-clause-shows g c below so_far shows deep =
     let list : Detail → Unshared → Unshared = λ d rest. argument_list d c.args.value (arguments_from c.args.ctx.detail c.args.ctx.bound [] (arguments_in (slice_get (trees_of c.args.self.now) c.args.arguments))) rest in
-    changed c.args.self.now _ _ _ (ap (λ d. list d so_far) (sym c.in-Full.is)) (c.push_less.ensures.shows _ _ (c.push_arguments.ensures.shows _ _ (c.push_text.ensures.shows _ _ shows) deep))
+    changed c.args.self.now _ _ _ (ap (λ d. list d so_far) (sym c.in-Full.is)) (c.push_open_angle.ensures.shows _ _ (c.push_arguments.ensures.shows _ _ (c.push_text.ensures.shows _ _ shows) deep))
 
 pub returns-in-Brief-clause-shows : goal.returns-in-Brief-clause-shows
 returns-in-Brief-clause-shows g c below so_far shows deep =

@@ -13,6 +13,6 @@ returns-clause-gives c at t v place bound there keeps got is part =
       _,
       refl,
       part,
-      referred_keeps at.symbol c.args.self.now _ at.ended at.place c.args.ending v (rw place there) keeps is refl
+      referred_keeps at.symbol c.args.self.now _ at.ended at.place c.args.target v (rw place there) keeps is refl
           (rw place (c.note.ensures.noted there)),
     )

@@ -21,30 +21,30 @@ may_be_empty-requires g c =
     let old = c.args.self.now in
     next_kind g.G.Grammar.listed g.G.Grammar.table c.args.ended c.args.bytes.now c.args.come.steps c.args.come.at c.args.kind old.top old.below.items old.rows.items c.requires.parsing c.requires.next
 
-pub push_lone-requires-clause-place : goal.push_lone-requires-clause-place
-push_lone-requires-clause-place g c =
+pub push_rule_with_token-requires-clause-place : goal.push_rule_with_token-requires-clause-place
+push_rule_with_token-requires-clause-place g c =
     let old = c.args.self.now in
-    let whole = subst (λ n. IsWholeToken g.G.Grammar.table.names c.in-Some-lone_token.symbol c.args.ended c.args.bytes.now n c.in-Some-whole_token.place) c.behind.ensures c.in-Some-whole_token.ensures in
-    let within = lone_within g.G.Grammar.table.names c.in-Some-lone_token.symbol c.in-Some.rule c.args.ended c.args.bytes.now c.args.come.at c.in-Some-whole_token.place c.in-Some.ensures.stands.within whole in
+    let whole = subst (λ n. IsWholeToken g.G.Grammar.table.names c.in-Some-lone_token.symbol c.args.ended c.args.bytes.now n c.in-Some-complete_token.place) c.behind.ensures c.in-Some-complete_token.ensures in
+    let within = lone_within g.G.Grammar.table.names c.in-Some-lone_token.symbol c.in-Some.rule c.args.ended c.args.bytes.now c.args.come.at c.in-Some-complete_token.place c.in-Some.ensures.stands.within whole in
     omega (arith, within.1, within.2, c.requires.fits)
 
-pub push_lone-requires-clause-end : goal.push_lone-requires-clause-end
-push_lone-requires-clause-end g c =
+pub push_rule_with_token-requires-clause-end : goal.push_rule_with_token-requires-clause-end
+push_rule_with_token-requires-clause-end g c =
     let old = c.args.self.now in
-    let whole = subst (λ n. IsWholeToken g.G.Grammar.table.names c.in-Some-lone_token.symbol c.args.ended c.args.bytes.now n c.in-Some-whole_token.place) c.behind.ensures c.in-Some-whole_token.ensures in
-    let within = lone_within g.G.Grammar.table.names c.in-Some-lone_token.symbol c.in-Some.rule c.args.ended c.args.bytes.now c.args.come.at c.in-Some-whole_token.place c.in-Some.ensures.stands.within whole in
+    let whole = subst (λ n. IsWholeToken g.G.Grammar.table.names c.in-Some-lone_token.symbol c.args.ended c.args.bytes.now n c.in-Some-complete_token.place) c.behind.ensures c.in-Some-complete_token.ensures in
+    let within = lone_within g.G.Grammar.table.names c.in-Some-lone_token.symbol c.in-Some.rule c.args.ended c.args.bytes.now c.args.come.at c.in-Some-complete_token.place c.in-Some.ensures.stands.within whole in
     omega (arith, within.2, c.requires.fits)
 
-pub returns-in_ok-push_lone-in-Some-whole_token : goal.returns-in_ok-push_lone-in-Some-whole_token
-returns-in_ok-push_lone-in-Some-whole_token g c =
+pub returns-in_ok-push_rule_with_token-in-Some-complete_token : goal.returns-in_ok-push_rule_with_token-in-Some-complete_token
+returns-in_ok-push_rule_with_token-in-Some-complete_token g c =
     let old = c.args.self.now in
     let come = c.args.come in
     let chosen = c.in-Some.ensures in
-    let place = c.in-Some-whole_token.place in
-    let made = c.in_ok-push_lone-in-Some-whole_token.ensures in
-    let size : length c.push_lone.new.rows.items ≡ length old.rows.items + 2 = ap length made.rows ∙ length-append old.rows.items (lone_rows c.in-Some.rule come.at place (length old.rows.items)) in
-    let whole = subst (λ n. IsWholeToken g.G.Grammar.table.names c.in-Some-lone_token.symbol c.args.ended c.args.bytes.now n c.in-Some-whole_token.place) c.behind.ensures c.in-Some-whole_token.ensures in
-    let moved = frame_lone g.G.Grammar.listed g.G.Grammar.table g.met.G.Grammar.lawful c.args.ended c.args.bytes.now come.steps come.at c.args.kind chosen.byte c.in-Some.rule c.in-Some-lone_token.symbol place old.top old.below.items old.rows.items c.push_lone.new.rows.items c.requires.parsing c.requires.next chosen.stands.within chosen.stands.is chosen.stands.fits chosen.chosen c.in-Some-lone_token.ensures whole made.rows in
+    let place = c.in-Some-complete_token.place in
+    let made = c.in_ok-push_rule_with_token-in-Some-complete_token.ensures in
+    let size : length c.push_rule_with_token.new.rows.items ≡ length old.rows.items + 2 = ap length made.rows ∙ length-append old.rows.items (lone_rows c.in-Some.rule come.at place (length old.rows.items)) in
+    let whole = subst (λ n. IsWholeToken g.G.Grammar.table.names c.in-Some-lone_token.symbol c.args.ended c.args.bytes.now n c.in-Some-complete_token.place) c.behind.ensures c.in-Some-complete_token.ensures in
+    let moved = frame_lone g.G.Grammar.listed g.G.Grammar.table g.met.G.Grammar.lawful c.args.ended c.args.bytes.now come.steps come.at c.args.kind chosen.byte c.in-Some.rule c.in-Some-lone_token.symbol place old.top old.below.items old.rows.items c.push_rule_with_token.new.rows.items c.requires.parsing c.requires.next chosen.stands.within chosen.stands.is chosen.stands.fits chosen.chosen c.in-Some-lone_token.ensures whole made.rows in
     rw c.further.ensures (moved, omega arith, omega (arith, size))
 
 pub returns-in_ok-take_rule-in-None-lone_token : goal.returns-in_ok-take_rule-in-None-lone_token

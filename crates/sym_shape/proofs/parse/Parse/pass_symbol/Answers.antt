@@ -7,7 +7,7 @@ use Rattle.sym_shape.proofs.parse.Parse.pass_symbol.Goals as goal
 
 pub push_token-requires : goal.push_token-requires
 push_token-requires g c =
-    let within = token_within g.G.Grammar.table.names c.args.symbol c.args.bytes.now c.args.come.at c.in-Some-whole_token.place c.requires.parsing.within c.in-Some-whole_token.ensures.0 in
+    let within = token_within g.G.Grammar.table.names c.args.symbol c.args.bytes.now c.args.come.at c.in-Some-complete_token.place c.requires.parsing.within c.in-Some-complete_token.ensures.0 in
     let old = c.args.self.now in
     record {
       few = omega (arith, c.requires.fits, c.requires.parsing.within, at_most_rows g.G.Grammar.table c.args.come.steps c.args.come.at (to_do g.G.Grammar.listed old) (length old.rows.items) c.requires.parsing.counted);
@@ -23,11 +23,11 @@ returns-in-Some g c =
     let moved = frame_byte g.G.Grammar.listed g.G.Grammar.table c.args.ended c.args.bytes.now come.steps come.at c.in-Byte.byte old.top old.below.items old.rows.items c.requires.parsing (subst (λ x. HasNext g.G.Grammar.listed old.top x) c.in-Byte.is c.requires.next) stands.within (stands.is ∙ c.if-next-byte.true) in
     rw c.further.ensures (moved, omega arith, omega arith)
 
-pub returns-in_ok-push_token-in-Some-whole_token : goal.returns-in_ok-push_token-in-Some-whole_token
-returns-in_ok-push_token-in-Some-whole_token g c =
+pub returns-in_ok-push_token-in-Some-complete_token : goal.returns-in_ok-push_token-in-Some-complete_token
+returns-in_ok-push_token-in-Some-complete_token g c =
     let old = c.args.self.now in
     let come = c.args.come in
-    let found = c.in-Some-whole_token.ensures in
-    let made = c.in_ok-push_token-in-Some-whole_token.ensures in
-    let moved = frame_token g.G.Grammar.listed g.G.Grammar.table g.met.G.Grammar.lawful c.args.ended c.args.bytes.now come.steps come.at c.args.symbol c.in-Some-whole_token.place old.top old.below.items old.rows.items _ c.requires.parsing c.requires.next found.0 found.1 made.row in
-    rw c.further-in-Some-whole_token.ensures (moved, omega arith, omega (arith, made.one))
+    let found = c.in-Some-complete_token.ensures in
+    let made = c.in_ok-push_token-in-Some-complete_token.ensures in
+    let moved = frame_token g.G.Grammar.listed g.G.Grammar.table g.met.G.Grammar.lawful c.args.ended c.args.bytes.now come.steps come.at c.args.symbol c.in-Some-complete_token.place old.top old.below.items old.rows.items _ c.requires.parsing c.requires.next found.0 found.1 made.row in
+    rw c.further-in-Some-complete_token.ensures (moved, omega arith, omega (arith, made.one))

@@ -1,5 +1,5 @@
 use Rattle.rust_tree.proofs.Viewing.{constant-by}
-use Rattle.rust_tree.proofs.view.see_constant.Goals as goal
+use Rattle.rust_tree.proofs.view.view_of_constant.Goals as goal
 
 pub returns-in-Integer-clause-seen : goal.returns-in-Integer-clause-seen
 returns-in-Integer-clause-seen c s text all bare h = constant-by s text all bare _ c.args.constant _ c.in-Integer.is (rw c.one_if.ensures at c.view_of.ensures) h

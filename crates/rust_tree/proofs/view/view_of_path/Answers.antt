@@ -1,5 +1,5 @@
 use Rattle.rust_tree.proofs.Viewing.{path-by, production-by}
-use Rattle.rust_tree.proofs.view.see_path.Goals as goal
+use Rattle.rust_tree.proofs.view.view_of_path.Goals as goal
 
 pub returns-in-Crate-clause-seen : goal.returns-in-Crate-clause-seen
 returns-in-Crate-clause-seen c s text all bare h = path-by s text all bare _ c.args.path _ c.in-Crate.is (production-by c.view_of.ensures c.by_name-by.ensures) h

@@ -1,6 +1,6 @@
 use Rattle.std.proofs.Common.{sym}
 use Rattle.rust_tree.proofs.Showing.{text-changed, if-true, if-false}
-use Rattle.rust_tree.proofs.symbol.Symbol.push_less.Goals as goal
+use Rattle.rust_tree.proofs.symbol.Symbol.push_open_angle.Goals as goal
 
 pub returns-then-value-clause-shows : goal.returns-then-value-clause-shows
 returns-then-value-clause-shows g c below so_far shows =

@@ -1,7 +1,7 @@
 -- The parse fits the bytes where it has come to, and each step has made at most one row.
 use Rattle.std.proofs.Common.{◌+◌, ◌-◌, ◌*◌, ◌≤◌, length}
 use Rattle.sym_shape.specs.Reader.{IsParse, to_do}
-use Rattle.sym_shape.proofs.parse.Parse.hurry.Given as goal
+use Rattle.sym_shape.proofs.parse.Parse.run_batch.Given as goal
 
 abbrev pub invariant-moves : goal.invariant-moves
 invariant-moves g l = record {

@@ -1,5 +1,5 @@
 use Rattle.rust_tree.proofs.Viewing.{bindings-by, production-by}
-use Rattle.rust_tree.proofs.view.see_bindings.Goals as goal
+use Rattle.rust_tree.proofs.view.view_of_bindings.Goals as goal
 
 pub returns-in-None-clause-seen : goal.returns-in-None-clause-seen
 returns-in-None-clause-seen c s text all bare h = bindings-by s text all bare _ c.args.bindings _ c.in-None.is c.leaf.ensures h

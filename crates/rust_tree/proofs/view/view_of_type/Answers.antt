@@ -1,5 +1,5 @@
 use Rattle.rust_tree.proofs.Viewing.{type-by, type-is}
-use Rattle.rust_tree.proofs.view.see_type.Goals as goal
+use Rattle.rust_tree.proofs.view.view_of_type.Goals as goal
 
 pub returns-in-Basic-clause-seen : goal.returns-in-Basic-clause-seen
 returns-in-Basic-clause-seen c s text all bare h = type-by s text all bare _ c.args.ty _ c.in-Basic.is c.leaf.ensures h
@@ -29,4 +29,4 @@ pub returns-in-Dyn-clause-seen : goal.returns-in-Dyn-clause-seen
 returns-in-Dyn-clause-seen c s text all bare h = type-by s text all bare _ c.args.ty _ c.in-Dyn.is c.view_of.ensures h
 
 pub returns-in-Function-clause-seen : goal.returns-in-Function-clause-seen
-returns-in-Function-clause-seen c s text all bare h = type-is s text all _ c.args.ty _ c.in-Function.is (c.see_function.ensures.seen s text all bare) h
+returns-in-Function-clause-seen c s text all bare h = type-is s text all _ c.args.ty _ c.in-Function.is (c.view_of_function.ensures.seen s text all bare) h

@@ -1,5 +1,0 @@
-use Rattle.rust_tree.proofs.Viewing.{seen-at}
-use Rattle.rust_tree.proofs.symbol.Symbol.see_at.Goals as goal
-
-pub returns-clause-seen : goal.returns-clause-seen
-returns-clause-seen c = seen-at c.args.self.now c.args.node c.stored.result c.see.result c.stored.ensures.bare c.stored.ensures.tree c.stored.ensures.parts c.see.ensures.seen
