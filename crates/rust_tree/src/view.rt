@@ -154,7 +154,13 @@ fn view_of_arguments(arguments: Arguments) -> NodeView
     }
 }
 
-fn view_of_function(binder: u16, is_unsafe: bool, abi: Abi, parameters: u32, returned: u32) -> NodeView
+fn view_of_function(
+    binder: u16,
+    is_unsafe: bool,
+    abi: Abi,
+    parameters: u32,
+    returned: u32,
+) -> NodeView
     ensures seen { (s text : List ℕ) (all : List Tree) → HasNoPathType all → HasTypeParts s text all (Ty.Function binder is_unsafe abi parameters returned)
         → IsSeen s all result (fields_of (of_type (type_of s all (Ty.Function binder is_unsafe abi parameters returned)))) }
     ensures letter { IsLettered result.node }

@@ -15,7 +15,7 @@ ghost use Rattle.rust_v0.specs.Tokens as tokens;
 ghost use Rattle.rust_v0.specs.CodeSemantics as semantics;
 
 use crate::nodes::{BoundLifetimes, RustNodes};
-use crate::part::{Part, NO_SUCH_PARTS, part_of};
+use crate::part::{NO_SUCH_PARTS, Part, part_of};
 use crate::production::{Production, numbered};
 use crate::semantics::{Site, crate_root, makes_part, nested, part_by};
 use crate::tokens::{TokenSort, sort_of};

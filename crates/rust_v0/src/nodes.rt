@@ -19,7 +19,7 @@ ghost use Rattle.sym_core.specs.Number.{FitsSymbol};
 ghost use Rattle.rust_tree.specs.Nodes.{trees};
 
 use crate::operands::number;
-use crate::part::{Added, Part, NO_SUCH_PARTS};
+use crate::part::{Added, NO_SUCH_PARTS, Part};
 use crate::production::Production;
 use crate::semantics::{
     Site, array, binding, bool_constant, char_constant, const_pointer, constant_argument,

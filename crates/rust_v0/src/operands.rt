@@ -3,7 +3,7 @@
 ghost use Rattle.std.specs.Prelude.{◌≡◌, MatchResult, Ok, Err};
 ghost use Rattle.rust_v0.specs.CodeOperands as operands;
 
-use crate::part::{Integer, Part, NO_SUCH_PARTS};
+use crate::part::{Integer, NO_SUCH_PARTS, Part};
 use rust_tree::node::{Abi, Name};
 use sym_core::{Refusal, Span};
 

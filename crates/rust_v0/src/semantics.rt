@@ -7,9 +7,11 @@ ghost use Rattle.rust_v0.specs.CodeSemantics.{of_part, of_node};
 ghost use Rattle.rust_v0.specs.Unfold.{is_scalar as scalar};
 
 use crate::operands::{self, EMPTY_BOUNDS};
-use crate::part::{Integer, Part, NO_SUCH_PARTS};
+use crate::part::{Integer, NO_SUCH_PARTS, Part};
 use crate::production::Production;
-use rust_tree::node::{Abi, Arguments, Bindings, Bounds, Constant, MOST_BOUND, Node, Path, Ty, Types, Whole};
+use rust_tree::node::{
+    Abi, Arguments, Bindings, Bounds, Constant, MOST_BOUND, Node, Path, Ty, Types, Whole,
+};
 use sym_core::{Refusal, Span};
 
 /// Where a rule stands: its place, the byte there, the symbol's length, and how many lifetimes are bound around it.

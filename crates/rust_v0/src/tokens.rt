@@ -17,7 +17,7 @@ ghost use Rattle.rust_v0.specs.PartValues.{IsNumber, IsPart};
 ghost use Rattle.rust_v0.specs.Made.{ground};
 
 use crate::nodes::RustNodes;
-use crate::part::{Integer, Part, NO_SUCH_PARTS};
+use crate::part::{Integer, NO_SUCH_PARTS, Part};
 use crate::production::{Production, numbered};
 use rust_tree::node::Name;
 use sym_core::{

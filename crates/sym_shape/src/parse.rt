@@ -141,7 +141,12 @@ fn push_token(rows: &mut Vec<Row>, place: TokenPlace) -> Result<(), Refusal>
 }
 
 /// Puts the row of a rule whose only symbol is a token, and the token's, behind the others.
-fn push_rule_with_token(rows: &mut Vec<Row>, rule: &Rule, at: usize, place: TokenPlace) -> Result<(), Refusal>
+fn push_rule_with_token(
+    rows: &mut Vec<Row>,
+    rule: &Rule,
+    at: usize,
+    place: TokenPlace,
+) -> Result<(), Refusal>
     requires few { length rows.old.items + 2 < 2 ^ 32 }
     requires at { at < 2 ^ 32 }
     requires own { place.from < 2 ^ 32 }
@@ -289,7 +294,12 @@ impl Parse {
     }
 
     /// Moves that need no more bytes and that nothing refuses but memory, one after another, with the state at hand.
-    fn run_batch<G: Grammar>(&mut self, grammar: &G, bytes: &[u8], ended: bool) -> Result<(), Refusal>
+    fn run_batch<G: Grammar>(
+        &mut self,
+        grammar: &G,
+        bytes: &[u8],
+        ended: bool,
+    ) -> Result<(), Refusal>
         requires fits { FitsSymbol bytes.now }
         requires parsing { IsParsing G.listed G.table ended bytes.now self.old }
         ensures { IsBatch G.listed G.table ended bytes.now self.old self.new result }
@@ -322,7 +332,12 @@ impl Parse {
 
     /// Ends the row of a rule all of whose symbols are read, unless it is the lowest.
     #[inline(always)]
-    fn leave_rule<G: Grammar>(&mut self, come: Progress, bytes: &[u8], ended: bool) -> Option<Progress>
+    fn leave_rule<G: Grammar>(
+        &mut self,
+        come: Progress,
+        bytes: &[u8],
+        ended: bool,
+    ) -> Option<Progress>
         requires parsing { IsParse G.table ended bytes.now come.steps come.at (to_do G.listed self.old) self.old.rows.items }
         requires fits { FitsSymbol bytes.now }
         requires bare { G.listed self.old.top.place ≡ [] }
