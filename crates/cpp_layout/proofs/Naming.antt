@@ -16,7 +16,7 @@ use Rattle.cpp_tree.specs.declared.node.Node.{Node}
 use Rattle.cpp_tree.specs.declared.node.Thunk.{Thunk}
 use Rattle.cpp_tree.specs.Nodes.{tree_of, piece_of}
 use Rattle.cpp_layout.specs.Texts.{fixed_text}
-use Rattle.cpp_layout.specs.Layout.{is_encoding}
+use Rattle.cpp_layout.specs.Layout.{is_encoding, IsNoSource}
 
 pub begins : (xs ys : List ℕ) → begins_with xs ys ≡ starts_with nat_eq ys xs
 unfolding begins_with
@@ -79,6 +79,14 @@ unnamed-whole c number = refl
 pub literal-whole : (c : items.Context) (name : List ℕ) → text (fixed_text 30) ∷ text name ∷ [] ≡ piece_parts c (term.literal_operator name)
 unfolding piece_parts
 literal-whole c name = refl
+
+pub no-source : (p : Piece) → IsNoSource p → (i : Bool) (b : Span) → p ≡ Piece.Source i b → ⊥
+no-source (Piece.Source i b) h j a is = h
+no-source _ h j a is = cc is
+
+pub other-source : (p : Piece) → ((i : Bool) (b : Span) → p ≡ Piece.Source i b → ⊥) → IsNoSource p
+other-source (Piece.Source i b) other = other i b refl
+other-source _ other = tt
 
 pub piece-none : (s : List ℕ) (ts : List Term) (c : items.Context) (p : Piece) → ((i : Bool) (b : Span) → p ≡ Piece.Source i b → ⊥) → ((a b : ℕ) → p ≡ Piece.Operator a b → ⊥) → ((b : Span) → p ≡ Piece.LiteralOperator b → ⊥)
     → ((a n : ℕ) → p ≡ Piece.Lambda a n → ⊥) → ((n : ℕ) → p ≡ Piece.Unnamed n → ⊥) → (p ≡ Piece.StringLiteral → ⊥) → [] ≡ piece_parts c (piece_of s ts p)

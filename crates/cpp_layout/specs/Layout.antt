@@ -20,6 +20,7 @@ use Rattle.cpp_term.specs.Parts.{not_empty, text_part, says, parts}
 use Rattle.cpp_term.specs.Ranks.{rank}
 use Rattle.cpp_term.specs.Erased.{erase, CarriesArguments}
 use Rattle.cpp_tree.specs.declared.node.Node.{Node}
+use Rattle.cpp_tree.specs.declared.node.Piece.{Piece}
 use Rattle.cpp_layout.specs.declared.context.Context.{Context}
 use Rattle.cpp_tree.specs.Nodes.{Stored, Table, over, trees, tree_at, bytes_at, IsWithin, IsTable}
 use Rattle.cpp_layout.specs.Texts.{fixed_text}
@@ -122,6 +123,11 @@ qualifiers_behind false false q = text_part (qualifier_text q)
 abbrev pub clone_suffix : List ℕ → List (PartOf items.Item)
 clone_suffix [] = []
 clone_suffix (b ∷ bs) = says " (" ∷ text (b ∷ bs) ∷ says ")" ∷ []
+
+-- a piece that is no source name
+abbrev pub IsNoSource : Piece → Type 0
+IsNoSource (Piece.Source internal bytes) = ⊥
+IsNoSource _ = Unit {0}
 
 -- the node is no name
 abbrev pub IsNoName : Node → Type 0

@@ -120,6 +120,7 @@ impl Symbol {
     }
 
     /// The left parts of a node.
+    #[inline(always)]
     pub(crate) fn fill_left<S: PartList<Context>>(&self, parts: &mut S, node: u32, ctx: Context)
         requires table { IsTable (table_of self.now) }
         requires node { node < length self.now.table.nodes }
@@ -145,6 +146,17 @@ impl Symbol {
         }
     }
 
+    /// The left parts of a node in a form in which it has no others.
+    fn fill_as_left<S: PartList<Context>>(&self, parts: &mut S, node: u32, ctx: Context)
+        requires table { IsTable (table_of self.now) }
+        requires node { node < length self.now.table.nodes }
+        requires room { 8 ≤ S.room parts.old }
+        ensures shows { Shows self.now ctx.detail (S.held parts.old) (S.held parts.new) (left_parts ctx.detail (context_of ctx) (tree_at (trees (table_of self.now)) node)) }
+        ensures few { S.room parts.old ≤ S.room parts.new + 8 }
+    {
+        self.fill_left(parts, node, ctx);
+    }
+
     /// The left parts of a node under a reference to it: a reference is shown as one to an lvalue.
     pub(crate) fn fill_low<S: PartList<Context>>(&self, parts: &mut S, node: u32, ctx: Context)
         requires table { IsTable (table_of self.now) }
@@ -160,7 +172,7 @@ impl Symbol {
             Node::Parameter { argument, .. } => {
                 self.fill_parameter(parts, argument, form::LOW, ctx);
             }
-            _ => self.fill_left(parts, node, ctx),
+            _ => self.fill_as_left(parts, node, ctx),
         }
     }
 
@@ -182,7 +194,7 @@ impl Symbol {
             Node::Parameter { argument, .. } => {
                 self.fill_parameter(parts, argument, form::BASE, ctx);
             }
-            _ => self.fill_left(parts, node, ctx),
+            _ => self.fill_as_left(parts, node, ctx),
         }
     }
 }

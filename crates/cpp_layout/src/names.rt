@@ -12,7 +12,7 @@ ghost use Rattle.cpp_term.specs.Items as items;
 ghost use Rattle.cpp_term.specs.Parts.{as_item, piece_parts, prefix_item, within_parts, base_within, opening_text, last_piece, instance_parts};
 ghost use Rattle.cpp_tree.specs.Nodes.{tree_at, trees, piece_of, bytes_at, IsTable, IsWithin, IsPieceBelow};
 ghost use Rattle.cpp_layout.specs.Texts.{fixed_text};
-ghost use Rattle.cpp_layout.specs.Layout.{table_of, own_piece, context_of, Shows, IsOwn, is_encoding};
+ghost use Rattle.cpp_layout.specs.Layout.{table_of, own_piece, context_of, Shows, IsOwn, IsNoSource, is_encoding};
 
 use crate::codes::{is_angle_code, operator};
 use crate::context::Context;
@@ -154,7 +154,29 @@ impl Symbol {
         self.push_text(parts, texts::LITERAL);
     }
 
+    /// The parts of a piece that is no source name.
+    fn fill_rare_piece<S: PartList<Context>>(&self, parts: &mut S, piece: Piece, ctx: Context)
+        requires table { IsTable (table_of self.now) }
+        requires piece { IsPieceBelow self.now.bytes (length self.now.table.nodes) piece }
+        requires kind { IsNoSource piece }
+        requires room { 8 ≤ S.room parts.old }
+        ensures shows { Shows self.now ctx.detail (S.held parts.old) (S.held parts.new) (piece_parts (context_of ctx) (piece_of self.now.bytes (trees (table_of self.now)) piece)) }
+        ensures few { S.room parts.old ≤ S.room parts.new + 8 }
+    {
+        match piece {
+            Piece::Operator(first, second) => self.push_some(parts, operator(first, second)),
+            Piece::LiteralOperator(name) => self.fill_literal_operator(parts, name, ctx),
+            Piece::Lambda { parameters, number } => {
+                self.fill_lambda(parts, parameters, number, ctx);
+            }
+            Piece::Unnamed(number) => self.fill_unnamed(parts, number, ctx),
+            Piece::StringLiteral => self.push_text(parts, texts::STRING),
+            _ => {}
+        }
+    }
+
     /// The parts of a piece of a name.
+    #[inline(always)]
     pub(crate) fn fill_piece<S: PartList<Context>>(&self, parts: &mut S, piece: Piece, ctx: Context)
         requires table { IsTable (table_of self.now) }
         requires piece { IsPieceBelow self.now.bytes (length self.now.table.nodes) piece }
@@ -164,14 +186,7 @@ impl Symbol {
     {
         match piece {
             Piece::Source { bytes, .. } => self.push_name(parts, bytes),
-            Piece::Operator(first, second) => self.push_some(parts, operator(first, second)),
-            Piece::LiteralOperator(name) => self.fill_literal_operator(parts, name, ctx),
-            Piece::Lambda { parameters, number } => {
-                self.fill_lambda(parts, parameters, number, ctx);
-            }
-            Piece::Unnamed(number) => self.fill_unnamed(parts, number, ctx),
-            Piece::StringLiteral => self.push_text(parts, texts::STRING),
-            _ => {}
+            _ => self.fill_rare_piece(parts, piece, ctx),
         }
     }
 
