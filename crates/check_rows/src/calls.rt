@@ -4,12 +4,12 @@ ghost use Rattle.std.specs.Prelude.{◌≡◌, true, IfOk, IfSome};
 ghost use Rattle.sym_core.specs.Number.{FitsSymbol};
 
 use crate::answer::says;
-use rust_v0::{
-    Detail, Linker, Reader, Symbol, V0, Workspace, demangle, demangle_as, read, read_fed,
-};
+use crate::mangling::Calls;
 use std::alloc::Global;
 use sym_core::{Counts, Refusal, fits};
+use sym_demangle::{Linker, Workspace};
 use sym_filter::{Demangled, Demangler, Kind};
+use sym_print::Detail;
 
 /// What stands in a list before a call appends to it.
 const BEFORE: &[u8] = b"> ";
@@ -69,72 +69,31 @@ pub fn by_demangler<D: Demangler>(
     answered(alloc, answer, s.len(), &out)
 }
 
-/// Feeds a reader a piece, and reads what is there step by step, each of which is counted.
-fn feed(reader: &mut Reader<V0>, piece: &[u8]) -> Result<bool, Refusal> {
-    if reader.ended() || reader.len() > 1_000_000 || piece.len() > 1_000_000 {
-        return Ok(false);
-    }
-    reader.feed(piece)?;
-    for _ in 0..u32::MAX {
-        let before = reader.steps();
-        match reader.step(&V0) {
-            Ok(true) => return Ok(true),
-            Ok(false) => {
-                if reader.steps() <= before {
-                    return Ok(false);
-                }
-            }
-            Err(refusal) => {
-                if reader.step(&V0) != Err(refusal) {
-                    return Ok(false);
-                }
-                return Err(refusal);
-            }
-        }
-    }
-    Ok(false)
-}
-
-/// Feeds a reader pieces, and then its end.
-fn feed_all(reader: &mut Reader<V0>, pieces: &[&[u8]]) -> Result<bool, Refusal> {
-    for piece in pieces {
-        if !piece.is_empty() && !feed(reader, piece)? {
-            return Ok(false);
-        }
-    }
-    feed(reader, b"")
-}
-
 /// A symbol that is fed in pieces.
-fn in_pieces(
+fn in_pieces<M: Calls>(
     alloc: Global,
     pieces: &[&[u8]],
     limit: u32,
     detail: Detail,
 ) -> Result<Vec<u8>, Refusal> {
-    let mut reader = Reader::new(alloc, &V0)?;
-    if !feed_all(&mut reader, pieces)? {
-        return broken(alloc, b"(a reader stepped otherwise)");
+    match M::read_fed(alloc, pieces)? {
+        Some(symbol) => M::text_as(&symbol, limit, detail),
+        None => broken(alloc, b"(a reader stepped otherwise)"),
     }
-    if !reader.ended() {
-        return broken(alloc, b"(a reader has no end)");
-    }
-    let symbol = read_fed(alloc, reader)?;
-    symbol.text_as(limit, detail)
 }
 
 /// A linker of a symbol.
-fn linker_of(alloc: Global, s: &[u8]) -> Result<Linker, Refusal>
+fn linker_of<M: Calls>(alloc: Global, s: &[u8]) -> Result<Linker<M>, Refusal>
     requires { FitsSymbol s.now }
 {
-    let shape = sym_shape::read(alloc, &V0, s)?;
+    let shape = sym_shape::read(alloc, &M::grammar(), s)?;
     let bytes = Vec::from_slice(alloc, s)?;
-    Linker::new(alloc, bytes, shape)
+    Linker::<M>::new(alloc, bytes, shape)
 }
 
 /// One step of a linker that took so many: whether nothing is left to do, or none where it isn't counted, or answers otherwise
 /// when it is asked again.
-fn step(linker: &mut Linker, taken: u32) -> Result<Option<bool>, Refusal>
+fn step<M: Calls>(linker: &mut Linker<M>, taken: u32) -> Result<Option<bool>, Refusal>
     ensures { IfOk result (λ step. IfSome step (λ done. done ≡ true → linker.new.done ≡ true)) }
 {
     if linker.steps() != taken {
@@ -160,7 +119,7 @@ fn step(linker: &mut Linker, taken: u32) -> Result<Option<bool>, Refusal>
 }
 
 /// Steps until nothing is left to do; false where a step isn't as it has to be.
-fn step_all(linker: &mut Linker) -> Result<bool, Refusal>
+fn step_all<M: Calls>(linker: &mut Linker<M>) -> Result<bool, Refusal>
     ensures { IfOk result (λ done. done ≡ true → linker.new.done ≡ true) }
 {
     for taken in 0..u32::MAX {
@@ -174,42 +133,69 @@ fn step_all(linker: &mut Linker) -> Result<bool, Refusal>
 }
 
 /// A symbol that is linked step by step, each of which is counted.
-fn step_by_step(alloc: Global, s: &[u8], limit: u32, detail: Detail) -> Result<Vec<u8>, Refusal>
+fn step_by_step<M: Calls>(
+    alloc: Global,
+    s: &[u8],
+    limit: u32,
+    detail: Detail,
+) -> Result<Vec<u8>, Refusal>
     requires { FitsSymbol s.now }
 {
-    let mut linker = linker_of(alloc, s)?;
+    let mut linker = linker_of::<M>(alloc, s)?;
     if !step_all(&mut linker)? {
         return broken(alloc, b"(a linker stepped otherwise)");
     }
-    let symbol: Symbol = linker.finish();
-    symbol.text_as(limit, detail)
+    let symbol = linker.finish();
+    M::text_as(&symbol, limit, detail)
 }
 
 /// A symbol that is read whole, and printed.
-fn read_and_printed(alloc: Global, s: &[u8], limit: u32, detail: Detail) -> Result<Vec<u8>, Refusal>
+fn read_and_printed<M: Calls>(
+    alloc: Global,
+    s: &[u8],
+    limit: u32,
+    detail: Detail,
+) -> Result<Vec<u8>, Refusal>
     requires { FitsSymbol s.now }
 {
-    let symbol = read(alloc, s)?;
-    if !are_few(symbol.counts(), s.len()) {
+    let symbol = M::read(alloc, s)?;
+    if !are_few(M::counts(&symbol), s.len()) {
         return broken(alloc, b"(the counts are too great)");
     }
-    symbol.text_as(limit, detail)
+    M::text_as(&symbol, limit, detail)
+}
+
+/// A symbol that is read whole, and printed in full.
+fn read_and_printed_in_full<M: Calls>(
+    alloc: Global,
+    s: &[u8],
+    limit: u32,
+) -> Result<Vec<u8>, Refusal>
+    requires { FitsSymbol s.now }
+{
+    let symbol = M::read(alloc, s)?;
+    M::text(&symbol, limit)
 }
 
 /// A symbol that is linked at once.
-fn linked_at_once(alloc: Global, s: &[u8], limit: u32, detail: Detail) -> Result<Vec<u8>, Refusal>
+fn linked_at_once<M: Calls>(
+    alloc: Global,
+    s: &[u8],
+    limit: u32,
+    detail: Detail,
+) -> Result<Vec<u8>, Refusal>
     requires { FitsSymbol s.now }
 {
-    let mut linker = linker_of(alloc, s)?;
+    let mut linker = linker_of::<M>(alloc, s)?;
     linker.run()?;
-    let symbol: Symbol = linker.finish();
-    symbol.text_as(limit, detail)
+    let symbol = linker.finish();
+    M::text_as(&symbol, limit, detail)
 }
 
 /// The text that a workspace, which has read ahead, appends to a list.
-fn kept(
+fn kept<M: Calls>(
     alloc: Global,
-    workspace: &mut Workspace,
+    workspace: &mut Workspace<M>,
     s: &[u8],
     limit: u32,
     detail: Detail,
@@ -231,10 +217,10 @@ fn kept(
     }
 }
 
-/// Whether each call answers this for a symbol of Rust.
-pub fn rust_calls_say(
+/// Whether each call answers this for a symbol.
+pub fn calls_say<M: Calls>(
     alloc: Global,
-    workspace: &mut Workspace,
+    workspace: &mut Workspace<M>,
     s: &[u8],
     limit: u32,
     detail: Detail,
@@ -242,25 +228,29 @@ pub fn rust_calls_say(
 ) -> Result<bool, Refusal>
     requires { FitsSymbol s.now }
 {
-    let at_once = demangle_as(alloc, s, limit, detail);
+    let at_once = M::demangle_as(alloc, s, limit, detail);
     if !says(alloc, &at_once, wanted)? {
         return Ok(false);
     }
     if detail == Detail::Full {
-        let in_full = demangle(alloc, s, limit);
+        let in_full = M::demangle(alloc, s, limit);
         if !says(alloc, &in_full, wanted)? {
             return Ok(false);
         }
+        let printed = read_and_printed_in_full::<M>(alloc, s, limit);
+        if !says(alloc, &printed, wanted)? {
+            return Ok(false);
+        }
     }
-    let printed = read_and_printed(alloc, s, limit, detail);
+    let printed = read_and_printed::<M>(alloc, s, limit, detail);
     if !says(alloc, &printed, wanted)? {
         return Ok(false);
     }
-    let linked = linked_at_once(alloc, s, limit, detail);
+    let linked = linked_at_once::<M>(alloc, s, limit, detail);
     if !says(alloc, &linked, wanted)? {
         return Ok(false);
     }
-    let stepped = step_by_step(alloc, s, limit, detail);
+    let stepped = step_by_step::<M>(alloc, s, limit, detail);
     if !says(alloc, &stepped, wanted)? {
         return Ok(false);
     }
@@ -269,12 +259,12 @@ pub fn rust_calls_say(
         return Ok(false);
     }
     let bytes: Vec<&[u8]> = s.chunks(1).collect(alloc)?;
-    let byte_by_byte = in_pieces(alloc, &bytes, limit, detail);
+    let byte_by_byte = in_pieces::<M>(alloc, &bytes, limit, detail);
     says(alloc, &byte_by_byte, wanted)
 }
 
-/// Whether a symbol of Rust that is cut at each place in turn has this answer.
-pub fn rust_pieces_say(
+/// Whether a symbol that is cut at each place in turn has this answer.
+pub fn pieces_say<M: Calls>(
     alloc: Global,
     s: &[u8],
     limit: u32,
@@ -282,7 +272,7 @@ pub fn rust_pieces_say(
     wanted: &[u8],
 ) -> Result<bool, Refusal> {
     for cut in 0..s.len() {
-        let answer = in_pieces(alloc, &[&s[..cut], &s[cut..]], limit, detail);
+        let answer = in_pieces::<M>(alloc, &[&s[..cut], &s[cut..]], limit, detail);
         if !says(alloc, &answer, wanted)? {
             return Ok(false);
         }

@@ -5,6 +5,8 @@
 mod answer;
 mod calls;
 mod changes;
+mod feeding;
+mod mangling;
 mod rows;
 
 use rows::holds;

@@ -1,9 +1,10 @@
 // Rows: a word that says what a row is of, and fields behind it, with tabs between.
 
 use crate::answer::says;
-use crate::calls::{by_demangler, rust_calls_say, rust_pieces_say};
+use crate::calls::{by_demangler, calls_say, pieces_say};
 use crate::changes::{self, Change};
-use rust_v0::Detail;
+use itanium::Abi;
+use rust_v0::{Detail, V0};
 use std::alloc::Global;
 use std::str;
 use sym_core::{Refusal, fits};
@@ -52,8 +53,8 @@ fn is_answered(
         return Ok(false);
     }
     match kind.lang {
-        Lang::Cpp => Ok(true),
-        Lang::Rust => rust_calls_say(alloc, &mut lists.rust, s, limit, detail, wanted),
+        Lang::Cpp => calls_say(alloc, &mut lists.cpp, s, limit, detail, wanted),
+        Lang::Rust => calls_say(alloc, &mut lists.rust, s, limit, detail, wanted),
     }
 }
 
@@ -67,8 +68,8 @@ fn is_answered_in_pieces(
     wanted: &[u8],
 ) -> Result<bool, Refusal> {
     match kind.lang {
-        Lang::Cpp => Ok(true),
-        Lang::Rust => rust_pieces_say(alloc, s, limit, detail, wanted),
+        Lang::Cpp => pieces_say::<Abi>(alloc, s, limit, detail, wanted),
+        Lang::Rust => pieces_say::<V0>(alloc, s, limit, detail, wanted),
     }
 }
 

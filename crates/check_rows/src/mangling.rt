@@ -1,0 +1,109 @@
+// The calls of a mangling's crate, by names that both crates' calls have.
+
+ghost use Rattle.std.specs.Prelude.{◌≡◌, true, IfOk, IfSome};
+ghost use Rattle.sym_core.specs.Number.{FitsSymbol};
+
+use crate::feeding::fed;
+use itanium::Abi;
+use rust_v0::V0;
+use std::alloc::Global;
+use sym_core::{Counts, Refusal};
+use sym_demangle::Mangling;
+use sym_print::Detail;
+
+/// A mangling with its crate's calls.
+pub trait Calls: Mangling {
+    fn demangle(alloc: Global, s: &[u8], limit: u32) -> Result<Vec<u8>, Refusal>
+        requires { FitsSymbol s.now };
+
+    fn demangle_as(alloc: Global, s: &[u8], limit: u32, detail: Detail) -> Result<Vec<u8>, Refusal>
+        requires { FitsSymbol s.now };
+
+    fn read(alloc: Global, s: &[u8]) -> Result<Self::Symbol, Refusal>
+        requires { FitsSymbol s.now };
+
+    /// The symbol that a reader was fed in pieces, or none where the reader stepped otherwise than it has to.
+    fn read_fed(alloc: Global, pieces: &[&[u8]]) -> Result<Option<Self::Symbol>, Refusal>;
+
+    fn text(symbol: &Self::Symbol, limit: u32) -> Result<Vec<u8>, Refusal>;
+
+    fn text_as(symbol: &Self::Symbol, limit: u32, detail: Detail) -> Result<Vec<u8>, Refusal>;
+
+    fn counts(symbol: &Self::Symbol) -> Counts;
+}
+
+impl Calls for V0 {
+    fn demangle(alloc: Global, s: &[u8], limit: u32) -> Result<Vec<u8>, Refusal> {
+        rust_v0::demangle(alloc, s, limit)
+    }
+
+    fn demangle_as(
+        alloc: Global,
+        s: &[u8],
+        limit: u32,
+        detail: Detail,
+    ) -> Result<Vec<u8>, Refusal> {
+        rust_v0::demangle_as(alloc, s, limit, detail)
+    }
+
+    fn read(alloc: Global, s: &[u8]) -> Result<rust_v0::Symbol, Refusal> {
+        rust_v0::read(alloc, s)
+    }
+
+    fn read_fed(alloc: Global, pieces: &[&[u8]]) -> Result<Option<rust_v0::Symbol>, Refusal> {
+        match fed(alloc, &V0, pieces)? {
+            Some(reader) => Ok(Some(rust_v0::read_fed(alloc, reader)?)),
+            None => Ok(None),
+        }
+    }
+
+    fn text(symbol: &rust_v0::Symbol, limit: u32) -> Result<Vec<u8>, Refusal> {
+        symbol.text(limit)
+    }
+
+    fn text_as(symbol: &rust_v0::Symbol, limit: u32, detail: Detail) -> Result<Vec<u8>, Refusal> {
+        symbol.text_as(limit, detail)
+    }
+
+    fn counts(symbol: &rust_v0::Symbol) -> Counts {
+        symbol.counts()
+    }
+}
+
+impl Calls for Abi {
+    fn demangle(alloc: Global, s: &[u8], limit: u32) -> Result<Vec<u8>, Refusal> {
+        itanium::demangle(alloc, s, limit)
+    }
+
+    fn demangle_as(
+        alloc: Global,
+        s: &[u8],
+        limit: u32,
+        detail: Detail,
+    ) -> Result<Vec<u8>, Refusal> {
+        itanium::demangle_as(alloc, s, limit, detail)
+    }
+
+    fn read(alloc: Global, s: &[u8]) -> Result<itanium::Symbol, Refusal> {
+        itanium::read(alloc, s)
+    }
+
+    fn read_fed(alloc: Global, pieces: &[&[u8]]) -> Result<Option<itanium::Symbol>, Refusal> {
+        match fed(alloc, &Abi, pieces)? {
+            Some(reader) => Ok(Some(itanium::read_fed(alloc, reader)?)),
+            None => Ok(None),
+        }
+    }
+
+    fn text(symbol: &itanium::Symbol, limit: u32) -> Result<Vec<u8>, Refusal> {
+        symbol.text(limit)
+    }
+
+    fn text_as(symbol: &itanium::Symbol, limit: u32, detail: Detail) -> Result<Vec<u8>, Refusal> {
+        symbol.text_as(limit, detail)
+    }
+
+    fn counts(symbol: &itanium::Symbol) -> Counts {
+        symbol.counts()
+    }
+}
