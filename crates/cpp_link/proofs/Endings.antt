@@ -25,7 +25,8 @@ use Rattle.cpp_term.specs.Unfolding.{number_tested, opening}
 use Rattle.cpp_term.specs.Values.{State, Around}
 use Rattle.cpp_link.specs.declared.part.Kept.{Kept}
 use Rattle.cpp_link.specs.declared.linked.Linked.{Linked}
-use Rattle.cpp_link.specs.Parts.{around_of}
+use Rattle.cpp_term.specs.Term.{Term}
+use Rattle.cpp_link.specs.Parts.{packs_of, around_of, IsKeptThere}
 use Rattle.cpp_link.specs.Numbered.{is_numbered}
 use Rattle.cpp_link.specs.View.{Surrounds, IsKept, Holds}
 
@@ -189,10 +190,10 @@ module _ (s : List ℕ) (rows : List Row) (row : Row) (rule : Rule) (taken : Lis
 
 -- ## What is kept
 
-pub begins_kept : (s : List ℕ) (l : Linked) (context : Kept) (around : Around) (state : State) (rule : Rule) (taken : List ℕ) (place : ℕ) → Surrounds s l context around → Holds s l state
-    → IsKept s l (record context { packs = l.packs }) (standing rule taken place around state)
-unfolding around_of
-begins_kept s l context around state rule taken place surrounds holds = record {
-  surrounds = record { there = surrounds.there; is = surrounds.is };
-  packs = holds.packs;
+pub begins_kept : (s : List ℕ) (l : Linked) (context then : Kept) (around : Around) (state : State) (rule : Rule) (taken : List ℕ) (place : ℕ)
+    → ((ts : List Term) → around_of ts then ≡ around_of ts context) → ((n : ℕ) → IsKeptThere n context → IsKeptThere n then) → packs_of then ≡ l.packs
+    → Surrounds s l context around → Holds s l state → IsKept s l then (standing rule taken place around state)
+begins_kept s l context then around state rule taken place same there packs surrounds holds = record {
+  surrounds = record { there = there _ surrounds.there; is = same _ ∙ surrounds.is };
+  packs = packs ∙ holds.packs;
 }

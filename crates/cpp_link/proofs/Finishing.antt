@@ -17,7 +17,7 @@ use Rattle.cpp_link.specs.declared.linked.Linked.{Linked}
 use Rattle.cpp_link.specs.declared.part.Kept.{Kept}
 use Rattle.cpp_link.specs.declared.part.Part.{Part}
 use Rattle.cpp_link.specs.Making.{state_of}
-use Rattle.cpp_link.specs.Parts.{trees_in, value_in, values_in, around_of, IsThere}
+use Rattle.cpp_link.specs.Parts.{trees_in, value_in, values_in, packs_of, around_of, IsThere}
 use Rattle.cpp_link.specs.View.{IsWhole, cpp_view}
 use Rattle.cpp_link.proofs.Bytes.{byte_serves}
 use Rattle.cpp_link.proofs.Viewing.{parts_are}
@@ -50,7 +50,7 @@ given_is s old frame own given p rule known state is production same =
 -- a part was put that stands for what the rule closes to
 pub put_right : (s : List ℕ) (old new : Linked) (frame : Frame Kept) (own given lower new_parts : List Part) (p : Production) (made : Part) (done : Unit {0}) (rule : Open State Around) (known : List Value) (state : State)
     → IsAt (cpp_view s) s old frame own rule known state → p ≡ production_at frame.rule → given ≡ own
-    → ((began : State) → began.packs ≡ frame.kept.packs
+    → ((began : State) → began.packs ≡ packs_of frame.kept
     → close p (slice_index s frame.place) (around_of (trees_in s old.nodes) frame.kept) frame.place began (values_in s old.nodes given) (state_of s old) ≡ Ok (found (value_in s new.nodes made) (state_of s new)))
     → IsThere s (length new.nodes.nodes) made → IsWhole s new → new_parts ≡ lower ++ made ∷ []
     → Puts (cpp_view s) new lower new_parts (Ok done) (cpp.close rule known state)

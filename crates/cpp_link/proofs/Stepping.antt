@@ -17,10 +17,10 @@ use Rattle.cpp_link.specs.declared.part.Candidate.{Candidate}
 use Rattle.cpp_link.specs.Grows.{Grows}
 use Rattle.cpp_link.specs.Making.{state_of}
 use Rattle.cpp_link.specs.Owed.{made_before, sum_all, owes_of}
-use Rattle.cpp_link.specs.Parts.{trees_in, tree_of_node, value_of, values_of, values_in, prefix_of, around_of, candidates_of, AreThere, IsKeptThere, AreCandidatesThere}
+use Rattle.cpp_link.specs.Parts.{trees_in, tree_of_node, value_of, values_of, values_in, around_of, candidates_of, AreThere, IsKeptThere, AreCandidatesThere}
 use Rattle.cpp_link.specs.Reads.{behind_first, named_if, appended_if, with_candidate, goes_on}
-use Rattle.cpp_link.specs.Staying.{values_stay, around_stays, candidates_stay, kept_more}
-use Rattle.cpp_link.specs.Stepping.{IsStepOf, Takes, nodes_of_step, behind_if}
+use Rattle.cpp_link.specs.Staying.{values_stay, around_stays, candidates_stay}
+use Rattle.cpp_link.specs.Stepping.{IsStepOf, Takes, nodes_of_step}
 use Rattle.cpp_link.proofs.Making.{parts_more}
 
 -- ## Nodes that steps make
@@ -98,16 +98,6 @@ same_going : (vs ws : List Value) (a b : Around) (x y : State) → vs ≡ ws →
     → going vs a x ≡ going ws b y
 same_going vs ws a b x y values context state = rw (values, context, state) refl
 
-behind_there : (n : ℕ) (is_name : Bool) (kept : Kept) (node : ℕ) (listed : Bool) → IsKeptThere n kept → node < n → IsKeptThere n (behind_if is_name kept node listed)
-behind_there n false kept node listed there less = there
-behind_there n true kept node listed there less = (there.0, less)
-
-behind_is : (ts : List Term) (a : Around) (is_name : Bool) (kept : Kept) (node : ℕ) (t : Term) (listed : Bool) → around_of ts kept ≡ a → tree_at ts node ≡ t
-    → named_if is_name a t listed ≡ around_of ts (behind_if is_name kept node listed)
-unfolding named_if after around_of prefix_of
-behind_is ts a false kept node t listed same tree = sym same
-behind_is ts a true kept node t listed same tree = ap (λ x. after t listed x) (sym same) ∙ ap (λ u. after u listed (around_of ts kept)) (sym tree)
-
 -- ## Steps that are taken
 
 grown : (s : List ℕ) (y z : Stored) → IsTable (over s y) → z ≡ y → Grows s y z 0
@@ -132,39 +122,40 @@ takes_go s old new kept base parts candidate then packs table same candidates ar
 }
 
 -- the first part is a tree that is there, and stands before the next one
-pub takes_named : (s : List ℕ) (l : Linked) (kept : Kept) (base : ℕ) (parts new_parts : List Part) (node : ℕ) (listed : Bool)
+pub takes_named : (s : List ℕ) (l : Linked) (kept then : Kept) (base : ℕ) (parts new_parts : List Part) (node : ℕ) (listed : Bool)
     → IsTable (over s l.nodes) → AreCandidatesThere (length l.nodes.nodes) l.candidates.items
-    → IsKeptThere (length l.nodes.nodes) kept → AreThere s (length l.nodes.nodes) (drop base parts) → node < length l.nodes.nodes
+    → AreThere s (length l.nodes.nodes) (drop base parts) → node < length l.nodes.nodes
+    → around_of (trees_in s l.nodes) then ≡ after (tree_at (trees_in s l.nodes) node) listed (around_of (trees_in s l.nodes) kept) → IsKeptThere (length l.nodes.nodes) then
     → drop base new_parts ≡ Part.Tree node listed ∷ drop (base + 1) parts → take base new_parts ≡ take base parts → length new_parts ≡ length parts
-    → Takes s l l kept base parts new_parts (Step.Named node listed) (behind_if true kept node listed)
-unfolding goes_on named_if
-takes_named s l kept base parts new_parts node listed table candidates around there less own lower count = record {
+    → Takes s l l kept base parts new_parts (Step.Named node listed) then
+unfolding goes_on
+takes_named s l kept then base parts new_parts node listed table candidates there less around around_there own lower count = record {
   grows = grown s l.nodes l.nodes table refl;
   thunks = refl;
   candidates = candidates;
-  around = behind_there _ true kept node listed around less;
+  around = around_there;
   there = first_there s _ base parts new_parts node listed there less own;
   lower = lower;
   count = count;
-  is = same_going _ _ _ _ _ _ (first_values s (trees_in s l.nodes) base parts new_parts node listed own)
-      (behind_is (trees_in s l.nodes) _ true kept node _ listed refl refl) refl;
+  is = same_going _ _ _ _ _ _ (first_values s (trees_in s l.nodes) base parts new_parts node listed own) (sym around) refl;
 }
 
 -- the first part is the tree of a node that has been made
-pub takes_made : (s : List ℕ) (old new : Linked) (kept : Kept) (base : ℕ) (parts new_parts : List Part) (node : Node) (number : ℕ) (listed is_name is_candidate : Bool) (packs : Option ℕ)
+pub takes_made : (s : List ℕ) (old new : Linked) (kept then : Kept) (base : ℕ) (parts new_parts : List Part) (node : Node) (number : ℕ) (listed is_name is_candidate : Bool) (packs : Option ℕ)
     → Grows s old.nodes new.nodes 1 → new.nodes.thunks ≡ old.nodes.thunks → AreCandidatesThere (length new.nodes.nodes) new.candidates.items
     → IsKeptThere (length old.nodes.nodes) kept → AreThere s (length old.nodes.nodes) (drop base parts)
     → tree_at (trees_in s new.nodes) number ≡ tree_of_node s old.nodes node → number < length new.nodes.nodes
+    → around_of (trees_in s new.nodes) then ≡ named_if is_name (around_of (trees_in s new.nodes) kept) (tree_at (trees_in s new.nodes) number) listed → IsKeptThere (length new.nodes.nodes) then
     → drop base new_parts ≡ Part.Tree number listed ∷ drop (base + 1) parts → take base new_parts ≡ take base parts → length new_parts ≡ length parts
     → appended_if is_candidate (around_of (trees_in s old.nodes) kept) (tree_of_node s old.nodes node)
     (record { candidates = candidates_of (trees_in s old.nodes) old.candidates.items; packs = packs }) ≡ state_of s new
-    → Takes s old new kept base parts new_parts (Step.Made node listed is_name is_candidate packs) (behind_if is_name kept number listed)
+    → Takes s old new kept base parts new_parts (Step.Made node listed is_name is_candidate packs) then
 unfolding goes_on
-takes_made s old new kept base parts new_parts node number listed is_name is_candidate packs grows thunks candidates around there tree less own lower count state = record {
+takes_made s old new kept then base parts new_parts node number listed is_name is_candidate packs grows thunks candidates kept_there there tree less around around_there own lower count state = record {
   grows = grows;
   thunks = thunks;
   candidates = candidates;
-  around = behind_there _ is_name kept number listed (kept_more _ _ kept grows.least around) less;
+  around = around_there;
   there = first_there s _ base parts new_parts number listed (parts_more s _ _ (drop base parts) grows.least there) less own;
   lower = lower;
   count = count;
@@ -172,7 +163,8 @@ takes_made s old new kept base parts new_parts node number listed is_name is_can
       (ap (λ u. values.tree u listed ∷ behind_first (values_in s old.nodes (drop base parts))) (sym tree)
       ∙ ap (λ vs. values.tree (tree_at (trees_in s new.nodes) number) listed ∷ behind_first vs) (sym (values_stay s old.nodes new.nodes grows.stays (drop base parts) there))
       ∙ first_values s (trees_in s new.nodes) base parts new_parts number listed own)
-      (behind_is (trees_in s new.nodes) _ is_name kept number _ listed (around_stays s old.nodes new.nodes grows.stays kept around) tree) state;
+      (ap (λ a. named_if is_name a (tree_of_node s old.nodes node) listed) (sym (around_stays s old.nodes new.nodes grows.stays kept kept_there))
+      ∙ ap (λ t. named_if is_name (around_of (trees_in s new.nodes) kept) t listed) (sym tree) ∙ sym around) state;
 }
 
 pub taken_as : (s : List ℕ) (old new : Linked) (kept : Kept) (base : ℕ) (parts new_parts : List Part) (step taken : Step) (then left : Kept) → taken ≡ step → left ≡ then

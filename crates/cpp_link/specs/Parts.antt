@@ -1,5 +1,5 @@
 -- The values that parts stand for: functions of the nodes.
-use Rattle.std.specs.Prelude.{ℕ, ◌<◌, List, [], ◌∷◌, map, true, Some}
+use Rattle.std.specs.Prelude.{ℕ, ◌<◌, List, [], ◌∷◌, map, Bool, true, false, Option, None, Some}
 use Rattle.cpp_term.specs.Term as term
 use Rattle.cpp_term.specs.Term.{Term}
 use Rattle.cpp_term.specs.Values as values
@@ -10,6 +10,8 @@ use Rattle.cpp_tree.specs.declared.node.Node.{Node}
 use Rattle.cpp_link.specs.declared.part.Part.{Part}
 use Rattle.cpp_link.specs.declared.part.Meant.{Meant}
 use Rattle.cpp_link.specs.declared.part.Prefix.{Prefix}
+use Rattle.cpp_link.specs.declared.part.Scope.{Scope}
+use Rattle.cpp_link.specs.declared.part.Naming.{Naming}
 use Rattle.cpp_link.specs.declared.part.Kept.{Kept}
 use Rattle.cpp_link.specs.declared.part.Candidate.{Candidate}
 use Rattle.cpp_link.specs.declared.part.Step.{Step}
@@ -49,8 +51,39 @@ unfoldable pub prefix_of : List Term → Prefix → values.Prefix
 prefix_of ts Prefix.Outermost = values.outermost
 prefix_of ts (Prefix.Behind node listed) = values.behind (tree_at ts node) listed
 
+-- ## What surrounds a part
+
+-- the arguments that parameters name
+unfoldable pub arguments_in : Scope → ℕ → Option ℕ
+arguments_in Scope.Arguments node = Some node
+arguments_in _ node = None
+
+unfoldable pub is_lambda : Scope → Bool
+is_lambda Scope.Lambda = true
+is_lambda _ = false
+
+-- the name so far
+unfoldable pub prefix_in : Naming → ℕ → Prefix
+prefix_in Naming.Outermost node = Prefix.Outermost
+prefix_in Naming.Unlisted node = Prefix.Behind node false
+prefix_in Naming.Listed node = Prefix.Behind node true
+
+-- the length of the packs, if there are any
+unfoldable pub packs_in : Bool → ℕ → Option ℕ
+packs_in false many = None
+packs_in true many = Some many
+
+abbrev pub scope_of : Kept → Option ℕ
+scope_of kept = arguments_in kept.scope kept.arguments
+
+abbrev pub name_of : Kept → Prefix
+name_of kept = prefix_in kept.naming kept.name
+
+abbrev pub packs_of : Kept → Option ℕ
+packs_of kept = packs_in kept.has_packs kept.pack_length
+
 unfoldable pub around_of : List Term → Kept → Around
-around_of ts kept = record { scope = nodes.arguments_are ts kept.scope; encoding = kept.encoding; in_lambda = kept.in_lambda; in_expansion = kept.in_expansion; prefix = prefix_of ts kept.prefix }
+around_of ts kept = record { scope = nodes.arguments_are ts (scope_of kept); encoding = kept.encoding; in_lambda = is_lambda kept.scope; in_expansion = kept.in_expansion; prefix = prefix_of ts (name_of kept) }
 
 abbrev pub candidate_of : List Term → Candidate → values.Candidate
 candidate_of ts c = record { tree = tree_at ts c.node; encoding = c.encoding }
@@ -102,7 +135,7 @@ AreCandidatesThere n [] = Unit {0}
 AreCandidatesThere n (c ∷ cs) = (c.node < n) × AreCandidatesThere n cs
 
 abbrev pub IsKeptThere : ℕ → Kept → Type 0
-IsKeptThere n kept = nodes.IsArgumentsBelow n kept.scope × IsPrefixThere n kept.prefix
+IsKeptThere n kept = nodes.IsArgumentsBelow n (scope_of kept) × IsPrefixThere n (name_of kept)
 
 abbrev pub IsStepThere : List ℕ → (held n : ℕ) → Step → Type 0
 IsStepThere s held n (Step.Go candidate then packs) = nodes.IsArgumentsBelow n candidate × IsKeptThere n then

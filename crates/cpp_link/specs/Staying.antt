@@ -6,7 +6,7 @@ use Rattle.cpp_link.specs.declared.part.Part.{Part}
 use Rattle.cpp_link.specs.declared.part.Prefix.{Prefix}
 use Rattle.cpp_link.specs.declared.part.Kept.{Kept}
 use Rattle.cpp_link.specs.declared.part.Candidate.{Candidate}
-use Rattle.cpp_link.specs.Parts.{trees_in, value_of, values_of, value_in, values_in, prefix_of, around_of, candidates_of, IsThere, AreThere, IsPrefixThere, IsKeptThere, AreCandidatesThere}
+use Rattle.cpp_link.specs.Parts.{trees_in, value_of, values_of, value_in, values_in, prefix_of, scope_of, name_of, around_of, candidates_of, IsThere, AreThere, IsPrefixThere, IsKeptThere, AreCandidatesThere}
 
 module _ (s : List ℕ) (old new : Stored) (stays : (i : ℕ) → i < length old.nodes → tree_at (trees_in s new) i ≡ tree_at (trees_in s old) i) where
   piece_stays : (p : Piece) → IsPieceBelow s (length old.nodes) p → piece_of s (trees_in s new) p ≡ piece_of s (trees_in s old) p
@@ -43,7 +43,7 @@ module _ (s : List ℕ) (old new : Stored) (stays : (i : ℕ) → i < length old
 
   pub around_stays : (kept : Kept) → IsKeptThere (length old.nodes) kept → around_of (trees_in s new) kept ≡ around_of (trees_in s old) kept
   unfolding around_of
-  around_stays kept there = rw (arguments_stay kept.scope there.0, prefix_stays kept.prefix there.1) refl
+  around_stays kept there = rw (arguments_stay (scope_of kept) there.0, prefix_stays (name_of kept) there.1) refl
 
   pub candidates_stay : (cs : List Candidate) → AreCandidatesThere (length old.nodes) cs → candidates_of (trees_in s new) cs ≡ candidates_of (trees_in s old) cs
   candidates_stay [] there = refl
@@ -71,7 +71,7 @@ candidates_more m n [] le there = tt
 candidates_more m n (c ∷ cs) le there = (omega (arith, le, there.0), candidates_more m n cs le there.1)
 
 pub kept_more : (m n : ℕ) (kept : Kept) → m ≤ n → IsKeptThere m kept → IsKeptThere n kept
-kept_more m n kept le there = (arguments kept.scope there.0, prefix kept.prefix there.1)
+kept_more m n kept le there = (arguments (scope_of kept) there.0, prefix (name_of kept) there.1)
   where
     arguments : (o : Option ℕ) → IsArgumentsBelow m o → IsArgumentsBelow n o
     arguments None below = tt

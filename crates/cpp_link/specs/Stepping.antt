@@ -3,7 +3,6 @@ use Rattle.std.specs.Prelude.{◌≡◌, ℕ, ◌<◌, List, length, take, drop,
 use Rattle.cpp_grammar.specs.declared.production.Production.{Production}
 use Rattle.cpp_link.specs.declared.linked.Linked.{Linked}
 use Rattle.cpp_link.specs.declared.part.Part.{Part}
-use Rattle.cpp_link.specs.declared.part.Prefix.{Prefix}
 use Rattle.cpp_link.specs.declared.part.Kept.{Kept}
 use Rattle.cpp_link.specs.declared.part.Step.{Step}
 use Rattle.cpp_link.specs.Grows.{Grows}
@@ -23,11 +22,6 @@ abbrev pub IsStepOf : Production → (held : ℕ) → Step → Type 0
 IsStepOf production held (Step.Go candidate then packs) = Unit {0}
 IsStepOf production held (Step.Named node listed) = 0 < held
 IsStepOf production held (Step.Made node listed is_name is_candidate packs) = (0 < held) × (get_or (made_before production) held 0 ≡ 1)
-
--- behind this name, if it is one
-abbrev pub behind_if : Bool → Kept → (node : ℕ) → (listed : Bool) → Kept
-behind_if false kept node listed = kept
-behind_if true kept node listed = record { scope = kept.scope; encoding = kept.encoding; in_lambda = kept.in_lambda; in_expansion = kept.in_expansion; prefix = Prefix.Behind node listed; packs = kept.packs }
 
 -- A step is taken before the next part of a rule, which this surrounds then: what the nodes, the candidates and the rule's
 -- parts stand for now is what the step comes to.

@@ -10,7 +10,7 @@ use Rattle.cpp_link.specs.declared.part.Part.{Part}
 use Rattle.cpp_link.specs.declared.part.Kept.{Kept}
 use Rattle.cpp_link.specs.declared.linked.Linked.{Linked}
 use Rattle.cpp_link.specs.Owed.{owes}
-use Rattle.cpp_link.specs.Parts.{trees_in, value_in, around_of, candidates_of, IsThere, IsKeptThere, AreCandidatesThere}
+use Rattle.cpp_link.specs.Parts.{trees_in, value_in, packs_of, around_of, candidates_of, IsThere, IsKeptThere, AreCandidatesThere}
 
 -- the part stands for the value
 pub record IsPart (s : List ℕ) (l : Linked) (part : Part) (value : Value) : Type 0 where
@@ -24,7 +24,7 @@ pub record Surrounds (s : List ℕ) (l : Linked) (kept : Kept) (around : Around)
 
 pub record IsKept (s : List ℕ) (l : Linked) (kept : Kept) (rule : Open State Around) : Type 0 where
   pub surrounds : Surrounds s l kept rule.context
-  pub packs : kept.packs ≡ rule.before.packs
+  pub packs : packs_of kept ≡ rule.before.packs
 
 -- the nodes are a table, and the candidates and the packs are those of the state
 pub record Holds (s : List ℕ) (l : Linked) (state : State) : Type 0 where

@@ -82,12 +82,12 @@ impl Linked {
         ensures adds { OnOk result (Adds (cpp_view symbol.now) self.old self.new 0 0) }
         ensures pays { OnOk result ((at : ℕ) → Pays (cpp_view symbol.now) self.old self.new at at) }
     {
-        let packs = self.packs;
+        let kept = context.with_packs(self.packs);
         if !is_numbered(production_of(row.rule)) {
-            return Ok(Kept { packs, ..context });
+            return Ok(kept);
         }
         if last_fits(symbol, rows, row)? {
-            return Ok(Kept { packs, ..context });
+            return Ok(kept);
         }
         Err(Refusal::BadValue {
             at: row.from.saturating_sub(1),

@@ -4,19 +4,19 @@ ghost use Rattle.std.specs.Prelude.{◌≡◌, ℕ, ◌+◌, ◌<◌, ◌≤◌,
 ghost use Rattle.sym_core.specs.declared.refusal.Refusal.TheVariants as refusals;
 ghost use Rattle.sym_link.specs.Linking.{HasRoom, Adds, Pays, owed_behind, owed_next};
 ghost use Rattle.sym_link.specs.Threads.{IsOpenAt, GoesOn};
+ghost use Rattle.cpp_term.specs.Term.{Term};
 ghost use Rattle.cpp_grammar.specs.Unfolding.{production_at};
 ghost use Rattle.cpp_tree.specs.Nodes.{IsArgumentsBelow, IsBelow, tree_at};
 ghost use Rattle.cpp_link.specs.Grows.{Grows, HasPlace};
 ghost use Rattle.cpp_link.specs.Making.{state_of};
 ghost use Rattle.cpp_link.specs.Parts.{trees_in, tree_of_node, around_of, candidates_of, AreThere, IsKeptThere, AreCandidatesThere, IsStepThere};
-ghost use Rattle.cpp_link.specs.Reads.{with_candidate, appended_if};
-ghost use Rattle.cpp_link.specs.Stepping.{IsStepOf, Takes, behind_if, quiet_parts};
+ghost use Rattle.cpp_link.specs.Reads.{with_candidate, named_if, appended_if};
+ghost use Rattle.cpp_link.specs.Stepping.{IsStepOf, Takes, quiet_parts};
 ghost use Rattle.cpp_link.specs.View.{Surrounds, cpp_view};
 
 use crate::dispatch::production_of;
 use crate::linked::Linked;
 use crate::part::{Kept, Part, Step};
-use crate::steps::behind;
 use cpp_grammar::production::Production;
 use cpp_tree::node::Node;
 use sym_core::Refusal;
@@ -47,16 +47,6 @@ fn candidate_if(is_candidate: bool, node: u32) -> Option<u32>
     ensures { result ≡ elim is_candidate [ true ↦ Some node | false ↦ None ] }
 {
     if is_candidate { Some(node) } else { None }
-}
-
-/// What surrounds the part behind a tree that has been made.
-fn behind_if(is_name: bool, kept: Kept, node: u32, listed: bool) -> Kept
-    ensures { result ≡ behind_if is_name kept node listed }
-{
-    if is_name {
-        return behind(kept, node, listed);
-    }
-    kept
 }
 
 /// Before how many parts of a production nothing is done.
@@ -129,6 +119,21 @@ impl Linked {
         Ok(number)
     }
 
+    /// What surrounds the part behind a tree that has been made.
+    #[tactic(auto, unfolding(crate::specs::Reads::named_if))]
+    #[inline(always)]
+    fn behind_if(&self, is_name: bool, kept: Kept, node: u32, listed: bool) -> Kept
+        requires kept { IsKeptThere (length self.now.nodes.nodes) kept }
+        requires node { node < length self.now.nodes.nodes }
+        ensures around { (ts : List Term) → around_of ts result ≡ named_if is_name (around_of ts kept) (tree_at ts node) listed }
+        ensures there { IsKeptThere (length self.now.nodes.nodes) result }
+    {
+        if is_name {
+            return self.behind_name(kept, node, listed);
+        }
+        kept
+    }
+
     /// Takes a step before the next part of a rule, whose parts begin at the base. It answers what surrounds that part.
     ///
     /// # Errors
@@ -162,7 +167,7 @@ impl Linked {
             }
             Step::Named { node, listed } => {
                 put_first(parts, base, Part::Tree { node, listed });
-                Ok(behind(kept, node, listed))
+                Ok(self.behind_name(kept, node, listed))
             }
             Step::Made {
                 node,
@@ -173,7 +178,7 @@ impl Linked {
             } => {
                 let node = self.add_noted(symbol, kept, node, is_candidate, packs)?;
                 put_first(parts, base, Part::Tree { node, listed });
-                Ok(behind_if(is_name, kept, node, listed))
+                Ok(self.behind_if(is_name, kept, node, listed))
             }
         }
     }

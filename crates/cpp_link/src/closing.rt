@@ -7,7 +7,7 @@ ghost use Rattle.cpp_term.specs.Meaning.{meaning};
 ghost use Rattle.cpp_term.specs.References.{with_unqualified, is_function_type};
 ghost use Rattle.cpp_term.specs.Unfolding as unfolding_;
 ghost use Rattle.cpp_tree.specs.Nodes.{over, tree_at, IsArgumentsBelow, IsTable};
-ghost use Rattle.cpp_link.specs.Parts.{trees_in, value_in, values_in, around_of, IsThere, AreThere};
+ghost use Rattle.cpp_link.specs.Parts.{trees_in, value_in, values_in, packs_of, around_of, IsThere, AreThere};
 ghost use Rattle.cpp_link.specs.Reads.{with_candidate, function_node};
 
 use crate::linked::Linked;
@@ -67,7 +67,7 @@ impl Linked {
         requires there { AreThere symbol.now (length self.now.nodes.nodes) parts.now }
         requires made { IsThere symbol.now (length self.now.nodes.nodes) made }
         requires value { value_in symbol.now self.now.nodes made ≡ meaning production byte (around_of (trees_in symbol.now self.now.nodes) kept) (values_in symbol.now self.now.nodes parts.now) }
-        ensures is { (began : State) (cs : List values.Candidate) → began.packs ≡ kept.packs
+        ensures is { (began : State) (cs : List values.Candidate) → began.packs ≡ packs_of kept
             → unfolding_.behind production byte (around_of (trees_in symbol.now self.now.nodes) kept) began (values_in symbol.now self.now.nodes parts.now) (record { candidates = cs; packs = self.now.packs })
             ≡ with_candidate (around_of (trees_in symbol.now self.now.nodes) kept) (trees_in symbol.now self.now.nodes) result.candidate (record { candidates = cs; packs = result.packs }) }
         ensures there { IsArgumentsBelow (length self.now.nodes.nodes) result.candidate }
@@ -111,7 +111,7 @@ impl Linked {
             },
             Production::Expansion => Behind {
                 candidate: None,
-                packs: kept.packs,
+                packs: kept.packs(),
             },
             _ => Behind {
                 candidate: None,

@@ -17,7 +17,7 @@ ghost use Rattle.cpp_tree.specs.Nodes.{bytes_at, IsWithin};
 ghost use Rattle.cpp_link.specs.Grows.{HasPlace};
 ghost use Rattle.cpp_link.specs.Making.{state_of};
 ghost use Rattle.cpp_link.specs.Owed.{made_at_end};
-ghost use Rattle.cpp_link.specs.Parts.{trees_in, value_in, values_in, around_of, candidates_of, IsThere, AreThere, IsKeptThere, AreCandidatesThere};
+ghost use Rattle.cpp_link.specs.Parts.{trees_in, value_in, values_in, packs_of, around_of, candidates_of, IsThere, AreThere, IsKeptThere, AreCandidatesThere};
 ghost use Rattle.cpp_link.specs.Reads.{maybe_candidate};
 ghost use Rattle.cpp_link.specs.View.{GoesOn, IsPaid, IsWhole, cpp_view};
 
@@ -119,7 +119,7 @@ impl Linked {
         requires there { AreThere symbol.now (length self.old.nodes.nodes) parts.now }
         requires kept { IsKeptThere (length self.old.nodes.nodes) kept }
         ensures value { IfOk result (λ made. value_in symbol.now self.new.nodes made ≡ meaning production (slice_index symbol.now place) (around_of (trees_in symbol.now self.old.nodes) kept) (values_in symbol.now self.old.nodes parts.now)) }
-        ensures state { OnOk result ((began : State) → began.packs ≡ kept.packs
+        ensures state { OnOk result ((began : State) → began.packs ≡ packs_of kept
             → unfolding_.behind production (slice_index symbol.now place) (around_of (trees_in symbol.now self.old.nodes) kept) began (values_in symbol.now self.old.nodes parts.now) (state_of symbol.now self.old) ≡ state_of symbol.now self.new) }
         ensures there { IfOk result (λ made. IsThere symbol.now (length self.new.nodes.nodes) made) }
         ensures grows { OnOk result (GoesOn symbol.now self.old self.new) }
@@ -159,7 +159,7 @@ impl Linked {
         requires there { AreThere symbol.now (length self.old.nodes.nodes) parts.now }
         requires kept { IsKeptThere (length self.old.nodes.nodes) kept }
         ensures value { IfOk result (λ made. value_in symbol.now self.new.nodes made ≡ meaning production (slice_index symbol.now place) (around_of (trees_in symbol.now self.old.nodes) kept) (values_in symbol.now self.old.nodes parts.now)) }
-        ensures state { OnOk result ((began : State) → began.packs ≡ kept.packs
+        ensures state { OnOk result ((began : State) → began.packs ≡ packs_of kept
             → unfolding_.behind production (slice_index symbol.now place) (around_of (trees_in symbol.now self.old.nodes) kept) began (values_in symbol.now self.old.nodes parts.now) (state_of symbol.now self.old) ≡ state_of symbol.now self.new) }
         ensures there { IfOk result (λ made. IsThere symbol.now (length self.new.nodes.nodes) made) }
         ensures grows { OnOk result (GoesOn symbol.now self.old self.new) }
@@ -192,7 +192,7 @@ impl Linked {
         requires there { AreThere symbol.now (length self.old.nodes.nodes) parts.now }
         requires kept { IsKeptThere (length self.old.nodes.nodes) kept }
         ensures value { IfOk result (λ made. value_in symbol.now self.new.nodes made ≡ meaning production (slice_index symbol.now place) (around_of (trees_in symbol.now self.old.nodes) kept) (values_in symbol.now self.old.nodes parts.now)) }
-        ensures state { OnOk result ((began : State) → began.packs ≡ kept.packs
+        ensures state { OnOk result ((began : State) → began.packs ≡ packs_of kept
             → unfolding_.behind production (slice_index symbol.now place) (around_of (trees_in symbol.now self.old.nodes) kept) began (values_in symbol.now self.old.nodes parts.now) (state_of symbol.now self.old) ≡ state_of symbol.now self.new) }
         ensures there { IfOk result (λ made. IsThere symbol.now (length self.new.nodes.nodes) made) }
         ensures grows { OnOk result (GoesOn symbol.now self.old self.new) }
@@ -261,7 +261,7 @@ impl Linked {
         requires whole { IsWhole symbol.now self.old }
         requires there { AreThere symbol.now (length self.old.nodes.nodes) parts.now }
         requires kept { IsKeptThere (length self.old.nodes.nodes) kept }
-        ensures is { IfOk result (λ made. (began : State) → began.packs ≡ kept.packs
+        ensures is { IfOk result (λ made. (began : State) → began.packs ≡ packs_of kept
             → unfolding_.close production (slice_index symbol.now place) (around_of (trees_in symbol.now self.old.nodes) kept) place began (values_in symbol.now self.old.nodes parts.now) (state_of symbol.now self.old) ≡ Ok (found (value_in symbol.now self.new.nodes made) (state_of symbol.now self.new))) }
         ensures refused { IfErr result (λ e. (began : State)
             → Fails e (unfolding_.close production (slice_index symbol.now place) (around_of (trees_in symbol.now self.old.nodes) kept) place began (values_in symbol.now self.old.nodes parts.now) (state_of symbol.now self.old))) }

@@ -11,7 +11,7 @@ ghost use Rattle.cpp_link.specs.ViewLaws.{cpp_laws, cpp_threads};
 
 use crate::dispatch::production_of;
 use crate::linked::Linked;
-use crate::part::{Kept, Part, Prefix};
+use crate::part::{Kept, Naming, Part, Scope};
 use cpp_grammar::production::Production;
 use sym_core::Refusal;
 use sym_link::language::{Frame, Linking};
@@ -20,12 +20,14 @@ use sym_shape::rule::Row;
 
 /// What surrounds a whole symbol.
 const OUTSIDE: Kept = Kept {
-    scope: None,
+    arguments: 0,
     encoding: 0,
-    in_lambda: false,
+    name: 0,
+    pack_length: 0,
+    scope: Scope::Nothing,
+    naming: Naming::Outermost,
     in_expansion: false,
-    prefix: Prefix::Outermost,
-    packs: None,
+    has_packs: false,
 };
 
 impl Threading for Linked {

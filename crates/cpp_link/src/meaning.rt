@@ -12,7 +12,7 @@ ghost use Rattle.sym_core.specs.Number.{FitsSymbol};
 ghost use Rattle.cpp_link.specs.declared.part.Meant.{Meant};
 ghost use Rattle.cpp_link.specs.declared.part.Part.{Part};
 ghost use Rattle.cpp_tree.specs.declared.node.Node.{Node};
-ghost use Rattle.cpp_link.specs.Parts.{trees_in, value_of, value_in, values_in, around_of, meant_value, AreThere, IsThere, IsMeantThere, IsPrefixThere};
+ghost use Rattle.cpp_link.specs.Parts.{trees_in, value_of, value_in, values_in, around_of, meant_value, AreThere, IsThere, IsMeantThere, IsPrefixThere, name_of};
 ghost use Rattle.cpp_link.specs.Owed.{made_at_end};
 ghost use Rattle.cpp_link.specs.Making.{IsRare, nodes_of_meant};
 
@@ -98,7 +98,7 @@ impl Linked {
         requires place { place < length symbol.now }
         requires table { IsTable (over symbol.now self.now.nodes) }
         requires there { AreThere symbol.now (length self.now.nodes.nodes) parts.now }
-        requires prefix { IsPrefixThere (length self.now.nodes.nodes) kept.prefix }
+        requires prefix { IsPrefixThere (length self.now.nodes.nodes) (name_of kept) }
         ensures is { IfOk result (λ meant. meant_value symbol.now self.now.nodes meant ≡ meaning production (slice_index symbol.now place) (around_of (trees_in symbol.now self.now.nodes) kept) (values_in symbol.now self.now.nodes parts.now)) }
         ensures there { IfOk result (λ meant. IsMeantThere symbol.now (length self.now.nodes.thunks) (length self.now.nodes.nodes) meant) }
         ensures nodes { IfOk result (λ meant. nodes_of_meant meant ≤ made_at_end production) }
@@ -359,7 +359,7 @@ impl Linked {
                 self.given(symbol, parts, 0),
             ),
             Production::StringLiteral => made(
-                self.extended(symbol, kept.prefix, Piece::StringLiteral),
+                self.extended(symbol, kept.prefix(), Piece::StringLiteral),
                 true,
             ),
             Production::OneDigit => Meant::Given(Part::Text(one_byte(symbol, place))),
@@ -445,7 +445,7 @@ impl Linked {
         requires place { place < length symbol.now }
         requires table { IsTable (over symbol.now self.now.nodes) }
         requires there { AreThere symbol.now (length self.now.nodes.nodes) parts.now }
-        requires prefix { IsPrefixThere (length self.now.nodes.nodes) kept.prefix }
+        requires prefix { IsPrefixThere (length self.now.nodes.nodes) (name_of kept) }
         ensures is { IfOk result (λ meant. meant_value symbol.now self.now.nodes meant ≡ meaning production (slice_index symbol.now place) (around_of (trees_in symbol.now self.now.nodes) kept) (values_in symbol.now self.now.nodes parts.now)) }
         ensures there { IfOk result (λ meant. IsMeantThere symbol.now (length self.now.nodes.thunks) (length self.now.nodes.nodes) meant) }
         ensures nodes { IfOk result (λ meant. nodes_of_meant meant ≤ made_at_end production) }
@@ -495,7 +495,7 @@ impl Linked {
                 mark: self.mark(symbol, parts, 3),
             }),
             Production::Encoding => self.encoding(symbol, parts),
-            Production::NestEnd => self.nest_end(symbol, kept.prefix),
+            Production::NestEnd => self.nest_end(symbol, kept.prefix()),
             _ => return self.meant_rare(symbol, production, place, kept, parts),
         })
     }

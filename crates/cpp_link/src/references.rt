@@ -10,7 +10,7 @@ ghost use Rattle.cpp_term.specs.Between.{parameter_so_far};
 ghost use Rattle.cpp_term.specs.References.{with_packs, substituted};
 ghost use Rattle.cpp_term.specs.Scope.{is_open, pack_length, count, arguments_of, length_if_pack};
 ghost use Rattle.cpp_tree.specs.Nodes.{over, tree_at, bytes_at, IsWithin, arguments_are, IsArgumentsBelow, IsTable};
-ghost use Rattle.cpp_link.specs.Parts.{trees_in, around_of, IsKeptThere, IsStepThere};
+ghost use Rattle.cpp_link.specs.Parts.{trees_in, is_lambda, around_of, IsKeptThere, IsStepThere};
 ghost use Rattle.cpp_link.specs.Reads.{packs_read, maybe_candidate, node_read, elements_of, goes_on};
 
 use crate::linked::Linked;
@@ -65,9 +65,9 @@ fn below(counted: Option<u64>, count: u32) -> Option<u32>
 
 /// Whether a tree with free parameters may not be named here.
 fn is_foreign(kept: Kept, is_open: bool, encoding: u32) -> bool
-    ensures { result ≡ (is_open && (kept.in_lambda || not (nat_eq encoding kept.encoding))) }
+    ensures { result ≡ (is_open && (is_lambda kept.scope || not (nat_eq encoding kept.encoding))) }
 {
-    is_open && (kept.in_lambda || encoding != kept.encoding)
+    is_open && (kept.in_lambda() || encoding != kept.encoding)
 }
 
 /// The elements of a pack.
@@ -186,7 +186,7 @@ impl Linked {
         ensures refused { IfErr result (λ e. (cs : List values.Candidate) → Fails e (parameter_so_far (around_of (trees_in symbol.now self.now.nodes) kept) place (counted_value kinds.Decimal (bytes_at symbol.now digits)) [] (record { candidates = cs; packs = self.now.packs }))) }
         ensures there { IfOk result (λ step. IsStepThere symbol.now (length self.now.nodes.thunks) (length self.now.nodes.nodes) step) }
     {
-        let Some(scope) = kept.scope else {
+        let Some(scope) = kept.in_scope() else {
             return Err(Refusal::BadReference { at: place });
         };
         let count = self.count(symbol, scope);

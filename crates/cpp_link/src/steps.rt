@@ -5,19 +5,18 @@ ghost use Rattle.sym_link.specs.Driving.{Fails};
 ghost use Rattle.cpp_term.specs.Term as term;
 ghost use Rattle.cpp_grammar.specs.declared.production.Production.TheVariants as productions;
 ghost use Rattle.cpp_term.specs.Values as values;
-ghost use Rattle.cpp_link.specs.declared.part.Prefix.TheVariants as prefixes;
 ghost use Rattle.cpp_term.specs.Values.{State, tree_of, piece_of, text_of, is_listed, prefix_tree};
-ghost use Rattle.cpp_term.specs.Between.{between, no_items};
+ghost use Rattle.cpp_term.specs.Between.{between, no_items, in_signature, under_expansion, after, inside};
 ghost use Rattle.cpp_term.specs.References.{with_prefix, with_type, with_unqualified};
 ghost use Rattle.cpp_tree.specs.Nodes as nodes;
 ghost use Rattle.cpp_tree.specs.Nodes.{over, tree_at, bytes_at, IsWithin, IsPieceBelow, arguments_are, IsArgumentsBelow, IsTable};
 ghost use Rattle.cpp_link.specs.declared.part.Step.{Step};
-ghost use Rattle.cpp_link.specs.Parts.{trees_in, value_in, values_in, prefix_of, around_of, IsThere, AreThere, IsPrefixThere, IsKeptThere, IsStepThere};
+ghost use Rattle.cpp_link.specs.Parts.{trees_in, value_in, values_in, prefix_of, name_of, around_of, IsThere, AreThere, IsPrefixThere, IsKeptThere, IsStepThere};
 ghost use Rattle.cpp_link.specs.Reads.{with_candidate, goes_on};
 ghost use Rattle.cpp_link.specs.Stepping.{IsStepOf};
 
 use crate::linked::Linked;
-use crate::part::{Kept, Part, Prefix, Step};
+use crate::part::{Kept, Naming, Part, Scope, Step};
 use crate::values::{is_listed, is_there, letter_of, list_of, node_of, piece_of, text_of};
 use cpp_grammar::production::Production;
 use cpp_tree::node::{Node, Piece};
@@ -25,69 +24,109 @@ use cpp_tree::nodes::ABSENT;
 use sym_core::{Refusal, Span};
 
 /// The candidate that the name so far becomes.
-#[tactic(auto, unfolding(crate::specs::Parts::around_of, crate::specs::Parts::prefix_of, crate::specs::Reads::with_candidate, cpp_term::specs::References::with_prefix, cpp_term::specs::Values::prefix_tree, cpp_term::specs::Values::prefix_listed))]
+#[tactic(auto, unfolding(crate::specs::Parts::around_of, crate::specs::Parts::prefix_in, crate::specs::Parts::prefix_of, crate::specs::Reads::with_candidate, cpp_term::specs::References::with_prefix, cpp_term::specs::Values::prefix_tree, cpp_term::specs::Values::prefix_listed))]
 fn prefix_candidate(kept: Kept) -> Option<u32>
     ensures is { (ts : List term.Term) (state : State) → with_prefix (around_of ts kept) state ≡ with_candidate (around_of ts kept) ts result state }
-    ensures there { (n : ℕ) → IsPrefixThere n kept.prefix → IsArgumentsBelow n result }
+    ensures there { (n : ℕ) → IsPrefixThere n (name_of kept) → IsArgumentsBelow n result }
 {
-    match kept.prefix {
-        Prefix::Outermost => None,
-        Prefix::Behind { node, listed } => {
-            if listed {
-                return None;
-            }
-            Some(node)
-        }
-    }
-}
-
-/// In an encoding that begins at this place.
-fn in_encoding(kept: Kept, place: u32, scope: Option<u32>) -> Kept
-    ensures { result ≡ record { scope = scope; encoding = place; in_lambda = false; in_expansion = false; prefix = prefixes.Outermost; packs = kept.packs } }
-{
-    Kept {
-        scope,
-        encoding: place,
-        in_lambda: false,
-        in_expansion: false,
-        prefix: Prefix::Outermost,
-        packs: kept.packs,
-    }
-}
-
-/// Behind this name.
-pub fn behind(kept: Kept, node: u32, listed: bool) -> Kept
-    ensures { result ≡ record { scope = kept.scope; encoding = kept.encoding; in_lambda = kept.in_lambda; in_expansion = kept.in_expansion; prefix = prefixes.Behind node listed; packs = kept.packs } }
-{
-    Kept {
-        prefix: Prefix::Behind { node, listed },
-        ..kept
-    }
-}
-
-/// In the signature of a lambda.
-fn in_lambda(kept: Kept) -> Kept
-    ensures { result ≡ record { scope = None; encoding = kept.encoding; in_lambda = true; in_expansion = kept.in_expansion; prefix = prefixes.Outermost; packs = kept.packs } }
-{
-    Kept {
-        scope: None,
-        in_lambda: true,
-        prefix: Prefix::Outermost,
-        ..kept
-    }
-}
-
-/// With no name so far.
-fn inside(kept: Kept) -> Kept
-    ensures { result ≡ record { scope = kept.scope; encoding = kept.encoding; in_lambda = kept.in_lambda; in_expansion = kept.in_expansion; prefix = prefixes.Outermost; packs = kept.packs } }
-{
-    Kept {
-        prefix: Prefix::Outermost,
-        ..kept
+    match kept.naming {
+        Naming::Outermost => None,
+        Naming::Unlisted => Some(kept.name),
+        Naming::Listed => None,
     }
 }
 
 impl Linked {
+    /// In an encoding that begins at this place, where parameters name these arguments.
+    #[tactic(auto, unfolding(crate::specs::Parts::around_of, crate::specs::Parts::arguments_in, crate::specs::Parts::is_lambda, crate::specs::Parts::prefix_in, crate::specs::Parts::prefix_of, cpp_tree::specs::Nodes::arguments_are))]
+    #[inline(always)]
+    fn in_encoding(&self, kept: Kept, place: u32, scope: Option<u32>) -> Kept
+        requires scope { IsArgumentsBelow (length self.now.nodes.nodes) scope }
+        ensures around { (ts : List term.Term) → around_of ts result ≡ record { scope = arguments_are ts scope; encoding = place; in_lambda = false; in_expansion = false; prefix = values.outermost } }
+        ensures there { IsKeptThere (length self.now.nodes.nodes) result }
+    {
+        let outside = Kept {
+            encoding: place,
+            scope: Scope::Nothing,
+            naming: Naming::Outermost,
+            in_expansion: false,
+            ..kept
+        };
+        match scope {
+            Some(arguments) => Kept {
+                arguments,
+                scope: Scope::Arguments,
+                ..outside
+            },
+            None => outside,
+        }
+    }
+
+    /// Behind this name.
+    #[tactic(auto, unfolding(crate::specs::Parts::around_of, crate::specs::Parts::prefix_in, crate::specs::Parts::prefix_of, cpp_term::specs::Between::after))]
+    #[inline(always)]
+    pub fn behind_name(&self, kept: Kept, node: u32, listed: bool) -> Kept
+        requires kept { IsKeptThere (length self.now.nodes.nodes) kept }
+        requires node { node < length self.now.nodes.nodes }
+        ensures around { (ts : List term.Term) → around_of ts result ≡ after (tree_at ts node) listed (around_of ts kept) }
+        ensures there { IsKeptThere (length self.now.nodes.nodes) result }
+    {
+        if listed {
+            return Kept {
+                name: node,
+                naming: Naming::Listed,
+                ..kept
+            };
+        }
+        Kept {
+            name: node,
+            naming: Naming::Unlisted,
+            ..kept
+        }
+    }
+
+    /// In the signature of a lambda.
+    #[tactic(auto, unfolding(crate::specs::Parts::around_of, crate::specs::Parts::arguments_in, crate::specs::Parts::is_lambda, crate::specs::Parts::prefix_in, crate::specs::Parts::prefix_of, cpp_tree::specs::Nodes::arguments_are, cpp_term::specs::Between::in_signature))]
+    #[inline(always)]
+    fn in_signature(&self, kept: Kept) -> Kept
+        ensures around { (ts : List term.Term) → around_of ts result ≡ in_signature (around_of ts kept) }
+        ensures there { IsKeptThere (length self.now.nodes.nodes) result }
+    {
+        Kept {
+            scope: Scope::Lambda,
+            naming: Naming::Outermost,
+            ..kept
+        }
+    }
+
+    /// Under an expansion.
+    #[tactic(auto, unfolding(crate::specs::Parts::around_of, cpp_term::specs::Between::under_expansion))]
+    #[inline(always)]
+    fn under_expansion(&self, kept: Kept) -> Kept
+        requires kept { IsKeptThere (length self.now.nodes.nodes) kept }
+        ensures around { (ts : List term.Term) → around_of ts result ≡ under_expansion (around_of ts kept) }
+        ensures there { IsKeptThere (length self.now.nodes.nodes) result }
+    {
+        Kept {
+            in_expansion: true,
+            ..kept
+        }
+    }
+
+    /// With no name so far.
+    #[tactic(auto, unfolding(crate::specs::Parts::around_of, crate::specs::Parts::prefix_in, crate::specs::Parts::prefix_of, cpp_term::specs::Between::inside))]
+    #[inline(always)]
+    fn inside(&self, kept: Kept) -> Kept
+        requires kept { IsKeptThere (length self.now.nodes.nodes) kept }
+        ensures around { (ts : List term.Term) → around_of ts result ≡ inside (around_of ts kept) }
+        ensures there { IsKeptThere (length self.now.nodes.nodes) result }
+    {
+        Kept {
+            naming: Naming::Outermost,
+            ..kept
+        }
+    }
+
     /// Nothing is done, and this surrounds the next part.
     #[inline(always)]
     fn go(&self, then: Kept) -> Step
@@ -149,16 +188,17 @@ impl Linked {
     }
 
     /// The node of the name so far.
-    #[tactic(auto, unfolding(crate::specs::Parts::prefix_of, cpp_term::specs::Values::prefix_tree))]
-    fn prefix_node(&self, symbol: &[u8], prefix: Prefix) -> u32
+    #[tactic(auto, unfolding(crate::specs::Parts::prefix_in, crate::specs::Parts::prefix_of, cpp_term::specs::Values::prefix_tree))]
+    fn prefix_node(&self, symbol: &[u8], kept: Kept) -> u32
         requires table { IsTable (over symbol.now self.now.nodes) }
-        requires prefix { IsPrefixThere (length self.now.nodes.nodes) prefix }
-        ensures is { tree_at (trees_in symbol.now self.now.nodes) result ≡ prefix_tree (prefix_of (trees_in symbol.now self.now.nodes) prefix) }
+        requires kept { IsKeptThere (length self.now.nodes.nodes) kept }
+        ensures is { tree_at (trees_in symbol.now self.now.nodes) result ≡ prefix_tree (prefix_of (trees_in symbol.now self.now.nodes) (name_of kept)) }
         ensures there { result < length self.now.nodes.nodes }
     {
-        match prefix {
-            Prefix::Outermost => ABSENT,
-            Prefix::Behind { node, .. } => node,
+        match kept.naming {
+            Naming::Outermost => ABSENT,
+            Naming::Unlisted => kept.name,
+            Naming::Listed => kept.name,
         }
     }
 
@@ -172,31 +212,28 @@ impl Linked {
         ensures of { (held : ℕ) → IsStepOf production held result }
     {
         match production {
-            Production::Encoding => self.go(in_encoding(kept, place, None)),
-            Production::Special => self.go(in_encoding(kept, place, None)),
-            Production::Guard => self.go(in_encoding(kept, place, None)),
-            Production::Lambda => self.go(in_lambda(kept)),
+            Production::Encoding => self.go(self.in_encoding(kept, place, None)),
+            Production::Special => self.go(self.in_encoding(kept, place, None)),
+            Production::Guard => self.go(self.in_encoding(kept, place, None)),
+            Production::Lambda => self.go(self.in_signature(kept)),
             Production::Expansion => Step::Go {
                 candidate: None,
-                then: Kept {
-                    in_expansion: true,
-                    ..kept
-                },
+                then: self.under_expansion(kept),
                 packs: None,
             },
             Production::NestArguments => Step::Go {
                 candidate: self.prefix_candidate(symbol, kept),
-                then: inside(kept),
+                then: self.inside(kept),
                 packs: self.packs,
             },
             Production::Arguments => Step::Go {
                 candidate: self.prefix_candidate(symbol, kept),
-                then: inside(kept),
+                then: self.inside(kept),
                 packs: self.packs,
             },
             Production::NestNext => Step::Go {
                 candidate: self.prefix_candidate(symbol, kept),
-                then: behind(kept, self.prefix_node(symbol, kept.prefix), true),
+                then: self.behind_name(kept, self.prefix_node(symbol, kept), true),
                 packs: self.packs,
             },
             _ => self.go(kept),
@@ -254,26 +291,31 @@ impl Linked {
         ensures of { IsStepOf production 1 result }
     {
         match production {
-            Production::Special => self.go(in_encoding(kept, place, None)),
-            Production::Guard => self.go(in_encoding(kept, place, None)),
-            Production::Lambda => self.go(in_lambda(kept)),
+            Production::Special => self.go(self.in_encoding(kept, place, None)),
+            Production::Guard => self.go(self.in_encoding(kept, place, None)),
+            Production::Lambda => self.go(self.in_signature(kept)),
             Production::Expansion => Step::Go {
                 candidate: None,
-                then: Kept {
-                    in_expansion: true,
-                    ..kept
-                },
+                then: self.under_expansion(kept),
                 packs: None,
             },
             Production::Encoding => {
                 let name = self.node(symbol, first);
-                self.go(in_encoding(kept, place, self.arguments(symbol, name)))
+                self.go(self.in_encoding(kept, place, self.arguments(symbol, name)))
             }
-            Production::LocalName => self.go(behind(kept, self.node(symbol, first), true)),
-            Production::LocalType => self.go(behind(kept, self.node(symbol, first), true)),
+            Production::LocalName => self.go(self.behind_name(
+                kept,
+                self.node(symbol, first),
+                true,
+            )),
+            Production::LocalType => self.go(self.behind_name(
+                kept,
+                self.node(symbol, first),
+                true,
+            )),
             Production::InternalName => self.named(self.extended(
                 symbol,
-                kept.prefix,
+                kept.prefix(),
                 Piece::Source {
                     internal: true,
                     bytes: self.text_in(symbol, first),
@@ -281,7 +323,7 @@ impl Linked {
             )),
             Production::NestInternal => self.named(self.extended(
                 symbol,
-                kept.prefix,
+                kept.prefix(),
                 Piece::Source {
                     internal: true,
                     bytes: self.text_in(symbol, first),
@@ -289,7 +331,7 @@ impl Linked {
             )),
             Production::SourceName => self.named(self.extended(
                 symbol,
-                kept.prefix,
+                kept.prefix(),
                 Piece::Source {
                     internal: false,
                     bytes: self.text_in(symbol, first),
@@ -297,7 +339,7 @@ impl Linked {
             )),
             Production::NestSource => self.named(self.extended(
                 symbol,
-                kept.prefix,
+                kept.prefix(),
                 Piece::Source {
                     internal: false,
                     bytes: self.text_in(symbol, first),
@@ -305,27 +347,27 @@ impl Linked {
             )),
             Production::LocalTypeName => self.named(self.extended(
                 symbol,
-                kept.prefix,
+                kept.prefix(),
                 self.piece_in(symbol, first),
             )),
             Production::OperatorName => self.named(self.extended(
                 symbol,
-                kept.prefix,
+                kept.prefix(),
                 self.piece_in(symbol, first),
             )),
             Production::NestLocalType => self.named(self.extended(
                 symbol,
-                kept.prefix,
+                kept.prefix(),
                 self.piece_in(symbol, first),
             )),
             Production::Constructor => self.named(self.extended(
                 symbol,
-                kept.prefix,
+                kept.prefix(),
                 Piece::Constructor(letter_of(first)),
             )),
             Production::Destructor => self.named(self.extended(
                 symbol,
-                kept.prefix,
+                kept.prefix(),
                 Piece::Destructor(letter_of(first)),
             )),
             Production::StdName => self.named(Node::InStd(self.piece_in(symbol, first))),
@@ -338,8 +380,12 @@ impl Linked {
                 node: self.node(symbol, first),
                 listed: true,
             },
-            Production::NestNext => self.go(behind(kept, self.node(symbol, first), false)),
-            Production::TypeWithS => self.go(behind(
+            Production::NestNext => self.go(self.behind_name(
+                kept,
+                self.node(symbol, first),
+                false,
+            )),
+            Production::TypeWithS => self.go(self.behind_name(
                 kept,
                 self.node(symbol, first),
                 is_listed(first),
@@ -394,23 +440,28 @@ impl Linked {
         ensures of { IsStepOf production 2 result }
     {
         match production {
-            Production::Special => self.go(in_encoding(kept, place, None)),
-            Production::Guard => self.go(in_encoding(kept, place, None)),
-            Production::Lambda => self.go(in_lambda(kept)),
+            Production::Special => self.go(self.in_encoding(kept, place, None)),
+            Production::Guard => self.go(self.in_encoding(kept, place, None)),
+            Production::Lambda => self.go(self.in_signature(kept)),
             Production::Expansion => Step::Go {
                 candidate: None,
-                then: Kept {
-                    in_expansion: true,
-                    ..kept
-                },
+                then: self.under_expansion(kept),
                 packs: None,
             },
             Production::Encoding => {
                 let name = self.node(symbol, first);
-                self.go(in_encoding(kept, place, self.arguments(symbol, name)))
+                self.go(self.in_encoding(kept, place, self.arguments(symbol, name)))
             }
-            Production::LocalName => self.go(behind(kept, self.node(symbol, first), true)),
-            Production::LocalType => self.go(behind(kept, self.node(symbol, first), true)),
+            Production::LocalName => self.go(self.behind_name(
+                kept,
+                self.node(symbol, first),
+                true,
+            )),
+            Production::LocalType => self.go(self.behind_name(
+                kept,
+                self.node(symbol, first),
+                true,
+            )),
             Production::NestStd => {
                 let name = self.node(symbol, first);
                 if is_there(second) {
@@ -426,7 +477,7 @@ impl Linked {
                 }
             }
             Production::NestArguments => {
-                let template = self.prefix_node(symbol, kept.prefix);
+                let template = self.prefix_node(symbol, kept);
                 let arguments = self.list_in(symbol, first);
                 Step::Made {
                     node: Node::Instance {
@@ -465,24 +516,33 @@ impl Linked {
         ensures of { (held : ℕ) → IsStepOf production held result }
     {
         match production {
-            Production::Special => self.go(in_encoding(kept, place, None)),
-            Production::Guard => self.go(in_encoding(kept, place, None)),
-            Production::Lambda => self.go(in_lambda(kept)),
+            Production::Special => self.go(self.in_encoding(kept, place, None)),
+            Production::Guard => self.go(self.in_encoding(kept, place, None)),
+            Production::Lambda => self.go(self.in_signature(kept)),
             Production::Expansion => Step::Go {
                 candidate: None,
-                then: Kept {
-                    in_expansion: true,
-                    ..kept
-                },
+                then: self.under_expansion(kept),
                 packs: None,
             },
             Production::Encoding => {
                 let name = self.node(symbol, first);
-                self.go(in_encoding(kept, place, self.arguments(symbol, name)))
+                self.go(self.in_encoding(kept, place, self.arguments(symbol, name)))
             }
-            Production::LocalName => self.go(behind(kept, self.node(symbol, first), true)),
-            Production::LocalType => self.go(behind(kept, self.node(symbol, first), true)),
-            Production::NestArguments => self.go(behind(kept, self.node(symbol, third), false)),
+            Production::LocalName => self.go(self.behind_name(
+                kept,
+                self.node(symbol, first),
+                true,
+            )),
+            Production::LocalType => self.go(self.behind_name(
+                kept,
+                self.node(symbol, first),
+                true,
+            )),
+            Production::NestArguments => self.go(self.behind_name(
+                kept,
+                self.node(symbol, third),
+                false,
+            )),
             _ => self.go(kept),
         }
     }
@@ -505,23 +565,28 @@ impl Linked {
         ensures of { (held : ℕ) → IsStepOf production held result }
     {
         match production {
-            Production::Special => self.go(in_encoding(kept, place, None)),
-            Production::Guard => self.go(in_encoding(kept, place, None)),
-            Production::Lambda => self.go(in_lambda(kept)),
+            Production::Special => self.go(self.in_encoding(kept, place, None)),
+            Production::Guard => self.go(self.in_encoding(kept, place, None)),
+            Production::Lambda => self.go(self.in_signature(kept)),
             Production::Expansion => Step::Go {
                 candidate: None,
-                then: Kept {
-                    in_expansion: true,
-                    ..kept
-                },
+                then: self.under_expansion(kept),
                 packs: None,
             },
             Production::Encoding => {
                 let name = self.node(symbol, first);
-                self.go(in_encoding(kept, place, self.arguments(symbol, name)))
+                self.go(self.in_encoding(kept, place, self.arguments(symbol, name)))
             }
-            Production::LocalName => self.go(behind(kept, self.node(symbol, first), true)),
-            Production::LocalType => self.go(behind(kept, self.node(symbol, first), true)),
+            Production::LocalName => self.go(self.behind_name(
+                kept,
+                self.node(symbol, first),
+                true,
+            )),
+            Production::LocalType => self.go(self.behind_name(
+                kept,
+                self.node(symbol, first),
+                true,
+            )),
             _ => self.go(kept),
         }
     }

@@ -4,11 +4,11 @@ use Rattle.cpp_grammar.specs.declared.production.Production.{Production}
 use Rattle.cpp_grammar.specs.Unfolding.{production_at}
 use Rattle.cpp_term.specs.Unfolding.{cpp, opening, first_around, first_state}
 use Rattle.cpp_tree.specs.Nodes.{arguments_are}
-use Rattle.cpp_link.specs.Parts.{around_of, prefix_of}
+use Rattle.cpp_link.specs.Parts.{arguments_in, is_lambda, prefix_in, packs_in, around_of, prefix_of}
 use Rattle.cpp_link.proofs.language.LinkedLinking.root.Goals as goal
 
 pub returns-in-Symbol-clause-opens : goal.returns-in-Symbol-clause-opens
-unfolding cpp opening first_around first_state arguments_are around_of prefix_of
+unfolding cpp opening first_around first_state arguments_are around_of arguments_in is_lambda prefix_in packs_in prefix_of
 returns-in-Symbol-clause-opens c rule taken parts is holds =
     let production : production_at rule.number ≡ Production.Symbol = ap production_at (sym is.rule_is) ∙ sym c.production_of.ensures ∙ c.in-Symbol.is in
     rw production

@@ -15,7 +15,7 @@ returns-then-not-is_numbered-clause-begins c around state rule taken inner place
     let numbered : is_numbered (production_at c.args.row.rule) ≡ c.is_numbered.result = sym (c.is_numbered.ensures ∙ ap is_numbered c.production_of.ensures) in (
       state,
       plain_opens c.args.symbol.now c.args.rows.now c.args.row rule taken inner place state row_is (numbered ∙ c.if-not-is_numbered.true),
-      begins_kept c.args.symbol.now c.args.self.now c.args.context around state rule taken place surrounds holds,
+      begins_kept c.args.symbol.now c.args.self.now c.args.context c.with_packs-kept.result around state rule taken place c.with_packs-kept.ensures.around c.with_packs-kept.ensures.there c.with_packs-kept.ensures.packs surrounds holds,
       holds,
     )
 
@@ -27,7 +27,7 @@ returns-then-branch-clause-begins c around state rule taken inner place row_is k
       number_opens c.args.symbol.now c.args.rows.now c.args.row rule taken inner place state row_is kind behind c.args.row c.in_ok-last_fits.field-0 known tree at
           (numbered ∙ c.if-not-is_numbered.false) (c.in_ok-last_fits.ensures.is c.args.row)
           ∙ ap (λ b. if_fits b (place - 1) state) c.if-branch.true,
-      begins_kept c.args.symbol.now c.args.self.now c.args.context around state rule taken place surrounds holds,
+      begins_kept c.args.symbol.now c.args.self.now c.args.context c.with_packs-kept.result around state rule taken place c.with_packs-kept.ensures.around c.with_packs-kept.ensures.there c.with_packs-kept.ensures.packs surrounds holds,
       holds,
     )
 

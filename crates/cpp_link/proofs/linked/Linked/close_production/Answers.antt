@@ -1,6 +1,6 @@
 use Rattle.std.specs.Prelude.{slice_index}
 use Rattle.cpp_link.specs.Making.{state_of}
-use Rattle.cpp_link.specs.Parts.{trees_in, value_in, values_in, around_of}
+use Rattle.cpp_link.specs.Parts.{trees_in, value_in, values_in, packs_of, around_of}
 use Rattle.cpp_link.proofs.Making.{substitution_closes, substitution_refused, other_closes}
 use Rattle.cpp_link.proofs.linked.Linked.close_production.Goals as goal
 
@@ -8,16 +8,16 @@ pub returns-in-Substitution-clause-is : goal.returns-in-Substitution-clause-is
 returns-in-Substitution-clause-is c =
     let s = c.args.symbol.now in
     substitution_closes c.args.production (slice_index s c.args.place) (around_of (trees_in s c.args.self.now.nodes) c.args.kept) c.args.place (values_in s c.args.self.now.nodes c.args.parts.now)
-    (state_of s c.args.self.now) (state_of s c.substitute.new.self) c.args.kept.packs (value_in s c.substitute.new.self.nodes) c.substitute.result c.in-Substitution.is c.substitute.ensures.is
+    (state_of s c.args.self.now) (state_of s c.substitute.new.self) (packs_of c.args.kept) (value_in s c.substitute.new.self.nodes) c.substitute.result c.in-Substitution.is c.substitute.ensures.is
 
 pub returns-in-Substitution-clause-refused : goal.returns-in-Substitution-clause-refused
 returns-in-Substitution-clause-refused c =
     let s = c.args.symbol.now in
     substitution_refused c.args.production (slice_index s c.args.place) (around_of (trees_in s c.args.self.now.nodes) c.args.kept) c.args.place (values_in s c.args.self.now.nodes c.args.parts.now)
-    (state_of s c.args.self.now) (state_of s c.substitute.new.self) c.args.kept.packs (value_in s c.substitute.new.self.nodes) c.substitute.result c.in-Substitution.is c.substitute.ensures.refused
+    (state_of s c.args.self.now) (state_of s c.substitute.new.self) (packs_of c.args.kept) (value_in s c.substitute.new.self.nodes) c.substitute.result c.in-Substitution.is c.substitute.ensures.refused
 
 pub returns-in_default-clause-is : goal.returns-in_default-clause-is
 returns-in_default-clause-is c =
     let s = c.args.symbol.now in
     other_closes c.args.production (slice_index s c.args.place) (around_of (trees_in s c.args.self.now.nodes) c.args.kept) c.args.place (values_in s c.args.self.now.nodes c.args.parts.now)
-    (state_of s c.args.self.now) (state_of s c.make_common.new.self) c.args.kept.packs (value_in s c.make_common.new.self.nodes) c.make_common.result c.in_default.not-Substitution c.make_common.ensures.value c.make_common.ensures.state
+    (state_of s c.args.self.now) (state_of s c.make_common.new.self) (packs_of c.args.kept) (value_in s c.make_common.new.self.nodes) c.make_common.result c.in_default.not-Substitution c.make_common.ensures.value c.make_common.ensures.state
