@@ -1,6 +1,6 @@
 // A rule closes over all its parts.
 
-ghost use Rattle.std.specs.Prelude.{◌≡◌, ℕ, ◌+◌, ◌-◌, ◌<◌, ◌≤◌, ◌++◌, ◌∷◌, ◌^◌, [], MatchOption, List, length, take, slice_get, slice_index, true, Ok, IfOk, IfErr, IfSome, OnOk};
+ghost use Rattle.std.specs.Prelude.{◌≡◌, ℕ, ◌+◌, ◌-◌, ◌<◌, ◌≤◌, ◌^◌, MatchOption, length, slice_get, slice_index, true, Ok, IfOk, IfErr, IfSome, OnOk};
 ghost use Rattle.sym_core.specs.Number.{FitsSymbol};
 ghost use Rattle.sym_core.specs.Value.{counted_value};
 ghost use Rattle.sym_core.specs.declared.NumberKind.TheVariants as kinds;
@@ -28,18 +28,7 @@ use crate::part::{Candidate, Kept, Part};
 use cpp_grammar::production::Production;
 use sym_core::{Refusal, Span};
 use sym_link::language::Frame;
-
-/// Puts a part in the place of those from the base on.
-#[inline(always)]
-fn put(parts: &mut Vec<Part>, base: usize, part: Part) -> Result<(), Refusal>
-    requires { base ≤ length parts.old.items }
-    ensures items { OnOk result (parts.new.items ≡ take base parts.old.items ++ part ∷ []) }
-    ensures memory { IfErr result (λ e. e ≡ refusals.Memory) }
-{
-    parts.truncate(base);
-    parts.push(part)?;
-    Ok(())
-}
+use sym_link::parts::put;
 
 /// The candidate of a number.
 fn numbered(candidates: &[Candidate], counted: Option<u64>) -> Option<Candidate>

@@ -2,7 +2,7 @@
 // closes.
 
 ghost use Rattle.std.specs.Bool.{OnTrue, OnFalse};
-ghost use Rattle.std.specs.Prelude.{◌≡◌, ℕ, ◌<◌, ◌≤◌, ◌++◌, ◌∷◌, [], List, length, drop, take, slice_index, Some, true, IfErr, OnOk};
+ghost use Rattle.std.specs.Prelude.{◌≡◌, ℕ, ◌<◌, ◌≤◌, ◌∷◌, [], List, length, drop, take, slice_index, Some, true, OnOk};
 ghost use Rattle.sym_core.specs.Number.{FitsSymbol};
 ghost use Rattle.sym_core.specs.declared.refusal.Refusal.TheVariants as refusals;
 ghost use Rattle.sym_link.specs.Linking.{HasRoom, TakesToken, ClosesRule, Adds, Pays, owed_behind, owed_next};
@@ -22,6 +22,7 @@ use crate::tokens::{TokenSort, sort_of};
 use rust_tree::node::Node;
 use sym_core::{Refusal, Span};
 use sym_link::language::{Frame, Linking};
+use sym_link::parts::{push_part, put};
 use sym_shape::rule::Row;
 
 /// The number of the rule of a function's type.
@@ -95,28 +96,6 @@ fn is_reference(production: Production) -> bool
         production,
         Production::PathReference | Production::TypeReference | Production::ConstantReference
     )
-}
-
-/// Puts a part behind the others.
-#[inline(always)]
-fn push_part(parts: &mut Vec<Part>, part: Part) -> Result<(), Refusal>
-    ensures items { OnOk result (parts.new.items ≡ parts.old.items ++ part ∷ []) }
-    ensures memory { IfErr result (λ e. e ≡ refusals.Memory) }
-{
-    parts.reserve(1)?;
-    parts.push_reserved(part);
-    Ok(())
-}
-
-/// Puts a part in the place of those from the base on.
-#[inline(always)]
-fn put(parts: &mut Vec<Part>, base: usize, part: Part) -> Result<(), Refusal>
-    requires { base ≤ length parts.old.items }
-    ensures items { OnOk result (parts.new.items ≡ take base parts.old.items ++ part ∷ []) }
-    ensures memory { IfErr result (λ e. e ≡ refusals.Memory) }
-{
-    parts.truncate(base);
-    push_part(parts, part)
 }
 
 /// Whether the parts are one name.

@@ -4,4 +4,5 @@
 pub mod counting;
 pub mod driver;
 pub mod language;
+pub mod parts;
 pub mod threads;
