@@ -1,4 +1,5 @@
 -- The items of code as items of trees, and their parts.
+use Rattle.sym_core.specs.declared.TheConstants.{MOST_BYTES}
 use Rattle.std.specs.Prelude.{◌≡◌, ℕ, ◌<◌, ◌≤◌, ◌+◌, ◌*◌, List, [], ◌∷◌, take, length, Bool, true, false, cond, nat_eq}
 use Rattle.sym_print.specs.declared.layout.Item.{Item}
 use Rattle.sym_print.specs.declared.layout.Part.{Part}
@@ -44,7 +45,7 @@ pub record IsRead (y : ReadSymbol) : Type 0 where
   pub root : y.root < length y.table.nodes
   pub whole : (encoding : Term) × (suffix : List ℕ) × (tree_at (trees (table_of y)) y.root ≡ term.symbol encoding suffix)
   pub carries : CarriesArguments (tree_at (trees (table_of y)) y.root)
-  pub fits : length y.bytes ≤ 16777216
+  pub fits : length y.bytes ≤ MOST_BYTES
   pub rows : y.rows ≤ 4 * length y.bytes + 4
   pub nodes : length y.table.nodes ≤ 2 * length y.bytes + 8
   pub steps : y.steps ≤ 32 * length y.bytes + 48

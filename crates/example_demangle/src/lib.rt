@@ -2,6 +2,7 @@
 #![tactic(auto)]
 
 ghost use Rattle.std.specs.Prelude.{◌+◌, ◌<◌, ◌≤◌, length};
+ghost use Rattle.sym_core.specs.declared.TheConstants.{MOST_BYTES};
 ghost use Rattle.sym_core.specs.Number.{FitsSymbol};
 
 use rust_v0::{Detail, Reader, Symbol, V0, Workspace, demangle, read_fed};
@@ -42,7 +43,7 @@ pub fn lines(alloc: Global, symbols: &[&[u8]]) -> Result<Vec<u8>, Refusal> {
 pub fn in_pieces(alloc: Global, first: &[u8], second: &[u8]) -> Result<Symbol, Refusal>
     requires some { 0 < length first.now }
     requires more { 0 < length second.now }
-    requires room { length first.now + length second.now ≤ 16777216 }
+    requires room { length first.now + length second.now ≤ MOST_BYTES }
 {
     let mut reader = Reader::new(alloc, &V0)?;
     reader.feed(first)?;

@@ -1,4 +1,5 @@
 -- What holds of each symbol that was read.
+use Rattle.sym_core.specs.declared.TheConstants.{MOST_BYTES}
 use Rattle.std.specs.Prelude.{◌+◌, ◌*◌, ◌≤◌, length}
 use Rattle.rust_tree.specs.Symbol as tree
 use Rattle.rust_tree.specs.Nodes.{IsTable, IsSymbol}
@@ -8,7 +9,7 @@ use Rattle.rust_tree.specs.Layout.{ReadSymbol, trees_of}
 pub record IsRead (y : ReadSymbol) : Type 0 where
   pub table : IsTable y.bytes y.table
   pub root : (whole : tree.Symbol) × IsSymbol (trees_of y) y.root whole
-  pub fits : length y.bytes ≤ 16777216
+  pub fits : length y.bytes ≤ MOST_BYTES
   pub rows : y.rows ≤ 4 * length y.bytes + 4
   pub nodes : length y.table.nodes ≤ 4 * length y.bytes + 8
   pub text : length y.table.text ≤ 4 * length y.bytes + 20

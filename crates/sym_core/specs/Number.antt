@@ -2,6 +2,7 @@
 use Rattle.std.specs.Prelude.{◌≡◌, ◌≢◌, ℕ, ◌+◌, ◌<◌, ◌≤◌, Bool, true, ◌&&◌, ◌||◌, nat_le, List, [], ◌∷◌, ◌++◌, length, take, drop, ◌-◌, ⊤}
 use Rattle.std.specs.List.{AllByRecursion}
 use Rattle.sym_core.specs.Fronts.{IsLongestFront}
+use Rattle.sym_core.specs.declared.TheConstants.{MOST_BYTES}
 use Rattle.sym_core.specs.declared.Span.{Span}
 use Rattle.sym_core.specs.declared.NumberKind.{NumberKind}
 use Rattle.sym_core.specs.declared.NumberKind.TheVariants.{Length, Decimal, Seq36, Base62, Hex, Digits}
@@ -62,7 +63,7 @@ IsNumber kind bytes = (ds : List ℕ) × AreDigitsOf kind ds × (bytes ≡ ds ++
 
 -- few enough bytes to be read as a symbol
 abbrev pub FitsSymbol : List ℕ → Type 0
-FitsSymbol s = length s ≤ 16_777_216
+FitsSymbol s = length s ≤ MOST_BYTES
 
 -- the bytes begin some number of the kind
 abbrev pub BeginsNumber : NumberKind → List ℕ → Type 0

@@ -19,7 +19,7 @@ pub use tokens::{TokenPlace, are_name_bytes, find_name, find_number};
 pub use values::{length_of, value10, value16, value36, value62};
 
 /// The longest symbol, in bytes.
-const MOST_BYTES: usize = 16_777_216;
+pub const MOST_BYTES: usize = 16_777_216;
 
 /// A stretch of bytes, from `from` up to and without `to`, each counted from the symbol's first byte.
 #[derive(Clone, Copy, Debug, PartialEq, Eq)]

@@ -1,6 +1,7 @@
 // Symbols that are read and printed one after the other with the same lists.
 
 ghost use Rattle.std.specs.Prelude.{◌≡◌, ◌≢◌, ◌⊎◌, ◌++◌, ◌+◌, ◌<◌, ◌≤◌, ℕ, List, length, false, true, None, Some, Ok, Err, OnOk, OnErr, IfOk, IfErr};
+ghost use Rattle.sym_core.specs.declared.TheConstants.{MOST_BYTES};
 ghost use Rattle.sym_core.specs.Number.{FitsSymbol};
 ghost use Rattle.sym_core.specs.declared.refusal.Refusal.TheVariants as refusals;
 ghost use Rattle.sym_print.specs.Unshared.{text_of, cost_of};
@@ -43,7 +44,7 @@ pub struct Workspace<M: Mangling> {
 /// Feeds a reader more bytes, if there are any.
 fn feed_more<M: Mangling>(reader: &mut Reader<M>, more: &[u8]) -> Result<(), Refusal>
     requires open { reader.old.ended ≡ false }
-    requires room { length reader.old.bytes + length more.now ≤ 16777216 }
+    requires room { length reader.old.bytes + length more.now ≤ MOST_BYTES }
     ensures bytes { OnOk result (reader.new.bytes ≡ reader.old.bytes ++ more.now) }
     ensures refusal { OnOk result (reader.new.refused ≡ reader.old.refused) }
     ensures open { reader.new.ended ≡ false }
@@ -72,7 +73,7 @@ fn forget_memory<M: Mangling>(reader: &mut Reader<M>, refusal: Refusal)
 /// Feeds a reader more bytes, and reads what is there.
 fn read_more<M: Mangling>(reader: &mut Reader<M>, more: &[u8])
     requires open { reader.old.ended ≡ false }
-    requires room { length reader.old.bytes + length more.now ≤ 16777216 }
+    requires room { length reader.old.bytes + length more.now ≤ MOST_BYTES }
     ensures open { reader.new.ended ≡ false }
     ensures memory { reader.new.refused ≢ Some refusals.Memory }
 {

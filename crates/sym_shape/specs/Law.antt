@@ -1,4 +1,5 @@
 -- The laws of a grammar, each of one rule at a time.
+use Rattle.sym_shape.specs.declared.rule.TheConstants.{TOKEN}
 use Rattle.std.specs.Prelude.{◌≡◌, ℕ, ◌<◌, ◌≤◌, List, [], ◌∷◌, length, Bool, true, false, ◌&&◌, ◌||◌, ◌==◌, Some, is_some, ⊤, ◌⊎◌}
 use Rattle.sym_core.specs.Number.{is_decimal_digit}
 pub use Rattle.sym_core.specs.Token.{begins_number, ends_name, ends_number}
@@ -84,7 +85,7 @@ pub record HasLowRule (g : Table) (k : ℕ) : Type 0 where
 -- what holds of the rule that a kind takes at a byte
 pub record IsLawfulRule (g : Table) (k : ℕ) (rule : Rule) : Type 0 where
   pub count : rule.count ≤ 5
-  pub number : rule.number < 65535
+  pub number : rule.number < TOKEN
   pub symbols : AreSymbols g (symbols_of rule)
   pub after : KeepsAfter g k (symbols_of rule)
   pub chain : rule.eats ≡ false → IsChain g k rule (symbols_of rule)

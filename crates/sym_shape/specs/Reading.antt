@@ -1,4 +1,5 @@
 -- What holds between two steps of the reader.
+use Rattle.sym_shape.specs.declared.rule.TheConstants.{TOKEN}
 use Rattle.std.specs.Prelude.{◌≡◌, ℕ, zero, suc, ◌+◌, ◌*◌, ◌<◌, ◌≤◌, List, [], ◌∷◌, ◌++◌, length, get_or, ◌⊎◌, None, if◌then◌else◌, Bool, true, false, ◌||◌, ◌&&◌, ⊤}
 use Rattle.sym_shape.specs.declared.rule.Rule.{Rule}
 use Rattle.sym_shape.specs.declared.rule.Row.{Row}
@@ -45,7 +46,7 @@ rule_stack stack number rule = entries_of (symbols_of rule) ++ Close number ∷ 
 
 -- the row of a token, by its place
 abbrev pub place_row : TokenPlace → ℕ → Row
-place_row place number = record { rule = 65535; from = place.from; to = place.to; end = number + 1 }
+place_row place number = record { rule = TOKEN; from = place.from; to = place.to; end = number + 1 }
 
 -- the rows of a rule at a place whose only symbol is a token, and of the token
 abbrev pub lone_rows : Rule → ℕ → TokenPlace → ℕ → List Row

@@ -1,4 +1,5 @@
 -- A grammar as a sheet of rules with byte ranges, and a test of its laws that computes.
+use Rattle.sym_shape.specs.declared.rule.TheConstants.{TOKEN}
 use Rattle.std.specs.Prelude.{ℕ, List, [], ◌∷◌, ◌++◌, length, take, get_or, Bool, true, false, not, ◌&&◌, ◌||◌, nat_le, nat_lt, Option, Some, None, if◌then◌else◌}
 use Rattle.std.specs.List.{list_any}
 use Rattle.sym_core.specs.declared.NumberKind.{NumberKind}
@@ -140,7 +141,7 @@ module _ (blank : KindSheet) (sheet : List KindSheet) (names : NameClass) where
 
   abbrev pub is_lawful_choice : KindSheet → Choice → Bool
   is_lawful_choice kind c =
-      nat_le c.rule.count 5 && nat_lt c.rule.number 65535 && are_known (symbols_of c.rule) && keeps_after kind (symbols_of c.rule) && (c.rule.eats || is_chain kind c (symbols_of c.rule))
+      nat_le c.rule.count 5 && nat_lt c.rule.number TOKEN && are_known (symbols_of c.rule) && keeps_after kind (symbols_of c.rule) && (c.rule.eats || is_chain kind c (symbols_of c.rule))
 
   -- each choice is lawful, and shares no byte with those behind it
   abbrev pub are_lawful_choices : KindSheet → List Choice → Bool

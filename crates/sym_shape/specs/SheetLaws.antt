@@ -1,4 +1,5 @@
 -- A sheet that passes the test is lawful.
+use Rattle.sym_shape.specs.declared.rule.TheConstants.{TOKEN}
 use Rattle.std.proofs.Common.{◌≡◌, ℕ, zero, suc, ◌<◌, List, [], ◌∷◌, ◌++◌, length, get_or, true, false, not, ◌&&◌, ◌||◌, eqb, leb, ltb, Some, is_some, ◌⊎◌, inl, inr, cond, refl, ap, sym, ◌∙◌, subst, arith}
 use Rattle.std.proofs.lemmas.Bool.{false≢true, or_cases, and_parts, or_left, or_right, and_from, leb-true, le-leb, ltb-true, eqb-true, ne_eqb, cases_Bool, not-true}
 use Rattle.sym_core.specs.declared.NumberKind.{NumberKind}
@@ -288,10 +289,10 @@ module _ (blank : KindSheet) (sheet : List KindSheet) (names : NameClass) where
       by_choice : (c : Choice) → is_lawful_choice blank sheet names (get_or sheet k blank) c ≡ true → ((d : ℕ) → in_ranges (classes_of c) d ≡ true → choice_at (get_or sheet k blank).choices d ≡ Some c.rule) → IsLawfulRule (table_of blank sheet names) k c.rule
       by_choice c lawful always =
           let kind = get_or sheet k blank in
-          let four = and_parts (leb c.rule.count 5 && ltb c.rule.number 65535 && are_known blank sheet names (symbols_of c.rule) && keeps_after blank sheet names kind (symbols_of c.rule)) (c.rule.eats || is_chain blank sheet names kind c (symbols_of c.rule)) lawful in
-          let three = and_parts (leb c.rule.count 5 && ltb c.rule.number 65535 && are_known blank sheet names (symbols_of c.rule)) (keeps_after blank sheet names kind (symbols_of c.rule)) four.0 in
-          let two = and_parts (leb c.rule.count 5 && ltb c.rule.number 65535) (are_known blank sheet names (symbols_of c.rule)) three.0 in
-          let one = and_parts (leb c.rule.count 5) (ltb c.rule.number 65535) two.0 in
+          let four = and_parts (leb c.rule.count 5 && ltb c.rule.number TOKEN && are_known blank sheet names (symbols_of c.rule) && keeps_after blank sheet names kind (symbols_of c.rule)) (c.rule.eats || is_chain blank sheet names kind c (symbols_of c.rule)) lawful in
+          let three = and_parts (leb c.rule.count 5 && ltb c.rule.number TOKEN && are_known blank sheet names (symbols_of c.rule)) (keeps_after blank sheet names kind (symbols_of c.rule)) four.0 in
+          let two = and_parts (leb c.rule.count 5 && ltb c.rule.number TOKEN) (are_known blank sheet names (symbols_of c.rule)) three.0 in
+          let one = and_parts (leb c.rule.count 5) (ltb c.rule.number TOKEN) two.0 in
           record {
             count = leb-true _ _ one.0;
             number = ltb-true _ _ one.1;

@@ -1,4 +1,5 @@
 -- The trees of a grammar, and what they spell.
+use Rattle.sym_shape.specs.declared.rule.TheConstants.{TOKEN}
 use Rattle.std.specs.Prelude.{◌≡◌, ℕ, ◌+◌, ◌<◌, ◌≤◌, length, List, [], ◌∷◌, ◌++◌, take, true, Some, if◌then◌else◌, ⊤}
 use Rattle.sym_shape.specs.declared.rule.Rule.{Rule}
 use Rattle.sym_shape.specs.declared.rule.Row.{Row}
@@ -105,7 +106,7 @@ abbrev mutual
       ∷ rows_of_all parts (at + length taken) (number + 1)
   rows_of empty at number = []
   rows_of (token t) at number =
-      record { rule = 65535; from = at + length t.before; to = at + length t.before + length t.own; end = number + 1 } ∷ []
+      record { rule = TOKEN; from = at + length t.before; to = at + length t.before + length t.own; end = number + 1 } ∷ []
   rows_of (fixed byte) at number = []
 
   pub rows_of_all : Forest → ℕ → ℕ → List Row

@@ -1,5 +1,6 @@
 // A reader that is fed in pieces.
 ghost use Rattle.std.specs.Prelude.{◌≡◌, ◌+◌, ◌≤◌, ◌&&◌, [], ◌++◌, length, true, false, None, Some, Ok, Err, OnOk, OnErr, IfOk, IfErr, IfSome};
+ghost use Rattle.sym_core.specs.declared.TheConstants.{MOST_BYTES};
 ghost use Rattle.sym_core.specs.Number.{FitsSymbol};
 ghost use Rattle.sym_shape.specs.Tree.{AreRowsOf, AreStepsOf, BeginsWellShaped};
 ghost use Rattle.sym_shape.specs.Reader.{IsMalformedOrMemory};
@@ -123,7 +124,7 @@ impl<G: Grammar> Reader<G> {
     /// The refusal that the reader has already answered, or `Memory`. A refused piece isn't kept and tells no end.
     pub fn feed(&mut self, piece: &[u8]) -> Result<(), Refusal>
         requires open { self.old.ended ≡ false }
-        requires room { length self.old.bytes + length piece.now ≤ 16777216 }
+        requires room { length self.old.bytes + length piece.now ≤ MOST_BYTES }
         ensures ok { OnOk result (self.new ≡ with_piece self.old piece.now) }
         ensures open { OnOk result (self.old.refused ≡ None) }
         ensures refused { IfErr result (λ refusal. self.new ≡ refusing self.old refusal) }

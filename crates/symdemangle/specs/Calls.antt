@@ -1,4 +1,5 @@
 -- What each exported call answers, and what it writes.
+use Rattle.sym_core.specs.declared.TheConstants.{MOST_BYTES}
 use Rattle.std.specs.Prelude.{◌≡◌, ◌≢◌, ◌⊎◌, ◌<◌, ℕ, zero, suc, List, [], drop, length, codes, ◌++◌, Option, Some, None, Result, Ok, Err, nat_eq, nat_le, if◌then◌else◌}
 use Rattle.std.specs.List.{starts_with}
 use Rattle.sym_core.specs.declared.refusal.Refusal.{Refusal}
@@ -68,7 +69,7 @@ IsFound found bytes (Refused refusal) = refusal ≢ Memory → found ≡ Err ref
 unfoldable pub text_told : Option Detail → (limit : ℕ) → (symbol room : List ℕ) → Told
 text_told None limit symbol room = status_alone 8 room
 text_told (Some detail) limit symbol room =
-    if nat_le (length symbol) 16777216 then answered (answer_of limit detail (symbol_kind symbol) symbol) room
+    if nat_le (length symbol) MOST_BYTES then answered (answer_of limit detail (symbol_kind symbol) symbol) room
     else status_alone 7 room
 
 -- a text with each word that has a text replaced by it
@@ -79,7 +80,7 @@ filter_told (Some detail) limit text room = written (filtered (answer_of limit d
 -- the pressed spelling of a symbol
 unfoldable pub press_told : (symbol room : List ℕ) → Told
 press_told symbol room =
-    if nat_le (length symbol) 16777216 then answered (pressed_of (symbol_kind symbol) symbol) room else status_alone 7 room
+    if nat_le (length symbol) MOST_BYTES then answered (pressed_of (symbol_kind symbol) symbol) room else status_alone 7 room
 
 -- A call ends so, or for want of memory with the room as it was.
 abbrev pub EndsAs : (wanted : Told) → (old_room : List ℕ) → (found : Told) → Type 0
@@ -90,5 +91,5 @@ EndsAs wanted old_room found = (found ≡ wanted) ⊎ (found ≡ status_alone 5 
 abbrev pub Counted : (symbol : List ℕ) → (old new : SymdemangleCounts) → (status place : ℕ) → Type 0
 Counted symbol old new status place =
     ((status ≡ 0) × (place ≡ 0) × AreCountsOf (lang_of symbol) symbol (record { rows = new.rows; nodes = new.nodes; steps = new.steps }))
-    ⊎ ((new ≡ old) × ((status ≡ 5) ⊎ ((status ≡ 7) × (16777216 < length symbol))
+    ⊎ ((new ≡ old) × ((status ≡ 5) ⊎ ((status ≡ 7) × (MOST_BYTES < length symbol))
     ⊎ ((refusal : Refusal) × (refusal ≢ TooLong) × (answer_of 0 Detail.Full (symbol_kind symbol) symbol ≡ Err refusal) × (refused refusal [] ≡ record { status = status; room = []; length = 0; place = place }))))
