@@ -3,8 +3,8 @@
 
     tests/compare.py SYMFILT REFERENCE < SYMBOLS
 
-SYMFILT is the built program. REFERENCE is a program with the same command line behind the word `command`, and with the
-filter behind the word `filter`; one whose name ends in `.py` is run by this Python. SYMBOLS has one symbol a line.
+SYMFILT is the built program. REFERENCE is a program with the same command line, which filters where it has no symbols;
+one whose name ends in `.py` is run by this Python. SYMBOLS has one symbol a line.
 It prints each difference, and its status is 1 where there is one.
 """
 
@@ -23,7 +23,7 @@ def run(command, data=b""):
 def compare_words(symfilt, reference, options, words):
     """The number of differences; a batch that differs is compared word by word."""
     own = run(symfilt + options + words)
-    other = run(reference + ["command"] + options + words)
+    other = run(reference + options + words)
     if own == other:
         return 0
     if len(words) > 1:
@@ -55,7 +55,7 @@ def main():
         for first in range(0, len(words), BATCH):
             differences += compare_words(symfilt, reference, options, words[first : first + BATCH])
     own = run(symfilt, text)
-    other = run(reference + ["filter"], text)
+    other = run(reference, text)
     if own[:2] != other[:2]:
         differences += 1
         print("the filtered texts differ")
