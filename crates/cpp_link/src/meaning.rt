@@ -78,7 +78,7 @@ fn qualified(restrict: bool, volatile: bool, const_: bool, ty: u32) -> Meant
 }
 
 impl Linked {
-    /// The same for a production that is rare: this code takes room for the parts of each.
+    /// What a production stands for that is none of the commonest, which `meant` has. This code takes room for the parts of each.
     ///
     /// # Errors
     ///

@@ -7,3 +7,4 @@ pub mod Numerals
 pub mod Rebuilding
 pub mod Viewing
 pub mod FieldRows
+pub mod Limits

@@ -9,3 +9,4 @@ pub mod Decoded
 pub mod Lists
 pub mod TokenFacts
 pub mod Scanning
+pub mod Limits

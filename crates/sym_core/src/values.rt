@@ -4,6 +4,7 @@
 ghost use Rattle.std.specs.Prelude.{◌≡◌, ◌<◌, ◌≤◌, ◌^◌, length, true, MatchOption, IfSome};
 ghost use Rattle.sym_core.specs.Number.{is_digit_of, AreDigits, AreDigitsOf};
 ghost use Rattle.sym_core.specs.Value.{radix_of, digit_value, value_of, counted_value};
+ghost use Rattle.sym_core.specs.declared.values.TheConstants.{SHORT};
 
 use crate::NumberKind;
 use crate::numbers::{base62_digit, is_digit};
@@ -57,7 +58,7 @@ const SHORT: usize = 10;
 
 /// The number that a few digits stand for, or None where a byte is no digit.
 fn short_value(kind: NumberKind, digits: &[u8]) -> Option<u64>
-    requires { length digits.now ≤ 10 }
+    requires { length digits.now ≤ SHORT }
     ensures value { AreDigits kind digits.now → MatchOption result (2 ^ 64 ≤ value_of kind digits.now) (λ v. v ≡ value_of kind digits.now) }
     ensures digits { IfSome result (λ v. AreDigits kind digits.now) }
 {

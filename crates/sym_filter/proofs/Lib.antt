@@ -6,3 +6,4 @@ pub mod SplitLemmas
 pub mod StreamLemmas
 pub mod TallyLemmas
 pub mod WordLemmas
+pub mod Limits

@@ -15,3 +15,4 @@ pub mod Runs
 pub mod Growth
 pub mod Frames
 pub mod Deciding
+pub mod Limits

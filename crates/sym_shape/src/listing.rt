@@ -4,7 +4,7 @@ ghost use Rattle.sym_shape.specs.Listing.{listed_in, StandsAt};
 
 use crate::rule::Sym;
 
-/// What stands in a list of symbols behind those of a rule.
+/// What stands in a list of symbols behind those of a rule. So no rule of a list has a byte 0 among its symbols.
 pub const END: Sym = Sym::Byte(0);
 
 /// The symbol at a place of a list, or none where a rule's symbols end.

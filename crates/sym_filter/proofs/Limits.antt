@@ -1,0 +1,7 @@
+-- What clauses name by a constant has this number.
+use Rattle.std.specs.Prelude.{◌≡◌}
+use Rattle.std.proofs.Common.{refl}
+use Rattle.sym_filter.specs.declared.kinds.TheConstants.{LONGEST_WORD}
+
+pub longest_word : LONGEST_WORD ≡ 65536
+longest_word = refl
