@@ -2,3 +2,5 @@ mod Row
 mod ListedRows
 mod GeneratedRows
 pub mod Sameness
+pub mod Growing
+pub mod ApartTrees

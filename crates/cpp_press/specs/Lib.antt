@@ -2,3 +2,4 @@ pub mod Same
 pub mod Texts
 pub mod Components
 pub mod Pressing
+pub mod Apart

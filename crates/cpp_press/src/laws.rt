@@ -1,6 +1,7 @@
-// What holds of the test by which pressing compares trees.
+// What holds of pressed spellings, and of the test by which pressing compares trees.
 ghost use Rattle.std.specs.Prelude.{◌≡◌, true};
 ghost use Rattle.cpp_grammar.specs.Term.{Term};
+ghost use Rattle.cpp_press.specs.Apart.{ComponentsAreApart};
 ghost use Rattle.cpp_press.specs.Same.{same_tree};
 
 /// Pressing takes two trees for the same where they are equal, and nowhere else: no mark, number, name or discriminator is left
@@ -8,4 +9,10 @@ ghost use Rattle.cpp_press.specs.Same.{same_tree};
 pub fn trees_are_compared()
     ensures equal { (one other : Term) → same_tree one other ≡ true → one ≡ other }
     ensures itself { (tree : Term) → same_tree tree tree ≡ true }
+{}
+
+/// No two components that are compared and equal are both spelled out. A component with free parameters is compared with those of
+/// its own encoding, and a template name with none before it where no reference can stand.
+pub fn components_are_apart()
+    ensures { ComponentsAreApart }
 {}

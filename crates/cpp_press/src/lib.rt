@@ -4,4 +4,4 @@
 
 mod laws;
 
-pub use laws::trees_are_compared;
+pub use laws::{components_are_apart, trees_are_compared};
