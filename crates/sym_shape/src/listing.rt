@@ -13,7 +13,7 @@ const LAST: u8 = b'z';
 /// What stands in a row where no rule is taken.
 const BLANK: u8 = b' ';
 
-/// What stands in a list of symbols behind those of a rule.
+/// What stands in a list of symbols behind those of a rule. So no rule of a list has a byte 0 among its symbols.
 pub const END: Sym = Sym::Byte(0);
 
 /// The symbols of rules in one list: each rule's in six places, of which the last ones are ends, and before them the start
