@@ -8,23 +8,23 @@ bounds-kind c = below_66 c.args.kind c.requires
 
 pub overflow_sub-result : goal.overflow_sub-result
 unfolding letter
-overflow_sub-result c = (letter_range _ c.args.kind c.args.byte c.in-Some.letter (below_66 c.args.kind c.requires) (omega (arith, c.ranges.byte.fits)) (sym c.letter_in.ensures)).0
+overflow_sub-result c = (letter_range _ c.args.kind c.args.byte c.in-Some.letter (below_66 c.args.kind c.requires) (omega (arith, c.ranges.byte.fits)) (sym c.in-Some.ensures)).0
 
 pub returns-in-Some-clause-few : goal.returns-in-Some-clause-few
 unfolding letter
 returns-in-Some-clause-few c =
-    let within = letter_range _ c.args.kind c.args.byte c.in-Some.letter (below_66 c.args.kind c.requires) (omega (arith, c.ranges.byte.fits)) (sym c.letter_in.ensures) in
+    let within = letter_range _ c.args.kind c.args.byte c.in-Some.letter (below_66 c.args.kind c.requires) (omega (arith, c.ranges.byte.fits)) (sym c.in-Some.ensures) in
     omega (arith, within.0, within.1)
 
 pub returns-in-Some-clause-rule : goal.returns-in-Some-clause-rule
 unfolding letter lettered
 returns-in-Some-clause-rule c = λ head.
-    let within = letter_range _ c.args.kind c.args.byte c.in-Some.letter (below_66 c.args.kind c.requires) (omega (arith, c.ranges.byte.fits)) (sym c.letter_in.ensures) in
+    let within = letter_range _ c.args.kind c.args.byte c.in-Some.letter (below_66 c.args.kind c.requires) (omega (arith, c.ranges.byte.fits)) (sym c.in-Some.ensures) in
     rule_at _ c.args.kind c.args.byte c.requires (omega (arith, c.ranges.byte.fits))
-    ∙ ap (λ found. rule_taken (lettered found)) (sym c.letter_in.ensures)
+    ∙ ap (λ found. rule_taken (lettered found)) (sym c.in-Some.ensures)
     ∙ sym (rule_listed head _ (omega (arith, within.0, within.1)))
 
 pub returns-in-None-clause-rule : goal.returns-in-None-clause-rule
 unfolding letter lettered rule_taken
 returns-in-None-clause-rule c = λ head.
-    rule_at _ c.args.kind c.args.byte c.requires (omega (arith, c.ranges.byte.fits)) ∙ ap (λ found. rule_taken (lettered found)) (sym c.letter_in.ensures)
+    rule_at _ c.args.kind c.args.byte c.requires (omega (arith, c.ranges.byte.fits)) ∙ ap (λ found. rule_taken (lettered found)) (sym c.in-None.ensures)
