@@ -296,19 +296,17 @@ def letters(rules):
 def rust_table():
     columns = "".join(chr(b) for b in range(FIRST, LAST + 1))
     out = [f"// {WRITTEN} The rule that a kind takes at a byte.",
-           "ghost use Rattle.std.specs.Prelude.{◌≡◌, ◌<◌, ◌+◌, ◌*◌, [], IfSome, MatchOption};",
+           "ghost use Rattle.std.specs.Prelude.{◌≡◌, ◌<◌, [], IfSome, MatchOption};",
            "ghost use Rattle.sym_shape.specs.Listing.{StandsAt};", "ghost use Rattle.sym_shape.specs.Table.{symbols_of};",
            "ghost use Rattle.cpp_grammar.specs.Table.{abi, abi_listed, listed_rule};",
            "ghost use Rattle.cpp_grammar.specs.declared.table.Head.{Head};", "",
-           "use sym_core::NumberKind;", "use sym_shape::{END, Rule, Sym, symbol_at};", "",
+           "use sym_core::NumberKind;",
+           "use sym_shape::{END, Rule, Sym, letter_in, place_of, symbol_at, symbols_from, symbols_listed};", "",
            "/// In the place of a symbol that a rule doesn't have.", "const NONE: Sym = END;", ""]
     for i, k in enumerate(K):
         if any(k in syms for ate, syms in P.values()): out += [f"const {snake(k).upper()}: Sym = Sym::Kind({i});", ""]
     for t in (NAME, DECIMAL, SEQ36, DIGITS): out += [f"const {t.upper()}: Sym = {rust_symbol(t)};", ""]
-    out += ["/// The first byte that a rule takes in any kind.", f"const FIRST: u8 = b'{chr(FIRST)}';", "",
-            "/// The last byte that a rule takes in any kind.", f"const LAST: u8 = b'{chr(LAST)}';", "",
-            "/// What stands in `LETTERS` where a kind takes no rule.", "const BLANK: u8 = b' ';", "",
-            "/// The letter of the production with number 0; the others have the letters behind it, in the order of their numbers.",
+    out += ["/// The letter of the production with number 0; the others have the letters behind it, in the order of their numbers.",
             f"const FIRST_LETTER: u8 = b'{chr(FIRST_LETTER)}';", "",
             f"// For each kind a row: for each byte from `{chr(FIRST)}` to `{chr(LAST)}` the letter of the production that the kind takes there.",
             f"static LETTERS: [[u8; {LAST - FIRST + 1}]; {len(K)}] = [", f"    // {columns}"]
@@ -319,38 +317,22 @@ def rust_table():
                 f"            eats: {ate},", "            count: $count,", "        }", "    };", "}", ""]
     out += ["// The rules of the productions, in the order of their numbers.", f"static HEADS: [Head; {len(P)}] = ["]
     out += [f"    {'takes' if ate else 'chains'}!({len(syms)}), // {letter(i)} {p}" for i, (p, (ate, syms)) in enumerate(P.items())]
-    names = ["first", "second", "third", "fourth", "fifth"]
-    out += ["];", "", "// The symbols of the rules, in the same order and each rule's in six places, of which the last ones are ends. Before them",
-            "// stands the start kind.", "macro_rules! symbols {",
-            f"    ($([{', '.join(f'${n}:expr' for n in names)}],)*) => {{", "        [", "            Sym::Kind(0), END, END, END, END, END,",
-            f"            $({', '.join(f'${n}' for n in names)}, END,)*", "        ]", "    };", "}", "",
-            f"static SYMBOLS: [Sym; {6 * len(P) + 6}] = symbols! {{"]
+    out += ["];", "", "// The symbols of the rules, in the same order.",
+            f"static SYMBOLS: [Sym; {6 * len(P) + 6}] = symbols_listed! {{"]
     for i, (p, (ate, syms)) in enumerate(P.items()):
         cells = [f"Sym::Byte(b{x})" if sym_class(x) == "byte" else x.upper() if sym_class(x) == "token" else snake(x).upper() for x in syms] + ["NONE"] * (5 - len(syms))
         out.append(f"    [{', '.join(cells)}], // {letter(i)} {p}")
-    out += ["};", ""] + f'''/// The place in `SYMBOLS` of the first symbol of the rule with a number.
-fn place_of(number: usize) -> usize
-    requires {{ number < {len(P)} }}
-    ensures {{ result ≡ number * 6 + 6 }}
-{{
-    number * 6 + 6
-}}
-
-/// The number of the rule that a kind takes at a byte, if it takes one.
+    out += ["};", ""] + f'''/// The number of the rule that a kind takes at a byte, if it takes one.
 #[inline]
 fn number(kind: u16, byte: u8) -> Option<usize>
     requires {{ kind < abi.kinds }}
     ensures few {{ IfSome result (λ number. number < {len(P)}) }}
-    ensures rule {{ (head : Head) (none : Sym) → MatchOption result (abi.rule kind byte ≡ None) (λ number. abi.rule kind byte ≡ Some (listed_rule head none number)) }}
+    ensures rule {{ (head : Head) → MatchOption result (abi.rule kind byte ≡ None) (λ number. abi.rule kind byte ≡ Some (listed_rule head number)) }}
 {{
-    if byte < FIRST || byte > LAST {{
-        return None;
+    match letter_in(&LETTERS[kind as usize], byte) {{
+        Some(letter) => Some(letter as usize - FIRST_LETTER as usize),
+        None => None,
     }}
-    let letter = LETTERS[kind as usize][(byte - FIRST) as usize];
-    if letter == BLANK {{
-        return None;
-    }}
-    Some((letter - FIRST_LETTER) as usize)
 }}
 
 /// The rule that a kind takes at a byte, if it takes one.
@@ -362,18 +344,11 @@ pub fn rule(kind: u16, byte: u8) -> Option<Rule>
     match number(kind, byte) {{
         Some(number) => {{
             let head = &HEADS[number];
-            let place = place_of(number);
             Some(Rule {{
                 number: number as u16,
                 eats: head.eats,
                 count: head.count,
-                symbols: [
-                    SYMBOLS[place],
-                    SYMBOLS[place + 1],
-                    SYMBOLS[place + 2],
-                    SYMBOLS[place + 3],
-                    SYMBOLS[place + 4],
-                ],
+                symbols: symbols_from(&SYMBOLS, place_of(number)),
             }})
         }}
         None => None,

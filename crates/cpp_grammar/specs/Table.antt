@@ -1,5 +1,5 @@
 -- The table of C++ symbols: the grammar in the form that the reader takes.
-use Rattle.std.specs.Prelude.{ℕ, zero, suc, ◌+◌, ◌*◌, List, [], ◌∷◌, ◌++◌, length, get_or, map, false, not, Option, Some, None}
+use Rattle.std.specs.Prelude.{ℕ, zero, suc, ◌+◌, ◌*◌, List, [], ◌∷◌, ◌++◌, length, get_or, take, drop, map, false, not, Option, Some, None}
 use Rattle.sym_shape.specs.declared.rule.Rule.{Rule}
 use Rattle.sym_core.specs.declared.NameClass.TheVariants.{Cpp}
 use Rattle.sym_shape.specs.declared.rule.Sym.{Sym}
@@ -65,18 +65,13 @@ abi = table_of blank sheet Cpp
 abbrev pub abi_listed : ℕ → List Sym
 abi_listed place = listed_in SYMBOLS place
 
--- the rule with a number in the code's lists; `head` and `none` stand for what isn't there
-unfoldable pub listed_rule : Head → Sym → ℕ → Rule
-listed_rule head none number = record {
+-- the rule with a number in the code's lists; `head` stands for what isn't there
+unfoldable pub listed_rule : Head → ℕ → Rule
+listed_rule head number = record {
   number = number;
   eats = (get_or HEADS number head).eats;
   count = (get_or HEADS number head).count;
-  symbols =
-      get_or SYMBOLS (number * 6 + 6) none
-      ∷ get_or SYMBOLS (number * 6 + 6 + 1) none
-      ∷ get_or SYMBOLS (number * 6 + 6 + 2) none
-      ∷ get_or SYMBOLS (number * 6 + 6 + 3) none
-      ∷ get_or SYMBOLS (number * 6 + 6 + 4) none ∷ [];
+  symbols = take 5 (drop (number * 6 + 6) SYMBOLS);
 }
 
 unfoldable pub sheet_before : List KindSheet

@@ -71,6 +71,35 @@ const R: ByteRange = ByteRange {
     to: b'R',
 };
 
+/// The start kind, as the symbols of a rule.
+const START: [Sym; 5] = [Sym::Kind(SYMBOL), NO, NO, NO, NO];
+
+const WHOLE: [Sym; 5] = [Sym::Byte(b'T'), Sym::Kind(PATH), NO, NO, NO];
+
+const CRATE: [Sym; 5] = [Sym::Name, NO, NO, NO, NO];
+
+const GENERIC: [Sym; 5] = [Sym::Kind(PATH), Sym::Kind(TYPES), NO, NO, NO];
+
+const LETTER: [Sym; 5] = [NO, NO, NO, NO, NO];
+
+const REFERENCE: [Sym; 5] = [Sym::Kind(LIFE), Sym::Kind(TYPE), NO, NO, NO];
+
+const ARRAY: [Sym; 5] = [
+    Sym::Number(NumberKind::Digits),
+    Sym::Byte(b'_'),
+    Sym::Kind(TYPE),
+    NO,
+    NO,
+];
+
+const NAMED: [Sym; 5] = [Sym::Kind(PATH), NO, NO, NO, NO];
+
+const LAST: [Sym; 5] = [NO, NO, NO, NO, NO];
+
+const MORE: [Sym; 5] = [Sym::Kind(TYPE), Sym::Kind(TYPES), NO, NO, NO];
+
+const LIFETIME: [Sym; 5] = [Sym::Number(NumberKind::Base62), NO, NO, NO, NO];
+
 /// "_T" and a path.
 pub const SYMBOL_RULES: [Choice; 1] = [Choice {
     ranges: 1,
@@ -79,7 +108,7 @@ pub const SYMBOL_RULES: [Choice; 1] = [Choice {
         number: 0,
         eats: true,
         count: 2,
-        symbols: [Sym::Byte(b'T'), Sym::Kind(PATH), NO, NO, NO],
+        symbols: WHOLE,
     },
 }];
 
@@ -92,7 +121,7 @@ pub const PATH_RULES: [Choice; 2] = [
             number: 1,
             eats: true,
             count: 1,
-            symbols: [Sym::Name, NO, NO, NO, NO],
+            symbols: CRATE,
         },
     },
     Choice {
@@ -102,7 +131,7 @@ pub const PATH_RULES: [Choice; 2] = [
             number: 2,
             eats: true,
             count: 2,
-            symbols: [Sym::Kind(PATH), Sym::Kind(TYPES), NO, NO, NO],
+            symbols: GENERIC,
         },
     },
 ];
@@ -116,7 +145,7 @@ pub const TYPE_RULES: [Choice; 4] = [
             number: 3,
             eats: true,
             count: 0,
-            symbols: [NO, NO, NO, NO, NO],
+            symbols: LETTER,
         },
     },
     Choice {
@@ -126,7 +155,7 @@ pub const TYPE_RULES: [Choice; 4] = [
             number: 4,
             eats: true,
             count: 2,
-            symbols: [Sym::Kind(LIFE), Sym::Kind(TYPE), NO, NO, NO],
+            symbols: REFERENCE,
         },
     },
     Choice {
@@ -136,13 +165,7 @@ pub const TYPE_RULES: [Choice; 4] = [
             number: 5,
             eats: true,
             count: 3,
-            symbols: [
-                Sym::Number(NumberKind::Digits),
-                Sym::Byte(b'_'),
-                Sym::Kind(TYPE),
-                NO,
-                NO,
-            ],
+            symbols: ARRAY,
         },
     },
     Choice {
@@ -152,7 +175,7 @@ pub const TYPE_RULES: [Choice; 4] = [
             number: 6,
             eats: false,
             count: 1,
-            symbols: [Sym::Kind(PATH), NO, NO, NO, NO],
+            symbols: NAMED,
         },
     },
 ];
@@ -166,7 +189,7 @@ pub const TYPES_RULES: [Choice; 2] = [
             number: 7,
             eats: true,
             count: 0,
-            symbols: [NO, NO, NO, NO, NO],
+            symbols: LAST,
         },
     },
     Choice {
@@ -176,7 +199,7 @@ pub const TYPES_RULES: [Choice; 2] = [
             number: 8,
             eats: false,
             count: 2,
-            symbols: [Sym::Kind(TYPE), Sym::Kind(TYPES), NO, NO, NO],
+            symbols: MORE,
         },
     },
 ];
@@ -189,31 +212,14 @@ pub const LIFE_RULES: [Choice; 1] = [Choice {
         number: 9,
         eats: true,
         count: 1,
-        symbols: [Sym::Number(NumberKind::Base62), NO, NO, NO, NO],
+        symbols: LIFETIME,
     },
 }];
 
-// Rows of three symbols in one list, with an end behind each.
-macro_rules! listed {
-    ($([$first:expr, $second:expr, $third:expr],)*) => {
-        [$($first, $second, $third, END,)*]
-    };
-}
-
-/// The symbols of all rules by their numbers, each rule's in four places. Before them stands the start kind.
-pub const SYMBOLS: [Sym; 44] = listed! {
-    [Sym::Kind(SYMBOL), NO, NO], // the start
-    [Sym::Byte(b'T'), Sym::Kind(PATH), NO], // 0
-    [Sym::Name, NO, NO], // 1
-    [Sym::Kind(PATH), Sym::Kind(TYPES), NO], // 2
-    [NO, NO, NO], // 3
-    [Sym::Kind(LIFE), Sym::Kind(TYPE), NO], // 4
-    [Sym::Number(NumberKind::Digits), Sym::Byte(b'_'), Sym::Kind(TYPE)], // 5
-    [Sym::Kind(PATH), NO, NO], // 6
-    [NO, NO, NO], // 7
-    [Sym::Kind(TYPE), Sym::Kind(TYPES), NO], // 8
-    [Sym::Number(NumberKind::Base62), NO, NO], // 9
-};
+/// The symbols of all rules by their numbers, behind the start kind.
+static SYMBOLS: [[Sym; 5]; 11] = [
+    START, WHOLE, CRATE, GENERIC, LETTER, REFERENCE, ARRAY, NAMED, LAST, MORE, LIFETIME,
+];
 
 /// The grammar.
 pub struct Paths;
@@ -223,13 +229,12 @@ impl Grammar for Paths {
     ghost use Rattle.sym_core.specs.declared.NameClass.TheVariants.{Rust};
     ghost use Rattle.sym_shape.specs.Listing.{listed_in};
     ghost use Rattle.sym_shape.specs.Sheet.{table_of};
-    ghost use Rattle.example_grammar.specs.declared.TheConstants.{SYMBOLS};
     ghost use Rattle.sym_shape.specs.SheetLaws.{lawful_sheet};
-    ghost use Rattle.example_grammar.specs.Paths.{blank, sheet};
+    ghost use Rattle.example_grammar.specs.Paths.{blank, sheet, symbols};
 
     ghost table = { table_of blank sheet Rust };
 
-    ghost listed = { listed_in SYMBOLS };
+    ghost listed = { listed_in symbols };
 
     ghost start = { refl };
 
@@ -246,13 +251,13 @@ impl Grammar for Paths {
 
     fn place(&self, kind: u16, byte: u8) -> u32 {
         match self.rule(kind, byte) {
-            Some(rule) => u32::from(rule.number) * 4 + 4,
+            Some(rule) => u32::from(rule.number) * 5 + 5,
             None => 0,
         }
     }
 
     fn symbol(&self, place: u32) -> Option<Sym> {
-        symbol_at(&SYMBOLS, place)
+        symbol_at(SYMBOLS.as_flattened(), place)
     }
 
     fn may_be_empty(&self, kind: u16) -> bool {

@@ -18,7 +18,7 @@ use crate::texts;
 use sym_print::PartList;
 
 impl Symbol {
-    /// Whether the list has something.
+    /// Whether there are arguments.
     #[tactic(auto, unfolding(crate::specs::Nodes::arguments_of))]
     #[inline(always)]
     pub(crate) fn any_arguments(&self, node: u32) -> bool
@@ -33,7 +33,7 @@ impl Symbol {
         }
     }
 
-    /// Whether the list has something.
+    /// Whether there are types.
     #[tactic(auto, unfolding(crate::specs::Nodes::types_of))]
     #[inline(always)]
     pub(crate) fn any_types(&self, node: u32) -> bool
@@ -46,7 +46,7 @@ impl Symbol {
         }
     }
 
-    /// Whether the list has something.
+    /// Whether there are bounds.
     #[tactic(auto, unfolding(crate::specs::Nodes::bounds_of))]
     pub(crate) fn any_bounds(&self, node: u32) -> bool
         requires { (bs : tree.Bounds) × IsBounds (trees_of self.now) node bs }
@@ -58,7 +58,7 @@ impl Symbol {
         }
     }
 
-    /// Whether the list has something.
+    /// Whether there are bindings.
     #[tactic(auto, unfolding(crate::specs::Nodes::bindings_of))]
     pub(crate) fn any_bindings(&self, node: u32) -> bool
         requires { (b : tree.Bindings) × IsBindings (trees_of self.now) node b }
@@ -70,7 +70,7 @@ impl Symbol {
         }
     }
 
-    /// Adds the list's item, if the list has something.
+    /// Adds the item of arguments, if there are any.
     #[inline(always)]
     pub(crate) fn push_arguments<S: PartList<Context>>(
         &self,
@@ -93,7 +93,7 @@ impl Symbol {
         }
     }
 
-    /// Adds the list's item, if the list has something.
+    /// Adds the item of types, if there are any.
     #[inline(always)]
     pub(crate) fn push_types<S: PartList<Context>>(
         &self,
@@ -116,7 +116,7 @@ impl Symbol {
         }
     }
 
-    /// Adds the list's item, if the list has something.
+    /// Adds the item of bounds, if there are any.
     pub(crate) fn push_bounds<S: PartList<Context>>(
         &self,
         parts: &mut S,
@@ -138,7 +138,7 @@ impl Symbol {
         }
     }
 
-    /// Adds the list's item, if the list has something.
+    /// Adds the item of bindings, if there are any.
     pub(crate) fn push_bindings<S: PartList<Context>>(
         &self,
         parts: &mut S,

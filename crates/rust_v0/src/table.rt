@@ -1,6 +1,6 @@
 // The rule that a kind takes at a byte.
 
-ghost use Rattle.std.specs.Prelude.{◌≡◌, ◌<◌, ◌+◌, ◌*◌, [], IfSome, MatchOption};
+ghost use Rattle.std.specs.Prelude.{◌≡◌, ◌<◌, [], IfSome, MatchOption};
 ghost use Rattle.sym_shape.specs.Listing.{listed_in, StandsAt};
 ghost use Rattle.sym_shape.specs.Table.{symbols_of};
 ghost use Rattle.rust_v0.specs.declared.table.TheConstants.{SYMBOLS};
@@ -17,7 +17,7 @@ use crate::production::Production;
 use sym_core::NumberKind;
 use sym_shape::rule::Rule;
 use sym_shape::rule::Sym::{self, Byte, Kind, Name, Number};
-use sym_shape::{END, symbol_at};
+use sym_shape::{END, letter_in, place_of, symbol_at, symbols_from, symbols_listed};
 
 const BASE62: Sym = Number(NumberKind::Base62);
 
@@ -25,15 +25,6 @@ const HEX: Sym = Number(NumberKind::Hex);
 
 /// What stands where a rule has no symbol.
 const NONE: Sym = END;
-
-/// The first byte that a rule takes in any kind.
-const FIRST: u8 = b'$';
-
-/// The last byte that a rule takes in any kind.
-const LAST: u8 = b'z';
-
-/// What stands in `LETTERS` where a kind takes no rule.
-const BLANK: u8 = b' ';
 
 // For each kind a row: for each byte from `$` to `z` the letter of the rule that the kind takes there. A rule has one letter,
 // so that a row is one string to be read below the bytes, and one byte a place in memory.
@@ -150,18 +141,8 @@ static HEADS: [Head; 49] = [
     takes!(BoundsEnd, 0), // [
 ];
 
-// The symbols of the rules, in the same order and each rule's in six places, of which the last ones are ends. Before them
-// stands the start kind.
-macro_rules! symbols {
-    ($([$first:expr, $second:expr, $third:expr, $fourth:expr, $fifth:expr],)*) => {
-        [
-            Kind(kind::SYMBOL), END, END, END, END, END,
-            $($first, $second, $third, $fourth, $fifth, END,)*
-        ]
-    };
-}
-
-static SYMBOLS: [Sym; 300] = symbols! {
+// The symbols of the rules, in the same order.
+static SYMBOLS: [Sym; 300] = symbols_listed! {
     [Kind(TYPE), Kind(TYPES), NONE, NONE, NONE], // +: TypesMore
     [Kind(TYPE), Kind(ARGUMENTS), NONE, NONE, NONE], // ,: TypeArgument
     [NONE, NONE, NONE, NONE, NONE], // -: Minus
@@ -213,29 +194,17 @@ static SYMBOLS: [Sym; 300] = symbols! {
     [NONE, NONE, NONE, NONE, NONE], // [: BoundsEnd
 };
 
-/// The place in `SYMBOLS` of the first symbol of the rule with a number.
-fn place_of(number: usize) -> usize
-    requires { number < 49 }
-    ensures { result ≡ number * 6 + 6 }
-{
-    number * 6 + 6
-}
-
 /// The number in `HEADS` of the rule that a kind takes at a byte, if it takes one.
 #[inline]
 fn number(kind: u16, byte: u8) -> Option<usize>
     requires { kind < v0_table.kinds }
     ensures few { IfSome result (λ number. number < 49) }
-    ensures rule { (head : Head) (none : Sym) → MatchOption result (v0_table.rule kind byte ≡ None) (λ number. v0_table.rule kind byte ≡ Some (listed_rule head none number)) }
+    ensures rule { (head : Head) → MatchOption result (v0_table.rule kind byte ≡ None) (λ number. v0_table.rule kind byte ≡ Some (listed_rule head number)) }
 {
-    if byte < FIRST || byte > LAST {
-        return None;
+    match letter_in(&LETTERS[kind as usize], byte) {
+        Some(letter) => Some(letter as usize - FIRST_LETTER as usize),
+        None => None,
     }
-    let letter = LETTERS[kind as usize][(byte - FIRST) as usize];
-    if letter == BLANK {
-        return None;
-    }
-    Some(letter as usize - FIRST_LETTER as usize)
 }
 
 /// The rule that a kind takes at a byte, if it takes one.
@@ -247,18 +216,11 @@ pub fn rule(kind: u16, byte: u8) -> Option<Rule>
     match number(kind, byte) {
         Some(number) => {
             let head = &HEADS[number];
-            let place = place_of(number);
             Some(Rule {
                 number: head.number,
                 eats: head.eats,
                 count: head.count,
-                symbols: [
-                    SYMBOLS[place],
-                    SYMBOLS[place + 1],
-                    SYMBOLS[place + 2],
-                    SYMBOLS[place + 3],
-                    SYMBOLS[place + 4],
-                ],
+                symbols: symbols_from(&SYMBOLS, place_of(number)),
             })
         }
         None => None,

@@ -1,5 +1,6 @@
 pub mod Forests
 pub mod Lists
+pub mod Listed
 pub mod Tokens
 pub mod Firsts
 pub mod Follows

@@ -1,5 +1,7 @@
--- The symbols of all rules in one list.
-use Rattle.std.specs.Prelude.{◌≡◌, ℕ, zero, suc, ◌+◌, ◌<◌, List, [], ◌∷◌, drop}
+-- The rules of a grammar as code lists them: a row of letters for each kind, and the symbols of all rules in one list.
+use Rattle.std.specs.Prelude.{◌≡◌, ℕ, zero, suc, ◌+◌, ◌-◌, ◌<◌, nat_lt, nat_eq, List, [], ◌∷◌, drop, Option, Some, None, cond}
+use Rattle.std.specs.List.{slice_get}
+use Rattle.sym_shape.specs.declared.listing.TheConstants.{FIRST, BLANK}
 use Rattle.sym_shape.specs.declared.rule.Sym.{Sym}
 use Rattle.sym_shape.specs.declared.rule.Sym.TheVariants.{Kind, Name, Number, Byte}
 
@@ -21,3 +23,12 @@ up_to_end (Number kind ∷ xs) = Number kind ∷ up_to_end xs
 -- those of a list from a place on
 abbrev pub listed_in : List Sym → ℕ → List Sym
 listed_in symbols place = up_to_end (drop place symbols)
+
+-- the letter that stands at a place of a row, if one does
+unfoldable pub unless_blank : Option ℕ → Option ℕ
+unless_blank None = None
+unless_blank (Some letter) = cond (nat_eq letter BLANK) None (Some letter)
+
+-- the letter of a row that stands below a byte: a row begins at `$`
+unfoldable pub letter_below : List ℕ → ℕ → Option ℕ
+letter_below row byte = cond (nat_lt byte FIRST) None (unless_blank (slice_get row (byte - FIRST)))

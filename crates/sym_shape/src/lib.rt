@@ -21,7 +21,7 @@ pub use grammar::Grammar;
 pub use laws::{
     change_is_found_behind, each_is_decided, front_is_cut_off, grown_keeps, one_bad_byte, one_tree,
 };
-pub use listing::{END, symbol_at};
+pub use listing::{END, letter_in, place_of, symbol_at, symbols_from};
 pub use reader::Reader;
 pub use rule::{Row, Rule, Sym, TOKEN};
 pub use shape::{Shape, read, read_into};

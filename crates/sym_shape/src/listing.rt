@@ -1,11 +1,71 @@
-// The symbols of all rules in one list.
-ghost use Rattle.std.specs.Prelude.{◌≡◌, ◌≤◌, [], length, MatchOption};
-ghost use Rattle.sym_shape.specs.Listing.{listed_in, StandsAt};
+// The rules of a grammar as code lists them: a row of letters for each kind, and the symbols of all rules in one list.
+ghost use Rattle.std.specs.Prelude.{◌≡◌, ◌≤◌, ◌+◌, ◌*◌, [], length, take, drop, MatchOption};
+ghost use Rattle.sym_shape.specs.Listing.{letter_below, listed_in, StandsAt};
 
 use crate::rule::Sym;
 
+/// The byte at which a row of letters begins.
+const FIRST: u8 = b'$';
+
+/// The byte at which it ends.
+const LAST: u8 = b'z';
+
+/// What stands in a row where no rule is taken.
+const BLANK: u8 = b' ';
+
 /// What stands in a list of symbols behind those of a rule. So no rule of a list has a byte 0 among its symbols.
 pub const END: Sym = Sym::Byte(0);
+
+/// The symbols of rules in one list: each rule's in six places, of which the last ones are ends, and before them the start
+/// kind.
+#[macro_export]
+macro_rules! symbols_listed {
+    ($([$first:expr, $second:expr, $third:expr, $fourth:expr, $fifth:expr],)*) => {
+        [
+            $crate::Sym::Kind(0), $crate::END, $crate::END, $crate::END, $crate::END, $crate::END,
+            $($first, $second, $third, $fourth, $fifth, $crate::END,)*
+        ]
+    };
+}
+
+/// The letter of a row that stands below a byte: rows go from `$` to `z`, and no rule is taken at another byte.
+#[inline(always)]
+pub fn letter_in(row: &[u8; 87], byte: u8) -> Option<u8>
+    ensures { result ≡ letter_below row.now byte }
+{
+    if byte < FIRST || byte > LAST {
+        return None;
+    }
+    let letter = row[(byte - FIRST) as usize];
+    if letter == BLANK {
+        return None;
+    }
+    Some(letter)
+}
+
+/// The place of the first symbol of the rule with a number, in a list of six places a rule.
+#[inline(always)]
+pub fn place_of(number: usize) -> usize
+    requires { number ≤ 65535 }
+    ensures { result ≡ number * 6 + 6 }
+{
+    number * 6 + 6
+}
+
+/// The five symbols that stand in a list from a place on.
+#[inline(always)]
+pub fn symbols_from(symbols: &[Sym], place: usize) -> [Sym; 5]
+    requires { place + 5 ≤ length symbols.now }
+    ensures { result ≡ take 5 (drop place symbols.now) }
+{
+    [
+        symbols[place],
+        symbols[place + 1],
+        symbols[place + 2],
+        symbols[place + 3],
+        symbols[place + 4],
+    ]
+}
 
 /// The symbol at a place of a list, or none where a rule's symbols end.
 #[inline(always)]

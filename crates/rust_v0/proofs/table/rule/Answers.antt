@@ -1,14 +1,13 @@
 use Rattle.std.proofs.Common.{false, sym}
-use Rattle.sym_shape.specs.declared.rule.Sym.TheVariants.{Name}
 use Rattle.rust_v0.specs.Listed.{listed_rule}
 use Rattle.rust_v0.specs.declared.table.Head.{Head}
 use Rattle.rust_v0.proofs.table.rule.Goals as goal
 
 pub returns-in-Some : goal.returns-in-Some
 unfolding listed_rule
-returns-in-Some c = rw c.place_of-place.ensures (sym (c.in-Some.ensures.rule _ _))
+returns-in-Some c = rw (c.symbols_from.ensures, c.place_of.ensures) (sym (c.in-Some.ensures.rule _))
 
 pub returns-in-None : goal.returns-in-None
 returns-in-None c =
     let head : Head = record { number = 0; eats = false; count = 0 } in
-    sym (c.in-None.ensures.rule head Name)
+    sym (c.in-None.ensures.rule head)

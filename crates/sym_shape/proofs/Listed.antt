@@ -1,0 +1,49 @@
+-- Rows of letters, and lists that are compared at each place by computing.
+use Rattle.std.proofs.Common.{◌≡◌, ℕ, ◌-◌, ◌<◌, ◌≤◌, get_or, slice_get, List, map, length, cond, Some, None, ap, sym, ◌∙◌, arith}
+use Rattle.std.proofs.lemmas.Bool.{lt-ltb, le-ltb, ne_eqb}
+use Rattle.std.proofs.lemmas.List.FromFn.{get_or-map-range_with_len}
+use Rattle.std.proofs.lemmas.Option.{slice_get_past, slice_get-get_or}
+use Rattle.std.specs.List.{range_with_len}
+use Rattle.sym_shape.specs.Listing.{letter_below, unless_blank}
+
+-- no letter stands before a row or behind it
+pub no_letter_before : (row : List ℕ) (byte : ℕ) → byte < 36 → letter_below row byte ≡ None
+unfolding letter_below
+no_letter_before row byte lt = ap (λ b. cond b None (unless_blank (slice_get row (byte - 36)))) (lt-ltb byte 36 lt)
+
+letter_inside : (row : List ℕ) (byte : ℕ) → 36 ≤ byte → letter_below row byte ≡ unless_blank (slice_get row (byte - 36))
+unfolding letter_below
+letter_inside row byte le = ap (λ b. cond b None (unless_blank (slice_get row (byte - 36)))) (le-ltb byte 36 le)
+
+pub no_letter_behind : (row : List ℕ) (byte : ℕ) → length row ≡ 87 → 122 < byte → letter_below row byte ≡ None
+unfolding unless_blank
+no_letter_behind row byte long gt =
+    letter_inside row byte (omega (arith, gt)) ∙ ap unless_blank (slice_get_past row (byte - 36) (omega (arith, long, gt)))
+
+-- what stands below a byte, by whether it is a blank
+letter_there : (row : List ℕ) (byte d : ℕ) → length row ≡ 87 → 36 ≤ byte → byte ≤ 122 → letter_below row byte ≡ unless_blank (Some (get_or row (byte - 36) d))
+letter_there row byte d long low high =
+    letter_inside row byte low ∙ ap unless_blank (slice_get-get_or row (byte - 36) d (omega (arith, long, low, high)))
+
+pub no_letter_in : (row : List ℕ) (byte d : ℕ) → length row ≡ 87 → 36 ≤ byte → byte ≤ 122 → get_or row (byte - 36) d ≡ 32 → letter_below row byte ≡ None
+unfolding unless_blank
+no_letter_in row byte d long low high blank = letter_there row byte d long low high ∙ ap (λ l. unless_blank (Some l)) blank
+
+pub letter_in : (row : List ℕ) (byte d : ℕ) → length row ≡ 87 → 36 ≤ byte → byte ≤ 122 → (get_or row (byte - 36) d ≡ 32 → ⊥) → letter_below row byte ≡ Some (get_or row (byte - 36) d)
+unfolding unless_blank
+letter_in row byte d long low high full =
+    letter_there row byte d long low high ∙ ap (λ b. cond b None (Some (get_or row (byte - 36) d))) (ne_eqb (get_or row (byte - 36) d) 32 full)
+
+-- two functions that agree on all numbers below n, by lists
+pub alike_at : {X : Type 0} (f g : ℕ → X) (n k : ℕ) → map f (range_with_len 0 n) ≡ map g (range_with_len 0 n) → k < n → f k ≡ g k
+alike_at f g n k all lt =
+    sym (get_or-map-range_with_len f 0 n k k (f k) lt (omega arith))
+    ∙ ap (λ xs. get_or xs k (f k)) all
+    ∙ get_or-map-range_with_len g 0 n k k (f k) lt (omega arith)
+
+-- two tables that agree in all rows and columns
+pub alike_in : {X : Type 0} (f g : ℕ → ℕ → X) (rows columns k i : ℕ)
+    → map (λ k. map (f k) (range_with_len 0 columns)) (range_with_len 0 rows) ≡ map (λ k. map (g k) (range_with_len 0 columns)) (range_with_len 0 rows)
+    → k < rows → i < columns → f k i ≡ g k i
+alike_in f g rows columns k i all row column =
+    alike_at (f k) (g k) columns i (alike_at (λ k. map (f k) (range_with_len 0 columns)) (λ k. map (g k) (range_with_len 0 columns)) rows k all row) column
