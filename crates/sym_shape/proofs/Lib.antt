@@ -14,4 +14,5 @@ pub mod Steps
 pub mod Runs
 pub mod Growth
 pub mod Frames
+pub mod Rooms
 pub mod Deciding
