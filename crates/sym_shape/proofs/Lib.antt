@@ -14,5 +14,4 @@ pub mod Steps
 pub mod Runs
 pub mod Growth
 pub mod Frames
-pub mod Rooms
 pub mod Deciding
