@@ -67,11 +67,6 @@ state_behind s old mid last p byte kept parts candidate packs began stays kept_t
     ∙ comes (candidates_of (trees_in s mid.nodes) mid.candidates.items) ∙ appended
     ∙ rw (nodes, after) refl
 
--- no more nodes are made than are owed
-pub few_owed : (number held old new : ℕ) → new ≤ old + made_at_end (production_at number) → new - 3 + 0 ≤ old - 3 + owes number held
-unfolding owes owes_of
-few_owed number held old new few = omega (arith, few)
-
 -- a production that is none of the commonest is rare
 pub is_rare : (p : Production) → (p ≡ Production.NestNext → ⊥) → (p ≡ Production.SourceName → ⊥) → (p ≡ Production.PlainType → ⊥) → (p ≡ Production.NestEnd → ⊥) → (p ≡ Production.Items → ⊥) → (p ≡ Production.NestSource → ⊥) → (p ≡ Production.Builtin → ⊥) → (p ≡ Production.TypeArgument → ⊥) → (p ≡ Production.Symbol → ⊥) → (p ≡ Production.NestedType → ⊥) → (p ≡ Production.Encoding → ⊥) → (p ≡ Production.NestedName → ⊥) → (p ≡ Production.Arguments → ⊥) → (p ≡ Production.NestWithS → ⊥) → (p ≡ Production.NestAbbreviated → ⊥) → (p ≡ Production.TypeWithS → ⊥) → (p ≡ Production.AbbreviatedType → ⊥) → IsRare p
 is_rare Production.NestNext h0 h1 h2 h3 h4 h5 h6 h7 h8 h9 h10 h11 h12 h13 h14 h15 h16 = absurd (h0 refl)

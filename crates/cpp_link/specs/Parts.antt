@@ -139,5 +139,5 @@ IsKeptThere n kept = nodes.IsArgumentsBelow n (scope_of kept) × IsPrefixThere n
 
 abbrev pub IsStepThere : List ℕ → (held n : ℕ) → Step → Type 0
 IsStepThere s held n (Step.Go candidate then packs) = nodes.IsArgumentsBelow n candidate × IsKeptThere n then
-IsStepThere s held n (Step.Named node listed) = node < n
+IsStepThere s held n (Step.Named node listed is_name) = node < n
 IsStepThere s held n (Step.Made node listed is_name is_candidate packs) = IsBelow s held n node

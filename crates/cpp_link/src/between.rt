@@ -1,9 +1,11 @@
 // What is done before the next part of a rule.
 
-ghost use Rattle.std.specs.Prelude.{◌≡◌, ℕ, ◌+◌, ◌<◌, ◌≤◌, ◌∷◌, List, length, take, drop, true, false, Some, None, IfOk, IfErr, OnOk};
+ghost use Rattle.std.specs.Prelude.{◌≡◌, ℕ, ◌+◌, ◌<◌, ◌≤◌, ◌∷◌, ◌++◌, [], List, length, take, drop, true, false, Some, None, IfOk, IfErr, OnOk};
 ghost use Rattle.sym_core.specs.declared.refusal.Refusal.TheVariants as refusals;
 ghost use Rattle.sym_link.specs.Linking.{HasRoom, Adds, Pays, owed_behind, owed_next};
-ghost use Rattle.sym_link.specs.Threads.{IsOpenAt, GoesOn};
+ghost use Rattle.sym_link.specs.Threads.{IsOpenAt, GoesOn, AddsBefore};
+ghost use Rattle.cpp_grammar.specs.declared.production.Production.TheVariants as productions;
+ghost use Rattle.cpp_link.specs.declared.part.Part.TheVariants as variants;
 ghost use Rattle.cpp_term.specs.Term.{Term};
 ghost use Rattle.cpp_grammar.specs.Unfolding.{production_at};
 ghost use Rattle.cpp_tree.specs.Nodes.{IsArgumentsBelow, IsBelow, tree_at};
@@ -11,7 +13,7 @@ ghost use Rattle.cpp_link.specs.Grows.{Grows, HasPlace};
 ghost use Rattle.cpp_link.specs.Making.{state_of};
 ghost use Rattle.cpp_link.specs.Parts.{trees_in, tree_of_node, around_of, candidates_of, AreThere, IsKeptThere, AreCandidatesThere, IsStepThere};
 ghost use Rattle.cpp_link.specs.Reads.{with_candidate, named_if, appended_if};
-ghost use Rattle.cpp_link.specs.Stepping.{IsStepOf, Takes, quiet_parts};
+ghost use Rattle.cpp_link.specs.Stepping.{IsStepOf, Takes, CountsStep, nodes_of_step, quiet_parts};
 ghost use Rattle.cpp_link.specs.View.{Surrounds, cpp_view};
 
 use crate::dispatch::production_of;
@@ -154,6 +156,9 @@ impl Linked {
         requires there { AreCandidatesThere (length self.old.nodes.nodes) self.old.candidates.items }
         requires parts { AreThere symbol.now (length self.old.nodes.nodes) (drop base parts.old.items) }
         ensures takes { IfOk result (λ then. Takes symbol.now self.old self.new kept base parts.old.items parts.new.items step then) }
+        ensures few { (production : Production) → IsStepOf production (length (drop base parts.old.items)) step
+            → (production ≡ productions.PackArgument → drop base parts.old.items ≡ variants.Nothing ∷ [] → nodes_of_step step ≡ 0)
+            → CountsStep production self.old self.new (drop base parts.old.items) (drop base parts.new.items) result }
         ensures memory { IfErr result (λ e. e ≡ refusals.Memory) }
     {
         match step {
@@ -165,9 +170,13 @@ impl Linked {
                 self.note(symbol, kept, candidate, packs)?;
                 Ok(then)
             }
-            Step::Named { node, listed } => {
+            Step::Named {
+                node,
+                listed,
+                is_name,
+            } => {
                 put_first(parts, base, Part::Tree { node, listed });
-                Ok(self.behind_name(kept, node, listed))
+                Ok(self.behind_if(is_name, kept, node, listed))
             }
             Step::Made {
                 node,
@@ -200,6 +209,7 @@ impl Linked {
         requires base { frame.base ≤ length parts.old.items }
         ensures goes { GoesOn (cpp_view symbol.now) symbol.now (Surrounds symbol.now) self.old self.new frame parts.old.items parts.new.items result }
         ensures adds { OnOk result (Adds (cpp_view symbol.now) self.old self.new (owed_behind (cpp_view symbol.now) frame parts.old.items) (owed_next (cpp_view symbol.now) frame parts.new.items)) }
+        ensures few { AddsBefore (cpp_view symbol.now) self.old self.new frame parts.old.items (drop frame.base parts.new.items ++ variants.Nothing ∷ []) result }
         ensures pays { OnOk result ((at : ℕ) → Pays (cpp_view symbol.now) self.old self.new at at) }
         ensures count { OnOk result (length parts.new.items ≡ length parts.old.items) }
     {
@@ -227,6 +237,7 @@ impl Linked {
         requires base { frame.base ≤ length parts.old.items }
         ensures goes { GoesOn (cpp_view symbol.now) symbol.now (Surrounds symbol.now) self.old self.new frame parts.old.items parts.new.items result }
         ensures adds { OnOk result (Adds (cpp_view symbol.now) self.old self.new (owed_behind (cpp_view symbol.now) frame parts.old.items) (owed_next (cpp_view symbol.now) frame parts.new.items)) }
+        ensures few { AddsBefore (cpp_view symbol.now) self.old self.new frame parts.old.items (drop frame.base parts.new.items ++ variants.Nothing ∷ []) result }
         ensures pays { OnOk result ((at : ℕ) → Pays (cpp_view symbol.now) self.old self.new at at) }
         ensures count { OnOk result (length parts.new.items ≡ length parts.old.items) }
     {

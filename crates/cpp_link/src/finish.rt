@@ -6,7 +6,7 @@ ghost use Rattle.sym_core.specs.Value.{counted_value};
 ghost use Rattle.sym_core.specs.declared.NumberKind.TheVariants as kinds;
 ghost use Rattle.sym_core.specs.declared.refusal.Refusal.TheVariants as refusals;
 ghost use Rattle.sym_link.specs.Driving.{Fails};
-ghost use Rattle.sym_link.specs.Linking.{HasRoom, Adds, Pays, owed_behind};
+ghost use Rattle.sym_link.specs.Linking.{HasRoom, Adds, AddsFew, Pays, owed_behind};
 ghost use Rattle.sym_link.specs.Threads.{IsOpenAt, ClosesAll};
 ghost use Rattle.sym_link.specs.Unfold.{found};
 ghost use Rattle.cpp_term.specs.Values.{State, part, text_of};
@@ -16,7 +16,7 @@ ghost use Rattle.cpp_term.specs.Unfolding as unfolding_;
 ghost use Rattle.cpp_tree.specs.Nodes.{bytes_at, IsWithin};
 ghost use Rattle.cpp_link.specs.Grows.{HasPlace};
 ghost use Rattle.cpp_link.specs.Making.{state_of};
-ghost use Rattle.cpp_link.specs.Owed.{made_at_end};
+ghost use Rattle.cpp_link.specs.Closes.{ends_of};
 ghost use Rattle.cpp_link.specs.Parts.{trees_in, value_in, values_in, packs_of, around_of, candidates_of, IsThere, AreThere, IsKeptThere, AreCandidatesThere};
 ghost use Rattle.cpp_link.specs.Reads.{maybe_candidate};
 ghost use Rattle.cpp_link.specs.View.{GoesOn, IsPaid, IsWhole, cpp_view};
@@ -112,7 +112,7 @@ impl Linked {
             → unfolding_.behind production (slice_index symbol.now place) (around_of (trees_in symbol.now self.old.nodes) kept) began (values_in symbol.now self.old.nodes parts.now) (state_of symbol.now self.old) ≡ state_of symbol.now self.new) }
         ensures there { IfOk result (λ made. IsThere symbol.now (length self.new.nodes.nodes) made) }
         ensures grows { OnOk result (GoesOn symbol.now self.old self.new) }
-        ensures few { OnOk result (length self.new.nodes.nodes ≤ length self.old.nodes.nodes + made_at_end production) }
+        ensures few { length self.new.nodes.nodes ≤ length self.old.nodes.nodes + ends_of production parts.now }
         ensures paid { OnOk result (IsPaid self.new) }
         ensures whole { OnOk result (IsWhole symbol.now self.new) }
         ensures memory { IfErr result (λ e. e ≡ refusals.Memory) }
@@ -152,7 +152,7 @@ impl Linked {
             → unfolding_.behind production (slice_index symbol.now place) (around_of (trees_in symbol.now self.old.nodes) kept) began (values_in symbol.now self.old.nodes parts.now) (state_of symbol.now self.old) ≡ state_of symbol.now self.new) }
         ensures there { IfOk result (λ made. IsThere symbol.now (length self.new.nodes.nodes) made) }
         ensures grows { OnOk result (GoesOn symbol.now self.old self.new) }
-        ensures few { OnOk result (length self.new.nodes.nodes ≤ length self.old.nodes.nodes + made_at_end production) }
+        ensures few { length self.new.nodes.nodes ≤ length self.old.nodes.nodes + ends_of production parts.now }
         ensures paid { OnOk result (IsPaid self.new) }
         ensures whole { OnOk result (IsWhole symbol.now self.new) }
         ensures memory { IfErr result (λ e. e ≡ refusals.Memory) }
@@ -185,7 +185,7 @@ impl Linked {
             → unfolding_.behind production (slice_index symbol.now place) (around_of (trees_in symbol.now self.old.nodes) kept) began (values_in symbol.now self.old.nodes parts.now) (state_of symbol.now self.old) ≡ state_of symbol.now self.new) }
         ensures there { IfOk result (λ made. IsThere symbol.now (length self.new.nodes.nodes) made) }
         ensures grows { OnOk result (GoesOn symbol.now self.old self.new) }
-        ensures few { OnOk result (length self.new.nodes.nodes ≤ length self.old.nodes.nodes + made_at_end production) }
+        ensures few { length self.new.nodes.nodes ≤ length self.old.nodes.nodes + ends_of production parts.now }
         ensures paid { OnOk result (IsPaid self.new) }
         ensures whole { OnOk result (IsWhole symbol.now self.new) }
         ensures memory { IfErr result (λ e. e ≡ refusals.Memory) }
@@ -256,7 +256,7 @@ impl Linked {
             → Fails e (unfolding_.close production (slice_index symbol.now place) (around_of (trees_in symbol.now self.old.nodes) kept) place began (values_in symbol.now self.old.nodes parts.now) (state_of symbol.now self.old))) }
         ensures there { IfOk result (λ made. IsThere symbol.now (length self.new.nodes.nodes) made) }
         ensures grows { OnOk result (GoesOn symbol.now self.old self.new) }
-        ensures few { OnOk result (length self.new.nodes.nodes ≤ length self.old.nodes.nodes + made_at_end production) }
+        ensures few { length self.new.nodes.nodes ≤ length self.old.nodes.nodes + ends_of production parts.now }
         ensures paid { OnOk result (IsPaid self.new) }
         ensures whole { OnOk result (IsWhole symbol.now self.new) }
     {
@@ -283,6 +283,7 @@ impl Linked {
         requires place { frame.place < length symbol.now }
         ensures closes { ClosesAll (cpp_view symbol.now) symbol.now self.old self.new frame parts.old.items parts.new.items result }
         ensures adds { OnOk result (Adds (cpp_view symbol.now) self.old self.new (owed_behind (cpp_view symbol.now) frame parts.old.items) 0) }
+        ensures few { AddsFew (cpp_view symbol.now) self.old self.new frame parts.old.items }
         ensures pays { OnOk result ((at : ℕ) → Pays (cpp_view symbol.now) self.old self.new at at) }
     {
         let production = production_of(frame.rule);

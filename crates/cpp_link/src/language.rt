@@ -1,10 +1,11 @@
 // The moments at which the driver asks C++'s language: at the root, and where a rule opens, a token comes and a rule closes.
 // Something is done before each part, also before those without a row (`Threading`).
 
-ghost use Rattle.std.specs.Prelude.{◌≡◌, ℕ, ◌+◌, ◌-◌, ◌<◌, ◌≤◌, ◌∷◌, [], List, length, take, drop, OnOk};
+ghost use Rattle.std.specs.Prelude.{◌≡◌, ℕ, ◌+◌, ◌-◌, ◌<◌, ◌≤◌, ◌∷◌, ◌++◌, [], List, length, take, drop, OnOk, OnErr};
 ghost use Rattle.sym_link.specs.Driving.{AreAll};
-ghost use Rattle.sym_link.specs.Linking.{HasRoom, IsOpen, OpensRoot, Opens, TakesToken, ClosesRule, Adds, Pays, owed_behind, owed_next};
-ghost use Rattle.sym_link.specs.Threads.{IsOpenAt, GoesOn, BeginsIn, ClosesAll, IsTaken, IsAhead, IsAheadToken, IsCount};
+ghost use Rattle.sym_link.specs.Linking.{HasRoom, IsOpen, OpensRoot, Opens, TakesToken, ClosesRule, Adds, AddsFew, Pays, owed_behind, owed_next};
+ghost use Rattle.sym_link.specs.Threads.{IsOpenAt, GoesOn, BeginsIn, ClosesAll, IsTaken, IsAhead, IsAheadToken, IsCount, AddsBefore};
+ghost use Rattle.cpp_link.specs.declared.part.Part.TheVariants as variants;
 ghost use Rattle.cpp_term.specs.Values.{Value, State, Around};
 ghost use Rattle.cpp_link.specs.View.{Surrounds, cpp_view};
 ghost use Rattle.cpp_link.specs.ViewLaws.{cpp_laws, cpp_threads};
@@ -45,8 +46,11 @@ impl Threading for Linked {
 
     ghost surrounds = { Surrounds };
 
+    ghost absent = { variants.Nothing };
+
     fn nothing(&self) -> Part
-        ensures { (s : List ℕ) → AreAll ((cpp_view s).IsPart self.now) (result ∷ []) (cpp_view s).reading.rowless }
+        ensures is { result ≡ variants.Nothing }
+        ensures stands { (s : List ℕ) → AreAll ((cpp_view s).IsPart self.now) (result ∷ []) (cpp_view s).reading.rowless }
     {
         Part::Nothing
     }
@@ -62,6 +66,7 @@ impl Threading for Linked {
         requires base { frame.base ≤ length parts.old.items }
         ensures goes { GoesOn (cpp_view symbol.now) symbol.now (Surrounds symbol.now) self.old self.new frame parts.old.items parts.new.items result }
         ensures adds { OnOk result (Adds (cpp_view symbol.now) self.old self.new (owed_behind (cpp_view symbol.now) frame parts.old.items) (owed_next (cpp_view symbol.now) frame parts.new.items)) }
+        ensures few { AddsBefore (cpp_view symbol.now) self.old self.new frame parts.old.items (drop frame.base parts.new.items ++ variants.Nothing ∷ []) result }
         ensures pays { OnOk result ((at : ℕ) → Pays (cpp_view symbol.now) self.old self.new at at) }
         ensures count { OnOk result (length parts.new.items ≡ length parts.old.items) }
     {
@@ -79,6 +84,7 @@ impl Threading for Linked {
         requires end { row.end ≤ length rows.now }
         ensures begins { BeginsIn (cpp_view symbol.now) symbol.now (Surrounds symbol.now) rows.now self.old self.new context row result }
         ensures adds { OnOk result (Adds (cpp_view symbol.now) self.old self.new 0 0) }
+        ensures few { OnErr result ((cpp_view symbol.now).size self.new ≤ (cpp_view symbol.now).size self.old) }
         ensures pays { OnOk result ((at : ℕ) → Pays (cpp_view symbol.now) self.old self.new at at) }
     {
         self.begin_rule(symbol, rows, context, row)
@@ -96,6 +102,7 @@ impl Threading for Linked {
         requires place { frame.place < length symbol.now }
         ensures closes { ClosesAll (cpp_view symbol.now) symbol.now self.old self.new frame parts.old.items parts.new.items result }
         ensures adds { OnOk result (Adds (cpp_view symbol.now) self.old self.new (owed_behind (cpp_view symbol.now) frame parts.old.items) 0) }
+        ensures few { AddsFew (cpp_view symbol.now) self.old self.new frame parts.old.items }
         ensures pays { OnOk result ((at : ℕ) → Pays (cpp_view symbol.now) self.old self.new at at) }
     {
         self.finish_rule(symbol, frame, parts)
@@ -113,6 +120,7 @@ impl Threading for Linked {
         requires to { row.to ≤ length symbol.now }
         ensures taken { IsTaken (cpp_view symbol.now) symbol.now self.old self.new row result }
         ensures adds { OnOk result (Adds (cpp_view symbol.now) self.old self.new 0 0) }
+        ensures few { OnErr result ((cpp_view symbol.now).size self.new ≤ (cpp_view symbol.now).size self.old) }
         ensures pays { OnOk result ((at : ℕ) → Pays (cpp_view symbol.now) self.old self.new at at) }
     {
         Ok(self.text_at(symbol, row))
@@ -151,6 +159,7 @@ impl Linking for Linked {
         requires end { row.end ≤ length rows.now }
         ensures opens { OpensRoot (cpp_view symbol.now) symbol.now rows.now self.old self.new row result }
         ensures adds { OnOk result (Adds (cpp_view symbol.now) self.old self.new 0 0) }
+        ensures few { OnErr result ((cpp_view symbol.now).size self.new ≤ (cpp_view symbol.now).size self.old) }
         ensures pays { OnOk result (Pays (cpp_view symbol.now) self.old self.new 0 0) }
     {
         match production_of(row.rule) {
@@ -175,6 +184,7 @@ impl Linking for Linked {
         requires end { row.end ≤ length rows.now }
         ensures opens { Opens (cpp_view symbol.now) symbol.now rows.now self.old self.new frame parts.old.items parts.new.items row result }
         ensures adds { OnOk result (Adds (cpp_view symbol.now) self.old self.new (owed_behind (cpp_view symbol.now) frame parts.old.items) (owed_next (cpp_view symbol.now) frame parts.new.items)) }
+        ensures few { OnErr result (AddsFew (cpp_view symbol.now) self.old self.new frame parts.old.items) }
         ensures pays { OnOk result ((at : ℕ) → at ≤ row.from → Pays (cpp_view symbol.now) self.old self.new at row.from) }
     {
         enter_by(self, symbol, rows, frame, parts, row)
@@ -194,6 +204,7 @@ impl Linking for Linked {
         requires to { row.to ≤ length symbol.now }
         ensures takes { TakesToken (cpp_view symbol.now) symbol.now self.old self.new frame parts.old.items parts.new.items row result }
         ensures adds { OnOk result (Adds (cpp_view symbol.now) self.old self.new (owed_behind (cpp_view symbol.now) frame parts.old.items) (owed_behind (cpp_view symbol.now) frame parts.new.items)) }
+        ensures few { OnErr result (AddsFew (cpp_view symbol.now) self.old self.new frame parts.old.items) }
         ensures pays { OnOk result ((at : ℕ) → at ≤ row.from → (length parts.old.items ≡ frame.base → at ≤ frame.place)
             → Pays (cpp_view symbol.now) self.old self.new at row.to) }
     {
@@ -213,6 +224,7 @@ impl Linking for Linked {
         requires place { frame.place < length symbol.now }
         ensures closes { ClosesRule (cpp_view symbol.now) symbol.now self.old self.new frame parts.old.items parts.new.items result }
         ensures adds { OnOk result (Adds (cpp_view symbol.now) self.old self.new (owed_behind (cpp_view symbol.now) frame parts.old.items) 0) }
+        ensures few { AddsFew (cpp_view symbol.now) self.old self.new frame parts.old.items }
         ensures pays { OnOk result ((at : ℕ) → Pays (cpp_view symbol.now) self.old self.new at at) }
     {
         close_by(self, symbol, frame, parts)

@@ -200,10 +200,11 @@ pub enum Step {
         then: Kept,
         packs: Option<u32>,
     },
-    /// The name that the first part is stands before the next part.
+    /// A node that is there is what the first part is now. It may stand before the next part as the name so far.
     Named {
         node: u32,
         listed: bool,
+        is_name: bool,
     },
     /// A node is made, which the first part is now. It may stand before the next part as the name so far, and become a candidate.
     Made {

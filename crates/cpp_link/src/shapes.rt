@@ -12,6 +12,7 @@ ghost use Rattle.cpp_grammar.specs.Values.{local_number};
 ghost use Rattle.cpp_tree.specs.Nodes as nodes;
 ghost use Rattle.cpp_tree.specs.declared.node.Thunk as thunks;
 ghost use Rattle.cpp_tree.specs.Nodes.{over, tree_at, IsTable, IsSpan, IsPieceBelow, IsBelow};
+ghost use Rattle.cpp_link.specs.Closes.{name_closes};
 ghost use Rattle.cpp_link.specs.Making.{nodes_of_meant};
 ghost use Rattle.cpp_link.specs.Parts.{trees_in, tree_of_node, value_of, value_in, values_in, prefix_of, meant_value, IsThere, AreThere, IsMeantThere, IsPrefixThere};
 
@@ -79,6 +80,7 @@ impl Linked {
         ensures is { meant_value symbol.now self.now.nodes result ≡ values.tree (applied (tree_of (part (values_in symbol.now self.now.nodes parts.now) 0)) (part (values_in symbol.now self.now.nodes parts.now) 1)) (listed && not (is_there (part (values_in symbol.now self.now.nodes parts.now) 1))) }
         ensures there { IsMeantThere symbol.now (length self.now.nodes.thunks) (length self.now.nodes.nodes) result }
         ensures nodes { nodes_of_meant result ≤ 1 }
+        ensures named { nodes_of_meant result ≤ name_closes parts.now }
     {
         let name = self.tree(symbol, parts, 0);
         if self.there(symbol, parts, 1) {

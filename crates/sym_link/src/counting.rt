@@ -28,8 +28,8 @@ pub struct Counts {
 }
 
 impl Linking for Counts {
-    ghost use Rattle.std.specs.Prelude.{◌≡◌, ℕ, ◌<◌, ◌≤◌, length, OnOk};
-    ghost use Rattle.sym_link.specs.Linking.{HasRoom, IsOpen, OpensRoot, Opens, TakesToken, ClosesRule, Adds, Pays, owed_behind, owed_next};
+    ghost use Rattle.std.specs.Prelude.{◌≡◌, ℕ, ◌<◌, ◌≤◌, length, OnOk, OnErr};
+    ghost use Rattle.sym_link.specs.Linking.{HasRoom, IsOpen, OpensRoot, Opens, TakesToken, ClosesRule, Adds, AddsFew, Pays, owed_behind, owed_next};
     ghost use Rattle.sym_link.specs.Counting.{counting};
     ghost use Rattle.sym_link.specs.CountingLaws.{counting_laws};
 
@@ -50,6 +50,7 @@ impl Linking for Counts {
         requires end { _row.end ≤ length _rows.now }
         ensures opens { OpensRoot (counting _symbol.now) _symbol.now _rows.now self.old self.new _row result }
         ensures adds { OnOk result (Adds (counting _symbol.now) self.old self.new 0 0) }
+        ensures few { OnErr result ((counting _symbol.now).size self.new ≤ (counting _symbol.now).size self.old) }
         ensures pays { OnOk result (Pays (counting _symbol.now) self.old self.new 0 0) }
     {
         Ok(())
@@ -70,6 +71,7 @@ impl Linking for Counts {
         requires end { _row.end ≤ length _rows.now }
         ensures opens { Opens (counting _symbol.now) _symbol.now _rows.now self.old self.new _frame _parts.old.items _parts.new.items _row result }
         ensures adds { OnOk result (Adds (counting _symbol.now) self.old self.new (owed_behind (counting _symbol.now) _frame _parts.old.items) (owed_next (counting _symbol.now) _frame _parts.new.items)) }
+        ensures few { OnErr result (AddsFew (counting _symbol.now) self.old self.new _frame _parts.old.items) }
         ensures pays { OnOk result ((at : ℕ) → at ≤ _row.from → Pays (counting _symbol.now) self.old self.new at _row.from) }
     {
         Ok(())
@@ -89,6 +91,7 @@ impl Linking for Counts {
         requires to { row.to ≤ length symbol.now }
         ensures takes { TakesToken (counting symbol.now) symbol.now self.old self.new frame parts.old.items parts.new.items row result }
         ensures adds { OnOk result (Adds (counting symbol.now) self.old self.new (owed_behind (counting symbol.now) frame parts.old.items) (owed_behind (counting symbol.now) frame parts.new.items)) }
+        ensures few { OnErr result (AddsFew (counting symbol.now) self.old self.new frame parts.old.items) }
         ensures pays { OnOk result ((at : ℕ) → at ≤ row.from → (length parts.old.items ≡ frame.base → at ≤ frame.place)
             → Pays (counting symbol.now) self.old self.new at row.to) }
     {
@@ -113,6 +116,7 @@ impl Linking for Counts {
         requires place { frame.place < length symbol.now }
         ensures closes { ClosesRule (counting symbol.now) symbol.now self.old self.new frame parts.old.items parts.new.items result }
         ensures adds { OnOk result (Adds (counting symbol.now) self.old self.new (owed_behind (counting symbol.now) frame parts.old.items) 0) }
+        ensures few { AddsFew (counting symbol.now) self.old self.new frame parts.old.items }
         ensures pays { OnOk result ((at : ℕ) → Pays (counting symbol.now) self.old self.new at at) }
     {
         let own = parts.len() - frame.base;

@@ -5,12 +5,12 @@
 //
 // Where something is done before a part, or a rule closes, the frame and the parts are those of an open rule (`IsOpenAt`).
 
-ghost use Rattle.std.specs.Prelude.{◌≡◌, ℕ, ◌+◌, ◌-◌, ◌<◌, ◌≤◌, ◌∷◌, [], List, length, Result, OnOk};
+ghost use Rattle.std.specs.Prelude.{◌≡◌, ℕ, ◌+◌, ◌-◌, ◌<◌, ◌≤◌, ◌∷◌, ◌++◌, [], List, length, drop, Result, OnOk, OnErr};
 ghost use Rattle.sym_core.specs.declared.refusal.Refusal.{Refusal};
 ghost use Rattle.sym_link.specs.Machine.{Passed};
 ghost use Rattle.sym_link.specs.Driving.{AreAll};
-ghost use Rattle.sym_link.specs.Linking.{View, HasRoom, IsOpen, Opens, TakesToken, ClosesRule, Adds, Pays, owed_behind, owed_next};
-ghost use Rattle.sym_link.specs.Threads.{IsOpenAt, GoesOn, BeginsIn, ClosesAll, IsTaken, IsAhead, IsAheadToken, IsCount, IsThreading, Passing, PassesOne, Passes};
+ghost use Rattle.sym_link.specs.Linking.{View, HasRoom, IsOpen, Opens, TakesToken, ClosesRule, Adds, AddsFew, Pays, owed_behind, owed_next};
+ghost use Rattle.sym_link.specs.Threads.{IsOpenAt, GoesOn, BeginsIn, ClosesAll, IsTaken, IsAhead, IsAheadToken, IsCount, IsThreading, AddsBefore, Passing, PassesOne, Passes};
 
 use crate::language::Frame;
 use sym_core::Refusal;
@@ -34,9 +34,13 @@ pub trait Threading {
 
     ghost surrounds: { List ℕ → Self → Self.Kept → Context → Type 0 };
 
+    // what a part without a row is
+    ghost absent: { Self.Part };
+
     /// What a part without a row stands for.
     fn nothing(&self) -> Self::Part
-        ensures { (s : List ℕ) → AreAll ((view s).IsPart self.now) (result ∷ []) (view s).reading.rowless };
+        ensures is { result ≡ absent }
+        ensures stands { (s : List ℕ) → AreAll ((view s).IsPart self.now) (result ∷ []) (view s).reading.rowless };
 
     /// What is done before the next part of the rule of the frame.
     fn between(
@@ -50,6 +54,7 @@ pub trait Threading {
         requires base { frame.base ≤ length parts.old.items }
         ensures goes { GoesOn (view symbol.now) symbol.now (surrounds symbol.now) self.old self.new frame parts.old.items parts.new.items result }
         ensures adds { OnOk result (Adds (view symbol.now) self.old self.new (owed_behind (view symbol.now) frame parts.old.items) (owed_next (view symbol.now) frame parts.new.items)) }
+        ensures few { AddsBefore (view symbol.now) self.old self.new frame parts.old.items (drop frame.base parts.new.items ++ absent ∷ []) result }
         ensures pays { OnOk result ((at : ℕ) → Pays (view symbol.now) self.old self.new at at) }
         ensures count { OnOk result (length parts.new.items ≡ length parts.old.items) };
 
@@ -65,6 +70,7 @@ pub trait Threading {
         requires end { row.end ≤ length rows.now }
         ensures begins { BeginsIn (view symbol.now) symbol.now (surrounds symbol.now) rows.now self.old self.new context row result }
         ensures adds { OnOk result (Adds (view symbol.now) self.old self.new 0 0) }
+        ensures few { OnErr result ((view symbol.now).size self.new ≤ (view symbol.now).size self.old) }
         ensures pays { OnOk result ((at : ℕ) → Pays (view symbol.now) self.old self.new at at) };
 
     /// The rule of the frame closes over all its parts.
@@ -80,6 +86,7 @@ pub trait Threading {
         requires place { frame.place < length symbol.now }
         ensures closes { ClosesAll (view symbol.now) symbol.now self.old self.new frame parts.old.items parts.new.items result }
         ensures adds { OnOk result (Adds (view symbol.now) self.old self.new (owed_behind (view symbol.now) frame parts.old.items) 0) }
+        ensures few { AddsFew (view symbol.now) self.old self.new frame parts.old.items }
         ensures pays { OnOk result ((at : ℕ) → Pays (view symbol.now) self.old self.new at at) };
 
     /// The number of the next part of the rule of the frame that has a row: a rule's, of which so many parts have begun.
@@ -100,6 +107,7 @@ pub trait Threading {
         requires to { row.to ≤ length symbol.now }
         ensures taken { IsTaken (view symbol.now) symbol.now self.old self.new row result }
         ensures adds { OnOk result (Adds (view symbol.now) self.old self.new 0 0) }
+        ensures few { OnErr result ((view symbol.now).size self.new ≤ (view symbol.now).size self.old) }
         ensures pays { OnOk result ((at : ℕ) → Pays (view symbol.now) self.old self.new at at) };
 
     /// The number of the next part of the rule of the frame that has a row: a token's, of which so many parts have begun.
@@ -129,6 +137,7 @@ fn pass_one<L: Threading>(
         → PassesOne (L.view symbol.now) symbol.now language.new frame lower parts.new.items to whole result }
     ensures open { OnOk result (IsOpenAt (L.view symbol.now) symbol.now language.new frame parts.new.items) }
     ensures adds { OnOk result (Adds (L.view symbol.now) language.old language.new (owed_behind (L.view symbol.now) frame parts.old.items) (owed_behind (L.view symbol.now) frame parts.new.items)) }
+    ensures few { AddsBefore (L.view symbol.now) language.old language.new frame parts.old.items (drop frame.base parts.new.items) result }
     ensures pays { OnOk result ((at : ℕ) → Pays (L.view symbol.now) language.old language.new at at) }
     ensures count { OnOk result (length parts.new.items ≡ length parts.old.items + 1) }
 {
@@ -154,6 +163,7 @@ pub fn pass<L: Threading>(
         → Passes (L.view symbol.now) language.new frame lower parts.new.items result whole }
     ensures open { OnOk result (IsOpenAt (L.view symbol.now) symbol.now language.new frame parts.new.items) }
     ensures adds { OnOk result (Adds (L.view symbol.now) language.old language.new (owed_behind (L.view symbol.now) frame parts.old.items) (owed_behind (L.view symbol.now) frame parts.new.items)) }
+    ensures few { AddsBefore (L.view symbol.now) language.old language.new frame parts.old.items (drop frame.base parts.new.items) result }
     ensures pays { OnOk result ((at : ℕ) → Pays (L.view symbol.now) language.old language.new at at) }
     ensures base { OnOk result (frame.base ≤ length parts.new.items) }
 {
@@ -179,6 +189,7 @@ pub fn enter_by<L: Threading>(
     requires end { row.end ≤ length rows.now }
     ensures opens { Opens (L.view symbol.now) symbol.now rows.now language.old language.new frame parts.old.items parts.new.items row result }
     ensures adds { OnOk result (Adds (L.view symbol.now) language.old language.new (owed_behind (L.view symbol.now) frame parts.old.items) (owed_next (L.view symbol.now) frame parts.new.items)) }
+    ensures few { OnErr result (AddsFew (L.view symbol.now) language.old language.new frame parts.old.items) }
     ensures pays { OnOk result ((at : ℕ) → at ≤ row.from → Pays (L.view symbol.now) language.old language.new at row.from) }
 {
     let to = language.ahead(symbol, rows, frame, parts.len() - frame.base, row);
@@ -201,6 +212,7 @@ pub fn close_by<L: Threading>(
     requires place { frame.place < length symbol.now }
     ensures closes { ClosesRule (L.view symbol.now) symbol.now language.old language.new frame parts.old.items parts.new.items result }
     ensures adds { OnOk result (Adds (L.view symbol.now) language.old language.new (owed_behind (L.view symbol.now) frame parts.old.items) 0) }
+    ensures few { AddsFew (L.view symbol.now) language.old language.new frame parts.old.items }
     ensures pays { OnOk result ((at : ℕ) → Pays (L.view symbol.now) language.old language.new at at) }
 {
     let to = language.count(symbol, frame, parts.len() - frame.base);
@@ -224,6 +236,7 @@ pub fn token_by<L: Threading>(
     requires to { row.to ≤ length symbol.now }
     ensures takes { TakesToken (L.view symbol.now) symbol.now language.old language.new frame parts.old.items parts.new.items row result }
     ensures adds { OnOk result (Adds (L.view symbol.now) language.old language.new (owed_behind (L.view symbol.now) frame parts.old.items) (owed_behind (L.view symbol.now) frame parts.new.items)) }
+    ensures few { OnErr result (AddsFew (L.view symbol.now) language.old language.new frame parts.old.items) }
     ensures pays { OnOk result ((at : ℕ) → at ≤ row.from → Pays (L.view symbol.now) language.old language.new at row.to) }
 {
     let to = language.ahead_token(symbol, frame, parts.len() - frame.base);

@@ -1,6 +1,6 @@
 use Rattle.std.proofs.Common.{refl, ◌+◌}
 use Rattle.sym_link.specs.Stepping.{waiting}
-use Rattle.sym_link.proofs.Driving.{closing_room, closing_open, closing_place, closing_base, closed}
+use Rattle.sym_link.proofs.Driving.{closing_room, closing_open, closing_place, closing_base, closed, few_two}
 use Rattle.sym_link.proofs.driver.leave.Goals as goal
 
 pub close-requires-clause-room : goal.close-requires-clause-room
@@ -24,3 +24,6 @@ returns-clause-follows g c whole shape lower next left follows ends =
     closed (g.L.Linking.view c.args.symbol.now) c.args.symbol.now shape whole (waiting (left + 1)) c.args.language.now c.close.new.self next lower c.args.frame
     c.args.parts.now.items c.close.new.parts.items c.close.result (g.met.L.Linking.laws c.args.symbol.now) follows ends
     c.close.ensures.closes c.close.ensures.adds c.close.ensures.pays left refl
+
+pub returns-clause-few : goal.returns-clause-few
+returns-clause-few g c = few_two (g.L.Linking.view c.args.symbol.now) c.args.language.now c.close.new.self c.args.frame c.args.parts.now.items (g.met.L.Linking.laws c.args.symbol.now) c.close.ensures.few

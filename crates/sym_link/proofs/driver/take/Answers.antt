@@ -2,7 +2,7 @@ use Rattle.std.proofs.Common.{refl, arith, Ok, Err, ◌+◌}
 use Rattle.std.specs.Prelude.{slice_index_or}
 use Rattle.std.proofs.lemmas.Result.{err_from_is_err_and}
 use Rattle.sym_link.specs.Stepping.{waiting}
-use Rattle.sym_link.proofs.Driving.{more_rows, token_asks, rule_asks, token_taken, rule_begun, rule_refused}
+use Rattle.sym_link.proofs.Driving.{more_rows, token_asks, rule_asks, token_taken, rule_begun, rule_refused, few_two, added_two}
 use Rattle.sym_link.proofs.driver.take.Goals as goal
 
 pub bounds-rows-next : goal.bounds-rows-next
@@ -82,6 +82,7 @@ settle-requires g c =
     record {
       whole = c.requires.1.whole;
       steps = c.requires.0;
+      most = _;
       follows = rule_begun (g.L.Linking.view c.args.symbol.now) c.args.symbol.now c.args.rows.now c.requires.1.whole c.requires.0 c.args.language.now c.enter.new.self c.args.next c.args.frames.now.items c.args.frame
           (record { rule = (slice_index_or c.args.rows.now c.args.next (record { rule = 0; from = 0; to = 0; end = 0 })).rule; place = (slice_index_or c.args.rows.now c.args.next (record { rule = 0; from = 0; to = 0; end = 0 })).from; end = (slice_index_or c.args.rows.now c.args.next (record { rule = 0; from = 0; to = 0; end = 0 })).end; base = c.len.result; kept = c.in_ok-kept.kept })
           c.args.parts.now.items c.enter.new.parts.items (slice_index_or c.args.rows.now c.args.next (record { rule = 0; from = 0; to = 0; end = 0 })) (record { rule = 0; from = 0; to = 0; end = 0 }) (g.met.L.Linking.laws c.args.symbol.now) c.requires.1.last
@@ -92,7 +93,7 @@ settle-requires g c =
 
 pub returns-clause-follows : goal.returns-clause-follows
 returns-clause-follows g c whole left follows =
-    c.settle.ensures.follows whole left
+    c.settle.ensures.follows whole left _
     (rule_begun (g.L.Linking.view c.args.symbol.now) c.args.symbol.now c.args.rows.now whole left c.args.language.now c.enter.new.self c.args.next c.args.frames.now.items c.args.frame
     (record { rule = (slice_index_or c.args.rows.now c.args.next (record { rule = 0; from = 0; to = 0; end = 0 })).rule; place = (slice_index_or c.args.rows.now c.args.next (record { rule = 0; from = 0; to = 0; end = 0 })).from; end = (slice_index_or c.args.rows.now c.args.next (record { rule = 0; from = 0; to = 0; end = 0 })).end; base = c.len.result; kept = c.in_ok-kept.kept })
     c.args.parts.now.items c.enter.new.parts.items (slice_index_or c.args.rows.now c.args.next (record { rule = 0; from = 0; to = 0; end = 0 })) (record { rule = 0; from = 0; to = 0; end = 0 }) (g.met.L.Linking.laws c.args.symbol.now) c.requires.1.last
@@ -103,3 +104,21 @@ pub returns-clause-more : goal.returns-clause-more
 returns-clause-more g c =
     more_rows (g.L.Linking.view c.args.symbol.now) c.args.symbol.now c.args.rows.now (waiting (c.requires.0 + 1)) c.args.language.now c.args.next c.args.frames.now.items c.args.frame c.args.parts.now.items
     (record { rule = 0; from = 0; to = 0; end = 0 }) (g.met.L.Linking.laws c.args.symbol.now) c.requires.1
+
+pub returns-in_err-token-clause-few : goal.returns-in_err-token-clause-few
+returns-in_err-token-clause-few g c = few_two (g.L.Linking.view c.args.symbol.now) c.args.language.now c.token.new.self c.args.frame c.args.parts.now.items (g.met.L.Linking.laws c.args.symbol.now) c.in_err-token.ensures.few
+
+pub returns-then-row-clause-few : goal.returns-then-row-clause-few
+returns-then-row-clause-few g c = added_two (g.L.Linking.view c.args.symbol.now) c.args.language.now c.token.new.self c.args.frame c.args.parts.now.items _ (g.met.L.Linking.laws c.args.symbol.now) c.in_ok-token.ensures.adds
+
+pub returns-in_err-kept-clause-few : goal.returns-in_err-kept-clause-few
+returns-in_err-kept-clause-few g c = few_two (g.L.Linking.view c.args.symbol.now) c.args.language.now c.enter.new.self c.args.frame c.args.parts.now.items (g.met.L.Linking.laws c.args.symbol.now) c.in_err-kept.ensures.few
+
+pub returns-clause-few : goal.returns-clause-few
+returns-clause-few g c =
+    c.settle.ensures.few c.requires.1.whole c.requires.0 _
+    (rule_begun (g.L.Linking.view c.args.symbol.now) c.args.symbol.now c.args.rows.now c.requires.1.whole c.requires.0 c.args.language.now c.enter.new.self c.args.next c.args.frames.now.items c.args.frame
+          (record { rule = (slice_index_or c.args.rows.now c.args.next (record { rule = 0; from = 0; to = 0; end = 0 })).rule; place = (slice_index_or c.args.rows.now c.args.next (record { rule = 0; from = 0; to = 0; end = 0 })).from; end = (slice_index_or c.args.rows.now c.args.next (record { rule = 0; from = 0; to = 0; end = 0 })).end; base = c.len.result; kept = c.in_ok-kept.kept })
+          c.args.parts.now.items c.enter.new.parts.items (slice_index_or c.args.rows.now c.args.next (record { rule = 0; from = 0; to = 0; end = 0 })) (record { rule = 0; from = 0; to = 0; end = 0 }) (g.met.L.Linking.laws c.args.symbol.now) c.requires.1.last
+          c.requires.1.follows c.requires.1.open_still refl c.if-row.false c.in_ok-kept.ensures.opens c.in_ok-kept.ensures.adds c.in_ok-kept.ensures.pays
+          refl refl refl (omega (arith, c.len.ensures, c.enter.new.parts.ok.0)))

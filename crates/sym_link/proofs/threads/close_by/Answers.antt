@@ -49,3 +49,12 @@ returns-clause-closes g c rule known from left state is none =
     let first = passing_first view c.args.symbol.now laws c.args.language.now c.args.frame c.args.parts.now.items c.requires.base rule known from left state is c.count-to.result to_is in
     closed_all view c.args.symbol.now laws c.args.language.now c.args.frame c.args.parts.now.items c.requires.base rule known from left state is c.pass.new.language c.finish.new.self c.pass.new.parts.items c.finish.new.parts.items (Ok tt) c.in_ok-pass.ensures.adds.0
     (c.in_ok-pass.ensures.passes lower (passed view.reading rule known from left state) first) c.in_ok-finish.ensures.closes
+
+pub returns-in_err-pass-clause-few : goal.returns-in_err-pass-clause-few
+returns-in_err-pass-clause-few g c = c.in_err-pass.ensures.few
+
+pub returns-in_err-finish-clause-few : goal.returns-in_err-finish-clause-few
+returns-in_err-finish-clause-few g c = omega (arith, c.in_err-finish.ensures.few, c.in_ok-pass.ensures.few)
+
+pub returns-clause-few : goal.returns-clause-few
+returns-clause-few g c = omega (arith, c.in_ok-finish.ensures.few, c.in_ok-pass.ensures.few)

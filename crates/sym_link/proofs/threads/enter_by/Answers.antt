@@ -63,3 +63,18 @@ returns-clause-opens g c around known from left state rule taken inner rest is l
     let first = passing_first view c.args.symbol.now laws c.args.language.now c.args.frame c.args.parts.now.items c.requires.base around known from left state is c.ahead-to.result to_is in
     begins_right view c.args.symbol.now laws c.args.language.now c.args.frame c.args.parts.now.items c.requires.base around known from left state is (g.L.Threading.surrounds c.args.symbol.now) c.args.rows.now c.args.row rule taken inner row_is rest left_is c.pass.new.language c.between.new.self c.pass.new.parts.items c.between.new.parts.items c.in_ok-pass.ensures.adds.0
     (c.in_ok-pass.ensures.passes lower (passed view.reading around known from left state) first) c.begin.new.self c.in_ok-context.context c.in_ok-kept.kept c.in_ok-context.ensures.goes c.in_ok-kept.ensures.adds.0 c.in_ok-kept.ensures.begins
+
+pub returns-in_err-pass-clause-few : goal.returns-in_err-pass-clause-few
+returns-in_err-pass-clause-few g c =
+    let p = err_from_is_err_and c.from_residual.result c.from_residual.ensures.1 in
+    rw p.1 c.in_err-pass.ensures.few
+
+pub returns-in_err-context-clause-few : goal.returns-in_err-context-clause-few
+returns-in_err-context-clause-few g c =
+    let p = err_from_is_err_and c.from_residual-in_err-context.result c.from_residual-in_err-context.ensures.1 in
+    rw p.1 (omega (arith, c.in_err-context.ensures.few, c.in_ok-pass.ensures.few))
+
+pub returns-in_err-kept-clause-few : goal.returns-in_err-kept-clause-few
+returns-in_err-kept-clause-few g c =
+    let p = err_from_is_err_and c.from_residual-in_err-kept.result c.from_residual-in_err-kept.ensures.1 in
+    rw p.1 (omega (arith, c.in_err-kept.ensures.few, c.in_ok-context.ensures.few, c.in_ok-pass.ensures.few))

@@ -67,3 +67,23 @@ returns-clause-takes g c around known from left state t rest is left_is row_is =
     subst (λ qs. Takes view c.text.new.self lower qs (Ok tt) (next_of view.reading around known from left state >>= taken_in view.reading t (skipped_from from left))) (sym c.in_ok-push.ensures.items)
     (token_right view c.args.symbol.now laws c.args.language.now c.args.frame c.args.parts.now.items c.requires.base around known from left state is (g.L.Threading.surrounds c.args.symbol.now) c.args.row t row_is c.pass.new.language c.between.new.self c.pass.new.parts.items c.between.new.parts.items c.in_ok-pass.ensures.adds.0
     (c.in_ok-pass.ensures.passes lower (passed view.reading around known from left state) first) c.text.new.self c.in_ok-between.field-0 c.in_ok-part.part c.in_ok-between.ensures.goes c.in_ok-part.ensures.adds.0 c.in_ok-part.ensures.taken)
+
+pub returns-in_err-pass-clause-few : goal.returns-in_err-pass-clause-few
+returns-in_err-pass-clause-few g c =
+    let p = err_from_is_err_and c.from_residual.result c.from_residual.ensures.1 in
+    rw p.1 c.in_err-pass.ensures.few
+
+pub returns-in_err-between-clause-few : goal.returns-in_err-between-clause-few
+returns-in_err-between-clause-few g c =
+    let p = err_from_is_err_and c.from_residual-in_err-between.result c.from_residual-in_err-between.ensures.1 in
+    rw p.1 (omega (arith, c.in_err-between.ensures.few, c.in_ok-pass.ensures.few))
+
+pub returns-in_err-part-clause-few : goal.returns-in_err-part-clause-few
+returns-in_err-part-clause-few g c =
+    let p = err_from_is_err_and c.from_residual-in_err-part.result c.from_residual-in_err-part.ensures.1 in
+    rw p.1 (omega (arith, c.in_err-part.ensures.few, c.in_ok-between.ensures.few, c.in_ok-pass.ensures.few))
+
+pub returns-in_err-push-clause-few : goal.returns-in_err-push-clause-few
+returns-in_err-push-clause-few g c =
+    let p = err_from_is_err_and c.from_residual-in_err-push.result c.from_residual-in_err-push.ensures.1 in
+    rw p.1 (omega (arith, c.in_ok-part.ensures.adds.1, c.in_ok-between.ensures.few, c.in_ok-pass.ensures.few))

@@ -1,9 +1,7 @@
-use Rattle.std.proofs.Common.{subst, ◌+◌, ◌-◌, ◌≤◌, length, drop, take}
+use Rattle.std.proofs.Common.{drop, take}
 use Rattle.std.proofs.lemmas.Result.{err_from_is_err_and}
 use Rattle.sym_link.proofs.Lists.{rest_all}
-use Rattle.cpp_link.specs.Owed.{made_at_end}
-use Rattle.cpp_link.proofs.Finishing.{put_right, refused_right}
-use Rattle.cpp_link.proofs.Making.{few_owed}
+use Rattle.cpp_link.proofs.Finishing.{put_right, refused_right, ends_few, few_adds}
 use Rattle.cpp_link.proofs.Viewing.{open_there}
 use Rattle.cpp_link.proofs.linked.Linked.finish_rule.Goals as goal
 
@@ -29,9 +27,25 @@ returns-clause-closes c rule known state is =
     c.production_of-production.result c.in_ok-made.made c.in_ok-put.field-0 rule known state is
     c.production_of-production.ensures (rw c.deref.ensures.value (rest_all c.args.parts.now.items c.args.frame.base)) c.in_ok-made.ensures.is c.in_ok-made.ensures.there c.in_ok-made.ensures.whole c.in_ok-put.ensures.items
 
+pub returns-in_err-made-clause-few : goal.returns-in_err-made-clause-few
+returns-in_err-made-clause-few c =
+    ends_few c.args.symbol.now c.args.self.now c.close_production.new.self c.args.frame c.args.parts.now.items _ c.production_of-production.result
+    c.production_of-production.ensures (rw c.deref.ensures.value (rest_all c.args.parts.now.items c.args.frame.base)) c.requires.room.paid.begun c.in_err-made.ensures.few
+
+pub returns-in_err-put-clause-few : goal.returns-in_err-put-clause-few
+returns-in_err-put-clause-few c =
+    ends_few c.args.symbol.now c.args.self.now c.close_production.new.self c.args.frame c.args.parts.now.items _ c.production_of-production.result
+    c.production_of-production.ensures (rw c.deref.ensures.value (rest_all c.args.parts.now.items c.args.frame.base)) c.requires.room.paid.begun c.in_ok-made.ensures.few
+
+pub returns-clause-few : goal.returns-clause-few
+returns-clause-few c =
+    ends_few c.args.symbol.now c.args.self.now c.close_production.new.self c.args.frame c.args.parts.now.items _ c.production_of-production.result
+    c.production_of-production.ensures (rw c.deref.ensures.value (rest_all c.args.parts.now.items c.args.frame.base)) c.requires.room.paid.begun c.in_ok-made.ensures.few
+
 pub returns-clause-adds : goal.returns-clause-adds
 returns-clause-adds c = (
   c.in_ok-made.ensures.grows,
-  few_owed c.args.frame.rule (length c.args.parts.now.items - c.args.frame.base) (length c.args.self.now.nodes.nodes) (length c.close_production.new.self.nodes.nodes)
-      (subst (λ q. length c.close_production.new.self.nodes.nodes ≤ length c.args.self.now.nodes.nodes + made_at_end q) c.production_of-production.ensures c.in_ok-made.ensures.few),
+  few_adds c.args.symbol.now c.args.self.now c.close_production.new.self c.args.frame c.args.parts.now.items
+      (ends_few c.args.symbol.now c.args.self.now c.close_production.new.self c.args.frame c.args.parts.now.items _ c.production_of-production.result
+      c.production_of-production.ensures (rw c.deref.ensures.value (rest_all c.args.parts.now.items c.args.frame.base)) c.requires.room.paid.begun c.in_ok-made.ensures.few),
 )

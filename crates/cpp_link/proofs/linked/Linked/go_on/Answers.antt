@@ -1,5 +1,5 @@
 use Rattle.std.proofs.Common.{subst, ◌∙◌, ap, ◌-◌, ◌<◌}
-use Rattle.cpp_link.proofs.GoingOn.{quiet_right, quiet_adds}
+use Rattle.cpp_link.proofs.GoingOn.{quiet_right, quiet_adds, quiet_few}
 use Rattle.cpp_link.proofs.linked.Linked.go_on.Goals as goal
 
 pub returns-then-len-frame-clause-goes : goal.returns-then-len-frame-clause-goes
@@ -10,3 +10,6 @@ returns-then-len-frame-clause-goes c =
 
 pub returns-then-len-frame-clause-adds : goal.returns-then-len-frame-clause-adds
 returns-then-len-frame-clause-adds c = quiet_adds c.args.symbol.now c.args.self.now c.args.frame c.args.parts.now.items
+
+pub returns-then-len-frame-clause-few : goal.returns-then-len-frame-clause-few
+returns-then-len-frame-clause-few c = quiet_few c.args.symbol.now c.args.self.now c.args.frame c.args.parts.now.items
