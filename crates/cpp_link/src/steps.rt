@@ -165,6 +165,7 @@ impl Linked {
     }
 
     /// The candidate that the name so far becomes.
+    #[inline(always)]
     fn prefix_candidate(&self, symbol: &[u8], kept: Kept) -> Option<u32>
         requires kept { IsKeptThere (length self.now.nodes.nodes) kept }
         ensures is { (state : State) → with_prefix (around_of (trees_in symbol.now self.now.nodes) kept) state ≡ with_candidate (around_of (trees_in symbol.now self.now.nodes) kept) (trees_in symbol.now self.now.nodes) result state }
@@ -175,6 +176,7 @@ impl Linked {
 
     /// The candidate that a type becomes.
     #[tactic(auto, unfolding(crate::specs::Reads::with_candidate, cpp_term::specs::References::with_type))]
+    #[inline(always)]
     pub fn type_candidate(&self, symbol: &[u8], kept: Kept, part: Part) -> Option<u32>
         requires table { IsTable (over symbol.now self.now.nodes) }
         requires there { IsThere symbol.now (length self.now.nodes.nodes) part }
@@ -189,6 +191,7 @@ impl Linked {
 
     /// The node of the name so far.
     #[tactic(auto, unfolding(crate::specs::Parts::prefix_in, crate::specs::Parts::prefix_of, cpp_term::specs::Values::prefix_tree))]
+    #[inline(always)]
     fn prefix_node(&self, symbol: &[u8], kept: Kept) -> u32
         requires table { IsTable (over symbol.now self.now.nodes) }
         requires kept { IsKeptThere (length self.now.nodes.nodes) kept }
@@ -204,6 +207,7 @@ impl Linked {
 
     /// What is done before the first part.
     #[tactic(auto, unfolding(cpp_term::specs::Between::between, cpp_term::specs::Between::in_name, cpp_term::specs::Between::in_types, cpp_term::specs::Between::in_signature, cpp_term::specs::Between::under_expansion, cpp_term::specs::Between::after, cpp_term::specs::Between::inside, cpp_term::specs::Between::applied, cpp_term::specs::Between::piece_so_far, cpp_term::specs::Between::named_so_far, cpp_term::specs::Between::listed_so_far, cpp_term::specs::Values::tree_of, crate::specs::Parts::around_of, crate::specs::Parts::prefix_of, cpp_tree::specs::Nodes::arguments_are, cpp_tree::specs::Nodes::tree_of, cpp_tree::specs::Nodes::piece_of, crate::specs::Reads::goes_on, crate::specs::Reads::behind_first, crate::specs::Reads::named_if, crate::specs::Reads::appended_if, crate::specs::Reads::with_candidate))]
+    #[inline(always)]
     fn step_first(&self, symbol: &[u8], production: Production, place: u32, kept: Kept) -> Step
         requires table { IsTable (over symbol.now self.now.nodes) }
         requires kept { IsKeptThere (length self.now.nodes.nodes) kept }
@@ -273,6 +277,7 @@ impl Linked {
 
     /// What is done before the second part, of a production that is no parameter.
     #[tactic(auto, unfolding(cpp_term::specs::Between::between, cpp_term::specs::Between::in_name, cpp_term::specs::Between::in_types, cpp_term::specs::Between::in_signature, cpp_term::specs::Between::under_expansion, cpp_term::specs::Between::after, cpp_term::specs::Between::inside, cpp_term::specs::Between::applied, cpp_term::specs::Between::piece_so_far, cpp_term::specs::Between::named_so_far, cpp_term::specs::Between::listed_so_far, cpp_term::specs::Values::tree_of, crate::specs::Parts::around_of, crate::specs::Parts::prefix_of, cpp_tree::specs::Nodes::arguments_are, cpp_tree::specs::Nodes::tree_of, cpp_tree::specs::Nodes::piece_of, crate::specs::Reads::goes_on, crate::specs::Reads::behind_first, crate::specs::Reads::named_if, crate::specs::Reads::appended_if, crate::specs::Reads::with_candidate, crate::specs::Owed::made_before))]
+    #[inline(always)]
     fn step_second(
         &self,
         symbol: &[u8],
@@ -422,6 +427,7 @@ impl Linked {
 
     /// What is done before the third part.
     #[tactic(auto, unfolding(cpp_term::specs::Between::between, cpp_term::specs::Between::in_name, cpp_term::specs::Between::in_types, cpp_term::specs::Between::in_signature, cpp_term::specs::Between::under_expansion, cpp_term::specs::Between::after, cpp_term::specs::Between::inside, cpp_term::specs::Between::applied, cpp_term::specs::Between::piece_so_far, cpp_term::specs::Between::named_so_far, cpp_term::specs::Between::listed_so_far, cpp_term::specs::Values::tree_of, crate::specs::Parts::around_of, crate::specs::Parts::prefix_of, cpp_tree::specs::Nodes::arguments_are, cpp_tree::specs::Nodes::tree_of, cpp_tree::specs::Nodes::piece_of, crate::specs::Reads::goes_on, crate::specs::Reads::behind_first, crate::specs::Reads::named_if, crate::specs::Reads::appended_if, crate::specs::Reads::with_candidate, crate::specs::Owed::made_before))]
+    #[inline(always)]
     fn step_third(
         &self,
         symbol: &[u8],
@@ -496,6 +502,7 @@ impl Linked {
 
     /// What is done before the fourth part.
     #[tactic(auto, unfolding(cpp_term::specs::Between::between, cpp_term::specs::Between::in_name, cpp_term::specs::Between::in_types, cpp_term::specs::Between::in_signature, cpp_term::specs::Between::under_expansion, cpp_term::specs::Between::after, cpp_term::specs::Between::inside, cpp_term::specs::Between::applied, cpp_term::specs::Between::piece_so_far, cpp_term::specs::Between::named_so_far, cpp_term::specs::Between::listed_so_far, cpp_term::specs::Values::tree_of, crate::specs::Parts::around_of, crate::specs::Parts::prefix_of, cpp_tree::specs::Nodes::arguments_are, cpp_tree::specs::Nodes::tree_of, cpp_tree::specs::Nodes::piece_of, crate::specs::Reads::goes_on, crate::specs::Reads::behind_first, crate::specs::Reads::named_if, crate::specs::Reads::appended_if, crate::specs::Reads::with_candidate))]
+    #[inline(always)]
     fn step_fourth(
         &self,
         symbol: &[u8],
@@ -549,6 +556,7 @@ impl Linked {
 
     /// What is done before a later part.
     #[tactic(auto, unfolding(cpp_term::specs::Between::between, cpp_term::specs::Between::in_name, cpp_term::specs::Between::in_types, cpp_term::specs::Between::in_signature, cpp_term::specs::Between::under_expansion, cpp_term::specs::Between::after, cpp_term::specs::Between::inside, cpp_term::specs::Between::applied, cpp_term::specs::Between::piece_so_far, cpp_term::specs::Between::named_so_far, cpp_term::specs::Between::listed_so_far, cpp_term::specs::Values::tree_of, crate::specs::Parts::around_of, crate::specs::Parts::prefix_of, cpp_tree::specs::Nodes::arguments_are, cpp_tree::specs::Nodes::tree_of, cpp_tree::specs::Nodes::piece_of, crate::specs::Reads::goes_on, crate::specs::Reads::behind_first, crate::specs::Reads::named_if, crate::specs::Reads::appended_if, crate::specs::Reads::with_candidate))]
+    #[inline(always)]
     fn step_later(
         &self,
         symbol: &[u8],
@@ -597,6 +605,7 @@ impl Linked {
     ///
     /// Those of a parameter.
     #[tactic(auto, unfolding(cpp_term::specs::Between::between, cpp_term::specs::Between::index_of))]
+    #[inline(always)]
     fn step_behind_first(
         &self,
         symbol: &[u8],
@@ -632,6 +641,7 @@ impl Linked {
     /// # Errors
     ///
     /// Those of a parameter.
+    #[inline(always)]
     pub fn step(
         &self,
         symbol: &[u8],
