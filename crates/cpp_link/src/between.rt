@@ -195,15 +195,15 @@ impl Linked {
         &mut self,
         symbol: &[u8],
         production: Production,
-        frame: Frame<Kept>,
+        frame: &Frame<Kept>,
         parts: &mut Vec<Part>,
     ) -> Result<Kept, Refusal>
-        requires numbered { production ≡ production_at frame.rule }
-        requires room { HasRoom (cpp_view symbol.now) symbol.now self.old (owed_behind (cpp_view symbol.now) frame parts.old.items) }
-        requires open { IsOpenAt (cpp_view symbol.now) symbol.now self.old frame parts.old.items }
-        requires base { frame.base ≤ length parts.old.items }
-        ensures goes { GoesOn (cpp_view symbol.now) symbol.now (Surrounds symbol.now) self.old self.new frame parts.old.items parts.new.items result }
-        ensures adds { OnOk result (Adds (cpp_view symbol.now) self.old self.new (owed_behind (cpp_view symbol.now) frame parts.old.items) (owed_next (cpp_view symbol.now) frame parts.new.items)) }
+        requires numbered { production ≡ production_at frame.now.rule }
+        requires room { HasRoom (cpp_view symbol.now) symbol.now self.old (owed_behind (cpp_view symbol.now) frame.now parts.old.items) }
+        requires open { IsOpenAt (cpp_view symbol.now) symbol.now self.old frame.now parts.old.items }
+        requires base { frame.now.base ≤ length parts.old.items }
+        ensures goes { GoesOn (cpp_view symbol.now) symbol.now (Surrounds symbol.now) self.old self.new frame.now parts.old.items parts.new.items result }
+        ensures adds { OnOk result (Adds (cpp_view symbol.now) self.old self.new (owed_behind (cpp_view symbol.now) frame.now parts.old.items) (owed_next (cpp_view symbol.now) frame.now parts.new.items)) }
         ensures pays { OnOk result ((at : ℕ) → Pays (cpp_view symbol.now) self.old self.new at at) }
         ensures count { OnOk result (length parts.new.items ≡ length parts.old.items) }
     {
@@ -223,15 +223,15 @@ impl Linked {
         &mut self,
         symbol: &[u8],
         production: Production,
-        frame: Frame<Kept>,
+        frame: &Frame<Kept>,
         parts: &mut Vec<Part>,
     ) -> Result<Kept, Refusal>
-        requires numbered { production ≡ production_at frame.rule }
-        requires room { HasRoom (cpp_view symbol.now) symbol.now self.old (owed_behind (cpp_view symbol.now) frame parts.old.items) }
-        requires open { IsOpenAt (cpp_view symbol.now) symbol.now self.old frame parts.old.items }
-        requires base { frame.base ≤ length parts.old.items }
-        ensures goes { GoesOn (cpp_view symbol.now) symbol.now (Surrounds symbol.now) self.old self.new frame parts.old.items parts.new.items result }
-        ensures adds { OnOk result (Adds (cpp_view symbol.now) self.old self.new (owed_behind (cpp_view symbol.now) frame parts.old.items) (owed_next (cpp_view symbol.now) frame parts.new.items)) }
+        requires numbered { production ≡ production_at frame.now.rule }
+        requires room { HasRoom (cpp_view symbol.now) symbol.now self.old (owed_behind (cpp_view symbol.now) frame.now parts.old.items) }
+        requires open { IsOpenAt (cpp_view symbol.now) symbol.now self.old frame.now parts.old.items }
+        requires base { frame.now.base ≤ length parts.old.items }
+        ensures goes { GoesOn (cpp_view symbol.now) symbol.now (Surrounds symbol.now) self.old self.new frame.now parts.old.items parts.new.items result }
+        ensures adds { OnOk result (Adds (cpp_view symbol.now) self.old self.new (owed_behind (cpp_view symbol.now) frame.now parts.old.items) (owed_next (cpp_view symbol.now) frame.now parts.new.items)) }
         ensures pays { OnOk result ((at : ℕ) → Pays (cpp_view symbol.now) self.old self.new at at) }
         ensures count { OnOk result (length parts.new.items ≡ length parts.old.items) }
     {
@@ -247,14 +247,14 @@ impl Linked {
     fn go_by_step(
         &mut self,
         symbol: &[u8],
-        frame: Frame<Kept>,
+        frame: &Frame<Kept>,
         parts: &mut Vec<Part>,
     ) -> Result<Kept, Refusal>
-        requires room { HasRoom (cpp_view symbol.now) symbol.now self.old (owed_behind (cpp_view symbol.now) frame parts.old.items) }
-        requires open { IsOpenAt (cpp_view symbol.now) symbol.now self.old frame parts.old.items }
-        requires base { frame.base ≤ length parts.old.items }
-        ensures goes { GoesOn (cpp_view symbol.now) symbol.now (Surrounds symbol.now) self.old self.new frame parts.old.items parts.new.items result }
-        ensures adds { OnOk result (Adds (cpp_view symbol.now) self.old self.new (owed_behind (cpp_view symbol.now) frame parts.old.items) (owed_next (cpp_view symbol.now) frame parts.new.items)) }
+        requires room { HasRoom (cpp_view symbol.now) symbol.now self.old (owed_behind (cpp_view symbol.now) frame.now parts.old.items) }
+        requires open { IsOpenAt (cpp_view symbol.now) symbol.now self.old frame.now parts.old.items }
+        requires base { frame.now.base ≤ length parts.old.items }
+        ensures goes { GoesOn (cpp_view symbol.now) symbol.now (Surrounds symbol.now) self.old self.new frame.now parts.old.items parts.new.items result }
+        ensures adds { OnOk result (Adds (cpp_view symbol.now) self.old self.new (owed_behind (cpp_view symbol.now) frame.now parts.old.items) (owed_next (cpp_view symbol.now) frame.now parts.new.items)) }
         ensures pays { OnOk result ((at : ℕ) → Pays (cpp_view symbol.now) self.old self.new at at) }
         ensures count { OnOk result (length parts.new.items ≡ length parts.old.items) }
     {
@@ -280,14 +280,14 @@ impl Linked {
     pub fn go_on(
         &mut self,
         symbol: &[u8],
-        frame: Frame<Kept>,
+        frame: &Frame<Kept>,
         parts: &mut Vec<Part>,
     ) -> Result<Kept, Refusal>
-        requires room { HasRoom (cpp_view symbol.now) symbol.now self.old (owed_behind (cpp_view symbol.now) frame parts.old.items) }
-        requires open { IsOpenAt (cpp_view symbol.now) symbol.now self.old frame parts.old.items }
-        requires base { frame.base ≤ length parts.old.items }
-        ensures goes { GoesOn (cpp_view symbol.now) symbol.now (Surrounds symbol.now) self.old self.new frame parts.old.items parts.new.items result }
-        ensures adds { OnOk result (Adds (cpp_view symbol.now) self.old self.new (owed_behind (cpp_view symbol.now) frame parts.old.items) (owed_next (cpp_view symbol.now) frame parts.new.items)) }
+        requires room { HasRoom (cpp_view symbol.now) symbol.now self.old (owed_behind (cpp_view symbol.now) frame.now parts.old.items) }
+        requires open { IsOpenAt (cpp_view symbol.now) symbol.now self.old frame.now parts.old.items }
+        requires base { frame.now.base ≤ length parts.old.items }
+        ensures goes { GoesOn (cpp_view symbol.now) symbol.now (Surrounds symbol.now) self.old self.new frame.now parts.old.items parts.new.items result }
+        ensures adds { OnOk result (Adds (cpp_view symbol.now) self.old self.new (owed_behind (cpp_view symbol.now) frame.now parts.old.items) (owed_next (cpp_view symbol.now) frame.now parts.new.items)) }
         ensures pays { OnOk result ((at : ℕ) → Pays (cpp_view symbol.now) self.old self.new at at) }
         ensures count { OnOk result (length parts.new.items ≡ length parts.old.items) }
     {

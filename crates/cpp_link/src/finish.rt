@@ -174,16 +174,16 @@ impl Linked {
         &mut self,
         symbol: &[u8],
         production: Production,
-        frame: Frame<Kept>,
+        frame: &Frame<Kept>,
         parts: &mut Vec<Part>,
     ) -> Result<(), Refusal>
-        requires numbered { production ≡ production_at frame.rule }
-        requires room { HasRoom (cpp_view symbol.now) symbol.now self.old (owed_behind (cpp_view symbol.now) frame parts.old.items) }
-        requires open { IsOpenAt (cpp_view symbol.now) symbol.now self.old frame parts.old.items }
-        requires base { frame.base ≤ length parts.old.items }
-        requires place { frame.place < length symbol.now }
-        ensures closes { ClosesAll (cpp_view symbol.now) symbol.now self.old self.new frame parts.old.items parts.new.items result }
-        ensures adds { OnOk result (Adds (cpp_view symbol.now) self.old self.new (owed_behind (cpp_view symbol.now) frame parts.old.items) 0) }
+        requires numbered { production ≡ production_at frame.now.rule }
+        requires room { HasRoom (cpp_view symbol.now) symbol.now self.old (owed_behind (cpp_view symbol.now) frame.now parts.old.items) }
+        requires open { IsOpenAt (cpp_view symbol.now) symbol.now self.old frame.now parts.old.items }
+        requires base { frame.now.base ≤ length parts.old.items }
+        requires place { frame.now.place < length symbol.now }
+        ensures closes { ClosesAll (cpp_view symbol.now) symbol.now self.old self.new frame.now parts.old.items parts.new.items result }
+        ensures adds { OnOk result (Adds (cpp_view symbol.now) self.old self.new (owed_behind (cpp_view symbol.now) frame.now parts.old.items) 0) }
         ensures pays { OnOk result ((at : ℕ) → Pays (cpp_view symbol.now) self.old self.new at at) }
     {
         let made = self.close_production(
@@ -207,16 +207,16 @@ impl Linked {
         &mut self,
         symbol: &[u8],
         production: Production,
-        frame: Frame<Kept>,
+        frame: &Frame<Kept>,
         parts: &mut Vec<Part>,
     ) -> Result<(), Refusal>
-        requires numbered { production ≡ production_at frame.rule }
-        requires room { HasRoom (cpp_view symbol.now) symbol.now self.old (owed_behind (cpp_view symbol.now) frame parts.old.items) }
-        requires open { IsOpenAt (cpp_view symbol.now) symbol.now self.old frame parts.old.items }
-        requires base { frame.base ≤ length parts.old.items }
-        requires place { frame.place < length symbol.now }
-        ensures closes { ClosesAll (cpp_view symbol.now) symbol.now self.old self.new frame parts.old.items parts.new.items result }
-        ensures adds { OnOk result (Adds (cpp_view symbol.now) self.old self.new (owed_behind (cpp_view symbol.now) frame parts.old.items) 0) }
+        requires numbered { production ≡ production_at frame.now.rule }
+        requires room { HasRoom (cpp_view symbol.now) symbol.now self.old (owed_behind (cpp_view symbol.now) frame.now parts.old.items) }
+        requires open { IsOpenAt (cpp_view symbol.now) symbol.now self.old frame.now parts.old.items }
+        requires base { frame.now.base ≤ length parts.old.items }
+        requires place { frame.now.place < length symbol.now }
+        ensures closes { ClosesAll (cpp_view symbol.now) symbol.now self.old self.new frame.now parts.old.items parts.new.items result }
+        ensures adds { OnOk result (Adds (cpp_view symbol.now) self.old self.new (owed_behind (cpp_view symbol.now) frame.now parts.old.items) 0) }
         ensures pays { OnOk result ((at : ℕ) → Pays (cpp_view symbol.now) self.old self.new at at) }
     {
         self.finish_as(symbol, production, frame, parts)
@@ -231,15 +231,15 @@ impl Linked {
     pub fn finish_rule(
         &mut self,
         symbol: &[u8],
-        frame: Frame<Kept>,
+        frame: &Frame<Kept>,
         parts: &mut Vec<Part>,
     ) -> Result<(), Refusal>
-        requires room { HasRoom (cpp_view symbol.now) symbol.now self.old (owed_behind (cpp_view symbol.now) frame parts.old.items) }
-        requires open { IsOpenAt (cpp_view symbol.now) symbol.now self.old frame parts.old.items }
-        requires base { frame.base ≤ length parts.old.items }
-        requires place { frame.place < length symbol.now }
-        ensures closes { ClosesAll (cpp_view symbol.now) symbol.now self.old self.new frame parts.old.items parts.new.items result }
-        ensures adds { OnOk result (Adds (cpp_view symbol.now) self.old self.new (owed_behind (cpp_view symbol.now) frame parts.old.items) 0) }
+        requires room { HasRoom (cpp_view symbol.now) symbol.now self.old (owed_behind (cpp_view symbol.now) frame.now parts.old.items) }
+        requires open { IsOpenAt (cpp_view symbol.now) symbol.now self.old frame.now parts.old.items }
+        requires base { frame.now.base ≤ length parts.old.items }
+        requires place { frame.now.place < length symbol.now }
+        ensures closes { ClosesAll (cpp_view symbol.now) symbol.now self.old self.new frame.now parts.old.items parts.new.items result }
+        ensures adds { OnOk result (Adds (cpp_view symbol.now) self.old self.new (owed_behind (cpp_view symbol.now) frame.now parts.old.items) 0) }
         ensures pays { OnOk result ((at : ℕ) → Pays (cpp_view symbol.now) self.old self.new at at) }
     {
         let production = production_of(frame.rule);

@@ -54,14 +54,14 @@ impl Threading for Linked {
     fn between(
         &mut self,
         symbol: &[u8],
-        frame: Frame<Kept>,
+        frame: &Frame<Kept>,
         parts: &mut Vec<Part>,
     ) -> Result<Kept, Refusal>
-        requires room { HasRoom (cpp_view symbol.now) symbol.now self.old (owed_behind (cpp_view symbol.now) frame parts.old.items) }
-        requires open { IsOpenAt (cpp_view symbol.now) symbol.now self.old frame parts.old.items }
-        requires base { frame.base ≤ length parts.old.items }
-        ensures goes { GoesOn (cpp_view symbol.now) symbol.now (Surrounds symbol.now) self.old self.new frame parts.old.items parts.new.items result }
-        ensures adds { OnOk result (Adds (cpp_view symbol.now) self.old self.new (owed_behind (cpp_view symbol.now) frame parts.old.items) (owed_next (cpp_view symbol.now) frame parts.new.items)) }
+        requires room { HasRoom (cpp_view symbol.now) symbol.now self.old (owed_behind (cpp_view symbol.now) frame.now parts.old.items) }
+        requires open { IsOpenAt (cpp_view symbol.now) symbol.now self.old frame.now parts.old.items }
+        requires base { frame.now.base ≤ length parts.old.items }
+        ensures goes { GoesOn (cpp_view symbol.now) symbol.now (Surrounds symbol.now) self.old self.new frame.now parts.old.items parts.new.items result }
+        ensures adds { OnOk result (Adds (cpp_view symbol.now) self.old self.new (owed_behind (cpp_view symbol.now) frame.now parts.old.items) (owed_next (cpp_view symbol.now) frame.now parts.new.items)) }
         ensures pays { OnOk result ((at : ℕ) → Pays (cpp_view symbol.now) self.old self.new at at) }
         ensures count { OnOk result (length parts.new.items ≡ length parts.old.items) }
     {
@@ -87,23 +87,23 @@ impl Threading for Linked {
     fn finish(
         &mut self,
         symbol: &[u8],
-        frame: Frame<Kept>,
+        frame: &Frame<Kept>,
         parts: &mut Vec<Part>,
     ) -> Result<(), Refusal>
-        requires room { HasRoom (cpp_view symbol.now) symbol.now self.old (owed_behind (cpp_view symbol.now) frame parts.old.items) }
-        requires open { IsOpenAt (cpp_view symbol.now) symbol.now self.old frame parts.old.items }
-        requires base { frame.base ≤ length parts.old.items }
-        requires place { frame.place < length symbol.now }
-        ensures closes { ClosesAll (cpp_view symbol.now) symbol.now self.old self.new frame parts.old.items parts.new.items result }
-        ensures adds { OnOk result (Adds (cpp_view symbol.now) self.old self.new (owed_behind (cpp_view symbol.now) frame parts.old.items) 0) }
+        requires room { HasRoom (cpp_view symbol.now) symbol.now self.old (owed_behind (cpp_view symbol.now) frame.now parts.old.items) }
+        requires open { IsOpenAt (cpp_view symbol.now) symbol.now self.old frame.now parts.old.items }
+        requires base { frame.now.base ≤ length parts.old.items }
+        requires place { frame.now.place < length symbol.now }
+        ensures closes { ClosesAll (cpp_view symbol.now) symbol.now self.old self.new frame.now parts.old.items parts.new.items result }
+        ensures adds { OnOk result (Adds (cpp_view symbol.now) self.old self.new (owed_behind (cpp_view symbol.now) frame.now parts.old.items) 0) }
         ensures pays { OnOk result ((at : ℕ) → Pays (cpp_view symbol.now) self.old self.new at at) }
     {
         self.finish_rule(symbol, frame, parts)
     }
 
-    fn ahead(&self, symbol: &[u8], rows: &[Row], frame: Frame<Kept>, held: usize, row: Row) -> usize
+    fn ahead(&self, symbol: &[u8], rows: &[Row], frame: &Frame<Kept>, held: usize, row: Row) -> usize
         requires place { row.from < length symbol.now }
-        ensures { IsAhead (cpp_view symbol.now) symbol.now rows.now self.now frame held row result }
+        ensures { IsAhead (cpp_view symbol.now) symbol.now rows.now self.now frame.now held row result }
     {
         self.next_rule(symbol, rows, frame, held, row)
     }
@@ -118,14 +118,14 @@ impl Threading for Linked {
         Ok(self.text_at(symbol, row))
     }
 
-    fn ahead_token(&self, symbol: &[u8], frame: Frame<Kept>, held: usize) -> usize
-        ensures { IsAheadToken (cpp_view symbol.now) symbol.now self.now frame held result }
+    fn ahead_token(&self, symbol: &[u8], frame: &Frame<Kept>, held: usize) -> usize
+        ensures { IsAheadToken (cpp_view symbol.now) symbol.now self.now frame.now held result }
     {
         self.next_token(symbol, frame, held)
     }
 
-    fn count(&self, symbol: &[u8], frame: Frame<Kept>, held: usize) -> usize
-        ensures { IsCount (cpp_view symbol.now) symbol.now self.now frame held result }
+    fn count(&self, symbol: &[u8], frame: &Frame<Kept>, held: usize) -> usize
+        ensures { IsCount (cpp_view symbol.now) symbol.now self.now frame.now held result }
     {
         self.count_parts(symbol, frame, held)
     }
@@ -177,7 +177,7 @@ impl Linking for Linked {
         ensures adds { OnOk result (Adds (cpp_view symbol.now) self.old self.new (owed_behind (cpp_view symbol.now) frame parts.old.items) (owed_next (cpp_view symbol.now) frame parts.new.items)) }
         ensures pays { OnOk result ((at : ℕ) → at ≤ row.from → Pays (cpp_view symbol.now) self.old self.new at row.from) }
     {
-        enter_by(self, symbol, rows, frame, parts, row)
+        enter_by(self, symbol, rows, &frame, parts, row)
     }
 
     fn token(
@@ -197,7 +197,7 @@ impl Linking for Linked {
         ensures pays { OnOk result ((at : ℕ) → at ≤ row.from → (length parts.old.items ≡ frame.base → at ≤ frame.place)
             → Pays (cpp_view symbol.now) self.old self.new at row.to) }
     {
-        token_by(self, symbol, frame, parts, row)?;
+        token_by(self, symbol, &frame, parts, row)?;
         Ok(())
     }
 
@@ -215,7 +215,7 @@ impl Linking for Linked {
         ensures adds { OnOk result (Adds (cpp_view symbol.now) self.old self.new (owed_behind (cpp_view symbol.now) frame parts.old.items) 0) }
         ensures pays { OnOk result ((at : ℕ) → Pays (cpp_view symbol.now) self.old self.new at at) }
     {
-        close_by(self, symbol, frame, parts)
+        close_by(self, symbol, &frame, parts)
     }
 
     ghost laws = { cpp_laws };
