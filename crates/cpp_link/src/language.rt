@@ -164,58 +164,58 @@ impl Linking for Linked {
         &mut self,
         symbol: &[u8],
         rows: &[Row],
-        frame: Frame<Kept>,
+        frame: &Frame<Kept>,
         parts: &mut Vec<Part>,
         row: Row,
     ) -> Result<Kept, Refusal>
-        requires room { HasRoom (cpp_view symbol.now) symbol.now self.old (owed_behind (cpp_view symbol.now) frame parts.old.items) }
-        requires open { IsOpen (cpp_view symbol.now) symbol.now self.old frame parts.old.items }
-        requires base { frame.base ≤ length parts.old.items }
+        requires room { HasRoom (cpp_view symbol.now) symbol.now self.old (owed_behind (cpp_view symbol.now) frame.now parts.old.items) }
+        requires open { IsOpen (cpp_view symbol.now) symbol.now self.old frame.now parts.old.items }
+        requires base { frame.now.base ≤ length parts.old.items }
         requires place { row.from < length symbol.now }
         requires end { row.end ≤ length rows.now }
-        ensures opens { Opens (cpp_view symbol.now) symbol.now rows.now self.old self.new frame parts.old.items parts.new.items row result }
-        ensures adds { OnOk result (Adds (cpp_view symbol.now) self.old self.new (owed_behind (cpp_view symbol.now) frame parts.old.items) (owed_next (cpp_view symbol.now) frame parts.new.items)) }
+        ensures opens { Opens (cpp_view symbol.now) symbol.now rows.now self.old self.new frame.now parts.old.items parts.new.items row result }
+        ensures adds { OnOk result (Adds (cpp_view symbol.now) self.old self.new (owed_behind (cpp_view symbol.now) frame.now parts.old.items) (owed_next (cpp_view symbol.now) frame.now parts.new.items)) }
         ensures pays { OnOk result ((at : ℕ) → at ≤ row.from → Pays (cpp_view symbol.now) self.old self.new at row.from) }
     {
-        enter_by(self, symbol, rows, &frame, parts, row)
+        enter_by(self, symbol, rows, frame, parts, row)
     }
 
     fn token(
         &mut self,
         symbol: &[u8],
-        frame: Frame<Kept>,
+        frame: &Frame<Kept>,
         parts: &mut Vec<Part>,
         row: Row,
     ) -> Result<(), Refusal>
-        requires room { HasRoom (cpp_view symbol.now) symbol.now self.old (owed_behind (cpp_view symbol.now) frame parts.old.items) }
-        requires open { IsOpen (cpp_view symbol.now) symbol.now self.old frame parts.old.items }
-        requires base { frame.base ≤ length parts.old.items }
+        requires room { HasRoom (cpp_view symbol.now) symbol.now self.old (owed_behind (cpp_view symbol.now) frame.now parts.old.items) }
+        requires open { IsOpen (cpp_view symbol.now) symbol.now self.old frame.now parts.old.items }
+        requires base { frame.now.base ≤ length parts.old.items }
         requires from { row.from ≤ row.to }
         requires to { row.to ≤ length symbol.now }
-        ensures takes { TakesToken (cpp_view symbol.now) symbol.now self.old self.new frame parts.old.items parts.new.items row result }
-        ensures adds { OnOk result (Adds (cpp_view symbol.now) self.old self.new (owed_behind (cpp_view symbol.now) frame parts.old.items) (owed_behind (cpp_view symbol.now) frame parts.new.items)) }
-        ensures pays { OnOk result ((at : ℕ) → at ≤ row.from → (length parts.old.items ≡ frame.base → at ≤ frame.place)
+        ensures takes { TakesToken (cpp_view symbol.now) symbol.now self.old self.new frame.now parts.old.items parts.new.items row result }
+        ensures adds { OnOk result (Adds (cpp_view symbol.now) self.old self.new (owed_behind (cpp_view symbol.now) frame.now parts.old.items) (owed_behind (cpp_view symbol.now) frame.now parts.new.items)) }
+        ensures pays { OnOk result ((at : ℕ) → at ≤ row.from → (length parts.old.items ≡ frame.now.base → at ≤ frame.now.place)
             → Pays (cpp_view symbol.now) self.old self.new at row.to) }
     {
-        token_by(self, symbol, &frame, parts, row)?;
+        token_by(self, symbol, frame, parts, row)?;
         Ok(())
     }
 
     fn close(
         &mut self,
         symbol: &[u8],
-        frame: Frame<Kept>,
+        frame: &Frame<Kept>,
         parts: &mut Vec<Part>,
     ) -> Result<(), Refusal>
-        requires room { HasRoom (cpp_view symbol.now) symbol.now self.old (owed_behind (cpp_view symbol.now) frame parts.old.items) }
-        requires open { IsOpen (cpp_view symbol.now) symbol.now self.old frame parts.old.items }
-        requires base { frame.base ≤ length parts.old.items }
-        requires place { frame.place < length symbol.now }
-        ensures closes { ClosesRule (cpp_view symbol.now) symbol.now self.old self.new frame parts.old.items parts.new.items result }
-        ensures adds { OnOk result (Adds (cpp_view symbol.now) self.old self.new (owed_behind (cpp_view symbol.now) frame parts.old.items) 0) }
+        requires room { HasRoom (cpp_view symbol.now) symbol.now self.old (owed_behind (cpp_view symbol.now) frame.now parts.old.items) }
+        requires open { IsOpen (cpp_view symbol.now) symbol.now self.old frame.now parts.old.items }
+        requires base { frame.now.base ≤ length parts.old.items }
+        requires place { frame.now.place < length symbol.now }
+        ensures closes { ClosesRule (cpp_view symbol.now) symbol.now self.old self.new frame.now parts.old.items parts.new.items result }
+        ensures adds { OnOk result (Adds (cpp_view symbol.now) self.old self.new (owed_behind (cpp_view symbol.now) frame.now parts.old.items) 0) }
         ensures pays { OnOk result ((at : ℕ) → Pays (cpp_view symbol.now) self.old self.new at at) }
     {
-        close_by(self, symbol, &frame, parts)
+        close_by(self, symbol, frame, parts)
     }
 
     ghost laws = { cpp_laws };
