@@ -32,6 +32,13 @@ fn top<K: Copy>(frames: &[Frame<K>]) -> &Frame<K>
     &frames[frames.len() - 1]
 }
 
+/// Takes the frame of the rule that is open innermost off the others.
+fn take_off<K: Copy>(frames: &mut Vec<Frame<K>>)
+    ensures { frames.new.items ≡ take (length frames.old.items - 1) frames.old.items }
+{
+    let _frame = frames.pop();
+}
+
 /// Closes the innermost rule. Its frame is then to be taken off.
 #[inline(always)]
 fn leave<L: Linking>(
@@ -191,7 +198,7 @@ fn advance<L: Linking>(
     };
     if frame.end == next {
         leave(language, symbol, parts, frame)?;
-        frames.pop();
+        take_off(frames);
         return Ok(Some(next));
     }
     let behind = take(language, symbol, rows, next, frames, parts)?;

@@ -47,7 +47,7 @@ pub returns-then-frame-next-clause-moves : goal.returns-then-frame-next-clause-m
 returns-then-frame-next-clause-moves g c tree taken is way =
     let some = closing_way (g.L.Linking.view c.args.symbol.now) c.args.symbol.now c.args.rows.now tree taken c.args.language.now c.args.next c.args.frames.now.items c.in-Some.frame.now c.args.parts.now.items way (c.in-Some.ensures.some.0, sym c.deref.ensures.value ∙ c.in-Some.ensures.some.1) in
     rw (
-      c.pop.ensures.items,
+      c.take_off.ensures,
       popped c.args.frames.now.items c.in-Some.ensures.some.0 c.in-Some.frame.now _ (sym c.deref.ensures.value ∙ c.in-Some.ensures.some.1) refl,
     )
     (some.0, some.1, c.in_ok-leave.ensures.follows (meaning_of (g.L.Linking.view c.args.symbol.now) tree) c.args.rows.now c.in-Some.ensures.some.0 c.args.next some.0 some.2 c.if-frame-next.true)

@@ -19,8 +19,11 @@ pub close-requires-clause-place : goal.close-requires-clause-place
 close-requires-clause-place g c =
     closing_place (g.L.Linking.view c.args.symbol.now) c.args.symbol.now c.args.language.now c.args.frame.now c.args.parts.now.items (g.met.L.Linking.laws c.args.symbol.now) c.requires
 
-pub returns-clause-follows : goal.returns-clause-follows
-returns-clause-follows g c whole shape lower next left follows ends =
-    closed (g.L.Linking.view c.args.symbol.now) c.args.symbol.now shape whole (waiting (left + 1)) c.args.language.now c.close.new.self next lower c.args.frame.now
-    c.args.parts.now.items c.close.new.parts.items c.close.result (g.met.L.Linking.laws c.args.symbol.now) follows ends
-    c.close.ensures.closes c.close.ensures.adds c.close.ensures.pays left refl
+pub returns : goal.returns
+returns g c =
+    record {
+      follows = λ whole shape lower next left follows ends.
+          closed (g.L.Linking.view c.args.symbol.now) c.args.symbol.now shape whole (waiting (left + 1)) c.args.language.now c.close.new.self next lower c.args.frame.now
+          c.args.parts.now.items c.close.new.parts.items c.close.result (g.met.L.Linking.laws c.args.symbol.now) follows ends
+          c.close.ensures.closes c.close.ensures.adds c.close.ensures.pays left refl;
+    }
