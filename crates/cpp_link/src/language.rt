@@ -101,7 +101,14 @@ impl Threading for Linked {
         self.finish_rule(symbol, frame, parts)
     }
 
-    fn ahead(&self, symbol: &[u8], rows: &[Row], frame: &Frame<Kept>, held: usize, row: Row) -> usize
+    fn ahead(
+        &self,
+        symbol: &[u8],
+        rows: &[Row],
+        frame: &Frame<Kept>,
+        held: usize,
+        row: Row,
+    ) -> usize
         requires place { row.from < length symbol.now }
         ensures { IsAhead (cpp_view symbol.now) symbol.now rows.now self.now frame.now held row result }
     {

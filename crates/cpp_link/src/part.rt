@@ -170,17 +170,17 @@ impl Kept {
         ensures there { (n : ℕ) → IsKeptThere n self → IsKeptThere n result }
         ensures packs { packs_of result ≡ packs }
     {
+        let mut kept = self;
         match packs {
-            Some(pack_length) => Kept {
-                pack_length,
-                has_packs: true,
-                ..self
-            },
-            None => Kept {
-                has_packs: false,
-                ..self
-            },
+            Some(pack_length) => {
+                kept.pack_length = pack_length;
+                kept.has_packs = true;
+            }
+            None => {
+                kept.has_packs = false;
+            }
         }
+        kept
     }
 }
 

@@ -45,21 +45,16 @@ impl Linked {
         ensures around { (ts : List term.Term) → around_of ts result ≡ record { scope = arguments_are ts scope; encoding = place; in_lambda = false; in_expansion = false; prefix = values.outermost } }
         ensures there { IsKeptThere (length self.now.nodes.nodes) result }
     {
-        let outside = Kept {
-            encoding: place,
-            scope: Scope::Nothing,
-            naming: Naming::Outermost,
-            in_expansion: false,
-            ..kept
-        };
-        match scope {
-            Some(arguments) => Kept {
-                arguments,
-                scope: Scope::Arguments,
-                ..outside
-            },
-            None => outside,
+        let mut then = kept;
+        then.encoding = place;
+        then.scope = Scope::Nothing;
+        then.naming = Naming::Outermost;
+        then.in_expansion = false;
+        if let Some(arguments) = scope {
+            then.arguments = arguments;
+            then.scope = Scope::Arguments;
         }
+        then
     }
 
     /// Behind this name.
@@ -71,18 +66,14 @@ impl Linked {
         ensures around { (ts : List term.Term) → around_of ts result ≡ after (tree_at ts node) listed (around_of ts kept) }
         ensures there { IsKeptThere (length self.now.nodes.nodes) result }
     {
-        if listed {
-            return Kept {
-                name: node,
-                naming: Naming::Listed,
-                ..kept
-            };
-        }
-        Kept {
-            name: node,
-            naming: Naming::Unlisted,
-            ..kept
-        }
+        let mut then = kept;
+        then.name = node;
+        then.naming = if listed {
+            Naming::Listed
+        } else {
+            Naming::Unlisted
+        };
+        then
     }
 
     /// In the signature of a lambda.
@@ -92,11 +83,10 @@ impl Linked {
         ensures around { (ts : List term.Term) → around_of ts result ≡ in_signature (around_of ts kept) }
         ensures there { IsKeptThere (length self.now.nodes.nodes) result }
     {
-        Kept {
-            scope: Scope::Lambda,
-            naming: Naming::Outermost,
-            ..kept
-        }
+        let mut then = kept;
+        then.scope = Scope::Lambda;
+        then.naming = Naming::Outermost;
+        then
     }
 
     /// Under an expansion.
@@ -107,10 +97,9 @@ impl Linked {
         ensures around { (ts : List term.Term) → around_of ts result ≡ under_expansion (around_of ts kept) }
         ensures there { IsKeptThere (length self.now.nodes.nodes) result }
     {
-        Kept {
-            in_expansion: true,
-            ..kept
-        }
+        let mut then = kept;
+        then.in_expansion = true;
+        then
     }
 
     /// With no name so far.
@@ -121,10 +110,9 @@ impl Linked {
         ensures around { (ts : List term.Term) → around_of ts result ≡ inside (around_of ts kept) }
         ensures there { IsKeptThere (length self.now.nodes.nodes) result }
     {
-        Kept {
-            naming: Naming::Outermost,
-            ..kept
-        }
+        let mut then = kept;
+        then.naming = Naming::Outermost;
+        then
     }
 
     /// Nothing is done, and this surrounds the next part.
