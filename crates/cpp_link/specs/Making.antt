@@ -9,6 +9,7 @@ use Rattle.cpp_link.specs.Parts.{trees_in, candidates_of}
 -- how many nodes are made of what a production stands for
 unfoldable pub nodes_of_meant : Meant → ℕ
 nodes_of_meant (Meant.Given part) = 0
+nodes_of_meant (Meant.There node listed) = 0
 nodes_of_meant (Meant.Character letter value) = 2
 nodes_of_meant _ = 1
 

@@ -228,6 +228,7 @@ impl Linked {
     /// # Errors
     ///
     /// `BadReference` at a substitution that names no candidate that it may name, `Memory` where a list couldn't grow.
+    #[inline(never)]
     pub fn finish_rule(
         &mut self,
         symbol: &[u8],

@@ -84,6 +84,7 @@ impl Threading for Linked {
         self.begin_rule(symbol, rows, context, row)
     }
 
+    #[inline(always)]
     fn finish(
         &mut self,
         symbol: &[u8],
@@ -208,6 +209,7 @@ impl Linking for Linked {
         Ok(())
     }
 
+    #[inline(always)]
     fn close(
         &mut self,
         symbol: &[u8],

@@ -34,10 +34,10 @@ pub fn made(node: Node, listed: bool) -> Meant
 
 /// A tree that is there.
 #[inline(always)]
-fn tree(node: u32, listed: bool) -> Meant
-    ensures { result ≡ Meant.Given (Part.Tree node listed) }
+pub fn tree(node: u32, listed: bool) -> Meant
+    ensures { result ≡ Meant.There node listed }
 {
-    Meant::Given(Part::Tree { node, listed })
+    Meant::There { node, listed }
 }
 
 /// One more item before those of a signature.

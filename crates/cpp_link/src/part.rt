@@ -35,6 +35,10 @@ pub enum Part {
 #[derive(Clone, Copy)]
 pub enum Meant {
     Given(Part),
+    There {
+        node: u32,
+        listed: bool,
+    },
     Made {
         node: Node,
         listed: bool,

@@ -16,7 +16,7 @@ ghost use Rattle.cpp_link.specs.Making.{nodes_of_meant};
 ghost use Rattle.cpp_link.specs.Parts.{trees_in, tree_of_node, value_of, value_in, values_in, prefix_of, meant_value, IsThere, AreThere, IsMeantThere, IsPrefixThere};
 
 use crate::linked::Linked;
-use crate::meaning::made;
+use crate::meaning::{made, tree};
 use crate::numbers::local_number;
 use crate::part::{Meant, Part, Prefix};
 use crate::values::part;
@@ -91,7 +91,7 @@ impl Linked {
                 false,
             );
         }
-        Meant::Given(Part::Tree { node: name, listed })
+        tree(name, listed)
     }
 
     /// What the end of a nested name stands for: the name so far.
@@ -105,11 +105,8 @@ impl Linked {
         ensures nodes { nodes_of_meant result ≡ 0 }
     {
         match prefix {
-            Prefix::Outermost => Meant::Given(Part::Tree {
-                node: ABSENT,
-                listed: true,
-            }),
-            Prefix::Behind { node, listed } => Meant::Given(Part::Tree { node, listed }),
+            Prefix::Outermost => tree(ABSENT, true),
+            Prefix::Behind { node, listed } => tree(node, listed),
         }
     }
 

@@ -189,6 +189,7 @@ pub fn enter_by<L: Threading>(
 }
 
 /// The rule of the frame closes: what it means takes the place of its parts.
+#[inline(always)]
 pub fn close_by<L: Threading>(
     language: &mut L,
     symbol: &[u8],
