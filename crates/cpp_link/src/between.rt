@@ -141,6 +141,7 @@ impl Linked {
     /// # Errors
     ///
     /// `Memory` where a list couldn't grow.
+    #[inline(always)]
     fn take_step(
         &mut self,
         symbol: &[u8],
@@ -192,7 +193,63 @@ impl Linked {
         }
     }
 
-    /// Does what is to be done before the next part of the rule of the frame, and answers what surrounds that part.
+    /// Does what is to be done before the next part of the rule of the frame, which is of this production, and answers what
+    /// surrounds that part.
+    ///
+    /// # Errors
+    ///
+    /// Those of `go_on`.
+    #[inline(always)]
+    fn go_as(
+        &mut self,
+        symbol: &[u8],
+        production: Production,
+        frame: &Frame<Kept>,
+        parts: &mut Vec<Part>,
+    ) -> Result<Kept, Refusal>
+        requires numbered { production ≡ production_at frame.now.rule }
+        requires room { HasRoom (cpp_view symbol.now) symbol.now self.old (owed_behind (cpp_view symbol.now) frame.now parts.old.items) }
+        requires open { IsOpenAt (cpp_view symbol.now) symbol.now self.old frame.now parts.old.items }
+        requires base { frame.now.base ≤ length parts.old.items }
+        ensures goes { GoesOn (cpp_view symbol.now) symbol.now (Surrounds symbol.now) self.old self.new frame.now parts.old.items parts.new.items result }
+        ensures adds { OnOk result (Adds (cpp_view symbol.now) self.old self.new (owed_behind (cpp_view symbol.now) frame.now parts.old.items) (owed_next (cpp_view symbol.now) frame.now parts.new.items)) }
+        ensures few { AddsBefore (cpp_view symbol.now) self.old self.new frame.now parts.old.items (drop frame.now.base parts.new.items ++ variants.Nothing ∷ []) result }
+        ensures pays { OnOk result ((at : ℕ) → Pays (cpp_view symbol.now) self.old self.new at at) }
+        ensures count { OnOk result (length parts.new.items ≡ length parts.old.items) }
+    {
+        let own = &parts[frame.base..];
+        let step = self.step(symbol, production, frame.place, frame.kept, own)?;
+        let then = self.take_step(symbol, frame.kept, frame.base, step, parts)?;
+        Ok(then)
+    }
+
+    /// The same for productions that are rare, with the code of all of them.
+    ///
+    /// # Errors
+    ///
+    /// Those of `go_on`.
+    #[inline(never)]
+    fn go_rare(
+        &mut self,
+        symbol: &[u8],
+        production: Production,
+        frame: &Frame<Kept>,
+        parts: &mut Vec<Part>,
+    ) -> Result<Kept, Refusal>
+        requires numbered { production ≡ production_at frame.now.rule }
+        requires room { HasRoom (cpp_view symbol.now) symbol.now self.old (owed_behind (cpp_view symbol.now) frame.now parts.old.items) }
+        requires open { IsOpenAt (cpp_view symbol.now) symbol.now self.old frame.now parts.old.items }
+        requires base { frame.now.base ≤ length parts.old.items }
+        ensures goes { GoesOn (cpp_view symbol.now) symbol.now (Surrounds symbol.now) self.old self.new frame.now parts.old.items parts.new.items result }
+        ensures adds { OnOk result (Adds (cpp_view symbol.now) self.old self.new (owed_behind (cpp_view symbol.now) frame.now parts.old.items) (owed_next (cpp_view symbol.now) frame.now parts.new.items)) }
+        ensures few { AddsBefore (cpp_view symbol.now) self.old self.new frame.now parts.old.items (drop frame.now.base parts.new.items ++ variants.Nothing ∷ []) result }
+        ensures pays { OnOk result ((at : ℕ) → Pays (cpp_view symbol.now) self.old self.new at at) }
+        ensures count { OnOk result (length parts.new.items ≡ length parts.old.items) }
+    {
+        self.go_as(symbol, production, frame, parts)
+    }
+
+    /// The same, with code of their own for the productions that are common.
     ///
     /// # Errors
     ///
@@ -201,23 +258,34 @@ impl Linked {
     fn go_by_step(
         &mut self,
         symbol: &[u8],
-        frame: Frame<Kept>,
+        frame: &Frame<Kept>,
         parts: &mut Vec<Part>,
     ) -> Result<Kept, Refusal>
-        requires room { HasRoom (cpp_view symbol.now) symbol.now self.old (owed_behind (cpp_view symbol.now) frame parts.old.items) }
-        requires open { IsOpenAt (cpp_view symbol.now) symbol.now self.old frame parts.old.items }
-        requires base { frame.base ≤ length parts.old.items }
-        ensures goes { GoesOn (cpp_view symbol.now) symbol.now (Surrounds symbol.now) self.old self.new frame parts.old.items parts.new.items result }
-        ensures adds { OnOk result (Adds (cpp_view symbol.now) self.old self.new (owed_behind (cpp_view symbol.now) frame parts.old.items) (owed_next (cpp_view symbol.now) frame parts.new.items)) }
-        ensures few { AddsBefore (cpp_view symbol.now) self.old self.new frame parts.old.items (drop frame.base parts.new.items ++ variants.Nothing ∷ []) result }
+        requires room { HasRoom (cpp_view symbol.now) symbol.now self.old (owed_behind (cpp_view symbol.now) frame.now parts.old.items) }
+        requires open { IsOpenAt (cpp_view symbol.now) symbol.now self.old frame.now parts.old.items }
+        requires base { frame.now.base ≤ length parts.old.items }
+        ensures goes { GoesOn (cpp_view symbol.now) symbol.now (Surrounds symbol.now) self.old self.new frame.now parts.old.items parts.new.items result }
+        ensures adds { OnOk result (Adds (cpp_view symbol.now) self.old self.new (owed_behind (cpp_view symbol.now) frame.now parts.old.items) (owed_next (cpp_view symbol.now) frame.now parts.new.items)) }
+        ensures few { AddsBefore (cpp_view symbol.now) self.old self.new frame.now parts.old.items (drop frame.now.base parts.new.items ++ variants.Nothing ∷ []) result }
         ensures pays { OnOk result ((at : ℕ) → Pays (cpp_view symbol.now) self.old self.new at at) }
         ensures count { OnOk result (length parts.new.items ≡ length parts.old.items) }
     {
-        let own = &parts[frame.base..];
         let production = production_of(frame.rule);
-        let step = self.step(symbol, production, frame.place, frame.kept, own)?;
-        let then = self.take_step(symbol, frame.kept, frame.base, step, parts)?;
-        Ok(then)
+        match production {
+            Production::NestNext => self.go_as(symbol, Production::NestNext, frame, parts),
+            Production::SourceName => self.go_as(symbol, Production::SourceName, frame, parts),
+            Production::NestSource => self.go_as(symbol, Production::NestSource, frame, parts),
+            Production::Encoding => self.go_as(symbol, Production::Encoding, frame, parts),
+            Production::Arguments => self.go_as(symbol, Production::Arguments, frame, parts),
+            Production::NestAbbreviated => self.go_as(
+                symbol,
+                Production::NestAbbreviated,
+                frame,
+                parts,
+            ),
+            Production::TypeWithS => self.go_as(symbol, Production::TypeWithS, frame, parts),
+            _ => self.go_rare(symbol, production, frame, parts),
+        }
     }
 
     /// What is done before the next part of the rule of the frame, and what surrounds that part.
@@ -225,19 +293,19 @@ impl Linked {
     /// # Errors
     ///
     /// `BadReference` at a parameter that names no argument that it may name, `Memory` where a list couldn't grow.
-    #[inline(never)]
+    #[inline(always)]
     pub fn go_on(
         &mut self,
         symbol: &[u8],
-        frame: Frame<Kept>,
+        frame: &Frame<Kept>,
         parts: &mut Vec<Part>,
     ) -> Result<Kept, Refusal>
-        requires room { HasRoom (cpp_view symbol.now) symbol.now self.old (owed_behind (cpp_view symbol.now) frame parts.old.items) }
-        requires open { IsOpenAt (cpp_view symbol.now) symbol.now self.old frame parts.old.items }
-        requires base { frame.base ≤ length parts.old.items }
-        ensures goes { GoesOn (cpp_view symbol.now) symbol.now (Surrounds symbol.now) self.old self.new frame parts.old.items parts.new.items result }
-        ensures adds { OnOk result (Adds (cpp_view symbol.now) self.old self.new (owed_behind (cpp_view symbol.now) frame parts.old.items) (owed_next (cpp_view symbol.now) frame parts.new.items)) }
-        ensures few { AddsBefore (cpp_view symbol.now) self.old self.new frame parts.old.items (drop frame.base parts.new.items ++ variants.Nothing ∷ []) result }
+        requires room { HasRoom (cpp_view symbol.now) symbol.now self.old (owed_behind (cpp_view symbol.now) frame.now parts.old.items) }
+        requires open { IsOpenAt (cpp_view symbol.now) symbol.now self.old frame.now parts.old.items }
+        requires base { frame.now.base ≤ length parts.old.items }
+        ensures goes { GoesOn (cpp_view symbol.now) symbol.now (Surrounds symbol.now) self.old self.new frame.now parts.old.items parts.new.items result }
+        ensures adds { OnOk result (Adds (cpp_view symbol.now) self.old self.new (owed_behind (cpp_view symbol.now) frame.now parts.old.items) (owed_next (cpp_view symbol.now) frame.now parts.new.items)) }
+        ensures few { AddsBefore (cpp_view symbol.now) self.old self.new frame.now parts.old.items (drop frame.now.base parts.new.items ++ variants.Nothing ∷ []) result }
         ensures pays { OnOk result ((at : ℕ) → Pays (cpp_view symbol.now) self.old self.new at at) }
         ensures count { OnOk result (length parts.new.items ≡ length parts.old.items) }
     {

@@ -55,6 +55,7 @@ impl Linked {
     /// # Errors
     ///
     /// `Memory` where the candidates couldn't grow.
+    #[inline(always)]
     pub fn append(
         &mut self,
         symbol: &[u8],

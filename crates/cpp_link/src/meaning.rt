@@ -34,10 +34,10 @@ pub fn made(node: Node, listed: bool) -> Meant
 
 /// A tree that is there.
 #[inline(always)]
-fn tree(node: u32, listed: bool) -> Meant
-    ensures { result ≡ Meant.Given (Part.Tree node listed) }
+pub fn tree(node: u32, listed: bool) -> Meant
+    ensures { result ≡ Meant.There node listed }
 {
-    Meant::Given(Part::Tree { node, listed })
+    Meant::There { node, listed }
 }
 
 /// One more item before those of a signature.
@@ -106,7 +106,6 @@ impl Linked {
     {
         let byte = symbol[place as usize];
         Ok(match production {
-            Production::Special => Meant::Given(self.given(symbol, parts, 0)),
             Production::NameWithS => Meant::Given(self.given(symbol, parts, 0)),
             Production::LocalTypePiece => Meant::Given(self.given(symbol, parts, 0)),
             Production::OperatorPiece => Meant::Given(self.given(symbol, parts, 0)),
@@ -120,7 +119,6 @@ impl Linked {
             Production::LiteralWithD => Meant::Given(self.given(symbol, parts, 0)),
             Production::Substitution => Meant::Given(Part::Nothing),
             Production::RefEnd => Meant::Given(Part::Nothing),
-            Production::Mark => Meant::Given(Part::Letter(byte)),
             Production::NonVirtualOffset => Meant::Given(Part::Adjusted(Adjustment::NonVirtual(
                 self.signed(symbol, parts, 0),
             ))),
@@ -169,10 +167,6 @@ impl Linked {
                 internal: true,
                 bytes: self.text(symbol, parts, 0),
             }),
-            Production::SourcePiece => piece(Piece::Source {
-                internal: false,
-                bytes: self.text(symbol, parts, 0),
-            }),
             Production::Abbreviation => made(Node::Abbreviation(byte), true),
             Production::LiteralOperator => piece(Piece::LiteralOperator(self.text(
                 symbol, parts, 0,
@@ -189,7 +183,6 @@ impl Linked {
             Production::OperatorS => piece(Piece::Operator(byte, self.letter(symbol, parts, 0))),
             Production::OperatorI => piece(Piece::Operator(byte, self.letter(symbol, parts, 0))),
             Production::OperatorG => piece(Piece::Operator(byte, self.letter(symbol, parts, 0))),
-            Production::QualifiedPlain => tree(self.tree(symbol, parts, 0), true),
             Production::TypeWithD => tree(self.tree(symbol, parts, 0), true),
             Production::PlainWithD => tree(self.tree(symbol, parts, 0), true),
             Production::ItemWithD => tree(self.tree(symbol, parts, 0), true),
@@ -197,7 +190,6 @@ impl Linked {
             Production::BuiltinWithD => made(Node::BuiltinWithD(byte), true),
             Production::Vendor => made(Node::Vendor(self.text(symbol, parts, 0)), false),
             Production::Complex => made(Node::Complex(self.tree(symbol, parts, 0)), false),
-            Production::Pointer => made(Node::Pointer(self.tree(symbol, parts, 0)), false),
             Production::MemberPointer => made(
                 Node::MemberPointer {
                     class: self.tree(symbol, parts, 0),
@@ -205,7 +197,6 @@ impl Linked {
                 },
                 false,
             ),
-            Production::StdType => made(Node::InStd(self.piece(symbol, parts, 0)), false),
             Production::RestrictType => qualified(
                 true,
                 self.there(symbol, parts, 0),
@@ -218,7 +209,6 @@ impl Linked {
                 self.there(symbol, parts, 0),
                 self.tree(symbol, parts, 1),
             ),
-            Production::ConstType => qualified(false, false, true, self.tree(symbol, parts, 0)),
             Production::PackArgument => made(
                 Node::Cell {
                     first: self.tree(symbol, parts, 0),
@@ -342,7 +332,6 @@ impl Linked {
                 qualifiers: self.qualifiers(symbol, parts, 2),
                 mark: self.reference(symbol, parts, 2),
             },
-            Production::ReferenceType => self.reference_meant(symbol, byte, parts),
             Production::RestLvalue => self.signature_or(
                 symbol,
                 Mark::Lvalue,
@@ -423,6 +412,14 @@ impl Linked {
             Production::NestAbbreviated => unreachable!(),
             Production::TypeWithS => unreachable!(),
             Production::AbbreviatedType => unreachable!(),
+            Production::Special => unreachable!(),
+            Production::StdType => unreachable!(),
+            Production::SourcePiece => unreachable!(),
+            Production::Mark => unreachable!(),
+            Production::QualifiedPlain => unreachable!(),
+            Production::ConstType => unreachable!(),
+            Production::Pointer => unreachable!(),
+            Production::ReferenceType => unreachable!(),
         })
     }
 
@@ -496,6 +493,17 @@ impl Linked {
             }),
             Production::Encoding => self.encoding(symbol, parts),
             Production::NestEnd => self.nest_end(symbol, kept.prefix()),
+            Production::ReferenceType => self.reference_meant(symbol, byte, parts),
+            Production::Pointer => made(Node::Pointer(self.tree(symbol, parts, 0)), false),
+            Production::ConstType => qualified(false, false, true, self.tree(symbol, parts, 0)),
+            Production::QualifiedPlain => tree(self.tree(symbol, parts, 0), true),
+            Production::Mark => Meant::Given(Part::Letter(byte)),
+            Production::SourcePiece => piece(Piece::Source {
+                internal: false,
+                bytes: self.text(symbol, parts, 0),
+            }),
+            Production::StdType => made(Node::InStd(self.piece(symbol, parts, 0)), false),
+            Production::Special => Meant::Given(self.given(symbol, parts, 0)),
             _ => return self.meant_rare(symbol, production, place, kept, parts),
         })
     }

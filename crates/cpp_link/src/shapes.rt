@@ -17,7 +17,7 @@ ghost use Rattle.cpp_link.specs.Making.{nodes_of_meant};
 ghost use Rattle.cpp_link.specs.Parts.{trees_in, tree_of_node, value_of, value_in, values_in, prefix_of, meant_value, IsThere, AreThere, IsMeantThere, IsPrefixThere};
 
 use crate::linked::Linked;
-use crate::meaning::made;
+use crate::meaning::{made, tree};
 use crate::numbers::local_number;
 use crate::part::{Meant, Part, Prefix};
 use crate::values::part;
@@ -93,11 +93,12 @@ impl Linked {
                 false,
             );
         }
-        Meant::Given(Part::Tree { node: name, listed })
+        tree(name, listed)
     }
 
     /// What the end of a nested name stands for: the name so far.
     #[tactic(auto, unfolding(crate::specs::Parts::meant_value, crate::specs::Parts::value_of, crate::specs::Parts::prefix_of, cpp_term::specs::Values::prefix_tree, cpp_term::specs::Values::prefix_listed, crate::specs::Making::nodes_of_meant))]
+    #[inline(always)]
     pub fn nest_end(&self, symbol: &[u8], prefix: Prefix) -> Meant
         requires table { IsTable (over symbol.now self.now.nodes) }
         requires there { IsPrefixThere (length self.now.nodes.nodes) prefix }
@@ -106,16 +107,14 @@ impl Linked {
         ensures nodes { nodes_of_meant result ≡ 0 }
     {
         match prefix {
-            Prefix::Outermost => Meant::Given(Part::Tree {
-                node: ABSENT,
-                listed: true,
-            }),
-            Prefix::Behind { node, listed } => Meant::Given(Part::Tree { node, listed }),
+            Prefix::Outermost => tree(ABSENT, true),
+            Prefix::Behind { node, listed } => tree(node, listed),
         }
     }
 
     /// What a reference stands for.
     #[tactic(auto, unfolding(crate::specs::Parts::meant_value, cpp_tree::specs::Nodes::tree_of, cpp_term::specs::Meaning::listed_value, cpp_term::specs::Meaning::reference_to, cpp_term::specs::Values::tree_of, crate::specs::Making::nodes_of_meant))]
+    #[inline(always)]
     pub fn reference_meant(&self, symbol: &[u8], byte: u8, parts: &[Part]) -> Meant
         requires table { IsTable (over symbol.now self.now.nodes) }
         requires there { AreThere symbol.now (length self.now.nodes.nodes) parts.now }

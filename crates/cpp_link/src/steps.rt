@@ -48,21 +48,16 @@ impl Linked {
         ensures around { (ts : List term.Term) → around_of ts result ≡ record { scope = arguments_are ts scope; encoding = place; in_lambda = false; in_expansion = false; prefix = values.outermost } }
         ensures there { IsKeptThere (length self.now.nodes.nodes) result }
     {
-        let outside = Kept {
-            encoding: place,
-            scope: Scope::Nothing,
-            naming: Naming::Outermost,
-            in_expansion: false,
-            ..kept
-        };
-        match scope {
-            Some(arguments) => Kept {
-                arguments,
-                scope: Scope::Arguments,
-                ..outside
-            },
-            None => outside,
+        let mut then = kept;
+        then.encoding = place;
+        then.scope = Scope::Nothing;
+        then.naming = Naming::Outermost;
+        then.in_expansion = false;
+        if let Some(arguments) = scope {
+            then.arguments = arguments;
+            then.scope = Scope::Arguments;
         }
+        then
     }
 
     /// Behind this name.
@@ -74,18 +69,14 @@ impl Linked {
         ensures around { (ts : List term.Term) → around_of ts result ≡ after (tree_at ts node) listed (around_of ts kept) }
         ensures there { IsKeptThere (length self.now.nodes.nodes) result }
     {
-        if listed {
-            return Kept {
-                name: node,
-                naming: Naming::Listed,
-                ..kept
-            };
-        }
-        Kept {
-            name: node,
-            naming: Naming::Unlisted,
-            ..kept
-        }
+        let mut then = kept;
+        then.name = node;
+        then.naming = if listed {
+            Naming::Listed
+        } else {
+            Naming::Unlisted
+        };
+        then
     }
 
     /// In the signature of a lambda.
@@ -95,11 +86,10 @@ impl Linked {
         ensures around { (ts : List term.Term) → around_of ts result ≡ in_signature (around_of ts kept) }
         ensures there { IsKeptThere (length self.now.nodes.nodes) result }
     {
-        Kept {
-            scope: Scope::Lambda,
-            naming: Naming::Outermost,
-            ..kept
-        }
+        let mut then = kept;
+        then.scope = Scope::Lambda;
+        then.naming = Naming::Outermost;
+        then
     }
 
     /// Under an expansion.
@@ -110,10 +100,9 @@ impl Linked {
         ensures around { (ts : List term.Term) → around_of ts result ≡ under_expansion (around_of ts kept) }
         ensures there { IsKeptThere (length self.now.nodes.nodes) result }
     {
-        Kept {
-            in_expansion: true,
-            ..kept
-        }
+        let mut then = kept;
+        then.in_expansion = true;
+        then
     }
 
     /// With no name so far.
@@ -124,10 +113,9 @@ impl Linked {
         ensures around { (ts : List term.Term) → around_of ts result ≡ inside (around_of ts kept) }
         ensures there { IsKeptThere (length self.now.nodes.nodes) result }
     {
-        Kept {
-            naming: Naming::Outermost,
-            ..kept
-        }
+        let mut then = kept;
+        then.naming = Naming::Outermost;
+        then
     }
 
     /// Nothing is done, and this surrounds the next part.
@@ -168,6 +156,7 @@ impl Linked {
     }
 
     /// The candidate that the name so far becomes.
+    #[inline(always)]
     fn prefix_candidate(&self, symbol: &[u8], kept: Kept) -> Option<u32>
         requires kept { IsKeptThere (length self.now.nodes.nodes) kept }
         ensures is { (state : State) → with_prefix (around_of (trees_in symbol.now self.now.nodes) kept) state ≡ with_candidate (around_of (trees_in symbol.now self.now.nodes) kept) (trees_in symbol.now self.now.nodes) result state }
@@ -178,6 +167,7 @@ impl Linked {
 
     /// The candidate that a type becomes.
     #[tactic(auto, unfolding(crate::specs::Reads::with_candidate, cpp_term::specs::References::with_type))]
+    #[inline(always)]
     pub fn type_candidate(&self, symbol: &[u8], kept: Kept, part: Part) -> Option<u32>
         requires table { IsTable (over symbol.now self.now.nodes) }
         requires there { IsThere symbol.now (length self.now.nodes.nodes) part }
@@ -192,6 +182,7 @@ impl Linked {
 
     /// The node of the name so far.
     #[tactic(auto, unfolding(crate::specs::Parts::prefix_in, crate::specs::Parts::prefix_of, cpp_term::specs::Values::prefix_tree))]
+    #[inline(always)]
     fn prefix_node(&self, symbol: &[u8], kept: Kept) -> u32
         requires table { IsTable (over symbol.now self.now.nodes) }
         requires kept { IsKeptThere (length self.now.nodes.nodes) kept }
@@ -207,6 +198,7 @@ impl Linked {
 
     /// What is done before the first part.
     #[tactic(auto, unfolding(cpp_term::specs::Between::between, cpp_term::specs::Between::in_name, cpp_term::specs::Between::in_types, cpp_term::specs::Between::in_signature, cpp_term::specs::Between::under_expansion, cpp_term::specs::Between::after, cpp_term::specs::Between::inside, cpp_term::specs::Between::applied, cpp_term::specs::Between::piece_so_far, cpp_term::specs::Between::named_so_far, cpp_term::specs::Between::listed_so_far, cpp_term::specs::Values::tree_of, crate::specs::Parts::around_of, crate::specs::Parts::prefix_of, cpp_tree::specs::Nodes::arguments_are, cpp_tree::specs::Nodes::tree_of, cpp_tree::specs::Nodes::piece_of, crate::specs::Reads::goes_on, crate::specs::Reads::behind_first, crate::specs::Reads::named_if, crate::specs::Reads::appended_if, crate::specs::Reads::with_candidate))]
+    #[inline(always)]
     fn step_first(&self, symbol: &[u8], production: Production, place: u32, kept: Kept) -> Step
         requires table { IsTable (over symbol.now self.now.nodes) }
         requires kept { IsKeptThere (length self.now.nodes.nodes) kept }
@@ -304,6 +296,7 @@ impl Linked {
 
     /// What is done before the second part, of a production that is no parameter and no pack.
     #[tactic(auto, unfolding(cpp_term::specs::Between::between, cpp_term::specs::Between::in_name, cpp_term::specs::Between::in_types, cpp_term::specs::Between::in_signature, cpp_term::specs::Between::under_expansion, cpp_term::specs::Between::after, cpp_term::specs::Between::inside, cpp_term::specs::Between::applied, cpp_term::specs::Between::piece_so_far, cpp_term::specs::Between::named_so_far, cpp_term::specs::Between::listed_so_far, cpp_term::specs::Values::tree_of, crate::specs::Parts::around_of, crate::specs::Parts::prefix_of, cpp_tree::specs::Nodes::arguments_are, cpp_tree::specs::Nodes::tree_of, cpp_tree::specs::Nodes::piece_of, crate::specs::Reads::goes_on, crate::specs::Reads::behind_first, crate::specs::Reads::named_if, crate::specs::Reads::appended_if, crate::specs::Reads::with_candidate, crate::specs::Owed::made_before))]
+    #[inline(always)]
     fn step_second(
         &self,
         symbol: &[u8],
@@ -449,6 +442,7 @@ impl Linked {
 
     /// What is done before the third part.
     #[tactic(auto, unfolding(cpp_term::specs::Between::between, cpp_term::specs::Between::in_name, cpp_term::specs::Between::in_types, cpp_term::specs::Between::in_signature, cpp_term::specs::Between::under_expansion, cpp_term::specs::Between::after, cpp_term::specs::Between::inside, cpp_term::specs::Between::applied, cpp_term::specs::Between::piece_so_far, cpp_term::specs::Between::named_so_far, cpp_term::specs::Between::listed_so_far, cpp_term::specs::Values::tree_of, crate::specs::Parts::around_of, crate::specs::Parts::prefix_of, cpp_tree::specs::Nodes::arguments_are, cpp_tree::specs::Nodes::tree_of, cpp_tree::specs::Nodes::piece_of, crate::specs::Reads::goes_on, crate::specs::Reads::behind_first, crate::specs::Reads::named_if, crate::specs::Reads::appended_if, crate::specs::Reads::with_candidate, crate::specs::Owed::made_before))]
+    #[inline(always)]
     fn step_third(
         &self,
         symbol: &[u8],
@@ -524,6 +518,7 @@ impl Linked {
 
     /// What is done before the fourth part.
     #[tactic(auto, unfolding(cpp_term::specs::Between::between, cpp_term::specs::Between::in_name, cpp_term::specs::Between::in_types, cpp_term::specs::Between::in_signature, cpp_term::specs::Between::under_expansion, cpp_term::specs::Between::after, cpp_term::specs::Between::inside, cpp_term::specs::Between::applied, cpp_term::specs::Between::piece_so_far, cpp_term::specs::Between::named_so_far, cpp_term::specs::Between::listed_so_far, cpp_term::specs::Values::tree_of, crate::specs::Parts::around_of, crate::specs::Parts::prefix_of, cpp_tree::specs::Nodes::arguments_are, cpp_tree::specs::Nodes::tree_of, cpp_tree::specs::Nodes::piece_of, crate::specs::Reads::goes_on, crate::specs::Reads::behind_first, crate::specs::Reads::named_if, crate::specs::Reads::appended_if, crate::specs::Reads::with_candidate))]
+    #[inline(always)]
     fn step_fourth(
         &self,
         symbol: &[u8],
@@ -577,6 +572,7 @@ impl Linked {
 
     /// What is done before a later part.
     #[tactic(auto, unfolding(cpp_term::specs::Between::between, cpp_term::specs::Between::in_name, cpp_term::specs::Between::in_types, cpp_term::specs::Between::in_signature, cpp_term::specs::Between::under_expansion, cpp_term::specs::Between::after, cpp_term::specs::Between::inside, cpp_term::specs::Between::applied, cpp_term::specs::Between::piece_so_far, cpp_term::specs::Between::named_so_far, cpp_term::specs::Between::listed_so_far, cpp_term::specs::Values::tree_of, crate::specs::Parts::around_of, crate::specs::Parts::prefix_of, cpp_tree::specs::Nodes::arguments_are, cpp_tree::specs::Nodes::tree_of, cpp_tree::specs::Nodes::piece_of, crate::specs::Reads::goes_on, crate::specs::Reads::behind_first, crate::specs::Reads::named_if, crate::specs::Reads::appended_if, crate::specs::Reads::with_candidate))]
+    #[inline(always)]
     fn step_later(
         &self,
         symbol: &[u8],
@@ -625,6 +621,7 @@ impl Linked {
     ///
     /// Those of a parameter.
     #[tactic(auto, unfolding(cpp_term::specs::Between::between, cpp_term::specs::Between::index_of))]
+    #[inline(always)]
     fn step_behind_first(
         &self,
         symbol: &[u8],
@@ -662,6 +659,7 @@ impl Linked {
     /// # Errors
     ///
     /// Those of a parameter.
+    #[inline(always)]
     pub fn step(
         &self,
         symbol: &[u8],

@@ -313,21 +313,21 @@ impl Linking for RustNodes {
         &mut self,
         symbol: &[u8],
         _rows: &[Row],
-        frame: Frame<BoundLifetimes>,
+        frame: &Frame<BoundLifetimes>,
         parts: &mut Vec<Part>,
         row: Row,
     ) -> Result<BoundLifetimes, Refusal>
-        requires room { HasRoom (v0_view symbol.now) symbol.now self.old (owed_behind (v0_view symbol.now) frame parts.old.items) }
-        requires open { IsOpen (v0_view symbol.now) symbol.now self.old frame parts.old.items }
-        requires base { frame.base ≤ length parts.old.items }
+        requires room { HasRoom (v0_view symbol.now) symbol.now self.old (owed_behind (v0_view symbol.now) frame.now parts.old.items) }
+        requires open { IsOpen (v0_view symbol.now) symbol.now self.old frame.now parts.old.items }
+        requires base { frame.now.base ≤ length parts.old.items }
         requires place { row.from < length symbol.now }
         requires end { row.end ≤ length _rows.now }
-        ensures opens { Opens (v0_view symbol.now) symbol.now _rows.now self.old self.new frame parts.old.items parts.new.items row result }
-        ensures adds { OnOk result (Adds (v0_view symbol.now) self.old self.new (owed_behind (v0_view symbol.now) frame parts.old.items) (owed_next (v0_view symbol.now) frame parts.new.items)) }
-        ensures few { OnErr result (AddsFew (v0_view symbol.now) self.old self.new frame parts.old.items) }
+        ensures opens { Opens (v0_view symbol.now) symbol.now _rows.now self.old self.new frame.now parts.old.items parts.new.items row result }
+        ensures adds { OnOk result (Adds (v0_view symbol.now) self.old self.new (owed_behind (v0_view symbol.now) frame.now parts.old.items) (owed_next (v0_view symbol.now) frame.now parts.new.items)) }
+        ensures few { OnErr result (AddsFew (v0_view symbol.now) self.old self.new frame.now parts.old.items) }
         ensures pays { OnOk result ((at : ℕ) → at ≤ row.from → Pays (v0_view symbol.now) self.old self.new at row.from) }
     {
-        let bound = bound_behind(frame, parts);
+        let bound = bound_behind(*frame, parts);
         Ok(BoundLifetimes { bound })
     }
 
@@ -335,21 +335,22 @@ impl Linking for RustNodes {
     fn token(
         &mut self,
         symbol: &[u8],
-        frame: Frame<BoundLifetimes>,
+        frame: &Frame<BoundLifetimes>,
         parts: &mut Vec<Part>,
         row: Row,
     ) -> Result<(), Refusal>
-        requires room { HasRoom (v0_view symbol.now) symbol.now self.old (owed_behind (v0_view symbol.now) frame parts.old.items) }
-        requires open { IsOpen (v0_view symbol.now) symbol.now self.old frame parts.old.items }
-        requires base { frame.base ≤ length parts.old.items }
+        requires room { HasRoom (v0_view symbol.now) symbol.now self.old (owed_behind (v0_view symbol.now) frame.now parts.old.items) }
+        requires open { IsOpen (v0_view symbol.now) symbol.now self.old frame.now parts.old.items }
+        requires base { frame.now.base ≤ length parts.old.items }
         requires from { row.from ≤ row.to }
         requires to { row.to ≤ length symbol.now }
-        ensures takes { TakesToken (v0_view symbol.now) symbol.now self.old self.new frame parts.old.items parts.new.items row result }
-        ensures adds { OnOk result (Adds (v0_view symbol.now) self.old self.new (owed_behind (v0_view symbol.now) frame parts.old.items) (owed_behind (v0_view symbol.now) frame parts.new.items)) }
-        ensures few { OnErr result (AddsFew (v0_view symbol.now) self.old self.new frame parts.old.items) }
-        ensures pays { OnOk result ((at : ℕ) → at ≤ row.from → (length parts.old.items ≡ frame.base → at ≤ frame.place)
+        ensures takes { TakesToken (v0_view symbol.now) symbol.now self.old self.new frame.now parts.old.items parts.new.items row result }
+        ensures adds { OnOk result (Adds (v0_view symbol.now) self.old self.new (owed_behind (v0_view symbol.now) frame.now parts.old.items) (owed_behind (v0_view symbol.now) frame.now parts.new.items)) }
+        ensures few { OnErr result (AddsFew (v0_view symbol.now) self.old self.new frame.now parts.old.items) }
+        ensures pays { OnOk result ((at : ℕ) → at ≤ row.from → (length parts.old.items ≡ frame.now.base → at ≤ frame.now.place)
             → Pays (v0_view symbol.now) self.old self.new at row.to) }
     {
+        let frame = *frame;
         match sort_of(frame.rule) {
             // the tokens of most rules
             TokenSort::PlainName => {
@@ -366,18 +367,19 @@ impl Linking for RustNodes {
     fn close(
         &mut self,
         symbol: &[u8],
-        frame: Frame<BoundLifetimes>,
+        frame: &Frame<BoundLifetimes>,
         parts: &mut Vec<Part>,
     ) -> Result<(), Refusal>
-        requires room { HasRoom (v0_view symbol.now) symbol.now self.old (owed_behind (v0_view symbol.now) frame parts.old.items) }
-        requires open { IsOpen (v0_view symbol.now) symbol.now self.old frame parts.old.items }
-        requires base { frame.base ≤ length parts.old.items }
-        requires place { frame.place < length symbol.now }
-        ensures closes { ClosesRule (v0_view symbol.now) symbol.now self.old self.new frame parts.old.items parts.new.items result }
-        ensures adds { OnOk result (Adds (v0_view symbol.now) self.old self.new (owed_behind (v0_view symbol.now) frame parts.old.items) 0) }
-        ensures few { AddsFew (v0_view symbol.now) self.old self.new frame parts.old.items }
+        requires room { HasRoom (v0_view symbol.now) symbol.now self.old (owed_behind (v0_view symbol.now) frame.now parts.old.items) }
+        requires open { IsOpen (v0_view symbol.now) symbol.now self.old frame.now parts.old.items }
+        requires base { frame.now.base ≤ length parts.old.items }
+        requires place { frame.now.place < length symbol.now }
+        ensures closes { ClosesRule (v0_view symbol.now) symbol.now self.old self.new frame.now parts.old.items parts.new.items result }
+        ensures adds { OnOk result (Adds (v0_view symbol.now) self.old self.new (owed_behind (v0_view symbol.now) frame.now parts.old.items) 0) }
+        ensures few { AddsFew (v0_view symbol.now) self.old self.new frame.now parts.old.items }
         ensures pays { OnOk result ((at : ℕ) → Pays (v0_view symbol.now) self.old self.new at at) }
     {
+        let frame = *frame;
         match numbered(frame.rule) {
             // the name is what the rule means: it stays
             Some(Production::PlainName) if is_name(&parts[frame.base..]) => Ok(()),

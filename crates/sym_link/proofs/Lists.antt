@@ -70,3 +70,12 @@ pub popped : {A : Type 0} (items lower : List A) (x : A) (n : ℕ) → items ≡
 popped items lower x n are is_n =
     let count : n - 1 ≡ length lower = omega (arith, ap length are, length-append lower (x ∷ []), is_n) in
     rw (count, are) (taken_front lower (x ∷ []))
+
+-- a list has one last item
+pub last_same : {A : Type 0} (xs ys : List A) (x y : A) → xs ++ x ∷ [] ≡ ys ++ y ∷ [] → x ≡ y
+last_same [] [] x y same = cc
+last_same [] (b ∷ []) x y same = cc
+last_same [] (b ∷ c ∷ ys) x y same = cc
+last_same (a ∷ []) [] x y same = cc
+last_same (a ∷ c ∷ xs) [] x y same = cc
+last_same (a ∷ xs) (b ∷ ys) x y same = last_same xs ys x y cc

@@ -12,33 +12,47 @@ use sym_core::Refusal;
 use sym_shape::rule::{Row, TOKEN};
 
 /// The frame of the rule that is open innermost.
-fn innermost<K: Copy>(frames: &[Frame<K>]) -> Option<Frame<K>>
-    ensures some { IfSome result (EndsWith frames.now) }
+#[inline(always)]
+fn innermost<K: Copy>(frames: &[Frame<K>]) -> Option<&Frame<K>>
+    ensures some { IfSome result (λ frame. EndsWith frames.now frame.now) }
     ensures none { IfNone result (frames.now ≡ []) }
 {
     match frames {
-        [.., last] => Some(*last),
+        [.., last] => Some(last),
         [] => None,
     }
 }
 
-/// Takes the innermost rule's frame off, and closes the rule.
+/// The frame of the rule that is open innermost, where one is.
+#[inline(always)]
+fn top<K: Copy>(frames: &[Frame<K>]) -> &Frame<K>
+    requires { 0 < length frames.now }
+    ensures { EndsWith frames.now result.now }
+{
+    &frames[frames.len() - 1]
+}
+
+/// Takes the frame of the rule that is open innermost off the others.
+fn take_off<K: Copy>(frames: &mut Vec<Frame<K>>)
+    ensures { frames.new.items ≡ take (length frames.old.items - 1) frames.old.items }
+{
+    let _frame = frames.pop();
+}
+
+/// Closes the innermost rule. Its frame is then to be taken off.
 #[inline(always)]
 fn leave<L: Linking>(
     language: &mut L,
     symbol: &[u8],
-    frames: &mut Vec<Frame<L::Kept>>,
     parts: &mut Vec<L::Part>,
-    frame: Frame<L::Kept>,
+    frame: &Frame<L::Kept>,
 ) -> Result<(), Refusal>
-    requires { CanClose (L.view symbol.now) symbol.now language.old frame parts.old.items }
+    requires { CanClose (L.view symbol.now) symbol.now language.old frame.now parts.old.items }
     ensures follows { (whole : Result (Found (List L.Value) L.State) Refusal) (shape : List Row) (lower : List (Frame L.Kept)) (next left : ℕ)
-        → Follows (L.view symbol.now) symbol.now shape whole (waiting (left + 1)) language.old next (lower ++ frame ∷ []) parts.old.items → frame.end ≡ next
+        → Follows (L.view symbol.now) symbol.now shape whole (waiting (left + 1)) language.old next (lower ++ frame.now ∷ []) parts.old.items → frame.now.end ≡ next
         → FollowsAfter (L.view symbol.now) symbol.now shape whole left language.new next lower parts.new.items result }
     ensures few { (L.view symbol.now).size language.new ≤ (L.view symbol.now).size language.old + 2 }
-    ensures lower { frames.new.items ≡ take (length frames.old.items - 1) frames.old.items }
 {
-    frames.pop();
     language.close(symbol, frame, parts)
 }
 
@@ -62,7 +76,7 @@ fn take_alone<L: Linking>(
     ensures counts { IfOk result (λ behind. (next ≤ behind) × (behind ≤ next + 1)) }
 {
     if frame.end == next + 1 && rows[next as usize].rule == TOKEN {
-        language.token(symbol, frame, parts, rows[next as usize])?;
+        language.token(symbol, &frame, parts, rows[next as usize])?;
         return Ok(next + 1);
     }
     Ok(next)
@@ -94,7 +108,7 @@ fn settle<L: Linking>(
         frames.push(frame)?;
         return Ok(behind);
     }
-    language.close(symbol, frame, parts)?;
+    language.close(symbol, &frame, parts)?;
     Ok(behind)
 }
 
@@ -106,9 +120,10 @@ fn take<L: Linking>(
     next: u32,
     frames: &mut Vec<Frame<L::Kept>>,
     parts: &mut Vec<L::Part>,
-    frame: Frame<L::Kept>,
 ) -> Result<u32, Refusal>
-    requires { (left : ℕ) × CanTake (L.view symbol.now) symbol.now rows.now (waiting (left + 1)) language.old next frames.old.items frame parts.old.items }
+    requires { (left : ℕ)
+        × ((frame : Frame L.Kept) → EndsWith frames.old.items frame → CanTake (L.view symbol.now) symbol.now rows.now (waiting (left + 1)) language.old next frames.old.items frame parts.old.items)
+        × (0 < length frames.old.items) }
     ensures follows { (whole : Result (Found (List L.Value) L.State) Refusal) (left : ℕ)
         → Follows (L.view symbol.now) symbol.now rows.now whole (waiting (left + 1)) language.old next frames.old.items parts.old.items
         → FollowsOn (L.view symbol.now) symbol.now rows.now whole left language.new frames.new.items parts.new.items result }
@@ -116,6 +131,7 @@ fn take<L: Linking>(
     ensures counts { IfOk result (λ behind. (2 * next + length frames.new.items + 1 ≤ 2 * behind + length frames.old.items) × (behind ≤ next + 2)) }
     ensures more { next < length rows.now }
 {
+    let frame = top(frames);
     let row = rows[next as usize];
     if row.rule == TOKEN {
         language.token(symbol, frame, parts, row)?;
@@ -191,10 +207,11 @@ fn advance<L: Linking>(
         return Ok(Some(behind));
     };
     if frame.end == next {
-        leave(language, symbol, frames, parts, frame)?;
+        leave(language, symbol, parts, frame)?;
+        take_off(frames);
         return Ok(Some(next));
     }
-    let behind = take(language, symbol, rows, next, frames, parts, frame)?;
+    let behind = take(language, symbol, rows, next, frames, parts)?;
     Ok(Some(behind))
 }
 

@@ -11,7 +11,7 @@ returns-in_err-pass_one-clause-passes g c lower whole passing =
 
 pub returns-clause-passes : goal.returns-clause-passes
 returns-clause-passes g c lower whole passing =
-    passing_done (g.L.Threading.view c.args.symbol.now) c.args.symbol.now c.parts.language c.args.frame lower c.parts.parts.items c.args.to whole (c.parts.invariant.4 lower whole passing)
+    passing_done (g.L.Threading.view c.args.symbol.now) c.args.symbol.now c.parts.language c.args.frame.now lower c.parts.parts.items c.args.to whole (c.parts.invariant.4 lower whole passing)
     (omega (arith, c.parts-test.false, c.len.ensures, c.parts.parts.ok.0))
 
 pub returns-in_err-pass_one-clause-few : goal.returns-in_err-pass_one-clause-few
