@@ -188,6 +188,7 @@ impl Linking for Linked {
         enter_by(self, symbol, rows, frame, parts, row)
     }
 
+    #[inline(always)]
     fn token(
         &mut self,
         symbol: &[u8],
