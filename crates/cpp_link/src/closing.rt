@@ -17,7 +17,6 @@ use cpp_tree::node::Node;
 
 /// Whether it is the type of a function.
 #[tactic(auto, unfolding(crate::specs::Reads::function_node))]
-#[inline(always)]
 fn is_function(node: Node) -> bool
     ensures { result ≡ function_node node }
 {
@@ -29,7 +28,6 @@ fn is_function(node: Node) -> bool
 
 impl Linked {
     /// Whether a node's tree is the type of a function.
-    #[inline(always)]
     fn is_function_type(&self, symbol: &[u8], node: u32) -> bool
         requires table { IsTable (over symbol.now self.now.nodes) }
         requires below { node < length self.now.nodes.nodes }
@@ -40,7 +38,6 @@ impl Linked {
 
     /// The candidate that a type becomes under qualifiers.
     #[tactic(auto, unfolding(crate::specs::Reads::with_candidate, cpp_term::specs::References::with_unqualified))]
-    #[inline(always)]
     fn unqualified_candidate(&self, symbol: &[u8], kept: Kept, part: Part) -> Option<u32>
         requires table { IsTable (over symbol.now self.now.nodes) }
         requires there { IsThere symbol.now (length self.now.nodes.nodes) part }

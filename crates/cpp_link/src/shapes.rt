@@ -73,7 +73,6 @@ impl Linked {
 
     /// A name, with arguments where there are some.
     #[tactic(auto, unfolding(cpp_term::specs::Between::applied, crate::specs::Parts::meant_value, crate::specs::Parts::value_of, cpp_tree::specs::Nodes::tree_of, crate::specs::Making::nodes_of_meant))]
-    #[inline(always)]
     pub fn applied(&self, symbol: &[u8], parts: &[Part], listed: bool) -> Meant
         requires table { IsTable (over symbol.now self.now.nodes) }
         requires there { AreThere symbol.now (length self.now.nodes.nodes) parts.now }
@@ -98,7 +97,6 @@ impl Linked {
 
     /// What the end of a nested name stands for: the name so far.
     #[tactic(auto, unfolding(crate::specs::Parts::meant_value, crate::specs::Parts::value_of, crate::specs::Parts::prefix_of, cpp_term::specs::Values::prefix_tree, cpp_term::specs::Values::prefix_listed, crate::specs::Making::nodes_of_meant))]
-    #[inline(always)]
     pub fn nest_end(&self, symbol: &[u8], prefix: Prefix) -> Meant
         requires table { IsTable (over symbol.now self.now.nodes) }
         requires there { IsPrefixThere (length self.now.nodes.nodes) prefix }
@@ -114,7 +112,6 @@ impl Linked {
 
     /// What a reference stands for.
     #[tactic(auto, unfolding(crate::specs::Parts::meant_value, cpp_tree::specs::Nodes::tree_of, cpp_term::specs::Meaning::listed_value, cpp_term::specs::Meaning::reference_to, cpp_term::specs::Values::tree_of, crate::specs::Making::nodes_of_meant))]
-    #[inline(always)]
     pub fn reference_meant(&self, symbol: &[u8], byte: u8, parts: &[Part]) -> Meant
         requires table { IsTable (over symbol.now self.now.nodes) }
         requires there { AreThere symbol.now (length self.now.nodes.nodes) parts.now }

@@ -234,7 +234,6 @@ impl Linked {
     }
 
     /// The piece of a name that the part with this number is.
-    #[inline(always)]
     pub fn piece(&self, symbol: &[u8], parts: &[Part], k: usize) -> Piece
         ensures is { nodes.piece_of symbol.now (trees_in symbol.now self.now.nodes) result ≡ piece_of (part (values_in symbol.now self.now.nodes parts.now) k) }
         ensures there { AreThere symbol.now (length self.now.nodes.nodes) parts.now → IsPieceBelow symbol.now (length self.now.nodes.nodes) result }

@@ -126,7 +126,6 @@ impl Nodes {
     /// # Errors
     ///
     /// `Memory` where the list couldn't grow.
-    #[inline(always)]
     pub fn push(&mut self, symbol: &[u8], node: Node) -> Result<u32, Refusal>
         requires room { length self.old.nodes + 1 < 2 ^ 32 }
         requires table { IsTable (over symbol.now self.old) }
