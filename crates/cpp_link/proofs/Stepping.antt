@@ -193,7 +193,7 @@ first_of base parts some = rw add-one (go base parts some)
     go (suc base) [] some = absurd (omega (arith, some))
     go (suc base) (p ∷ ps) some = go base ps some
 
-pack_there : (first : Part) → (first ≡ Part.Nothing → ⊥) → pack_makes first ≡ 1
+pub pack_there : (first : Part) → (first ≡ Part.Nothing → ⊥) → pack_makes first ≡ 1
 unfolding pack_makes
 pack_there Part.Nothing some = absurd (some refl)
 pack_there first some = refl

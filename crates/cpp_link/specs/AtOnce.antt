@@ -1,7 +1,7 @@
 -- A rule that closes in the step that begins it adds at most two nodes, with those that the rule around it adds there. A test of the
 -- grammar's rules that computes.
 use Rattle.std.proofs.Common.{◌≡◌, refl, sym, ◌∙◌, ap, subst, arith, ℕ, zero, suc, ◌+◌, ◌<◌, ◌≤◌, List, [], ◌∷◌, length, drop, get_or, Bool, true, false, not, ◌&&◌, ◌||◌, cond, if◌then◌else◌, Some, inl, inr}
-use Rattle.std.specs.Prelude.{nat_le, nat_eq}
+use Rattle.std.specs.Prelude.{nat_le}
 use Rattle.std.proofs.lemmas.Bool.{false≢true, and_parts, leb-true, cases_Bool, cases_eq, cases_lt}
 use Rattle.std.proofs.lemmas.List.{drop_all}
 use Rattle.sym_shape.specs.declared.rule.Rule.{Rule}
@@ -29,10 +29,14 @@ use Rattle.cpp_link.specs.ClosesLaws.{name_one, closes_owed}
 -- ## The test
 
 -- what a production adds at most where it closes behind so many parts
+unfoldable pack_most_at : (held : ℕ) → ℕ
+pack_most_at zero = 1
+pack_most_at (suc held) = owes_of Production.PackArgument (suc held)
+
 unfoldable closes_most : Production → (held : ℕ) → ℕ
 closes_most Production.InternalName held = 1
 closes_most Production.SourceName held = 1
-closes_most Production.PackArgument held = cond (nat_eq held 0) 1 (owes_of Production.PackArgument held)
+closes_most Production.PackArgument held = pack_most_at held
 closes_most p held = owes_of p held
 
 -- where it does so, it and the rule around it add at most two
@@ -76,7 +80,7 @@ all_below is zero = true
 all_below is (suc n) = is n && all_below is n
 
 each_begins : (p : Production) → all_below (begins_behind p) 5 ≡ true
-unfolding in_class among is_in pick alternatives choose number_of_kind parts_of is_chain may_be_empty kinds productions number_of after_ranges rank height padded rule_of ranges_of class_of choice_of sheet_with blank sheet abi production_at made_before made_at_end sum_all owes_of closes_most
+unfolding in_class among is_in pick alternatives choose number_of_kind parts_of is_chain may_be_empty kinds productions number_of after_ranges rank height padded rule_of ranges_of class_of choice_of sheet_with blank sheet abi production_at made_before made_at_end sum_all owes_of pack_most_at closes_most
 each_begins Production.Mark = refl
 each_begins _ = refl
 
@@ -208,7 +212,7 @@ module _ (p : Production) (before : ℕ) (rule : Rule) (taken : List ℕ) (inner
 -- ## The rule that begins
 
 pack_most : (own : List Part) → closes_of Production.PackArgument own ≤ closes_most Production.PackArgument (length own)
-unfolding closes_of closes_most pack_closes
+unfolding closes_of pack_most_at closes_most pack_closes
 pack_most [] = omega arith
 pack_most (p ∷ own) = closes_owed Production.PackArgument (p ∷ own)
 

@@ -266,7 +266,7 @@ impl Linked {
     }
 
     /// A pack of the elements that a part is: that of none is there.
-    #[tactic(auto, unfolding(cpp_term::specs::Between::no_items, cpp_term::specs::Values::tree_of, crate::specs::Parts::value_of, cpp_tree::specs::Nodes::tree_of, crate::specs::Reads::goes_on, crate::specs::Reads::behind_first, crate::specs::Reads::named_if, crate::specs::Reads::appended_if))]
+    #[tactic(auto, unfolding(crate::specs::Closes::pack_makes, cpp_term::specs::Between::no_items, cpp_term::specs::Values::tree_of, crate::specs::Parts::value_of, cpp_tree::specs::Nodes::tree_of, crate::specs::Reads::goes_on, crate::specs::Reads::behind_first, crate::specs::Reads::named_if, crate::specs::Reads::appended_if))]
     #[inline(always)]
     fn pack(&self, symbol: &[u8], elements: Part) -> Step
         requires table { IsTable (over symbol.now self.now.nodes) }
