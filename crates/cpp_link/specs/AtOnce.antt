@@ -23,7 +23,7 @@ use Rattle.cpp_grammar.proofs.ClosedTrees.{at_number, its_symbols, taken_rule}
 use Rattle.cpp_term.specs.Values.{State, Around}
 use Rattle.cpp_link.specs.declared.part.Part.{Part}
 use Rattle.cpp_link.specs.Owed.{made_before, made_at_end, sum_all, owes_of, owes}
-use Rattle.cpp_link.specs.Closes.{name_closes, pack_makes, pack_closes, closes_of, closes}
+use Rattle.cpp_link.specs.Closes.{pack_closes, closes_of, closes}
 use Rattle.cpp_link.specs.ClosesLaws.{name_one, closes_owed}
 
 -- ## The test
