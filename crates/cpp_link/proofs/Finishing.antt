@@ -1,12 +1,12 @@
 -- A rule closes as the reading says.
-use Rattle.std.proofs.Common.{◌≡◌, refl, sym, ◌∙◌, ap, subst, ℕ, List, [], ◌∷◌, ◌++◌, length, Option, Ok}
+use Rattle.std.proofs.Common.{◌≡◌, refl, sym, ◌∙◌, ap, subst, arith, ℕ, ◌+◌, ◌-◌, ◌≤◌, drop, length-drop, List, [], ◌∷◌, ◌++◌, length, Option, Ok}
 use Rattle.std.specs.Prelude.{slice_index}
 use Rattle.sym_core.specs.declared.refusal.Refusal.{Refusal}
 use Rattle.sym_link.specs.declared.language.Frame.{Frame}
 use Rattle.sym_link.specs.Reading.{Open}
 use Rattle.sym_link.specs.Unfold.{found}
 use Rattle.sym_link.specs.Driving.{Fails}
-use Rattle.sym_link.specs.Linking.{Puts}
+use Rattle.sym_link.specs.Linking.{Puts, AddsFew, owed_behind}
 use Rattle.sym_link.specs.Threads.{IsAt}
 use Rattle.cpp_grammar.specs.declared.production.Production.{Production}
 use Rattle.cpp_grammar.specs.Unfolding.{production_at}
@@ -16,6 +16,10 @@ use Rattle.cpp_term.specs.Unfolding.{close, cpp}
 use Rattle.cpp_link.specs.declared.linked.Linked.{Linked}
 use Rattle.cpp_link.specs.declared.part.Kept.{Kept}
 use Rattle.cpp_link.specs.declared.part.Part.{Part}
+use Rattle.cpp_link.specs.Owed.{owes}
+use Rattle.cpp_link.specs.Closes.{closes_of, closes, ends_of}
+use Rattle.cpp_link.specs.ClosesLaws.{ends_closes}
+use Rattle.cpp_link.specs.ViewLaws.{cpp_laws}
 use Rattle.cpp_link.specs.Making.{state_of}
 use Rattle.cpp_link.specs.Parts.{trees_in, value_in, values_in, packs_of, around_of, IsThere}
 use Rattle.cpp_link.specs.View.{IsWhole, cpp_view}
@@ -73,3 +77,23 @@ pub refused_right : (s : List ℕ) (old : Linked) (frame : Frame Kept) (own give
     → Fails e (cpp.close rule known state)
 refused_right s old frame own given p e rule known state is production same refused =
     subst (λ read. Fails e read) (sym (given_is s old frame own given p rule known state is production same)) (refused rule.before)
+
+-- ## How many nodes are made
+
+-- they are no more than the rule may add behind its parts
+pub ends_few : (s : List ℕ) (old new : Linked) (frame : Frame Kept) (parts own : List Part) (p : Production) → p ≡ production_at frame.rule → own ≡ drop frame.base parts → 3 ≤ length old.nodes.nodes
+    → length new.nodes.nodes ≤ length old.nodes.nodes + ends_of p own → AddsFew (cpp_view s) old new frame parts
+unfolding closes
+ends_few s old new frame parts own p numbered same begun few =
+    let ends : ends_of p own ≤ closes_of (production_at frame.rule) (drop frame.base parts) =
+    rw (← numbered, ← same) (ends_closes p own) in
+    sizes (length old.nodes.nodes) (length new.nodes.nodes) (ends_of p own) (closes_of (production_at frame.rule) (drop frame.base parts)) begun few ends
+  where
+    sizes : (m n ends closes : ℕ) → 3 ≤ m → n ≤ m + ends → ends ≤ closes → n - 3 ≤ m - 3 + closes
+    sizes m n ends closes begun few le = omega (arith, begun, few, le)
+
+pub few_adds : (s : List ℕ) (old new : Linked) (frame : Frame Kept) (parts : List Part) → AddsFew (cpp_view s) old new frame parts
+    → length new.nodes.nodes - 3 + 0 ≤ length old.nodes.nodes - 3 + owed_behind (cpp_view s) frame parts
+few_adds s old new frame parts few =
+    let held : owes frame.rule (length (drop frame.base parts)) ≡ owes frame.rule (length parts - frame.base) = ap (λ n. owes frame.rule n) (length-drop frame.base parts) in
+    omega (arith, few, (cpp_laws s).closing frame.rule (drop frame.base parts), held)

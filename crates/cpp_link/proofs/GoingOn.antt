@@ -1,11 +1,11 @@
 -- The next part of a rule is gone on to as the reading says.
-use Rattle.std.proofs.Common.{◌≡◌, refl, sym, ◌∙◌, ap, arith, ℕ, suc, ◌+◌, ◌-◌, ◌<◌, ◌≤◌, List, [], ◌∷◌, ◌++◌, length, drop, Option, Ok, Err}
+use Rattle.std.proofs.Common.{◌≡◌, refl, sym, ◌∙◌, ap, arith, ℕ, suc, ◌+◌, ◌-◌, ◌<◌, ◌≤◌, List, [], ◌∷◌, ◌++◌, length, drop, Option, Result, Ok, Err}
 use Rattle.std.proofs.lemmas.List.{length-drop, take-append-drop}
 use Rattle.sym_core.specs.declared.refusal.Refusal.{Refusal}
 use Rattle.sym_link.specs.declared.language.Frame.{Frame}
 use Rattle.sym_link.specs.Reading.{Open}
 use Rattle.sym_link.specs.Driving.{Fails}
-use Rattle.sym_link.specs.Linking.{Adds, owed_behind, owed_next}
+use Rattle.sym_link.specs.Linking.{Adds, AddsFew, owed_behind, owed_next}
 use Rattle.sym_link.specs.Threads.{IsAt, GoesOn}
 use Rattle.cpp_grammar.specs.declared.production.Production.{Production}
 use Rattle.cpp_grammar.specs.Unfolding.{production_at}
@@ -21,9 +21,11 @@ use Rattle.cpp_link.specs.Making.{state_of}
 use Rattle.cpp_link.specs.Owed.{owes}
 use Rattle.cpp_link.specs.Parts.{trees_in, values_in, around_of}
 use Rattle.cpp_link.specs.Reads.{goes_on}
-use Rattle.cpp_link.specs.Stepping.{IsStepOf, Takes, nodes_of_step, quiet_parts}
+use Rattle.cpp_link.specs.Closes.{closes_of, closes}
+use Rattle.cpp_link.specs.ClosesLaws.{quiet_owed, closes_pushed}
+use Rattle.cpp_link.specs.Stepping.{IsStepOf, Takes, CountsStep, nodes_of_step, quiet_parts}
 use Rattle.cpp_link.specs.View.{IsPaid, Surrounds, cpp_view}
-use Rattle.cpp_link.proofs.Stepping.{step_owed, quiet_owed}
+use Rattle.cpp_link.proofs.Stepping.{step_owed}
 use Rattle.cpp_link.proofs.Places.{values_length}
 use Rattle.cpp_link.proofs.Viewing.{parts_are, parts_all}
 
@@ -185,3 +187,30 @@ quiet_adds s old frame parts = (
   record { least = omega arith; stays = λ i less. refl },
   omega (arith, quiet_owes frame.rule (length parts - frame.base) (length parts - frame.base) refl),
 )
+
+-- ## How many nodes are made
+
+pub quiet_few : (s : List ℕ) (old : Linked) (frame : Frame Kept) (parts : List Part)
+    → (cpp_view s).size old + closes frame.rule (drop frame.base parts ++ Part.Nothing ∷ []) ≤ (cpp_view s).size old + closes frame.rule (drop frame.base parts)
+unfolding closes
+quiet_few s old frame parts = omega (arith, closes_pushed (production_at frame.rule) (drop frame.base parts))
+
+-- those of a step that was taken
+pub steps_few : (s : List ℕ) (old new : Linked) (frame : Frame Kept) (parts new_parts : List Part) (then : Kept) → IsPaid old → length old.nodes.nodes ≤ length new.nodes.nodes
+    → (let taken : Result Kept Refusal = Ok then in CountsStep (production_at frame.rule) old new (drop frame.base parts) (drop frame.base new_parts) taken)
+    → (cpp_view s).size new + closes frame.rule (drop frame.base new_parts ++ Part.Nothing ∷ []) ≤ (cpp_view s).size old + closes frame.rule (drop frame.base parts)
+unfolding closes
+steps_few s old new frame parts new_parts then paid least counts =
+    sizes (length old.nodes.nodes) (length new.nodes.nodes) (closes_of (production_at frame.rule) (drop frame.base new_parts ++ Part.Nothing ∷ [])) (closes_of (production_at frame.rule) (drop frame.base parts)) paid.begun least counts
+  where
+    sizes : (m n behind before : ℕ) → 3 ≤ m → m ≤ n → n + behind ≤ m + before → n - 3 + behind ≤ m - 3 + before
+    sizes m n behind before begun least few = omega (arith, begun, least, few)
+
+-- those of a step that was refused
+pub refused_few : (s : List ℕ) (old new : Linked) (frame : Frame Kept) (parts : List Part) → IsPaid old
+    → length new.nodes.nodes ≤ length old.nodes.nodes + closes_of (production_at frame.rule) (drop frame.base parts) → AddsFew (cpp_view s) old new frame parts
+unfolding closes
+refused_few s old new frame parts paid few = sizes (length old.nodes.nodes) (length new.nodes.nodes) (closes_of (production_at frame.rule) (drop frame.base parts)) paid.begun few
+  where
+    sizes : (m n before : ℕ) → 3 ≤ m → n ≤ m + before → n - 3 ≤ m - 3 + before
+    sizes m n before begun few = omega (arith, begun, few)

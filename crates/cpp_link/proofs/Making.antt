@@ -1,5 +1,5 @@
 -- What comes behind a rule, in terms of the nodes that are there once its own is made.
-use Rattle.std.proofs.Common.{◌≡◌, refl, sym, ◌∙◌, ap, subst, arith, ℕ, zero, suc, ◌+◌, ◌-◌, ◌<◌, ◌≤◌, List, [], ◌∷◌, length, Option, Result, Ok, Err}
+use Rattle.std.proofs.Common.{◌≡◌, refl, sym, ◌∙◌, ap, subst, ℕ, zero, suc, ◌-◌, ◌<◌, ◌≤◌, List, [], ◌∷◌, length, Option, Result, Ok, Err}
 use Rattle.std.specs.Prelude.{slice_get, IfSome, IfOk, IfErr, OnOk}
 use Rattle.sym_core.specs.Value.{counted_value}
 use Rattle.sym_core.specs.declared.NumberKind.TheVariants.{Seq36}
@@ -8,7 +8,6 @@ use Rattle.sym_link.specs.Reading.{Found}
 use Rattle.sym_link.specs.Unfold.{found}
 use Rattle.sym_link.specs.Driving.{Fails}
 use Rattle.cpp_grammar.specs.declared.production.Production.{Production}
-use Rattle.cpp_grammar.specs.Unfolding.{production_at}
 use Rattle.cpp_term.specs.Term.{Term}
 use Rattle.cpp_term.specs.Values as values
 use Rattle.cpp_term.specs.Values.{State, Value, Around, part, text_of}
@@ -21,7 +20,6 @@ use Rattle.cpp_link.specs.declared.part.Candidate.{Candidate}
 use Rattle.cpp_link.specs.declared.part.Kept.{Kept}
 use Rattle.cpp_link.specs.declared.part.Part.{Part}
 use Rattle.cpp_link.specs.Making.{state_of, IsRare}
-use Rattle.cpp_link.specs.Owed.{made_at_end, owes_of, owes}
 use Rattle.cpp_link.specs.Parts.{trees_in, values_in, around_of, candidates_of, AreThere, IsKeptThere, AreCandidatesThere}
 use Rattle.cpp_link.specs.Reads.{with_candidate, maybe_candidate}
 use Rattle.cpp_link.specs.Staying.{values_stay, around_stays, candidates_stay, there_more}
@@ -67,31 +65,41 @@ state_behind s old mid last p byte kept parts candidate packs began stays kept_t
     ∙ comes (candidates_of (trees_in s mid.nodes) mid.candidates.items) ∙ appended
     ∙ rw (nodes, after) refl
 
--- no more nodes are made than are owed
-pub few_owed : (number held old new : ℕ) → new ≤ old + made_at_end (production_at number) → new - 3 + 0 ≤ old - 3 + owes number held
-unfolding owes owes_of
-few_owed number held old new few = omega (arith, few)
-
 -- a production that is none of the commonest is rare
-pub is_rare : (p : Production) → (p ≡ Production.NestNext → ⊥) → (p ≡ Production.SourceName → ⊥) → (p ≡ Production.PlainType → ⊥) → (p ≡ Production.NestEnd → ⊥) → (p ≡ Production.Items → ⊥) → (p ≡ Production.NestSource → ⊥) → (p ≡ Production.Builtin → ⊥) → (p ≡ Production.TypeArgument → ⊥) → (p ≡ Production.Symbol → ⊥) → (p ≡ Production.NestedType → ⊥) → (p ≡ Production.Encoding → ⊥) → (p ≡ Production.NestedName → ⊥) → (p ≡ Production.Arguments → ⊥) → (p ≡ Production.NestWithS → ⊥) → (p ≡ Production.NestAbbreviated → ⊥) → (p ≡ Production.TypeWithS → ⊥) → (p ≡ Production.AbbreviatedType → ⊥) → IsRare p
-is_rare Production.NestNext h0 h1 h2 h3 h4 h5 h6 h7 h8 h9 h10 h11 h12 h13 h14 h15 h16 = absurd (h0 refl)
-is_rare Production.SourceName h0 h1 h2 h3 h4 h5 h6 h7 h8 h9 h10 h11 h12 h13 h14 h15 h16 = absurd (h1 refl)
-is_rare Production.PlainType h0 h1 h2 h3 h4 h5 h6 h7 h8 h9 h10 h11 h12 h13 h14 h15 h16 = absurd (h2 refl)
-is_rare Production.NestEnd h0 h1 h2 h3 h4 h5 h6 h7 h8 h9 h10 h11 h12 h13 h14 h15 h16 = absurd (h3 refl)
-is_rare Production.Items h0 h1 h2 h3 h4 h5 h6 h7 h8 h9 h10 h11 h12 h13 h14 h15 h16 = absurd (h4 refl)
-is_rare Production.NestSource h0 h1 h2 h3 h4 h5 h6 h7 h8 h9 h10 h11 h12 h13 h14 h15 h16 = absurd (h5 refl)
-is_rare Production.Builtin h0 h1 h2 h3 h4 h5 h6 h7 h8 h9 h10 h11 h12 h13 h14 h15 h16 = absurd (h6 refl)
-is_rare Production.TypeArgument h0 h1 h2 h3 h4 h5 h6 h7 h8 h9 h10 h11 h12 h13 h14 h15 h16 = absurd (h7 refl)
-is_rare Production.Symbol h0 h1 h2 h3 h4 h5 h6 h7 h8 h9 h10 h11 h12 h13 h14 h15 h16 = absurd (h8 refl)
-is_rare Production.NestedType h0 h1 h2 h3 h4 h5 h6 h7 h8 h9 h10 h11 h12 h13 h14 h15 h16 = absurd (h9 refl)
-is_rare Production.Encoding h0 h1 h2 h3 h4 h5 h6 h7 h8 h9 h10 h11 h12 h13 h14 h15 h16 = absurd (h10 refl)
-is_rare Production.NestedName h0 h1 h2 h3 h4 h5 h6 h7 h8 h9 h10 h11 h12 h13 h14 h15 h16 = absurd (h11 refl)
-is_rare Production.Arguments h0 h1 h2 h3 h4 h5 h6 h7 h8 h9 h10 h11 h12 h13 h14 h15 h16 = absurd (h12 refl)
-is_rare Production.NestWithS h0 h1 h2 h3 h4 h5 h6 h7 h8 h9 h10 h11 h12 h13 h14 h15 h16 = absurd (h13 refl)
-is_rare Production.NestAbbreviated h0 h1 h2 h3 h4 h5 h6 h7 h8 h9 h10 h11 h12 h13 h14 h15 h16 = absurd (h14 refl)
-is_rare Production.TypeWithS h0 h1 h2 h3 h4 h5 h6 h7 h8 h9 h10 h11 h12 h13 h14 h15 h16 = absurd (h15 refl)
-is_rare Production.AbbreviatedType h0 h1 h2 h3 h4 h5 h6 h7 h8 h9 h10 h11 h12 h13 h14 h15 h16 = absurd (h16 refl)
-is_rare _ h0 h1 h2 h3 h4 h5 h6 h7 h8 h9 h10 h11 h12 h13 h14 h15 h16 = tt
+pub is_rare : (p : Production)
+    → (p ≡ Production.NestNext → ⊥) → (p ≡ Production.SourceName → ⊥) → (p ≡ Production.PlainType → ⊥) → (p ≡ Production.NestEnd → ⊥)
+    → (p ≡ Production.Items → ⊥) → (p ≡ Production.NestSource → ⊥) → (p ≡ Production.Builtin → ⊥) → (p ≡ Production.TypeArgument → ⊥)
+    → (p ≡ Production.Symbol → ⊥) → (p ≡ Production.NestedType → ⊥) → (p ≡ Production.Encoding → ⊥) → (p ≡ Production.NestedName → ⊥)
+    → (p ≡ Production.Arguments → ⊥) → (p ≡ Production.NestWithS → ⊥) → (p ≡ Production.NestAbbreviated → ⊥) → (p ≡ Production.TypeWithS → ⊥)
+    → (p ≡ Production.AbbreviatedType → ⊥) → (p ≡ Production.ReferenceType → ⊥) → (p ≡ Production.Pointer → ⊥) → (p ≡ Production.ConstType → ⊥)
+    → (p ≡ Production.QualifiedPlain → ⊥) → (p ≡ Production.Mark → ⊥) → (p ≡ Production.SourcePiece → ⊥) → (p ≡ Production.StdType → ⊥)
+    → (p ≡ Production.Special → ⊥) → IsRare p
+is_rare Production.NestNext h0 h1 h2 h3 h4 h5 h6 h7 h8 h9 h10 h11 h12 h13 h14 h15 h16 h17 h18 h19 h20 h21 h22 h23 h24 = absurd (h0 refl)
+is_rare Production.SourceName h0 h1 h2 h3 h4 h5 h6 h7 h8 h9 h10 h11 h12 h13 h14 h15 h16 h17 h18 h19 h20 h21 h22 h23 h24 = absurd (h1 refl)
+is_rare Production.PlainType h0 h1 h2 h3 h4 h5 h6 h7 h8 h9 h10 h11 h12 h13 h14 h15 h16 h17 h18 h19 h20 h21 h22 h23 h24 = absurd (h2 refl)
+is_rare Production.NestEnd h0 h1 h2 h3 h4 h5 h6 h7 h8 h9 h10 h11 h12 h13 h14 h15 h16 h17 h18 h19 h20 h21 h22 h23 h24 = absurd (h3 refl)
+is_rare Production.Items h0 h1 h2 h3 h4 h5 h6 h7 h8 h9 h10 h11 h12 h13 h14 h15 h16 h17 h18 h19 h20 h21 h22 h23 h24 = absurd (h4 refl)
+is_rare Production.NestSource h0 h1 h2 h3 h4 h5 h6 h7 h8 h9 h10 h11 h12 h13 h14 h15 h16 h17 h18 h19 h20 h21 h22 h23 h24 = absurd (h5 refl)
+is_rare Production.Builtin h0 h1 h2 h3 h4 h5 h6 h7 h8 h9 h10 h11 h12 h13 h14 h15 h16 h17 h18 h19 h20 h21 h22 h23 h24 = absurd (h6 refl)
+is_rare Production.TypeArgument h0 h1 h2 h3 h4 h5 h6 h7 h8 h9 h10 h11 h12 h13 h14 h15 h16 h17 h18 h19 h20 h21 h22 h23 h24 = absurd (h7 refl)
+is_rare Production.Symbol h0 h1 h2 h3 h4 h5 h6 h7 h8 h9 h10 h11 h12 h13 h14 h15 h16 h17 h18 h19 h20 h21 h22 h23 h24 = absurd (h8 refl)
+is_rare Production.NestedType h0 h1 h2 h3 h4 h5 h6 h7 h8 h9 h10 h11 h12 h13 h14 h15 h16 h17 h18 h19 h20 h21 h22 h23 h24 = absurd (h9 refl)
+is_rare Production.Encoding h0 h1 h2 h3 h4 h5 h6 h7 h8 h9 h10 h11 h12 h13 h14 h15 h16 h17 h18 h19 h20 h21 h22 h23 h24 = absurd (h10 refl)
+is_rare Production.NestedName h0 h1 h2 h3 h4 h5 h6 h7 h8 h9 h10 h11 h12 h13 h14 h15 h16 h17 h18 h19 h20 h21 h22 h23 h24 = absurd (h11 refl)
+is_rare Production.Arguments h0 h1 h2 h3 h4 h5 h6 h7 h8 h9 h10 h11 h12 h13 h14 h15 h16 h17 h18 h19 h20 h21 h22 h23 h24 = absurd (h12 refl)
+is_rare Production.NestWithS h0 h1 h2 h3 h4 h5 h6 h7 h8 h9 h10 h11 h12 h13 h14 h15 h16 h17 h18 h19 h20 h21 h22 h23 h24 = absurd (h13 refl)
+is_rare Production.NestAbbreviated h0 h1 h2 h3 h4 h5 h6 h7 h8 h9 h10 h11 h12 h13 h14 h15 h16 h17 h18 h19 h20 h21 h22 h23 h24 = absurd (h14 refl)
+is_rare Production.TypeWithS h0 h1 h2 h3 h4 h5 h6 h7 h8 h9 h10 h11 h12 h13 h14 h15 h16 h17 h18 h19 h20 h21 h22 h23 h24 = absurd (h15 refl)
+is_rare Production.AbbreviatedType h0 h1 h2 h3 h4 h5 h6 h7 h8 h9 h10 h11 h12 h13 h14 h15 h16 h17 h18 h19 h20 h21 h22 h23 h24 = absurd (h16 refl)
+is_rare Production.ReferenceType h0 h1 h2 h3 h4 h5 h6 h7 h8 h9 h10 h11 h12 h13 h14 h15 h16 h17 h18 h19 h20 h21 h22 h23 h24 = absurd (h17 refl)
+is_rare Production.Pointer h0 h1 h2 h3 h4 h5 h6 h7 h8 h9 h10 h11 h12 h13 h14 h15 h16 h17 h18 h19 h20 h21 h22 h23 h24 = absurd (h18 refl)
+is_rare Production.ConstType h0 h1 h2 h3 h4 h5 h6 h7 h8 h9 h10 h11 h12 h13 h14 h15 h16 h17 h18 h19 h20 h21 h22 h23 h24 = absurd (h19 refl)
+is_rare Production.QualifiedPlain h0 h1 h2 h3 h4 h5 h6 h7 h8 h9 h10 h11 h12 h13 h14 h15 h16 h17 h18 h19 h20 h21 h22 h23 h24 = absurd (h20 refl)
+is_rare Production.Mark h0 h1 h2 h3 h4 h5 h6 h7 h8 h9 h10 h11 h12 h13 h14 h15 h16 h17 h18 h19 h20 h21 h22 h23 h24 = absurd (h21 refl)
+is_rare Production.SourcePiece h0 h1 h2 h3 h4 h5 h6 h7 h8 h9 h10 h11 h12 h13 h14 h15 h16 h17 h18 h19 h20 h21 h22 h23 h24 = absurd (h22 refl)
+is_rare Production.StdType h0 h1 h2 h3 h4 h5 h6 h7 h8 h9 h10 h11 h12 h13 h14 h15 h16 h17 h18 h19 h20 h21 h22 h23 h24 = absurd (h23 refl)
+is_rare Production.Special h0 h1 h2 h3 h4 h5 h6 h7 h8 h9 h10 h11 h12 h13 h14 h15 h16 h17 h18 h19 h20 h21 h22 h23 h24 = absurd (h24 refl)
+is_rare _ h0 h1 h2 h3 h4 h5 h6 h7 h8 h9 h10 h11 h12 h13 h14 h15 h16 h17 h18 h19 h20 h21 h22 h23 h24 = tt
 
 -- ## What a production closes to
 

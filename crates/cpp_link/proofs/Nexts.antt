@@ -10,10 +10,10 @@ use Rattle.sym_shape.specs.Tree.{Forest, branch, token, grown, spell_all, row_co
 use Rattle.sym_shape.proofs.Firsts.{branch_filled}
 use Rattle.sym_link.specs.Reading.{Open}
 use Rattle.sym_link.specs.Linking.{IsInside, IsRuleRow}
-use Rattle.sym_link.specs.Parts.{skipped, skipped_from, joined, values_in, Stands}
+use Rattle.sym_link.specs.Parts.{skipped, passed_by, skipped_from, joined, values_in, Stands}
 use Rattle.sym_link.specs.Threads.{skips}
 use Rattle.sym_link.specs.declared.language.Frame.{Frame}
-use Rattle.sym_link.proofs.Standing.{passed_by, joined_spell, stands_skip, stands_left, stands_inner}
+use Rattle.sym_link.proofs.Standing.{joined_spell, stands_skip, stands_left, stands_inner}
 use Rattle.cpp_grammar.specs.declared.production.Production.{Production}
 use Rattle.cpp_grammar.specs.Grammar.{in_ranges, among, is_in, pick, alternatives, choose, number_of_kind, parts_of, is_chain, may_be_empty, kinds, productions, number_of}
 use Rattle.cpp_grammar.specs.Follow.{after_ranges, rank, height}

@@ -1,10 +1,11 @@
 -- Parts by their numbers.
-use Rattle.std.proofs.Common.{◌≡◌, refl, ap, arith, ℕ, zero, suc, ◌<◌, true, false, List, [], ◌∷◌, length, get_or}
+use Rattle.std.proofs.Common.{◌≡◌, refl, ap, arith, lit≤, ℕ, zero, suc, ◌<◌, ◌≤◌, true, false, List, [], ◌∷◌, length, get_or}
 use Rattle.std.specs.Prelude.{nat_eq}
-use Rattle.std.proofs.lemmas.Bool.{eqb-true, eqb-false}
+use Rattle.std.proofs.lemmas.Bool.{false≢true, eqb-true, eqb-false}
 use Rattle.cpp_term.specs.Term.{Term}
-use Rattle.cpp_term.specs.Values.{Value, part}
+use Rattle.cpp_term.specs.Values.{Value, part, is_there}
 use Rattle.cpp_link.specs.declared.part.Part.{Part}
+use Rattle.cpp_link.specs.Closes.{name_closes}
 use Rattle.cpp_link.specs.Parts.{value_of, values_of, IsThere, AreThere}
 
 pub part_at : (s : List ℕ) (ts : List Term) (ps : List Part) (k : ℕ) → value_of s ts (get_or ps k Part.Nothing) ≡ part (values_of s ts ps) k
@@ -68,3 +69,13 @@ many_more (suc zero) some one two three = absurd (one refl)
 many_more (suc (suc zero)) some one two three = absurd (two refl)
 many_more (suc (suc (suc zero))) some one two three = absurd (three refl)
 many_more (suc (suc (suc (suc n)))) some one two three = omega arith
+
+-- ## A name with arguments
+
+-- one makes a node at its end
+pub there_closes : (s : List ℕ) (ts : List Term) (ps : List Part) → is_there (part (values_of s ts ps) 1) ≡ true → 1 ≤ name_closes ps
+unfolding name_closes value_of values_of part is_there
+there_closes s ts [] there = absurd (false≢true there)
+there_closes s ts (p ∷ []) there = absurd (false≢true there)
+there_closes s ts (p ∷ Part.Nothing ∷ ps) there = absurd (false≢true there)
+there_closes s ts (p ∷ q ∷ ps) there = lit≤ tt

@@ -1,12 +1,12 @@
 -- A step is taken as the reading says.
-use Rattle.std.proofs.Common.{◌≡◌, refl, sym, ◌∙◌, ap, arith, ℕ, zero, suc, ◌+◌, ◌<◌, ◌≤◌, Bool, true, false, List, [], ◌∷◌, length, take, drop, get_or, Option, Some, None, Result, Ok, Err}
+use Rattle.std.proofs.Common.{◌≡◌, refl, sym, ◌∙◌, ap, subst, add-one, arith, ℕ, zero, suc, ◌+◌, ◌<◌, ◌≤◌, Bool, true, false, List, [], ◌∷◌, ◌++◌, length, take, drop, get_or, Option, Some, None, Result, Ok, Err}
 use Rattle.std.specs.Prelude.{IfOk}
 use Rattle.sym_core.specs.declared.refusal.Refusal.{Refusal}
 use Rattle.cpp_grammar.specs.declared.production.Production.{Production}
 use Rattle.cpp_term.specs.Term.{Term}
 use Rattle.cpp_term.specs.Values as values
 use Rattle.cpp_term.specs.Values.{State, Value, Around}
-use Rattle.cpp_term.specs.Between.{Going, after}
+use Rattle.cpp_term.specs.Between.{Going}
 use Rattle.cpp_tree.specs.Nodes.{Stored, over, tree_at, IsTable}
 use Rattle.cpp_tree.specs.declared.node.Node.{Node}
 use Rattle.cpp_link.specs.declared.linked.Linked.{Linked}
@@ -16,7 +16,9 @@ use Rattle.cpp_link.specs.declared.part.Step.{Step}
 use Rattle.cpp_link.specs.declared.part.Candidate.{Candidate}
 use Rattle.cpp_link.specs.Grows.{Grows}
 use Rattle.cpp_link.specs.Making.{state_of}
-use Rattle.cpp_link.specs.Owed.{made_before, sum_all, owes_of}
+use Rattle.cpp_link.specs.Owed.{made_before, owes_of}
+use Rattle.cpp_link.specs.Closes.{pack_makes, closes_of}
+use Rattle.cpp_link.specs.ClosesLaws.{quiet_owed, made_owed, closes_pushed, closes_behind, closes_made}
 use Rattle.cpp_link.specs.Parts.{trees_in, tree_of_node, value_of, values_of, values_in, around_of, candidates_of, AreThere, IsKeptThere, AreCandidatesThere}
 use Rattle.cpp_link.specs.Reads.{behind_first, named_if, appended_if, with_candidate, goes_on}
 use Rattle.cpp_link.specs.Staying.{values_stay, around_stays, candidates_stay}
@@ -30,34 +32,21 @@ pub parameter_steps : (result : Result Step Refusal) → IfOk result (λ step. I
 unfolding made_before
 parameter_steps (Err e) = tt
 parameter_steps (Ok (Step.Go candidate then packs)) = tt
-parameter_steps (Ok (Step.Named node listed)) = omega arith
+parameter_steps (Ok (Step.Named node listed is_name)) = omega arith
 parameter_steps (Ok (Step.Made node listed is_name is_candidate packs)) = (omega arith, refl)
 
 pub nest_parameter_steps : (result : Result Step Refusal) → IfOk result (λ step. IsStepOf Production.NestParameter 1 step)
 unfolding made_before
 nest_parameter_steps (Err e) = tt
 nest_parameter_steps (Ok (Step.Go candidate then packs)) = tt
-nest_parameter_steps (Ok (Step.Named node listed)) = omega arith
+nest_parameter_steps (Ok (Step.Named node listed is_name)) = omega arith
 nest_parameter_steps (Ok (Step.Made node listed is_name is_candidate packs)) = (omega arith, refl)
-
-sum_next : (ns : List ℕ) (held : ℕ) → sum_all (drop held ns) ≡ get_or ns held 0 + sum_all (drop (suc held) ns)
-unfolding sum_all
-sum_next [] zero = refl
-sum_next [] (suc held) = refl
-sum_next (n ∷ ns) zero = refl
-sum_next (n ∷ ns) (suc held) = sum_next ns held
-
--- a production owes no more behind one part more
-pub quiet_owed : (p : Production) (held : ℕ) → owes_of p (suc held) ≤ owes_of p held
-unfolding owes_of
-quiet_owed p held = omega (arith, sum_next (made_before p) held)
 
 -- what a production owes pays for the nodes of a step
 pub step_owed : (p : Production) (held : ℕ) (step : Step) → IsStepOf p held step → nodes_of_step step + owes_of p (suc held) ≤ owes_of p held
-unfolding owes_of
-step_owed p held (Step.Go candidate then packs) of = omega (arith, sum_next (made_before p) held)
-step_owed p held (Step.Named node listed) of = omega (arith, sum_next (made_before p) held)
-step_owed p held (Step.Made node listed is_name is_candidate packs) of = omega (arith, sum_next (made_before p) held, of.1)
+step_owed p held (Step.Go candidate then packs) of = omega (arith, quiet_owed p held)
+step_owed p held (Step.Named node listed is_name) of = omega (arith, quiet_owed p held)
+step_owed p held (Step.Made node listed is_name is_candidate packs) of = made_owed p held of.1
 
 -- ## Parts
 
@@ -122,14 +111,14 @@ takes_go s old new kept base parts candidate then packs table same candidates ar
 }
 
 -- the first part is a tree that is there, and stands before the next one
-pub takes_named : (s : List ℕ) (l : Linked) (kept then : Kept) (base : ℕ) (parts new_parts : List Part) (node : ℕ) (listed : Bool)
+pub takes_named : (s : List ℕ) (l : Linked) (kept then : Kept) (base : ℕ) (parts new_parts : List Part) (node : ℕ) (listed is_name : Bool)
     → IsTable (over s l.nodes) → AreCandidatesThere (length l.nodes.nodes) l.candidates.items
     → AreThere s (length l.nodes.nodes) (drop base parts) → node < length l.nodes.nodes
-    → around_of (trees_in s l.nodes) then ≡ after (tree_at (trees_in s l.nodes) node) listed (around_of (trees_in s l.nodes) kept) → IsKeptThere (length l.nodes.nodes) then
+    → around_of (trees_in s l.nodes) then ≡ named_if is_name (around_of (trees_in s l.nodes) kept) (tree_at (trees_in s l.nodes) node) listed → IsKeptThere (length l.nodes.nodes) then
     → drop base new_parts ≡ Part.Tree node listed ∷ drop (base + 1) parts → take base new_parts ≡ take base parts → length new_parts ≡ length parts
-    → Takes s l l kept base parts new_parts (Step.Named node listed) then
+    → Takes s l l kept base parts new_parts (Step.Named node listed is_name) then
 unfolding goes_on
-takes_named s l kept then base parts new_parts node listed table candidates there less around around_there own lower count = record {
+takes_named s l kept then base parts new_parts node listed is_name table candidates there less around around_there own lower count = record {
   grows = grown s l.nodes l.nodes table refl;
   thunks = refl;
   candidates = candidates;
@@ -192,3 +181,60 @@ noted_is s y z kept cs number t is_candidate candidate packs state stays there l
     same : (b : Bool) (a c : Around) (t u : Term) (cs ds : List values.Candidate) (packs : Option ℕ) → a ≡ c → t ≡ u → cs ≡ ds
         → appended_if b a t (record { candidates = cs; packs = packs }) ≡ appended_if b c u (record { candidates = ds; packs = packs })
     same b a c t u cs ds packs around tree candidates = rw (around, tree, candidates) refl
+
+-- ## How many nodes are made
+
+first_of : (base : ℕ) (parts : List Part) → 0 < length (drop base parts) → (first : Part) × (drop base parts ≡ first ∷ drop (base + 1) parts)
+first_of base parts some = rw add-one (go base parts some)
+  where
+    go : (base : ℕ) (parts : List Part) → 0 < length (drop base parts) → (first : Part) × (drop base parts ≡ first ∷ drop (suc base) parts)
+    go zero [] some = absurd (omega (arith, some))
+    go zero (p ∷ ps) some = (p, refl)
+    go (suc base) [] some = absurd (omega (arith, some))
+    go (suc base) (p ∷ ps) some = go base ps some
+
+pub pack_there : (first : Part) → (first ≡ Part.Nothing → ⊥) → pack_makes first ≡ 1
+unfolding pack_makes
+pack_there Part.Nothing some = absurd (some refl)
+pack_there first some = refl
+
+first_rest : (first part : Part) (rest : List Part) → first ≡ part → rest ≡ [] → first ∷ rest ≡ part ∷ []
+first_rest first part rest is none = rw (is, none) refl
+
+-- nothing is made, and the parts stay
+pub go_counts : (p : Production) (old new : Linked) (own : List Part) → new.nodes ≡ old.nodes → length new.nodes.nodes + closes_of p (own ++ Part.Nothing ∷ []) ≤ length old.nodes.nodes + closes_of p own
+go_counts p old new own same = omega (arith, closes_pushed p own, ap (λ y. length y.nodes) same)
+
+-- the first part is another one
+pub named_counts : (p : Production) (l : Linked) (base : ℕ) (parts new_parts : List Part) (part : Part) → 0 < length (drop base parts) → drop base new_parts ≡ part ∷ drop (base + 1) parts
+    → length l.nodes.nodes + closes_of p (drop base new_parts ++ Part.Nothing ∷ []) ≤ length l.nodes.nodes + closes_of p (drop base parts)
+named_counts p l base parts new_parts part some own =
+    let split = first_of base parts some in
+    rw (own, split.1) (omega (arith, closes_behind p split.0 part (drop (base + 1) parts)))
+
+-- it is that of a node that has been made
+pub made_counts : (p : Production) (old new : Linked) (base : ℕ) (parts new_parts : List Part) (part : Part) → 0 < length (drop base parts) → get_or (made_before p) (length (drop base parts)) 0 ≡ 1
+    → (p ≡ Production.PackArgument → drop base parts ≡ Part.Nothing ∷ [] → ⊥) → length new.nodes.nodes ≤ length old.nodes.nodes + 1
+    → drop base new_parts ≡ part ∷ drop (base + 1) parts
+    → length new.nodes.nodes + closes_of p (drop base new_parts ++ Part.Nothing ∷ []) ≤ length old.nodes.nodes + closes_of p (drop base parts)
+made_counts p old new base parts new_parts part some one no_pack more own =
+    let split = first_of base parts some in
+    let rest = drop (base + 1) parts in
+    let counts = closes_made p split.0 part rest (subst (λ ps. get_or (made_before p) (length ps) 0 ≡ 1) split.1 one)
+    (λ is none. pack_there split.0 (λ nothing. no_pack is (split.1 ∙ first_rest split.0 Part.Nothing rest nothing none))) in
+    rw (own, split.1) (omega (arith, counts, more))
+
+-- where it is refused, too
+pub made_refused : (p : Production) (old new : Linked) (base : ℕ) (parts : List Part) → 0 < length (drop base parts) → get_or (made_before p) (length (drop base parts)) 0 ≡ 1
+    → (p ≡ Production.PackArgument → drop base parts ≡ Part.Nothing ∷ [] → ⊥) → length new.nodes.nodes ≤ length old.nodes.nodes + 1
+    → length new.nodes.nodes ≤ length old.nodes.nodes + closes_of p (drop base parts)
+made_refused p old new base parts some one no_pack more =
+    let split = first_of base parts some in
+    let again : drop base parts ≡ split.0 ∷ drop (base + 1) parts = split.1 in
+    omega (arith, made_counts p old new base parts parts split.0 some one no_pack more again)
+
+-- nothing is made of no elements
+pub none_made : (result : Result Step Refusal) (first : Part) → first ≡ Part.Nothing → IfOk result (λ step. nodes_of_step step ≡ pack_makes first) → IfOk result (λ step. nodes_of_step step ≡ 0)
+unfolding pack_makes
+none_made (Ok step) first none makes = makes ∙ ap pack_makes none
+none_made (Err e) first none makes = tt

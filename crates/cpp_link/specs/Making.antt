@@ -9,6 +9,7 @@ use Rattle.cpp_link.specs.Parts.{trees_in, candidates_of}
 -- how many nodes are made of what a production stands for
 unfoldable pub nodes_of_meant : Meant → ℕ
 nodes_of_meant (Meant.Given part) = 0
+nodes_of_meant (Meant.There node listed) = 0
 nodes_of_meant (Meant.Character letter value) = 2
 nodes_of_meant _ = 1
 
@@ -35,4 +36,12 @@ IsRare Production.NestWithS = ⊥
 IsRare Production.NestAbbreviated = ⊥
 IsRare Production.TypeWithS = ⊥
 IsRare Production.AbbreviatedType = ⊥
+IsRare Production.ReferenceType = ⊥
+IsRare Production.Pointer = ⊥
+IsRare Production.ConstType = ⊥
+IsRare Production.QualifiedPlain = ⊥
+IsRare Production.Mark = ⊥
+IsRare Production.SourcePiece = ⊥
+IsRare Production.StdType = ⊥
+IsRare Production.Special = ⊥
 IsRare _ = Unit {0}

@@ -94,6 +94,7 @@ candidates_of ts cs = map (candidate_of ts) cs
 -- what a production stands for: a part, or one whose node isn't there yet
 unfoldable pub meant_value : List ℕ → Stored → Meant → Value
 meant_value s y (Meant.Given part) = value_in s y part
+meant_value s y (Meant.There node listed) = values.tree (tree_at (trees_in s y) node) listed
 meant_value s y (Meant.Made node listed) = values.tree (tree_of_node s y node) listed
 meant_value s y (Meant.Entity node q m) = values.named (tree_of_node s y node) (nodes.qualifiers_of q) (nodes.mark_of m)
 meant_value s y (Meant.Items node m) = values.signature (tree_of_node s y node) (nodes.mark_of m)
@@ -119,6 +120,7 @@ AreThere s n (p ∷ ps) = IsThere s n p × AreThere s n ps
 
 abbrev pub IsMeantThere : List ℕ → (held n : ℕ) → Meant → Type 0
 IsMeantThere s held n (Meant.Given part) = IsThere s n part
+IsMeantThere s held n (Meant.There node listed) = node < n
 IsMeantThere s held n (Meant.Made node listed) = IsBelow s held n node
 IsMeantThere s held n (Meant.Entity node q m) = IsBelow s held n node
 IsMeantThere s held n (Meant.Items node m) = IsBelow s held n node
@@ -139,5 +141,5 @@ IsKeptThere n kept = nodes.IsArgumentsBelow n (scope_of kept) × IsPrefixThere n
 
 abbrev pub IsStepThere : List ℕ → (held n : ℕ) → Step → Type 0
 IsStepThere s held n (Step.Go candidate then packs) = nodes.IsArgumentsBelow n candidate × IsKeptThere n then
-IsStepThere s held n (Step.Named node listed) = node < n
+IsStepThere s held n (Step.Named node listed is_name) = node < n
 IsStepThere s held n (Step.Made node listed is_name is_candidate packs) = IsBelow s held n node

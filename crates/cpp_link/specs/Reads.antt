@@ -93,8 +93,8 @@ appended_if true around t state = appended around t state
 unfoldable pub goes_on : List ℕ → Stored → Kept → List Value → List values.Candidate → Option ℕ → Step → Going
 goes_on s y kept vs cs before (Step.Go candidate then packs) =
     Ok (record { values = vs; context = around_of (trees_in s y) then; state = with_candidate (around_of (trees_in s y) kept) (trees_in s y) candidate (record { candidates = cs; packs = packs }) })
-goes_on s y kept vs cs before (Step.Named node listed) =
-    Ok (record { values = values.tree (tree_at (trees_in s y) node) listed ∷ behind_first vs; context = after (tree_at (trees_in s y) node) listed (around_of (trees_in s y) kept); state = record { candidates = cs; packs = before } })
+goes_on s y kept vs cs before (Step.Named node listed is_name) =
+    Ok (record { values = values.tree (tree_at (trees_in s y) node) listed ∷ behind_first vs; context = named_if is_name (around_of (trees_in s y) kept) (tree_at (trees_in s y) node) listed; state = record { candidates = cs; packs = before } })
 goes_on s y kept vs cs before (Step.Made node listed is_name is_candidate packs) =
     Ok (record {
       values = values.tree (tree_of_node s y node) listed ∷ behind_first vs;

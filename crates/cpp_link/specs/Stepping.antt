@@ -1,5 +1,6 @@
 -- What is done by a step before the next part of a rule.
-use Rattle.std.specs.Prelude.{◌≡◌, ℕ, ◌<◌, List, length, take, drop, get_or, Bool, true, false, Ok}
+use Rattle.std.specs.Prelude.{◌≡◌, ℕ, ◌+◌, ◌<◌, ◌≤◌, List, [], ◌∷◌, ◌++◌, length, take, drop, get_or, Result, Ok, Err}
+use Rattle.sym_core.specs.declared.refusal.Refusal.{Refusal}
 use Rattle.cpp_grammar.specs.declared.production.Production.{Production}
 use Rattle.cpp_link.specs.declared.linked.Linked.{Linked}
 use Rattle.cpp_link.specs.declared.part.Part.{Part}
@@ -8,6 +9,7 @@ use Rattle.cpp_link.specs.declared.part.Step.{Step}
 use Rattle.cpp_link.specs.Grows.{Grows}
 use Rattle.cpp_link.specs.Making.{state_of}
 use Rattle.cpp_link.specs.Owed.{made_before}
+use Rattle.cpp_link.specs.Closes.{closes_of}
 use Rattle.cpp_link.specs.Parts.{trees_in, values_in, around_of, candidates_of, AreThere, IsKeptThere, AreCandidatesThere}
 use Rattle.cpp_link.specs.Reads.{goes_on}
 
@@ -20,8 +22,13 @@ nodes_of_step _ = 0
 -- that the production makes there.
 abbrev pub IsStepOf : Production → (held : ℕ) → Step → Type 0
 IsStepOf production held (Step.Go candidate then packs) = Unit {0}
-IsStepOf production held (Step.Named node listed) = 0 < held
+IsStepOf production held (Step.Named node listed is_name) = 0 < held
 IsStepOf production held (Step.Made node listed is_name is_candidate packs) = (0 < held) × (get_or (made_before production) held 0 ≡ 1)
+
+-- a step behind these parts adds at most so many nodes as the production may add less behind those
+abbrev pub CountsStep : {A : Type 0} → Production → (old new : Linked) → (own new_own : List Part) → Result A Refusal → Type 0
+CountsStep p old new own new_own (Ok then) = length new.nodes.nodes + closes_of p (new_own ++ Part.Nothing ∷ []) ≤ length old.nodes.nodes + closes_of p own
+CountsStep p old new own new_own (Err e) = length new.nodes.nodes ≤ length old.nodes.nodes + closes_of p own
 
 -- A step is taken before the next part of a rule, which this surrounds then: what the nodes, the candidates and the rule's
 -- parts stand for now is what the step comes to.

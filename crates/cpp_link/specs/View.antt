@@ -10,6 +10,7 @@ use Rattle.cpp_link.specs.declared.part.Part.{Part}
 use Rattle.cpp_link.specs.declared.part.Kept.{Kept}
 use Rattle.cpp_link.specs.declared.linked.Linked.{Linked}
 use Rattle.cpp_link.specs.Owed.{owes}
+use Rattle.cpp_link.specs.Closes.{closes}
 use Rattle.cpp_link.specs.Parts.{trees_in, value_in, packs_of, around_of, candidates_of, IsThere, IsKeptThere, AreCandidatesThere}
 
 -- the part stands for the value
@@ -60,6 +61,7 @@ cpp_view s = record {
   Grows = GoesOn s;
   size = λ l. length l.nodes.nodes - 3;
   owes = owes;
+  closes = closes;
   most = λ bytes. 2 * bytes;
   IsPaid = λ l bytes. IsPaid l;
 }

@@ -1,5 +1,5 @@
 -- What is linked of a C++ symbol keeps to what every language does.
-use Rattle.std.proofs.Common.{◌≡◌, refl, ◌∙◌, arith, ℕ, false, List, length}
+use Rattle.std.proofs.Common.{◌≡◌, refl, ◌∙◌, arith, ℕ, ◌≤◌, false, List, length}
 use Rattle.sym_link.specs.Reading.{Open}
 use Rattle.sym_link.specs.Linking.{IsLinking}
 use Rattle.sym_link.specs.Threads.{IsThreading}
@@ -12,7 +12,11 @@ use Rattle.cpp_term.specs.Values.{State, Value, Around}
 use Rattle.cpp_link.specs.declared.part.Part.{Part}
 use Rattle.cpp_link.specs.declared.part.Kept.{Kept}
 use Rattle.cpp_link.specs.declared.linked.Linked.{Linked}
+use Rattle.cpp_link.specs.Owed.{owes}
 use Rattle.cpp_link.specs.Bound.{few_nodes}
+use Rattle.cpp_link.specs.Closes.{closes}
+use Rattle.cpp_link.specs.ClosesLaws.{owes_two, closes_owed}
+use Rattle.cpp_link.specs.AtOnce.{at_once_two}
 use Rattle.cpp_link.specs.View.{IsPart, Surrounds, IsKept, GoesOn, cpp_view}
 use Rattle.cpp_link.specs.Counts.{between_counts}
 use Rattle.cpp_link.specs.Staying.{value_stays, around_stays, there_more, kept_more}
@@ -36,6 +40,14 @@ starts : abi.may_be_empty 0 ≡ false
 unfolding abi sheet sheet_with blank kinds may_be_empty
 starts = refl
 
+two : (number held : ℕ) → owes number held ≤ 2
+unfolding owes
+two number held = owes_two (production_at number) held
+
+closing : (number : ℕ) (own : List Part) → closes number own ≤ owes number (length own)
+unfolding owes closes
+closing number own = closes_owed (production_at number) own
+
 pub cpp_laws : (s : List ℕ) → IsLinking (cpp_view s)
 unfolding cpp
 cpp_laws s = record {
@@ -46,6 +58,11 @@ cpp_laws s = record {
   paid_more = λ l few more le paid. paid;
   keeps_count = λ rule known state. between_counts (production_at rule.rule.number) rule.context rule.place known state;
   few = λ tree is rows. few_nodes tree is;
+  two = λ number held. two number held;
+  closing = λ number own. closing number own;
+  two_at_once = λ s around held from left rule taken parts rest stands next once.
+      let at_once = at_once_two s around held from left rule taken parts rest stands next once in
+      record { closed = at_once.closed; refused = at_once.refused };
 }
 
 -- the symbol's nodes go on one behind the other

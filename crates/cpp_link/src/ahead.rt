@@ -171,12 +171,12 @@ impl Linked {
         &self,
         symbol: &[u8],
         rows: &[Row],
-        frame: Frame<Kept>,
+        frame: &Frame<Kept>,
         held: usize,
         row: Row,
     ) -> usize
         requires place { row.from < length symbol.now }
-        ensures { IsAhead (cpp_view symbol.now) symbol.now rows.now self.now frame held row result }
+        ensures { IsAhead (cpp_view symbol.now) symbol.now rows.now self.now frame.now held row result }
     {
         next_part(
             production_of(frame.rule),
@@ -188,16 +188,16 @@ impl Linked {
 
     /// The number of the next part of the rule of the frame that has a row: a token's, of which so many parts have begun.
     #[inline(always)]
-    pub fn next_token(&self, symbol: &[u8], frame: Frame<Kept>, held: usize) -> usize
-        ensures { IsAheadToken (cpp_view symbol.now) symbol.now self.now frame held result }
+    pub fn next_token(&self, symbol: &[u8], frame: &Frame<Kept>, held: usize) -> usize
+        ensures { IsAheadToken (cpp_view symbol.now) symbol.now self.now frame.now held result }
     {
         token_part(production_of(frame.rule), held)
     }
 
     /// The number of the parts of the rule of the frame, where no row is left.
     #[inline(always)]
-    pub fn count_parts(&self, symbol: &[u8], frame: Frame<Kept>, held: usize) -> usize
-        ensures { IsCount (cpp_view symbol.now) symbol.now self.now frame held result }
+    pub fn count_parts(&self, symbol: &[u8], frame: &Frame<Kept>, held: usize) -> usize
+        ensures { IsCount (cpp_view symbol.now) symbol.now self.now frame.now held result }
     {
         part_count(frame.rule)
     }

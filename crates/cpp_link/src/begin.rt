@@ -1,6 +1,6 @@
 // A rule begins.
 
-ghost use Rattle.std.specs.Prelude.{◌≡◌, ℕ, ◌-◌, ◌^◌, ◌<◌, ◌≤◌, List, length, get_or, slice_range, nat_lt, OnOk, IfOk, IfErr};
+ghost use Rattle.std.specs.Prelude.{◌≡◌, ℕ, ◌-◌, ◌^◌, ◌<◌, ◌≤◌, List, length, get_or, slice_range, nat_lt, OnOk, OnErr, IfOk, IfErr};
 ghost use Rattle.sym_core.specs.declared.refusal.Refusal.TheVariants as refusals;
 ghost use Rattle.sym_shape.specs.declared.rule.Row.{Row};
 ghost use Rattle.sym_link.specs.Linking.{Adds, Pays};
@@ -80,6 +80,7 @@ impl Linked {
         requires end { row.end ≤ length rows.now }
         ensures begins { BeginsIn (cpp_view symbol.now) symbol.now (Surrounds symbol.now) rows.now self.old self.new context row result }
         ensures adds { OnOk result (Adds (cpp_view symbol.now) self.old self.new 0 0) }
+        ensures few { OnErr result ((cpp_view symbol.now).size self.new ≤ (cpp_view symbol.now).size self.old) }
         ensures pays { OnOk result ((at : ℕ) → Pays (cpp_view symbol.now) self.old self.new at at) }
     {
         let kept = context.with_packs(self.packs);

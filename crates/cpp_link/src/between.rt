@@ -1,9 +1,11 @@
 // What is done before the next part of a rule.
 
-ghost use Rattle.std.specs.Prelude.{◌≡◌, ℕ, ◌+◌, ◌<◌, ◌≤◌, ◌∷◌, List, length, take, drop, true, false, Some, None, IfOk, IfErr, OnOk};
+ghost use Rattle.std.specs.Prelude.{◌≡◌, ℕ, ◌+◌, ◌<◌, ◌≤◌, ◌∷◌, ◌++◌, [], List, length, take, drop, true, false, Some, None, IfOk, IfErr, OnOk};
 ghost use Rattle.sym_core.specs.declared.refusal.Refusal.TheVariants as refusals;
 ghost use Rattle.sym_link.specs.Linking.{HasRoom, Adds, Pays, owed_behind, owed_next};
-ghost use Rattle.sym_link.specs.Threads.{IsOpenAt, GoesOn};
+ghost use Rattle.sym_link.specs.Threads.{IsOpenAt, GoesOn, AddsBefore};
+ghost use Rattle.cpp_grammar.specs.declared.production.Production.TheVariants as productions;
+ghost use Rattle.cpp_link.specs.declared.part.Part.TheVariants as variants;
 ghost use Rattle.cpp_term.specs.Term.{Term};
 ghost use Rattle.cpp_grammar.specs.Unfolding.{production_at};
 ghost use Rattle.cpp_tree.specs.Nodes.{IsArgumentsBelow, IsBelow, tree_at};
@@ -11,7 +13,7 @@ ghost use Rattle.cpp_link.specs.Grows.{Grows, HasPlace};
 ghost use Rattle.cpp_link.specs.Making.{state_of};
 ghost use Rattle.cpp_link.specs.Parts.{trees_in, tree_of_node, around_of, candidates_of, AreThere, IsKeptThere, AreCandidatesThere, IsStepThere};
 ghost use Rattle.cpp_link.specs.Reads.{with_candidate, named_if, appended_if};
-ghost use Rattle.cpp_link.specs.Stepping.{IsStepOf, Takes, quiet_parts};
+ghost use Rattle.cpp_link.specs.Stepping.{IsStepOf, Takes, CountsStep, nodes_of_step, quiet_parts};
 ghost use Rattle.cpp_link.specs.View.{Surrounds, cpp_view};
 
 use crate::dispatch::production_of;
@@ -139,6 +141,7 @@ impl Linked {
     /// # Errors
     ///
     /// `Memory` where a list couldn't grow.
+    #[inline(always)]
     fn take_step(
         &mut self,
         symbol: &[u8],
@@ -154,6 +157,9 @@ impl Linked {
         requires there { AreCandidatesThere (length self.old.nodes.nodes) self.old.candidates.items }
         requires parts { AreThere symbol.now (length self.old.nodes.nodes) (drop base parts.old.items) }
         ensures takes { IfOk result (λ then. Takes symbol.now self.old self.new kept base parts.old.items parts.new.items step then) }
+        ensures few { (production : Production) → IsStepOf production (length (drop base parts.old.items)) step
+            → (production ≡ productions.PackArgument → drop base parts.old.items ≡ variants.Nothing ∷ [] → nodes_of_step step ≡ 0)
+            → CountsStep production self.old self.new (drop base parts.old.items) (drop base parts.new.items) result }
         ensures memory { IfErr result (λ e. e ≡ refusals.Memory) }
     {
         match step {
@@ -165,9 +171,13 @@ impl Linked {
                 self.note(symbol, kept, candidate, packs)?;
                 Ok(then)
             }
-            Step::Named { node, listed } => {
+            Step::Named {
+                node,
+                listed,
+                is_name,
+            } => {
                 put_first(parts, base, Part::Tree { node, listed });
-                Ok(self.behind_name(kept, node, listed))
+                Ok(self.behind_if(is_name, kept, node, listed))
             }
             Step::Made {
                 node,
@@ -183,7 +193,63 @@ impl Linked {
         }
     }
 
-    /// Does what is to be done before the next part of the rule of the frame, and answers what surrounds that part.
+    /// Does what is to be done before the next part of the rule of the frame, which is of this production, and answers what
+    /// surrounds that part.
+    ///
+    /// # Errors
+    ///
+    /// Those of `go_on`.
+    #[inline(always)]
+    fn go_as(
+        &mut self,
+        symbol: &[u8],
+        production: Production,
+        frame: &Frame<Kept>,
+        parts: &mut Vec<Part>,
+    ) -> Result<Kept, Refusal>
+        requires numbered { production ≡ production_at frame.now.rule }
+        requires room { HasRoom (cpp_view symbol.now) symbol.now self.old (owed_behind (cpp_view symbol.now) frame.now parts.old.items) }
+        requires open { IsOpenAt (cpp_view symbol.now) symbol.now self.old frame.now parts.old.items }
+        requires base { frame.now.base ≤ length parts.old.items }
+        ensures goes { GoesOn (cpp_view symbol.now) symbol.now (Surrounds symbol.now) self.old self.new frame.now parts.old.items parts.new.items result }
+        ensures adds { OnOk result (Adds (cpp_view symbol.now) self.old self.new (owed_behind (cpp_view symbol.now) frame.now parts.old.items) (owed_next (cpp_view symbol.now) frame.now parts.new.items)) }
+        ensures few { AddsBefore (cpp_view symbol.now) self.old self.new frame.now parts.old.items (drop frame.now.base parts.new.items ++ variants.Nothing ∷ []) result }
+        ensures pays { OnOk result ((at : ℕ) → Pays (cpp_view symbol.now) self.old self.new at at) }
+        ensures count { OnOk result (length parts.new.items ≡ length parts.old.items) }
+    {
+        let own = &parts[frame.base..];
+        let step = self.step(symbol, production, frame.place, frame.kept, own)?;
+        let then = self.take_step(symbol, frame.kept, frame.base, step, parts)?;
+        Ok(then)
+    }
+
+    /// The same for productions that are rare, with the code of all of them.
+    ///
+    /// # Errors
+    ///
+    /// Those of `go_on`.
+    #[inline(never)]
+    fn go_rare(
+        &mut self,
+        symbol: &[u8],
+        production: Production,
+        frame: &Frame<Kept>,
+        parts: &mut Vec<Part>,
+    ) -> Result<Kept, Refusal>
+        requires numbered { production ≡ production_at frame.now.rule }
+        requires room { HasRoom (cpp_view symbol.now) symbol.now self.old (owed_behind (cpp_view symbol.now) frame.now parts.old.items) }
+        requires open { IsOpenAt (cpp_view symbol.now) symbol.now self.old frame.now parts.old.items }
+        requires base { frame.now.base ≤ length parts.old.items }
+        ensures goes { GoesOn (cpp_view symbol.now) symbol.now (Surrounds symbol.now) self.old self.new frame.now parts.old.items parts.new.items result }
+        ensures adds { OnOk result (Adds (cpp_view symbol.now) self.old self.new (owed_behind (cpp_view symbol.now) frame.now parts.old.items) (owed_next (cpp_view symbol.now) frame.now parts.new.items)) }
+        ensures few { AddsBefore (cpp_view symbol.now) self.old self.new frame.now parts.old.items (drop frame.now.base parts.new.items ++ variants.Nothing ∷ []) result }
+        ensures pays { OnOk result ((at : ℕ) → Pays (cpp_view symbol.now) self.old self.new at at) }
+        ensures count { OnOk result (length parts.new.items ≡ length parts.old.items) }
+    {
+        self.go_as(symbol, production, frame, parts)
+    }
+
+    /// The same, with code of their own for the productions that are common.
     ///
     /// # Errors
     ///
@@ -192,22 +258,34 @@ impl Linked {
     fn go_by_step(
         &mut self,
         symbol: &[u8],
-        frame: Frame<Kept>,
+        frame: &Frame<Kept>,
         parts: &mut Vec<Part>,
     ) -> Result<Kept, Refusal>
-        requires room { HasRoom (cpp_view symbol.now) symbol.now self.old (owed_behind (cpp_view symbol.now) frame parts.old.items) }
-        requires open { IsOpenAt (cpp_view symbol.now) symbol.now self.old frame parts.old.items }
-        requires base { frame.base ≤ length parts.old.items }
-        ensures goes { GoesOn (cpp_view symbol.now) symbol.now (Surrounds symbol.now) self.old self.new frame parts.old.items parts.new.items result }
-        ensures adds { OnOk result (Adds (cpp_view symbol.now) self.old self.new (owed_behind (cpp_view symbol.now) frame parts.old.items) (owed_next (cpp_view symbol.now) frame parts.new.items)) }
+        requires room { HasRoom (cpp_view symbol.now) symbol.now self.old (owed_behind (cpp_view symbol.now) frame.now parts.old.items) }
+        requires open { IsOpenAt (cpp_view symbol.now) symbol.now self.old frame.now parts.old.items }
+        requires base { frame.now.base ≤ length parts.old.items }
+        ensures goes { GoesOn (cpp_view symbol.now) symbol.now (Surrounds symbol.now) self.old self.new frame.now parts.old.items parts.new.items result }
+        ensures adds { OnOk result (Adds (cpp_view symbol.now) self.old self.new (owed_behind (cpp_view symbol.now) frame.now parts.old.items) (owed_next (cpp_view symbol.now) frame.now parts.new.items)) }
+        ensures few { AddsBefore (cpp_view symbol.now) self.old self.new frame.now parts.old.items (drop frame.now.base parts.new.items ++ variants.Nothing ∷ []) result }
         ensures pays { OnOk result ((at : ℕ) → Pays (cpp_view symbol.now) self.old self.new at at) }
         ensures count { OnOk result (length parts.new.items ≡ length parts.old.items) }
     {
-        let own = &parts[frame.base..];
         let production = production_of(frame.rule);
-        let step = self.step(symbol, production, frame.place, frame.kept, own)?;
-        let then = self.take_step(symbol, frame.kept, frame.base, step, parts)?;
-        Ok(then)
+        match production {
+            Production::NestNext => self.go_as(symbol, Production::NestNext, frame, parts),
+            Production::SourceName => self.go_as(symbol, Production::SourceName, frame, parts),
+            Production::NestSource => self.go_as(symbol, Production::NestSource, frame, parts),
+            Production::Encoding => self.go_as(symbol, Production::Encoding, frame, parts),
+            Production::Arguments => self.go_as(symbol, Production::Arguments, frame, parts),
+            Production::NestAbbreviated => self.go_as(
+                symbol,
+                Production::NestAbbreviated,
+                frame,
+                parts,
+            ),
+            Production::TypeWithS => self.go_as(symbol, Production::TypeWithS, frame, parts),
+            _ => self.go_rare(symbol, production, frame, parts),
+        }
     }
 
     /// What is done before the next part of the rule of the frame, and what surrounds that part.
@@ -215,18 +293,19 @@ impl Linked {
     /// # Errors
     ///
     /// `BadReference` at a parameter that names no argument that it may name, `Memory` where a list couldn't grow.
-    #[inline(never)]
+    #[inline(always)]
     pub fn go_on(
         &mut self,
         symbol: &[u8],
-        frame: Frame<Kept>,
+        frame: &Frame<Kept>,
         parts: &mut Vec<Part>,
     ) -> Result<Kept, Refusal>
-        requires room { HasRoom (cpp_view symbol.now) symbol.now self.old (owed_behind (cpp_view symbol.now) frame parts.old.items) }
-        requires open { IsOpenAt (cpp_view symbol.now) symbol.now self.old frame parts.old.items }
-        requires base { frame.base ≤ length parts.old.items }
-        ensures goes { GoesOn (cpp_view symbol.now) symbol.now (Surrounds symbol.now) self.old self.new frame parts.old.items parts.new.items result }
-        ensures adds { OnOk result (Adds (cpp_view symbol.now) self.old self.new (owed_behind (cpp_view symbol.now) frame parts.old.items) (owed_next (cpp_view symbol.now) frame parts.new.items)) }
+        requires room { HasRoom (cpp_view symbol.now) symbol.now self.old (owed_behind (cpp_view symbol.now) frame.now parts.old.items) }
+        requires open { IsOpenAt (cpp_view symbol.now) symbol.now self.old frame.now parts.old.items }
+        requires base { frame.now.base ≤ length parts.old.items }
+        ensures goes { GoesOn (cpp_view symbol.now) symbol.now (Surrounds symbol.now) self.old self.new frame.now parts.old.items parts.new.items result }
+        ensures adds { OnOk result (Adds (cpp_view symbol.now) self.old self.new (owed_behind (cpp_view symbol.now) frame.now parts.old.items) (owed_next (cpp_view symbol.now) frame.now parts.new.items)) }
+        ensures few { AddsBefore (cpp_view symbol.now) self.old self.new frame.now parts.old.items (drop frame.now.base parts.new.items ++ variants.Nothing ∷ []) result }
         ensures pays { OnOk result ((at : ℕ) → Pays (cpp_view symbol.now) self.old self.new at at) }
         ensures count { OnOk result (length parts.new.items ≡ length parts.old.items) }
     {

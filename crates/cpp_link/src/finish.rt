@@ -6,7 +6,7 @@ ghost use Rattle.sym_core.specs.Value.{counted_value};
 ghost use Rattle.sym_core.specs.declared.NumberKind.TheVariants as kinds;
 ghost use Rattle.sym_core.specs.declared.refusal.Refusal.TheVariants as refusals;
 ghost use Rattle.sym_link.specs.Driving.{Fails};
-ghost use Rattle.sym_link.specs.Linking.{HasRoom, Adds, Pays, owed_behind};
+ghost use Rattle.sym_link.specs.Linking.{HasRoom, Adds, AddsFew, Pays, owed_behind};
 ghost use Rattle.sym_link.specs.Threads.{IsOpenAt, ClosesAll};
 ghost use Rattle.sym_link.specs.Unfold.{found};
 ghost use Rattle.cpp_term.specs.Values.{State, part, text_of};
@@ -14,9 +14,10 @@ ghost use Rattle.cpp_term.specs.References.{substituted};
 ghost use Rattle.cpp_term.specs.Meaning.{meaning};
 ghost use Rattle.cpp_term.specs.Unfolding as unfolding_;
 ghost use Rattle.cpp_tree.specs.Nodes.{bytes_at, IsWithin};
+ghost use Rattle.cpp_grammar.specs.Unfolding.{production_at};
 ghost use Rattle.cpp_link.specs.Grows.{HasPlace};
 ghost use Rattle.cpp_link.specs.Making.{state_of};
-ghost use Rattle.cpp_link.specs.Owed.{made_at_end};
+ghost use Rattle.cpp_link.specs.Closes.{ends_of};
 ghost use Rattle.cpp_link.specs.Parts.{trees_in, value_in, values_in, packs_of, around_of, candidates_of, IsThere, AreThere, IsKeptThere, AreCandidatesThere};
 ghost use Rattle.cpp_link.specs.Reads.{maybe_candidate};
 ghost use Rattle.cpp_link.specs.View.{GoesOn, IsPaid, IsWhole, cpp_view};
@@ -112,7 +113,7 @@ impl Linked {
             → unfolding_.behind production (slice_index symbol.now place) (around_of (trees_in symbol.now self.old.nodes) kept) began (values_in symbol.now self.old.nodes parts.now) (state_of symbol.now self.old) ≡ state_of symbol.now self.new) }
         ensures there { IfOk result (λ made. IsThere symbol.now (length self.new.nodes.nodes) made) }
         ensures grows { OnOk result (GoesOn symbol.now self.old self.new) }
-        ensures few { OnOk result (length self.new.nodes.nodes ≤ length self.old.nodes.nodes + made_at_end production) }
+        ensures few { length self.new.nodes.nodes ≤ length self.old.nodes.nodes + ends_of production parts.now }
         ensures paid { OnOk result (IsPaid self.new) }
         ensures whole { OnOk result (IsWhole symbol.now self.new) }
         ensures memory { IfErr result (λ e. e ≡ refusals.Memory) }
@@ -126,115 +127,12 @@ impl Linked {
         Ok(made)
     }
 
-    /// The same for productions that are rare: its code is that of all of them, and takes room for the parts of each.
-    ///
-    /// # Errors
-    ///
-    /// `Memory` where a list couldn't grow.
-    #[inline(never)]
-    fn make_rare(
-        &mut self,
-        symbol: &[u8],
-        production: Production,
-        place: u32,
-        kept: Kept,
-        parts: &[Part],
-    ) -> Result<Part, Refusal>
-        requires fits { FitsSymbol symbol.now }
-        requires place { place < length symbol.now }
-        requires room { HasPlace symbol.now self.old.nodes 2 }
-        requires paid { IsPaid self.old }
-        requires whole { IsWhole symbol.now self.old }
-        requires there { AreThere symbol.now (length self.old.nodes.nodes) parts.now }
-        requires kept { IsKeptThere (length self.old.nodes.nodes) kept }
-        ensures value { IfOk result (λ made. value_in symbol.now self.new.nodes made ≡ meaning production (slice_index symbol.now place) (around_of (trees_in symbol.now self.old.nodes) kept) (values_in symbol.now self.old.nodes parts.now)) }
-        ensures state { OnOk result ((began : State) → began.packs ≡ packs_of kept
-            → unfolding_.behind production (slice_index symbol.now place) (around_of (trees_in symbol.now self.old.nodes) kept) began (values_in symbol.now self.old.nodes parts.now) (state_of symbol.now self.old) ≡ state_of symbol.now self.new) }
-        ensures there { IfOk result (λ made. IsThere symbol.now (length self.new.nodes.nodes) made) }
-        ensures grows { OnOk result (GoesOn symbol.now self.old self.new) }
-        ensures few { OnOk result (length self.new.nodes.nodes ≤ length self.old.nodes.nodes + made_at_end production) }
-        ensures paid { OnOk result (IsPaid self.new) }
-        ensures whole { OnOk result (IsWhole symbol.now self.new) }
-        ensures memory { IfErr result (λ e. e ≡ refusals.Memory) }
-    {
-        self.make(symbol, production, place, kept, parts)
-    }
-
-    /// The same, with code of their own for the productions that are common.
-    ///
-    /// # Errors
-    ///
-    /// `Memory` where a list couldn't grow.
-    fn make_common(
-        &mut self,
-        symbol: &[u8],
-        production: Production,
-        place: u32,
-        kept: Kept,
-        parts: &[Part],
-    ) -> Result<Part, Refusal>
-        requires fits { FitsSymbol symbol.now }
-        requires place { place < length symbol.now }
-        requires room { HasPlace symbol.now self.old.nodes 2 }
-        requires paid { IsPaid self.old }
-        requires whole { IsWhole symbol.now self.old }
-        requires there { AreThere symbol.now (length self.old.nodes.nodes) parts.now }
-        requires kept { IsKeptThere (length self.old.nodes.nodes) kept }
-        ensures value { IfOk result (λ made. value_in symbol.now self.new.nodes made ≡ meaning production (slice_index symbol.now place) (around_of (trees_in symbol.now self.old.nodes) kept) (values_in symbol.now self.old.nodes parts.now)) }
-        ensures state { OnOk result ((began : State) → began.packs ≡ packs_of kept
-            → unfolding_.behind production (slice_index symbol.now place) (around_of (trees_in symbol.now self.old.nodes) kept) began (values_in symbol.now self.old.nodes parts.now) (state_of symbol.now self.old) ≡ state_of symbol.now self.new) }
-        ensures there { IfOk result (λ made. IsThere symbol.now (length self.new.nodes.nodes) made) }
-        ensures grows { OnOk result (GoesOn symbol.now self.old self.new) }
-        ensures few { OnOk result (length self.new.nodes.nodes ≤ length self.old.nodes.nodes + made_at_end production) }
-        ensures paid { OnOk result (IsPaid self.new) }
-        ensures whole { OnOk result (IsWhole symbol.now self.new) }
-        ensures memory { IfErr result (λ e. e ≡ refusals.Memory) }
-    {
-        match production {
-            Production::NestNext => self.make(symbol, Production::NestNext, place, kept, parts),
-            Production::SourceName => self.make(symbol, Production::SourceName, place, kept, parts),
-            Production::PlainType => self.make(symbol, Production::PlainType, place, kept, parts),
-            Production::NestEnd => self.make(symbol, Production::NestEnd, place, kept, parts),
-            Production::Items => self.make(symbol, Production::Items, place, kept, parts),
-            Production::NestSource => self.make(symbol, Production::NestSource, place, kept, parts),
-            Production::Builtin => self.make(symbol, Production::Builtin, place, kept, parts),
-            Production::TypeArgument => self.make(
-                symbol,
-                Production::TypeArgument,
-                place,
-                kept,
-                parts,
-            ),
-            Production::Symbol => self.make(symbol, Production::Symbol, place, kept, parts),
-            Production::NestedType => self.make(symbol, Production::NestedType, place, kept, parts),
-            Production::Encoding => self.make(symbol, Production::Encoding, place, kept, parts),
-            Production::NestedName => self.make(symbol, Production::NestedName, place, kept, parts),
-            Production::Arguments => self.make(symbol, Production::Arguments, place, kept, parts),
-            Production::NestWithS => self.make(symbol, Production::NestWithS, place, kept, parts),
-            Production::NestAbbreviated => self.make(
-                symbol,
-                Production::NestAbbreviated,
-                place,
-                kept,
-                parts,
-            ),
-            Production::TypeWithS => self.make(symbol, Production::TypeWithS, place, kept, parts),
-            Production::AbbreviatedType => self.make(
-                symbol,
-                Production::AbbreviatedType,
-                place,
-                kept,
-                parts,
-            ),
-            _ => self.make_rare(symbol, production, place, kept, parts),
-        }
-    }
-
     /// What a production closes to that begins at a place, with these parts.
     ///
     /// # Errors
     ///
     /// `BadReference` at a substitution that names no candidate that it may name, `Memory` where a list couldn't grow.
+    #[inline(always)]
     fn close_production(
         &mut self,
         symbol: &[u8],
@@ -256,36 +154,39 @@ impl Linked {
             → Fails e (unfolding_.close production (slice_index symbol.now place) (around_of (trees_in symbol.now self.old.nodes) kept) place began (values_in symbol.now self.old.nodes parts.now) (state_of symbol.now self.old))) }
         ensures there { IfOk result (λ made. IsThere symbol.now (length self.new.nodes.nodes) made) }
         ensures grows { OnOk result (GoesOn symbol.now self.old self.new) }
-        ensures few { OnOk result (length self.new.nodes.nodes ≤ length self.old.nodes.nodes + made_at_end production) }
+        ensures few { length self.new.nodes.nodes ≤ length self.old.nodes.nodes + ends_of production parts.now }
         ensures paid { OnOk result (IsPaid self.new) }
         ensures whole { OnOk result (IsWhole symbol.now self.new) }
     {
         match production {
             Production::Substitution => self.substitute(symbol, place, kept, parts),
-            _ => self.make_common(symbol, production, place, kept, parts),
+            _ => self.make(symbol, production, place, kept, parts),
         }
     }
 
-    /// The rule of the frame closes over all its parts: what it means takes their place.
+    /// The rule of the frame closes, of this production, over all its parts: what it means takes their place.
     ///
     /// # Errors
     ///
     /// `BadReference` at a substitution that names no candidate that it may name, `Memory` where a list couldn't grow.
-    pub fn finish_rule(
+    #[inline(always)]
+    fn finish_as(
         &mut self,
         symbol: &[u8],
-        frame: Frame<Kept>,
+        production: Production,
+        frame: &Frame<Kept>,
         parts: &mut Vec<Part>,
     ) -> Result<(), Refusal>
-        requires room { HasRoom (cpp_view symbol.now) symbol.now self.old (owed_behind (cpp_view symbol.now) frame parts.old.items) }
-        requires open { IsOpenAt (cpp_view symbol.now) symbol.now self.old frame parts.old.items }
-        requires base { frame.base ≤ length parts.old.items }
-        requires place { frame.place < length symbol.now }
-        ensures closes { ClosesAll (cpp_view symbol.now) symbol.now self.old self.new frame parts.old.items parts.new.items result }
-        ensures adds { OnOk result (Adds (cpp_view symbol.now) self.old self.new (owed_behind (cpp_view symbol.now) frame parts.old.items) 0) }
+        requires numbered { production ≡ production_at frame.now.rule }
+        requires room { HasRoom (cpp_view symbol.now) symbol.now self.old (owed_behind (cpp_view symbol.now) frame.now parts.old.items) }
+        requires open { IsOpenAt (cpp_view symbol.now) symbol.now self.old frame.now parts.old.items }
+        requires base { frame.now.base ≤ length parts.old.items }
+        requires place { frame.now.place < length symbol.now }
+        ensures closes { ClosesAll (cpp_view symbol.now) symbol.now self.old self.new frame.now parts.old.items parts.new.items result }
+        ensures adds { OnOk result (Adds (cpp_view symbol.now) self.old self.new (owed_behind (cpp_view symbol.now) frame.now parts.old.items) 0) }
+        ensures few { AddsFew (cpp_view symbol.now) self.old self.new frame.now parts.old.items }
         ensures pays { OnOk result ((at : ℕ) → Pays (cpp_view symbol.now) self.old self.new at at) }
     {
-        let production = production_of(frame.rule);
         let made = self.close_production(
             symbol,
             production,
@@ -295,5 +196,120 @@ impl Linked {
         )?;
         put(parts, frame.base, made)?;
         Ok(())
+    }
+
+    /// The same for productions that are rare: its code is that of all of them, and takes room for the parts of each.
+    ///
+    /// # Errors
+    ///
+    /// `BadReference` at a substitution that names no candidate that it may name, `Memory` where a list couldn't grow.
+    #[inline(never)]
+    fn finish_rare(
+        &mut self,
+        symbol: &[u8],
+        production: Production,
+        frame: &Frame<Kept>,
+        parts: &mut Vec<Part>,
+    ) -> Result<(), Refusal>
+        requires numbered { production ≡ production_at frame.now.rule }
+        requires room { HasRoom (cpp_view symbol.now) symbol.now self.old (owed_behind (cpp_view symbol.now) frame.now parts.old.items) }
+        requires open { IsOpenAt (cpp_view symbol.now) symbol.now self.old frame.now parts.old.items }
+        requires base { frame.now.base ≤ length parts.old.items }
+        requires place { frame.now.place < length symbol.now }
+        ensures closes { ClosesAll (cpp_view symbol.now) symbol.now self.old self.new frame.now parts.old.items parts.new.items result }
+        ensures adds { OnOk result (Adds (cpp_view symbol.now) self.old self.new (owed_behind (cpp_view symbol.now) frame.now parts.old.items) 0) }
+        ensures few { AddsFew (cpp_view symbol.now) self.old self.new frame.now parts.old.items }
+        ensures pays { OnOk result ((at : ℕ) → Pays (cpp_view symbol.now) self.old self.new at at) }
+    {
+        self.finish_as(symbol, production, frame, parts)
+    }
+
+    /// The rule of the frame closes over all its parts: what it means takes their place. The productions that are common
+    /// have code of their own.
+    ///
+    /// # Errors
+    ///
+    /// `BadReference` at a substitution that names no candidate that it may name, `Memory` where a list couldn't grow.
+    #[inline(never)]
+    pub fn finish_rule(
+        &mut self,
+        symbol: &[u8],
+        frame: &Frame<Kept>,
+        parts: &mut Vec<Part>,
+    ) -> Result<(), Refusal>
+        requires room { HasRoom (cpp_view symbol.now) symbol.now self.old (owed_behind (cpp_view symbol.now) frame.now parts.old.items) }
+        requires open { IsOpenAt (cpp_view symbol.now) symbol.now self.old frame.now parts.old.items }
+        requires base { frame.now.base ≤ length parts.old.items }
+        requires place { frame.now.place < length symbol.now }
+        ensures closes { ClosesAll (cpp_view symbol.now) symbol.now self.old self.new frame.now parts.old.items parts.new.items result }
+        ensures adds { OnOk result (Adds (cpp_view symbol.now) self.old self.new (owed_behind (cpp_view symbol.now) frame.now parts.old.items) 0) }
+        ensures few { AddsFew (cpp_view symbol.now) self.old self.new frame.now parts.old.items }
+        ensures pays { OnOk result ((at : ℕ) → Pays (cpp_view symbol.now) self.old self.new at at) }
+    {
+        let production = production_of(frame.rule);
+        match production {
+            Production::NestNext => self.finish_as(symbol, Production::NestNext, frame, parts),
+            Production::SourceName => self.finish_as(symbol, Production::SourceName, frame, parts),
+            Production::PlainType => self.finish_as(symbol, Production::PlainType, frame, parts),
+            Production::NestEnd => self.finish_as(symbol, Production::NestEnd, frame, parts),
+            Production::Items => self.finish_as(symbol, Production::Items, frame, parts),
+            Production::Builtin => self.finish_as(symbol, Production::Builtin, frame, parts),
+            Production::TypeArgument => self.finish_as(
+                symbol,
+                Production::TypeArgument,
+                frame,
+                parts,
+            ),
+            Production::NestSource => self.finish_as(symbol, Production::NestSource, frame, parts),
+            Production::Substitution => self.finish_as(
+                symbol,
+                Production::Substitution,
+                frame,
+                parts,
+            ),
+            Production::Symbol => self.finish_as(symbol, Production::Symbol, frame, parts),
+            Production::NestedType => self.finish_as(symbol, Production::NestedType, frame, parts),
+            Production::Encoding => self.finish_as(symbol, Production::Encoding, frame, parts),
+            Production::NestedName => self.finish_as(symbol, Production::NestedName, frame, parts),
+            Production::NestWithS => self.finish_as(symbol, Production::NestWithS, frame, parts),
+            Production::Arguments => self.finish_as(symbol, Production::Arguments, frame, parts),
+            Production::NestAbbreviated => self.finish_as(
+                symbol,
+                Production::NestAbbreviated,
+                frame,
+                parts,
+            ),
+            Production::TypeWithS => self.finish_as(symbol, Production::TypeWithS, frame, parts),
+            Production::AbbreviatedType => self.finish_as(
+                symbol,
+                Production::AbbreviatedType,
+                frame,
+                parts,
+            ),
+            Production::ReferenceType => self.finish_as(
+                symbol,
+                Production::ReferenceType,
+                frame,
+                parts,
+            ),
+            Production::Pointer => self.finish_as(symbol, Production::Pointer, frame, parts),
+            Production::ConstType => self.finish_as(symbol, Production::ConstType, frame, parts),
+            Production::QualifiedPlain => self.finish_as(
+                symbol,
+                Production::QualifiedPlain,
+                frame,
+                parts,
+            ),
+            Production::Mark => self.finish_as(symbol, Production::Mark, frame, parts),
+            Production::SourcePiece => self.finish_as(
+                symbol,
+                Production::SourcePiece,
+                frame,
+                parts,
+            ),
+            Production::StdType => self.finish_as(symbol, Production::StdType, frame, parts),
+            Production::Special => self.finish_as(symbol, Production::Special, frame, parts),
+            _ => self.finish_rare(symbol, production, frame, parts),
+        }
     }
 }

@@ -1,10 +1,11 @@
 // The moments at which the driver asks C++'s language: at the root, and where a rule opens, a token comes and a rule closes.
 // Something is done before each part, also before those without a row (`Threading`).
 
-ghost use Rattle.std.specs.Prelude.{◌≡◌, ℕ, ◌+◌, ◌-◌, ◌<◌, ◌≤◌, ◌∷◌, [], List, length, take, drop, OnOk};
+ghost use Rattle.std.specs.Prelude.{◌≡◌, ℕ, ◌+◌, ◌-◌, ◌<◌, ◌≤◌, ◌∷◌, ◌++◌, [], List, length, take, drop, OnOk, OnErr};
 ghost use Rattle.sym_link.specs.Driving.{AreAll};
-ghost use Rattle.sym_link.specs.Linking.{HasRoom, IsOpen, OpensRoot, Opens, TakesToken, ClosesRule, Adds, Pays, owed_behind, owed_next};
-ghost use Rattle.sym_link.specs.Threads.{IsOpenAt, GoesOn, BeginsIn, ClosesAll, IsTaken, IsAhead, IsAheadToken, IsCount};
+ghost use Rattle.sym_link.specs.Linking.{HasRoom, IsOpen, OpensRoot, Opens, TakesToken, ClosesRule, Adds, AddsFew, Pays, owed_behind, owed_next};
+ghost use Rattle.sym_link.specs.Threads.{IsOpenAt, GoesOn, BeginsIn, ClosesAll, IsTaken, IsAhead, IsAheadToken, IsCount, AddsBefore};
+ghost use Rattle.cpp_link.specs.declared.part.Part.TheVariants as variants;
 ghost use Rattle.cpp_term.specs.Values.{Value, State, Around};
 ghost use Rattle.cpp_link.specs.View.{Surrounds, cpp_view};
 ghost use Rattle.cpp_link.specs.ViewLaws.{cpp_laws, cpp_threads};
@@ -45,8 +46,11 @@ impl Threading for Linked {
 
     ghost surrounds = { Surrounds };
 
+    ghost absent = { variants.Nothing };
+
     fn nothing(&self) -> Part
-        ensures { (s : List ℕ) → AreAll ((cpp_view s).IsPart self.now) (result ∷ []) (cpp_view s).reading.rowless }
+        ensures is { result ≡ variants.Nothing }
+        ensures stands { (s : List ℕ) → AreAll ((cpp_view s).IsPart self.now) (result ∷ []) (cpp_view s).reading.rowless }
     {
         Part::Nothing
     }
@@ -54,14 +58,15 @@ impl Threading for Linked {
     fn between(
         &mut self,
         symbol: &[u8],
-        frame: Frame<Kept>,
+        frame: &Frame<Kept>,
         parts: &mut Vec<Part>,
     ) -> Result<Kept, Refusal>
-        requires room { HasRoom (cpp_view symbol.now) symbol.now self.old (owed_behind (cpp_view symbol.now) frame parts.old.items) }
-        requires open { IsOpenAt (cpp_view symbol.now) symbol.now self.old frame parts.old.items }
-        requires base { frame.base ≤ length parts.old.items }
-        ensures goes { GoesOn (cpp_view symbol.now) symbol.now (Surrounds symbol.now) self.old self.new frame parts.old.items parts.new.items result }
-        ensures adds { OnOk result (Adds (cpp_view symbol.now) self.old self.new (owed_behind (cpp_view symbol.now) frame parts.old.items) (owed_next (cpp_view symbol.now) frame parts.new.items)) }
+        requires room { HasRoom (cpp_view symbol.now) symbol.now self.old (owed_behind (cpp_view symbol.now) frame.now parts.old.items) }
+        requires open { IsOpenAt (cpp_view symbol.now) symbol.now self.old frame.now parts.old.items }
+        requires base { frame.now.base ≤ length parts.old.items }
+        ensures goes { GoesOn (cpp_view symbol.now) symbol.now (Surrounds symbol.now) self.old self.new frame.now parts.old.items parts.new.items result }
+        ensures adds { OnOk result (Adds (cpp_view symbol.now) self.old self.new (owed_behind (cpp_view symbol.now) frame.now parts.old.items) (owed_next (cpp_view symbol.now) frame.now parts.new.items)) }
+        ensures few { AddsBefore (cpp_view symbol.now) self.old self.new frame.now parts.old.items (drop frame.now.base parts.new.items ++ variants.Nothing ∷ []) result }
         ensures pays { OnOk result ((at : ℕ) → Pays (cpp_view symbol.now) self.old self.new at at) }
         ensures count { OnOk result (length parts.new.items ≡ length parts.old.items) }
     {
@@ -79,31 +84,41 @@ impl Threading for Linked {
         requires end { row.end ≤ length rows.now }
         ensures begins { BeginsIn (cpp_view symbol.now) symbol.now (Surrounds symbol.now) rows.now self.old self.new context row result }
         ensures adds { OnOk result (Adds (cpp_view symbol.now) self.old self.new 0 0) }
+        ensures few { OnErr result ((cpp_view symbol.now).size self.new ≤ (cpp_view symbol.now).size self.old) }
         ensures pays { OnOk result ((at : ℕ) → Pays (cpp_view symbol.now) self.old self.new at at) }
     {
         self.begin_rule(symbol, rows, context, row)
     }
 
+    #[inline(always)]
     fn finish(
         &mut self,
         symbol: &[u8],
-        frame: Frame<Kept>,
+        frame: &Frame<Kept>,
         parts: &mut Vec<Part>,
     ) -> Result<(), Refusal>
-        requires room { HasRoom (cpp_view symbol.now) symbol.now self.old (owed_behind (cpp_view symbol.now) frame parts.old.items) }
-        requires open { IsOpenAt (cpp_view symbol.now) symbol.now self.old frame parts.old.items }
-        requires base { frame.base ≤ length parts.old.items }
-        requires place { frame.place < length symbol.now }
-        ensures closes { ClosesAll (cpp_view symbol.now) symbol.now self.old self.new frame parts.old.items parts.new.items result }
-        ensures adds { OnOk result (Adds (cpp_view symbol.now) self.old self.new (owed_behind (cpp_view symbol.now) frame parts.old.items) 0) }
+        requires room { HasRoom (cpp_view symbol.now) symbol.now self.old (owed_behind (cpp_view symbol.now) frame.now parts.old.items) }
+        requires open { IsOpenAt (cpp_view symbol.now) symbol.now self.old frame.now parts.old.items }
+        requires base { frame.now.base ≤ length parts.old.items }
+        requires place { frame.now.place < length symbol.now }
+        ensures closes { ClosesAll (cpp_view symbol.now) symbol.now self.old self.new frame.now parts.old.items parts.new.items result }
+        ensures adds { OnOk result (Adds (cpp_view symbol.now) self.old self.new (owed_behind (cpp_view symbol.now) frame.now parts.old.items) 0) }
+        ensures few { AddsFew (cpp_view symbol.now) self.old self.new frame.now parts.old.items }
         ensures pays { OnOk result ((at : ℕ) → Pays (cpp_view symbol.now) self.old self.new at at) }
     {
         self.finish_rule(symbol, frame, parts)
     }
 
-    fn ahead(&self, symbol: &[u8], rows: &[Row], frame: Frame<Kept>, held: usize, row: Row) -> usize
+    fn ahead(
+        &self,
+        symbol: &[u8],
+        rows: &[Row],
+        frame: &Frame<Kept>,
+        held: usize,
+        row: Row,
+    ) -> usize
         requires place { row.from < length symbol.now }
-        ensures { IsAhead (cpp_view symbol.now) symbol.now rows.now self.now frame held row result }
+        ensures { IsAhead (cpp_view symbol.now) symbol.now rows.now self.now frame.now held row result }
     {
         self.next_rule(symbol, rows, frame, held, row)
     }
@@ -113,19 +128,20 @@ impl Threading for Linked {
         requires to { row.to ≤ length symbol.now }
         ensures taken { IsTaken (cpp_view symbol.now) symbol.now self.old self.new row result }
         ensures adds { OnOk result (Adds (cpp_view symbol.now) self.old self.new 0 0) }
+        ensures few { OnErr result ((cpp_view symbol.now).size self.new ≤ (cpp_view symbol.now).size self.old) }
         ensures pays { OnOk result ((at : ℕ) → Pays (cpp_view symbol.now) self.old self.new at at) }
     {
         Ok(self.text_at(symbol, row))
     }
 
-    fn ahead_token(&self, symbol: &[u8], frame: Frame<Kept>, held: usize) -> usize
-        ensures { IsAheadToken (cpp_view symbol.now) symbol.now self.now frame held result }
+    fn ahead_token(&self, symbol: &[u8], frame: &Frame<Kept>, held: usize) -> usize
+        ensures { IsAheadToken (cpp_view symbol.now) symbol.now self.now frame.now held result }
     {
         self.next_token(symbol, frame, held)
     }
 
-    fn count(&self, symbol: &[u8], frame: Frame<Kept>, held: usize) -> usize
-        ensures { IsCount (cpp_view symbol.now) symbol.now self.now frame held result }
+    fn count(&self, symbol: &[u8], frame: &Frame<Kept>, held: usize) -> usize
+        ensures { IsCount (cpp_view symbol.now) symbol.now self.now frame.now held result }
     {
         self.count_parts(symbol, frame, held)
     }
@@ -151,6 +167,7 @@ impl Linking for Linked {
         requires end { row.end ≤ length rows.now }
         ensures opens { OpensRoot (cpp_view symbol.now) symbol.now rows.now self.old self.new row result }
         ensures adds { OnOk result (Adds (cpp_view symbol.now) self.old self.new 0 0) }
+        ensures few { OnErr result ((cpp_view symbol.now).size self.new ≤ (cpp_view symbol.now).size self.old) }
         ensures pays { OnOk result (Pays (cpp_view symbol.now) self.old self.new 0 0) }
     {
         match production_of(row.rule) {
@@ -164,55 +181,60 @@ impl Linking for Linked {
         &mut self,
         symbol: &[u8],
         rows: &[Row],
-        frame: Frame<Kept>,
+        frame: &Frame<Kept>,
         parts: &mut Vec<Part>,
         row: Row,
     ) -> Result<Kept, Refusal>
-        requires room { HasRoom (cpp_view symbol.now) symbol.now self.old (owed_behind (cpp_view symbol.now) frame parts.old.items) }
-        requires open { IsOpen (cpp_view symbol.now) symbol.now self.old frame parts.old.items }
-        requires base { frame.base ≤ length parts.old.items }
+        requires room { HasRoom (cpp_view symbol.now) symbol.now self.old (owed_behind (cpp_view symbol.now) frame.now parts.old.items) }
+        requires open { IsOpen (cpp_view symbol.now) symbol.now self.old frame.now parts.old.items }
+        requires base { frame.now.base ≤ length parts.old.items }
         requires place { row.from < length symbol.now }
         requires end { row.end ≤ length rows.now }
-        ensures opens { Opens (cpp_view symbol.now) symbol.now rows.now self.old self.new frame parts.old.items parts.new.items row result }
-        ensures adds { OnOk result (Adds (cpp_view symbol.now) self.old self.new (owed_behind (cpp_view symbol.now) frame parts.old.items) (owed_next (cpp_view symbol.now) frame parts.new.items)) }
+        ensures opens { Opens (cpp_view symbol.now) symbol.now rows.now self.old self.new frame.now parts.old.items parts.new.items row result }
+        ensures adds { OnOk result (Adds (cpp_view symbol.now) self.old self.new (owed_behind (cpp_view symbol.now) frame.now parts.old.items) (owed_next (cpp_view symbol.now) frame.now parts.new.items)) }
+        ensures few { OnErr result (AddsFew (cpp_view symbol.now) self.old self.new frame.now parts.old.items) }
         ensures pays { OnOk result ((at : ℕ) → at ≤ row.from → Pays (cpp_view symbol.now) self.old self.new at row.from) }
     {
         enter_by(self, symbol, rows, frame, parts, row)
     }
 
+    #[inline(always)]
     fn token(
         &mut self,
         symbol: &[u8],
-        frame: Frame<Kept>,
+        frame: &Frame<Kept>,
         parts: &mut Vec<Part>,
         row: Row,
     ) -> Result<(), Refusal>
-        requires room { HasRoom (cpp_view symbol.now) symbol.now self.old (owed_behind (cpp_view symbol.now) frame parts.old.items) }
-        requires open { IsOpen (cpp_view symbol.now) symbol.now self.old frame parts.old.items }
-        requires base { frame.base ≤ length parts.old.items }
+        requires room { HasRoom (cpp_view symbol.now) symbol.now self.old (owed_behind (cpp_view symbol.now) frame.now parts.old.items) }
+        requires open { IsOpen (cpp_view symbol.now) symbol.now self.old frame.now parts.old.items }
+        requires base { frame.now.base ≤ length parts.old.items }
         requires from { row.from ≤ row.to }
         requires to { row.to ≤ length symbol.now }
-        ensures takes { TakesToken (cpp_view symbol.now) symbol.now self.old self.new frame parts.old.items parts.new.items row result }
-        ensures adds { OnOk result (Adds (cpp_view symbol.now) self.old self.new (owed_behind (cpp_view symbol.now) frame parts.old.items) (owed_behind (cpp_view symbol.now) frame parts.new.items)) }
-        ensures pays { OnOk result ((at : ℕ) → at ≤ row.from → (length parts.old.items ≡ frame.base → at ≤ frame.place)
+        ensures takes { TakesToken (cpp_view symbol.now) symbol.now self.old self.new frame.now parts.old.items parts.new.items row result }
+        ensures adds { OnOk result (Adds (cpp_view symbol.now) self.old self.new (owed_behind (cpp_view symbol.now) frame.now parts.old.items) (owed_behind (cpp_view symbol.now) frame.now parts.new.items)) }
+        ensures few { OnErr result (AddsFew (cpp_view symbol.now) self.old self.new frame.now parts.old.items) }
+        ensures pays { OnOk result ((at : ℕ) → at ≤ row.from → (length parts.old.items ≡ frame.now.base → at ≤ frame.now.place)
             → Pays (cpp_view symbol.now) self.old self.new at row.to) }
     {
         token_by(self, symbol, frame, parts, row)?;
         Ok(())
     }
 
+    #[inline(always)]
     fn close(
         &mut self,
         symbol: &[u8],
-        frame: Frame<Kept>,
+        frame: &Frame<Kept>,
         parts: &mut Vec<Part>,
     ) -> Result<(), Refusal>
-        requires room { HasRoom (cpp_view symbol.now) symbol.now self.old (owed_behind (cpp_view symbol.now) frame parts.old.items) }
-        requires open { IsOpen (cpp_view symbol.now) symbol.now self.old frame parts.old.items }
-        requires base { frame.base ≤ length parts.old.items }
-        requires place { frame.place < length symbol.now }
-        ensures closes { ClosesRule (cpp_view symbol.now) symbol.now self.old self.new frame parts.old.items parts.new.items result }
-        ensures adds { OnOk result (Adds (cpp_view symbol.now) self.old self.new (owed_behind (cpp_view symbol.now) frame parts.old.items) 0) }
+        requires room { HasRoom (cpp_view symbol.now) symbol.now self.old (owed_behind (cpp_view symbol.now) frame.now parts.old.items) }
+        requires open { IsOpen (cpp_view symbol.now) symbol.now self.old frame.now parts.old.items }
+        requires base { frame.now.base ≤ length parts.old.items }
+        requires place { frame.now.place < length symbol.now }
+        ensures closes { ClosesRule (cpp_view symbol.now) symbol.now self.old self.new frame.now parts.old.items parts.new.items result }
+        ensures adds { OnOk result (Adds (cpp_view symbol.now) self.old self.new (owed_behind (cpp_view symbol.now) frame.now parts.old.items) 0) }
+        ensures few { AddsFew (cpp_view symbol.now) self.old self.new frame.now parts.old.items }
         ensures pays { OnOk result ((at : ℕ) → Pays (cpp_view symbol.now) self.old self.new at at) }
     {
         close_by(self, symbol, frame, parts)

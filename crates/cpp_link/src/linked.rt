@@ -13,6 +13,7 @@ use crate::part::{Candidate, Kept, Part};
 use cpp_tree::Nodes;
 use std::alloc::Global;
 use sym_core::{Refusal, Span};
+use sym_link::parts::push_part;
 use sym_shape::rule::Row;
 
 /// The nodes of a symbol, the trees that a substitution may name, and the length of the packs under the innermost expansion.
@@ -55,6 +56,7 @@ impl Linked {
     /// # Errors
     ///
     /// `Memory` where the candidates couldn't grow.
+    #[inline(always)]
     pub fn append(
         &mut self,
         symbol: &[u8],
@@ -75,7 +77,7 @@ impl Linked {
             None => Ok(()),
             Some(node) => {
                 let encoding = kept.encoding;
-                self.candidates.push(Candidate { node, encoding })?;
+                push_part(&mut self.candidates, Candidate { node, encoding })?;
                 Ok(())
             }
         }

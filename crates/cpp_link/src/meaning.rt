@@ -13,7 +13,7 @@ ghost use Rattle.cpp_link.specs.declared.part.Meant.{Meant};
 ghost use Rattle.cpp_link.specs.declared.part.Part.{Part};
 ghost use Rattle.cpp_tree.specs.declared.node.Node.{Node};
 ghost use Rattle.cpp_link.specs.Parts.{trees_in, value_of, value_in, values_in, around_of, meant_value, AreThere, IsThere, IsMeantThere, IsPrefixThere, name_of};
-ghost use Rattle.cpp_link.specs.Owed.{made_at_end};
+ghost use Rattle.cpp_link.specs.Closes.{ends_of};
 ghost use Rattle.cpp_link.specs.Making.{IsRare, nodes_of_meant};
 
 use crate::linked::Linked;
@@ -34,10 +34,10 @@ pub fn made(node: Node, listed: bool) -> Meant
 
 /// A tree that is there.
 #[inline(always)]
-fn tree(node: u32, listed: bool) -> Meant
-    ensures { result ≡ Meant.Given (Part.Tree node listed) }
+pub fn tree(node: u32, listed: bool) -> Meant
+    ensures { result ≡ Meant.There node listed }
 {
-    Meant::Given(Part::Tree { node, listed })
+    Meant::There { node, listed }
 }
 
 /// One more item before those of a signature.
@@ -83,7 +83,7 @@ impl Linked {
     /// # Errors
     ///
     /// Those of `meant`.
-    #[tactic(auto, unfolding(cpp_term::specs::Meaning::meaning, cpp_term::specs::Meaning::qualified_by, cpp_term::specs::Meaning::listed_value, cpp_term::specs::Meaning::function_of, cpp_term::specs::Meaning::with_item, cpp_term::specs::Values::tree_of, cpp_term::specs::Values::is_there, crate::specs::Parts::around_of, crate::specs::Parts::meant_value, crate::specs::Parts::value_of, cpp_tree::specs::Nodes::tree_of, cpp_tree::specs::Nodes::piece_of, cpp_tree::specs::Nodes::thunk_of, cpp_tree::specs::Nodes::adjustment_of, crate::specs::Owed::made_at_end, crate::specs::Making::nodes_of_meant))]
+    #[tactic(auto, unfolding(cpp_term::specs::Meaning::meaning, cpp_term::specs::Meaning::qualified_by, cpp_term::specs::Meaning::listed_value, cpp_term::specs::Meaning::function_of, cpp_term::specs::Meaning::with_item, cpp_term::specs::Values::tree_of, cpp_term::specs::Values::is_there, crate::specs::Parts::around_of, crate::specs::Parts::meant_value, crate::specs::Parts::value_of, cpp_tree::specs::Nodes::tree_of, cpp_tree::specs::Nodes::piece_of, cpp_tree::specs::Nodes::thunk_of, cpp_tree::specs::Nodes::adjustment_of, crate::specs::Owed::made_at_end, crate::specs::Closes::ends_of, crate::specs::Making::nodes_of_meant))]
     #[inline(never)]
     fn meant_rare(
         &self,
@@ -101,12 +101,11 @@ impl Linked {
         requires prefix { IsPrefixThere (length self.now.nodes.nodes) (name_of kept) }
         ensures is { IfOk result (λ meant. meant_value symbol.now self.now.nodes meant ≡ meaning production (slice_index symbol.now place) (around_of (trees_in symbol.now self.now.nodes) kept) (values_in symbol.now self.now.nodes parts.now)) }
         ensures there { IfOk result (λ meant. IsMeantThere symbol.now (length self.now.nodes.thunks) (length self.now.nodes.nodes) meant) }
-        ensures nodes { IfOk result (λ meant. nodes_of_meant meant ≤ made_at_end production) }
+        ensures nodes { IfOk result (λ meant. nodes_of_meant meant ≤ ends_of production parts.now) }
         ensures memory { IfErr result (λ e. e ≡ refusals.Memory) }
     {
         let byte = symbol[place as usize];
         Ok(match production {
-            Production::Special => Meant::Given(self.given(symbol, parts, 0)),
             Production::NameWithS => Meant::Given(self.given(symbol, parts, 0)),
             Production::LocalTypePiece => Meant::Given(self.given(symbol, parts, 0)),
             Production::OperatorPiece => Meant::Given(self.given(symbol, parts, 0)),
@@ -120,7 +119,6 @@ impl Linked {
             Production::LiteralWithD => Meant::Given(self.given(symbol, parts, 0)),
             Production::Substitution => Meant::Given(Part::Nothing),
             Production::RefEnd => Meant::Given(Part::Nothing),
-            Production::Mark => Meant::Given(Part::Letter(byte)),
             Production::NonVirtualOffset => Meant::Given(Part::Adjusted(Adjustment::NonVirtual(
                 self.signed(symbol, parts, 0),
             ))),
@@ -169,10 +167,6 @@ impl Linked {
                 internal: true,
                 bytes: self.text(symbol, parts, 0),
             }),
-            Production::SourcePiece => piece(Piece::Source {
-                internal: false,
-                bytes: self.text(symbol, parts, 0),
-            }),
             Production::Abbreviation => made(Node::Abbreviation(byte), true),
             Production::LiteralOperator => piece(Piece::LiteralOperator(self.text(
                 symbol, parts, 0,
@@ -189,7 +183,6 @@ impl Linked {
             Production::OperatorS => piece(Piece::Operator(byte, self.letter(symbol, parts, 0))),
             Production::OperatorI => piece(Piece::Operator(byte, self.letter(symbol, parts, 0))),
             Production::OperatorG => piece(Piece::Operator(byte, self.letter(symbol, parts, 0))),
-            Production::QualifiedPlain => tree(self.tree(symbol, parts, 0), true),
             Production::TypeWithD => tree(self.tree(symbol, parts, 0), true),
             Production::PlainWithD => tree(self.tree(symbol, parts, 0), true),
             Production::ItemWithD => tree(self.tree(symbol, parts, 0), true),
@@ -197,7 +190,6 @@ impl Linked {
             Production::BuiltinWithD => made(Node::BuiltinWithD(byte), true),
             Production::Vendor => made(Node::Vendor(self.text(symbol, parts, 0)), false),
             Production::Complex => made(Node::Complex(self.tree(symbol, parts, 0)), false),
-            Production::Pointer => made(Node::Pointer(self.tree(symbol, parts, 0)), false),
             Production::MemberPointer => made(
                 Node::MemberPointer {
                     class: self.tree(symbol, parts, 0),
@@ -205,7 +197,6 @@ impl Linked {
                 },
                 false,
             ),
-            Production::StdType => made(Node::InStd(self.piece(symbol, parts, 0)), false),
             Production::RestrictType => qualified(
                 true,
                 self.there(symbol, parts, 0),
@@ -218,7 +209,6 @@ impl Linked {
                 self.there(symbol, parts, 0),
                 self.tree(symbol, parts, 1),
             ),
-            Production::ConstType => qualified(false, false, true, self.tree(symbol, parts, 0)),
             Production::PackArgument => made(
                 Node::Cell {
                     first: self.tree(symbol, parts, 0),
@@ -342,7 +332,6 @@ impl Linked {
                 qualifiers: self.qualifiers(symbol, parts, 2),
                 mark: self.reference(symbol, parts, 2),
             },
-            Production::ReferenceType => self.reference_meant(symbol, byte, parts),
             Production::RestLvalue => self.signature_or(
                 symbol,
                 Mark::Lvalue,
@@ -423,6 +412,14 @@ impl Linked {
             Production::NestAbbreviated => unreachable!(),
             Production::TypeWithS => unreachable!(),
             Production::AbbreviatedType => unreachable!(),
+            Production::Special => unreachable!(),
+            Production::StdType => unreachable!(),
+            Production::SourcePiece => unreachable!(),
+            Production::Mark => unreachable!(),
+            Production::QualifiedPlain => unreachable!(),
+            Production::ConstType => unreachable!(),
+            Production::Pointer => unreachable!(),
+            Production::ReferenceType => unreachable!(),
         })
     }
 
@@ -431,7 +428,7 @@ impl Linked {
     /// # Errors
     ///
     /// `Memory` where a number is past 64 bits or a suffix isn't behind its byte, which no parts of a symbol come to.
-    #[tactic(auto, unfolding(cpp_term::specs::Meaning::meaning, cpp_term::specs::Meaning::qualified_by, cpp_term::specs::Meaning::listed_value, cpp_term::specs::Meaning::function_of, cpp_term::specs::Meaning::with_item, cpp_term::specs::Values::tree_of, cpp_term::specs::Values::is_there, crate::specs::Parts::around_of, crate::specs::Parts::meant_value, crate::specs::Parts::value_of, cpp_tree::specs::Nodes::tree_of, cpp_tree::specs::Nodes::piece_of, cpp_tree::specs::Nodes::thunk_of, cpp_tree::specs::Nodes::adjustment_of, crate::specs::Owed::made_at_end, crate::specs::Making::nodes_of_meant))]
+    #[tactic(auto, unfolding(cpp_term::specs::Meaning::meaning, cpp_term::specs::Meaning::qualified_by, cpp_term::specs::Meaning::listed_value, cpp_term::specs::Meaning::function_of, cpp_term::specs::Meaning::with_item, cpp_term::specs::Values::tree_of, cpp_term::specs::Values::is_there, crate::specs::Parts::around_of, crate::specs::Parts::meant_value, crate::specs::Parts::value_of, cpp_tree::specs::Nodes::tree_of, cpp_tree::specs::Nodes::piece_of, cpp_tree::specs::Nodes::thunk_of, cpp_tree::specs::Nodes::adjustment_of, crate::specs::Owed::made_at_end, crate::specs::Closes::ends_of, crate::specs::Making::nodes_of_meant))]
     #[inline(always)]
     pub fn meant(
         &self,
@@ -448,7 +445,7 @@ impl Linked {
         requires prefix { IsPrefixThere (length self.now.nodes.nodes) (name_of kept) }
         ensures is { IfOk result (λ meant. meant_value symbol.now self.now.nodes meant ≡ meaning production (slice_index symbol.now place) (around_of (trees_in symbol.now self.now.nodes) kept) (values_in symbol.now self.now.nodes parts.now)) }
         ensures there { IfOk result (λ meant. IsMeantThere symbol.now (length self.now.nodes.thunks) (length self.now.nodes.nodes) meant) }
-        ensures nodes { IfOk result (λ meant. nodes_of_meant meant ≤ made_at_end production) }
+        ensures nodes { IfOk result (λ meant. nodes_of_meant meant ≤ ends_of production parts.now) }
         ensures memory { IfErr result (λ e. e ≡ refusals.Memory) }
     {
         let byte = symbol[place as usize];
@@ -496,6 +493,17 @@ impl Linked {
             }),
             Production::Encoding => self.encoding(symbol, parts),
             Production::NestEnd => self.nest_end(symbol, kept.prefix()),
+            Production::ReferenceType => self.reference_meant(symbol, byte, parts),
+            Production::Pointer => made(Node::Pointer(self.tree(symbol, parts, 0)), false),
+            Production::ConstType => qualified(false, false, true, self.tree(symbol, parts, 0)),
+            Production::QualifiedPlain => tree(self.tree(symbol, parts, 0), true),
+            Production::Mark => Meant::Given(Part::Letter(byte)),
+            Production::SourcePiece => piece(Piece::Source {
+                internal: false,
+                bytes: self.text(symbol, parts, 0),
+            }),
+            Production::StdType => made(Node::InStd(self.piece(symbol, parts, 0)), false),
+            Production::Special => Meant::Given(self.given(symbol, parts, 0)),
             _ => return self.meant_rare(symbol, production, place, kept, parts),
         })
     }

@@ -35,6 +35,10 @@ pub enum Part {
 #[derive(Clone, Copy)]
 pub enum Meant {
     Given(Part),
+    There {
+        node: u32,
+        listed: bool,
+    },
     Made {
         node: Node,
         listed: bool,
@@ -170,17 +174,17 @@ impl Kept {
         ensures there { (n : ℕ) → IsKeptThere n self → IsKeptThere n result }
         ensures packs { packs_of result ≡ packs }
     {
+        let mut kept = self;
         match packs {
-            Some(pack_length) => Kept {
-                pack_length,
-                has_packs: true,
-                ..self
-            },
-            None => Kept {
-                has_packs: false,
-                ..self
-            },
+            Some(pack_length) => {
+                kept.pack_length = pack_length;
+                kept.has_packs = true;
+            }
+            None => {
+                kept.has_packs = false;
+            }
         }
+        kept
     }
 }
 
@@ -200,10 +204,11 @@ pub enum Step {
         then: Kept,
         packs: Option<u32>,
     },
-    /// The name that the first part is stands before the next part.
+    /// A node that is there is what the first part is now. It may stand before the next part as the name so far.
     Named {
         node: u32,
         listed: bool,
+        is_name: bool,
     },
     /// A node is made, which the first part is now. It may stand before the next part as the name so far, and become a candidate.
     Made {

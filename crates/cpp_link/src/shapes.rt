@@ -12,11 +12,12 @@ ghost use Rattle.cpp_grammar.specs.Values.{local_number};
 ghost use Rattle.cpp_tree.specs.Nodes as nodes;
 ghost use Rattle.cpp_tree.specs.declared.node.Thunk as thunks;
 ghost use Rattle.cpp_tree.specs.Nodes.{over, tree_at, IsTable, IsSpan, IsPieceBelow, IsBelow};
+ghost use Rattle.cpp_link.specs.Closes.{name_closes};
 ghost use Rattle.cpp_link.specs.Making.{nodes_of_meant};
 ghost use Rattle.cpp_link.specs.Parts.{trees_in, tree_of_node, value_of, value_in, values_in, prefix_of, meant_value, IsThere, AreThere, IsMeantThere, IsPrefixThere};
 
 use crate::linked::Linked;
-use crate::meaning::made;
+use crate::meaning::{made, tree};
 use crate::numbers::local_number;
 use crate::part::{Meant, Part, Prefix};
 use crate::values::part;
@@ -72,13 +73,13 @@ impl Linked {
 
     /// A name, with arguments where there are some.
     #[tactic(auto, unfolding(cpp_term::specs::Between::applied, crate::specs::Parts::meant_value, crate::specs::Parts::value_of, cpp_tree::specs::Nodes::tree_of, crate::specs::Making::nodes_of_meant))]
-    #[inline(always)]
     pub fn applied(&self, symbol: &[u8], parts: &[Part], listed: bool) -> Meant
         requires table { IsTable (over symbol.now self.now.nodes) }
         requires there { AreThere symbol.now (length self.now.nodes.nodes) parts.now }
         ensures is { meant_value symbol.now self.now.nodes result ≡ values.tree (applied (tree_of (part (values_in symbol.now self.now.nodes parts.now) 0)) (part (values_in symbol.now self.now.nodes parts.now) 1)) (listed && not (is_there (part (values_in symbol.now self.now.nodes parts.now) 1))) }
         ensures there { IsMeantThere symbol.now (length self.now.nodes.thunks) (length self.now.nodes.nodes) result }
         ensures nodes { nodes_of_meant result ≤ 1 }
+        ensures named { nodes_of_meant result ≤ name_closes parts.now }
     {
         let name = self.tree(symbol, parts, 0);
         if self.there(symbol, parts, 1) {
@@ -91,7 +92,7 @@ impl Linked {
                 false,
             );
         }
-        Meant::Given(Part::Tree { node: name, listed })
+        tree(name, listed)
     }
 
     /// What the end of a nested name stands for: the name so far.
@@ -104,11 +105,8 @@ impl Linked {
         ensures nodes { nodes_of_meant result ≡ 0 }
     {
         match prefix {
-            Prefix::Outermost => Meant::Given(Part::Tree {
-                node: ABSENT,
-                listed: true,
-            }),
-            Prefix::Behind { node, listed } => Meant::Given(Part::Tree { node, listed }),
+            Prefix::Outermost => tree(ABSENT, true),
+            Prefix::Behind { node, listed } => tree(node, listed),
         }
     }
 

@@ -10,17 +10,20 @@ ghost use Rattle.cpp_term.specs.Between.{between, no_items, in_signature, under_
 ghost use Rattle.cpp_term.specs.References.{with_prefix, with_type, with_unqualified};
 ghost use Rattle.cpp_tree.specs.Nodes as nodes;
 ghost use Rattle.cpp_tree.specs.Nodes.{over, tree_at, bytes_at, IsWithin, IsPieceBelow, arguments_are, IsArgumentsBelow, IsTable};
+ghost use Rattle.cpp_link.specs.declared.part.Kept.{Kept};
+ghost use Rattle.cpp_link.specs.declared.part.Part.TheVariants as variants;
 ghost use Rattle.cpp_link.specs.declared.part.Step.{Step};
 ghost use Rattle.cpp_link.specs.Parts.{trees_in, value_in, values_in, prefix_of, name_of, around_of, IsThere, AreThere, IsPrefixThere, IsKeptThere, IsStepThere};
 ghost use Rattle.cpp_link.specs.Reads.{with_candidate, goes_on};
-ghost use Rattle.cpp_link.specs.Stepping.{IsStepOf};
+ghost use Rattle.cpp_link.specs.Stepping.{IsStepOf, nodes_of_step};
+ghost use Rattle.cpp_link.specs.Closes.{pack_makes};
 
 use crate::linked::Linked;
 use crate::part::{Kept, Naming, Part, Scope, Step};
 use crate::values::{is_listed, is_there, letter_of, list_of, node_of, piece_of, text_of};
 use cpp_grammar::production::Production;
 use cpp_tree::node::{Node, Piece};
-use cpp_tree::nodes::ABSENT;
+use cpp_tree::nodes::{ABSENT, NO_ELEMENTS};
 use sym_core::{Refusal, Span};
 
 /// The candidate that the name so far becomes.
@@ -45,21 +48,16 @@ impl Linked {
         ensures around { (ts : List term.Term) → around_of ts result ≡ record { scope = arguments_are ts scope; encoding = place; in_lambda = false; in_expansion = false; prefix = values.outermost } }
         ensures there { IsKeptThere (length self.now.nodes.nodes) result }
     {
-        let outside = Kept {
-            encoding: place,
-            scope: Scope::Nothing,
-            naming: Naming::Outermost,
-            in_expansion: false,
-            ..kept
-        };
-        match scope {
-            Some(arguments) => Kept {
-                arguments,
-                scope: Scope::Arguments,
-                ..outside
-            },
-            None => outside,
+        let mut then = kept;
+        then.encoding = place;
+        then.scope = Scope::Nothing;
+        then.naming = Naming::Outermost;
+        then.in_expansion = false;
+        if let Some(arguments) = scope {
+            then.arguments = arguments;
+            then.scope = Scope::Arguments;
         }
+        then
     }
 
     /// Behind this name.
@@ -71,18 +69,14 @@ impl Linked {
         ensures around { (ts : List term.Term) → around_of ts result ≡ after (tree_at ts node) listed (around_of ts kept) }
         ensures there { IsKeptThere (length self.now.nodes.nodes) result }
     {
-        if listed {
-            return Kept {
-                name: node,
-                naming: Naming::Listed,
-                ..kept
-            };
-        }
-        Kept {
-            name: node,
-            naming: Naming::Unlisted,
-            ..kept
-        }
+        let mut then = kept;
+        then.name = node;
+        then.naming = if listed {
+            Naming::Listed
+        } else {
+            Naming::Unlisted
+        };
+        then
     }
 
     /// In the signature of a lambda.
@@ -92,11 +86,10 @@ impl Linked {
         ensures around { (ts : List term.Term) → around_of ts result ≡ in_signature (around_of ts kept) }
         ensures there { IsKeptThere (length self.now.nodes.nodes) result }
     {
-        Kept {
-            scope: Scope::Lambda,
-            naming: Naming::Outermost,
-            ..kept
-        }
+        let mut then = kept;
+        then.scope = Scope::Lambda;
+        then.naming = Naming::Outermost;
+        then
     }
 
     /// Under an expansion.
@@ -107,10 +100,9 @@ impl Linked {
         ensures around { (ts : List term.Term) → around_of ts result ≡ under_expansion (around_of ts kept) }
         ensures there { IsKeptThere (length self.now.nodes.nodes) result }
     {
-        Kept {
-            in_expansion: true,
-            ..kept
-        }
+        let mut then = kept;
+        then.in_expansion = true;
+        then
     }
 
     /// With no name so far.
@@ -121,10 +113,9 @@ impl Linked {
         ensures around { (ts : List term.Term) → around_of ts result ≡ inside (around_of ts kept) }
         ensures there { IsKeptThere (length self.now.nodes.nodes) result }
     {
-        Kept {
-            naming: Naming::Outermost,
-            ..kept
-        }
+        let mut then = kept;
+        then.naming = Naming::Outermost;
+        then
     }
 
     /// Nothing is done, and this surrounds the next part.
@@ -165,6 +156,7 @@ impl Linked {
     }
 
     /// The candidate that the name so far becomes.
+    #[inline(always)]
     fn prefix_candidate(&self, symbol: &[u8], kept: Kept) -> Option<u32>
         requires kept { IsKeptThere (length self.now.nodes.nodes) kept }
         ensures is { (state : State) → with_prefix (around_of (trees_in symbol.now self.now.nodes) kept) state ≡ with_candidate (around_of (trees_in symbol.now self.now.nodes) kept) (trees_in symbol.now self.now.nodes) result state }
@@ -189,6 +181,7 @@ impl Linked {
 
     /// The node of the name so far.
     #[tactic(auto, unfolding(crate::specs::Parts::prefix_in, crate::specs::Parts::prefix_of, cpp_term::specs::Values::prefix_tree))]
+    #[inline(always)]
     fn prefix_node(&self, symbol: &[u8], kept: Kept) -> u32
         requires table { IsTable (over symbol.now self.now.nodes) }
         requires kept { IsKeptThere (length self.now.nodes.nodes) kept }
@@ -204,6 +197,7 @@ impl Linked {
 
     /// What is done before the first part.
     #[tactic(auto, unfolding(cpp_term::specs::Between::between, cpp_term::specs::Between::in_name, cpp_term::specs::Between::in_types, cpp_term::specs::Between::in_signature, cpp_term::specs::Between::under_expansion, cpp_term::specs::Between::after, cpp_term::specs::Between::inside, cpp_term::specs::Between::applied, cpp_term::specs::Between::piece_so_far, cpp_term::specs::Between::named_so_far, cpp_term::specs::Between::listed_so_far, cpp_term::specs::Values::tree_of, crate::specs::Parts::around_of, crate::specs::Parts::prefix_of, cpp_tree::specs::Nodes::arguments_are, cpp_tree::specs::Nodes::tree_of, cpp_tree::specs::Nodes::piece_of, crate::specs::Reads::goes_on, crate::specs::Reads::behind_first, crate::specs::Reads::named_if, crate::specs::Reads::appended_if, crate::specs::Reads::with_candidate))]
+    #[inline(always)]
     fn step_first(&self, symbol: &[u8], production: Production, place: u32, kept: Kept) -> Step
         requires table { IsTable (over symbol.now self.now.nodes) }
         requires kept { IsKeptThere (length self.now.nodes.nodes) kept }
@@ -271,8 +265,37 @@ impl Linked {
         text_of(part)
     }
 
-    /// What is done before the second part, of a production that is no parameter.
+    /// A pack of the elements that a part is: that of none is there.
+    #[tactic(auto, unfolding(crate::specs::Closes::pack_makes, cpp_term::specs::Between::no_items, cpp_term::specs::Values::tree_of, crate::specs::Parts::value_of, cpp_tree::specs::Nodes::tree_of, crate::specs::Reads::goes_on, crate::specs::Reads::behind_first, crate::specs::Reads::named_if, crate::specs::Reads::appended_if))]
+    #[inline(always)]
+    fn pack(&self, symbol: &[u8], elements: Part) -> Step
+        requires table { IsTable (over symbol.now self.now.nodes) }
+        requires there { IsThere symbol.now (length self.now.nodes.nodes) elements }
+        ensures is { (kept : Kept) (v : values.Value) (cs : List values.Candidate) → goes_on symbol.now self.now.nodes kept (v ∷ []) cs self.now.packs result
+            ≡ Ok (record { values = values.tree (term.pack (no_items (value_in symbol.now self.now.nodes elements))) true ∷ []; context = around_of (trees_in symbol.now self.now.nodes) kept; state = record { candidates = cs; packs = self.now.packs } }) }
+        ensures there { IsStepThere symbol.now (length self.now.nodes.thunks) (length self.now.nodes.nodes) result }
+        ensures made { nodes_of_step result ≡ pack_makes elements }
+        ensures of { IsStepOf productions.PackArgument 1 result }
+    {
+        match elements {
+            Part::Nothing => Step::Named {
+                node: NO_ELEMENTS,
+                listed: true,
+                is_name: false,
+            },
+            _ => Step::Made {
+                node: Node::Pack(self.list_in(symbol, elements)),
+                listed: true,
+                is_name: false,
+                is_candidate: false,
+                packs: self.packs,
+            },
+        }
+    }
+
+    /// What is done before the second part, of a production that is no parameter and no pack.
     #[tactic(auto, unfolding(cpp_term::specs::Between::between, cpp_term::specs::Between::in_name, cpp_term::specs::Between::in_types, cpp_term::specs::Between::in_signature, cpp_term::specs::Between::under_expansion, cpp_term::specs::Between::after, cpp_term::specs::Between::inside, cpp_term::specs::Between::applied, cpp_term::specs::Between::piece_so_far, cpp_term::specs::Between::named_so_far, cpp_term::specs::Between::listed_so_far, cpp_term::specs::Values::tree_of, crate::specs::Parts::around_of, crate::specs::Parts::prefix_of, cpp_tree::specs::Nodes::arguments_are, cpp_tree::specs::Nodes::tree_of, cpp_tree::specs::Nodes::piece_of, crate::specs::Reads::goes_on, crate::specs::Reads::behind_first, crate::specs::Reads::named_if, crate::specs::Reads::appended_if, crate::specs::Reads::with_candidate, crate::specs::Owed::made_before))]
+    #[inline(always)]
     fn step_second(
         &self,
         symbol: &[u8],
@@ -286,6 +309,7 @@ impl Linked {
         requires first { IsThere symbol.now (length self.now.nodes.nodes) first }
         requires parameter { production ≡ productions.Parameter → ⊥ }
         requires nest { production ≡ productions.NestParameter → ⊥ }
+        requires pack { production ≡ productions.PackArgument → ⊥ }
         ensures is { (cs : List values.Candidate) → between production (around_of (trees_in symbol.now self.now.nodes) kept) place (value_in symbol.now self.now.nodes first ∷ []) (record { candidates = cs; packs = self.now.packs }) ≡ goes_on symbol.now self.now.nodes kept (value_in symbol.now self.now.nodes first ∷ []) cs self.now.packs result }
         ensures there { IsStepThere symbol.now (length self.now.nodes.thunks) (length self.now.nodes.nodes) result }
         ensures of { IsStepOf production 1 result }
@@ -375,10 +399,12 @@ impl Linked {
             Production::AbbreviatedName => Step::Named {
                 node: self.node(symbol, first),
                 listed: true,
+                is_name: true,
             },
             Production::NestAbbreviated => Step::Named {
                 node: self.node(symbol, first),
                 listed: true,
+                is_name: true,
             },
             Production::NestNext => self.go(self.behind_name(
                 kept,
@@ -390,13 +416,6 @@ impl Linked {
                 self.node(symbol, first),
                 is_listed(first),
             )),
-            Production::PackArgument => Step::Made {
-                node: Node::Pack(self.list_in(symbol, first)),
-                listed: true,
-                is_name: false,
-                is_candidate: false,
-                packs: self.packs,
-            },
             Production::LvalueItem => Step::Made {
                 node: Node::Lvalue(self.node(symbol, first)),
                 listed: true,
@@ -474,6 +493,7 @@ impl Linked {
                 Step::Named {
                     node: name,
                     listed: false,
+                    is_name: true,
                 }
             }
             Production::NestArguments => {
@@ -597,6 +617,7 @@ impl Linked {
     ///
     /// Those of a parameter.
     #[tactic(auto, unfolding(cpp_term::specs::Between::between, cpp_term::specs::Between::index_of))]
+    #[inline(always)]
     fn step_behind_first(
         &self,
         symbol: &[u8],
@@ -613,6 +634,7 @@ impl Linked {
         ensures refused { IfErr result (λ e. (cs : List values.Candidate) → Fails e (between production (around_of (trees_in symbol.now self.now.nodes) kept) place (value_in symbol.now self.now.nodes first ∷ []) (record { candidates = cs; packs = self.now.packs }))) }
         ensures there { IfOk result (λ step. IsStepThere symbol.now (length self.now.nodes.thunks) (length self.now.nodes.nodes) step) }
         ensures of { IfOk result (λ step. IsStepOf production 1 step) }
+        ensures pack { production ≡ productions.PackArgument → IfOk result (λ step. nodes_of_step step ≡ pack_makes first) }
     {
         match production {
             Production::Parameter => {
@@ -623,6 +645,7 @@ impl Linked {
                 let digits = self.text_in(symbol, first);
                 self.parameter(symbol, kept, place, digits)
             }
+            Production::PackArgument => Ok(self.pack(symbol, first)),
             _ => Ok(self.step_second(symbol, production, place, kept, first)),
         }
     }
@@ -632,6 +655,7 @@ impl Linked {
     /// # Errors
     ///
     /// Those of a parameter.
+    #[inline(always)]
     pub fn step(
         &self,
         symbol: &[u8],
@@ -648,6 +672,7 @@ impl Linked {
         ensures refused { IfErr result (λ e. (cs : List values.Candidate) → Fails e (between production (around_of (trees_in symbol.now self.now.nodes) kept) place (values_in symbol.now self.now.nodes parts.now) (record { candidates = cs; packs = self.now.packs }))) }
         ensures there { IfOk result (λ step. IsStepThere symbol.now (length self.now.nodes.thunks) (length self.now.nodes.nodes) step) }
         ensures of { IfOk result (λ step. IsStepOf production (length parts.now) step) }
+        ensures pack { production ≡ productions.PackArgument → parts.now ≡ variants.Nothing ∷ [] → IfOk result (λ step. nodes_of_step step ≡ 0) }
     {
         if parts.is_empty() {
             return Ok(self.step_first(symbol, production, place, kept));

@@ -1,11 +1,12 @@
 // The values of parts: each accessor has a value for each part.
 
-ghost use Rattle.std.specs.Prelude.{◌≡◌, ℕ, ◌<◌, List, [], length};
+ghost use Rattle.std.specs.Prelude.{◌≡◌, ℕ, ◌<◌, List, [], length, get_or};
 ghost use Rattle.cpp_term.specs.Term.{Term, absent, nil};
 ghost use Rattle.cpp_term.specs.Values.{tree_of, piece_of, is_listed, qualifiers_of, ref_of, letter_of, is_there, mark_of, text_of, signed_of, adjustment_of, part};
 ghost use Rattle.cpp_term.specs.Between.{no_items};
 ghost use Rattle.cpp_tree.specs.Nodes as nodes;
 ghost use Rattle.cpp_tree.specs.Nodes.{over, tree_at, bytes_at, IsWithin, IsPieceBelow, IsAdjustmentWithin, IsTable};
+ghost use Rattle.cpp_link.specs.declared.part.Part.TheVariants as variants;
 ghost use Rattle.cpp_link.specs.Parts.{trees_in, value_of, value_in, values_of, values_in, IsThere, AreThere};
 
 use crate::linked::Linked;
@@ -26,6 +27,7 @@ const NO_NUMBER: Signed = Signed {
 /// A part of a rule by its number.
 #[inline(always)]
 pub fn part(parts: &[Part], k: usize) -> Part
+    ensures at { result ≡ get_or parts.now k variants.Nothing }
     ensures value { (s : List ℕ) (ts : List Term) → value_of s ts result ≡ part (values_of s ts parts.now) k }
     ensures there { (s : List ℕ) (n : ℕ) → AreThere s n parts.now → IsThere s n result }
 {
@@ -224,6 +226,7 @@ impl Linked {
     /// The part with this number.
     #[inline(always)]
     pub fn given(&self, symbol: &[u8], parts: &[Part], k: usize) -> Part
+        ensures at { result ≡ get_or parts.now k variants.Nothing }
         ensures is { value_in symbol.now self.now.nodes result ≡ (part (values_in symbol.now self.now.nodes parts.now) k) }
         ensures there { AreThere symbol.now (length self.now.nodes.nodes) parts.now → IsThere symbol.now (length self.now.nodes.nodes) result }
     {
@@ -231,7 +234,6 @@ impl Linked {
     }
 
     /// The piece of a name that the part with this number is.
-    #[inline(always)]
     pub fn piece(&self, symbol: &[u8], parts: &[Part], k: usize) -> Piece
         ensures is { nodes.piece_of symbol.now (trees_in symbol.now self.now.nodes) result ≡ piece_of (part (values_in symbol.now self.now.nodes parts.now) k) }
         ensures there { AreThere symbol.now (length self.now.nodes.nodes) parts.now → IsPieceBelow symbol.now (length self.now.nodes.nodes) result }

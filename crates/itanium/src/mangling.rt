@@ -40,6 +40,8 @@ impl Mangling for Abi {
     ghost use Rattle.cpp_grammar.specs.Mangled.{cpp_mangled};
     ghost use Rattle.cpp_grammar.specs.Term.{Term};
     ghost use Rattle.cpp_layout.specs.Layout.{whole_of};
+    ghost use Rattle.itanium.specs.Counting as counting;
+    ghost use Rattle.itanium.specs.Counting.{cpp_counts, node_count};
     ghost use Rattle.itanium.specs.Failing.{cpp_fails};
 
     type Linked = Linked;
@@ -57,6 +59,10 @@ impl Mangling for Abi {
     ghost rows_of = { λ y. y.rows };
 
     ghost steps_of = { λ y. y.steps };
+
+    ghost count_of = { node_count };
+
+    ghost first_nodes = { counting.first_nodes };
 
     fn grammar() -> Abi {
         Abi
@@ -107,6 +113,8 @@ impl Mangling for Abi {
     }
 
     ghost table_is = { refl };
+
+    ghost counts_nodes = { cpp_counts };
 
     ghost view_table = { λ s. refl };
 

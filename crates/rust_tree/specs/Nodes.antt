@@ -21,10 +21,12 @@ use Rattle.rust_tree.specs.declared.node.Constant.{Constant}
 use Rattle.rust_tree.specs.declared.node.Whole.{Whole}
 use Rattle.rust_tree.specs.declared.node.Entry.{Entry}
 
--- a table: its nodes, each with what it needs, and the text list
+-- a table: its nodes, each with what it needs, and the text list; and how many nodes and bytes fit without taking memory
 pub record Table : Type 0 where
   pub nodes : List Entry
   pub text : List ℕ
+  pub node_room : ℕ
+  pub text_room : ℕ
 
 -- ## The tree of a node, over those of earlier nodes. What isn't there is an empty tree.
 

@@ -1,14 +1,14 @@
 // A table of nodes, and the text list.
 #![tactic(auto)]
 
-ghost use Rattle.std.specs.Prelude.{◌≡◌, ℕ, ◌+◌, ◌*◌, ◌<◌, ◌≤◌, ◌^◌, ◌++◌, [], List, length, slice_get, Some, true, IfOk, IfErr, OnErr};
+ghost use Rattle.std.specs.Prelude.{◌≡◌, ℕ, ◌+◌, ◌*◌, ◌<◌, ◌≤◌, ◌^◌, ◌++◌, [], List, length, slice_get, Some, true, IfOk, IfErr, OnErr, ◌⊎◌};
 ghost use Rattle.rust_tree.specs.Nodes.{Table, IsTable, Makes, Grows, trees, IsWithin, bytes_at};
 ghost use Rattle.rust_tree.specs.Needs.{need_at, path_needs, arguments_need, type_needs, types_need, bounds_need, bindings_need, symbol_needs, needs};
 ghost use Rattle.rust_tree.specs.Tree.{Tree, need_of_tree};
 ghost use Rattle.sym_core.specs.declared.Refusal.{Refusal};
 ghost use Rattle.sym_core.specs.declared.NameClass.{NameClass};
 ghost use Rattle.sym_core.specs.Token.{AreNameBytes};
-ghost use Rattle.sym_core.specs.Printed.{printed_name, signed_text};
+ghost use Rattle.sym_core.specs.Printed.{printed_name, signed_text, IsDecoded};
 
 use crate::node::{Arguments, Bindings, Bounds, Entry, Node, Path, Ty, Types, Whole};
 use std::alloc::Global;
@@ -23,11 +23,12 @@ pub struct Nodes {
 }
 
 impl Model for Nodes {
+    ghost use Rattle.std.specs.Prelude.{vec_capacity};
     ghost use Rattle.rust_tree.specs.Nodes.{Table};
 
     ghost Value = { Table };
 
-    ghost view = { λ t. record { nodes = t.entries.items; text = t.text.items } };
+    ghost view = { λ t. record { nodes = t.entries.items; text = t.text.items; node_room = vec_capacity t.entries; text_room = vec_capacity t.text } };
 }
 
 impl Nodes {
@@ -247,6 +248,9 @@ impl Nodes {
         ensures text { self.new.text ≡ self.old.text }
         ensures same { OnErr result (self.new ≡ self.old) }
         ensures memory { IfErr result (λ r. r ≡ Refusal.Memory) }
+        ensures full { OnErr result (self.old.node_room < length self.old.nodes + 1) }
+        ensures node_room { self.old.node_room ≤ self.new.node_room }
+        ensures text_room { self.new.text_room ≡ self.old.text_room }
     {
         let number = self.entries.len() as u32;
         let need = self.node_need(&node);
@@ -276,6 +280,9 @@ impl Nodes {
         ensures stays { (s : List ℕ) → IsTable s self.old → IsTable s self.new }
         ensures same { OnErr result (self.new ≡ self.old) }
         ensures memory { IfErr result (λ r. r ≡ Refusal.Memory) }
+        ensures full { OnErr result (IsDecoded true bytes.now ⊎ (self.old.text_room < length self.old.text + length (printed_name true bytes.now))) }
+        ensures node_room { self.new.node_room ≡ self.old.node_room }
+        ensures text_room { self.old.text_room ≤ self.new.text_room }
     {
         let span = sym_core::push_name(alloc, bytes, true, &mut self.text)?;
         Ok(span)
@@ -298,6 +305,9 @@ impl Nodes {
         ensures stays { (s : List ℕ) → IsTable s self.old → IsTable s self.new }
         ensures same { OnErr result (self.new ≡ self.old) }
         ensures memory { IfErr result (λ r. r ≡ Refusal.Memory) }
+        ensures full { OnErr result (self.old.text_room < length self.old.text + length (signed_text minus value)) }
+        ensures node_room { self.new.node_room ≡ self.old.node_room }
+        ensures text_room { self.old.text_room ≤ self.new.text_room }
     {
         let span = sym_core::push_decimal(alloc, value, minus, &mut self.text)?;
         Ok(span)
@@ -307,6 +317,8 @@ impl Nodes {
     pub fn clear(&mut self)
         ensures nodes { self.new.nodes ≡ [] }
         ensures text { self.new.text ≡ [] }
+        ensures node_room { self.new.node_room ≡ self.old.node_room }
+        ensures text_room { self.new.text_room ≡ self.old.text_room }
     {
         self.entries.clear();
         self.text.clear();

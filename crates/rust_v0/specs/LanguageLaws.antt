@@ -67,4 +67,7 @@ v0_laws s = record {
   paid_more = λ linked few more le paid. record { begun = paid.begun; text = omega (arith, le, paid.text); zero = paid.zero };
   keeps_count = λ rule known state. refl;
   few = λ tree is rows. omega (arith, rows, cost_rows (λ number held. 1) (λ number. omega arith) tree);
+  two = λ number held. omega arith;
+  closing = λ number own. omega arith;
+  two_at_once = λ s around held from left rule taken parts rest stands next at_once. record { closed = λ own counted. omega arith; refused = omega arith };
 }

@@ -1,5 +1,5 @@
 -- Rust's mangling: what its symbols read as, and their answers.
-use Rattle.std.proofs.Common.{ap, ℕ, List, Result}
+use Rattle.std.proofs.Common.{ap, arith, ℕ, List, length, Result}
 use Rattle.std.specs.Prelude.{slice_get}
 use Rattle.sym_core.specs.declared.refusal.Refusal.{Refusal}
 use Rattle.sym_core.specs.declared.refusal.Refusal.TheVariants as refusals
@@ -11,6 +11,7 @@ use Rattle.sym_link.specs.Following.{meaning_of}
 use Rattle.sym_link.specs.Reading.{◌>>=◌}
 use Rattle.sym_demangle.specs.Mangled as demangle
 use Rattle.sym_demangle.specs.Mangled.{Mangled}
+use Rattle.sym_demangle.specs.Standing.{CountsNodes}
 use Rattle.rust_tree.specs.Symbol as tree
 use Rattle.rust_tree.specs.Layout.{ReadSymbol, trees_of}
 use Rattle.rust_tree.specs.Nodes.{symbol_in}
@@ -18,7 +19,8 @@ use Rattle.rust_tree.specs.Shown.{symbol_parts}
 use Rattle.rust_v0.specs.Rules.{v0_table}
 use Rattle.rust_v0.specs.TableLaws.{lawful}
 use Rattle.rust_v0.specs.Unfold.{unfolded, symbol_of}
-use Rattle.rust_v0.specs.RustNodes.{v0_view}
+use Rattle.rust_v0.specs.declared.nodes.RustNodes.{RustNodes}
+use Rattle.rust_v0.specs.RustNodes.{v0_view, first_nodes}
 
 abbrev pub v0_mangled : Mangled tree.Symbol
 v0_mangled = record { table = v0_table; unfolded = unfolded; shown = symbol_parts; lawful = lawful }
@@ -46,3 +48,10 @@ fails_behind e m k fails = ap (λ r. r >>= k) fails
 
 pub v0_fails : (shape : Tree) (e : Refusal) → IsTree v0_table (Kind 0) shape → Fails e (meaning_of (v0_view (spell shape)) shape) → Fails e (unfolded shape)
 v0_fails shape e is fails = fails_behind e (meaning_of (v0_view (spell shape)) shape) (λ whole. symbol_of whole.value) fails
+
+-- the nodes of a table, and those that it has before the first row
+abbrev pub node_count : RustNodes → ℕ
+node_count linked = length linked.nodes.nodes
+
+pub v0_counts : (s : List ℕ) → CountsNodes (v0_view s) node_count first_nodes
+v0_counts s = record { few = omega arith; most = λ nodes. omega arith; least = λ nodes bytes paid. omega (arith, paid.begun) }

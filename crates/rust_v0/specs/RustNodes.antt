@@ -71,6 +71,7 @@ v0_view s = record {
   Grows = GoesOn;
   size = λ linked. length linked.nodes.nodes - first_nodes;
   owes = λ number held. 1;
+  closes = λ number own. 1;
   most = λ bytes. 4 * bytes + 4;
   IsPaid = IsPaid;
 }

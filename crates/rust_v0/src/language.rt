@@ -2,10 +2,10 @@
 // closes.
 
 ghost use Rattle.std.specs.Bool.{OnTrue, OnFalse};
-ghost use Rattle.std.specs.Prelude.{◌≡◌, ℕ, ◌<◌, ◌≤◌, ◌∷◌, [], List, length, drop, take, slice_index, Some, true, OnOk};
+ghost use Rattle.std.specs.Prelude.{◌≡◌, ℕ, ◌<◌, ◌≤◌, ◌∷◌, [], List, length, drop, take, slice_index, Some, true, OnOk, OnErr};
 ghost use Rattle.sym_core.specs.Number.{FitsSymbol};
 ghost use Rattle.sym_core.specs.declared.refusal.Refusal.TheVariants as refusals;
-ghost use Rattle.sym_link.specs.Linking.{HasRoom, TakesToken, ClosesRule, Adds, Pays, owed_behind, owed_next};
+ghost use Rattle.sym_link.specs.Linking.{HasRoom, TakesToken, ClosesRule, Adds, AddsFew, Pays, owed_behind, owed_next};
 ghost use Rattle.rust_tree.specs.declared.node.Name.{Name};
 ghost use Rattle.rust_v0.specs.declared.part.Part.{Part};
 ghost use Rattle.rust_v0.specs.RustNodes.{v0_view};
@@ -123,6 +123,7 @@ impl RustNodes {
         requires to { row.to ≤ length symbol.now }
         ensures takes { TakesToken (v0_view symbol.now) symbol.now self.old self.new frame parts.old.items parts.new.items row result }
         ensures adds { OnOk result (Adds (v0_view symbol.now) self.old self.new (owed_behind (v0_view symbol.now) frame parts.old.items) (owed_behind (v0_view symbol.now) frame parts.new.items)) }
+        ensures few { OnErr result (AddsFew (v0_view symbol.now) self.old self.new frame parts.old.items) }
         ensures pays { OnOk result ((at : ℕ) → at ≤ row.from → (length parts.old.items ≡ frame.base → at ≤ frame.place)
             → Pays (v0_view symbol.now) self.old self.new at row.to) }
     {
@@ -150,6 +151,7 @@ impl RustNodes {
         requires to { row.to ≤ length symbol.now }
         ensures takes { TakesToken (v0_view symbol.now) symbol.now self.old self.new frame parts.old.items parts.new.items row result }
         ensures adds { OnOk result (Adds (v0_view symbol.now) self.old self.new (owed_behind (v0_view symbol.now) frame parts.old.items) (owed_behind (v0_view symbol.now) frame parts.new.items)) }
+        ensures few { OnErr result (AddsFew (v0_view symbol.now) self.old self.new frame parts.old.items) }
         ensures pays { OnOk result ((at : ℕ) → at ≤ row.from → (length parts.old.items ≡ frame.base → at ≤ frame.place)
             → Pays (v0_view symbol.now) self.old self.new at row.to) }
     {
@@ -171,6 +173,7 @@ impl RustNodes {
         requires to { row.to ≤ length symbol.now }
         ensures takes { TakesToken (v0_view symbol.now) symbol.now self.old self.new frame parts.old.items parts.new.items row result }
         ensures adds { OnOk result (Adds (v0_view symbol.now) self.old self.new (owed_behind (v0_view symbol.now) frame parts.old.items) (owed_behind (v0_view symbol.now) frame parts.new.items)) }
+        ensures few { OnErr result (AddsFew (v0_view symbol.now) self.old self.new frame parts.old.items) }
         ensures pays { OnOk result ((at : ℕ) → at ≤ row.from → (length parts.old.items ≡ frame.base → at ≤ frame.place)
             → Pays (v0_view symbol.now) self.old self.new at row.to) }
     {
@@ -193,6 +196,7 @@ impl RustNodes {
         requires place { frame.place < length symbol.now }
         ensures closes { ClosesRule (v0_view symbol.now) symbol.now self.old self.new frame parts.old.items parts.new.items result }
         ensures adds { OnOk result (Adds (v0_view symbol.now) self.old self.new (owed_behind (v0_view symbol.now) frame parts.old.items) 0) }
+        ensures few { AddsFew (v0_view symbol.now) self.old self.new frame parts.old.items }
         ensures pays { OnOk result ((at : ℕ) → Pays (v0_view symbol.now) self.old self.new at at) }
     {
         let site = site_of(symbol, frame);
@@ -215,6 +219,7 @@ impl RustNodes {
         requires place { frame.place < length _symbol.now }
         ensures closes { ClosesRule (v0_view _symbol.now) _symbol.now self.old self.new frame parts.old.items parts.new.items result }
         ensures adds { OnOk result (Adds (v0_view _symbol.now) self.old self.new (owed_behind (v0_view _symbol.now) frame parts.old.items) 0) }
+        ensures few { AddsFew (v0_view _symbol.now) self.old self.new frame parts.old.items }
         ensures pays { OnOk result ((at : ℕ) → Pays (v0_view _symbol.now) self.old self.new at at) }
     {
         let added = self.add_made(frame.place, made)?;
@@ -234,6 +239,7 @@ impl RustNodes {
         requires place { frame.place < length symbol.now }
         ensures closes { ClosesRule (v0_view symbol.now) symbol.now self.old self.new frame parts.old.items parts.new.items result }
         ensures adds { OnOk result (Adds (v0_view symbol.now) self.old self.new (owed_behind (v0_view symbol.now) frame parts.old.items) 0) }
+        ensures few { AddsFew (v0_view symbol.now) self.old self.new frame parts.old.items }
         ensures pays { OnOk result ((at : ℕ) → Pays (v0_view symbol.now) self.old self.new at at) }
     {
         let Some(production) = numbered(frame.rule) else {
@@ -266,6 +272,7 @@ impl RustNodes {
         requires place { frame.place < length symbol.now }
         ensures closes { ClosesRule (v0_view symbol.now) symbol.now self.old self.new frame parts.old.items parts.new.items result }
         ensures adds { OnOk result (Adds (v0_view symbol.now) self.old self.new (owed_behind (v0_view symbol.now) frame parts.old.items) 0) }
+        ensures few { AddsFew (v0_view symbol.now) self.old self.new frame parts.old.items }
         ensures pays { OnOk result ((at : ℕ) → Pays (v0_view symbol.now) self.old self.new at at) }
     {
         self.close_any(symbol, Frame { ..frame }, parts)
@@ -273,8 +280,8 @@ impl RustNodes {
 }
 
 impl Linking for RustNodes {
-    ghost use Rattle.std.specs.Prelude.{◌≡◌, ℕ, ◌+◌, ◌<◌, ◌≤◌, [], List, length, take, drop, OnOk};
-    ghost use Rattle.sym_link.specs.Linking.{HasRoom, IsOpen, OpensRoot, Opens, TakesToken, ClosesRule, Adds, Pays, owed_behind, owed_next};
+    ghost use Rattle.std.specs.Prelude.{◌≡◌, ℕ, ◌+◌, ◌<◌, ◌≤◌, [], List, length, take, drop, OnOk, OnErr};
+    ghost use Rattle.sym_link.specs.Linking.{HasRoom, IsOpen, OpensRoot, Opens, TakesToken, ClosesRule, Adds, AddsFew, Pays, owed_behind, owed_next};
     ghost use Rattle.rust_v0.specs.Value.{Value, State};
     ghost use Rattle.rust_v0.specs.RustNodes.{v0_view};
     ghost use Rattle.rust_v0.specs.LanguageLaws.{v0_laws};
@@ -296,6 +303,7 @@ impl Linking for RustNodes {
         requires end { row.end ≤ length _rows.now }
         ensures opens { OpensRoot (v0_view symbol.now) symbol.now _rows.now self.old self.new row result }
         ensures adds { OnOk result (Adds (v0_view symbol.now) self.old self.new 0 0) }
+        ensures few { OnErr result ((v0_view symbol.now).size self.new ≤ (v0_view symbol.now).size self.old) }
         ensures pays { OnOk result (Pays (v0_view symbol.now) self.old self.new 0 0) }
     {
         Ok(BoundLifetimes { bound: 0 })
@@ -305,20 +313,21 @@ impl Linking for RustNodes {
         &mut self,
         symbol: &[u8],
         _rows: &[Row],
-        frame: Frame<BoundLifetimes>,
+        frame: &Frame<BoundLifetimes>,
         parts: &mut Vec<Part>,
         row: Row,
     ) -> Result<BoundLifetimes, Refusal>
-        requires room { HasRoom (v0_view symbol.now) symbol.now self.old (owed_behind (v0_view symbol.now) frame parts.old.items) }
-        requires open { IsOpen (v0_view symbol.now) symbol.now self.old frame parts.old.items }
-        requires base { frame.base ≤ length parts.old.items }
+        requires room { HasRoom (v0_view symbol.now) symbol.now self.old (owed_behind (v0_view symbol.now) frame.now parts.old.items) }
+        requires open { IsOpen (v0_view symbol.now) symbol.now self.old frame.now parts.old.items }
+        requires base { frame.now.base ≤ length parts.old.items }
         requires place { row.from < length symbol.now }
         requires end { row.end ≤ length _rows.now }
-        ensures opens { Opens (v0_view symbol.now) symbol.now _rows.now self.old self.new frame parts.old.items parts.new.items row result }
-        ensures adds { OnOk result (Adds (v0_view symbol.now) self.old self.new (owed_behind (v0_view symbol.now) frame parts.old.items) (owed_next (v0_view symbol.now) frame parts.new.items)) }
+        ensures opens { Opens (v0_view symbol.now) symbol.now _rows.now self.old self.new frame.now parts.old.items parts.new.items row result }
+        ensures adds { OnOk result (Adds (v0_view symbol.now) self.old self.new (owed_behind (v0_view symbol.now) frame.now parts.old.items) (owed_next (v0_view symbol.now) frame.now parts.new.items)) }
+        ensures few { OnErr result (AddsFew (v0_view symbol.now) self.old self.new frame.now parts.old.items) }
         ensures pays { OnOk result ((at : ℕ) → at ≤ row.from → Pays (v0_view symbol.now) self.old self.new at row.from) }
     {
-        let bound = bound_behind(frame, parts);
+        let bound = bound_behind(*frame, parts);
         Ok(BoundLifetimes { bound })
     }
 
@@ -326,20 +335,22 @@ impl Linking for RustNodes {
     fn token(
         &mut self,
         symbol: &[u8],
-        frame: Frame<BoundLifetimes>,
+        frame: &Frame<BoundLifetimes>,
         parts: &mut Vec<Part>,
         row: Row,
     ) -> Result<(), Refusal>
-        requires room { HasRoom (v0_view symbol.now) symbol.now self.old (owed_behind (v0_view symbol.now) frame parts.old.items) }
-        requires open { IsOpen (v0_view symbol.now) symbol.now self.old frame parts.old.items }
-        requires base { frame.base ≤ length parts.old.items }
+        requires room { HasRoom (v0_view symbol.now) symbol.now self.old (owed_behind (v0_view symbol.now) frame.now parts.old.items) }
+        requires open { IsOpen (v0_view symbol.now) symbol.now self.old frame.now parts.old.items }
+        requires base { frame.now.base ≤ length parts.old.items }
         requires from { row.from ≤ row.to }
         requires to { row.to ≤ length symbol.now }
-        ensures takes { TakesToken (v0_view symbol.now) symbol.now self.old self.new frame parts.old.items parts.new.items row result }
-        ensures adds { OnOk result (Adds (v0_view symbol.now) self.old self.new (owed_behind (v0_view symbol.now) frame parts.old.items) (owed_behind (v0_view symbol.now) frame parts.new.items)) }
-        ensures pays { OnOk result ((at : ℕ) → at ≤ row.from → (length parts.old.items ≡ frame.base → at ≤ frame.place)
+        ensures takes { TakesToken (v0_view symbol.now) symbol.now self.old self.new frame.now parts.old.items parts.new.items row result }
+        ensures adds { OnOk result (Adds (v0_view symbol.now) self.old self.new (owed_behind (v0_view symbol.now) frame.now parts.old.items) (owed_behind (v0_view symbol.now) frame.now parts.new.items)) }
+        ensures few { OnErr result (AddsFew (v0_view symbol.now) self.old self.new frame.now parts.old.items) }
+        ensures pays { OnOk result ((at : ℕ) → at ≤ row.from → (length parts.old.items ≡ frame.now.base → at ≤ frame.now.place)
             → Pays (v0_view symbol.now) self.old self.new at row.to) }
     {
+        let frame = *frame;
         match sort_of(frame.rule) {
             // the tokens of most rules
             TokenSort::PlainName => {
@@ -356,17 +367,19 @@ impl Linking for RustNodes {
     fn close(
         &mut self,
         symbol: &[u8],
-        frame: Frame<BoundLifetimes>,
+        frame: &Frame<BoundLifetimes>,
         parts: &mut Vec<Part>,
     ) -> Result<(), Refusal>
-        requires room { HasRoom (v0_view symbol.now) symbol.now self.old (owed_behind (v0_view symbol.now) frame parts.old.items) }
-        requires open { IsOpen (v0_view symbol.now) symbol.now self.old frame parts.old.items }
-        requires base { frame.base ≤ length parts.old.items }
-        requires place { frame.place < length symbol.now }
-        ensures closes { ClosesRule (v0_view symbol.now) symbol.now self.old self.new frame parts.old.items parts.new.items result }
-        ensures adds { OnOk result (Adds (v0_view symbol.now) self.old self.new (owed_behind (v0_view symbol.now) frame parts.old.items) 0) }
+        requires room { HasRoom (v0_view symbol.now) symbol.now self.old (owed_behind (v0_view symbol.now) frame.now parts.old.items) }
+        requires open { IsOpen (v0_view symbol.now) symbol.now self.old frame.now parts.old.items }
+        requires base { frame.now.base ≤ length parts.old.items }
+        requires place { frame.now.place < length symbol.now }
+        ensures closes { ClosesRule (v0_view symbol.now) symbol.now self.old self.new frame.now parts.old.items parts.new.items result }
+        ensures adds { OnOk result (Adds (v0_view symbol.now) self.old self.new (owed_behind (v0_view symbol.now) frame.now parts.old.items) 0) }
+        ensures few { AddsFew (v0_view symbol.now) self.old self.new frame.now parts.old.items }
         ensures pays { OnOk result ((at : ℕ) → Pays (v0_view symbol.now) self.old self.new at at) }
     {
+        let frame = *frame;
         match numbered(frame.rule) {
             // the name is what the rule means: it stays
             Some(Production::PlainName) if is_name(&parts[frame.base..]) => Ok(()),

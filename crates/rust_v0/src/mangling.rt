@@ -37,7 +37,8 @@ fn whole_node(parts: &[Part]) -> u32
 impl Mangling for V0 {
     ghost use Rattle.std.specs.Prelude.{refl};
     ghost use Rattle.rust_tree.specs.Symbol as tree;
-    ghost use Rattle.rust_v0.specs.Mangled.{v0_mangled, v0_fails, whole_of};
+    ghost use Rattle.rust_v0.specs.Mangled.{v0_mangled, v0_fails, v0_counts, node_count, whole_of};
+    ghost use Rattle.rust_v0.specs.RustNodes as nodes;
 
     type Linked = RustNodes;
 
@@ -54,6 +55,10 @@ impl Mangling for V0 {
     ghost rows_of = { λ y. y.rows };
 
     ghost steps_of = { λ y. y.steps };
+
+    ghost count_of = { node_count };
+
+    ghost first_nodes = { nodes.first_nodes };
 
     fn grammar() -> V0 {
         V0
@@ -105,6 +110,8 @@ impl Mangling for V0 {
     fn refuses_bad_tokens() {}
 
     ghost table_is = { refl };
+
+    ghost counts_nodes = { v0_counts };
 
     ghost view_table = { λ s. refl };
 

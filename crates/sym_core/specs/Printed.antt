@@ -1,5 +1,5 @@
 -- The printed bytes of names and decimals.
-use Rattle.std.specs.Prelude.{ℕ, length, List, [], ◌∷◌, ◌++◌, Bool, true, false, Option, Some, None, option_and_then, ◌||◌, ◌==◌, nat_le, decimal, codes, encode_utf8_all, unwrap_or, if◌then◌else◌}
+use Rattle.std.specs.Prelude.{◌≡◌, ◌<◌, ◌≤◌, ℕ, length, List, [], ◌∷◌, ◌++◌, Bool, true, false, Option, Some, None, option_and_then, ◌||◌, ◌==◌, nat_le, decimal, codes, encode_utf8_all, unwrap_or, if◌then◌else◌}
 use Rattle.std.specs.List.{list_all}
 use Rattle.idna.specs.Punycode.{decode}
 use Rattle.unicode_ident.specs.Ident.{is_xid_continue}
@@ -27,6 +27,10 @@ identifier_text chars = if list_all is_xid_continue chars then Some (encode_utf8
 -- the text that a Punycode name stands for, if it is short enough and that of an identifier
 abbrev pub decoded_name : List ℕ → Option (List ℕ)
 decoded_name bytes = if nat_le (length bytes) 2000 then option_and_then identifier_text (decode (hyphenated bytes)) else None
+
+-- the name is decoded, if that succeeds: it has the mark and some bytes, but not too many
+abbrev pub IsDecoded : Bool → List ℕ → Type 0
+IsDecoded puny bytes = (puny ≡ true) × (0 < length bytes) × (length bytes ≤ 2000)
 
 -- what a Rust name prints
 abbrev pub printed_name : Bool → List ℕ → List ℕ

@@ -1,10 +1,10 @@
 // The text list: names and decimals as they are printed.
 #![tactic(auto)]
 
-ghost use Rattle.std.specs.Prelude.{◌≡◌, ℕ, ◌+◌, ◌*◌, ◌<◌, ◌≤◌, ◌^◌, ◌++◌, ◌≢◌, length, slice_index, chars, vec_len, vec_capacity, string_bytes, Some, None, false, IfOk, IfErr, OnErr, MatchOption};
+ghost use Rattle.std.specs.Prelude.{◌≡◌, ℕ, ◌+◌, ◌*◌, ◌<◌, ◌≤◌, ◌^◌, ◌++◌, ◌≢◌, length, slice_index, chars, vec_len, vec_capacity, string_bytes, Some, None, IfOk, IfErr, OnErr, MatchOption, ◌⊎◌};
 ghost use Rattle.std.specs.List.{list_all};
 ghost use Rattle.unicode_ident.specs.Ident.{is_xid_continue};
-ghost use Rattle.sym_core.specs.Printed.{signed_text, hyphenated, decoded_name, printed_name};
+ghost use Rattle.sym_core.specs.Printed.{signed_text, hyphenated, decoded_name, printed_name, IsDecoded};
 ghost use Rattle.sym_core.specs.Token.{AreNameBytes};
 
 use crate::{NameClass, Refusal, Span};
@@ -24,6 +24,8 @@ fn append(out: &mut Vec<u8>, front: &[u8], text: &[u8], back: &[u8]) -> Result<S
     ensures same { OnErr result (out.new.items ≡ out.old.items) }
     ensures memory { IfErr result (λ r. r ≡ Refusal.Memory) }
     ensures full { OnErr result (vec_capacity out.old < vec_len out.old + (length front.now + (length text.now + length back.now))) }
+    ensures capacity { vec_capacity out.old ≤ vec_capacity out.new }
+    ensures stays { OnErr result (vec_capacity out.new ≡ vec_capacity out.old) }
 {
     let from = out.len();
     out.reserve(front.len() + text.len() + back.len())?;
@@ -54,6 +56,8 @@ pub fn push_decimal(
     ensures few { IfOk result (λ span. span.to ≤ span.from + 40) }
     ensures memory { IfErr result (λ r. r ≡ Refusal.Memory) }
     ensures full { OnErr result (vec_capacity out.old < vec_len out.old + length (signed_text minus value)) }
+    ensures capacity { vec_capacity out.old ≤ vec_capacity out.new }
+    ensures stays { OnErr result (vec_capacity out.new ≡ vec_capacity out.old) }
 {
     let mut buffer = Buffer::new();
     let digits = buffer.format(value);
@@ -92,6 +96,7 @@ fn decoded(alloc: Global, bytes: &[u8]) -> Result<Option<String>, Refusal>
     requires { AreNameBytes NameClass.Rust bytes.now }
     ensures text { IfOk result (λ found. MatchOption found (decoded_name bytes.now ≡ None) (λ text. decoded_name bytes.now ≡ Some (string_bytes text))) }
     ensures memory { IfErr result (λ r. r ≡ Refusal.Memory) }
+    ensures short { OnErr result (length bytes.now ≤ 2000) }
 {
     if bytes.len() > MOST_CODED {
         return Ok(None);
@@ -133,7 +138,10 @@ pub fn push_name(
     ensures same { OnErr result (out.new.items ≡ out.old.items) }
     ensures few { IfOk result (λ span. span.to ≤ span.from + 4 * length bytes.now + 8) }
     ensures memory { IfErr result (λ r. r ≡ Refusal.Memory) }
-    ensures full { OnErr result (puny ≡ false → vec_capacity out.old < vec_len out.old + length bytes.now) }
+    // What the list had no room for is the text, unless the name is decoded: that takes memory of its own.
+    ensures full { OnErr result (IsDecoded puny bytes.now ⊎ (vec_capacity out.old < vec_len out.old + length (printed_name puny bytes.now))) }
+    ensures capacity { vec_capacity out.old ≤ vec_capacity out.new }
+    ensures stays { OnErr result (vec_capacity out.new ≡ vec_capacity out.old) }
 {
     if !puny || bytes.is_empty() {
         return append(out, b"", bytes, b"");

@@ -1,5 +1,6 @@
 -- What a linker has done is what the symbol's shape stands for.
-use Rattle.std.proofs.Common.{◌≡◌, refl, sym, ◌∙◌, ap, subst, inl, inr, ℕ, ◌+◌, List, length, Bool, true, Option, Some, Result, Ok, arith}
+use Rattle.std.proofs.Common.{◌≡◌, refl, sym, ◌∙◌, ap, subst, inl, inr, ℕ, ◌+◌, ◌*◌, ◌≤◌, List, length, Bool, true, Option, Some, Result, Ok, Err, arith}
+use Rattle.std.specs.Prelude.{None}
 use Rattle.sym_core.specs.declared.refusal.Refusal.{Refusal}
 use Rattle.sym_core.specs.declared.refusal.Refusal.TheVariants as refusals
 use Rattle.sym_shape.specs.declared.rule.Row.{Row}
@@ -14,8 +15,9 @@ use Rattle.sym_link.specs.Driving.{Fails}
 use Rattle.sym_link.specs.Stepping.{link_steps}
 use Rattle.sym_link.specs.Following.{IsShape, IsDriving, IsStepTo, meaning_of}
 use Rattle.sym_link.proofs.Starting.{driving_few}
+use Rattle.sym_link.proofs.Driving.{driving_on}
 use Rattle.sym_demangle.specs.Mangled.{Mangled, IsRefused}
-use Rattle.sym_demangle.specs.Standing.{IsLinker, IsLinked, AreLinkSteps, AreStepsInAll}
+use Rattle.sym_demangle.specs.Standing.{IsLinker, IsLinked, CountsNodes, AreLinkSteps, AreStepsInAll}
 
 -- a linker that is done has linked its symbol
 pub linked_of : {N P K V S C : Type 0} (view : View N P K V S C) (s : List ℕ) (rows : List Row) (read_steps : ℕ) (nodes : N) (steps : ℕ) (refused : Option Refusal) (next : ℕ)
@@ -55,9 +57,36 @@ pub driving_fails : {N P K V S C : Type 0} (view : View N P K V S C) (s : List �
 driving_fails view s rows shape nodes steps refused next frames parts e driving kept =
     (subst (λ r. IsDriving view s rows shape nodes steps r next frames parts) kept driving).0
 
+-- the refusal of a step is what the symbol means
+pub step_fails : {N P K V S C : Type 0} (view : View N P K V S C) (s : List ℕ) (rows : List Row) (shape : Tree) (nodes : N) (steps new_steps : ℕ) (refused new_refused : Option Refusal) (parts : List P)
+    (e : Refusal) → IsStepTo view s rows shape nodes steps new_steps refused new_refused parts (Err e) → Fails e (meaning_of view shape)
+step_fails view s rows shape nodes steps new_steps None new_refused parts e to = to.0
+step_fails view s rows shape nodes steps new_steps (Some kept) new_refused parts e to = to.0
+
 pub refused_of : {W : Type 0} (m : Mangled W) (shape : Tree) (s : List ℕ) (e : Refusal) → IsTree m.table (Kind 0) shape → spell shape ≡ s → Fails e (m.unfolded shape) → IsRefused m s e
 refused_of m shape s refusals.Memory is spelled fails = inl refl
 refused_of m shape s (refusals.Malformed at) is spelled fails = inr (shape, is, spelled, sym fails)
 refused_of m shape s (refusals.BadReference at) is spelled fails = inr (shape, is, spelled, sym fails)
 refused_of m shape s (refusals.BadValue at) is spelled fails = inr (shape, is, spelled, sym fails)
 refused_of m shape s refusals.TooLong is spelled fails = inr (shape, is, spelled, sym fails)
+
+-- ## Nodes
+
+-- what a driver that has refused nothing has written is paid for
+pub driving_paid : {N P K V S C : Type 0} (view : View N P K V S C) (s : List ℕ) (rows : List Row) (shape : Tree) (nodes : N) (steps : ℕ) (refused : Option Refusal) (next : ℕ)
+    (frames : List (Frame K)) (parts : List P) → ((e : Refusal) → refused ≡ Some e → ⊥) → IsDriving view s rows shape nodes steps refused next frames parts
+    → (bytes : ℕ) × view.IsPaid nodes bytes
+driving_paid view s rows shape nodes steps refused next frames parts open_still driving =
+    elim (driving_on view s rows shape nodes steps refused next frames parts open_still driving).0 [
+      | inl fresh ↦ (0, fresh.0.paid)
+      | inr on ↦ (on.2.reached, on.2.paid)
+    ]
+
+-- nodes that the language counts are those of the table
+pub counted_two : {N P K V S C : Type 0} (view : View N P K V S C) (s : List ℕ) (rows : List Row) (shape : Tree) (old new : N) (steps new_steps : ℕ) (refused : Option Refusal) (next : ℕ)
+    (frames : List (Frame K)) (parts : List P) (count : N → ℕ) (first : ℕ) → CountsNodes view count first → ((e : Refusal) → refused ≡ Some e → ⊥)
+    → IsDriving view s rows shape old steps refused next frames parts → view.size new + 2 * steps ≤ view.size old + 2 * new_steps
+    → count new + 2 * steps ≤ count old + 2 * new_steps
+counted_two view s rows shape old new steps new_steps refused next frames parts count first counts open_still driving added =
+    let paid = driving_paid view s rows shape old steps refused next frames parts open_still driving in
+    omega (arith, counts.most new, counts.least old paid.0 paid.1, added)

@@ -12,19 +12,24 @@ use Rattle.sym_link.specs.Linking.{View}
 use Rattle.sym_link.specs.Stepping.{link_steps}
 use Rattle.sym_link.specs.Following.{Fits, IsShape, IsDone, IsDriving, meaning_of}
 
--- How far a symbol is linked: its bytes, how many rows its shape has and how many steps the reader took, the linker's own steps,
--- whether it has answered that all is done, and the refusal if there was one.
+-- How far a symbol is linked: its bytes, how many rows its shape has and how many steps the reader took, the linker's own steps, how
+-- many nodes there are, whether it has answered that all is done, and the refusal if there was one.
 pub record Progress : Type 0 where
   pub bytes : List ℕ
   pub rows : ℕ
   pub read_steps : ℕ
   pub steps : ℕ
+  pub nodes : ℕ
   pub done : Bool
   pub refused : Option Refusal
 
--- nothing is linked yet
-abbrev pub unlinked : (bytes : List ℕ) → (rows read_steps : ℕ) → Progress
-unlinked bytes rows read_steps = record { bytes = bytes; rows = rows; read_steps = read_steps; steps = 0; done = false; refused = None }
+-- nothing is linked yet, and so many nodes are there
+abbrev pub unlinked : (bytes : List ℕ) → (rows read_steps nodes : ℕ) → Progress
+unlinked bytes rows read_steps nodes = record { bytes = bytes; rows = rows; read_steps = read_steps; steps = 0; nodes = nodes; done = false; refused = None }
+
+-- Each step that was taken from one moment to the other has added at most two nodes.
+abbrev pub AddsTwoEach : (old new : Progress) → Type 0
+AddsTwoEach old new = new.nodes + 2 * old.steps ≤ old.nodes + 2 * new.steps
 
 -- The steps of the reader and the linker together, and the rows, are few for the bytes.
 pub record AreFewInAll (progress : Progress) : Type 0 where
@@ -38,6 +43,12 @@ AreLinkSteps g s steps = (tree : Tree) → IsTree g (Kind 0) tree → spell tree
 -- so many steps reading the symbol takes, those of the reader and of the linker
 abbrev pub AreStepsInAll : Table → List ℕ → ℕ → Type 0
 AreStepsInAll g s steps = (tree : Tree) → IsTree g (Kind 0) tree → spell tree ≡ s → steps ≡ read_steps tree + link_steps tree
+
+-- A table has its first nodes, of which there are few, and those that the language counts.
+pub record CountsNodes {N P K V S C : Type 0} (view : View N P K V S C) (count : N → ℕ) (first : ℕ) : Type 0 where
+  pub few : first ≤ 8
+  pub most : (nodes : N) → count nodes ≤ view.size nodes + first
+  pub least : (nodes : N) (bytes : ℕ) → view.IsPaid nodes bytes → view.size nodes + first ≤ count nodes
 
 -- a table of nodes with which a symbol begins
 pub record Begins {N P K V S C : Type 0} (view : View N P K V S C) (nodes : N) : Type 0 where

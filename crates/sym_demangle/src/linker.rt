@@ -6,7 +6,7 @@ ghost use Rattle.sym_core.specs.declared.refusal.Refusal.TheVariants as refusals
 ghost use Rattle.sym_shape.specs.Tree.{AreRowsOf};
 ghost use Rattle.sym_shape.specs.Reader.{AreFew};
 ghost use Rattle.sym_demangle.specs.Mangled.{StandsFor, IsRefused};
-ghost use Rattle.sym_demangle.specs.Standing.{Progress, unlinked, AreFewInAll, AreLinkSteps, IsLinker};
+ghost use Rattle.sym_demangle.specs.Standing.{Progress, unlinked, AddsTwoEach, AreFewInAll, AreLinkSteps, IsLinker};
 
 use crate::mangling::Mangling;
 use std::alloc::Global;
@@ -33,7 +33,7 @@ impl<M: Mangling> Model for Linker<M> {
 
     ghost Value = { Progress };
 
-    ghost view = { λ l. record { bytes = l.bytes.items; rows = length l.shape.rows; read_steps = l.shape.steps; steps = l.driver.steps; done = l.done; refused = l.driver.refused } };
+    ghost view = { λ l. record { bytes = l.bytes.items; rows = length l.shape.rows; read_steps = l.shape.steps; steps = l.driver.steps; nodes = M.count_of l.linked; done = l.done; refused = l.driver.refused } };
 
     ghost invariant = { λ l. IsLinker (M.Linked.view l.bytes.items) l.bytes.items l.shape.rows l.shape.steps l.linked l.driver.steps l.driver.refused l.driver.next l.driver.frames.items l.driver.parts.items l.done };
 }
@@ -68,7 +68,8 @@ impl<M: Mangling> Linker<M> {
         requires fits { FitsSymbol bytes.items }
         requires rows { AreRowsOf M.mangled.table bytes.items shape.rows }
         requires few { AreFew shape.steps (length shape.rows) (length bytes.items) }
-        ensures unlinked { IfOk result (λ linker. linker ≡ unlinked bytes.items (length shape.rows) shape.steps) }
+        ensures unlinked { IfOk result (λ linker. linker ≡ unlinked bytes.items (length shape.rows) shape.steps linker.nodes) }
+        ensures nodes { IfOk result (λ linker. linker.nodes ≤ 8) }
         ensures memory { IfErr result (λ e. e ≡ refusals.Memory) }
     {
         let mut linked = M::idle(alloc);
@@ -114,6 +115,8 @@ impl<M: Mangling> Linker<M> {
         ensures again { IfSome self.old.refused (λ e. (result ≡ Err e) × (self.new ≡ self.old)) }
         // One that has answered true answers true again, and doesn't change.
         ensures done_again { self.old.done ≡ true → self.old.refused ≡ None → (result ≡ Ok true) × (self.new ≡ self.old) }
+        // A step that is counted adds at most two nodes, refused or not, and no other adds any.
+        ensures nodes { AddsTwoEach self.old self.new }
         ensures few { AreFewInAll self.new }
     {
         if let Some(refusal) = self.driver.refused {
@@ -154,6 +157,8 @@ impl<M: Mangling> Linker<M> {
         ensures done_again { self.old.done ≡ true → self.old.refused ≡ None → (result ≡ Ok tt) × (self.new ≡ self.old) }
         // Steps are counted, refused or not.
         ensures counted { self.old.steps ≤ self.new.steps }
+        // Each of them adds at most two nodes, refused or not.
+        ensures nodes { AddsTwoEach self.old self.new }
         ensures few { AreFewInAll self.new }
     {
         if let Some(refusal) = self.driver.refused {

@@ -11,7 +11,7 @@ ghost use Rattle.sym_shape.specs.declared.rule.Sym.TheVariants.{Kind};
 ghost use Rattle.sym_link.specs.Driving.{Fails};
 ghost use Rattle.sym_link.specs.Following.{meaning_of};
 ghost use Rattle.sym_demangle.specs.Mangled.{Mangled, RefusesBadTokens};
-ghost use Rattle.sym_demangle.specs.Standing.{Begins, IsLinked};
+ghost use Rattle.sym_demangle.specs.Standing.{Begins, CountsNodes, IsLinked};
 
 use std::alloc::Global;
 use sym_core::Refusal;
@@ -40,6 +40,11 @@ pub trait Mangling: Grammar + Copy {
     ghost rows_of: { Self.Symbol → ℕ };
 
     ghost steps_of: { Self.Symbol → ℕ };
+
+    // how many nodes a table has, and how many of them it has before the first step
+    ghost count_of: { Self.Linked → ℕ };
+
+    ghost first_nodes: { ℕ };
 
     /// The mangling.
     fn grammar() -> Self;
@@ -80,6 +85,8 @@ pub trait Mangling: Grammar + Copy {
         ensures { RefusesBadTokens mangled };
 
     ghost table_is: { Self.table ≡ mangled.table };
+
+    ghost counts_nodes: { (s : List ℕ) → CountsNodes (Self.Linked.view s) count_of first_nodes };
 
     ghost view_table: { (s : List ℕ) → (Self.Linked.view s).table ≡ mangled.table };
 

@@ -18,8 +18,8 @@ use Rattle.sym_shape.specs.declared.rule.Row.{Row}
 use Rattle.sym_link.specs.declared.language.Frame.{Frame}
 use Rattle.sym_link.specs.Reading.{Open}
 use Rattle.sym_link.specs.Linking.{View, IsInside, IsRuleRow}
-use Rattle.sym_link.proofs.Standing.{passed_by, stands_skip, stands_left}
-use Rattle.sym_link.specs.Parts.{skipped, skipped_from, joined, values_in, Stands}
+use Rattle.sym_link.proofs.Standing.{stands_skip, stands_left}
+use Rattle.sym_link.specs.Parts.{skipped, passed_by, skipped_from, joined, values_in, Stands}
 use Rattle.sym_link.specs.Threads.{skips}
 use Rattle.sym_link.specs.Ahead.{is_numbered, ahead_of, comes_so, differs, differs_below, are_told, choices_told, sheet_told}
 

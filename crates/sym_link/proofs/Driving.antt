@@ -1,6 +1,6 @@
 -- What the driver's functions are to show, over plain variables.
 use Rattle.std.proofs.lemmas.List.{length-take-le}
-use Rattle.std.proofs.Common.{if◌then◌else◌, add-zero, take, false, ◌≡◌, ◌≢◌, ◌⊎◌, inl, inr, refl, sym, ◌∙◌, ap, subst, arith, ℕ, ◌+◌, ◌-◌, ◌*◌, ◌<◌, ◌≤◌, List, [], ◌∷◌, ◌++◌, length, drop, Ok, Err, length-append, length-drop}
+use Rattle.std.proofs.Common.{if◌then◌else◌, add-zero, take, true, false, ◌≡◌, ◌≢◌, ◌⊎◌, inl, inr, refl, sym, ◌∙◌, ap, subst, arith, ℕ, ◌+◌, ◌-◌, ◌*◌, ◌<◌, ◌≤◌, List, [], ◌∷◌, ◌++◌, length, drop, Ok, Err, length-append, length-drop}
 use Rattle.std.specs.Prelude.{Result, slice_index_or, OnOk, Option, Some, None}
 use Rattle.sym_core.specs.declared.refusal.Refusal.{Refusal}
 use Rattle.sym_shape.specs.declared.rule.Row.{Row}
@@ -8,21 +8,22 @@ use Rattle.sym_shape.specs.declared.rule.Rule.{Rule}
 use Rattle.sym_shape.specs.Table.{Token, bytes_of}
 use Rattle.sym_shape.specs.Tree.{Tree, Forest, branch, token, grown, spell_all, row_count_all, rows_of_all}
 use Rattle.sym_link.specs.declared.language.Frame.{Frame}
-use Rattle.sym_link.specs.Reading.{Found}
+use Rattle.sym_link.specs.Reading.{Found, ◌>>=◌}
 use Rattle.sym_link.specs.Machine as machine
-use Rattle.sym_link.specs.Unfold.{standing}
-use Rattle.sym_link.specs.Parts.{skipped, skipped_from, values_in, Stands}
-use Rattle.sym_link.specs.Driving.{Fails}
-use Rattle.sym_link.specs.Linking.{View, IsLinking, HasRoom, IsOpen, IsRuleRow, IsTokenRow, owed_behind, owed_next, Adds, ClosesRule, TakesToken, Opens, OpensRoot}
-use Rattle.sym_link.specs.Stepping.{link_steps, link_steps_all, Due, waiting, starting, closes_at_once, CountsClose, CountsToken}
-use Rattle.sym_link.specs.Following.{Follows, FollowsAfter, CanClose, CanTake, CanBegin, EndsWith, IsShape, IsFresh, IsOnWay, IsDone, HoldsAll, Moves, CountsMove, IsDriving, IsStepTo, meaning_of}
-use Rattle.sym_link.proofs.Standing.{NextPart, a_rule, a_token, next_part, passed_by, skip_from, skip_count, stands_within, stands_end, stands_inner, stands_skip, rows_length_all}
-use Rattle.sym_link.proofs.Stepping.{rule_not_at_once, token_not_at_once, push_due, some_due, chosen}
+use Rattle.sym_link.specs.Unfold.{found, standing}
+use Rattle.sym_link.specs.Parts.{skipped, passed_by, skipped_from, values_in, Stands}
+use Rattle.sym_link.specs.Driving.{AreAll, Fails}
+use Rattle.sym_link.specs.Linking.{View, IsLinking, HasRoom, IsOpen, IsRuleRow, IsTokenRow, values_at_once, owed_behind, owed_next, next_of, taken_in, Adds, AddsFew, ClosesRule, TakesToken, Opens, OpensRoot}
+use Rattle.sym_link.specs.Stepping.{link_steps, link_steps_all, Due, waiting, starting, no_part_has_row, closes_at_once, CountsClose, CountsToken}
+use Rattle.sym_link.specs.Following.{Follows, FollowsAfter, StaysWithin, CanClose, CanTake, CanBegin, EndsWith, IsShape, IsFresh, IsOnWay, IsDone, HoldsAll, Moves, CountsMove, IsDriving, IsStepTo, meaning_of}
+use Rattle.sym_link.proofs.Standing.{NextPart, a_rule, a_token, next_part, skip_from, skip_count, stands_within, stands_end, stands_inner, stands_skip, rows_length_all}
+use Rattle.sym_link.proofs.Stepping.{some_row, none_at_once, token_at_once, rule_not_at_once, token_not_at_once, push_due, some_due, chosen}
 use Rattle.sym_link.proofs.Cases.{as_many}
 use Rattle.sym_link.proofs.Following.{Innermost, innermost, close_follows, close_fails}
-use Rattle.sym_link.proofs.Taking.{dropped_one, dropped_next, the_rule_row, rule_row_is, enter_follows, enter_fails, the_token_row, token_row_is, token_stands, token_follows, token_fails}
+use Rattle.sym_link.proofs.Opening.{taken_count}
+use Rattle.sym_link.proofs.Taking.{of_ok, dropped_one, dropped_next, the_rule_row, rule_row_is, enter_follows, enter_fails, the_token_row, token_row_is, token_stands, token_follows, token_fails}
 use Rattle.sym_link.proofs.Starting.{room_inside, room_root, IsRoot, root_of, root_row, root_follows, done}
-use Rattle.sym_link.proofs.Lists.{no_last, taken_dropped}
+use Rattle.sym_link.proofs.Lists.{no_last, taken_dropped, dropped_front}
 
 -- ## A rule closes
 
@@ -275,11 +276,11 @@ early_base view s shape whole due nodes next lower code parts i none =
 -- where a token is taken in a rule that ends there, so many steps are left
 abbrev pub CountsTaken : Due → (end next : ℕ) → ℕ → Type 0
 CountsTaken (waiting m) end next n = m ≡ n + 1
-CountsTaken (starting m) end next n = (n ≡ m + 1) × (end ≡ next + 1)
+CountsTaken (starting m most) end next n = (n ≡ m + 1) × (end ≡ next + 1)
 
 taken_counts : (due : Due) (end next behind left : ℕ) → end ≡ next + 1 + behind → CountsTaken due end next left → CountsToken due behind left
 taken_counts (waiting m) end next behind left is counts = counts
-taken_counts (starting m) end next behind left is counts = (counts.0, omega (arith, is, counts.1))
+taken_counts (starting m most) end next behind left is counts = (counts.0, omega (arith, is, counts.1))
 
 pub token_taken : {N P K V S C : Type 0} (view : View N P K V S C) (s : List ℕ) (shape : List Row) (whole : Result (Found (List V) S) Refusal) (due : Due)
     (old new : N) (next : ℕ) (codes : List (Frame K)) (code : Frame K) (parts new_parts : List P) (row d : Row) (result : Result (Unit {0}) Refusal) → IsLinking view → (last : EndsWith codes code)
@@ -307,11 +308,11 @@ pub rule_begun : {N P K V S C : Type 0} (view : View N P K V S C) (s : List ℕ)
     → Opens view s shape old new code parts new_parts row (Ok opened.kept) → Adds view old new (owed_behind view code parts) (owed_next view code new_parts)
     → ((at : ℕ) → at ≤ row.from → view.IsPaid old at → view.IsPaid new row.from)
     → opened.rule ≡ row.rule → opened.place ≡ row.from → opened.end ≡ row.end → opened.base ≡ length new_parts
-    → Follows view s shape whole (starting left) new (next + 1) (codes ++ opened ∷ []) new_parts
+    → Follows view s shape whole (starting left (view.size old + 2)) new (next + 1) (codes ++ opened ∷ []) new_parts
 rule_begun view s shape whole left old new next codes code opened parts new_parts row d laws last follows open_still row_is no_token opens adds pays number place end base =
     let r = rule_next view s shape whole (waiting (left + 1)) old next codes code parts row d laws last follows open_still row_is no_token in
     let i = r.i in
-    subst (λ fs. Follows view s shape whole (starting left) new (next + 1) (fs ++ opened ∷ []) new_parts) (sym last.1)
+    subst (λ fs. Follows view s shape whole (starting left (view.size old + 2)) new (next + 1) (fs ++ opened ∷ []) new_parts) (sym last.1)
     (enter_follows view s shape whole left old new next last.0 code opened parts new_parts laws adds.0 i r.rule r.taken r.inner r.rest r.left_is
     (number ∙ r.row_is.rule_is) (place ∙ r.row_is.from) (end ∙ r.row_end) base
     (opens i.top.rule i.known i.top.from i.top.left i.state r.rule r.taken r.inner r.rest i.inside r.left_is r.row_is) adds.1
@@ -328,12 +329,12 @@ rule_refused view s shape whole due old new next codes code parts new_parts row 
     (opens i.top.rule i.known i.top.from i.top.left i.state r.rule r.taken r.inner r.rest i.inside r.left_is r.row_is)
 
 -- a rule that doesn't close at once is open at the end of the step that begins it
-pub begun_waits : {N P K V S C : Type 0} (view : View N P K V S C) (s : List ℕ) (shape : List Row) (whole : Result (Found (List V) S) Refusal) (left : ℕ)
+pub begun_waits : {N P K V S C : Type 0} (view : View N P K V S C) (s : List ℕ) (shape : List Row) (whole : Result (Found (List V) S) Refusal) (left most : ℕ)
     (nodes : N) (next : ℕ) (lower : List (Frame K)) (code : Frame K) (parts : List P) (row d : Row) → IsLinking view
-    → Follows view s shape whole (starting left) nodes next (lower ++ code ∷ []) parts → code.end ≢ next → row ≡ slice_index_or shape next d → (row.rule ≡ 65535 → code.end ≢ next + 1)
+    → Follows view s shape whole (starting left most) nodes next (lower ++ code ∷ []) parts → code.end ≢ next → row ≡ slice_index_or shape next d → (row.rule ≡ 65535 → code.end ≢ next + 1)
     → Follows view s shape whole (waiting left) nodes next (lower ++ code ∷ []) parts
-begun_waits {V = V} {S = S} {C = C} view s shape whole left nodes next lower code parts row d laws follows open_still row_is several =
-    let i = innermost view s shape whole (starting left) nodes next (lower ++ code ∷ []) lower code parts follows refl in
+begun_waits {V = V} {S = S} {C = C} view s shape whole left most nodes next lower code parts row d laws follows open_still row_is several =
+    let i = innermost view s shape whole (starting left most) nodes next (lower ++ code ∷ []) lower code parts follows refl in
     record {
       frames = i.top ∷ i.frames;
       known = i.known;
@@ -365,14 +366,15 @@ begun_waits {V = V} {S = S} {C = C} view s shape whole left nodes next lower cod
       reached = i.reached;
       before = i.before;
       early = i.early;
-      is_due = push_due i.top i.frames left i.is_due (later i (next_part i.top.left (λ none. open_still (omega (arith, i.end, none)))));
+      is_due = push_due i.top i.frames left most i.is_due (later i (next_part i.top.left (λ none. open_still (omega (arith, i.end, none)))));
+      light = tt;
       paid = i.paid;
     }
   where
-    later : (i : Innermost view s shape whole (starting left) nodes next lower code parts) → NextPart i.top.left → closes_at_once i.top.left ≡ false
+    later : (i : Innermost view s shape whole (starting left most) nodes next lower code parts) → NextPart i.top.left → closes_at_once i.top.left ≡ false
     later i (a_rule rule taken inner rest left_is) = rule_not_at_once i.top.left rule taken inner rest left_is
     later i (a_token t rest left_is) =
-        let rows = the_token_row view s shape whole (starting left) nodes next lower code parts i t rest left_is in
+        let rows = the_token_row view s shape whole (starting left most) nodes next lower code parts i t rest left_is in
         let is_token : row.rule ≡ 65535 = ap (λ r. r.rule) (row_is ∙ (dropped_one shape _ next _ d rows).2) in
         token_not_at_once i.top.left t rest left_is (λ none. several is_token (omega (arith, i.end, none, sym (skip_count i.top.left) ∙ ap row_count_all left_is)))
 
@@ -382,6 +384,85 @@ pub step_left : {N P K V S C : Type 0} (view : View N P K V S C) (s : List ℕ) 
 step_left view s shape whole left nodes next codes code parts last follows =
     let i = innermost view s shape whole (waiting left) nodes next codes last.0 code parts follows last.1 in
     some_due i.top i.frames left i.is_due
+
+-- ## Nodes
+
+-- a call that is refused, or closes a rule, adds at most two
+pub few_two : {N P K V S C : Type 0} (view : View N P K V S C) (old new : N) (frame : Frame K) (parts : List P) → IsLinking view → AddsFew view old new frame parts → view.size new ≤ view.size old + 2
+few_two view old new frame parts laws few = omega (arith, few, laws.closing frame.rule (drop frame.base parts), laws.two frame.rule (length (drop frame.base parts)))
+
+pub added_two : {N P K V S C : Type 0} (view : View N P K V S C) (old new : N) (frame : Frame K) (parts : List P) (after : ℕ) → IsLinking view → Adds view old new (owed_behind view frame parts) after
+    → view.size new ≤ view.size old + 2
+added_two view old new frame parts after laws adds = omega (arith, adds.1, laws.two frame.rule (length parts - frame.base))
+
+none_own : {P V : Type 0} (Is : P → V → Type 0) (own : List P) (known : List V) → AreAll Is own known → known ≡ [] → own ≡ []
+none_own Is [] known are none = refl
+none_own Is (p ∷ own) [] are none = absurd are
+none_own Is (p ∷ own) (v ∷ known) are none = cc
+
+-- what may be added in the step in which a rule begins, where it closes or is refused before its token
+refused_within : {N P K V S C : Type 0} (view : View N P K V S C) (s : List ℕ) (shape : List Row) (whole : Result (Found (List V) S) Refusal) (left most : ℕ)
+    (nodes : N) (next : ℕ) (lower : List (Frame K)) (code : Frame K) (parts : List P) (i : Innermost view s shape whole (starting left most) nodes next lower code parts)
+    → closes_at_once i.top.left ≡ true → view.size nodes + view.closes code.rule (drop code.base parts) ≤ most
+refused_within view s shape whole left most nodes next lower code parts i at_once =
+    rw (i.inside.number, none_own (view.IsPart nodes) (drop code.base parts) i.known i.inside.parts i.light.none_known) (i.light.refused at_once)
+
+-- a rule that begins without a token stays within what its step may add
+pub alone_within : {N P K V S C : Type 0} (view : View N P K V S C) (s : List ℕ) (shape : List Row) (whole : Result (Found (List V) S) Refusal) (left most : ℕ)
+    (nodes : N) (next : ℕ) (lower : List (Frame K)) (code : Frame K) (parts : List P)
+    → Follows view s shape whole (starting left most) nodes next (lower ++ code ∷ []) parts → StaysWithin view nodes code parts most (Ok next)
+alone_within view s shape whole left most nodes next lower code parts follows =
+    let i = innermost view s shape whole (starting left most) nodes next (lower ++ code ∷ []) lower code parts follows refl in (
+      i.light.size,
+      λ ends. refused_within view s shape whole left most nodes next lower code parts i
+          (none_at_once i.top.left (no_row_left view s shape whole (starting left most) nodes next lower code parts i ends)),
+    )
+
+-- a rule with one row, which is a token's, closes at once
+one_token : {N P K V S C : Type 0} (view : View N P K V S C) (s : List ℕ) (shape : List Row) (whole : Result (Found (List V) S) Refusal) (due : Due)
+    (nodes : N) (next : ℕ) (lower : List (Frame K)) (code : Frame K) (parts : List P) (row : Row) (t : TokenNext view s shape whole due nodes next lower code parts row)
+    → code.end ≡ next + 1 → closes_at_once t.i.top.left ≡ true
+one_token view s shape whole due nodes next lower code parts row t ends =
+    token_at_once t.i.top.left t.t t.rest t.left_is (omega (arith, t.i.end, ends, sym (skip_count t.i.top.left) ∙ ap row_count_all t.left_is))
+
+-- where the token is all that the rule has
+pub token_within : {N P K V S C : Type 0} (view : View N P K V S C) (s : List ℕ) (shape : List Row) (whole : Result (Found (List V) S) Refusal) (left most : ℕ)
+    (old new : N) (next : ℕ) (lower : List (Frame K)) (code : Frame K) (parts new_parts : List P) (row d : Row) → IsLinking view
+    → Follows view s shape whole (starting left most) old next (lower ++ code ∷ []) parts → code.end ≡ next + 1 → row ≡ slice_index_or shape next d → row.rule ≡ 65535
+    → TakesToken view s old new code parts new_parts row (Ok tt) → Adds view old new (owed_behind view code parts) (owed_behind view code new_parts)
+    → StaysWithin view new code new_parts most (Ok (next + 1))
+token_within view s shape whole left most old new next lower code parts new_parts row d laws follows ends row_is is_token takes adds =
+    let t = token_next view s shape whole (starting left most) old next (lower ++ code ∷ []) code parts row d laws (lower, refl) follows (omega (arith, ends)) row_is is_token in
+    let i = t.i in
+    let n = length view.reading.rowless in
+    let at_once = one_token view s shape whole (starting left most) old next lower code parts row t ends in
+    let (known, state, read, holds, own, parts_are, are) = takes i.top.rule i.known i.top.from i.top.left i.state t.t t.rest i.inside t.left_is t.row_is in
+    let count : length known ≡ length i.known + values_in n (passed_by i.top.left) + 1 =
+    of_ok (next_of view.reading i.top.rule i.known i.top.from i.top.left i.state >>= taken_in view.reading t.t (skipped_from i.top.from i.top.left)) (found known state)
+    (λ f. length f.value ≡ length i.known + values_in n (passed_by i.top.left) + 1) read
+    (taken_count view.reading laws.keeps_count i.top.rule i.known i.top.from i.top.left i.state t.t (skipped_from i.top.from i.top.left)) in
+    let base : length (take code.base parts) ≡ code.base = length-take-le code.base parts i.base in
+    let own_is : drop code.base new_parts ≡ own =
+    subst (λ k. drop k new_parts ≡ own) base (ap (λ ps. drop (length (take code.base parts)) ps) parts_are ∙ dropped_front (take code.base parts) own) in
+    let held : length own ≡ length known = as_many (view.IsPart new) own known are in
+    let none : length i.known ≡ 0 = ap (λ vs. length vs) i.light.none_known in
+    let some : no_part_has_row i.top.left ≡ false = some_row i.top.left (λ rows. omega (arith, i.end, ends, rows)) in
+    let counted : length own ≡ values_at_once n i.top.left = omega (arith, held, count, none, ap (λ b. if b then 0 else (values_in n (passed_by i.top.left) + 1)) some) in
+    let behind : owed_behind view code new_parts ≡ view.owes i.top.rule.rule.number (length own) =
+    ap (λ k. view.owes k (length new_parts - code.base)) i.inside.number
+    ∙ ap (λ k. view.owes i.top.rule.rule.number k) (sym (length-drop code.base new_parts) ∙ ap (λ ps. length ps) own_is) in
+    let before : owed_behind view code parts ≡ view.owes i.top.rule.rule.number 0 = i.owes ∙ ap (λ k. view.owes i.top.rule.rule.number k) none in
+    let within : view.size new + view.closes i.top.rule.rule.number own ≤ most = omega (arith, i.light.closed at_once own counted, adds.1, behind, before) in
+    let closing : view.size new + view.closes code.rule (drop code.base new_parts) ≤ most = rw (i.inside.number, own_is) within in
+    (omega (arith, within), λ there. closing)
+
+pub token_refused_within : {N P K V S C : Type 0} (view : View N P K V S C) (s : List ℕ) (shape : List Row) (whole : Result (Found (List V) S) Refusal) (left most : ℕ)
+    (old new : N) (next : ℕ) (lower : List (Frame K)) (code : Frame K) (parts : List P) (row d : Row) → IsLinking view
+    → Follows view s shape whole (starting left most) old next (lower ++ code ∷ []) parts → code.end ≡ next + 1 → row ≡ slice_index_or shape next d → row.rule ≡ 65535
+    → AddsFew view old new code parts → view.size new ≤ most
+token_refused_within view s shape whole left most old new next lower code parts row d laws follows ends row_is is_token few =
+    let t = token_next view s shape whole (starting left most) old next (lower ++ code ∷ []) code parts row d laws (lower, refl) follows (omega (arith, ends)) row_is is_token in
+    omega (arith, few, refused_within view s shape whole left most old next lower code parts t.i (one_token view s shape whole (starting left most) old next lower code parts row t ends))
 
 -- ## The first row
 
@@ -419,7 +500,7 @@ pub root_begun : {N P K V S C : Type 0} (view : View N P K V S C) (s : List ℕ)
     → IsLinking view → IsShape view.table s shape tree → length shape ≤ 4 * length s + 4 → IsFresh view old 0 codes parts → row ≡ slice_index_or shape 0 d
     → OpensRoot view s shape old new row (Ok opened.kept) → Adds view old new 0 0 → (view.IsPaid old 0 → view.IsPaid new 0)
     → opened.rule ≡ row.rule → opened.place ≡ row.from → opened.end ≡ row.end → opened.base ≡ 0 → (left : ℕ) → link_steps tree ≡ left + 1
-    → Follows view s shape (meaning_of view tree) (starting left) new 1 (codes ++ opened ∷ []) parts
+    → Follows view s shape (meaning_of view tree) (starting left (view.size old + 2)) new 1 (codes ++ opened ∷ []) parts
 root_begun view s shape tree old new codes opened parts row d laws is fits fresh row_is opens adds pays number place end base left steps =
     let r = root_at view s shape tree row d laws is row_is in
     rw (fresh.no_frame, fresh.no_part)

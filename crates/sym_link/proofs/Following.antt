@@ -13,7 +13,7 @@ use Rattle.sym_link.specs.Driving.{AreAll, Fails}
 use Rattle.sym_link.specs.Linking.{View, IsLinking, IsInside, owed_behind, Gives}
 use Rattle.sym_link.specs.Owing.{owed}
 use Rattle.sym_link.specs.Stepping.{Due, waiting, IsDue, CountsClose}
-use Rattle.sym_link.specs.Following.{HoldsAll, left_from, Nests, IsEarly, Follows}
+use Rattle.sym_link.specs.Following.{HoldsAll, left_from, Nests, IsEarly, IsLight, Follows}
 use Rattle.sym_link.proofs.Cases.{as_many}
 use Rattle.sym_link.proofs.Closing.{ended_outcome}
 use Rattle.sym_link.proofs.Lists.{all_push, all_stay, snoc_last, snoc_front, no_last, dropped_front, taken_front}
@@ -95,6 +95,7 @@ pub record Innermost {N P K V S C : Type 0} (view : View N P K V S C) (s : List 
   pub before : reached ≤ top.from
   pub early : length known ≡ 0 → reached ≤ top.rule.place
   pub is_due : IsDue due (top ∷ frames)
+  pub light : IsLight view nodes due (top ∷ frames) known
   pub paid : view.IsPaid nodes reached
 
 innermost_on : {N P K V S C : Type 0} (view : View N P K V S C) (s : List ℕ) (shape : List Row) (whole : Result (Found (List V) S) Refusal) (due : Due)
@@ -103,11 +104,11 @@ innermost_on : {N P K V S C : Type 0} (view : View N P K V S C) (s : List ℕ) (
     → machine.outcome_of view.reading frames known state ≡ whole → drop next shape ≡ machine.pending frames next → next ≤ length shape
     → HoldsAll view s nodes frames known 0 next codes parts → view.Holds nodes state → Nests (length s) frames
     → view.size nodes + owed view.owes frames (length known) ≤ view.most (length s)
-    → reached ≤ left_from (length s) frames → IsEarly reached frames known → IsDue due frames → view.IsPaid nodes reached
+    → reached ≤ left_from (length s) frames → IsEarly reached frames known → IsDue due frames → IsLight view nodes due frames known → view.IsPaid nodes reached
     → codes ≡ lower ++ code ∷ [] → Innermost view s shape whole due nodes next lower code parts
-innermost_on view s shape whole due nodes next codes lower code parts [] known state reached coming rows within (none, are) keeps nests size before early is_due paid ends =
+innermost_on view s shape whole due nodes next codes lower code parts [] known state reached coming rows within (none, are) keeps nests size before early is_due light paid ends =
     absurd (no_last lower code (sym none ∙ ends))
-innermost_on view s shape whole due nodes next codes lower code parts (top ∷ frames) known state reached coming rows within (one, holds) keeps nests size before early is_due paid ends =
+innermost_on view s shape whole due nodes next codes lower code parts (top ∷ frames) known state reached coming rows within (one, holds) keeps nests size before early is_due light paid ends =
     let same : one.code ≡ code = snoc_last one.lower lower one.code code (sym one.codes_are ∙ ends) in
     let same_lower : one.lower ≡ lower = snoc_front one.lower lower one.code code (sym one.codes_are ∙ ends) in
     let base_is : code.base ≡ length one.below = ap (λ f. f.base) (sym same) ∙ one.base in
@@ -142,6 +143,7 @@ innermost_on view s shape whole due nodes next codes lower code parts (top ∷ f
       before = before;
       early = early;
       is_due = is_due;
+      light = light;
       paid = paid;
     }
 
@@ -149,7 +151,7 @@ pub innermost : {N P K V S C : Type 0} (view : View N P K V S C) (s : List ℕ) 
     (nodes : N) (next : ℕ) (codes lower : List (Frame K)) (code : Frame K) (parts : List P)
     → Follows view s shape whole due nodes next codes parts → codes ≡ lower ++ code ∷ [] → Innermost view s shape whole due nodes next lower code parts
 innermost view s shape whole due nodes next codes lower code parts f ends =
-    innermost_on view s shape whole due nodes next codes lower code parts f.frames f.known f.state f.reached f.coming f.rows f.within f.holds f.keeps f.nests f.size f.before f.early f.is_due f.paid ends
+    innermost_on view s shape whole due nodes next codes lower code parts f.frames f.known f.state f.reached f.coming f.rows f.within f.holds f.keeps f.nests f.size f.before f.early f.is_due f.light f.paid ends
 
 -- ## A rule closes
 
@@ -198,6 +200,7 @@ close_follows view s shape whole due old new next lower code parts part laws gro
       before = omega (arith, i.before, i.nests.0);
       early = early_push i.reached i.frames i.top.outer value;
       is_due = close_due due i.top i.frames left i.is_due none counts;
+      light = tt;
       paid = paid;
     }
 

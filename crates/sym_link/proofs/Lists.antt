@@ -1,5 +1,5 @@
 -- Lists that are taken apart and joined.
-use Rattle.std.proofs.Common.{◌≡◌, refl, sym, ◌∙◌, ap, arith, ℕ, ◌-◌, ◌<◌, ◌≤◌, List, [], ◌∷◌, ◌++◌, length, take, drop, append_assoc, length-drop, length-append, get_or}
+use Rattle.std.proofs.Common.{◌≡◌, refl, sym, ◌∙◌, ap, arith, ℕ, zero, suc, ◌-◌, ◌<◌, ◌≤◌, List, [], ◌∷◌, ◌++◌, length, take, drop, append_assoc, length-drop, length-append, get_or}
 use Rattle.sym_link.specs.Driving.{AreAll}
 use Rattle.std.proofs.Math.Seq.{get_or-append_seam}
 use Rattle.std.proofs.lemmas.List.{take-append-drop, length-take-le, take_all}
@@ -9,6 +9,11 @@ taken_dropped n xs = take-append-drop n xs
 
 pub pushed_behind : {A : Type 0} (n : ℕ) (xs : List A) (x : A) → n ≤ length xs → xs ++ x ∷ [] ≡ take n xs ++ (drop n xs ++ x ∷ [])
 pushed_behind n xs x within = ap (λ ys. ys ++ x ∷ []) (sym (take-append-drop n xs)) ∙ append_assoc (take n xs) (drop n xs) (x ∷ [])
+
+pub dropped_push : {A : Type 0} (n : ℕ) (xs : List A) (x : A) → n ≤ length xs → drop n (xs ++ x ∷ []) ≡ drop n xs ++ x ∷ []
+dropped_push zero xs x within = refl
+dropped_push (suc n) [] x within = absurd (omega (arith, within))
+dropped_push (suc n) (y ∷ xs) x within = dropped_push n xs x (omega (arith, within))
 
 pub span_length : {A : Type 0} (from to : ℕ) (xs : List A) → from ≤ to → to ≤ length xs → length (take (to - from) (drop from xs)) ≡ to - from
 span_length from to xs low high = length-take-le (to - from) (drop from xs) (omega (arith, low, high, length-drop from xs))
@@ -65,3 +70,12 @@ pub popped : {A : Type 0} (items lower : List A) (x : A) (n : ℕ) → items ≡
 popped items lower x n are is_n =
     let count : n - 1 ≡ length lower = omega (arith, ap length are, length-append lower (x ∷ []), is_n) in
     rw (count, are) (taken_front lower (x ∷ []))
+
+-- a list has one last item
+pub last_same : {A : Type 0} (xs ys : List A) (x y : A) → xs ++ x ∷ [] ≡ ys ++ y ∷ [] → x ≡ y
+last_same [] [] x y same = cc
+last_same [] (b ∷ []) x y same = cc
+last_same [] (b ∷ c ∷ ys) x y same = cc
+last_same (a ∷ []) [] x y same = cc
+last_same (a ∷ c ∷ xs) [] x y same = cc
+last_same (a ∷ xs) (b ∷ ys) x y same = last_same xs ys x y cc

@@ -7,11 +7,10 @@ use Rattle.sym_shape.specs.Tree.{Forest, branch, empty, token, fixed, nothing, g
 use Rattle.sym_link.specs.Reading.{Found, Open, Reading, ◌>>=◌}
 use Rattle.sym_link.specs.Unfold.{found, standing, unfold_tree}
 use Rattle.sym_link.specs.Machine.{Frame, Machine, frame, machine, outcome_of, outcome, entered, Passed, passed, advanced, step_of}
-use Rattle.sym_link.specs.Parts.{skipped, skipped_from, values_in}
+use Rattle.sym_link.specs.Parts.{skipped, passed_by, skipped_from, values_in}
 use Rattle.sym_link.specs.Linking.{next_of, Begun, begun, taken_in}
 use Rattle.sym_link.proofs.Steps.{bind_assoc, bind_same, entered_outcome, step_outcome}
 use Rattle.sym_link.proofs.Results.{bind_where, bind_ok, ok_any, ok_bind, ok_weaker}
-use Rattle.sym_link.proofs.Standing.{passed_by}
 
 -- where the parts that are left stand, past those that have no row
 record IsSkipped {V S : Type 0} (from : ℕ) (left : Forest) (p : Passed V S) : Type 0 where

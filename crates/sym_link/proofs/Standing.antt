@@ -13,14 +13,9 @@ use Rattle.sym_link.specs.Reading.{Open}
 use Rattle.sym_link.specs.Unfold.{standing}
 use Rattle.sym_link.specs.Machine.{HasRowNext}
 use Rattle.sym_link.specs.Owing.{Owes, cost_all}
-use Rattle.sym_link.specs.Parts.{skipped, skipped_from, joined, values_in, Stands}
+use Rattle.sym_link.specs.Parts.{skipped, passed_by, skipped_from, joined, values_in, Stands}
 
 -- ## Parts without a row that are skipped
-
-abbrev pub passed_by : Forest → Forest
-passed_by (grown empty rest) = grown empty (passed_by rest)
-passed_by (grown (fixed byte) rest) = grown (fixed byte) (passed_by rest)
-passed_by left = nothing
 
 pub skip_split : (left : Forest) → left ≡ joined (passed_by left) (skipped left)
 skip_split (grown empty rest) = ap (λ f. grown empty f) (skip_split rest)

@@ -70,7 +70,7 @@ pub root_follows : {N P K V S C : Type 0} (view : View N P K V S C) (s : List �
     → opened.rule ≡ r.rule.number → opened.place ≡ 0 → opened.end ≡ 0 + 1 + row_count_all r.inner → opened.base ≡ 0
     → Begins view new [] [] (Ok opened.kept) (begun view.reading r.rule r.taken 0 r.inner (record { context = view.around; values = []; state = view.first }))
     → view.size new + 0 ≤ view.size old + 0 → view.IsPaid new 0 → (left : ℕ) → link_steps tree ≡ left + 1
-    → Follows view s shape (meaning_of view tree) (starting left) new (0 + 1) (opened ∷ []) []
+    → Follows view s shape (meaning_of view tree) (starting left (view.size old + 2)) new (0 + 1) (opened ∷ []) []
 root_follows view s shape tree old new opened laws is fits r no_node number place end base (b, read, is_kept, holds, own, parts_are, are) added paid left steps =
     let n = length view.reading.rowless in
     let count = of_ok (begun view.reading r.rule r.taken 0 r.inner (record { context = view.around; values = []; state = view.first })) b (BeginsRoot r.rule r.taken) read
@@ -125,6 +125,12 @@ root_follows view s shape tree old new opened laws is fits r no_node number plac
         ap (λ o. view.owes o.rule.number 0) count.1.2,
       );
       is_due = root_due left r.rule r.taken r.inner (sym (ap link_steps r.tree_is) ∙ steps);
+      light = record {
+        none_known = refl;
+        size = omega (arith, added);
+        closed = λ at_once own counted. omega (arith, added, laws.closing b.rule.rule.number own, laws.two b.rule.rule.number 0);
+        refused = λ at_once. omega (arith, added, laws.closing b.rule.rule.number [], laws.two b.rule.rule.number 0);
+      };
       reached = 0;
       before = omega arith;
       early = λ none. omega arith;

@@ -38,21 +38,21 @@ no_row (grown (fixed byte) rest) none = no_row rest (omega (arith, none))
 no_row (grown (token t) rest) none = absurd (omega (arith, none))
 no_row (grown (branch rule taken parts) rest) none = absurd (omega (arith, none))
 
-some_row : (left : Forest) → (row_count_all left ≡ 0 → ⊥) → no_part_has_row left ≡ false
+pub some_row : (left : Forest) → (row_count_all left ≡ 0 → ⊥) → no_part_has_row left ≡ false
 some_row nothing some = absurd (some refl)
 some_row (grown empty rest) some = some_row rest (λ none. some (omega (arith, none)))
 some_row (grown (fixed byte) rest) some = some_row rest (λ none. some (omega (arith, none)))
 some_row (grown (token t) rest) some = refl
 some_row (grown (branch rule taken parts) rest) some = refl
 
-none_at_once : (left : Forest) → row_count_all left ≡ 0 → closes_at_once left ≡ true
+pub none_at_once : (left : Forest) → row_count_all left ≡ 0 → closes_at_once left ≡ true
 none_at_once nothing none = refl
 none_at_once (grown empty rest) none = none_at_once rest (omega (arith, none))
 none_at_once (grown (fixed byte) rest) none = none_at_once rest (omega (arith, none))
 none_at_once (grown (token t) rest) none = absurd (omega (arith, none))
 none_at_once (grown (branch rule taken parts) rest) none = absurd (omega (arith, none))
 
-token_at_once : (left : Forest) (t : Token) (rest : Forest) → skipped left ≡ grown (token t) rest → row_count_all rest ≡ 0 → closes_at_once left ≡ true
+pub token_at_once : (left : Forest) (t : Token) (rest : Forest) → skipped left ≡ grown (token t) rest → row_count_all rest ≡ 0 → closes_at_once left ≡ true
 token_at_once left t rest left_is none = sym (skip_at_once left) ∙ ap closes_at_once left_is ∙ no_row rest none
 
 -- a rule in which a rule stands next doesn't close at once
@@ -78,14 +78,14 @@ later_is test steps is = ap (λ b. if b then 0 else steps) is
 -- the innermost rule closes
 pub close_due : {V S C : Type 0} (due : Due) (top : Frame V S C) (frames : List (Frame V S C)) (n : ℕ) → IsDue due (top ∷ frames) → row_count_all top.left ≡ 0 → CountsClose due n → IsDue (waiting n) frames
 close_due (waiting m) top frames n is none counts = omega (arith, is, counts, no_steps top.left none)
-close_due (starting m) top frames n is none counts =
+close_due (starting m most) top frames n is none counts =
     omega (arith, is, counts, at_once_is (closes_at_once top.left) (link_steps_all top.left + 1) (none_at_once top.left none))
 
 -- a token is taken in it
 pub token_due : {V S C : Type 0} (due : Due) (top : Frame V S C) (frames : List (Frame V S C)) (n : ℕ) (t : Token) (rest : Forest) → IsDue due (top ∷ frames)
     → skipped top.left ≡ grown (token t) rest → CountsToken due (row_count_all rest) n → link_steps_all rest + 1 + steps_ahead frames ≡ n
 token_due (waiting m) top frames n t rest is left_is counts = omega (arith, is, counts, skip_steps top.left, ap link_steps_all left_is)
-token_due (starting m) top frames n t rest is left_is counts =
+token_due (starting m most) top frames n t rest is left_is counts =
     omega (
       arith,
       is,
@@ -107,8 +107,8 @@ pub root_due : (n : ℕ) (rule : Rule) (taken : List ℕ) (inner : Forest) → l
 root_due n rule taken inner is = omega (arith, is, chosen (closes_at_once inner) (link_steps_all inner))
 
 -- the step ends in which it begins
-pub push_due : {V S C : Type 0} (top : Frame V S C) (frames : List (Frame V S C)) (n : ℕ) → IsDue (starting n) (top ∷ frames) → closes_at_once top.left ≡ false → IsDue (waiting n) (top ∷ frames)
-push_due top frames n is later = omega (arith, is, later_is (closes_at_once top.left) (link_steps_all top.left + 1) later)
+pub push_due : {V S C : Type 0} (top : Frame V S C) (frames : List (Frame V S C)) (n most : ℕ) → IsDue (starting n most) (top ∷ frames) → closes_at_once top.left ≡ false → IsDue (waiting n) (top ∷ frames)
+push_due top frames n most is later = omega (arith, is, later_is (closes_at_once top.left) (link_steps_all top.left + 1) later)
 
 -- an open rule takes a step at least
 pub some_due : {V S C : Type 0} (top : Frame V S C) (frames : List (Frame V S C)) (steps : ℕ) → IsDue (waiting steps) (top ∷ frames) → (n : ℕ) × (steps ≡ n + 1)

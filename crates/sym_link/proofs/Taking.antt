@@ -1,5 +1,5 @@
 -- A driver that takes the next row stays on its way.
-use Rattle.std.proofs.Common.{◌≡◌, refl, sym, ◌∙◌, ap, subst, arith, ℕ, zero, suc, ◌+◌, ◌-◌, ◌<◌, ◌≤◌, List, [], ◌∷◌, ◌++◌, length, take, drop, Ok, add-one, append_assoc, append-nil, length-append}
+use Rattle.std.proofs.Common.{◌≡◌, refl, sym, ◌∙◌, ap, subst, arith, true, ℕ, zero, suc, ◌+◌, ◌-◌, ◌<◌, ◌≤◌, List, [], ◌∷◌, ◌++◌, length, take, drop, Ok, add-one, append_assoc, append-nil, length-append}
 use Rattle.std.specs.Prelude.{Result, slice_index_or}
 use Rattle.std.specs.Result.{IfOk}
 use Rattle.std.proofs.lemmas.List.{length-take-le}
@@ -12,14 +12,14 @@ use Rattle.sym_link.specs.declared.language.Frame.{Frame}
 use Rattle.sym_link.specs.Reading.{Found, Open, ◌>>=◌}
 use Rattle.sym_link.specs.Unfold.{found}
 use Rattle.sym_link.specs.Machine as machine
-use Rattle.sym_link.specs.Parts.{skipped, skipped_from, values_in, Stands}
+use Rattle.sym_link.specs.Parts.{skipped, passed_by, skipped_from, values_in, Stands}
 use Rattle.sym_link.specs.Driving.{AreAll, Fails}
-use Rattle.sym_link.specs.Linking.{View, IsLinking, IsRuleRow, IsTokenRow, owed_behind, owed_next, next_of, begun, taken_in, Begins, Takes}
+use Rattle.sym_link.specs.Linking.{View, IsLinking, IsRuleRow, IsTokenRow, AddTwo, owed_behind, owed_next, next_of, begun, taken_in, Begins, Takes}
 use Rattle.sym_link.specs.Owing.{cost_all}
-use Rattle.sym_link.specs.Stepping.{Due, waiting, starting, CountsToken}
+use Rattle.sym_link.specs.Stepping.{closes_at_once, Due, waiting, starting, CountsToken}
 use Rattle.sym_link.specs.Following.{HoldsAll, Follows}
 use Rattle.sym_link.proofs.Opening.{machine_in, entering_outcome, machine_at, token_outcome, BeginsBehind, begun_count, taken_count}
-use Rattle.sym_link.proofs.Standing.{passed_by, skip_split, skip_from, skip_rows, skip_count, skip_cost, joined_spell, stands_skip, stands_take, stands_left, stands_inner, token_own}
+use Rattle.sym_link.proofs.Standing.{skip_split, skip_from, skip_rows, skip_count, skip_cost, joined_spell, stands_skip, stands_take, stands_left, stands_inner, token_own}
 use Rattle.sym_link.proofs.Cases.{as_many}
 use Rattle.sym_link.proofs.Stepping.{token_due, enter_due}
 use Rattle.sym_link.proofs.Following.{Innermost, holds_stays, fails_carried}
@@ -136,7 +136,7 @@ pub enter_follows : {N P K V S C : Type 0} (view : View N P K V S C) (s : List �
     → Begins view new (take code.base parts) new_parts (Ok opened.kept)
     (next_of view.reading i.top.rule i.known i.top.from i.top.left i.state >>= begun view.reading rule taken (skipped_from i.top.from i.top.left) inner)
     → view.size new + owed_next view code new_parts ≤ view.size old + owed_behind view code parts → view.IsPaid new (skipped_from i.top.from i.top.left)
-    → Follows view s shape whole (starting left) new (next + 1) ((lower ++ code ∷ []) ++ opened ∷ []) new_parts
+    → Follows view s shape whole (starting left (view.size old + 2)) new (next + 1) ((lower ++ code ∷ []) ++ opened ∷ []) new_parts
 enter_follows view s shape whole left old new next lower code opened parts new_parts laws grows i rule taken inner rest left_is number place_is end base
     (b, read, is_kept, holds, own, parts_are, are) added paid =
     let n = length view.reading.rowless in
@@ -149,6 +149,12 @@ enter_follows view s shape whole left old new next lower code opened parts new_p
     let owed_is : owed_next view code new_parts ≡ view.owes i.top.rule.rule.number (length b.values + 1) =
     ap (λ n. view.owes n (length new_parts - code.base + 1)) i.inside.number
     ∙ ap (λ k. view.owes i.top.rule.rule.number (k + 1)) (own_count (view.IsPart new) parts new_parts own b.values code.base i.base parts_are are) in
+    let number_is : b.rule.rule.number ≡ rule.number = ap (λ r. r.rule.number) count.1.2 in
+    let behind_is : view.owes i.top.rule.rule.number (length b.values + 1) ≡ view.owes i.top.rule.rule.number (length i.known + values_in n (passed_by i.top.left) + 1) =
+    ap (λ k. view.owes i.top.rule.rule.number (k + 1)) count.0 in
+    let two_at_once : closes_at_once inner ≡ true
+    → AddTwo view (view.owes i.top.rule.rule.number (length i.known)) (view.owes i.top.rule.rule.number (length i.known + values_in n (passed_by i.top.left) + 1)) rule.number inner =
+    laws.two_at_once s i.top.rule (length i.known) i.top.from i.top.left rule taken inner rest i.inside.stands left_is in
     let skip : Stands view.table s n i.top.rule (length i.known + values_in n (passed_by i.top.left)) place (grown (branch rule taken inner) rest) =
     subst (λ f. Stands view.table s n i.top.rule (length i.known + values_in n (passed_by i.top.left)) place f) left_is
     (stands_skip view.table s n i.top.rule (length i.known) i.top.from i.top.left i.inside.stands) in
@@ -220,6 +226,12 @@ enter_follows view s shape whole left old new next lower code opened parts new_p
         owed_is,
       );
       is_due = enter_due i.top i.frames left rule taken inner rest i.is_due left_is;
+      light = record {
+        none_known = refl;
+        size = omega (arith, added, i.owes, laws.two i.top.rule.rule.number (length i.known));
+        closed = λ at_once own counted. rw number_is (omega (arith, (two_at_once at_once).closed own counted, added, i.owes, owed_is, behind_is));
+        refused = λ at_once. rw number_is (omega (arith, (two_at_once at_once).refused, added, i.owes, owed_is, behind_is));
+      };
       reached = place;
       before = omega arith;
       early = λ none. omega (arith, ap (λ r. r.place) count.1.2);
@@ -339,6 +351,7 @@ token_follows view s shape whole due old new next lower code parts new_parts law
       nests = (omega (arith, skipped_end i.top.from i.top.left (grown (token t) rest) left_is, length-append (bytes_of t) (spell_all rest), i.nests.0), i.nests.1);
       size = omega (arith, i.size, i.owes, added, sym (skip_cost view.owes i.top.left) ∙ ap (λ f. cost_all view.owes f) left_is, owed_is);
       is_due = token_due due i.top i.frames left t rest i.is_due left_is counts;
+      light = tt;
       reached = to;
       before = omega (arith, to_is, bytes);
       early = λ none. absurd (omega (arith, none, count));

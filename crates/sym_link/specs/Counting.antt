@@ -61,6 +61,7 @@ counting s = record {
   Grows = λ old new. (more : List ℕ) × (new.counts.items ≡ old.counts.items ++ more);
   size = λ nodes. length nodes.counts.items;
   owes = λ number held. 1;
+  closes = λ number own. 1;
   most = λ bytes. 4 * bytes + 4;
   IsPaid = λ nodes bytes. length nodes.text.items ≤ bytes;
 }

@@ -26,4 +26,7 @@ counting_laws s = record {
   paid_more = λ nodes few more le paid. omega (arith, le, paid);
   keeps_count = λ rule known state. refl;
   few = λ tree is rows. omega (arith, rows, cost_rows (λ number held. 1) (λ number. omega arith) tree);
+  two = λ number held. omega arith;
+  closing = λ number own. omega arith;
+  two_at_once = λ s around held from left rule taken parts rest stands next at_once. record { closed = λ own counted. omega arith; refused = omega arith };
 }

@@ -12,9 +12,9 @@ use Rattle.sym_link.specs.Unfold.{found, unfold_tree}
 use Rattle.sym_link.specs.Machine as machine
 use Rattle.sym_link.specs.Parts.{Stands}
 use Rattle.sym_link.specs.Driving.{AreAll, Fails}
-use Rattle.sym_link.specs.Linking.{View}
+use Rattle.sym_link.specs.Linking.{View, values_at_once}
 use Rattle.sym_link.specs.Owing.{owed}
-use Rattle.sym_link.specs.Stepping.{link_steps, Due, waiting, starting, IsDue, CountsClose}
+use Rattle.sym_link.specs.Stepping.{link_steps, closes_at_once, Due, waiting, starting, IsDue, CountsClose}
 
 -- these are the rows of a tree that spells the symbol
 pub record IsShape (g : Table) (s : List ℕ) (rows : List Row) (tree : Tree) : Type 0 where
@@ -67,6 +67,21 @@ abbrev pub IsEarly : {V S C : Type 0} → (reached : ℕ) → List (machine.Fram
 IsEarly reached [] known = Unit {0}
 IsEarly reached (top ∷ frames) known = length known ≡ 0 → reached ≤ top.rule.place
 
+-- A rule has begun in a step behind which there are at most so many nodes. If it closes in that step, it adds no more than that,
+-- where it closes with these parts or is refused before.
+pub record BeginsWithin {N P K V S C : Type 0} (view : View N P K V S C) (nodes : N) (top : machine.Frame V S C) (known : List V) (most : ℕ) : Type 0 where
+  pub none_known : known ≡ []
+  pub size : view.size nodes ≤ most
+  pub closed : closes_at_once top.left ≡ true → (own : List P) → length own ≡ values_at_once (length view.reading.rowless) top.left
+      → view.size nodes + view.owes top.rule.rule.number 0 + view.closes top.rule.rule.number own ≤ most + view.owes top.rule.rule.number (length own)
+  pub refused : closes_at_once top.left ≡ true → view.size nodes + view.closes top.rule.rule.number [] ≤ most
+
+-- so it is of the innermost of the open rules in the step in which it begins
+abbrev pub IsLight : {N P K V S C : Type 0} → View N P K V S C → (nodes : N) → Due → List (machine.Frame V S C) → (known : List V) → Type 0
+IsLight view nodes (waiting n) frames known = Unit {0}
+IsLight view nodes (starting n most) [] known = ⊥
+IsLight view nodes (starting n most) (top ∷ frames) known = BeginsWithin view nodes top known most
+
 -- A driver is on the way to what comes of the whole, in so many steps. The open rules with the parts that they have left
 -- are known to proofs alone, and so is the place up to which the bytes have paid.
 pub record Follows {N P K V S C : Type 0} (view : View N P K V S C) (s : List ℕ) (shape : List Row) (whole : Result (Found (List V) S) Refusal) (due : Due)
@@ -85,6 +100,7 @@ pub record Follows {N P K V S C : Type 0} (view : View N P K V S C) (s : List �
   pub before : reached ≤ left_from (length s) frames
   pub early : IsEarly reached frames known
   pub is_due : IsDue due frames
+  pub light : IsLight view nodes due frames known
   pub paid : view.IsPaid nodes reached
 
 -- behind a move the driver is on the way still, with so many steps left, or what was to come is the refusal
@@ -132,7 +148,8 @@ pub record CanClose {N P K V S C : Type 0} (view : View N P K V S C) (s : List �
 pub record CanSettle {N P K V S C : Type 0} (view : View N P K V S C) (s : List ℕ) (shape : List Row) (nodes : N) (next : ℕ) (lower : List (Frame K)) (frame : Frame K) (parts : List P) : Type 0 where
   pub whole : Result (Found (List V) S) Refusal
   pub steps : ℕ
-  pub follows : Follows view s shape whole (starting steps) nodes next (lower ++ frame ∷ []) parts
+  pub most : ℕ
+  pub follows : Follows view s shape whole (starting steps most) nodes next (lower ++ frame ∷ []) parts
   pub fits : Fits s shape
 
 -- The rule of the frame is the innermost one of a driver that is on its way, and the next row isn't behind it.
@@ -142,6 +159,12 @@ pub record CanTake {N P K V S C : Type 0} (view : View N P K V S C) (s : List �
   pub last : EndsWith codes frame
   pub open_still : frame.end ≢ next
   pub fits : Fits s shape
+
+-- behind its token there are at most so many nodes, also where the rule closes there
+abbrev pub StaysWithin : {N P K V S C : Type 0} → View N P K V S C → (nodes : N) → Frame K → List P → (most : ℕ) → Result ℕ Refusal → Type 0
+StaysWithin view nodes frame parts most (Ok behind) =
+    (view.size nodes ≤ most) × (frame.end ≡ behind → view.size nodes + view.closes frame.rule (drop frame.base parts) ≤ most)
+StaysWithin view nodes frame parts most (Err e) = view.size nodes ≤ most
 
 -- nothing is done yet
 pub record IsFresh {N P K V S C : Type 0} (view : View N P K V S C) (nodes : N) (next : ℕ) (codes : List (Frame K)) (parts : List P) : Type 0 where

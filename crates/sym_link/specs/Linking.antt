@@ -1,5 +1,5 @@
 -- How the nodes that a language makes are what its reading says.
-use Rattle.std.specs.Prelude.{◌≡◌, ℕ, ◌+◌, ◌-◌, ◌*◌, ◌≤◌, List, [], ◌∷◌, ◌++◌, length, take, drop, false, Result, Ok, Err}
+use Rattle.std.specs.Prelude.{◌≡◌, ℕ, ◌+◌, ◌-◌, ◌*◌, ◌≤◌, List, [], ◌∷◌, ◌++◌, length, take, drop, true, false, if◌then◌else◌, Result, Ok, Err}
 use Rattle.std.specs.Result.{IfOk}
 use Rattle.sym_core.specs.Number.{FitsSymbol}
 use Rattle.sym_core.specs.declared.refusal.Refusal.{Refusal}
@@ -14,7 +14,8 @@ use Rattle.sym_link.specs.Reading.{Found, Open, Next, Reading, ◌>>=◌}
 use Rattle.sym_link.specs.Unfold.{found, standing}
 use Rattle.sym_link.specs.Machine.{passed, ended}
 use Rattle.sym_link.specs.Owing.{Owes, cost}
-use Rattle.sym_link.specs.Parts.{skipped, skipped_from, Stands}
+use Rattle.sym_link.specs.Parts.{skipped, passed_by, skipped_from, values_in, Stands}
+use Rattle.sym_link.specs.Stepping.{no_part_has_row, closes_at_once}
 use Rattle.sym_link.specs.Driving.{AreAll, Fails}
 
 -- A language as its code has it. N are the nodes that it makes, P the parts and K what it keeps for an open rule in code;
@@ -35,6 +36,8 @@ pub record View (N P K V S C : Type 0) : Type 1 where
   -- so many bytes may have
   pub size : N → ℕ
   pub owes : Owes
+  -- how many it may add behind these parts, where no other part with a row comes or it is refused
+  pub closes : (number : ℕ) → List P → ℕ
   pub most : (bytes : ℕ) → ℕ
   -- what the language has written beside the nodes is paid for by so many bytes of the symbol
   pub IsPaid : N → (bytes : ℕ) → Type 0
@@ -46,6 +49,17 @@ owed_behind view frame parts = view.owes frame.rule (length parts - frame.base)
 -- how many it may add still behind the part that begins there
 abbrev pub owed_next : {N P K V S C : Type 0} → View N P K V S C → Frame K → List P → ℕ
 owed_next view frame parts = view.owes frame.rule (length parts - frame.base + 1)
+
+-- how many values the parts have of a rule that closes in the step that begins it: those up to its token, if it has one
+abbrev pub values_at_once : (rowless : ℕ) → Forest → ℕ
+values_at_once rowless parts = if no_part_has_row parts then 0 else (values_in rowless (passed_by parts) + 1)
+
+-- A rule that has these parts and closes in the step that begins it adds at most two nodes with what is added to the rule around
+-- it, which may add so many before and behind: where the rule closes, and where it is refused before.
+pub record AddTwo {N P K V S C : Type 0} (view : View N P K V S C) (before behind number : ℕ) (parts : Forest) : Type 0 where
+  pub closed : (own : List P) → length own ≡ values_at_once (length view.reading.rowless) parts
+      → before + view.owes number 0 + view.closes number own ≤ behind + view.owes number (length own) + 2
+  pub refused : before + view.closes number [] ≤ behind + 2
 
 -- what every language keeps to
 pub record IsLinking {N P K V S C : Type 0} (view : View N P K V S C) : Type 0 where
@@ -62,6 +76,13 @@ pub record IsLinking {N P K V S C : Type 0} (view : View N P K V S C) : Type 0 w
       → IfOk (view.reading.between rule known state) (λ next. length next.values ≡ length known)
   -- what the rules of a symbol's tree may add isn't more than the symbol may have
   pub few : (tree : Tree) → IsTree view.table (Kind 0) tree → row_count tree ≤ 4 * length (spell tree) + 4 → cost view.owes tree ≤ view.most (length (spell tree))
+  -- a rule adds at most two nodes, and where it closes no more than it may add still
+  pub two : (number held : ℕ) → view.owes number held ≤ 2
+  pub closing : (number : ℕ) (own : List P) → view.closes number own ≤ view.owes number (length own)
+  -- and so does one that closes in the step that begins it, together with the rule around it
+  pub two_at_once : (s : List ℕ) (around : Open S C) (held from : ℕ) (left : Forest) (rule : Rule) (taken : List ℕ) (parts rest : Forest)
+      → Stands view.table s (length view.reading.rowless) around held from left → skipped left ≡ grown (branch rule taken parts) rest → closes_at_once parts ≡ true
+      → AddTwo view (view.owes around.rule.number held) (view.owes around.rule.number (held + values_in (length view.reading.rowless) (passed_by left) + 1)) rule.number parts
 
 -- the symbol can be read, and the language may add so many nodes
 pub record HasRoom {N P K V S C : Type 0} (view : View N P K V S C) (s : List ℕ) (nodes : N) (more : ℕ) : Type 0 where
@@ -183,6 +204,10 @@ ClosesRule {V = V} {S = S} {C = C} view s old new frame parts new_parts result =
 -- The nodes are the old ones and at most so many more as may be added less than before.
 abbrev pub Adds : {N P K V S C : Type 0} → View N P K V S C → (old new : N) → (before after : ℕ) → Type 0
 Adds view old new before after = view.Grows old new × (view.size new + after ≤ view.size old + before)
+
+-- A call that is refused, or closes the rule of the frame, adds at most as many nodes as that rule may add behind these parts.
+abbrev pub AddsFew : {N P K V S C : Type 0} → View N P K V S C → (old new : N) → Frame K → List P → Type 0
+AddsFew view old new frame parts = view.size new ≤ view.size old + view.closes frame.rule (drop frame.base parts)
 
 -- Where bytes up to a place have paid so far, bytes up to the new place pay now.
 abbrev pub Pays : {N P K V S C : Type 0} → View N P K V S C → (old new : N) → (at to : ℕ) → Type 0

@@ -10,6 +10,12 @@ skipped (grown empty rest) = skipped rest
 skipped (grown (fixed byte) rest) = skipped rest
 skipped left = left
 
+-- the first parts that have no row
+abbrev pub passed_by : Forest → Forest
+passed_by (grown empty rest) = grown empty (passed_by rest)
+passed_by (grown (fixed byte) rest) = grown (fixed byte) (passed_by rest)
+passed_by left = nothing
+
 -- the place where these stand, if all stand from a place on
 abbrev pub skipped_from : (from : ℕ) → Forest → ℕ
 skipped_from from (grown empty rest) = skipped_from from rest

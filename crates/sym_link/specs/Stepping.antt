@@ -31,10 +31,11 @@ abbrev mutual
   link_steps_all nothing = 0
   link_steps_all (grown tree rest) = link_steps tree + link_steps_all rest
 
--- the steps that are left: between two steps, or within the one in which the innermost rule begins
+-- the steps that are left: between two steps, or within the one in which the innermost rule begins, behind which there are at most so
+-- many nodes
 pub data Due : Type 0 where
   waiting : ℕ → Due
-  starting : ℕ → Due
+  starting : (steps most : ℕ) → Due
 
 -- for the parts that open rules have left, and to close these
 abbrev pub steps_ahead : {V S C : Type 0} → List (Frame V S C) → ℕ
@@ -44,16 +45,16 @@ steps_ahead (top ∷ frames) = link_steps_all top.left + 1 + steps_ahead frames
 -- so many steps are left with these open rules
 abbrev pub IsDue : {V S C : Type 0} → Due → List (Frame V S C) → Type 0
 IsDue (waiting n) frames = steps_ahead frames ≡ n
-IsDue (starting n) [] = ⊥
-IsDue (starting n) (top ∷ frames) = (if closes_at_once top.left then 0 else (link_steps_all top.left + 1)) + steps_ahead frames ≡ n
+IsDue (starting n most) [] = ⊥
+IsDue (starting n most) (top ∷ frames) = (if closes_at_once top.left then 0 else (link_steps_all top.left + 1)) + steps_ahead frames ≡ n
 
 -- where a rule closes, so many steps are left behind it
 abbrev pub CountsClose : Due → ℕ → Type 0
 CountsClose (waiting m) n = m ≡ n + 1
-CountsClose (starting m) n = m ≡ n
+CountsClose (starting m most) n = m ≡ n
 
 -- Where a token is taken, behind which so many rows stand in its rule, so many steps are left. One that is alone in a rule that
 -- begins takes none, and the rule is then still to close.
 abbrev pub CountsToken : Due → (behind : ℕ) → ℕ → Type 0
 CountsToken (waiting m) behind n = m ≡ n + 1
-CountsToken (starting m) behind n = (n ≡ m + 1) × (behind ≡ 0)
+CountsToken (starting m most) behind n = (n ≡ m + 1) × (behind ≡ 0)

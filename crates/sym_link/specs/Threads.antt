@@ -12,7 +12,7 @@ use Rattle.sym_link.specs.Unfold.{standing}
 use Rattle.sym_link.specs.Machine.{Passed, passed}
 use Rattle.sym_link.specs.Parts.{skipped, skipped_from}
 use Rattle.sym_link.specs.Driving.{AreAll, Fails}
-use Rattle.sym_link.specs.Linking.{View, IsLinking, IsInside, IsRuleRow, IsTokenRow, Gives, Puts}
+use Rattle.sym_link.specs.Linking.{View, IsLinking, IsInside, IsRuleRow, IsTokenRow, Gives, Puts, AddsFew}
 
 -- how many parts without a row stand first
 abbrev pub skips : Forest → ℕ
@@ -52,6 +52,11 @@ Goes {P = P} {V = V} {S = S} {C = C} view IsContext nodes lower parts (Ok contex
     (next : Next V S C) × (read ≡ Ok next) × IsContext nodes context next.context × view.Holds nodes next.state
     × (own : List P) × (parts ≡ lower ++ own) × AreAll (view.IsPart nodes) own next.values
 Goes view IsContext nodes lower parts (Err e) read = Fails e read
+
+-- In front of the next part of the rule of the frame at most so many nodes are added as it may add less behind those parts.
+abbrev pub AddsBefore : {N P K V S C A : Type 0} → View N P K V S C → (old new : N) → Frame K → (parts own : List P) → Result A Refusal → Type 0
+AddsBefore view old new frame parts own (Ok done) = view.size new + view.closes frame.rule own ≤ view.size old + view.closes frame.rule (drop frame.base parts)
+AddsBefore view old new frame parts own (Err e) = AddsFew view old new frame parts
 
 -- What is done before the next part of the rule of the frame is what the reading says.
 abbrev pub GoesOn : {N P K V S C : Type 0} → View N P K V S C → (s : List ℕ) → (IsContext : N → K → C → Type 0) → (old new : N) → Frame K → (parts new_parts : List P)

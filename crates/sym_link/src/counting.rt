@@ -28,8 +28,8 @@ pub struct Counts {
 }
 
 impl Linking for Counts {
-    ghost use Rattle.std.specs.Prelude.{◌≡◌, ℕ, ◌<◌, ◌≤◌, length, OnOk};
-    ghost use Rattle.sym_link.specs.Linking.{HasRoom, IsOpen, OpensRoot, Opens, TakesToken, ClosesRule, Adds, Pays, owed_behind, owed_next};
+    ghost use Rattle.std.specs.Prelude.{◌≡◌, ℕ, ◌<◌, ◌≤◌, length, OnOk, OnErr};
+    ghost use Rattle.sym_link.specs.Linking.{HasRoom, IsOpen, OpensRoot, Opens, TakesToken, ClosesRule, Adds, AddsFew, Pays, owed_behind, owed_next};
     ghost use Rattle.sym_link.specs.Counting.{counting};
     ghost use Rattle.sym_link.specs.CountingLaws.{counting_laws};
 
@@ -50,6 +50,7 @@ impl Linking for Counts {
         requires end { _row.end ≤ length _rows.now }
         ensures opens { OpensRoot (counting _symbol.now) _symbol.now _rows.now self.old self.new _row result }
         ensures adds { OnOk result (Adds (counting _symbol.now) self.old self.new 0 0) }
+        ensures few { OnErr result ((counting _symbol.now).size self.new ≤ (counting _symbol.now).size self.old) }
         ensures pays { OnOk result (Pays (counting _symbol.now) self.old self.new 0 0) }
     {
         Ok(())
@@ -59,17 +60,18 @@ impl Linking for Counts {
         &mut self,
         _symbol: &[u8],
         _rows: &[Row],
-        _frame: Frame<()>,
+        _frame: &Frame<()>,
         _parts: &mut Vec<Part>,
         _row: Row,
     ) -> Result<(), Refusal>
-        requires room { HasRoom (counting _symbol.now) _symbol.now self.old (owed_behind (counting _symbol.now) _frame _parts.old.items) }
-        requires open { IsOpen (counting _symbol.now) _symbol.now self.old _frame _parts.old.items }
-        requires base { _frame.base ≤ length _parts.old.items }
+        requires room { HasRoom (counting _symbol.now) _symbol.now self.old (owed_behind (counting _symbol.now) _frame.now _parts.old.items) }
+        requires open { IsOpen (counting _symbol.now) _symbol.now self.old _frame.now _parts.old.items }
+        requires base { _frame.now.base ≤ length _parts.old.items }
         requires place { _row.from < length _symbol.now }
         requires end { _row.end ≤ length _rows.now }
-        ensures opens { Opens (counting _symbol.now) _symbol.now _rows.now self.old self.new _frame _parts.old.items _parts.new.items _row result }
-        ensures adds { OnOk result (Adds (counting _symbol.now) self.old self.new (owed_behind (counting _symbol.now) _frame _parts.old.items) (owed_next (counting _symbol.now) _frame _parts.new.items)) }
+        ensures opens { Opens (counting _symbol.now) _symbol.now _rows.now self.old self.new _frame.now _parts.old.items _parts.new.items _row result }
+        ensures adds { OnOk result (Adds (counting _symbol.now) self.old self.new (owed_behind (counting _symbol.now) _frame.now _parts.old.items) (owed_next (counting _symbol.now) _frame.now _parts.new.items)) }
+        ensures few { OnErr result (AddsFew (counting _symbol.now) self.old self.new _frame.now _parts.old.items) }
         ensures pays { OnOk result ((at : ℕ) → at ≤ _row.from → Pays (counting _symbol.now) self.old self.new at _row.from) }
     {
         Ok(())
@@ -78,18 +80,19 @@ impl Linking for Counts {
     fn token(
         &mut self,
         symbol: &[u8],
-        frame: Frame<()>,
+        frame: &Frame<()>,
         parts: &mut Vec<Part>,
         row: Row,
     ) -> Result<(), Refusal>
-        requires room { HasRoom (counting symbol.now) symbol.now self.old (owed_behind (counting symbol.now) frame parts.old.items) }
-        requires open { IsOpen (counting symbol.now) symbol.now self.old frame parts.old.items }
-        requires base { frame.base ≤ length parts.old.items }
+        requires room { HasRoom (counting symbol.now) symbol.now self.old (owed_behind (counting symbol.now) frame.now parts.old.items) }
+        requires open { IsOpen (counting symbol.now) symbol.now self.old frame.now parts.old.items }
+        requires base { frame.now.base ≤ length parts.old.items }
         requires from { row.from ≤ row.to }
         requires to { row.to ≤ length symbol.now }
-        ensures takes { TakesToken (counting symbol.now) symbol.now self.old self.new frame parts.old.items parts.new.items row result }
-        ensures adds { OnOk result (Adds (counting symbol.now) self.old self.new (owed_behind (counting symbol.now) frame parts.old.items) (owed_behind (counting symbol.now) frame parts.new.items)) }
-        ensures pays { OnOk result ((at : ℕ) → at ≤ row.from → (length parts.old.items ≡ frame.base → at ≤ frame.place)
+        ensures takes { TakesToken (counting symbol.now) symbol.now self.old self.new frame.now parts.old.items parts.new.items row result }
+        ensures adds { OnOk result (Adds (counting symbol.now) self.old self.new (owed_behind (counting symbol.now) frame.now parts.old.items) (owed_behind (counting symbol.now) frame.now parts.new.items)) }
+        ensures few { OnErr result (AddsFew (counting symbol.now) self.old self.new frame.now parts.old.items) }
+        ensures pays { OnOk result ((at : ℕ) → at ≤ row.from → (length parts.old.items ≡ frame.now.base → at ≤ frame.now.place)
             → Pays (counting symbol.now) self.old self.new at row.to) }
     {
         self.text
@@ -104,15 +107,16 @@ impl Linking for Counts {
     fn close(
         &mut self,
         symbol: &[u8],
-        frame: Frame<()>,
+        frame: &Frame<()>,
         parts: &mut Vec<Part>,
     ) -> Result<(), Refusal>
-        requires room { HasRoom (counting symbol.now) symbol.now self.old (owed_behind (counting symbol.now) frame parts.old.items) }
-        requires open { IsOpen (counting symbol.now) symbol.now self.old frame parts.old.items }
-        requires base { frame.base ≤ length parts.old.items }
-        requires place { frame.place < length symbol.now }
-        ensures closes { ClosesRule (counting symbol.now) symbol.now self.old self.new frame parts.old.items parts.new.items result }
-        ensures adds { OnOk result (Adds (counting symbol.now) self.old self.new (owed_behind (counting symbol.now) frame parts.old.items) 0) }
+        requires room { HasRoom (counting symbol.now) symbol.now self.old (owed_behind (counting symbol.now) frame.now parts.old.items) }
+        requires open { IsOpen (counting symbol.now) symbol.now self.old frame.now parts.old.items }
+        requires base { frame.now.base ≤ length parts.old.items }
+        requires place { frame.now.place < length symbol.now }
+        ensures closes { ClosesRule (counting symbol.now) symbol.now self.old self.new frame.now parts.old.items parts.new.items result }
+        ensures adds { OnOk result (Adds (counting symbol.now) self.old self.new (owed_behind (counting symbol.now) frame.now parts.old.items) 0) }
+        ensures few { AddsFew (counting symbol.now) self.old self.new frame.now parts.old.items }
         ensures pays { OnOk result ((at : ℕ) → Pays (counting symbol.now) self.old self.new at at) }
     {
         let own = parts.len() - frame.base;

@@ -4,7 +4,7 @@ ghost use Rattle.std.specs.Prelude.{◌≡◌, ℕ, ◌+◌, ◌-◌, ◌*◌, �
 ghost use Rattle.sym_shape.specs.Tree.{Tree};
 ghost use Rattle.sym_link.specs.Reading.{Found};
 ghost use Rattle.sym_link.specs.Stepping.{link_steps, waiting, starting};
-ghost use Rattle.sym_link.specs.Following.{IsShape, Follows, FollowsAfter, FollowsOn, FollowsAlone, EndsWith, CanClose, CanSettle, CanTake, CanBegin, CanMove, IsOnWay, Moves, CountsMove, Fits, IsDriving, IsStepTo, IsDone, meaning_of};
+ghost use Rattle.sym_link.specs.Following.{IsShape, Follows, FollowsAfter, FollowsOn, FollowsAlone, StaysWithin, EndsWith, CanClose, CanSettle, CanTake, CanBegin, CanMove, IsOnWay, Moves, CountsMove, Fits, IsDriving, IsStepTo, IsDone, meaning_of};
 
 use crate::language::{Frame, Linking};
 use std::alloc::Global;
@@ -12,32 +12,47 @@ use sym_core::Refusal;
 use sym_shape::rule::{Row, TOKEN};
 
 /// The frame of the rule that is open innermost.
-fn innermost<K: Copy>(frames: &[Frame<K>]) -> Option<Frame<K>>
-    ensures some { IfSome result (EndsWith frames.now) }
+#[inline(always)]
+fn innermost<K: Copy>(frames: &[Frame<K>]) -> Option<&Frame<K>>
+    ensures some { IfSome result (λ frame. EndsWith frames.now frame.now) }
     ensures none { IfNone result (frames.now ≡ []) }
 {
     match frames {
-        [.., last] => Some(*last),
+        [.., last] => Some(last),
         [] => None,
     }
 }
 
-/// Takes the innermost rule's frame off, and closes the rule.
+/// The frame of the rule that is open innermost, where one is.
+#[inline(always)]
+fn top<K: Copy>(frames: &[Frame<K>]) -> &Frame<K>
+    requires { 0 < length frames.now }
+    ensures { EndsWith frames.now result.now }
+{
+    &frames[frames.len() - 1]
+}
+
+/// Takes the frame of the rule that is open innermost off the others.
+fn take_off<K: Copy>(frames: &mut Vec<Frame<K>>)
+    ensures { frames.new.items ≡ take (length frames.old.items - 1) frames.old.items }
+{
+    let _frame = frames.pop();
+}
+
+/// Closes the innermost rule. Its frame is then to be taken off.
 #[inline(always)]
 fn leave<L: Linking>(
     language: &mut L,
     symbol: &[u8],
-    frames: &mut Vec<Frame<L::Kept>>,
     parts: &mut Vec<L::Part>,
-    frame: Frame<L::Kept>,
+    frame: &Frame<L::Kept>,
 ) -> Result<(), Refusal>
-    requires { CanClose (L.view symbol.now) symbol.now language.old frame parts.old.items }
+    requires { CanClose (L.view symbol.now) symbol.now language.old frame.now parts.old.items }
     ensures follows { (whole : Result (Found (List L.Value) L.State) Refusal) (shape : List Row) (lower : List (Frame L.Kept)) (next left : ℕ)
-        → Follows (L.view symbol.now) symbol.now shape whole (waiting (left + 1)) language.old next (lower ++ frame ∷ []) parts.old.items → frame.end ≡ next
+        → Follows (L.view symbol.now) symbol.now shape whole (waiting (left + 1)) language.old next (lower ++ frame.now ∷ []) parts.old.items → frame.now.end ≡ next
         → FollowsAfter (L.view symbol.now) symbol.now shape whole left language.new next lower parts.new.items result }
-    ensures lower { frames.new.items ≡ take (length frames.old.items - 1) frames.old.items }
+    ensures few { (L.view symbol.now).size language.new ≤ (L.view symbol.now).size language.old + 2 }
 {
-    frames.pop();
     language.close(symbol, frame, parts)
 }
 
@@ -52,13 +67,16 @@ fn take_alone<L: Linking>(
     frame: Frame<L::Kept>,
 ) -> Result<u32, Refusal>
     requires { (lower : List (Frame L.Kept)) × CanSettle (L.view symbol.now) symbol.now rows.now language.old next lower frame parts.old.items }
-    ensures follows { (whole : Result (Found (List L.Value) L.State) Refusal) (left : ℕ) (lower : List (Frame L.Kept))
-        → Follows (L.view symbol.now) symbol.now rows.now whole (starting left) language.old next (lower ++ frame ∷ []) parts.old.items
+    ensures follows { (whole : Result (Found (List L.Value) L.State) Refusal) (left most : ℕ) (lower : List (Frame L.Kept))
+        → Follows (L.view symbol.now) symbol.now rows.now whole (starting left most) language.old next (lower ++ frame ∷ []) parts.old.items
         → FollowsAlone (L.view symbol.now) symbol.now rows.now whole left language.new lower frame parts.new.items result }
+    ensures few { (whole : Result (Found (List L.Value) L.State) Refusal) (left most : ℕ) (lower : List (Frame L.Kept))
+        → Follows (L.view symbol.now) symbol.now rows.now whole (starting left most) language.old next (lower ++ frame ∷ []) parts.old.items
+        → StaysWithin (L.view symbol.now) language.new frame parts.new.items most result }
     ensures counts { IfOk result (λ behind. (next ≤ behind) × (behind ≤ next + 1)) }
 {
     if frame.end == next + 1 && rows[next as usize].rule == TOKEN {
-        language.token(symbol, frame, parts, rows[next as usize])?;
+        language.token(symbol, &frame, parts, rows[next as usize])?;
         return Ok(next + 1);
     }
     Ok(next)
@@ -77,9 +95,12 @@ fn settle<L: Linking>(
     frame: Frame<L::Kept>,
 ) -> Result<u32, Refusal>
     requires { CanSettle (L.view symbol.now) symbol.now rows.now language.old next frames.old.items frame parts.old.items }
-    ensures follows { (whole : Result (Found (List L.Value) L.State) Refusal) (left : ℕ)
-        → Follows (L.view symbol.now) symbol.now rows.now whole (starting left) language.old next (frames.old.items ++ frame ∷ []) parts.old.items
+    ensures follows { (whole : Result (Found (List L.Value) L.State) Refusal) (left most : ℕ)
+        → Follows (L.view symbol.now) symbol.now rows.now whole (starting left most) language.old next (frames.old.items ++ frame ∷ []) parts.old.items
         → FollowsOn (L.view symbol.now) symbol.now rows.now whole left language.new frames.new.items parts.new.items result }
+    ensures few { (whole : Result (Found (List L.Value) L.State) Refusal) (left most : ℕ)
+        → Follows (L.view symbol.now) symbol.now rows.now whole (starting left most) language.old next (frames.old.items ++ frame ∷ []) parts.old.items
+        → (L.view symbol.now).size language.new ≤ most }
     ensures counts { IfOk result (λ behind. (2 * next + length frames.new.items ≤ 2 * behind + length frames.old.items + 1) × (behind ≤ next + 1)) }
 {
     let behind = take_alone(language, symbol, rows, next, parts, frame)?;
@@ -87,7 +108,7 @@ fn settle<L: Linking>(
         frames.push(frame)?;
         return Ok(behind);
     }
-    language.close(symbol, frame, parts)?;
+    language.close(symbol, &frame, parts)?;
     Ok(behind)
 }
 
@@ -99,15 +120,18 @@ fn take<L: Linking>(
     next: u32,
     frames: &mut Vec<Frame<L::Kept>>,
     parts: &mut Vec<L::Part>,
-    frame: Frame<L::Kept>,
 ) -> Result<u32, Refusal>
-    requires { (left : ℕ) × CanTake (L.view symbol.now) symbol.now rows.now (waiting (left + 1)) language.old next frames.old.items frame parts.old.items }
+    requires { (left : ℕ)
+        × ((frame : Frame L.Kept) → EndsWith frames.old.items frame → CanTake (L.view symbol.now) symbol.now rows.now (waiting (left + 1)) language.old next frames.old.items frame parts.old.items)
+        × (0 < length frames.old.items) }
     ensures follows { (whole : Result (Found (List L.Value) L.State) Refusal) (left : ℕ)
         → Follows (L.view symbol.now) symbol.now rows.now whole (waiting (left + 1)) language.old next frames.old.items parts.old.items
         → FollowsOn (L.view symbol.now) symbol.now rows.now whole left language.new frames.new.items parts.new.items result }
+    ensures few { (L.view symbol.now).size language.new ≤ (L.view symbol.now).size language.old + 2 }
     ensures counts { IfOk result (λ behind. (2 * next + length frames.new.items + 1 ≤ 2 * behind + length frames.old.items) × (behind ≤ next + 2)) }
     ensures more { next < length rows.now }
 {
+    let frame = top(frames);
     let row = rows[next as usize];
     if row.rule == TOKEN {
         language.token(symbol, frame, parts, row)?;
@@ -135,6 +159,7 @@ fn begin<L: Linking>(
     requires { CanBegin (L.view symbol.now) symbol.now rows.now language.old 0 frames.old.items parts.old.items }
     ensures follows { (tree : Tree) (left : ℕ) → IsShape (L.view symbol.now).table symbol.now rows.now tree → link_steps tree ≡ left + 1
         → FollowsOn (L.view symbol.now) symbol.now rows.now (meaning_of (L.view symbol.now) tree) left language.new frames.new.items parts.new.items result }
+    ensures few { (L.view symbol.now).size language.new ≤ (L.view symbol.now).size language.old + 2 }
     ensures counts { IfOk result (λ behind. (length frames.new.items + 1 ≤ 2 * behind) × (behind ≤ 2)) }
     ensures more { 0 < length rows.now }
 {
@@ -164,6 +189,7 @@ fn advance<L: Linking>(
     ensures moves { (tree : Tree) (taken : ℕ) → IsShape (L.view symbol.now).table symbol.now rows.now tree
         → IsOnWay (L.view symbol.now) symbol.now rows.now tree taken language.old next frames.old.items parts.old.items
         → Moves (L.view symbol.now) symbol.now rows.now tree taken language.new frames.new.items parts.new.items result }
+    ensures few { (L.view symbol.now).size language.new ≤ (L.view symbol.now).size language.old + 2 }
     ensures counts { CountsMove (length rows.now) next (length frames.old.items) (length frames.new.items) result }
     ensures language { result ≡ Ok None → language.new ≡ language.old }
     ensures frames { result ≡ Ok None → frames.new.items ≡ frames.old.items }
@@ -181,10 +207,11 @@ fn advance<L: Linking>(
         return Ok(Some(behind));
     };
     if frame.end == next {
-        leave(language, symbol, frames, parts, frame)?;
+        leave(language, symbol, parts, frame)?;
+        take_off(frames);
         return Ok(Some(next));
     }
-    let behind = take(language, symbol, rows, next, frames, parts, frame)?;
+    let behind = take(language, symbol, rows, next, frames, parts)?;
     Ok(Some(behind))
 }
 
@@ -266,6 +293,8 @@ impl<L: Linking> Driver<L> {
         ensures answers { (tree : Tree) → IsShape (L.view symbol.now).table symbol.now rows.now tree
             → IsDriving (L.view symbol.now) symbol.now rows.now tree language.old self.old.steps self.old.refused self.old.next self.old.frames.items self.old.parts.items
             → IsStepTo (L.view symbol.now) symbol.now rows.now tree language.new self.old.steps self.new.steps self.old.refused self.new.refused self.new.parts.items result }
+        // A step that is counted adds at most two nodes, refused or not, and no other adds any.
+        ensures nodes { (L.view symbol.now).size language.new + 2 * self.old.steps ≤ (L.view symbol.now).size language.old + 2 * self.new.steps }
         ensures language { result ≡ Ok true → language.new ≡ language.old }
         ensures frames { result ≡ Ok true → self.new.frames.items ≡ self.old.frames.items }
         ensures parts { result ≡ Ok true → self.new.parts.items ≡ self.old.parts.items }
@@ -274,7 +303,7 @@ impl<L: Linking> Driver<L> {
         ensures over { self.old.refused ≡ None → self.old.frames.items ≡ [] → 0 < self.old.next → result ≡ Ok true }
         ensures closed { result ≡ Ok true → self.new.frames.items ≡ [] }
         ensures begun { result ≡ Ok true → 0 < self.new.next }
-        ensures again { IfSome self.old.refused (λ refusal. result ≡ Err refusal) }
+        ensures again { IfSome self.old.refused (λ refusal. (result ≡ Err refusal) × (language.new ≡ language.old)) }
     {
         if let Some(refusal) = self.refused {
             return Err(refusal);
@@ -323,9 +352,11 @@ impl<L: Linking> Driver<L> {
         ensures counted { (tree : Tree) → IsShape (L.view symbol.now).table symbol.now rows.now tree
             → IsDriving (L.view symbol.now) symbol.now rows.now tree language.old self.old.steps self.old.refused self.old.next self.old.frames.items self.old.parts.items
             → OnOk result (self.new.steps ≡ link_steps tree) }
+        // Each of the steps adds at most two nodes, refused or not.
+        ensures nodes { (L.view symbol.now).size language.new + 2 * self.old.steps ≤ (L.view symbol.now).size language.old + 2 * self.new.steps }
         ensures open { OnOk result (self.new.refused ≡ None) }
         ensures kept { IfErr result (λ refusal. self.new.refused ≡ Some refusal) }
-        ensures again { IfSome self.old.refused (λ refusal. result ≡ Err refusal) }
+        ensures again { IfSome self.old.refused (λ refusal. (result ≡ Err refusal) × (language.new ≡ language.old)) }
         ensures steps { self.old.steps ≤ self.new.steps }
     {
         if let Some(refusal) = self.refused {

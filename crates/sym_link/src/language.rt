@@ -14,7 +14,8 @@
 //   `plain_ended` in `proofs/Cases.antt` bring the reading's side to what the next part goes into, and to what the rule means.
 //   `stands` says which rule of the grammar it is and which parts it has passed, for a language that wants to know.
 // - `adds`: the nodes are the old ones and at most so many more. `Grows` is what must be kept, so that parts and frames stand
-//   for what they stood for (the laws `part_stays`, `kept_stays`).
+//   for what they stood for (the laws `part_stays`, `kept_stays`). `few`: so it is of a call that is refused, too. With the laws
+//   `two` and `two_at_once` a step of the driver adds at most two nodes.
 // - `pays`: what the language writes beside its nodes is paid for by bytes of the symbol. Bytes up to `at` have paid so far,
 //   where `at` is a place that no row so far lies behind. A token pays with the bytes up to its end; as the first part with a
 //   row of its rule (then the frame has no parts, if parts without a row have no value) with those from the rule's place on.
@@ -23,20 +24,22 @@
 //
 // An impl writes the clauses of its methods out, with its own view in the place of `view`.
 
-ghost use Rattle.std.specs.Prelude.{◌≡◌, ℕ, ◌<◌, ◌≤◌, List, length, OnOk};
-ghost use Rattle.sym_link.specs.Linking.{View, IsLinking, HasRoom, IsOpen, OpensRoot, Opens, TakesToken, ClosesRule, Adds, Pays, owed_behind, owed_next};
+ghost use Rattle.std.specs.Prelude.{◌≡◌, ℕ, ◌+◌, ◌<◌, ◌≤◌, List, length, OnOk, OnErr};
+ghost use Rattle.sym_link.specs.Linking.{View, IsLinking, HasRoom, IsOpen, OpensRoot, Opens, TakesToken, ClosesRule, Adds, AddsFew, Pays, owed_behind, owed_next};
 
 use sym_core::Refusal;
 use sym_shape::rule::Row;
 
-/// A rule that is open: its number and place, the row behind it, where its parts begin, and what the language keeps for it.
+/// A rule that is open: where its parts begin, its place, the row behind it, what the language keeps for it, and its number.
+///
+/// Its fields leave no gap in memory where what is kept leaves none.
 #[derive(Clone, Copy, Debug, PartialEq, Eq)]
 pub struct Frame<K> {
-    pub rule: u16,
+    pub base: usize,
     pub place: u32,
     pub end: u32,
-    pub base: usize,
     pub kept: K,
+    pub rule: u16,
 }
 
 /// A language over the nodes that it has made so far.
@@ -62,6 +65,7 @@ pub trait Linking {
         requires end { row.end ≤ length rows.now }
         ensures opens { OpensRoot (view symbol.now) symbol.now rows.now self.old self.new row result }
         ensures adds { OnOk result (Adds (view symbol.now) self.old self.new 0 0) }
+        ensures few { OnErr result ((view symbol.now).size self.new ≤ (view symbol.now).size self.old) }
         ensures pays { OnOk result (Pays (view symbol.now) self.old self.new 0 0) };
 
     /// A rule begins in the rule of the frame.
@@ -69,50 +73,53 @@ pub trait Linking {
         &mut self,
         symbol: &[u8],
         rows: &[Row],
-        frame: Frame<Self::Kept>,
+        frame: &Frame<Self::Kept>,
         parts: &mut Vec<Self::Part>,
         row: Row,
     ) -> Result<Self::Kept, Refusal>
-        requires room { HasRoom (view symbol.now) symbol.now self.old (owed_behind (view symbol.now) frame parts.old.items) }
-        requires open { IsOpen (view symbol.now) symbol.now self.old frame parts.old.items }
-        requires base { frame.base ≤ length parts.old.items }
+        requires room { HasRoom (view symbol.now) symbol.now self.old (owed_behind (view symbol.now) frame.now parts.old.items) }
+        requires open { IsOpen (view symbol.now) symbol.now self.old frame.now parts.old.items }
+        requires base { frame.now.base ≤ length parts.old.items }
         requires place { row.from < length symbol.now }
         requires end { row.end ≤ length rows.now }
-        ensures opens { Opens (view symbol.now) symbol.now rows.now self.old self.new frame parts.old.items parts.new.items row result }
-        ensures adds { OnOk result (Adds (view symbol.now) self.old self.new (owed_behind (view symbol.now) frame parts.old.items) (owed_next (view symbol.now) frame parts.new.items)) }
+        ensures opens { Opens (view symbol.now) symbol.now rows.now self.old self.new frame.now parts.old.items parts.new.items row result }
+        ensures adds { OnOk result (Adds (view symbol.now) self.old self.new (owed_behind (view symbol.now) frame.now parts.old.items) (owed_next (view symbol.now) frame.now parts.new.items)) }
+        ensures few { OnErr result (AddsFew (view symbol.now) self.old self.new frame.now parts.old.items) }
         ensures pays { OnOk result ((at : ℕ) → at ≤ row.from → Pays (view symbol.now) self.old self.new at row.from) };
 
     /// A token is taken in the rule of the frame.
     fn token(
         &mut self,
         symbol: &[u8],
-        frame: Frame<Self::Kept>,
+        frame: &Frame<Self::Kept>,
         parts: &mut Vec<Self::Part>,
         row: Row,
     ) -> Result<(), Refusal>
-        requires room { HasRoom (view symbol.now) symbol.now self.old (owed_behind (view symbol.now) frame parts.old.items) }
-        requires open { IsOpen (view symbol.now) symbol.now self.old frame parts.old.items }
-        requires base { frame.base ≤ length parts.old.items }
+        requires room { HasRoom (view symbol.now) symbol.now self.old (owed_behind (view symbol.now) frame.now parts.old.items) }
+        requires open { IsOpen (view symbol.now) symbol.now self.old frame.now parts.old.items }
+        requires base { frame.now.base ≤ length parts.old.items }
         requires from { row.from ≤ row.to }
         requires to { row.to ≤ length symbol.now }
-        ensures takes { TakesToken (view symbol.now) symbol.now self.old self.new frame parts.old.items parts.new.items row result }
-        ensures adds { OnOk result (Adds (view symbol.now) self.old self.new (owed_behind (view symbol.now) frame parts.old.items) (owed_behind (view symbol.now) frame parts.new.items)) }
-        ensures pays { OnOk result ((at : ℕ) → at ≤ row.from → (length parts.old.items ≡ frame.base → at ≤ frame.place)
+        ensures takes { TakesToken (view symbol.now) symbol.now self.old self.new frame.now parts.old.items parts.new.items row result }
+        ensures adds { OnOk result (Adds (view symbol.now) self.old self.new (owed_behind (view symbol.now) frame.now parts.old.items) (owed_behind (view symbol.now) frame.now parts.new.items)) }
+        ensures few { OnErr result (AddsFew (view symbol.now) self.old self.new frame.now parts.old.items) }
+        ensures pays { OnOk result ((at : ℕ) → at ≤ row.from → (length parts.old.items ≡ frame.now.base → at ≤ frame.now.place)
             → Pays (view symbol.now) self.old self.new at row.to) };
 
     /// The rule of the frame closes: what it means takes the place of its parts.
     fn close(
         &mut self,
         symbol: &[u8],
-        frame: Frame<Self::Kept>,
+        frame: &Frame<Self::Kept>,
         parts: &mut Vec<Self::Part>,
     ) -> Result<(), Refusal>
-        requires room { HasRoom (view symbol.now) symbol.now self.old (owed_behind (view symbol.now) frame parts.old.items) }
-        requires open { IsOpen (view symbol.now) symbol.now self.old frame parts.old.items }
-        requires base { frame.base ≤ length parts.old.items }
-        requires place { frame.place < length symbol.now }
-        ensures closes { ClosesRule (view symbol.now) symbol.now self.old self.new frame parts.old.items parts.new.items result }
-        ensures adds { OnOk result (Adds (view symbol.now) self.old self.new (owed_behind (view symbol.now) frame parts.old.items) 0) }
+        requires room { HasRoom (view symbol.now) symbol.now self.old (owed_behind (view symbol.now) frame.now parts.old.items) }
+        requires open { IsOpen (view symbol.now) symbol.now self.old frame.now parts.old.items }
+        requires base { frame.now.base ≤ length parts.old.items }
+        requires place { frame.now.place < length symbol.now }
+        ensures closes { ClosesRule (view symbol.now) symbol.now self.old self.new frame.now parts.old.items parts.new.items result }
+        ensures adds { OnOk result (Adds (view symbol.now) self.old self.new (owed_behind (view symbol.now) frame.now parts.old.items) 0) }
+        ensures few { AddsFew (view symbol.now) self.old self.new frame.now parts.old.items }
         ensures pays { OnOk result ((at : ℕ) → Pays (view symbol.now) self.old self.new at at) };
 
     ghost laws: { (s : List ℕ) → IsLinking (view s) };

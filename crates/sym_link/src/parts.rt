@@ -1,6 +1,6 @@
 // The parts of the rules that are open, as a language puts them.
 
-ghost use Rattle.std.specs.Prelude.{◌≡◌, ◌≤◌, ◌++◌, ◌∷◌, [], length, take, IfErr, OnOk};
+ghost use Rattle.std.specs.Prelude.{◌≡◌, ◌+◌, ◌<◌, ◌≤◌, ◌++◌, ◌∷◌, [], length, take, vec_capacity, IfErr, OnOk, OnErr};
 ghost use Rattle.sym_core.specs.declared.refusal.Refusal.TheVariants as refusals;
 
 use sym_core::Refusal;
@@ -14,6 +14,7 @@ use sym_core::Refusal;
 pub fn push_part<P: Copy>(parts: &mut Vec<P>, part: P) -> Result<(), Refusal>
     ensures items { OnOk result (parts.new.items ≡ parts.old.items ++ part ∷ []) }
     ensures memory { IfErr result (λ e. e ≡ refusals.Memory) }
+    ensures full { OnErr result (vec_capacity parts.old < length parts.old.items + 1) }
 {
     parts.reserve(1)?;
     parts.push_reserved(part);
@@ -30,6 +31,7 @@ pub fn put<P: Copy>(parts: &mut Vec<P>, base: usize, part: P) -> Result<(), Refu
     requires { base ≤ length parts.old.items }
     ensures items { OnOk result (parts.new.items ≡ take base parts.old.items ++ part ∷ []) }
     ensures memory { IfErr result (λ e. e ≡ refusals.Memory) }
+    ensures full { OnErr result (vec_capacity parts.old < base + 1) }
 {
     parts.truncate(base);
     push_part(parts, part)

@@ -5,12 +5,12 @@
 //
 // Where something is done before a part, or a rule closes, the frame and the parts are those of an open rule (`IsOpenAt`).
 
-ghost use Rattle.std.specs.Prelude.{◌≡◌, ℕ, ◌+◌, ◌-◌, ◌<◌, ◌≤◌, ◌∷◌, [], List, length, Result, OnOk};
+ghost use Rattle.std.specs.Prelude.{◌≡◌, ℕ, ◌+◌, ◌-◌, ◌<◌, ◌≤◌, ◌∷◌, ◌++◌, [], List, length, drop, Result, OnOk, OnErr};
 ghost use Rattle.sym_core.specs.declared.refusal.Refusal.{Refusal};
 ghost use Rattle.sym_link.specs.Machine.{Passed};
 ghost use Rattle.sym_link.specs.Driving.{AreAll};
-ghost use Rattle.sym_link.specs.Linking.{View, HasRoom, IsOpen, Opens, TakesToken, ClosesRule, Adds, Pays, owed_behind, owed_next};
-ghost use Rattle.sym_link.specs.Threads.{IsOpenAt, GoesOn, BeginsIn, ClosesAll, IsTaken, IsAhead, IsAheadToken, IsCount, IsThreading, Passing, PassesOne, Passes};
+ghost use Rattle.sym_link.specs.Linking.{View, HasRoom, IsOpen, Opens, TakesToken, ClosesRule, Adds, AddsFew, Pays, owed_behind, owed_next};
+ghost use Rattle.sym_link.specs.Threads.{IsOpenAt, GoesOn, BeginsIn, ClosesAll, IsTaken, IsAhead, IsAheadToken, IsCount, IsThreading, AddsBefore, Passing, PassesOne, Passes};
 
 use crate::language::Frame;
 use sym_core::Refusal;
@@ -34,22 +34,27 @@ pub trait Threading {
 
     ghost surrounds: { List ℕ → Self → Self.Kept → Context → Type 0 };
 
+    // what a part without a row is
+    ghost absent: { Self.Part };
+
     /// What a part without a row stands for.
     fn nothing(&self) -> Self::Part
-        ensures { (s : List ℕ) → AreAll ((view s).IsPart self.now) (result ∷ []) (view s).reading.rowless };
+        ensures is { result ≡ absent }
+        ensures stands { (s : List ℕ) → AreAll ((view s).IsPart self.now) (result ∷ []) (view s).reading.rowless };
 
     /// What is done before the next part of the rule of the frame.
     fn between(
         &mut self,
         symbol: &[u8],
-        frame: Frame<Self::Kept>,
+        frame: &Frame<Self::Kept>,
         parts: &mut Vec<Self::Part>,
     ) -> Result<Self::Kept, Refusal>
-        requires room { HasRoom (view symbol.now) symbol.now self.old (owed_behind (view symbol.now) frame parts.old.items) }
-        requires open { IsOpenAt (view symbol.now) symbol.now self.old frame parts.old.items }
-        requires base { frame.base ≤ length parts.old.items }
-        ensures goes { GoesOn (view symbol.now) symbol.now (surrounds symbol.now) self.old self.new frame parts.old.items parts.new.items result }
-        ensures adds { OnOk result (Adds (view symbol.now) self.old self.new (owed_behind (view symbol.now) frame parts.old.items) (owed_next (view symbol.now) frame parts.new.items)) }
+        requires room { HasRoom (view symbol.now) symbol.now self.old (owed_behind (view symbol.now) frame.now parts.old.items) }
+        requires open { IsOpenAt (view symbol.now) symbol.now self.old frame.now parts.old.items }
+        requires base { frame.now.base ≤ length parts.old.items }
+        ensures goes { GoesOn (view symbol.now) symbol.now (surrounds symbol.now) self.old self.new frame.now parts.old.items parts.new.items result }
+        ensures adds { OnOk result (Adds (view symbol.now) self.old self.new (owed_behind (view symbol.now) frame.now parts.old.items) (owed_next (view symbol.now) frame.now parts.new.items)) }
+        ensures few { AddsBefore (view symbol.now) self.old self.new frame.now parts.old.items (drop frame.now.base parts.new.items ++ absent ∷ []) result }
         ensures pays { OnOk result ((at : ℕ) → Pays (view symbol.now) self.old self.new at at) }
         ensures count { OnOk result (length parts.new.items ≡ length parts.old.items) };
 
@@ -65,21 +70,23 @@ pub trait Threading {
         requires end { row.end ≤ length rows.now }
         ensures begins { BeginsIn (view symbol.now) symbol.now (surrounds symbol.now) rows.now self.old self.new context row result }
         ensures adds { OnOk result (Adds (view symbol.now) self.old self.new 0 0) }
+        ensures few { OnErr result ((view symbol.now).size self.new ≤ (view symbol.now).size self.old) }
         ensures pays { OnOk result ((at : ℕ) → Pays (view symbol.now) self.old self.new at at) };
 
     /// The rule of the frame closes over all its parts.
     fn finish(
         &mut self,
         symbol: &[u8],
-        frame: Frame<Self::Kept>,
+        frame: &Frame<Self::Kept>,
         parts: &mut Vec<Self::Part>,
     ) -> Result<(), Refusal>
-        requires room { HasRoom (view symbol.now) symbol.now self.old (owed_behind (view symbol.now) frame parts.old.items) }
-        requires open { IsOpenAt (view symbol.now) symbol.now self.old frame parts.old.items }
-        requires base { frame.base ≤ length parts.old.items }
-        requires place { frame.place < length symbol.now }
-        ensures closes { ClosesAll (view symbol.now) symbol.now self.old self.new frame parts.old.items parts.new.items result }
-        ensures adds { OnOk result (Adds (view symbol.now) self.old self.new (owed_behind (view symbol.now) frame parts.old.items) 0) }
+        requires room { HasRoom (view symbol.now) symbol.now self.old (owed_behind (view symbol.now) frame.now parts.old.items) }
+        requires open { IsOpenAt (view symbol.now) symbol.now self.old frame.now parts.old.items }
+        requires base { frame.now.base ≤ length parts.old.items }
+        requires place { frame.now.place < length symbol.now }
+        ensures closes { ClosesAll (view symbol.now) symbol.now self.old self.new frame.now parts.old.items parts.new.items result }
+        ensures adds { OnOk result (Adds (view symbol.now) self.old self.new (owed_behind (view symbol.now) frame.now parts.old.items) 0) }
+        ensures few { AddsFew (view symbol.now) self.old self.new frame.now parts.old.items }
         ensures pays { OnOk result ((at : ℕ) → Pays (view symbol.now) self.old self.new at at) };
 
     /// The number of the next part of the rule of the frame that has a row: a rule's, of which so many parts have begun.
@@ -87,12 +94,12 @@ pub trait Threading {
         &self,
         symbol: &[u8],
         rows: &[Row],
-        frame: Frame<Self::Kept>,
+        frame: &Frame<Self::Kept>,
         held: usize,
         row: Row,
     ) -> usize
         requires place { row.from < length symbol.now }
-        ensures { IsAhead (view symbol.now) symbol.now rows.now self.now frame held row result };
+        ensures { IsAhead (view symbol.now) symbol.now rows.now self.now frame.now held row result };
 
     /// What a token stands for.
     fn text(&mut self, symbol: &[u8], row: Row) -> Result<Self::Part, Refusal>
@@ -100,15 +107,16 @@ pub trait Threading {
         requires to { row.to ≤ length symbol.now }
         ensures taken { IsTaken (view symbol.now) symbol.now self.old self.new row result }
         ensures adds { OnOk result (Adds (view symbol.now) self.old self.new 0 0) }
+        ensures few { OnErr result ((view symbol.now).size self.new ≤ (view symbol.now).size self.old) }
         ensures pays { OnOk result ((at : ℕ) → Pays (view symbol.now) self.old self.new at at) };
 
     /// The number of the next part of the rule of the frame that has a row: a token's, of which so many parts have begun.
-    fn ahead_token(&self, symbol: &[u8], frame: Frame<Self::Kept>, held: usize) -> usize
-        ensures { IsAheadToken (view symbol.now) symbol.now self.now frame held result };
+    fn ahead_token(&self, symbol: &[u8], frame: &Frame<Self::Kept>, held: usize) -> usize
+        ensures { IsAheadToken (view symbol.now) symbol.now self.now frame.now held result };
 
     /// The number of the parts of the rule of the frame, where no row is left.
-    fn count(&self, symbol: &[u8], frame: Frame<Self::Kept>, held: usize) -> usize
-        ensures { IsCount (view symbol.now) symbol.now self.now frame held result };
+    fn count(&self, symbol: &[u8], frame: &Frame<Self::Kept>, held: usize) -> usize
+        ensures { IsCount (view symbol.now) symbol.now self.now frame.now held result };
 
     ghost laws: { (s : List ℕ) → IsThreading (view s) };
 }
@@ -118,17 +126,18 @@ pub trait Threading {
 fn pass_one<L: Threading>(
     language: &mut L,
     symbol: &[u8],
-    frame: Frame<L::Kept>,
+    frame: &Frame<L::Kept>,
     parts: &mut Vec<L::Part>,
 ) -> Result<(), Refusal>
-    requires room { HasRoom (L.view symbol.now) symbol.now language.old (owed_behind (L.view symbol.now) frame parts.old.items) }
-    requires open { IsOpenAt (L.view symbol.now) symbol.now language.old frame parts.old.items }
-    requires base { frame.base ≤ length parts.old.items }
+    requires room { HasRoom (L.view symbol.now) symbol.now language.old (owed_behind (L.view symbol.now) frame.now parts.old.items) }
+    requires open { IsOpenAt (L.view symbol.now) symbol.now language.old frame.now parts.old.items }
+    requires base { frame.now.base ≤ length parts.old.items }
     ensures passing { (lower : List L.Part) (to : ℕ) (whole : Result (Passed L.Value L.State) Refusal)
-        → Passing (L.view symbol.now) symbol.now language.old frame lower parts.old.items to whole → length parts.old.items - frame.base < to
-        → PassesOne (L.view symbol.now) symbol.now language.new frame lower parts.new.items to whole result }
-    ensures open { OnOk result (IsOpenAt (L.view symbol.now) symbol.now language.new frame parts.new.items) }
-    ensures adds { OnOk result (Adds (L.view symbol.now) language.old language.new (owed_behind (L.view symbol.now) frame parts.old.items) (owed_behind (L.view symbol.now) frame parts.new.items)) }
+        → Passing (L.view symbol.now) symbol.now language.old frame.now lower parts.old.items to whole → length parts.old.items - frame.now.base < to
+        → PassesOne (L.view symbol.now) symbol.now language.new frame.now lower parts.new.items to whole result }
+    ensures open { OnOk result (IsOpenAt (L.view symbol.now) symbol.now language.new frame.now parts.new.items) }
+    ensures adds { OnOk result (Adds (L.view symbol.now) language.old language.new (owed_behind (L.view symbol.now) frame.now parts.old.items) (owed_behind (L.view symbol.now) frame.now parts.new.items)) }
+    ensures few { AddsBefore (L.view symbol.now) language.old language.new frame.now parts.old.items (drop frame.now.base parts.new.items) result }
     ensures pays { OnOk result ((at : ℕ) → Pays (L.view symbol.now) language.old language.new at at) }
     ensures count { OnOk result (length parts.new.items ≡ length parts.old.items + 1) }
 {
@@ -142,20 +151,21 @@ fn pass_one<L: Threading>(
 pub fn pass<L: Threading>(
     language: &mut L,
     symbol: &[u8],
-    frame: Frame<L::Kept>,
+    frame: &Frame<L::Kept>,
     parts: &mut Vec<L::Part>,
     to: usize,
 ) -> Result<(), Refusal>
-    requires room { HasRoom (L.view symbol.now) symbol.now language.old (owed_behind (L.view symbol.now) frame parts.old.items) }
-    requires open { IsOpenAt (L.view symbol.now) symbol.now language.old frame parts.old.items }
-    requires base { frame.base ≤ length parts.old.items }
+    requires room { HasRoom (L.view symbol.now) symbol.now language.old (owed_behind (L.view symbol.now) frame.now parts.old.items) }
+    requires open { IsOpenAt (L.view symbol.now) symbol.now language.old frame.now parts.old.items }
+    requires base { frame.now.base ≤ length parts.old.items }
     ensures passes { (lower : List L.Part) (whole : Result (Passed L.Value L.State) Refusal)
-        → Passing (L.view symbol.now) symbol.now language.old frame lower parts.old.items to whole
-        → Passes (L.view symbol.now) language.new frame lower parts.new.items result whole }
-    ensures open { OnOk result (IsOpenAt (L.view symbol.now) symbol.now language.new frame parts.new.items) }
-    ensures adds { OnOk result (Adds (L.view symbol.now) language.old language.new (owed_behind (L.view symbol.now) frame parts.old.items) (owed_behind (L.view symbol.now) frame parts.new.items)) }
+        → Passing (L.view symbol.now) symbol.now language.old frame.now lower parts.old.items to whole
+        → Passes (L.view symbol.now) language.new frame.now lower parts.new.items result whole }
+    ensures open { OnOk result (IsOpenAt (L.view symbol.now) symbol.now language.new frame.now parts.new.items) }
+    ensures adds { OnOk result (Adds (L.view symbol.now) language.old language.new (owed_behind (L.view symbol.now) frame.now parts.old.items) (owed_behind (L.view symbol.now) frame.now parts.new.items)) }
+    ensures few { AddsBefore (L.view symbol.now) language.old language.new frame.now parts.old.items (drop frame.now.base parts.new.items) result }
     ensures pays { OnOk result ((at : ℕ) → Pays (L.view symbol.now) language.old language.new at at) }
-    ensures base { OnOk result (frame.base ≤ length parts.new.items) }
+    ensures base { OnOk result (frame.now.base ≤ length parts.new.items) }
 {
     'parts: while parts.len() - frame.base < to {
         pass_one(language, symbol, frame, parts)?;
@@ -168,17 +178,18 @@ pub fn enter_by<L: Threading>(
     language: &mut L,
     symbol: &[u8],
     rows: &[Row],
-    frame: Frame<L::Kept>,
+    frame: &Frame<L::Kept>,
     parts: &mut Vec<L::Part>,
     row: Row,
 ) -> Result<L::Kept, Refusal>
-    requires room { HasRoom (L.view symbol.now) symbol.now language.old (owed_behind (L.view symbol.now) frame parts.old.items) }
-    requires open { IsOpen (L.view symbol.now) symbol.now language.old frame parts.old.items }
-    requires base { frame.base ≤ length parts.old.items }
+    requires room { HasRoom (L.view symbol.now) symbol.now language.old (owed_behind (L.view symbol.now) frame.now parts.old.items) }
+    requires open { IsOpen (L.view symbol.now) symbol.now language.old frame.now parts.old.items }
+    requires base { frame.now.base ≤ length parts.old.items }
     requires place { row.from < length symbol.now }
     requires end { row.end ≤ length rows.now }
-    ensures opens { Opens (L.view symbol.now) symbol.now rows.now language.old language.new frame parts.old.items parts.new.items row result }
-    ensures adds { OnOk result (Adds (L.view symbol.now) language.old language.new (owed_behind (L.view symbol.now) frame parts.old.items) (owed_next (L.view symbol.now) frame parts.new.items)) }
+    ensures opens { Opens (L.view symbol.now) symbol.now rows.now language.old language.new frame.now parts.old.items parts.new.items row result }
+    ensures adds { OnOk result (Adds (L.view symbol.now) language.old language.new (owed_behind (L.view symbol.now) frame.now parts.old.items) (owed_next (L.view symbol.now) frame.now parts.new.items)) }
+    ensures few { OnErr result (AddsFew (L.view symbol.now) language.old language.new frame.now parts.old.items) }
     ensures pays { OnOk result ((at : ℕ) → at ≤ row.from → Pays (L.view symbol.now) language.old language.new at row.from) }
 {
     let to = language.ahead(symbol, rows, frame, parts.len() - frame.base, row);
@@ -189,18 +200,20 @@ pub fn enter_by<L: Threading>(
 }
 
 /// The rule of the frame closes: what it means takes the place of its parts.
+#[inline(always)]
 pub fn close_by<L: Threading>(
     language: &mut L,
     symbol: &[u8],
-    frame: Frame<L::Kept>,
+    frame: &Frame<L::Kept>,
     parts: &mut Vec<L::Part>,
 ) -> Result<(), Refusal>
-    requires room { HasRoom (L.view symbol.now) symbol.now language.old (owed_behind (L.view symbol.now) frame parts.old.items) }
-    requires open { IsOpen (L.view symbol.now) symbol.now language.old frame parts.old.items }
-    requires base { frame.base ≤ length parts.old.items }
-    requires place { frame.place < length symbol.now }
-    ensures closes { ClosesRule (L.view symbol.now) symbol.now language.old language.new frame parts.old.items parts.new.items result }
-    ensures adds { OnOk result (Adds (L.view symbol.now) language.old language.new (owed_behind (L.view symbol.now) frame parts.old.items) 0) }
+    requires room { HasRoom (L.view symbol.now) symbol.now language.old (owed_behind (L.view symbol.now) frame.now parts.old.items) }
+    requires open { IsOpen (L.view symbol.now) symbol.now language.old frame.now parts.old.items }
+    requires base { frame.now.base ≤ length parts.old.items }
+    requires place { frame.now.place < length symbol.now }
+    ensures closes { ClosesRule (L.view symbol.now) symbol.now language.old language.new frame.now parts.old.items parts.new.items result }
+    ensures adds { OnOk result (Adds (L.view symbol.now) language.old language.new (owed_behind (L.view symbol.now) frame.now parts.old.items) 0) }
+    ensures few { AddsFew (L.view symbol.now) language.old language.new frame.now parts.old.items }
     ensures pays { OnOk result ((at : ℕ) → Pays (L.view symbol.now) language.old language.new at at) }
 {
     let to = language.count(symbol, frame, parts.len() - frame.base);
@@ -213,17 +226,18 @@ pub fn close_by<L: Threading>(
 pub fn token_by<L: Threading>(
     language: &mut L,
     symbol: &[u8],
-    frame: Frame<L::Kept>,
+    frame: &Frame<L::Kept>,
     parts: &mut Vec<L::Part>,
     row: Row,
 ) -> Result<(), Refusal>
-    requires room { HasRoom (L.view symbol.now) symbol.now language.old (owed_behind (L.view symbol.now) frame parts.old.items) }
-    requires open { IsOpen (L.view symbol.now) symbol.now language.old frame parts.old.items }
-    requires base { frame.base ≤ length parts.old.items }
+    requires room { HasRoom (L.view symbol.now) symbol.now language.old (owed_behind (L.view symbol.now) frame.now parts.old.items) }
+    requires open { IsOpen (L.view symbol.now) symbol.now language.old frame.now parts.old.items }
+    requires base { frame.now.base ≤ length parts.old.items }
     requires from { row.from ≤ row.to }
     requires to { row.to ≤ length symbol.now }
-    ensures takes { TakesToken (L.view symbol.now) symbol.now language.old language.new frame parts.old.items parts.new.items row result }
-    ensures adds { OnOk result (Adds (L.view symbol.now) language.old language.new (owed_behind (L.view symbol.now) frame parts.old.items) (owed_behind (L.view symbol.now) frame parts.new.items)) }
+    ensures takes { TakesToken (L.view symbol.now) symbol.now language.old language.new frame.now parts.old.items parts.new.items row result }
+    ensures adds { OnOk result (Adds (L.view symbol.now) language.old language.new (owed_behind (L.view symbol.now) frame.now parts.old.items) (owed_behind (L.view symbol.now) frame.now parts.new.items)) }
+    ensures few { OnErr result (AddsFew (L.view symbol.now) language.old language.new frame.now parts.old.items) }
     ensures pays { OnOk result ((at : ℕ) → at ≤ row.from → Pays (L.view symbol.now) language.old language.new at row.to) }
 {
     let to = language.ahead_token(symbol, frame, parts.len() - frame.base);

@@ -1,5 +1,5 @@
 -- What there is to say of a printer, without its fields.
-use Rattle.std.specs.Prelude.{◌≡◌, ℕ, ◌+◌, Option, None, List, [], ◌∷◌, vec_capacity}
+use Rattle.std.specs.Prelude.{◌≡◌, ℕ, ◌+◌, ◌<◌, length, Option, None, List, [], ◌∷◌, vec_capacity}
 use Rattle.sym_core.specs.declared.Refusal.{Refusal}
 use Rattle.sym_print.specs.declared.layout.Item.{Item}
 use Rattle.sym_print.specs.declared.layout.Part.{Part}
@@ -39,6 +39,11 @@ module _ {C : Type 0} where
   -- how many bytes of text fit without taking memory
   abbrev pub text_room : Printer C → ℕ
   text_room printer = vec_capacity printer.text
+
+  -- the list that taking the part adds to has no room for it: that of entries for eight parts, or that of text for its bytes
+  abbrev pub LacksRoom : Printer C → (bytes_of : Part C → List ℕ) → Part C → Type 0
+  LacksRoom printer bytes_of (Sub _) = entry_room printer < length (entries printer) + 8
+  LacksRoom printer bytes_of part = text_room printer < length (written printer) + length (bytes_of part)
 
   -- all of the root is still to print, and nothing was spent or refused
   pub record Begins (printer : Printer C) (root : Item C) (limit : ℕ) : Type 0 where

@@ -62,7 +62,8 @@ fn write_text<Y: Layout>(
     ensures room { vec_capacity text.old ≤ vec_capacity text.new }
     ensures own { IfErr result (λ r. (r ≡ Refusal.TooLong) ⊎ (r ≡ Refusal.Memory)) }
     ensures too_long { result ≡ Err Refusal.TooLong → meter.old.limit < meter.old.spent + length (Y.bytes_of y.now part.now) }
-    ensures memory { result ≡ Err Refusal.Memory → vec_capacity text.old < meter.old.limit }
+    ensures memory { result ≡ Err Refusal.Memory → vec_capacity text.old < vec_len text.old + length (Y.bytes_of y.now part.now) }
+    ensures affords { result ≡ Err Refusal.Memory → meter.old.spent + length (Y.bytes_of y.now part.now) ≤ meter.old.limit }
 {
     let bytes = y.bytes(part);
     if !meter.affords(bytes.len()) {
@@ -175,7 +176,7 @@ pub(crate) fn print_text<Y: Layout>(
     ensures own { IfErr result (λ r. (r ≡ Refusal.TooLong) ⊎ (r ≡ Refusal.Memory)) }
     ensures too_long { result ≡ Err Refusal.TooLong → meter.old.limit < meter.old.spent + length (Y.bytes_of y.now next.now) }
     ensures too_dear { result ≡ Err Refusal.TooLong → meter.new.limit < meter.new.spent + cost_of_stack (Y.unshared y.now) (Y.bytes_of y.now) stack.new.items }
-    ensures memory { result ≡ Err Refusal.Memory → vec_capacity text.old < meter.old.limit }
+    ensures memory { result ≡ Err Refusal.Memory → vec_capacity text.old < vec_len text.old + length (Y.bytes_of y.now next.now) }
 {
     write_text(y, next, text, meter)?;
     stack.pop();

@@ -32,7 +32,7 @@ pub struct Printer<C: Copy> {
 }
 
 impl<C: Copy> Printer<C> {
-    ghost use Rattle.sym_print.specs.Printing.{entries, written, spent, may_spend, taken, refused, entry_room, text_room, Begins};
+    ghost use Rattle.sym_print.specs.Printing.{entries, written, spent, may_spend, taken, refused, entry_room, text_room, Begins, LacksRoom};
 
     /// A printer with nothing to print. It takes no memory.
     pub fn idle(alloc: Global) -> Printer<C>
@@ -106,7 +106,7 @@ impl<C: Copy> Printer<C> {
         ensures refused { (r : Refusal) → refused self.old ≡ Some r → (result ≡ Err r) × (self.new ≡ self.old) }
         ensures own { IfErr result (λ r. (refused self.old ≡ Some r) ⊎ (r ≡ Refusal.TooLong) ⊎ (r ≡ Refusal.Memory)) }
         ensures too_long { result ≡ Err Refusal.TooLong → (refused self.old ≡ Some Refusal.TooLong) ⊎ ((next : Part C) × IsNext (entries self.old) next × (may_spend self.old < spent self.old + spends (Y.unshared y.now) (Y.bytes_of y.now) next)) }
-        ensures memory { result ≡ Err Refusal.Memory → (refused self.old ≡ Some Refusal.Memory) ⊎ (entry_room self.old < length (entries self.old) + 8) ⊎ (text_room self.old < may_spend self.old) }
+        ensures memory { result ≡ Err Refusal.Memory → (refused self.old ≡ Some Refusal.Memory) ⊎ ((next : Part C) × IsNext (entries self.old) next × LacksRoom self.old (Y.bytes_of y.now) next) }
         ensures entry_room { entry_room self.old ≤ entry_room self.new }
         ensures text_room { text_room self.old ≤ text_room self.new }
         ensures finished { refused self.old ≡ None → entries self.old ≡ [] → (result ≡ Ok true) × (self.new ≡ self.old) }
@@ -148,7 +148,7 @@ impl<C: Copy> Printer<C> {
         ensures counted_err { OnErr result (taken self.new ≡ taken self.old) }
         ensures own { IfErr result (λ r. (r ≡ Refusal.TooLong) ⊎ (r ≡ Refusal.Memory)) }
         ensures too_long { result ≡ Err Refusal.TooLong → may_spend self.old < spent self.old + spends (Y.unshared y.now) (Y.bytes_of y.now) next }
-        ensures memory { result ≡ Err Refusal.Memory → (entry_room self.old < length (entries self.old) + 8) ⊎ (text_room self.old < may_spend self.old) }
+        ensures memory { result ≡ Err Refusal.Memory → LacksRoom self.old (Y.bytes_of y.now) next }
         ensures entry_room { entry_room self.old ≤ entry_room self.new }
         ensures text_room { text_room self.old ≤ text_room self.new }
     {

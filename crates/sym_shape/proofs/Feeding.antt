@@ -15,6 +15,7 @@ use Rattle.sym_shape.specs.Reading.{Entry, Symbol}
 use Rattle.sym_shape.specs.Law.{IsLawful}
 use Rattle.sym_shape.specs.Tree.{IsMalformed, BeginsWellShaped, AreRowsOf, AreStepsOf}
 use Rattle.sym_shape.specs.Fed.{Fed, IsFed, IsOver, IsReason, IsMalformedSoFar}
+use Rattle.sym_shape.specs.Room.{Room}
 use Rattle.sym_shape.specs.Reader.{to_do, IsParse, IsParsing, IsAdvance, IsRun, AreSpent}
 use Rattle.sym_shape.proofs.Fronts.{front_begins}
 use Rattle.sym_shape.proofs.Runs.{few_stepped}
@@ -142,12 +143,15 @@ fed_start listed g lawful bytes parse none steps at stack rows = record {
   few = record { steps_few = omega (arith, steps); rows_few = omega (arith, ap length rows); each = omega (arith, ap length rows) };
 }
 
-abbrev fed_of : List ℕ → Bool → Bool → Option Refusal → ℕ → ℕ → Fed
-fed_of bytes ended ready refused steps rows = record { bytes = bytes; ended = ended; ready = ready; refused = refused; steps = steps; rows = rows }
+abbrev fed_of : List ℕ → Bool → Bool → Option Refusal → ℕ → ℕ → ℕ → ℕ → Room → Fed
+fed_of bytes ended ready refused steps rows rules byte_room room = record { bytes = bytes; ended = ended; ready = ready; refused = refused; steps = steps; rows = rows; rules = rules; byte_room = byte_room; room = room }
 
 -- views that agree in each part
-pub same_fed : (a b : List ℕ) (c d e f : Bool) (m n : Option Refusal) (p q r s : ℕ) → a ≡ b → c ≡ d → e ≡ f → m ≡ n → p ≡ q → r ≡ s → fed_of a c e m p r ≡ fed_of b d f n q s
-same_fed a b c d e f m n p q r s i j k l o t = rw (i, j, k, l, o, t) refl
+pub same_fed : (a b : List ℕ) (c d e f : Bool) (m n : Option Refusal) (p q r s u v w z : ℕ) (x y : Room) → a ≡ b → c ≡ d → e ≡ f → m ≡ n → p ≡ q → r ≡ s → u ≡ v → w ≡ z → x ≡ y → fed_of a c e m p r u w x ≡ fed_of b d f n q s v z y
+same_fed a b c d e f m n p q r s u v w z x y i₁ i₂ i₃ i₄ i₅ i₆ i₇ i₈ i₉ = rw (i₁, i₂, i₃, i₄, i₅, i₆, i₇, i₈, i₉) refl
+
+pub same_room : (a b c d : ℕ) → a ≡ b → c ≡ d → (let room : ℕ → ℕ → Room = λ m n. record { rows = m; rules = n } in room a c ≡ room b d)
+same_room a b c d h i = rw (h, i) refl
 
 pub made_fed : (v w : Fed) → v ≡ w → (let made : Fed → Result Fed Refusal = λ u. Ok u in made v ≡ made w)
 made_fed v w e = (let made : Fed → Result Fed Refusal = λ u. Ok u in ap made e)

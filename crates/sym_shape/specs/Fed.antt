@@ -8,9 +8,11 @@ use Rattle.sym_shape.specs.declared.rule.Sym.{Sym}
 use Rattle.sym_shape.specs.Table.{Table}
 use Rattle.sym_shape.specs.Tree.{IsMalformed}
 use Rattle.sym_shape.specs.Reader.{IsParsing, AreFew, to_do}
+use Rattle.sym_shape.specs.Room.{Room}
 
 -- the bytes fed so far, whether the end was told, whether an answer was given since then, the refusal if there
--- was one, the steps taken, and how many rows they made
+-- was one, the steps taken, how many rows they made, how many rules are being read around another one, and how many bytes,
+-- rows and rules there is room for
 pub record Fed : Type 0 where
   pub bytes : List ℕ
   pub ended : Bool
@@ -18,10 +20,17 @@ pub record Fed : Type 0 where
   pub refused : Option Refusal
   pub steps : ℕ
   pub rows : ℕ
+  pub rules : ℕ
+  pub byte_room : ℕ
+  pub room : Room
 
 -- nothing is fed and nothing is read
-abbrev pub unfed : Fed
-unfed = record { bytes = []; ended = false; ready = false; refused = None; steps = 0; rows = 0 }
+abbrev pub unfed : (byte_room : ℕ) → Room → Fed
+unfed byte_room room = record { bytes = []; ended = false; ready = false; refused = None; steps = 0; rows = 0; rules = 0; byte_room = byte_room; room = room }
+
+-- the reader with room for so many bytes
+abbrev pub with_room : Fed → (bytes : ℕ) → Fed
+with_room fed bytes = record fed { byte_room = bytes }
 
 -- the reader with a refusal
 abbrev pub refusing : Fed → Refusal → Fed

@@ -5,6 +5,7 @@ pub mod Reading
 pub mod Listing
 pub mod Frame
 pub mod Reader
+pub mod Room
 pub mod Sheet
 pub mod SheetLaws
 pub mod Fed

@@ -1,11 +1,12 @@
 // The moves of the reader.
-ghost use Rattle.std.specs.Prelude.{Some, Ok, ◌≡◌, ℕ, ◌+◌, ◌^◌, ◌∷◌, [], ◌++◌, ◌<◌, ◌≤◌, List, length, take, drop, false, ◌-◌, OnOk, IfOk, OnErr, IfSome, MatchOption};
+ghost use Rattle.std.specs.Prelude.{Some, Ok, ◌≡◌, ◌≢◌, ◌⊎◌, vec_capacity, ℕ, ◌+◌, ◌^◌, ◌∷◌, [], ◌++◌, ◌<◌, ◌≤◌, List, length, take, drop, false, ◌-◌, OnOk, IfOk, OnErr, IfSome, MatchOption};
 ghost use Rattle.std.specs.Bool.{OnTrue, OnFalse};
 ghost use Rattle.sym_core.specs.Number.{FitsSymbol};
 ghost use Rattle.sym_shape.specs.Reading.{Entry, entries_of, closed, IsKnown, IsByteAt, TakesNone, place_behind, place_row, lone_rows};
 ghost use Rattle.sym_shape.specs.Table.{symbols_of};
 ghost use Rattle.sym_shape.specs.Frame.{HasNext, HasLast, IsTaken};
 ghost use Rattle.sym_shape.specs.declared.rule.Sym.{Sym};
+ghost use Rattle.sym_shape.specs.Room.{KeepsRoom, LacksRoom, room_of};
 ghost use Rattle.sym_shape.specs.Reader.{IsParsing, IsStep, IsAdvance, IsBatch, IsRun, FindsToken, IsWholeToken, IsParse, HasRule, HasNoRule, HasAdvanced, to_do};
 
 use crate::frame::Frame;
@@ -49,7 +50,8 @@ const LOWEST: Frame = Frame { place: 0, row: 0 };
 fn close_row(rows: &mut Vec<Row>, row: usize, at: u32)
     requires open { row < length rows.old.items }
     requires few { length rows.old.items < 2 ^ 32 }
-    ensures { rows.new.items ≡ closed rows.old.items row at (length rows.old.items) }
+    ensures items { rows.new.items ≡ closed rows.old.items row at (length rows.old.items) }
+    ensures capacity { vec_capacity rows.new ≡ vec_capacity rows.old }
 {
     let open = rows[row];
     rows[row] = Row {
@@ -68,7 +70,8 @@ fn uppermost(below: &[Frame]) -> Option<Frame>
 
 /// Takes the uppermost frame off.
 fn drop_uppermost(below: &mut Vec<Frame>)
-    ensures { below.new.items ≡ take (length below.old.items - 1) below.old.items }
+    ensures items { below.new.items ≡ take (length below.old.items - 1) below.old.items }
+    ensures capacity { vec_capacity below.new ≡ vec_capacity below.old }
 {
     let _frame = below.pop();
 }
@@ -97,6 +100,9 @@ fn take_rule(
     ensures taken { OnOk result (IsTaken rule.now place top.old at below.old.items rows.old.items top.new below.new.items rows.new.items) }
     ensures one { length rows.new.items ≤ length rows.old.items + 1 }
     ensures memory { OnErr result (result ≡ Err Refusal.Memory) }
+    ensures keeps_rules { vec_capacity below.old ≤ vec_capacity below.new }
+    ensures keeps_rows { vec_capacity rows.old ≤ vec_capacity rows.new }
+    ensures full { OnErr result ((vec_capacity rows.old < length rows.new.items + 1) ⊎ (vec_capacity below.old < length below.new.items + 1)) }
 {
     let number = rows.len() as u32;
     let from = at as u32;
@@ -129,6 +135,8 @@ fn push_token(rows: &mut Vec<Row>, place: TokenPlace) -> Result<(), Refusal>
     ensures row { OnOk result (rows.new.items ≡ rows.old.items ++ place_row place (length rows.old.items) ∷ []) }
     ensures one { length rows.new.items ≤ length rows.old.items + 1 }
     ensures memory { OnErr result (result ≡ Err Refusal.Memory) }
+    ensures keeps { vec_capacity rows.old ≤ vec_capacity rows.new }
+    ensures full { OnErr result (vec_capacity rows.old < length rows.new.items + 1) }
 {
     let end = rows.len() as u32 + 1;
     rows.push(Row {
@@ -155,6 +163,8 @@ fn push_rule_with_token(
     ensures rows { OnOk result (rows.new.items ≡ rows.old.items ++ lone_rows rule.now at place (length rows.old.items)) }
     ensures same { OnErr result (rows.new.items ≡ rows.old.items) }
     ensures memory { OnErr result (result ≡ Err Refusal.Memory) }
+    ensures keeps { vec_capacity rows.old ≤ vec_capacity rows.new }
+    ensures full { OnErr result (vec_capacity rows.old < length rows.new.items + 2) }
 {
     let end = rows.len() as u32 + 2;
     rows.reserve(2)?;
@@ -253,6 +263,9 @@ impl Parse {
         ensures rows { result.rows.items ≡ [] }
         ensures at { result.at ≡ 0 }
         ensures steps { result.steps ≡ 0 }
+        ensures rules { result.below.items ≡ [] }
+        ensures row_room { vec_capacity result.rows ≡ 0 }
+        ensures rule_room { vec_capacity result.below ≡ 0 }
     {
         Parse {
             top: LOWEST,
@@ -269,6 +282,9 @@ impl Parse {
         ensures rows { self.new.rows.items ≡ [] }
         ensures at { self.new.at ≡ 0 }
         ensures steps { self.new.steps ≡ 0 }
+        ensures rules { self.new.below.items ≡ [] }
+        ensures row_room { vec_capacity self.new.rows ≡ vec_capacity self.old.rows }
+        ensures rule_room { vec_capacity self.new.below ≡ vec_capacity self.old.below }
     {
         self.top = LOWEST;
         self.below.clear();
@@ -281,7 +297,9 @@ impl Parse {
     pub fn run<G: Grammar>(&mut self, grammar: &G, bytes: &[u8], ended: bool) -> Result<(), Refusal>
         requires fits { FitsSymbol bytes.now }
         requires parsing { IsParsing G.listed G.table ended bytes.now self.old }
-        ensures { IsRun G.listed G.table ended bytes.now self.old self.new result }
+        ensures runs { IsRun G.listed G.table ended bytes.now self.old self.new result }
+        ensures keeps { KeepsRoom (room_of self.old) (room_of self.new) }
+        ensures full { result ≡ Err Refusal.Memory → LacksRoom 2 (room_of self.old) (length self.new.rows.items) (length self.new.below.items) }
     {
         'steps: loop {
             self.run_batch(grammar, bytes, ended)?;
@@ -302,7 +320,9 @@ impl Parse {
     ) -> Result<(), Refusal>
         requires fits { FitsSymbol bytes.now }
         requires parsing { IsParsing G.listed G.table ended bytes.now self.old }
-        ensures { IsBatch G.listed G.table ended bytes.now self.old self.new result }
+        ensures moves { IsBatch G.listed G.table ended bytes.now self.old self.new result }
+        ensures keeps { KeepsRoom (room_of self.old) (room_of self.new) }
+        ensures full { result ≡ Err Refusal.Memory → LacksRoom 2 (room_of self.old) (length self.new.rows.items) (length self.new.below.items) }
     {
         let mut come = Progress {
             at: self.at,
@@ -341,7 +361,8 @@ impl Parse {
         requires parsing { IsParse G.table ended bytes.now come.steps come.at (to_do G.listed self.old) self.old.rows.items }
         requires fits { FitsSymbol bytes.now }
         requires bare { G.listed self.old.top.place ≡ [] }
-        ensures { HasAdvanced G.listed G.table ended bytes.now come self.old self.new (Ok result) }
+        ensures moves { HasAdvanced G.listed G.table ended bytes.now come self.old self.new (Ok result) }
+        ensures keeps { KeepsRoom (room_of self.old) (room_of self.new) }
     {
         match uppermost(&self.below) {
             Some(frame) => {
@@ -368,7 +389,9 @@ impl Parse {
         requires parsing { IsParse G.table ended bytes.now come.steps come.at (to_do G.listed self.old) self.old.rows.items }
         requires fits { FitsSymbol bytes.now }
         requires next { HasNext G.listed self.old.top (Sym.Kind kind) }
-        ensures { HasAdvanced G.listed G.table ended bytes.now come self.old self.new result }
+        ensures moves { HasAdvanced G.listed G.table ended bytes.now come self.old self.new result }
+        ensures keeps { KeepsRoom (room_of self.old) (room_of self.new) }
+        ensures full { result ≡ Err Refusal.Memory → LacksRoom 2 (room_of self.old) (length self.new.rows.items) (length self.new.below.items) }
     {
         let at = come.at;
         match rule_at(grammar, kind, bytes, at) {
@@ -419,7 +442,9 @@ impl Parse {
         requires parsing { IsParse G.table ended bytes.now come.steps come.at (to_do G.listed self.old) self.old.rows.items }
         requires fits { FitsSymbol bytes.now }
         requires next { HasNext G.listed self.old.top symbol }
-        ensures { HasAdvanced G.listed G.table ended bytes.now come self.old self.new result }
+        ensures moves { HasAdvanced G.listed G.table ended bytes.now come self.old self.new result }
+        ensures keeps { KeepsRoom (room_of self.old) (room_of self.new) }
+        ensures full { result ≡ Err Refusal.Memory → LacksRoom 2 (room_of self.old) (length self.new.rows.items) (length self.new.below.items) }
     {
         match symbol {
             Sym::Byte(byte) => match next_byte(bytes, come.at) {
@@ -450,7 +475,9 @@ impl Parse {
     ) -> Result<bool, Refusal>
         requires fits { FitsSymbol bytes.now }
         requires parsing { IsParsing G.listed G.table ended bytes.now self.old }
-        ensures { IsAdvance G.listed G.table ended bytes.now self.old self.new result }
+        ensures moves { IsAdvance G.listed G.table ended bytes.now self.old self.new result }
+        ensures keeps { KeepsRoom (room_of self.old) (room_of self.new) }
+        ensures full { result ≡ Err Refusal.Memory → LacksRoom 1 (room_of self.old) (length self.new.rows.items) (length self.new.below.items) }
     {
         let outcome = self.step(grammar, bytes, ended);
         match outcome {
@@ -470,7 +497,9 @@ impl Parse {
     fn step<G: Grammar>(&mut self, grammar: &G, bytes: &[u8], ended: bool) -> Result<bool, Refusal>
         requires fits { FitsSymbol bytes.now }
         requires parsing { IsParsing G.listed G.table ended bytes.now self.old }
-        ensures { IsStep G.listed G.table ended bytes.now self.old self.new result }
+        ensures moves { IsStep G.listed G.table ended bytes.now self.old self.new result }
+        ensures keeps { KeepsRoom (room_of self.old) (room_of self.new) }
+        ensures full { result ≡ Err Refusal.Memory → LacksRoom 1 (room_of self.old) (length self.new.rows.items) (length self.new.below.items) }
     {
         match grammar.symbol(self.top.place) {
             None => self.end_frame::<G>(bytes, ended),
@@ -492,7 +521,9 @@ impl Parse {
         requires fits { FitsSymbol bytes.now }
         requires parsing { IsParsing G.listed G.table ended bytes.now self.old }
         requires bare { G.listed self.old.top.place ≡ [] }
-        ensures { IsStep G.listed G.table ended bytes.now self.old self.new result }
+        ensures moves { IsStep G.listed G.table ended bytes.now self.old self.new result }
+        ensures keeps { KeepsRoom (room_of self.old) (room_of self.new) }
+        ensures full { result ≢ Err Refusal.Memory }
     {
         match uppermost(&self.below) {
             Some(frame) => {
@@ -520,7 +551,9 @@ impl Parse {
         requires fits { FitsSymbol bytes.now }
         requires parsing { IsParsing G.listed G.table ended bytes.now self.old }
         requires next { HasNext G.listed self.old.top (Sym.Byte byte) }
-        ensures { IsStep G.listed G.table ended bytes.now self.old self.new result }
+        ensures moves { IsStep G.listed G.table ended bytes.now self.old self.new result }
+        ensures keeps { KeepsRoom (room_of self.old) (room_of self.new) }
+        ensures full { result ≢ Err Refusal.Memory }
     {
         let at = self.at;
         match next_byte(bytes, at) {
@@ -546,7 +579,9 @@ impl Parse {
         requires fits { FitsSymbol bytes.now }
         requires parsing { IsParsing G.listed G.table ended bytes.now self.old }
         requires next { HasNext G.listed self.old.top (Sym.Kind kind) }
-        ensures { IsStep G.listed G.table ended bytes.now self.old self.new result }
+        ensures moves { IsStep G.listed G.table ended bytes.now self.old self.new result }
+        ensures keeps { KeepsRoom (room_of self.old) (room_of self.new) }
+        ensures full { result ≡ Err Refusal.Memory → LacksRoom 1 (room_of self.old) (length self.new.rows.items) (length self.new.below.items) }
     {
         match next_byte(bytes, self.at) {
             None if !ended => Ok(true),
@@ -583,7 +618,9 @@ impl Parse {
         requires parsing { IsParsing G.listed G.table ended bytes.now self.old }
         requires next { HasNext G.listed self.old.top (Sym.Kind kind) }
         requires none { TakesNone G.table kind ended (drop self.old.at bytes.now) }
-        ensures { IsStep G.listed G.table ended bytes.now self.old self.new result }
+        ensures moves { IsStep G.listed G.table ended bytes.now self.old self.new result }
+        ensures keeps { KeepsRoom (room_of self.old) (room_of self.new) }
+        ensures full { result ≢ Err Refusal.Memory }
     {
         if grammar.may_be_empty(kind) {
             self.top.place += 1;
@@ -604,7 +641,9 @@ impl Parse {
         requires parsing { IsParsing G.listed G.table ended bytes.now self.old }
         requires next { HasNext G.listed self.old.top symbol }
         requires found { FindsToken G.table.names symbol bytes.now self.old.at found }
-        ensures { IsStep G.listed G.table ended bytes.now self.old self.new result }
+        ensures moves { IsStep G.listed G.table ended bytes.now self.old self.new result }
+        ensures keeps { KeepsRoom (room_of self.old) (room_of self.new) }
+        ensures full { result ≡ Err Refusal.Memory → LacksRoom 1 (room_of self.old) (length self.new.rows.items) (length self.new.below.items) }
     {
         match found {
             Ok(place) if may_go_on(place.end, bytes, ended) => Ok(true),

@@ -1,10 +1,11 @@
 // A reader that is fed in pieces.
-ghost use Rattle.std.specs.Prelude.{◌≡◌, ◌+◌, ◌≤◌, ◌&&◌, [], ◌++◌, length, true, false, None, Some, Ok, Err, OnOk, OnErr, IfOk, IfErr, IfSome};
+ghost use Rattle.std.specs.Prelude.{◌≡◌, ◌⊎◌, ◌+◌, ◌<◌, ◌≤◌, ◌&&◌, [], ◌++◌, length, vec_capacity, true, false, None, Some, Ok, Err, OnOk, OnErr, IfOk, IfErr, IfSome};
 ghost use Rattle.sym_core.specs.declared.TheConstants.{MOST_BYTES};
 ghost use Rattle.sym_core.specs.Number.{FitsSymbol};
 ghost use Rattle.sym_shape.specs.Tree.{AreRowsOf, AreStepsOf, BeginsWellShaped};
 ghost use Rattle.sym_shape.specs.Reader.{IsMalformedOrMemory};
-ghost use Rattle.sym_shape.specs.Fed.{Fed, unfed, refusing, with_piece, is_answer, IsReason, IsWithinBounds};
+ghost use Rattle.sym_shape.specs.Fed.{Fed, unfed, refusing, with_piece, with_room, is_answer, IsReason, IsWithinBounds};
+ghost use Rattle.sym_shape.specs.Room.{no_room, KeepsRoom, LacksRoom};
 
 use crate::grammar::Grammar;
 use crate::parse::Parse;
@@ -28,12 +29,13 @@ pub struct Reader<G: Grammar> {
 }
 
 impl<G: Grammar> Model for Reader<G> {
-    ghost use Rattle.std.specs.Prelude.{length};
+    ghost use Rattle.std.specs.Prelude.{length, vec_capacity};
     ghost use Rattle.sym_shape.specs.Fed.{Fed, IsFed};
+    ghost use Rattle.sym_shape.specs.Room.{room_of};
 
     ghost Value = { Fed };
 
-    ghost view = { λ r. record { bytes = r.bytes.items; ended = r.ended; ready = r.ready; refused = r.refused; steps = r.parse.steps; rows = length r.parse.rows.items } };
+    ghost view = { λ r. record { bytes = r.bytes.items; ended = r.ended; ready = r.ready; refused = r.refused; steps = r.parse.steps; rows = length r.parse.rows.items; rules = length r.parse.below.items; byte_room = vec_capacity r.bytes; room = room_of r.parse } };
 
     ghost invariant = { λ r. IsFed G.listed G.table r.bytes.items r.ended r.ready r.refused r.parse };
 }
@@ -41,7 +43,7 @@ impl<G: Grammar> Model for Reader<G> {
 impl<G: Grammar> Reader<G> {
     /// A reader to which nothing is fed. Its lists take memory only once they grow, so no refusal comes here.
     pub fn new(alloc: Global, grammar: &G) -> Result<Self, Refusal>
-        ensures { result ≡ Ok unfed }
+        ensures { result ≡ Ok (unfed 0 no_room) }
     {
         Ok(Reader {
             bytes: Vec::new(alloc),
@@ -55,7 +57,7 @@ impl<G: Grammar> Reader<G> {
 
     /// A reader to which nothing is fed, with the lists of one that has finished: it takes no memory.
     pub fn with_lists(grammar: &G, mut bytes: Vec<u8>, shape: Shape) -> Self
-        ensures { result ≡ unfed }
+        ensures { result ≡ unfed (vec_capacity bytes) result.room }
     {
         bytes.clear();
         let mut parse = shape.into_parse();
@@ -72,7 +74,7 @@ impl<G: Grammar> Reader<G> {
 
     /// Gives up what was fed, for another symbol with the same lists.
     pub fn reset(&mut self)
-        ensures { self.new ≡ unfed }
+        ensures { self.new ≡ unfed self.old.byte_room self.old.room }
     {
         self.bytes.clear();
         self.ended = false;
@@ -125,12 +127,14 @@ impl<G: Grammar> Reader<G> {
     pub fn feed(&mut self, piece: &[u8]) -> Result<(), Refusal>
         requires open { self.old.ended ≡ false }
         requires room { length self.old.bytes + length piece.now ≤ MOST_BYTES }
-        ensures ok { OnOk result (self.new ≡ with_piece self.old piece.now) }
+        ensures ok { OnOk result (self.new ≡ with_room (with_piece self.old piece.now) self.new.byte_room) }
         ensures open { OnOk result (self.old.refused ≡ None) }
-        ensures refused { IfErr result (λ refusal. self.new ≡ refusing self.old refusal) }
+        ensures refused { IfErr result (λ refusal. self.new ≡ with_room (refusing self.old refusal) self.new.byte_room) }
         // A refusal is answered again; a new one is of memory alone.
         ensures again { IfSome self.old.refused (λ refusal. result ≡ Err refusal) }
         ensures memory { self.old.refused ≡ None → IfErr result (λ refusal. refusal ≡ Refusal.Memory) }
+        ensures full { self.old.refused ≡ None → OnErr result (self.old.byte_room < length self.old.bytes + length piece.now) }
+        ensures byte_room { self.old.byte_room ≤ self.new.byte_room }
     {
         if let Some(refusal) = self.refused {
             return Err(refusal);
@@ -174,6 +178,10 @@ impl<G: Grammar> Reader<G> {
         ensures refused { IfErr result (λ refusal. self.new.refused ≡ Some refusal) }
         ensures reason { IfErr result (IsReason G.table self.old.ended self.old.bytes) }
         ensures counted { self.old.refused ≡ None → OnErr result (self.new.steps ≡ self.old.steps + 1) }
+        // It is of memory where a list had no room.
+        ensures full { self.old.refused ≡ None → result ≡ Err Refusal.Memory → LacksRoom 1 self.old.room self.new.rows self.new.rules }
+        ensures room { KeepsRoom self.old.room self.new.room }
+        ensures byte_room { self.new.byte_room ≡ self.old.byte_room }
         ensures few { IsWithinBounds self.new }
     {
         if let Some(refusal) = self.refused {
@@ -215,6 +223,10 @@ impl<G: Grammar> Reader<G> {
         ensures open { OnOk result (self.new.refused ≡ None) }
         ensures refused { IfErr result (λ refusal. self.new.refused ≡ Some refusal) }
         ensures reason { IfErr result (IsReason G.table self.old.ended self.old.bytes) }
+        // It is of memory where a list had no room: a token and its rule are two rows.
+        ensures full { self.old.refused ≡ None → result ≡ Err Refusal.Memory → LacksRoom 2 self.old.room self.new.rows self.new.rules }
+        ensures room { KeepsRoom self.old.room self.new.room }
+        ensures byte_room { self.new.byte_room ≡ self.old.byte_room }
         ensures few { IsWithinBounds self.new }
     {
         if let Some(refusal) = self.refused {

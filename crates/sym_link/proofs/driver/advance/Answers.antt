@@ -1,8 +1,9 @@
-use Rattle.std.proofs.Common.{sym, ◌∙◌, ◌+◌, arith, refl}
+use Rattle.std.proofs.Common.{sym, ap, subst, ◌∙◌, ◌+◌, ◌∷◌, [], length, length-append, arith, refl}
+use Rattle.std.specs.Prelude.{◌≢◌}
 use Rattle.std.proofs.lemmas.Result.{err_from_is_err_and}
 use Rattle.sym_link.specs.Following.{meaning_of}
 use Rattle.sym_link.specs.Stepping.{waiting}
-use Rattle.sym_link.proofs.Lists.{popped}
+use Rattle.sym_link.proofs.Lists.{popped, last_same}
 use Rattle.sym_link.proofs.Driving.{begun_way, closing_way, done_way, fresh_way, root_left}
 use Rattle.sym_link.proofs.driver.advance.Goals as goal
 
@@ -23,7 +24,7 @@ begin-requires g c =
 
 pub leave-requires : goal.leave-requires
 leave-requires g c =
-    let some = closing_way (g.L.Linking.view c.args.symbol.now) c.args.symbol.now c.args.rows.now c.requires.tree c.requires.taken c.args.language.now c.args.next c.args.frames.now.items c.in-Some.frame c.args.parts.now.items
+    let some = closing_way (g.L.Linking.view c.args.symbol.now) c.args.symbol.now c.args.rows.now c.requires.tree c.requires.taken c.args.language.now c.args.next c.args.frames.now.items c.in-Some.frame.now c.args.parts.now.items
     c.requires.on_way (c.in-Some.ensures.some.0, sym c.deref.ensures.value ∙ c.in-Some.ensures.some.1) in
     record {
       whole = meaning_of (g.L.Linking.view c.args.symbol.now) c.requires.tree;
@@ -39,40 +40,41 @@ leave-requires g c =
 pub returns-in_err-leave-clause-moves : goal.returns-in_err-leave-clause-moves
 returns-in_err-leave-clause-moves g c tree taken is way =
     let p = err_from_is_err_and c.from_residual-in_err-leave.result c.from_residual-in_err-leave.ensures.1 in
-    let some = closing_way (g.L.Linking.view c.args.symbol.now) c.args.symbol.now c.args.rows.now tree taken c.args.language.now c.args.next c.args.frames.now.items c.in-Some.frame c.args.parts.now.items way (c.in-Some.ensures.some.0, sym c.deref.ensures.value ∙ c.in-Some.ensures.some.1) in
+    let some = closing_way (g.L.Linking.view c.args.symbol.now) c.args.symbol.now c.args.rows.now tree taken c.args.language.now c.args.next c.args.frames.now.items c.in-Some.frame.now c.args.parts.now.items way (c.in-Some.ensures.some.0, sym c.deref.ensures.value ∙ c.in-Some.ensures.some.1) in
     rw (p.1, p.2) (c.in_err-leave.ensures.follows (meaning_of (g.L.Linking.view c.args.symbol.now) tree) c.args.rows.now c.in-Some.ensures.some.0 c.args.next some.0 some.2 c.if-frame-next.true)
 
 pub returns-then-frame-next-clause-moves : goal.returns-then-frame-next-clause-moves
 returns-then-frame-next-clause-moves g c tree taken is way =
-    let some = closing_way (g.L.Linking.view c.args.symbol.now) c.args.symbol.now c.args.rows.now tree taken c.args.language.now c.args.next c.args.frames.now.items c.in-Some.frame c.args.parts.now.items way (c.in-Some.ensures.some.0, sym c.deref.ensures.value ∙ c.in-Some.ensures.some.1) in
+    let some = closing_way (g.L.Linking.view c.args.symbol.now) c.args.symbol.now c.args.rows.now tree taken c.args.language.now c.args.next c.args.frames.now.items c.in-Some.frame.now c.args.parts.now.items way (c.in-Some.ensures.some.0, sym c.deref.ensures.value ∙ c.in-Some.ensures.some.1) in
     rw (
-      c.in_ok-leave.ensures.lower,
-      popped c.args.frames.now.items c.in-Some.ensures.some.0 c.in-Some.frame _ (sym c.deref.ensures.value ∙ c.in-Some.ensures.some.1) refl,
+      c.take_off.ensures,
+      popped c.args.frames.now.items c.in-Some.ensures.some.0 c.in-Some.frame.now _ (sym c.deref.ensures.value ∙ c.in-Some.ensures.some.1) refl,
     )
     (some.0, some.1, c.in_ok-leave.ensures.follows (meaning_of (g.L.Linking.view c.args.symbol.now) tree) c.args.rows.now c.in-Some.ensures.some.0 c.args.next some.0 some.2 c.if-frame-next.true)
 
 pub take-requires : goal.take-requires
 take-requires g c =
-    let some = begun_way (g.L.Linking.view c.args.symbol.now) c.args.symbol.now c.args.rows.now c.requires.tree c.requires.taken c.args.language.now c.args.next c.args.frames.now.items c.in-Some.frame c.args.parts.now.items c.requires.on_way (c.in-Some.ensures.some.0, sym c.deref.ensures.value ∙ c.in-Some.ensures.some.1) in (
+    let some = begun_way (g.L.Linking.view c.args.symbol.now) c.args.symbol.now c.args.rows.now c.requires.tree c.requires.taken c.args.language.now c.args.next c.args.frames.now.items c.in-Some.frame.now c.args.parts.now.items c.requires.on_way (c.in-Some.ensures.some.0, sym c.deref.ensures.value ∙ c.in-Some.ensures.some.1) in (
       some.0,
-      record {
+      λ frame last. record {
         whole = meaning_of (g.L.Linking.view c.args.symbol.now) c.requires.tree;
         follows = some.2;
-        last = (c.in-Some.ensures.some.0, sym c.deref.ensures.value ∙ c.in-Some.ensures.some.1);
-        open_still = c.if-frame-next.false;
+        last = last;
+        open_still = subst (λ f. f.end ≢ c.args.next) (last_same c.in-Some.ensures.some.0 last.0 c.in-Some.frame.now frame (sym (sym c.deref.ensures.value ∙ c.in-Some.ensures.some.1) ∙ last.1)) c.if-frame-next.false;
         fits = c.requires.fits;
       },
+      omega (arith, ap (λ fs. length fs) (sym c.deref.ensures.value ∙ c.in-Some.ensures.some.1), length-append c.in-Some.ensures.some.0 (c.in-Some.frame.now ∷ [])),
     )
 
 pub returns-in_err-behind-2-clause-moves : goal.returns-in_err-behind-2-clause-moves
 returns-in_err-behind-2-clause-moves g c tree taken is way =
     let p = err_from_is_err_and c.from_residual-in_err-behind-2.result c.from_residual-in_err-behind-2.ensures.1 in
-    let some = begun_way (g.L.Linking.view c.args.symbol.now) c.args.symbol.now c.args.rows.now tree taken c.args.language.now c.args.next c.args.frames.now.items c.in-Some.frame c.args.parts.now.items way (c.in-Some.ensures.some.0, sym c.deref.ensures.value ∙ c.in-Some.ensures.some.1) in
+    let some = begun_way (g.L.Linking.view c.args.symbol.now) c.args.symbol.now c.args.rows.now tree taken c.args.language.now c.args.next c.args.frames.now.items c.in-Some.frame.now c.args.parts.now.items way (c.in-Some.ensures.some.0, sym c.deref.ensures.value ∙ c.in-Some.ensures.some.1) in
     rw (p.1, p.2) (c.in_err-behind-2.ensures.follows (meaning_of (g.L.Linking.view c.args.symbol.now) tree) some.0 some.2)
 
 pub returns-clause-moves : goal.returns-clause-moves
 returns-clause-moves g c tree taken is way =
-    let some = begun_way (g.L.Linking.view c.args.symbol.now) c.args.symbol.now c.args.rows.now tree taken c.args.language.now c.args.next c.args.frames.now.items c.in-Some.frame c.args.parts.now.items way (c.in-Some.ensures.some.0, sym c.deref.ensures.value ∙ c.in-Some.ensures.some.1) in
+    let some = begun_way (g.L.Linking.view c.args.symbol.now) c.args.symbol.now c.args.rows.now tree taken c.args.language.now c.args.next c.args.frames.now.items c.in-Some.frame.now c.args.parts.now.items way (c.in-Some.ensures.some.0, sym c.deref.ensures.value ∙ c.in-Some.ensures.some.1) in
     (some.0, some.1, c.in_ok-behind-2.ensures.follows (meaning_of (g.L.Linking.view c.args.symbol.now) tree) some.0 some.2)
 
 pub returns-in_err-behind-clause-moves : goal.returns-in_err-behind-clause-moves

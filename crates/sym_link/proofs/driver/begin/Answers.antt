@@ -13,6 +13,7 @@ settle-requires g c =
     record {
       whole = meaning_of (g.L.Linking.view c.args.symbol.now) c.requires.tree;
       steps = (root_left (g.L.Linking.view c.args.symbol.now) c.args.symbol.now c.args.rows.now c.requires.tree (g.met.L.Linking.laws c.args.symbol.now) c.requires.is_shape).0;
+      most = _;
       follows = root_begun (g.L.Linking.view c.args.symbol.now) c.args.symbol.now c.args.rows.now c.requires.tree c.args.language.now c.root.new.self c.args.frames.now.items
           (record { rule = (slice_index_or c.args.rows.now 0 (record { rule = 0; from = 0; to = 0; end = 0 })).rule; place = (slice_index_or c.args.rows.now 0 (record { rule = 0; from = 0; to = 0; end = 0 })).from; end = (slice_index_or c.args.rows.now 0 (record { rule = 0; from = 0; to = 0; end = 0 })).end; base = 0; kept = c.in_ok-kept.kept })
           c.args.parts.now.items (slice_index_or c.args.rows.now 0 (record { rule = 0; from = 0; to = 0; end = 0 })) (record { rule = 0; from = 0; to = 0; end = 0 }) (g.met.L.Linking.laws c.args.symbol.now) c.requires.is_shape c.requires.fits.rows c.requires.fresh refl
@@ -23,8 +24,17 @@ settle-requires g c =
 
 pub returns-clause-follows : goal.returns-clause-follows
 returns-clause-follows g c tree left is steps =
-    c.settle.ensures.follows (meaning_of (g.L.Linking.view c.args.symbol.now) tree) left
+    c.settle.ensures.follows (meaning_of (g.L.Linking.view c.args.symbol.now) tree) left _
     (root_begun (g.L.Linking.view c.args.symbol.now) c.args.symbol.now c.args.rows.now tree c.args.language.now c.root.new.self c.args.frames.now.items
     (record { rule = (slice_index_or c.args.rows.now 0 (record { rule = 0; from = 0; to = 0; end = 0 })).rule; place = (slice_index_or c.args.rows.now 0 (record { rule = 0; from = 0; to = 0; end = 0 })).from; end = (slice_index_or c.args.rows.now 0 (record { rule = 0; from = 0; to = 0; end = 0 })).end; base = 0; kept = c.in_ok-kept.kept })
     c.args.parts.now.items (slice_index_or c.args.rows.now 0 (record { rule = 0; from = 0; to = 0; end = 0 })) (record { rule = 0; from = 0; to = 0; end = 0 }) (g.met.L.Linking.laws c.args.symbol.now) is c.requires.fits.rows c.requires.fresh refl
     c.in_ok-kept.ensures.opens c.in_ok-kept.ensures.adds c.in_ok-kept.ensures.pays refl refl refl refl left steps)
+
+pub returns-clause-few : goal.returns-clause-few
+returns-clause-few g c =
+    c.settle.ensures.few (meaning_of (g.L.Linking.view c.args.symbol.now) c.requires.tree) (root_left (g.L.Linking.view c.args.symbol.now) c.args.symbol.now c.args.rows.now c.requires.tree (g.met.L.Linking.laws c.args.symbol.now) c.requires.is_shape).0 _
+    (root_begun (g.L.Linking.view c.args.symbol.now) c.args.symbol.now c.args.rows.now c.requires.tree c.args.language.now c.root.new.self c.args.frames.now.items
+          (record { rule = (slice_index_or c.args.rows.now 0 (record { rule = 0; from = 0; to = 0; end = 0 })).rule; place = (slice_index_or c.args.rows.now 0 (record { rule = 0; from = 0; to = 0; end = 0 })).from; end = (slice_index_or c.args.rows.now 0 (record { rule = 0; from = 0; to = 0; end = 0 })).end; base = 0; kept = c.in_ok-kept.kept })
+          c.args.parts.now.items (slice_index_or c.args.rows.now 0 (record { rule = 0; from = 0; to = 0; end = 0 })) (record { rule = 0; from = 0; to = 0; end = 0 }) (g.met.L.Linking.laws c.args.symbol.now) c.requires.is_shape c.requires.fits.rows c.requires.fresh refl
+          c.in_ok-kept.ensures.opens c.in_ok-kept.ensures.adds c.in_ok-kept.ensures.pays refl refl refl refl _
+          (root_left (g.L.Linking.view c.args.symbol.now) c.args.symbol.now c.args.rows.now c.requires.tree (g.met.L.Linking.laws c.args.symbol.now) c.requires.is_shape).1)

@@ -1,5 +1,5 @@
 -- Some parts are passed: what comes of them all is known still, and the bounds go on.
-use Rattle.std.proofs.Common.{◌-◌, ◌≤◌, ℕ, List, length}
+use Rattle.std.proofs.Common.{◌-◌, ◌+◌, ◌≤◌, ℕ, List, drop, length}
 use Rattle.std.specs.Prelude.{Result}
 use Rattle.sym_core.specs.declared.refusal.Refusal.{Refusal}
 use Rattle.sym_link.specs.Machine.{Passed}
@@ -17,6 +17,8 @@ invariant-parts g l =
     → Passing (g.L.Threading.view l.symbol) l.symbol l.fn.language l.frame lower l.fn.parts.items l.to whole
     → Passing (g.L.Threading.view l.symbol) l.symbol l.language l.frame lower l.parts.items l.to whole)
     × IsOpenAt (g.L.Threading.view l.symbol) l.symbol l.language l.frame l.parts.items
+    × ((g.L.Threading.view l.symbol).size l.language + (g.L.Threading.view l.symbol).closes l.frame.rule (drop l.frame.base l.parts.items)
+    ≤ (g.L.Threading.view l.symbol).size l.fn.language + (g.L.Threading.view l.symbol).closes l.frame.rule (drop l.frame.base l.fn.parts.items))
 
 abbrev pub decreases-parts : goal.decreases-parts
 decreases-parts g l = l.to - (length l.parts.items - l.frame.base)

@@ -10,7 +10,7 @@ run-requires-clause-parsing g c =
     same_start g.G.Grammar.table g.met.G.Grammar.lawful true c.args.s.now _ _ _ _ start.steps start.at (start.todo g.G.Grammar.listed ∙ ap entries_of g.G.Grammar.start) start.rows
 
 pub returns-in-Ok-clause-rows : goal.returns-in-Ok-clause-rows
-returns-in-Ok-clause-rows g c = run_rows g.G.Grammar.listed g.G.Grammar.table c.args.s.now c.restart.new.self c.run.new.self (Ok tt) c.in-Ok.ensures
+returns-in-Ok-clause-rows g c = run_rows g.G.Grammar.listed g.G.Grammar.table c.args.s.now c.restart.new.self c.run.new.self (Ok tt) c.in-Ok.ensures.runs
 
 pub returns-in-Ok-clause-steps : goal.returns-in-Ok-clause-steps
-returns-in-Ok-clause-steps g c = run_steps g.G.Grammar.listed g.G.Grammar.table g.met.G.Grammar.lawful c.args.s.now c.restart.new.self c.run.new.self (Ok tt) c.in-Ok.ensures
+returns-in-Ok-clause-steps g c = run_steps g.G.Grammar.listed g.G.Grammar.table g.met.G.Grammar.lawful c.args.s.now c.restart.new.self c.run.new.self (Ok tt) c.in-Ok.ensures.runs

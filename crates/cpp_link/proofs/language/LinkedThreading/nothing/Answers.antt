@@ -3,6 +3,6 @@ use Rattle.cpp_term.specs.Unfolding.{cpp}
 use Rattle.cpp_link.specs.Parts.{value_of}
 use Rattle.cpp_link.proofs.language.LinkedThreading.nothing.Goals as goal
 
-pub returns : goal.returns
+pub returns-clause-stands : goal.returns-clause-stands
 unfolding cpp value_of
-returns c s = (record { there = tt; is = refl }, tt)
+returns-clause-stands c s = (record { there = tt; is = refl }, tt)

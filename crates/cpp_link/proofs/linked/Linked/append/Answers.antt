@@ -7,18 +7,18 @@ use Rattle.cpp_link.specs.Reads.{with_candidate}
 use Rattle.cpp_link.proofs.Appending.{candidates_push, there_push}
 use Rattle.cpp_link.proofs.linked.Linked.append.Goals as goal
 
-pub returns-in_ok-push-in-Some-clause-there : goal.returns-in_ok-push-in-Some-clause-there
-returns-in_ok-push-in-Some-clause-there c =
-    subst (λ cs. AreCandidatesThere (length c.args.self.now.nodes.nodes) cs) (sym c.in_ok-push-in-Some.ensures.items)
+pub returns-in_ok-push_part-in-Some-clause-there : goal.returns-in_ok-push_part-in-Some-clause-there
+returns-in_ok-push_part-in-Some-clause-there c =
+    subst (λ cs. AreCandidatesThere (length c.args.self.now.nodes.nodes) cs) (sym c.in_ok-push_part-in-Some.ensures.items)
     (there_push _ c.args.self.now.candidates.items _ c.requires.there (subst (λ o. IsArgumentsBelow (length c.args.self.now.nodes.nodes) o) c.in-Some.is c.requires.candidate))
 
-pub returns-in_ok-push-in-Some-clause-is : goal.returns-in_ok-push-in-Some-clause-is
+pub returns-in_ok-push_part-in-Some-clause-is : goal.returns-in_ok-push_part-in-Some-clause-is
 unfolding with_candidate appended around_of
-returns-in_ok-push-in-Some-clause-is c packs =
+returns-in_ok-push_part-in-Some-clause-is c packs =
     let ts = trees_in c.args.symbol.now c.args.self.now.nodes in
     let before : State = record { candidates = candidates_of ts c.args.self.now.candidates.items; packs = packs } in
     ap (λ o. with_candidate (around_of ts c.args.kept) ts o before) c.in-Some.is
-    ∙ ap (λ cs. record { candidates = cs; packs = packs }) (sym (candidates_push ts c.args.self.now.candidates.items _) ∙ ap (λ cs. candidates_of ts cs) (sym c.in_ok-push-in-Some.ensures.items))
+    ∙ ap (λ cs. record { candidates = cs; packs = packs }) (sym (candidates_push ts c.args.self.now.candidates.items _) ∙ ap (λ cs. candidates_of ts cs) (sym c.in_ok-push_part-in-Some.ensures.items))
 
 pub returns-in-None-clause-is : goal.returns-in-None-clause-is
 unfolding with_candidate

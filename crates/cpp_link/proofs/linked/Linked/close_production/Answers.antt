@@ -20,4 +20,4 @@ pub returns-in_default-clause-is : goal.returns-in_default-clause-is
 returns-in_default-clause-is c =
     let s = c.args.symbol.now in
     other_closes c.args.production (slice_index s c.args.place) (around_of (trees_in s c.args.self.now.nodes) c.args.kept) c.args.place (values_in s c.args.self.now.nodes c.args.parts.now)
-    (state_of s c.args.self.now) (state_of s c.make_common.new.self) (packs_of c.args.kept) (value_in s c.make_common.new.self.nodes) c.make_common.result c.in_default.not-Substitution c.make_common.ensures.value c.make_common.ensures.state
+    (state_of s c.args.self.now) (state_of s c.make.new.self) (packs_of c.args.kept) (value_in s c.make.new.self.nodes) c.make.result c.in_default.not-Substitution c.make.ensures.value c.make.ensures.state

@@ -1,12 +1,15 @@
 use Rattle.std.proofs.Common.{subst, ◌∙◌, ap, ◌-◌, ◌<◌}
-use Rattle.cpp_link.proofs.GoingOn.{quiet_right, quiet_adds}
+use Rattle.cpp_link.proofs.GoingOn.{quiet_right, quiet_adds, quiet_few}
 use Rattle.cpp_link.proofs.linked.Linked.go_on.Goals as goal
 
 pub returns-then-len-frame-clause-goes : goal.returns-then-len-frame-clause-goes
 returns-then-len-frame-clause-goes c =
-    quiet_right c.args.symbol.now c.args.self.now c.args.frame c.args.parts.now.items (c.len.result - c.args.frame.base)
-    (ap (λ n. n - c.args.frame.base) (c.len.ensures ∙ c.args.parts.now.ok.0))
-    (subst (λ m. c.len.result - c.args.frame.base < m) c.quiet_parts.ensures c.if-len-frame.true)
+    quiet_right c.args.symbol.now c.args.self.now c.args.frame.now c.args.parts.now.items (c.len.result - c.args.frame.now.base)
+    (ap (λ n. n - c.args.frame.now.base) (c.len.ensures ∙ c.args.parts.now.ok.0))
+    (subst (λ m. c.len.result - c.args.frame.now.base < m) c.quiet_parts.ensures c.if-len-frame.true)
 
 pub returns-then-len-frame-clause-adds : goal.returns-then-len-frame-clause-adds
-returns-then-len-frame-clause-adds c = quiet_adds c.args.symbol.now c.args.self.now c.args.frame c.args.parts.now.items
+returns-then-len-frame-clause-adds c = quiet_adds c.args.symbol.now c.args.self.now c.args.frame.now c.args.parts.now.items
+
+pub returns-then-len-frame-clause-few : goal.returns-then-len-frame-clause-few
+returns-then-len-frame-clause-few c = quiet_few c.args.symbol.now c.args.self.now c.args.frame.now c.args.parts.now.items

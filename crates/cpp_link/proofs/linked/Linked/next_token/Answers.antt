@@ -12,5 +12,5 @@ returns c own around known from left state t rest is count left_is =
     let held = sym count ∙ as_many (IsPart s c.args.self.now) own known is.parts in
     c.token_part.ensures
     ∙ ap (λ p. token_part p c.args.held) c.production_of.ensures
-    ∙ ap (λ n. token_part (production_at c.args.frame.rule) n) held
-    ∙ token_right s c.args.self.now c.args.frame own around known from left state is t rest left_is
+    ∙ ap (λ n. token_part (production_at c.args.frame.now.rule) n) held
+    ∙ token_right s c.args.self.now c.args.frame.now own around known from left state is t rest left_is

@@ -1,4 +1,4 @@
-use Rattle.std.proofs.Common.{◌≡◌, sym, ◌∙◌, ap, subst, ℕ, ◌<◌, List, [], ◌∷◌, length}
+use Rattle.std.proofs.Common.{◌≡◌, sym, ◌∙◌, ap, subst, arith, ℕ, ◌<◌, List, [], ◌∷◌, length, get_or}
 use Rattle.std.specs.Prelude.{IfOk, IfErr}
 use Rattle.sym_core.specs.declared.refusal.Refusal.{Refusal}
 use Rattle.sym_link.specs.Driving.{Fails}
@@ -11,7 +11,9 @@ use Rattle.cpp_link.specs.declared.part.Kept.{Kept}
 use Rattle.cpp_link.specs.declared.part.Step.{Step}
 use Rattle.cpp_link.specs.Parts.{trees_in, value_in, values_in, around_of}
 use Rattle.cpp_link.specs.Reads.{goes_on}
+use Rattle.cpp_link.specs.declared.part.Part.{Part}
 use Rattle.cpp_link.specs.Stepping.{IsStepOf}
+use Rattle.cpp_link.proofs.Stepping.{none_made}
 use Rattle.cpp_link.proofs.Places.{values_length, none_are, one_is, two_are, three_are, later_are, empty_length, many_more}
 use Rattle.cpp_link.proofs.linked.Linked.step.Goals as goal
 
@@ -84,3 +86,19 @@ returns-then-parts-eq3-clause-of c = c.step_fourth.ensures.of (length c.args.par
 
 pub returns-clause-of : goal.returns-clause-of
 returns-clause-of c = c.step_later.ensures.of (length c.args.parts.now)
+
+pub returns-then-is_empty-clause-pack : goal.returns-then-is_empty-clause-pack
+returns-then-is_empty-clause-pack c is one = absurd (omega (arith, empty_length c.args.parts.now (sym c.is_empty.ensures ∙ c.if-is_empty.true), ap (λ ps. length ps) one))
+
+pub returns-then-parts-eq1-clause-pack : goal.returns-then-parts-eq1-clause-pack
+returns-then-parts-eq1-clause-pack c is one =
+    none_made c.step_behind_first.result c.given-first.result (c.given-first.ensures.at ∙ ap (λ ps. get_or ps 0 Part.Nothing) one) (c.step_behind_first.ensures.pack is)
+
+pub returns-then-parts-eq2-clause-pack : goal.returns-then-parts-eq2-clause-pack
+returns-then-parts-eq2-clause-pack c is one = absurd (c.if-parts-eq1.false (ap (λ ps. length ps) one))
+
+pub returns-then-parts-eq3-clause-pack : goal.returns-then-parts-eq3-clause-pack
+returns-then-parts-eq3-clause-pack c is one = absurd (c.if-parts-eq1.false (ap (λ ps. length ps) one))
+
+pub returns-clause-pack : goal.returns-clause-pack
+returns-clause-pack c is one = absurd (c.if-parts-eq1.false (ap (λ ps. length ps) one))

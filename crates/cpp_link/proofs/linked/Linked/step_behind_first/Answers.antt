@@ -1,5 +1,8 @@
-use Rattle.std.proofs.Common.{sym, subst}
+use Rattle.std.proofs.Common.{◌≡◌, sym, ◌∙◌, subst}
 use Rattle.std.specs.Prelude.{IfOk}
+use Rattle.cpp_grammar.specs.declared.production.Production.{Production}
+use Rattle.cpp_term.specs.Between.{between}
+use Rattle.cpp_link.specs.Parts.{value_in}
 use Rattle.cpp_link.specs.Stepping.{IsStepOf}
 use Rattle.cpp_link.proofs.Stepping.{parameter_steps, nest_parameter_steps}
 use Rattle.cpp_link.proofs.linked.Linked.step_behind_first.Goals as goal
@@ -9,3 +12,28 @@ returns-in-Parameter-clause-of c = subst (λ p. IfOk c.parameter.result (λ step
 
 pub returns-in-NestParameter-clause-of : goal.returns-in-NestParameter-clause-of
 returns-in-NestParameter-clause-of c = subst (λ p. IfOk c.parameter-in-NestParameter.result (λ step. IsStepOf p 1 step)) (sym c.in-NestParameter.is) (nest_parameter_steps c.parameter-in-NestParameter.result)
+
+parameter_is_no_pack : Production.Parameter ≡ Production.PackArgument → ⊥
+parameter_is_no_pack h = cc
+
+nest_is_no_pack : Production.NestParameter ≡ Production.PackArgument → ⊥
+nest_is_no_pack h = cc
+
+pub returns-in-PackArgument-clause-is : goal.returns-in-PackArgument-clause-is
+unfolding between
+returns-in-PackArgument-clause-is c cs = rw c.in-PackArgument.is (sym (c.pack.ensures.is c.args.kept (value_in c.args.symbol.now c.args.self.now.nodes c.args.first) cs))
+
+pub returns-in-PackArgument-clause-of : goal.returns-in-PackArgument-clause-of
+returns-in-PackArgument-clause-of c = subst (λ p. IsStepOf p 1 c.pack.result) (sym c.in-PackArgument.is) c.pack.ensures.of
+
+pub returns-in-Parameter-clause-pack : goal.returns-in-Parameter-clause-pack
+returns-in-Parameter-clause-pack c is = absurd (parameter_is_no_pack (sym c.in-Parameter.is ∙ is))
+
+pub returns-in-NestParameter-clause-pack : goal.returns-in-NestParameter-clause-pack
+returns-in-NestParameter-clause-pack c is = absurd (nest_is_no_pack (sym c.in-NestParameter.is ∙ is))
+
+pub returns-in-PackArgument-clause-pack : goal.returns-in-PackArgument-clause-pack
+returns-in-PackArgument-clause-pack c is = c.pack.ensures.made
+
+pub returns-in_default-clause-pack : goal.returns-in_default-clause-pack
+returns-in_default-clause-pack c is = absurd (c.in_default.not-PackArgument is)

@@ -18,7 +18,7 @@ returns-clause-opens c around known from left state rule taken inner rest is lef
     let later : around.place ≤ skipped_from from left = omega (arith, is.stands.starts, skipped_further from left) in
     let fits : around.context + 1000 < 2 ^ 64 = omega (arith, is.kept.few, later, row_is.from, c.requires.place, c.requires.room.fits) in
     let g = ground c.args.symbol.now c.args.self.now.nodes in
-    let agrees = bound_agrees g (production_of around.rule.number) around.context (drop c.args.frame.base c.args.parts.now.items) known is.parts fits in
+    let agrees = bound_agrees g (production_of around.rule.number) around.context (drop c.args.frame.now.base c.args.parts.now.items) known is.parts fits in
     let bound : c.bound_behind-bound.result ≡ bound_behind (production_of around.rule.number) around.context known =
     (rw (c.deref.ensures.value, is.number, is.kept.is) at c.bound_behind-bound.ensures) ∙ agrees.0 in
     rw (v0_next c.args.symbol.now around known from left state) (
@@ -26,11 +26,11 @@ returns-clause-opens c around known from left state rule taken inner rest is lef
       refl,
       record {
         is = bound;
-        few = bound_few c.args.symbol.now g around (drop c.args.frame.base c.args.parts.now.items) known (length known) from left is.parts is.stands is.kept.few fits later;
+        few = bound_few c.args.symbol.now g around (drop c.args.frame.now.base c.args.parts.now.items) known (length known) from left is.parts is.stands is.kept.few fits later;
         there = omega (arith, row_is.from, c.requires.place, is.holds.places);
       },
       is.holds,
       _,
-      sym (taken_dropped c.args.frame.base c.args.parts.now.items),
+      sym (taken_dropped c.args.frame.now.base c.args.parts.now.items),
       is.parts,
     )

@@ -1,7 +1,12 @@
-use Rattle.std.proofs.Common.{refl, subst, ap, arith, length}
+use Rattle.std.proofs.Common.{refl, sym, ◌∙◌, subst, ap, arith, length, Err}
 use Rattle.sym_link.proofs.Starting.{driving_few}
+use Rattle.sym_shape.specs.declared.rule.Sym.TheVariants.{Kind}
+use Rattle.sym_shape.specs.Tree.{IsTree, spell}
+use Rattle.sym_link.specs.Driving.{Fails}
+use Rattle.sym_link.specs.Following.{IsStepTo, meaning_of}
+use Rattle.sym_demangle.specs.Mangled.{IsRefused}
 use Rattle.sym_demangle.specs.Standing.{Progress, AreLinkSteps}
-use Rattle.sym_demangle.proofs.Standing.{shape_steps, done_steps}
+use Rattle.sym_demangle.proofs.Standing.{shape_steps, done_steps, step_fails, refused_of, counted_two}
 use Rattle.sym_demangle.proofs.linker.Linker.step.Goals as goal
 
 pub returns-then-self-clause-all_steps : goal.returns-then-self-clause-all_steps
@@ -28,3 +33,37 @@ returns-in-Ok-clause-few g c =
       steps = omega (arith, driving_few (g.M.Linked.Linking.view c.deref.result.now) c.deref.result.now c.rows.result.now inv.shape _ _ _ _ _ _ driven, ap (λ rs. length rs) c.rows.ensures, inv.few.steps_few, inv.few.rows_few);
       rows = inv.few.rows_few;
     }
+
+pub returns-in-Ok-clause-nodes : goal.returns-in-Ok-clause-nodes
+returns-in-Ok-clause-nodes g c =
+    let i = c.self.inside in
+    let inv = c.self.invariant in
+    let s = c.deref.result.now in
+    let added = counted_two (g.M.Linked.Linking.view s) s c.rows.result.now inv.shape i.linked c.step.new.language i.driver.steps c.step.new.self.steps i.driver.refused i.driver.next
+    i.driver.frames.items i.driver.parts.items g.M.Mangling.count_of g.M.Mangling.first_nodes (g.met.M.Mangling.counts_nodes s) c.in_default.not-Some
+    (rw (c.deref.ensures.value, c.rows.ensures) inv.driving) c.step.ensures.nodes in
+    omega (arith, added, ap (λ (v : Progress). v.steps) c.self.view_is, ap (λ (v : Progress). v.nodes) c.self.view_is)
+
+pub returns-in-Err-clause-nodes : goal.returns-in-Err-clause-nodes
+returns-in-Err-clause-nodes g c =
+    let i = c.self.inside in
+    let inv = c.self.invariant in
+    let s = c.deref.result.now in
+    let added = counted_two (g.M.Linked.Linking.view s) s c.rows.result.now inv.shape i.linked c.step.new.language i.driver.steps c.step.new.self.steps i.driver.refused i.driver.next
+    i.driver.frames.items i.driver.parts.items g.M.Mangling.count_of g.M.Mangling.first_nodes (g.met.M.Mangling.counts_nodes s) c.in_default.not-Some
+    (rw (c.deref.ensures.value, c.rows.ensures) inv.driving) c.step.ensures.nodes in
+    omega (arith, added, ap (λ (v : Progress). v.steps) c.self.view_is, ap (λ (v : Progress). v.nodes) c.self.view_is)
+
+pub returns-in-Err-clause-refused : goal.returns-in-Err-clause-refused
+returns-in-Err-clause-refused g c =
+    let i = c.self.inside in
+    let inv = c.self.invariant in
+    let e = c.in-Err.refusal in
+    let s = c.deref.result.now in
+    let to = c.step.ensures.answers inv.shape (rw (c.deref.ensures.value, c.rows.ensures) inv.is_shape) (rw (c.deref.ensures.value, c.rows.ensures) inv.driving) in
+    let fails : Fails e (meaning_of (g.M.Linked.Linking.view (spell inv.shape)) inv.shape) = subst (λ b. Fails e (meaning_of (g.M.Linked.Linking.view b) inv.shape)) (c.deref.ensures.value ∙ sym inv.is_shape.spelled)
+    (step_fails (g.M.Linked.Linking.view s) s c.rows.result.now inv.shape c.step.new.language i.driver.steps c.step.new.self.steps i.driver.refused c.step.new.self.refused c.step.new.self.parts.items e
+    (subst (λ r. IsStepTo (g.M.Linked.Linking.view s) s c.rows.result.now inv.shape c.step.new.language i.driver.steps c.step.new.self.steps i.driver.refused c.step.new.self.refused c.step.new.self.parts.items r) c.in-Err.is to)) in
+    let is_tree : IsTree g.M.Mangling.mangled.table (Kind 0) inv.shape = subst (λ t. IsTree t (Kind 0) inv.shape) (g.met.M.Mangling.view_table i.bytes.items) inv.is_shape.is_tree in
+    subst (λ (v : Progress). IsRefused g.M.Mangling.mangled v.bytes e) c.self.view_is
+    (refused_of g.M.Mangling.mangled inv.shape i.bytes.items e is_tree inv.is_shape.spelled (g.met.M.Mangling.fails inv.shape e is_tree fails))

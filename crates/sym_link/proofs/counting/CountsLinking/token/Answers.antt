@@ -13,8 +13,8 @@ returns-clause-takes c around known from left state t rest is left_is row_is =
       refl,
       is.holds,
       _,
-      c.in_ok-push.ensures.items ∙ pushed_behind c.args.frame.base c.args.parts.now.items _ c.requires.base,
-      all_push (IsNumber c.args.self.now) (drop c.args.frame.base c.args.parts.now.items) known _ _ is.parts row_is.to,
+      c.in_ok-push.ensures.items ∙ pushed_behind c.args.frame.now.base c.args.parts.now.items _ c.requires.base,
+      all_push (IsNumber c.args.self.now) (drop c.args.frame.now.base c.args.parts.now.items) known _ _ is.parts row_is.to,
     )
 
 pub returns-clause-pays : goal.returns-clause-pays

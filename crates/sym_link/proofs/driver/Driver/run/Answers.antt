@@ -25,6 +25,7 @@ moves-preserved g c =
           c.moves.self.frames.items c.advance-moved.new.frames.items c.advance-moved.new.parts.items c.advance-moved.result c.in-Ok.behind c.in-Ok.is c.in-Some-behind.is
           none_open on.1 on.3 (c.advance-moved.ensures.moves tree c.moves.steps is on.0) c.advance-moved.ensures.counts,
       omega (arith, c.moves.invariant.3),
+      omega (arith, c.moves.invariant.4, c.advance-moved.ensures.few),
     )
 
 pub returns-in-None-clause-driving : goal.returns-in-None-clause-driving

@@ -13,6 +13,7 @@ invariant-moves g l =
     → IsDriving (g.L.Linking.view l.symbol) l.symbol l.rows tree l.fn.language l.fn.self.steps l.fn.self.refused l.fn.self.next l.fn.self.frames.items l.fn.self.parts.items
     → IsDriving (g.L.Linking.view l.symbol) l.symbol l.rows tree l.language l.steps None l.next l.self.frames.items l.self.parts.items)
     × (l.fn.self.steps ≤ l.steps)
+    × ((g.L.Linking.view l.symbol).size l.language + 2 * l.fn.self.steps ≤ (g.L.Linking.view l.symbol).size l.fn.language + 2 * l.steps)
 
 abbrev pub decreases-moves : goal.decreases-moves
 decreases-moves g l = 2 * (length l.rows - l.next) + length l.self.frames.items

@@ -12,14 +12,14 @@ close_row-requires-clause-open g c =
     let last = subst (λ fs. HasLast fs c.in-Some.frame) c.deref.ensures.value c.in-Some.ensures in
     end_open g.G.Grammar.listed g.G.Grammar.table c.args.ended c.args.bytes.now old.steps old.at old.top c.in-Some.frame old.below.items old.rows.items c.requires.parsing c.requires.bare last
 
-pub returns-in-Some : goal.returns-in-Some
-returns-in-Some g c =
+pub returns-in-Some-clause-moves : goal.returns-in-Some-clause-moves
+returns-in-Some-clause-moves g c =
     let old = c.args.self.now in
     let last = subst (λ fs. HasLast fs c.in-Some.frame) c.deref.ensures.value c.in-Some.ensures in
-    (frame_ends g.G.Grammar.listed g.G.Grammar.table c.args.ended c.args.bytes.now old.steps old.at old.top c.in-Some.frame old.below.items _ old.rows.items _ c.requires.parsing c.requires.bare last c.drop_uppermost.ensures c.close_row.ensures, refl, omega (arith, same_length c.close_row.new.rows.items old.rows.items old.top.row old.at (length old.rows.items) c.close_row.ensures))
+    (frame_ends g.G.Grammar.listed g.G.Grammar.table c.args.ended c.args.bytes.now old.steps old.at old.top c.in-Some.frame old.below.items _ old.rows.items _ c.requires.parsing c.requires.bare last c.drop_uppermost.ensures.items c.close_row.ensures.items, refl, omega (arith, same_length c.close_row.new.rows.items old.rows.items old.top.row old.at (length old.rows.items) c.close_row.ensures.items))
 
-pub returns-then-self-bytes : goal.returns-then-self-bytes
-returns-then-self-bytes g c =
+pub returns-then-self-bytes-clause-moves : goal.returns-then-self-bytes-clause-moves
+returns-then-self-bytes-clause-moves g c =
     let old = c.args.self.now in
     let none : old.below.items ≡ [] = sym c.deref.ensures.value ∙ c.in-None.ensures in
     record {
@@ -28,8 +28,8 @@ returns-then-self-bytes g c =
       read = λ told. (all_done g.G.Grammar.listed old.top old.below.items c.requires.bare none, omega arith);
     }
 
-pub returns-else-self-bytes : goal.returns-else-self-bytes
-returns-else-self-bytes g c =
+pub returns-else-self-bytes-clause-moves : goal.returns-else-self-bytes-clause-moves
+returns-else-self-bytes-clause-moves g c =
     let old = c.args.self.now in
     let none : old.below.items ≡ [] = sym c.deref.ensures.value ∙ c.in-None.ensures in
     let behind : old.at < length c.args.bytes.now = omega (arith, c.requires.parsing.within) in

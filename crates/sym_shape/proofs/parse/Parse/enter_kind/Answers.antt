@@ -35,8 +35,8 @@ push_rule_with_token-requires-clause-end g c =
     let within = lone_within g.G.Grammar.table.names c.in-Some-lone_token.symbol c.in-Some.rule c.args.ended c.args.bytes.now c.args.come.at c.in-Some-complete_token.place c.in-Some.ensures.stands.within whole in
     omega (arith, within.2, c.requires.fits)
 
-pub returns-in_ok-push_rule_with_token-in-Some-complete_token : goal.returns-in_ok-push_rule_with_token-in-Some-complete_token
-returns-in_ok-push_rule_with_token-in-Some-complete_token g c =
+pub returns-in_ok-push_rule_with_token-in-Some-complete_token-clause-moves : goal.returns-in_ok-push_rule_with_token-in-Some-complete_token-clause-moves
+returns-in_ok-push_rule_with_token-in-Some-complete_token-clause-moves g c =
     let old = c.args.self.now in
     let come = c.args.come in
     let chosen = c.in-Some.ensures in
@@ -47,8 +47,8 @@ returns-in_ok-push_rule_with_token-in-Some-complete_token g c =
     let moved = frame_lone g.G.Grammar.listed g.G.Grammar.table g.met.G.Grammar.lawful c.args.ended c.args.bytes.now come.steps come.at c.args.kind chosen.byte c.in-Some.rule c.in-Some-lone_token.symbol place old.top old.below.items old.rows.items c.push_rule_with_token.new.rows.items c.requires.parsing c.requires.next chosen.stands.within chosen.stands.is chosen.stands.fits chosen.chosen c.in-Some-lone_token.ensures whole made.rows in
     rw c.further.ensures (moved, omega arith, omega (arith, size))
 
-pub returns-in_ok-take_rule-in-None-lone_token : goal.returns-in_ok-take_rule-in-None-lone_token
-returns-in_ok-take_rule-in-None-lone_token g c =
+pub returns-in_ok-take_rule-in-None-lone_token-clause-moves : goal.returns-in_ok-take_rule-in-None-lone_token-clause-moves
+returns-in_ok-take_rule-in-None-lone_token-clause-moves g c =
     let old = c.args.self.now in
     let come = c.args.come in
     let chosen = c.in-Some.ensures in
@@ -58,8 +58,8 @@ returns-in_ok-take_rule-in-None-lone_token g c =
     let reached = subst (λ n. IsFramed g.G.Grammar.listed g.G.Grammar.table c.args.ended c.args.bytes.now (come.steps + 1) n c.take_rule.new.top c.take_rule.new.below.items c.take_rule.new.rows.items) (sym c.behind-in-None-lone_token.ensures) moved in
     rw c.further-in-None-lone_token.ensures (reached, omega arith, omega (arith, taken.one))
 
-pub returns-in-None-2 : goal.returns-in-None-2
-returns-in-None-2 g c =
+pub returns-in-None-2-clause-moves : goal.returns-in-None-2-clause-moves
+returns-in-None-2-clause-moves g c =
     let old = c.args.self.now in
     let come = c.args.come in
     let none = takes_none g.G.Grammar.table c.args.kind c.args.ended c.args.bytes.now come.at c.if-may_go_on.ensures.known c.in-None.ensures in

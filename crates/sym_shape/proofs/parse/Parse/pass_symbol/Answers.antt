@@ -15,16 +15,16 @@ push_token-requires g c =
       place = omega (arith, within.1, within.2, c.requires.fits);
     }
 
-pub returns-in-Some : goal.returns-in-Some
-returns-in-Some g c =
+pub returns-in-Some-clause-moves : goal.returns-in-Some-clause-moves
+returns-in-Some-clause-moves g c =
     let old = c.args.self.now in
     let come = c.args.come in
     let stands = c.in-Some.ensures in
     let moved = frame_byte g.G.Grammar.listed g.G.Grammar.table c.args.ended c.args.bytes.now come.steps come.at c.in-Byte.byte old.top old.below.items old.rows.items c.requires.parsing (subst (λ x. HasNext g.G.Grammar.listed old.top x) c.in-Byte.is c.requires.next) stands.within (stands.is ∙ c.if-next-byte.true) in
     rw c.further.ensures (moved, omega arith, omega arith)
 
-pub returns-in_ok-push_token-in-Some-complete_token : goal.returns-in_ok-push_token-in-Some-complete_token
-returns-in_ok-push_token-in-Some-complete_token g c =
+pub returns-in_ok-push_token-in-Some-complete_token-clause-moves : goal.returns-in_ok-push_token-in-Some-complete_token-clause-moves
+returns-in_ok-push_token-in-Some-complete_token-clause-moves g c =
     let old = c.args.self.now in
     let come = c.args.come in
     let found = c.in-Some-complete_token.ensures in

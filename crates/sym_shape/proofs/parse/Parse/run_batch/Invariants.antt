@@ -1,6 +1,7 @@
--- The parse fits the bytes where it has come to, and each step has made at most one row.
+-- The parse fits the bytes where it has come to, each step has made at most one row, and the lists hold no less.
 use Rattle.std.proofs.Common.{◌+◌, ◌-◌, ◌*◌, ◌≤◌, length}
 use Rattle.sym_shape.specs.Reader.{IsParse, to_do}
+use Rattle.sym_shape.specs.Room.{KeepsRoom, room_of}
 use Rattle.sym_shape.proofs.parse.Parse.run_batch.Given as goal
 
 abbrev pub invariant-moves : goal.invariant-moves
@@ -8,6 +9,7 @@ invariant-moves g l = record {
   parsing : IsParse g.G.Grammar.table l.ended l.bytes l.come.steps l.come.at (to_do g.G.Grammar.listed l.self) l.self.rows.items;
   steps : l.fn.self.steps ≤ l.come.steps;
   rows : length l.self.rows.items + l.fn.self.steps ≤ length l.fn.self.rows.items + l.come.steps;
+  keeps : KeepsRoom (room_of l.fn.self) (room_of l.self);
 }
 
 abbrev pub decreases-moves : goal.decreases-moves

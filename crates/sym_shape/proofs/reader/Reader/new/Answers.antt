@@ -1,6 +1,6 @@
 use Rattle.std.proofs.Common.{refl, ap, length, ◌∙◌}
 use Rattle.sym_shape.specs.Reading.{entries_of}
-use Rattle.sym_shape.proofs.Feeding.{fed_start, same_fed, made_fed}
+use Rattle.sym_shape.proofs.Feeding.{fed_start, same_fed, same_room, made_fed}
 use Rattle.sym_shape.proofs.reader.Reader.new.Goals as goal
 
 pub invariant_of-result : goal.invariant_of-result
@@ -11,4 +11,4 @@ invariant_of-result g c =
 pub returns : goal.returns
 returns g c =
     let start = c.new-2.ensures in
-    made_fed _ _ (same_fed _ _ _ _ _ _ _ _ _ _ _ _ c.new.ensures.items refl refl refl start.steps (ap length start.rows))
+    made_fed _ _ (same_fed _ _ _ _ _ _ _ _ _ _ _ _ _ _ _ _ _ _ c.new.ensures.items refl refl refl start.steps (ap length start.rows) (ap length start.rules) c.new.ensures.capacity (same_room _ _ _ _ start.row_room start.rule_room))

@@ -1,6 +1,7 @@
 use Rattle.std.proofs.Common.{refl, ap, length, ◌∙◌}
+use Rattle.sym_shape.specs.Fed.{Fed}
 use Rattle.sym_shape.specs.Reading.{entries_of}
-use Rattle.sym_shape.proofs.Feeding.{fed_start, same_fed}
+use Rattle.sym_shape.proofs.Feeding.{fed_start, same_fed, same_room}
 use Rattle.sym_shape.proofs.reader.Reader.reset.Goals as goal
 
 pub invariant_of-self : goal.invariant_of-self
@@ -11,4 +12,4 @@ invariant_of-self g c =
 pub returns : goal.returns
 returns g c =
     let start = c.restart.ensures in
-    same_fed _ _ _ _ _ _ _ _ _ _ _ _ c.clear.ensures.items refl refl refl start.steps (ap length start.rows)
+    same_fed _ _ _ _ _ _ _ _ _ _ _ _ _ _ _ _ _ _ c.clear.ensures.items refl refl refl start.steps (ap length start.rows) (ap length start.rules) (c.clear.ensures.capacity ∙ ap (λ (v : Fed). v.byte_room) c.self.view_is) (same_room _ _ _ _ start.row_room start.rule_room ∙ ap (λ (v : Fed). v.room) c.self.view_is)

@@ -11,4 +11,4 @@ invariant_of-result g c =
 pub returns : goal.returns
 returns g c =
     let start = c.restart.ensures in
-    same_fed _ _ _ _ _ _ _ _ _ _ _ _ c.clear.ensures.items refl refl refl start.steps (ap length start.rows)
+    same_fed _ _ _ _ _ _ _ _ _ _ _ _ _ _ _ _ _ _ c.clear.ensures.items refl refl refl start.steps (ap length start.rows) (ap length start.rules) c.clear.ensures.capacity refl

@@ -1,0 +1,20 @@
+use Rattle.std.proofs.Common.{refl, sym, ap, arith}
+use Rattle.cpp_tree.specs.Nodes as nodes
+use Rattle.cpp_link.specs.Closes.{pack_makes}
+use Rattle.cpp_link.specs.Owed.{made_before}
+use Rattle.cpp_link.specs.Reads.{goes_on, behind_first, named_if, appended_if}
+use Rattle.cpp_link.proofs.Stepping.{pack_there}
+use Rattle.cpp_link.proofs.linked.Linked.pack.Goals as goal
+
+pub returns-in-Nothing-clause-made : goal.returns-in-Nothing-clause-made
+unfolding pack_makes
+returns-in-Nothing-clause-made c = sym (ap pack_makes c.in-Nothing.is)
+
+pub returns-in_default : goal.returns-in_default
+unfolding goes_on behind_first named_if appended_if made_before nodes.tree_of
+returns-in_default c = record {
+  is = λ kept v cs. rw c.list_in.ensures.is refl;
+  there = c.list_in.ensures.there;
+  made = sym (pack_there c.args.elements c.in_default.not-Nothing);
+  of = (omega arith, refl);
+}

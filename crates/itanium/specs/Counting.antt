@@ -1,0 +1,15 @@
+-- How many nodes the table of a C++ symbol has.
+use Rattle.std.proofs.Common.{arith, ℕ, List, length}
+use Rattle.sym_demangle.specs.Standing.{CountsNodes}
+use Rattle.cpp_link.specs.declared.linked.Linked.{Linked}
+use Rattle.cpp_link.specs.View.{cpp_view}
+
+abbrev pub node_count : Linked → ℕ
+node_count linked = length linked.nodes.nodes
+
+-- before the first row these: the absent tree, the empty list and the pack of no elements
+abbrev pub first_nodes : ℕ
+first_nodes = 3
+
+pub cpp_counts : (s : List ℕ) → CountsNodes (cpp_view s) node_count first_nodes
+cpp_counts s = record { few = omega arith; most = λ nodes. omega arith; least = λ nodes bytes paid. omega (arith, paid.begun) }
