@@ -17,7 +17,8 @@ record WaysGrow (whole t : Term) (w : Ways) : Type 0 where
   between_N_and_E : ((x : Term) → IsTemplateOf x t → IsNeverReferred x whole) → Grows whole (size t) w.between_N_and_E
   as_piece : Grows whole (suc (size t)) w.as_piece
   as_encoding : Grows whole (suc (size t)) w.as_encoding
-  as_name : (letters : List ℕ) → ((x : Term) → IsTemplateBehindLetters x t letters → IsNeverReferred x whole) → Grows whole (suc (size t)) (w.as_name letters)
+  as_name : (letters : List ℕ) → ((x : Term) → IsTemplateBehindLetters x t letters → IsNeverReferred x whole)
+      → Grows whole (suc (size t)) (w.as_name letters)
   before : (in_type : Bool) (arguments : Spelling) (m : ℕ) → size t < m → Grows whole m arguments → Grows whole m (w.before in_type arguments)
   as_argument : Grows whole (suc (size t)) w.as_argument
   as_parameters : Grows whole (suc (size t)) w.as_parameters
@@ -119,7 +120,8 @@ between-letters : (whole t : Term) (l : ℕ) (ls : List ℕ) → ((x : Term) →
     → (x : Term) → IsTemplateOf x t → IsNeverReferred x whole
 between-letters whole t l ls never x is = never x is
 
-in-N-and-E-grows : (whole : Term) (m : ℕ) (letters : List ℕ) (spelling : Spelling) → Grows whole m spelling → Grows whole m (in_N_and_E letters spelling)
+in-N-and-E-grows : (whole : Term) (m : ℕ) (letters : List ℕ) (spelling : Spelling) → Grows whole m spelling
+    → Grows whole m (in_N_and_E letters spelling)
 unfolding in_N_and_E
 in-N-and-E-grows whole m letters spelling one =
     and-grows whole m (text (codes "N" ++ letters)) (spelling and text (codes "E")) (text-grows whole m _)
@@ -167,18 +169,21 @@ function-type-ways-grow whole n t spelling one =
       as_piece = nothing-grows whole _;
       as_encoding = nothing-grows whole _;
       as_name = λ letters never. nothing-grows whole _;
-      before = λ in_type arguments m low more. and-grows whole m (component n t spelling) arguments (more-grows whole (suc (size t)) m (component n t spelling) low c) more;
+      before = λ in_type arguments m low more. and-grows whole m (component n t spelling) arguments
+          (more-grows whole (suc (size t)) m (component n t spelling) low c) more;
       as_argument = c;
       as_parameters = nothing-grows whole _;
       as_more_parameters = nothing-grows whole _;
       as_elements = nothing-grows whole _;
     }
 
-local-ways-grow : (whole : Term) (n : ℕ) (t : Term) (spelling : (letters : List ℕ) → Spelling) → ((letters : List ℕ) → Grows whole (size t) (spelling letters))
+local-ways-grow : (whole : Term) (n : ℕ) (t : Term) (spelling : (letters : List ℕ) → Spelling)
+    → ((letters : List ℕ) → Grows whole (size t) (spelling letters))
     → WaysGrow whole t (record (type_ways (component n t (spelling []))) { as_name = spelling })
 unfolding type_ways no_ways
 local-ways-grow whole n t spelling one =
-    let c : Grows whole (suc (size t)) (component n t (spelling [])) = component-grows whole (suc (size t)) n t (spelling []) (omega arith) (one []) in record {
+    let c : Grows whole (suc (size t)) (component n t (spelling [])) = component-grows whole (suc (size t)) n t (spelling []) (omega arith)
+    (one []) in record {
       as_type = c;
       under_qualifiers = c;
       as_prefix = c;
@@ -186,7 +191,8 @@ local-ways-grow whole n t spelling one =
       as_piece = nothing-grows whole _;
       as_encoding = nothing-grows whole _;
       as_name = λ letters never. more-grows whole (size t) (suc (size t)) (spelling letters) (omega arith) (one letters);
-      before = λ in_type arguments m low more. and-grows whole m (component n t (spelling [])) arguments (more-grows whole (suc (size t)) m (component n t (spelling [])) low c) more;
+      before = λ in_type arguments m low more. and-grows whole m (component n t (spelling [])) arguments
+          (more-grows whole (suc (size t)) m (component n t (spelling [])) low c) more;
       as_argument = c;
       as_parameters = nothing-grows whole _;
       as_more_parameters = nothing-grows whole _;
@@ -194,7 +200,8 @@ local-ways-grow whole n t spelling one =
     }
 
 -- a symbol
-whole-ways-grow : (whole t : Term) (spelling : Spelling) → Grows whole (suc (size t)) spelling → WaysGrow whole t (record no_ways { as_encoding = spelling })
+whole-ways-grow : (whole t : Term) (spelling : Spelling) → Grows whole (suc (size t)) spelling
+    → WaysGrow whole t (record no_ways { as_encoding = spelling })
 unfolding no_ways
 whole-ways-grow whole t spelling one = record {
   as_type = nothing-grows whole _;
@@ -211,8 +218,13 @@ whole-ways-grow whole t spelling one = record {
   as_elements = nothing-grows whole _;
 }
 
-list-ways-grow : (whole t : Term) (parameters more_parameters elements : Spelling) → Grows whole (suc (size t)) parameters → Grows whole (suc (size t)) more_parameters
-    → Grows whole (suc (size t)) elements → WaysGrow whole t (record no_ways { as_parameters = parameters; as_more_parameters = more_parameters; as_elements = elements })
+list-ways-grow : (whole t : Term) (parameters more_parameters elements : Spelling) → Grows whole (suc (size t)) parameters
+    → Grows whole (suc (size t)) more_parameters
+    → Grows whole (suc (size t)) elements → WaysGrow whole t (record no_ways {
+      as_parameters = parameters;
+      as_more_parameters = more_parameters;
+      as_elements = elements;
+    })
 unfolding no_ways
 list-ways-grow whole t parameters more_parameters elements one two three = record {
   as_type = nothing-grows whole _;
@@ -232,7 +244,8 @@ list-ways-grow whole t parameters more_parameters elements one two three = recor
 abbrev named : (letters : List ℕ) → (between : Spelling) → Bool → Spelling
 named letters between b = elim b as (λ _. Spelling) [ true ↦ between | false ↦ in_N_and_E letters between ]
 
-named-grows : (whole : Term) (m : ℕ) (letters : List ℕ) (between : Spelling) (b : Bool) → Grows whole m between → Grows whole m (named letters between b)
+named-grows : (whole : Term) (m : ℕ) (letters : List ℕ) (between : Spelling) (b : Bool) → Grows whole m between
+    → Grows whole m (named letters between b)
 named-grows whole m letters between true two = two
 named-grows whole m letters between false two = in-N-and-E-grows whole m letters between two
 
@@ -255,7 +268,8 @@ behind-text whole m bytes spelling one = and-grows whole m (text bytes) spelling
 before-text : (whole : Term) (m : ℕ) (spelling : Spelling) (bytes : List ℕ) → Grows whole m spelling → Grows whole m (spelling and text bytes)
 before-text whole m spelling bytes one = and-grows whole m spelling (text bytes) one (text-grows whole m _)
 
-typed : (whole : Term) (n : ℕ) (t : Term) (spelling : Spelling) → Grows whole (size t) spelling → WaysGrow whole t (type_ways (component n t spelling))
+typed : (whole : Term) (n : ℕ) (t : Term) (spelling : Spelling) → Grows whole (size t) spelling
+    → WaysGrow whole t (type_ways (component n t spelling))
 typed whole n t spelling one = type-ways-grow whole t (component n t spelling) (component-grows whole (suc (size t)) n t spelling (omega arith) one)
 
 -- ## Each tree
@@ -263,13 +277,16 @@ typed whole n t spelling one = type-ways-grow whole t (component n t spelling) (
 abbrev StandsIn : Term → Term → Type 0
 StandsIn t whole = (x : Term) → IsNeverReferred x t → IsNeverReferred x whole
 
-name-piece-grow : (whole p t : Term) (n : ℕ) → size t ≡ suc (size p) → (front : List ℕ) → (needs_N : Bool) → Grows whole (suc (size p)) (ways_of n p).as_piece
+name-piece-grow : (whole p t : Term) (n : ℕ) → size t ≡ suc (size p) → (front : List ℕ) → (needs_N : Bool)
+    → Grows whole (suc (size p)) (ways_of n p).as_piece
     → (type : Spelling) → Grows whole (size t) type
-    → WaysGrow whole t (name_ways n t type (text front and (ways_of n p).as_piece) (text front and (ways_of n p).as_piece) (text front and (ways_of n p).as_piece)
+    → WaysGrow whole t (name_ways n t type (text front and (ways_of n p).as_piece) (text front and (ways_of n p).as_piece)
+    (text front and (ways_of n p).as_piece)
     (λ in_type arguments. template_before n t (in_type && needs_N) (text front and (ways_of n p).as_piece) arguments))
 name-piece-grow whole p t n sized front needs_N one type typed =
     let spelling : Spelling = text front and (ways_of n p).as_piece in
-    let grown : Grows whole (size t) spelling = more-grows whole (suc (size p)) (size t) spelling (omega (arith, sized)) (behind-text whole (suc (size p)) front (ways_of n p).as_piece one) in
+    let grown : Grows whole (size t) spelling = more-grows whole (suc (size p)) (size t) spelling (omega (arith, sized))
+    (behind-text whole (suc (size p)) front (ways_of n p).as_piece one) in
     name-ways-grow whole n t type spelling spelling spelling (λ in_type arguments. template_before n t (in_type && needs_N) spelling arguments)
     typed (more-grows whole (size t) (suc (size t)) spelling (omega arith) grown) grown (λ never. grown)
     (λ in_type arguments m low more. before-grows whole m n t (in_type && needs_N) spelling arguments low grown more)
@@ -280,7 +297,8 @@ ways-grow whole (symbol e suffix) in_whole n =
     let part = ways-grow whole e in_whole n in
     whole-ways-grow whole (symbol e suffix) _
     (behind-text whole (suc (suc (size e))) (codes "_Z") ((ways_of n e).as_encoding and text suffix)
-    (before-text whole _ (ways_of n e).as_encoding suffix (more-grows whole (suc (size e)) _ (ways_of n e).as_encoding (omega arith) part.as_encoding)))
+    (before-text whole _ (ways_of n e).as_encoding suffix (more-grows whole (suc (size e)) _ (ways_of n e).as_encoding (omega arith)
+    part.as_encoding)))
 ways-grow whole (function name q ref returned parameters) in_whole n =
     encoding-ways-grow whole (function name q ref returned parameters) _ (λ here.
     let m : ℕ = suc (suc (size name + size returned + size parameters)) in
@@ -288,7 +306,8 @@ ways-grow whole (function name q ref returned parameters) in_whole n =
     let b = ways-grow whole returned (λ x is. in_whole x (inr (inr (inl is)))) here in
     let c = ways-grow whole parameters (λ x is. in_whole x (inr (inr (inr is)))) here in
     and-grows whole m ((ways_of here name).as_name (name_letters q ref)) ((ways_of here returned).as_type and (ways_of here parameters).as_parameters)
-    (more-grows whole (suc (size name)) m ((ways_of here name).as_name (name_letters q ref)) (omega arith) (a.as_name (name_letters q ref) (λ x is. in_whole x (inl is))))
+    (more-grows whole (suc (size name)) m ((ways_of here name).as_name (name_letters q ref)) (omega arith)
+    (a.as_name (name_letters q ref) (λ x is. in_whole x (inl is))))
     (and-grows whole m (ways_of here returned).as_type (ways_of here parameters).as_parameters
     (more-grows whole (suc (size returned)) m (ways_of here returned).as_type (omega arith) b.as_type)
     (more-grows whole (suc (size parameters)) m (ways_of here parameters).as_parameters (omega arith) c.as_parameters)))
@@ -352,7 +371,8 @@ ways-grow whole (instance template arguments) in_whole n =
     let behind : Spelling = text (codes "I") and (ways_of n arguments).as_elements and text (codes "E") in
     let grown : Grows whole m behind =
     behind-text whole m (codes "I") ((ways_of n arguments).as_elements and text (codes "E"))
-    (before-text whole m (ways_of n arguments).as_elements (codes "E") (more-grows whole (suc (size arguments)) m (ways_of n arguments).as_elements (omega arith) b.as_elements)) in
+    (before-text whole m (ways_of n arguments).as_elements (codes "E") (more-grows whole (suc (size arguments)) m
+    (ways_of n arguments).as_elements (omega arith) b.as_elements)) in
     name-ways-grow whole n (instance template arguments) (t.before true behind) (t.before false behind) (t.as_prefix and behind)
     (t.between_N_and_E and ended n template and behind) (λ in_type more. component n (instance template arguments) nothing and more)
     (a.before true behind m (omega arith) grown)
@@ -367,7 +387,8 @@ ways-grow whole (local e entity discriminator) in_whole n =
     let m : ℕ = suc (size e + size entity) in
     let a = ways-grow whole e (λ x is. in_whole x (inr (inl is))) n in
     let b = ways-grow whole entity (λ x is. in_whole x (inr (inr is))) n in
-    local-ways-grow whole n (local e entity discriminator) (local_text (ways_of n e).as_encoding entity (ways_of n entity).between_N_and_E discriminator)
+    local-ways-grow whole n (local e entity discriminator) (local_text (ways_of n e).as_encoding entity (ways_of n entity).between_N_and_E
+    discriminator)
     (λ letters. local-grows whole m (ways_of n e).as_encoding entity (ways_of n entity).between_N_and_E discriminator letters
     (more-grows whole (suc (size e)) m (ways_of n e).as_encoding (omega arith) a.as_encoding)
     (more-grows whole (size entity) m (ways_of n entity).between_N_and_E (omega arith) (b.between_N_and_E (λ x is. in_whole x (inl is)))))
@@ -382,29 +403,37 @@ ways-grow whole (lambda parameters k) in_whole n =
     let a = ways-grow whole parameters in_whole n in
     piece-ways-grow whole (lambda parameters k) _
     (behind-text whole _ (codes "Ul") ((ways_of n parameters).as_parameters and text (codes "E" ++ ordinal (k - 1)))
-    (before-text whole _ (ways_of n parameters).as_parameters _ (more-grows whole (suc (size parameters)) _ (ways_of n parameters).as_parameters (omega arith) a.as_parameters)))
+    (before-text whole _ (ways_of n parameters).as_parameters _ (more-grows whole (suc (size parameters)) _ (ways_of n parameters).as_parameters
+    (omega arith) a.as_parameters)))
 ways-grow whole (unnamed k) in_whole n = piece-ways-grow whole (unnamed k) _ (text-grows whole _ _)
 ways-grow whole string_literal in_whole n = piece-ways-grow whole string_literal _ (text-grows whole _ _)
 ways-grow whole (builtin code) in_whole n = type-ways-grow whole (builtin code) _ (text-grows whole _ _)
 ways-grow whole (vendor name) in_whole n = typed whole n (vendor name) _ (text-grows whole _ _)
-ways-grow whole (pointer type) in_whole n = typed whole n (pointer type) _ (behind-text whole _ (codes "P") (ways_of n type).as_type (ways-grow whole type in_whole n).as_type)
-ways-grow whole (lvalue type) in_whole n = typed whole n (lvalue type) _ (behind-text whole _ (codes "R") (ways_of n type).as_type (ways-grow whole type in_whole n).as_type)
-ways-grow whole (rvalue type) in_whole n = typed whole n (rvalue type) _ (behind-text whole _ (codes "O") (ways_of n type).as_type (ways-grow whole type in_whole n).as_type)
+ways-grow whole (pointer type) in_whole n = typed whole n (pointer type) _
+    (behind-text whole _ (codes "P") (ways_of n type).as_type (ways-grow whole type in_whole n).as_type)
+ways-grow whole (lvalue type) in_whole n = typed whole n (lvalue type) _ (behind-text whole _ (codes "R") (ways_of n type).as_type
+    (ways-grow whole type in_whole n).as_type)
+ways-grow whole (rvalue type) in_whole n = typed whole n (rvalue type) _ (behind-text whole _ (codes "O") (ways_of n type).as_type
+    (ways-grow whole type in_whole n).as_type)
 ways-grow whole (array digits type) in_whole n =
-    typed whole n (array digits type) _ (behind-text whole _ (codes "A" ++ digits ++ codes "_") (ways_of n type).as_type (ways-grow whole type in_whole n).as_type)
+    typed whole n (array digits type) _ (behind-text whole _ (codes "A" ++ digits ++ codes "_") (ways_of n type).as_type
+    (ways-grow whole type in_whole n).as_type)
 ways-grow whole (member_pointer class member) in_whole n =
     let m : ℕ = suc (size class + size member) in
     typed whole n (member_pointer class member) _
     (behind-text whole m (codes "M") ((ways_of n class).as_type and (ways_of n member).as_type)
     (and-grows whole m (ways_of n class).as_type (ways_of n member).as_type
     (more-grows whole (suc (size class)) m (ways_of n class).as_type (omega arith) (ways-grow whole class (λ x is. in_whole x (inl is)) n).as_type)
-    (more-grows whole (suc (size member)) m (ways_of n member).as_type (omega arith) (ways-grow whole member (λ x is. in_whole x (inr is)) n).as_type)))
+    (more-grows whole (suc (size member)) m (ways_of n member).as_type (omega arith)
+    (ways-grow whole member (λ x is. in_whole x (inr is)) n).as_type)))
 ways-grow whole (function_type c_linkage noexcept ref returned parameters) in_whole n =
     let m : ℕ = suc (size returned + size parameters) in
     function-type-ways-grow whole n (function_type c_linkage noexcept ref returned parameters)
     (function_text c_linkage noexcept ref (ways_of n returned).as_type (ways_of n parameters).as_parameters)
-    (function-text-grows m (more-grows whole (suc (size returned)) m (ways_of n returned).as_type (omega arith) (ways-grow whole returned (λ x is. in_whole x (inl is)) n).as_type)
-    (more-grows whole (suc (size parameters)) m (ways_of n parameters).as_parameters (omega arith) (ways-grow whole parameters (λ x is. in_whole x (inr is)) n).as_parameters))
+    (function-text-grows m (more-grows whole (suc (size returned)) m (ways_of n returned).as_type (omega arith)
+    (ways-grow whole returned (λ x is. in_whole x (inl is)) n).as_type)
+    (more-grows whole (suc (size parameters)) m (ways_of n parameters).as_parameters (omega arith)
+    (ways-grow whole parameters (λ x is. in_whole x (inr is)) n).as_parameters))
   where
     function-text-grows : (m : ℕ) → Grows whole m (ways_of n returned).as_type → Grows whole m (ways_of n parameters).as_parameters
         → Grows whole m (function_text c_linkage noexcept ref (ways_of n returned).as_type (ways_of n parameters).as_parameters)
@@ -413,30 +442,37 @@ ways-grow whole (function_type c_linkage noexcept ref returned parameters) in_wh
         (and-grows whole m (ways_of n returned).as_type ((ways_of n parameters).as_parameters and text (mark_letter ref ++ codes "E")) one
         (before-text whole m (ways_of n parameters).as_parameters _ two))
 ways-grow whole (qualified q type) in_whole n =
-    typed whole n (qualified q type) _ (behind-text whole _ (qualifier_letters q) (ways_of n type).under_qualifiers (ways-grow whole type in_whole n).under_qualifiers)
+    typed whole n (qualified q type) _ (behind-text whole _ (qualifier_letters q) (ways_of n type).under_qualifiers
+    (ways-grow whole type in_whole n).under_qualifiers)
 ways-grow whole (vector digits type) in_whole n =
-    typed whole n (vector digits type) _ (behind-text whole _ (codes "Dv" ++ digits ++ codes "_") (ways_of n type).as_type (ways-grow whole type in_whole n).as_type)
-ways-grow whole (complex type) in_whole n = typed whole n (complex type) _ (behind-text whole _ (codes "C") (ways_of n type).as_type (ways-grow whole type in_whole n).as_type)
+    typed whole n (vector digits type) _ (behind-text whole _ (codes "Dv" ++ digits ++ codes "_") (ways_of n type).as_type
+    (ways-grow whole type in_whole n).as_type)
+ways-grow whole (complex type) in_whole n = typed whole n (complex type) _
+    (behind-text whole _ (codes "C") (ways_of n type).as_type (ways-grow whole type in_whole n).as_type)
 ways-grow whole (expansion pattern) in_whole n =
     typed whole n (expansion pattern) _ (behind-text whole _ (codes "Dp") (ways_of n pattern).as_type (ways-grow whole pattern in_whole n).as_type)
 ways-grow whole (integer type value) in_whole n =
     argument-ways-grow whole (integer type value) _
     (behind-text whole (suc (suc (size type))) (codes "L") ((ways_of n type).as_type and text (signed_text value ++ codes "E"))
-    (before-text whole _ (ways_of n type).as_type _ (more-grows whole (suc (size type)) _ (ways_of n type).as_type (omega arith) (ways-grow whole type in_whole n).as_type)))
+    (before-text whole _ (ways_of n type).as_type _ (more-grows whole (suc (size type)) _ (ways_of n type).as_type (omega arith)
+    (ways-grow whole type in_whole n).as_type)))
 ways-grow whole (boolean truth) in_whole n = argument-ways-grow whole (boolean truth) _ (text-grows whole _ _)
 ways-grow whole null_pointer in_whole n = argument-ways-grow whole null_pointer _ (text-grows whole _ _)
 ways-grow whole (encoding_literal e) in_whole n =
     argument-ways-grow whole (encoding_literal e) _
     (behind-text whole (suc (suc (size e))) (codes "L_Z") ((ways_of n e).as_encoding and text (codes "E"))
-    (before-text whole _ (ways_of n e).as_encoding _ (more-grows whole (suc (size e)) _ (ways_of n e).as_encoding (omega arith) (ways-grow whole e in_whole n).as_encoding)))
+    (before-text whole _ (ways_of n e).as_encoding _ (more-grows whole (suc (size e)) _ (ways_of n e).as_encoding (omega arith)
+    (ways-grow whole e in_whole n).as_encoding)))
 ways-grow whole (address_of e) in_whole n =
     argument-ways-grow whole (address_of e) _
     (behind-text whole (suc (suc (size e))) (codes "XadL_Z") ((ways_of n e).as_encoding and text (codes "EE"))
-    (before-text whole _ (ways_of n e).as_encoding _ (more-grows whole (suc (size e)) _ (ways_of n e).as_encoding (omega arith) (ways-grow whole e in_whole n).as_encoding)))
+    (before-text whole _ (ways_of n e).as_encoding _ (more-grows whole (suc (size e)) _ (ways_of n e).as_encoding (omega arith)
+    (ways-grow whole e in_whole n).as_encoding)))
 ways-grow whole (pack elements) in_whole n =
     argument-ways-grow whole (pack elements) _
     (behind-text whole (suc (suc (size elements))) (codes "J") ((ways_of n elements).as_elements and text (codes "E"))
-    (before-text whole _ (ways_of n elements).as_elements _ (more-grows whole (suc (size elements)) _ (ways_of n elements).as_elements (omega arith) (ways-grow whole elements in_whole n).as_elements)))
+    (before-text whole _ (ways_of n elements).as_elements _ (more-grows whole (suc (size elements)) _ (ways_of n elements).as_elements
+    (omega arith) (ways-grow whole elements in_whole n).as_elements)))
 ways-grow whole nil in_whole n = list-ways-grow whole nil _ nothing nothing (text-grows whole _ _) (nothing-grows whole _) (nothing-grows whole _)
 ways-grow whole (list first rest) in_whole n =
     let m : ℕ = suc (suc (size first + size rest)) in

@@ -104,7 +104,8 @@ pub record Adds (whole : Term) (m : ℕ) (components : List Candidate) (pressed 
   pub apart : AreApartBehind whole [] pressed.components
 
 abbrev pub Grows : Term → ℕ → Spelling → Type 0
-Grows whole m spelling = (place : ℕ) (components : List Candidate) → AreApartBehind whole [] components → Adds whole m components (spelling place components)
+Grows whole m spelling = (place : ℕ) (components : List Candidate) → AreApartBehind whole [] components
+    → Adds whole m components (spelling place components)
 
 pub and-grows : (whole : Term) (m : ℕ) (first rest : Spelling) → Grows whole m first → Grows whole m rest → Grows whole m (first and rest)
 and-grows whole m first rest one more place components apart =
@@ -127,7 +128,8 @@ more-grows whole n m spelling le one place components apart =
     record { added = a.added; split = a.split; below = below-more n m a.added le a.below; apart = a.apart }
 
 -- a tree becomes a component that is never referred to where it stands
-pub never-referred-grows : (whole : Term) (m encoding : ℕ) (own : Term) → size own < m → IsNeverReferred own whole → Grows whole m (ended encoding own)
+pub never-referred-grows : (whole : Term) (m encoding : ℕ) (own : Term) → size own < m → IsNeverReferred own whole
+    → Grows whole m (ended encoding own)
 unfolding ended
 never-referred-grows whole m encoding own low never place components apart = record {
   added = record { tree = own; encoding = encoding } ∷ [];
@@ -144,11 +146,14 @@ unfolding ended
 spelled-grows whole m encoding own spelling low one place components new apart =
     let f : spell.Pressed Candidate = spelling place components in
     let a = one place components apart in
-    let still : IsNew encoding own f.components = subst (IsNew encoding own) (sym a.split) (new-append encoding own components a.added new (below-new encoding own a.added a.below)) in
+    let still : IsNew encoding own f.components = subst (IsNew encoding own) (sym a.split)
+    (new-append encoding own components a.added new (below-new encoding own a.added a.below)) in
     record {
       added = a.added ++ record { tree = own; encoding = encoding } ∷ [];
-      split = ap (λ l. l ++ record { tree = own; encoding = encoding } ∷ []) a.split ∙ append_assoc components a.added (record { tree = own; encoding = encoding } ∷ []);
-      below = below-append m a.added (record { tree = own; encoding = encoding } ∷ []) (below-more (size own) m a.added (omega (arith, low)) a.below) (low, tt);
+      split = ap (λ l. l ++ record { tree = own; encoding = encoding } ∷ []) a.split ∙ append_assoc components a.added
+          (record { tree = own; encoding = encoding } ∷ []);
+      below = below-append m a.added (record { tree = own; encoding = encoding } ∷ [])
+          (below-more (size own) m a.added (omega (arith, low)) a.below) (low, tt);
       apart = apart-more whole [] f.components (record { tree = own; encoding = encoding }) a.apart (inl still);
     }
 
@@ -158,7 +163,11 @@ unfolding component reference spelled_out
 component-grows whole m encoding own spelling low one place components apart = go (first_equal encoding own 0 components) refl
   where
     go : (o : Option ℕ) → first_equal encoding own 0 components ≡ o
-        → Adds whole m components (elim o [ Some number ↦ reference number place components | None ↦ spelled_out encoding own spelling place components ])
+        → Adds whole m components (elim o [
+          | Some number ↦ reference number place components
+          | None ↦ spelled_out encoding own spelling place
+              components
+        ])
     go (Some number) is = text-grows whole m _ place components apart
     go None is = spelled-grows whole m encoding own spelling low one place components (none-equal encoding own 0 components is) apart
 
@@ -180,20 +189,35 @@ template-adds whole m encoding own between arguments low one more place componen
 
 -- bytes around a spelling add nothing
 around-adds : (whole : Term) (m : ℕ) (front back : List ℕ) (spelling : Spelling) (place : ℕ) (components : List Candidate)
-    → Adds whole m components (spelling (place + length front) components) → Adds whole m components ((text front and spelling and text back) place components)
+    → Adds whole m components (spelling (place + length front) components)
+    → Adds whole m components ((text front and spelling and text back) place components)
 around-adds whole m front back spelling place components a = record { added = a.added; split = a.split; below = a.below; apart = a.apart }
 
-pub before-grows : (whole : Term) (m encoding : ℕ) (own : Term) (needs_N : Bool) (between arguments : Spelling) → size own < m → Grows whole (size own) between
+pub before-grows : (whole : Term) (m encoding : ℕ) (own : Term) (needs_N : Bool) (between arguments : Spelling) → size own < m
+    → Grows whole (size own) between
     → Grows whole m arguments → Grows whole m (template_before encoding own needs_N between arguments)
 unfolding template_before in_N_and_E referred reference
 before-grows whole m encoding own needs_N between arguments low one more place components apart = go (first_equal encoding own 0 components) refl
   where
     new : (b : Bool) → IsNew encoding own components
-        → Adds whole m components ((elim b as (λ _. Spelling) [ true ↦ text (codes "N" ++ []) and (between and ended encoding own and arguments) and text (codes "E") | false ↦ (between and ended encoding own and arguments) ]) place components)
-    new true is = around-adds whole m (codes "N" ++ []) (codes "E") (between and ended encoding own and arguments) place components (template-adds whole m encoding own between arguments low one more (place + 1) components is apart)
+        → Adds whole m components ((elim b as (λ _. Spelling) [
+          | true ↦ text (codes "N" ++ []) and (between and ended encoding own and arguments)
+              and text (codes "E")
+          | false ↦ (between and ended encoding own and arguments)
+        ]) place components)
+    new true is = around-adds whole m (codes "N" ++ []) (codes "E") (between and ended encoding own and arguments) place components
+        (template-adds whole m encoding own between arguments low one more (place + 1) components is apart)
     new false is = template-adds whole m encoding own between arguments low one more place components is apart
 
     go : (o : Option ℕ) → first_equal encoding own 0 components ≡ o
-        → Adds whole m components (elim o [ Some number ↦ (reference number and arguments) place components | None ↦ (elim needs_N as (λ _. Spelling) [ true ↦ text (codes "N" ++ []) and (between and ended encoding own and arguments) and text (codes "E") | false ↦ (between and ended encoding own and arguments) ]) place components ])
+        → Adds whole m components (elim o [
+          | Some number ↦ (reference number and arguments) place components
+          | None ↦
+              (elim needs_N as (λ _. Spelling) [
+                | true ↦ text (codes "N" ++ []) and (between and ended encoding own and arguments) and text
+                    (codes "E")
+                | false ↦ (between and ended encoding own and arguments)
+              ]) place components
+        ])
     go (Some number) is = and-grows whole m (reference number) arguments (text-grows whole m _) more place components apart
     go None is = new needs_N (none-equal encoding own 0 components is)

@@ -4,3 +4,23 @@ mod GeneratedRows
 pub mod Sameness
 pub mod Growing
 pub mod ApartTrees
+pub mod Tokens
+pub mod Reading
+pub mod ReadingReferences
+pub mod ReadingTypes
+pub mod ReadingSolids
+pub mod ReadingFunctions
+mod LawRows
+pub mod PressLaw
+pub mod ReadingArguments
+pub mod ReadingLiterals
+pub mod ReadingNames
+pub mod ReadingNests
+pub mod ReadingEncodings
+pub mod ReadingSymbols
+pub mod ReadingPieces
+pub mod ReadingLocals
+pub mod ReadingWays
+pub mod ReadingQualified
+pub mod ReadingParameters
+pub mod ReadingPrefixes

@@ -3,3 +3,4 @@ pub mod Texts
 pub mod Components
 pub mod Pressing
 pub mod Apart
+pub mod PressLaws
