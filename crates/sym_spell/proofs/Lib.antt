@@ -1,1 +1,2 @@
 pub mod WrittenDigits
+pub mod Spellings
