@@ -86,7 +86,7 @@ impl Symbol {
 
     /// A node and what is noted of it.
     #[inline(always)]
-    pub(crate) fn entry(&self, node: u32) -> Entry
+    pub fn entry(&self, node: u32) -> Entry
         requires { node < length self.now.table.nodes }
         ensures { result ≡ entry_at self.now.table.nodes node }
     {
@@ -95,7 +95,7 @@ impl Symbol {
 
     /// A node, which is made of earlier ones.
     #[inline(always)]
-    pub(crate) fn node(&self, node: u32) -> Node
+    pub fn node(&self, node: u32) -> Node
         requires table { IsTable (table_of self.now) }
         requires node { node < length self.now.table.nodes }
         ensures tree { tree_at (trees (table_of self.now)) node ≡ tree_of self.now.bytes self.now.table.thunks (trees (table_of self.now)) result }
@@ -105,7 +105,7 @@ impl Symbol {
     }
 
     /// What a thunk adjusts.
-    pub(crate) fn thunk(&self, number: u32) -> Option<Thunk>
+    pub fn thunk(&self, number: u32) -> Option<Thunk>
         ensures { result ≡ slice_get self.now.table.thunks number }
     {
         self.nodes.thunk(number)

@@ -1,9 +1,9 @@
 -- Components and the references to them (ABI 5.1.10). A component is what a substitution may name; components are numbered from 0
 -- in the order in which their spellings end. Each is kept with the place where the encoding begins that it was spelled in.
-use Rattle.std.specs.Prelude.{ℕ, zero, suc, ◌+◌, List, [], ◌∷◌, ◌++◌, Bool, true, false, if◌then◌else◌, not, ◌&&◌, ◌||◌, nat_eq, nat_lt, codes, Option, Some, None}
+use Rattle.std.specs.Prelude.{ℕ, zero, suc, ◌+◌, List, [], ◌∷◌, ◌++◌, Bool, true, false, not, ◌&&◌, ◌||◌, nat_eq, codes, Option, Some, None}
 use Rattle.sym_spell.specs.Pressing as spell
 use Rattle.sym_spell.specs.Pressing.{◌and◌, text, letter}
-use Rattle.sym_spell.specs.Digits.{digits_in}
+use Rattle.sym_spell.specs.Digits.{digits_in, digit36}
 use Rattle.cpp_grammar.specs.Term.{Term}
 use Rattle.cpp_grammar.specs.Scope.{is_open}
 use Rattle.cpp_grammar.specs.Values.{Candidate}
@@ -21,10 +21,6 @@ is_same encoding own c = same_tree own c.tree && (not (is_open own) || nat_eq c.
 unfoldable pub first_equal : (encoding : ℕ) → Term → (from : ℕ) → List Candidate → Option ℕ
 first_equal encoding own from [] = None
 first_equal encoding own from (c ∷ cs) = elim (is_same encoding own c) [ true ↦ Some from | false ↦ first_equal encoding own (from + 1) cs ]
-
--- 0 to 9, A to Z
-abbrev pub digit36 : ℕ → ℕ
-digit36 d = if nat_lt d 10 then 48 + d else 55 + d
 
 -- The number in a reference (ABI 5.1, `<seq-id>`): the first has no digits, and digits of value v in base 36 stand for v + 1.
 unfoldable pub seq_id : ℕ → List ℕ

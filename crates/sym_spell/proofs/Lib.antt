@@ -1,2 +1,3 @@
 pub mod WrittenDigits
 pub mod DigitValues
+pub mod Spellings

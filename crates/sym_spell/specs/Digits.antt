@@ -1,5 +1,5 @@
 -- The digits of numbers, and how they are written from the last one on.
-use Rattle.std.specs.Prelude.{◌≡◌, ℕ, zero, suc, ◌+◌, ◌*◌, ◌/◌, ◌%◌, ◌<◌, ◌≤◌, ◌⊎◌, List, [], ◌∷◌, ◌++◌, length, drop, true, false, if◌then◌else◌, nat_lt}
+use Rattle.std.specs.Prelude.{◌≡◌, ℕ, zero, suc, ◌+◌, ◌*◌, ◌/◌, ◌%◌, ◌<◌, ◌≤◌, ◌⊎◌, List, [], ◌∷◌, ◌++◌, length, drop, true, false, if◌then◌else◌, ◌==◌, nat_lt}
 
 -- the digits of a number in a base, at most so many, without zeros in front
 abbrev pub digits_in : (base : ℕ) → (digit : ℕ → ℕ) → (most n : ℕ) → List ℕ
@@ -14,6 +14,14 @@ decimal_digit d = 48 + d
 abbrev pub digit62 : ℕ → ℕ
 digit62 d = if nat_lt d 10 then 48 + d else (if nat_lt d 36 then 87 + d else 29 + d)
 
+-- 0 to 9, A to Z
+abbrev pub digit36 : ℕ → ℕ
+digit36 d = if nat_lt d 10 then 48 + d else 55 + d
+
+-- the digits of a base: capital letters come first in base 36 alone
+abbrev pub digit_in : (base : ℕ) → ℕ → ℕ
+digit_in base d = if base == 36 then digit36 d else digit62 d
+
 -- how many numbers so many digits can write
 abbrev pub most_of : (base count : ℕ) → ℕ
 most_of base zero = 1
@@ -21,11 +29,11 @@ most_of base (suc k) = base * most_of base k
 
 -- the digits of a number of 64 bits
 unfoldable pub digits_of : (base value : ℕ) → List ℕ
-digits_of base value = digits_in base digit62 40 value
+digits_of base value = digits_in base (digit_in base) 40 value
 
 -- the bases of numbers in symbols
 abbrev pub IsBase : ℕ → Type 0
-IsBase base = (base ≡ 10) ⊎ ((base ≡ 16) ⊎ (base ≡ 62))
+IsBase base = (base ≡ 10) ⊎ ((base ≡ 16) ⊎ ((base ≡ 36) ⊎ (base ≡ 62)))
 
 -- The digits of what is left, and those that are written behind them, are the digits of the number.
 pub record AreWritten (base value rest from : ℕ) (digits : List ℕ) : Type 0 where
@@ -33,4 +41,4 @@ pub record AreWritten (base value rest from : ℕ) (digits : List ℕ) : Type 0 
   pub within : from ≤ 20
   pub some : 0 < from
   pub few : rest < most_of base from
-  pub whole : digits_in base digit62 (20 + from) rest ++ drop from digits ≡ digits_of base value
+  pub whole : digits_in base (digit_in base) (20 + from) rest ++ drop from digits ≡ digits_of base value

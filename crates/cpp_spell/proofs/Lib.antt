@@ -1,0 +1,10 @@
+mod Digits
+mod Pushed
+mod Entities
+mod Ways
+mod Open
+mod Placing
+mod Standing
+mod Weighing
+mod Templates
+mod Going

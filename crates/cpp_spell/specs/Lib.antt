@@ -1,0 +1,6 @@
+pub mod Bytes
+pub mod Weight
+pub mod Tasks
+pub mod Spelled
+pub mod Places
+pub mod Standings
