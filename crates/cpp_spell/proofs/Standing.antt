@@ -1,5 +1,5 @@
 -- What a standing tells.
-use Rattle.std.proofs.Common.{◌≡◌, ℕ, Bool, true, false, Option, Some, None, refl}
+use Rattle.std.proofs.Common.{◌≡◌, ℕ, Bool, true, false, Option, Some, None, refl, ap, sym}
 use Rattle.cpp_grammar.specs.Term.{Term}
 use Rattle.cpp_spell.specs.declared.steps.Standing.{Standing}
 use Rattle.cpp_spell.specs.declared.task.Way.{Way}
@@ -50,3 +50,19 @@ known-name t first k is = known-by (is_name t) first k is
 pub fresh-name : (t : Term) (first : Option ℕ) → Standing.Fresh ≡ template_standing_of t first → (is_name t ≡ true) × (first ≡ None)
 unfolding template_standing_of
 fresh-name t first is = fresh-by (is_name t) first is
+
+pub compared-way : (way : Way) (t : Term) (first : Option ℕ) → is_compared way t ≡ true → compared first ≡ standing_of way t first
+unfolding standing_of
+compared-way way t first is = ap (λ b. standing_by b first) (sym is)
+
+pub uncompared-way : (way : Way) (t : Term) (first : Option ℕ) → is_compared way t ≡ false → Standing.Apart ≡ standing_of way t first
+unfolding standing_of
+uncompared-way way t first is = ap (λ b. standing_by b first) (sym is)
+
+pub compared-name : (t : Term) (first : Option ℕ) → is_name t ≡ true → compared first ≡ template_standing_of t first
+unfolding template_standing_of
+compared-name t first is = ap (λ b. standing_by b first) (sym is)
+
+pub uncompared-name : (t : Term) (first : Option ℕ) → is_name t ≡ false → Standing.Apart ≡ template_standing_of t first
+unfolding template_standing_of
+uncompared-name t first is = ap (λ b. standing_by b first) (sym is)

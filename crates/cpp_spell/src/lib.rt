@@ -4,6 +4,8 @@
 
 pub mod components;
 pub mod names;
+pub mod numbering;
+pub mod pressing;
 pub mod steps;
 pub mod task;
 pub mod texts;
