@@ -36,6 +36,12 @@ take_step-requires-clause-there c = c.requires.open.at.holds.there
 pub take_step-requires-clause-kept : goal.take_step-requires-clause-kept
 take_step-requires-clause-kept c = c.requires.open.at.kept.surrounds.there
 
+pub take_step-requires-clause-of : goal.take_step-requires-clause-of
+take_step-requires-clause-of c =
+    let own : List Part = take (length c.deref.result.now - c.args.frame.now.base) (drop c.args.frame.now.base c.deref.result.now) in
+    let same : own ≡ drop c.args.frame.now.base c.args.parts.now.items = rest_all c.deref.result.now c.args.frame.now.base ∙ ap (λ ps. drop c.args.frame.now.base ps) c.deref.ensures.value in
+    (c.args.production, subst (λ ps. IsStepOf c.args.production (length ps) c.in_ok-step.step) same c.in_ok-step.ensures.of)
+
 pub take_step-requires-clause-parts : goal.take_step-requires-clause-parts
 take_step-requires-clause-parts c = open_there c.args.symbol.now c.args.self.now c.args.frame.now c.args.parts.now.items (drop c.args.frame.now.base c.args.parts.now.items) c.requires.open refl
 
