@@ -109,13 +109,13 @@ pub record AreSpent (bytes : List ℕ) (old new : Parse) : Type 0 where
 
 -- one move or more, none, or no memory for one; how far they have come is told apart from the parse
 abbrev pub HasAdvanced : (ℕ → List Sym) → Table → Bool → List ℕ → Progress → Parse → Parse → Result (Option Progress) Refusal → Type 0
-HasAdvanced listed g ended bytes come old new (Ok (Some further)) = IsParse g ended bytes further.steps further.at (to_do listed new) new.rows.items × (come.steps < further.steps) × (length new.rows.items + come.steps ≤ length old.rows.items + further.steps)
-HasAdvanced listed g ended bytes come old new (Ok None) = new ≡ old
-HasAdvanced listed g ended bytes come old new (Err Memory) = MakesRow old new
-HasAdvanced listed g ended bytes come old new (Err (Malformed at)) = ⊥
-HasAdvanced listed g ended bytes come old new (Err (BadReference at)) = ⊥
-HasAdvanced listed g ended bytes come old new (Err (BadValue at)) = ⊥
-HasAdvanced listed g ended bytes come old new (Err TooLong) = ⊥
+HasAdvanced listed g ended bytes progress old new (Ok (Some further)) = IsParse g ended bytes further.steps further.at (to_do listed new) new.rows.items × (progress.steps < further.steps) × (length new.rows.items + progress.steps ≤ length old.rows.items + further.steps)
+HasAdvanced listed g ended bytes progress old new (Ok None) = new ≡ old
+HasAdvanced listed g ended bytes progress old new (Err Memory) = MakesRow old new
+HasAdvanced listed g ended bytes progress old new (Err (Malformed at)) = ⊥
+HasAdvanced listed g ended bytes progress old new (Err (BadReference at)) = ⊥
+HasAdvanced listed g ended bytes progress old new (Err (BadValue at)) = ⊥
+HasAdvanced listed g ended bytes progress old new (Err TooLong) = ⊥
 
 -- some moves, or no memory for one
 abbrev pub IsBatch : (ℕ → List Sym) → Table → Bool → List ℕ → Parse → Parse → Result (Unit {0}) Refusal → Type 0

@@ -33,13 +33,13 @@ struct Progress {
 }
 
 /// So many steps further, at a place.
-fn further(come: Progress, at: usize, steps: u32) -> Option<Progress>
-    requires { come.steps + steps < 2 ^ 32 }
-    ensures { result ≡ Some (record { at = at; steps = come.steps + steps }) }
+fn further(progress: Progress, at: usize, steps: u32) -> Option<Progress>
+    requires { progress.steps + steps < 2 ^ 32 }
+    ensures { result ≡ Some (record { at = at; steps = progress.steps + steps }) }
 {
     Some(Progress {
         at,
-        steps: come.steps + steps,
+        steps: progress.steps + steps,
     })
 }
 
@@ -324,29 +324,29 @@ impl Parse {
         ensures keeps { KeepsRoom (room_of self.old) (room_of self.new) }
         ensures full { result ≡ Err Refusal.Memory → LacksRoom 2 (room_of self.old) (length self.new.rows.items) (length self.new.below.items) }
     {
-        let mut come = Progress {
+        let mut progress = Progress {
             at: self.at,
             steps: self.steps,
         };
         'moves: loop {
             let moved = match grammar.symbol(self.top.place) {
-                None => Ok(self.leave_rule::<G>(come, bytes, ended)),
+                None => Ok(self.leave_rule::<G>(progress, bytes, ended)),
                 Some(symbol) => match symbol {
-                    Sym::Kind(kind) => self.enter_kind(grammar, kind, come, bytes, ended),
-                    _ => self.pass_symbol(grammar, symbol, come, bytes, ended),
+                    Sym::Kind(kind) => self.enter_kind(grammar, kind, progress, bytes, ended),
+                    _ => self.pass_symbol(grammar, symbol, progress, bytes, ended),
                 },
             };
             match moved {
-                Ok(Some(further)) => come = further,
+                Ok(Some(further)) => progress = further,
                 Ok(None) => break 'moves,
                 Err(refusal) => {
-                    self.steps = come.steps + 1;
+                    self.steps = progress.steps + 1;
                     return Err(refusal);
                 }
             }
         }
-        self.at = come.at;
-        self.steps = come.steps;
+        self.at = progress.at;
+        self.steps = progress.steps;
         Ok(())
     }
 
@@ -354,14 +354,14 @@ impl Parse {
     #[inline(always)]
     fn leave_rule<G: Grammar>(
         &mut self,
-        come: Progress,
+        progress: Progress,
         bytes: &[u8],
         ended: bool,
     ) -> Option<Progress>
-        requires parsing { IsParse G.table ended bytes.now come.steps come.at (to_do G.listed self.old) self.old.rows.items }
+        requires parsing { IsParse G.table ended bytes.now progress.steps progress.at (to_do G.listed self.old) self.old.rows.items }
         requires fits { FitsSymbol bytes.now }
         requires bare { G.listed self.old.top.place ≡ [] }
-        ensures moves { HasAdvanced G.listed G.table ended bytes.now come self.old self.new (Ok result) }
+        ensures moves { HasAdvanced G.listed G.table ended bytes.now progress self.old self.new (Ok result) }
         ensures keeps { KeepsRoom (room_of self.old) (room_of self.new) }
     {
         match uppermost(&self.below) {
@@ -369,8 +369,8 @@ impl Parse {
                 let row = self.top.row as usize;
                 self.top = frame;
                 drop_uppermost(&mut self.below);
-                close_row(&mut self.rows, row, come.at as u32);
-                further(come, come.at, 1)
+                close_row(&mut self.rows, row, progress.at as u32);
+                further(progress, progress.at, 1)
             }
             None => None,
         }
@@ -382,18 +382,18 @@ impl Parse {
         &mut self,
         grammar: &G,
         kind: u16,
-        come: Progress,
+        progress: Progress,
         bytes: &[u8],
         ended: bool,
     ) -> Result<Option<Progress>, Refusal>
-        requires parsing { IsParse G.table ended bytes.now come.steps come.at (to_do G.listed self.old) self.old.rows.items }
+        requires parsing { IsParse G.table ended bytes.now progress.steps progress.at (to_do G.listed self.old) self.old.rows.items }
         requires fits { FitsSymbol bytes.now }
         requires next { HasNext G.listed self.old.top (Sym.Kind kind) }
-        ensures moves { HasAdvanced G.listed G.table ended bytes.now come self.old self.new result }
+        ensures moves { HasAdvanced G.listed G.table ended bytes.now progress self.old self.new result }
         ensures keeps { KeepsRoom (room_of self.old) (room_of self.new) }
         ensures full { result ≡ Err Refusal.Memory → LacksRoom 2 (room_of self.old) (length self.new.rows.items) (length self.new.below.items) }
     {
-        let at = come.at;
+        let at = progress.at;
         match rule_at(grammar, kind, bytes, at) {
             Some(rule) => match lone_token(&rule) {
                 Some(symbol) => {
@@ -401,7 +401,7 @@ impl Parse {
                         Some(place) => {
                             push_rule_with_token(&mut self.rows, &rule, at, place)?;
                             self.top.place += 1;
-                            Ok(further(come, place.end, 3))
+                            Ok(further(progress, place.end, 3))
                         }
                         None => Ok(None),
                     }
@@ -417,13 +417,13 @@ impl Parse {
                         place,
                         at,
                     )?;
-                    Ok(further(come, behind(&rule, at), 1))
+                    Ok(further(progress, behind(&rule, at), 1))
                 }
             },
             None if may_go_on(at, bytes, ended) => Ok(None),
             None if grammar.may_be_empty(kind) => {
                 self.top.place += 1;
-                Ok(further(come, at, 1))
+                Ok(further(progress, at, 1))
             }
             None => Ok(None),
         }
@@ -435,30 +435,30 @@ impl Parse {
         &mut self,
         grammar: &G,
         symbol: Sym,
-        come: Progress,
+        progress: Progress,
         bytes: &[u8],
         ended: bool,
     ) -> Result<Option<Progress>, Refusal>
-        requires parsing { IsParse G.table ended bytes.now come.steps come.at (to_do G.listed self.old) self.old.rows.items }
+        requires parsing { IsParse G.table ended bytes.now progress.steps progress.at (to_do G.listed self.old) self.old.rows.items }
         requires fits { FitsSymbol bytes.now }
         requires next { HasNext G.listed self.old.top symbol }
-        ensures moves { HasAdvanced G.listed G.table ended bytes.now come self.old self.new result }
+        ensures moves { HasAdvanced G.listed G.table ended bytes.now progress self.old self.new result }
         ensures keeps { KeepsRoom (room_of self.old) (room_of self.new) }
         ensures full { result ≡ Err Refusal.Memory → LacksRoom 2 (room_of self.old) (length self.new.rows.items) (length self.new.below.items) }
     {
         match symbol {
-            Sym::Byte(byte) => match next_byte(bytes, come.at) {
+            Sym::Byte(byte) => match next_byte(bytes, progress.at) {
                 Some(next) if next == byte => {
                     self.top.place += 1;
-                    Ok(further(come, come.at + 1, 1))
+                    Ok(further(progress, progress.at + 1, 1))
                 }
                 _ => Ok(None),
             },
-            _ => match complete_token(grammar, symbol, bytes, come.at, ended) {
+            _ => match complete_token(grammar, symbol, bytes, progress.at, ended) {
                 Some(place) => {
                     push_token(&mut self.rows, place)?;
                     self.top.place += 1;
-                    Ok(further(come, place.end, 1))
+                    Ok(further(progress, place.end, 1))
                 }
                 None => Ok(None),
             },

@@ -6,11 +6,11 @@ use Rattle.sym_shape.proofs.parse.Parse.run_batch.Given as goal
 
 abbrev pub invariant-moves : goal.invariant-moves
 invariant-moves g l = record {
-  parsing : IsParse g.G.Grammar.table l.ended l.bytes l.come.steps l.come.at (to_do g.G.Grammar.listed l.self) l.self.rows.items;
-  steps : l.fn.self.steps ≤ l.come.steps;
-  rows : length l.self.rows.items + l.fn.self.steps ≤ length l.fn.self.rows.items + l.come.steps;
+  parsing : IsParse g.G.Grammar.table l.ended l.bytes l.progress.steps l.progress.at (to_do g.G.Grammar.listed l.self) l.self.rows.items;
+  steps : l.fn.self.steps ≤ l.progress.steps;
+  rows : length l.self.rows.items + l.fn.self.steps ≤ length l.fn.self.rows.items + l.progress.steps;
   keeps : KeepsRoom (room_of l.fn.self) (room_of l.self);
 }
 
 abbrev pub decreases-moves : goal.decreases-moves
-decreases-moves g l = 18 * length l.bytes + 14 - l.come.steps
+decreases-moves g l = 18 * length l.bytes + 14 - l.progress.steps
