@@ -107,9 +107,10 @@ fn press_tasks(alloc: Global, symbol: &Symbol, numbering: &Numbering) -> Result<
                 in_type,
                 encoding,
             } => {
-                let standing =
-                    template_standing_of(symbol, numbering, &components, name, encoding);
-                step_template(symbol, standing, name, arguments, in_type, encoding, &mut tasks)?;
+                let standing = template_standing_of(symbol, numbering, &components, name, encoding);
+                step_template(
+                    symbol, standing, name, arguments, in_type, encoding, &mut tasks,
+                )?;
             }
             Task::Tree {
                 node,

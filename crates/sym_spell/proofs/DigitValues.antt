@@ -29,12 +29,15 @@ digits-value kind base same by_base write back (suc fuel) n small =
     go (nat_lt n base) refl (digits-value kind base same by_base write back fuel (n / base) (by_base.fewer n (most_of base fuel) small))
   where
     go : (b : Bool) → nat_lt n base ≡ b → value_onto kind 0 (digits_in base write fuel (n / base)) ≡ n / base
-        → value_onto kind 0 (elim b as (λ _. List ℕ) [ true ↦ write n ∷ [] | false ↦ digits_in base write fuel (n / base) ++
-            (write (n % base) ∷ []) ]) ≡ n
+        → value_onto kind 0 (elim b as (λ _. List ℕ) [
+          | true ↦ write n ∷ []
+          | false ↦ digits_in base write fuel (n / base) ++
+              (write (n % base) ∷ [])
+        ]) ≡ n
     go true below high = rw (back n (leb-true (suc n) base below)) (omega arith)
     go false above high =
         rw (value-append kind 0 (digits_in base write fuel (n / base)) (write (n % base)), high, same, back (n % base) (by_base.rest n))
-            (by_base.joined n)
+        (by_base.joined n)
 
 all-append : (P : ℕ → Type 0) (cs : List ℕ) (c : ℕ) → AllByRecursion P cs → P c → AllByRecursion P (cs ++ (c ∷ []))
 all-append P [] c h k = (k, tt)
@@ -63,24 +66,31 @@ digits-count base by_base write zero k n small = omega arith
 digits-count base by_base write (suc fuel) zero n small = go (nat_lt n base) refl
   where
     go : (b : Bool) → nat_lt n base ≡ b
-        → length {A = ℕ} (elim b as (λ _. List ℕ) [ true ↦ write n ∷ [] | false ↦ digits_in base write fuel (n / base) ++ (write (n % base) ∷ [])
-            ]) ≤ 1
+        → length {A = ℕ} (elim b as (λ _. List ℕ) [
+          | true ↦ write n ∷ []
+          | false ↦ digits_in base write fuel (n / base) ++ (write (n % base) ∷ [])
+        ]) ≤ 1
     go true below = omega arith
     go false above = absurd (omega (arith, small, not-below n base above))
 digits-count base by_base write (suc fuel) (suc k) n small = go (nat_lt n base) refl
     (digits-count base by_base write fuel k (n / base) (by_base.fewer n (most_of base (suc k)) small))
   where
     go : (b : Bool) → nat_lt n base ≡ b → length (digits_in base write fuel (n / base)) ≤ suc k
-        → length {A = ℕ} (elim b as (λ _. List ℕ) [ true ↦ write n ∷ [] | false ↦ digits_in base write fuel (n / base) ++ (write (n % base) ∷ [])
-            ]) ≤ suc (suc k)
+        → length {A = ℕ} (elim b as (λ _. List ℕ) [
+          | true ↦ write n ∷ []
+          | false ↦ digits_in base write fuel (n / base) ++ (write (n % base) ∷ [])
+        ]) ≤ suc (suc k)
     go true below few = omega arith
     go false above few = omega (arith, few, length-append (digits_in base write fuel (n / base)) (write (n % base) ∷ []))
 
 pub digits-some : (base : ℕ) (write : ℕ → ℕ) (fuel n : ℕ) → 0 < length (digits_in base write (suc fuel) n)
 digits-some base write fuel n = go (nat_lt n base)
   where
-    go : (b : Bool) → 0 < length {A = ℕ} (elim b as (λ _. List ℕ) [ true ↦ write n ∷ [] | false ↦ digits_in base write fuel (n / base) ++
-        (write (n % base) ∷ []) ])
+    go : (b : Bool) → 0 < length {A = ℕ} (elim b as (λ _. List ℕ) [
+      | true ↦ write n ∷ []
+      | false ↦ digits_in base write fuel (n / base) ++
+          (write (n % base) ∷ [])
+    ])
     go true = omega arith
     go false = omega (arith, length-append (digits_in base write fuel (n / base)) (write (n % base) ∷ []))
 
@@ -120,8 +130,11 @@ digits-lead zero n some small = absurd (omega (arith, some, small))
 digits-lead (suc fuel) n some small = go (nat_lt n 10) refl (digits-lead fuel (n / 10))
   where
     go : (b : Bool) → nat_lt n 10 ≡ b → (0 < n / 10 → n / 10 < most_of 10 fuel → Leads (digits_in 10 decimal_digit fuel (n / 10)))
-        → Leads (elim b as (λ _. List ℕ) [ true ↦ decimal_digit n ∷ [] | false ↦ digits_in 10 decimal_digit fuel (n / 10) ++
-            (decimal_digit (n % 10) ∷ []) ])
+        → Leads (elim b as (λ _. List ℕ) [
+          | true ↦ decimal_digit n ∷ []
+          | false ↦ digits_in 10 decimal_digit fuel (n / 10) ++
+              (decimal_digit (n % 10) ∷ [])
+        ])
     go true below high = λ is. omega (arith, some, is)
     go false above high =
         leads-append (digits_in 10 decimal_digit fuel (n / 10)) (decimal_digit (n % 10) ∷ [])

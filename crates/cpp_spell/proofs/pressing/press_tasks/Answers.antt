@@ -130,7 +130,7 @@ tasks-init c =
       first-goes y c.args.numbering.now (get like c.new-components.result.first) c.new-components.result.count c.then_tree.new.tasks.items c.new-out.result.items
           c.new-components.ensures.first c.new-components.ensures.count c.in_ok-then_tree.ensures.tasks
           (c.in_ok-then_tree.ensures.presses ∙ ap (λ n. in_way 0 Way.Encoding (plain_at y n) onto press_tasks y c.new-tasks.result.items) c.root_node.ensures.root
-            ∙ ap (λ l. in_way 0 Way.Encoding (plain_at y y.root) onto press_tasks y l) c.new-tasks.ensures.items)
+          ∙ ap (λ l. in_way 0 Way.Encoding (plain_at y y.root) onto press_tasks y l) c.new-tasks.ensures.items)
           c.new-out.ensures.items,
       c.requires.numbers,
     )
@@ -168,10 +168,12 @@ tasks-preserved-in-Continue-branch-3 c =
     let ns = c.args.numbering.now in
     let task : Task = Task.Ended c.in-Ended.node c.in-Ended.encoding in
     let top = popped c.tasks.tasks.items c.pop.new.self.items c.pop.result c.in-Some.task task c.pop.ensures.items c.in-Some.is c.in-Ended.is in
-    let there = task-there y ns (pressed (whole_of y)) (get like c.tasks.components.first) c.tasks.components.count c.tasks.tasks.items c.pop.new.self.items c.tasks.out.items task c.tasks.invariant.0 top in
-    (ended-goes y ns (pressed (whole_of y)) (get like c.tasks.components.first) (get like c.push.new.self.first) c.tasks.components.count c.push.new.self.count c.tasks.tasks.items c.pop.new.self.items c.tasks.out.items
-    c.in-Ended.node c.in-Ended.encoding c.tasks.invariant.1 c.tasks.invariant.0 top
-    (λ q. c.in_ok-push-in-Ended.ensures.first q ∙ ap (λ l. noted (get like c.tasks.components.first) l c.tasks.components.count q) c.likeness_of.ensures) c.in_ok-push-in-Ended.ensures.count, c.tasks.invariant.1)
+    let there = task-there y ns (pressed (whole_of y)) (get like c.tasks.components.first) c.tasks.components.count c.tasks.tasks.items c.pop.new.self.items c.tasks.out.items task c.tasks.invariant.0 top in (
+      ended-goes y ns (pressed (whole_of y)) (get like c.tasks.components.first) (get like c.push.new.self.first) c.tasks.components.count c.push.new.self.count c.tasks.tasks.items c.pop.new.self.items c.tasks.out.items
+          c.in-Ended.node c.in-Ended.encoding c.tasks.invariant.1 c.tasks.invariant.0 top
+          (λ q. c.in_ok-push-in-Ended.ensures.first q ∙ ap (λ l. noted (get like c.tasks.components.first) l c.tasks.components.count q) c.likeness_of.ensures) c.in_ok-push-in-Ended.ensures.count,
+      c.tasks.invariant.1,
+    )
 
 pub tasks-smaller-in-Continue-branch-4 : goal.tasks-smaller-in-Continue-branch-4
 tasks-smaller-in-Continue-branch-4 c =
@@ -188,11 +190,13 @@ tasks-preserved-in-Continue-branch-4 c =
     let ns = c.args.numbering.now in
     let task : Task = Task.Template c.in-Template.name c.in-Template.arguments c.in-Template.in_type c.in-Template.encoding in
     let top = popped c.tasks.tasks.items c.pop.new.self.items c.pop.result c.in-Some.task task c.pop.ensures.items c.in-Some.is c.in-Template.is in
-    let there = task-there y ns (pressed (whole_of y)) (get like c.tasks.components.first) c.tasks.components.count c.tasks.tasks.items c.pop.new.self.items c.tasks.out.items task c.tasks.invariant.0 top in
-    (changed-goes y ns (pressed (whole_of y)) (get like c.tasks.components.first) c.tasks.components.count c.tasks.tasks.items c.pop.new.self.items c.step_template.new.tasks.items c.tasks.out.items task c.tasks.invariant.0 top
-    c.in_ok-step_template-in-Template.ensures.tasks
-    (λ cs places. c.in_ok-step_template-in-Template.ensures.presses (length c.tasks.out.items) cs
-        (c.template_standing_of-standing.ensures ∙ ap (template_standing_of (plain_at y c.in-Template.name)) (places c.in-Template.name c.in-Template.encoding there.0.0))), c.tasks.invariant.1)
+    let there = task-there y ns (pressed (whole_of y)) (get like c.tasks.components.first) c.tasks.components.count c.tasks.tasks.items c.pop.new.self.items c.tasks.out.items task c.tasks.invariant.0 top in (
+      changed-goes y ns (pressed (whole_of y)) (get like c.tasks.components.first) c.tasks.components.count c.tasks.tasks.items c.pop.new.self.items c.step_template.new.tasks.items c.tasks.out.items task c.tasks.invariant.0 top
+          c.in_ok-step_template-in-Template.ensures.tasks
+          (λ cs places. c.in_ok-step_template-in-Template.ensures.presses (length c.tasks.out.items) cs
+          (c.template_standing_of-standing.ensures ∙ ap (template_standing_of (plain_at y c.in-Template.name)) (places c.in-Template.name c.in-Template.encoding there.0.0))),
+      c.tasks.invariant.1,
+    )
 
 pub tasks-smaller : goal.tasks-smaller
 tasks-smaller c =
@@ -209,12 +213,14 @@ tasks-preserved c =
     let ns = c.args.numbering.now in
     let task : Task = Task.Tree c.in-Tree.node c.in-Tree.way c.in-Tree.encoding in
     let top = popped c.tasks.tasks.items c.pop.new.self.items c.pop.result c.in-Some.task task c.pop.ensures.items c.in-Some.is c.in-Tree.is in
-    let there = task-there y ns (pressed (whole_of y)) (get like c.tasks.components.first) c.tasks.components.count c.tasks.tasks.items c.pop.new.self.items c.tasks.out.items task c.tasks.invariant.0 top in
-    (changed-goes y ns (pressed (whole_of y)) (get like c.tasks.components.first) c.tasks.components.count c.tasks.tasks.items c.pop.new.self.items c.step_tree.new.tasks.items c.tasks.out.items task c.tasks.invariant.0 top
-    c.in_ok-step_tree-in-Tree.ensures.tasks
-    (λ cs places. subst (λ n. press_tasks y c.step_tree.new.tasks.items n cs ≡ (press_task y task onto press_tasks y c.pop.new.self.items) n cs) (c.len-here.ensures ∙ c.tasks.out.ok.0)
-        (c.in_ok-step_tree-in-Tree.ensures.presses cs
-        (c.standing_of-standing.ensures ∙ ap (standing_of c.in-Tree.way (plain_at y c.in-Tree.node)) (places c.in-Tree.node c.in-Tree.encoding there.0)))), c.tasks.invariant.1)
+    let there = task-there y ns (pressed (whole_of y)) (get like c.tasks.components.first) c.tasks.components.count c.tasks.tasks.items c.pop.new.self.items c.tasks.out.items task c.tasks.invariant.0 top in (
+      changed-goes y ns (pressed (whole_of y)) (get like c.tasks.components.first) c.tasks.components.count c.tasks.tasks.items c.pop.new.self.items c.step_tree.new.tasks.items c.tasks.out.items task c.tasks.invariant.0 top
+          c.in_ok-step_tree-in-Tree.ensures.tasks
+          (λ cs places. subst (λ n. press_tasks y c.step_tree.new.tasks.items n cs ≡ (press_task y task onto press_tasks y c.pop.new.self.items) n cs) (c.len-here.ensures ∙ c.tasks.out.ok.0)
+          (c.in_ok-step_tree-in-Tree.ensures.presses cs
+          (c.standing_of-standing.ensures ∙ ap (standing_of c.in-Tree.way (plain_at y c.in-Tree.node)) (places c.in-Tree.node c.in-Tree.encoding there.0)))),
+      c.tasks.invariant.1,
+    )
 
 pub returns-clause-pressed : goal.returns-clause-pressed
 returns-clause-pressed c =
