@@ -1,4 +1,3 @@
-use Rattle.std.proofs.Common.{◌≡◌, ◌≤◌, ◌<◌, ap, subst}
 use Rattle.std.proofs.lemmas.Result.{err_from_is_err_and}
 use Rattle.sym_demangle.proofs.Answering.{answer_refused, answer_printed, answer_not_printed}
 use Rattle.sym_demangle.proofs.demangling.demangle_as.Goals as goal

@@ -34,7 +34,7 @@ pub returns-clause-few : goal.returns-clause-few
 returns-clause-few g c =
     c.settle.ensures.few (meaning_of (g.L.Linking.view c.args.symbol.now) c.requires.tree) (root_left (g.L.Linking.view c.args.symbol.now) c.args.symbol.now c.args.rows.now c.requires.tree (g.met.L.Linking.laws c.args.symbol.now) c.requires.is_shape).0 _
     (root_begun (g.L.Linking.view c.args.symbol.now) c.args.symbol.now c.args.rows.now c.requires.tree c.args.language.now c.root.new.self c.args.frames.now.items
-          (record { rule = (slice_index_or c.args.rows.now 0 (record { rule = 0; from = 0; to = 0; end = 0 })).rule; place = (slice_index_or c.args.rows.now 0 (record { rule = 0; from = 0; to = 0; end = 0 })).from; end = (slice_index_or c.args.rows.now 0 (record { rule = 0; from = 0; to = 0; end = 0 })).end; base = 0; kept = c.in_ok-kept.kept })
-          c.args.parts.now.items (slice_index_or c.args.rows.now 0 (record { rule = 0; from = 0; to = 0; end = 0 })) (record { rule = 0; from = 0; to = 0; end = 0 }) (g.met.L.Linking.laws c.args.symbol.now) c.requires.is_shape c.requires.fits.rows c.requires.fresh refl
-          c.in_ok-kept.ensures.opens c.in_ok-kept.ensures.adds c.in_ok-kept.ensures.pays refl refl refl refl _
-          (root_left (g.L.Linking.view c.args.symbol.now) c.args.symbol.now c.args.rows.now c.requires.tree (g.met.L.Linking.laws c.args.symbol.now) c.requires.is_shape).1)
+    (record { rule = (slice_index_or c.args.rows.now 0 (record { rule = 0; from = 0; to = 0; end = 0 })).rule; place = (slice_index_or c.args.rows.now 0 (record { rule = 0; from = 0; to = 0; end = 0 })).from; end = (slice_index_or c.args.rows.now 0 (record { rule = 0; from = 0; to = 0; end = 0 })).end; base = 0; kept = c.in_ok-kept.kept })
+    c.args.parts.now.items (slice_index_or c.args.rows.now 0 (record { rule = 0; from = 0; to = 0; end = 0 })) (record { rule = 0; from = 0; to = 0; end = 0 }) (g.met.L.Linking.laws c.args.symbol.now) c.requires.is_shape c.requires.fits.rows c.requires.fresh refl
+    c.in_ok-kept.ensures.opens c.in_ok-kept.ensures.adds c.in_ok-kept.ensures.pays refl refl refl refl _
+    (root_left (g.L.Linking.view c.args.symbol.now) c.args.symbol.now c.args.rows.now c.requires.tree (g.met.L.Linking.laws c.args.symbol.now) c.requires.is_shape).1)

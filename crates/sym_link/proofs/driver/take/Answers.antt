@@ -118,10 +118,10 @@ pub returns-clause-few : goal.returns-clause-few
 returns-clause-few g c =
     c.settle.ensures.few (c.requires.1 c.top-frame.result.now (c.top-frame.ensures.0, sym c.deref.ensures.value ∙ c.top-frame.ensures.1)).whole c.requires.0 _
     (rule_begun (g.L.Linking.view c.args.symbol.now) c.args.symbol.now c.args.rows.now (c.requires.1 c.top-frame.result.now (c.top-frame.ensures.0, sym c.deref.ensures.value ∙ c.top-frame.ensures.1)).whole c.requires.0 c.args.language.now c.enter.new.self c.args.next c.args.frames.now.items c.top-frame.result.now
-          (record { rule = (slice_index_or c.args.rows.now c.args.next (record { rule = 0; from = 0; to = 0; end = 0 })).rule; place = (slice_index_or c.args.rows.now c.args.next (record { rule = 0; from = 0; to = 0; end = 0 })).from; end = (slice_index_or c.args.rows.now c.args.next (record { rule = 0; from = 0; to = 0; end = 0 })).end; base = c.len.result; kept = c.in_ok-kept.kept })
-          c.args.parts.now.items c.enter.new.parts.items (slice_index_or c.args.rows.now c.args.next (record { rule = 0; from = 0; to = 0; end = 0 })) (record { rule = 0; from = 0; to = 0; end = 0 }) (g.met.L.Linking.laws c.args.symbol.now) (c.top-frame.ensures.0, sym c.deref.ensures.value ∙ c.top-frame.ensures.1)
-          (c.requires.1 c.top-frame.result.now (c.top-frame.ensures.0, sym c.deref.ensures.value ∙ c.top-frame.ensures.1)).follows (c.requires.1 c.top-frame.result.now (c.top-frame.ensures.0, sym c.deref.ensures.value ∙ c.top-frame.ensures.1)).open_still refl c.if-row.false c.in_ok-kept.ensures.opens c.in_ok-kept.ensures.adds c.in_ok-kept.ensures.pays
-          refl refl refl (omega (arith, c.len.ensures, c.enter.new.parts.ok.0)))
+    (record { rule = (slice_index_or c.args.rows.now c.args.next (record { rule = 0; from = 0; to = 0; end = 0 })).rule; place = (slice_index_or c.args.rows.now c.args.next (record { rule = 0; from = 0; to = 0; end = 0 })).from; end = (slice_index_or c.args.rows.now c.args.next (record { rule = 0; from = 0; to = 0; end = 0 })).end; base = c.len.result; kept = c.in_ok-kept.kept })
+    c.args.parts.now.items c.enter.new.parts.items (slice_index_or c.args.rows.now c.args.next (record { rule = 0; from = 0; to = 0; end = 0 })) (record { rule = 0; from = 0; to = 0; end = 0 }) (g.met.L.Linking.laws c.args.symbol.now) (c.top-frame.ensures.0, sym c.deref.ensures.value ∙ c.top-frame.ensures.1)
+    (c.requires.1 c.top-frame.result.now (c.top-frame.ensures.0, sym c.deref.ensures.value ∙ c.top-frame.ensures.1)).follows (c.requires.1 c.top-frame.result.now (c.top-frame.ensures.0, sym c.deref.ensures.value ∙ c.top-frame.ensures.1)).open_still refl c.if-row.false c.in_ok-kept.ensures.opens c.in_ok-kept.ensures.adds c.in_ok-kept.ensures.pays
+    refl refl refl (omega (arith, c.len.ensures, c.enter.new.parts.ok.0)))
 
 pub token-requires-clause-base : goal.token-requires-clause-base
 token-requires-clause-base g c =

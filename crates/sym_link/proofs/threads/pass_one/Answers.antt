@@ -1,4 +1,4 @@
-use Rattle.std.proofs.Common.{arith, sym, subst, ap, ◌∙◌, ◌≤◌, ◌+◌, ◌∷◌, ◌++◌, [], drop, length, length-append}
+use Rattle.std.proofs.Common.{arith, sym, subst, ap, ◌∙◌, ◌∷◌, ◌++◌, [], drop, length, length-append}
 use Rattle.std.proofs.lemmas.Result.{err_from_is_err_and}
 use Rattle.sym_link.specs.Threads.{IsOpenAt, Passing}
 use Rattle.sym_link.specs.Linking.{owed_behind}

@@ -1,4 +1,4 @@
-use Rattle.std.proofs.Common.{refl, sym, ◌∙◌, subst, ap, arith, length, Err}
+use Rattle.std.proofs.Common.{refl, sym, ◌∙◌, subst, ap, arith, length}
 use Rattle.sym_link.proofs.Starting.{driving_few}
 use Rattle.sym_shape.specs.declared.rule.Sym.TheVariants.{Kind}
 use Rattle.sym_shape.specs.Tree.{IsTree, spell}
