@@ -6,10 +6,10 @@ use Rattle.sym_core.specs.declared.NameClass.TheVariants.{Cpp}
 use Rattle.sym_core.specs.Number.{is_digit_of}
 use Rattle.sym_core.specs.Value.{digit_value, counted_value}
 use Rattle.sym_core.specs.Token.{Token, IsName, IsSeparator, AreNameBytes, IsNumberToken, bytes_of}
-use Rattle.sym_spell.specs.Digits.{decimal_digit}
+use Rattle.sym_spell.specs.Digits.{decimal_digit, digit36}
 use Rattle.sym_spell.proofs.DigitValues.{Divides, divides10, digits-all, counted-digits, length-form, length-digits, length-value}
 use Rattle.cpp_press.specs.Texts.{decimal, counted, ordinal}
-use Rattle.cpp_press.specs.Components.{digit36, seq_id}
+use Rattle.cpp_press.specs.Components.{seq_id}
 
 abbrev pub greatest : ℕ
 greatest = 18446744073709551615
