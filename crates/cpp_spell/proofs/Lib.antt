@@ -8,3 +8,6 @@ mod Standing
 mod Weighing
 mod Templates
 mod Going
+mod Entering
+mod Numbered
+mod Rebuilding

@@ -4,3 +4,5 @@ pub mod Tasks
 pub mod Spelled
 pub mod Places
 pub mod Standings
+pub mod Fields
+pub mod Numbers

@@ -1,12 +1,14 @@
-//! What the pressed spelling of a C++ symbol is written with: the tasks that a tree gives way to, the bytes between them, and the
-//! components so far.
+//! The pressed spelling of a C++ symbol: its tree written again, each repeated component a reference to the first one.
 #![tactic(auto)]
 
-pub mod components;
-pub mod names;
-pub mod numbering;
-pub mod pressing;
-pub mod steps;
-pub mod task;
-pub mod texts;
-pub mod types;
+mod components;
+mod names;
+mod numbering;
+mod pressing;
+mod steps;
+mod task;
+mod texts;
+mod types;
+mod view;
+
+pub use pressing::press_cpp;

@@ -125,3 +125,22 @@ fn press_tasks(alloc: Global, symbol: &Symbol, numbering: &Numbering) -> Result<
     }
     Ok(out)
 }
+
+/// The pressed spelling of a C++ symbol (Itanium C++ ABI 5.1): its tree in its order, in which each component that is equal
+/// to an earlier one is a reference to the first such one (ABI 5.1.10), and numbers and names have their shortest form.
+/// Symbols of one tree have one pressed spelling; the suffix is part of the tree.
+///
+/// Components are compared by their numbers, and each repeated one is spelled out at most once where a reference can stand,
+/// however large the tree is.
+///
+/// # Errors
+///
+/// `Memory` alone.
+pub fn press_cpp(alloc: Global, symbol: &Symbol) -> Result<Vec<u8>, Refusal>
+    ensures pressed { IfOk result (λ out. out.items ≡ pressed (whole_of symbol.now)) }
+    ensures memory { IfErr result (λ e. e ≡ Memory) }
+{
+    let _root = symbol.root_node();
+    let numbering = Numbering::cpp(alloc, symbol)?;
+    press_tasks(alloc, symbol, &numbering)
+}

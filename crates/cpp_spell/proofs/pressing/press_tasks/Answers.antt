@@ -1,13 +1,12 @@
-use Rattle.std.proofs.Common.{◌≡◌, ℕ, refl, rules, ◌+◌, ◌<◌, length, ap, arith, sym, subst, ◌∙◌}
+use Rattle.std.proofs.Common.{◌≡◌, refl, rules, length, ap, arith, sym, subst, ◌∙◌}
 use Rattle.indexmap.specs.IndexMap.{get}
 use Rattle.cpp_layout.specs.Layout.{whole_of}
-use Rattle.cpp_press.specs.Components.{Spelling, first_equal}
 use Rattle.cpp_press.specs.Pressing.{pressed}
 use Rattle.cpp_spell.specs.declared.task.Task.{Task}
 use Rattle.cpp_spell.specs.declared.task.Way.{Way}
 use Rattle.cpp_spell.specs.Bytes.{text_bytes}
-use Rattle.cpp_spell.specs.Tasks.{◌onto◌, in_way, written, press_task, press_tasks, plain_at, AreTasks, tasks_weight}
-use Rattle.cpp_spell.specs.Places.{like, likeness_of, ArePlaces, noted}
+use Rattle.cpp_spell.specs.Tasks.{◌onto◌, in_way, press_task, press_tasks, plain_at, AreTasks}
+use Rattle.cpp_spell.specs.Places.{like, noted}
 use Rattle.cpp_spell.specs.Standings.{standing_of, template_standing_of}
 use Rattle.cpp_spell.proofs.Going.{popped, task-there, weight-there, changed-goes, text-goes, ended-goes, first-goes, last-goes}
 use Rattle.cpp_spell.proofs.pressing.press_tasks.Goals as goal
