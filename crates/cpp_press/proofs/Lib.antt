@@ -4,6 +4,8 @@ mod GeneratedRows
 pub mod Sameness
 pub mod Growing
 pub mod ApartTrees
+pub mod Covering
+pub mod CoveredTrees
 pub mod Tokens
 pub mod Reading
 pub mod ReadingReferences
