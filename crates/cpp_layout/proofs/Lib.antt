@@ -1,6 +1,5 @@
 pub mod Growing
 pub mod Suffixes
-pub mod Deciding
 pub mod Functions
 pub mod Coding
 pub mod Naming

@@ -1,13 +1,15 @@
 -- What a linker has done is what the symbol's shape stands for.
-use Rattle.std.proofs.Common.{◌≡◌, refl, sym, ◌∙◌, ap, subst, inl, inr, ℕ, ◌+◌, ◌*◌, ◌≤◌, List, length, Bool, true, Option, Some, Result, Ok, Err, arith}
+use Rattle.std.proofs.Common.{◌≡◌, refl, sym, ◌∙◌, ap, subst, inl, inr, ℕ, ◌+◌, ◌*◌, ◌≤◌, List, [], length, Bool, true, false, Option, Some, Result, Ok, Err, arith}
 use Rattle.std.specs.Prelude.{None}
+use Rattle.sym_core.specs.Number.{FitsSymbol}
 use Rattle.sym_core.specs.declared.refusal.Refusal.{Refusal}
 use Rattle.sym_core.specs.declared.refusal.Refusal.TheVariants as refusals
 use Rattle.sym_shape.specs.declared.rule.Row.{Row}
 use Rattle.sym_shape.specs.declared.rule.Sym.TheVariants.{Kind}
 use Rattle.sym_shape.specs.Law.{IsLawful}
+use Rattle.sym_shape.specs.Reader.{AreFew}
 use Rattle.sym_shape.specs.Table.{Table}
-use Rattle.sym_shape.specs.Tree.{Tree, IsTree, spell, AreStepsOf}
+use Rattle.sym_shape.specs.Tree.{Tree, IsTree, spell, AreRowsOf, AreStepsOf}
 use Rattle.sym_shape.proofs.Uniqueness.{one_tree}
 use Rattle.sym_link.specs.declared.language.Frame.{Frame}
 use Rattle.sym_link.specs.Linking.{View}
@@ -17,7 +19,25 @@ use Rattle.sym_link.specs.Following.{IsShape, IsDriving, IsStepTo, meaning_of}
 use Rattle.sym_link.proofs.Starting.{driving_few}
 use Rattle.sym_link.proofs.Driving.{driving_on}
 use Rattle.sym_demangle.specs.Mangled.{Mangled, IsRefused}
-use Rattle.sym_demangle.specs.Standing.{IsLinker, IsLinked, CountsNodes, AreLinkSteps, AreStepsInAll}
+use Rattle.sym_demangle.specs.Standing.{Begins, IsLinker, IsLinked, CountsNodes, AreLinkSteps, AreStepsInAll}
+
+-- a linker in front of the first row
+pub begun : {N P K V S C : Type 0} (view : View N P K V S C) (g : Table) (s : List ℕ) (rows : List Row) (read : ℕ) (nodes : N) → view.table ≡ g
+    → FitsSymbol s → AreRowsOf g s rows → AreFew read (length rows) (length s) → Begins view nodes → IsLinker view s rows read nodes 0 None 0 [] [] false
+begun view g s rows read nodes table fits are few begins = record {
+  shape = are.0;
+  is_shape = record { is_tree = subst (λ t. IsTree t (Kind 0) are.0) (sym table) are.1; spelled = are.2; rows_are = are.3 };
+  fits = record { symbol = fits; rows = few.rows_few };
+  few = few;
+  driving = (
+    inl (record { next_is = refl; no_frame = refl; no_part = refl; no_node = begins.size; holds = begins.holds; paid = begins.paid }, refl),
+    omega arith,
+    omega arith,
+    omega arith,
+  );
+  ended = λ h. absurd (let e : false ≡ true = h in cc);
+  all_steps = λ h. absurd (let e : false ≡ true = h in cc);
+}
 
 -- a linker that is done has linked its symbol
 pub linked_of : {N P K V S C : Type 0} (view : View N P K V S C) (s : List ℕ) (rows : List Row) (read_steps : ℕ) (nodes : N) (steps : ℕ) (refused : Option Refusal) (next : ℕ)
