@@ -85,7 +85,7 @@ fn then_lambda(
     requires parameters { parameters < length symbol.now.table.nodes }
     requires tasks { AreTasks symbol.now tasks.old.items }
     ensures presses { OnOk result (press_tasks symbol.now tasks.new.items ≡ written (codes "Ul") onto in_way encoding Way.Parameters (plain_at symbol.now parameters) onto written (codes "E" ++ ordinal (number - 1)) onto press_tasks symbol.now tasks.old.items) }
-    ensures weight { OnOk result (tasks_weight symbol.now tasks.new.items + 0 ≡ 2 + weight (plain_at symbol.now parameters) + tasks_weight symbol.now tasks.old.items) }
+    ensures weight { OnOk result (tasks_weight symbol.now tasks.new.items ≡ 2 + weight (plain_at symbol.now parameters) + tasks_weight symbol.now tasks.old.items) }
     ensures tasks { OnOk result (AreTasks symbol.now tasks.new.items) }
     ensures memory { IfErr result (λ e. e ≡ Memory) }
 {
@@ -317,7 +317,7 @@ fn then_lettered(
     requires name { name < length symbol.now.table.nodes }
     requires tasks { AreTasks symbol.now tasks.old.items }
     ensures presses { OnOk result (press_tasks symbol.now tasks.new.items ≡ lettered_onto encoding (text_bytes symbol.now letters) (plain_at symbol.now name) (press_tasks symbol.now tasks.old.items)) }
-    ensures weight { OnOk result (tasks_weight symbol.now tasks.new.items + 0 ≡ 2 + weight (plain_at symbol.now name) + tasks_weight symbol.now tasks.old.items) }
+    ensures weight { OnOk result (tasks_weight symbol.now tasks.new.items ≡ 2 + weight (plain_at symbol.now name) + tasks_weight symbol.now tasks.old.items) }
     ensures tasks { OnOk result (AreTasks symbol.now tasks.new.items) }
     ensures memory { IfErr result (λ e. e ≡ Memory) }
 {

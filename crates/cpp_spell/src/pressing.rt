@@ -86,7 +86,6 @@ fn template_standing_of(
 
 /// The pressed spelling of a C++ symbol, by the numbers of its nodes.
 fn press_tasks(alloc: Global, symbol: &Symbol, numbering: &Numbering) -> Result<Vec<u8>, Refusal>
-    requires table { IsTable (table_of symbol.now) }
     requires numbers { AreNumbers symbol.now numbering.now }
     ensures pressed { IfOk result (λ out. out.items ≡ pressed (whole_of symbol.now)) }
     ensures memory { IfErr result (λ e. e ≡ Memory) }
@@ -140,7 +139,6 @@ pub fn press_cpp(alloc: Global, symbol: &Symbol) -> Result<Vec<u8>, Refusal>
     ensures pressed { IfOk result (λ out. out.items ≡ pressed (whole_of symbol.now)) }
     ensures memory { IfErr result (λ e. e ≡ Memory) }
 {
-    let _root = symbol.root_node();
     let numbering = Numbering::cpp(alloc, symbol)?;
     press_tasks(alloc, symbol, &numbering)
 }

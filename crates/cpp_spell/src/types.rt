@@ -76,7 +76,7 @@ fn then_behind(
     requires ty { ty < length symbol.now.table.nodes }
     requires tasks { AreTasks symbol.now tasks.old.items }
     ensures presses { OnOk result (press_tasks symbol.now tasks.new.items ≡ written letters.now onto in_way encoding Way.Type (plain_at symbol.now ty) onto press_tasks symbol.now tasks.old.items) }
-    ensures weight { OnOk result (tasks_weight symbol.now tasks.new.items + 0 ≡ 1 + weight (plain_at symbol.now ty) + tasks_weight symbol.now tasks.old.items) }
+    ensures weight { OnOk result (tasks_weight symbol.now tasks.new.items ≡ 1 + weight (plain_at symbol.now ty) + tasks_weight symbol.now tasks.old.items) }
     ensures tasks { OnOk result (AreTasks symbol.now tasks.new.items) }
     ensures memory { IfErr result (λ e. e ≡ Memory) }
 {
@@ -101,7 +101,7 @@ fn then_function_type(
     requires parameters { parameters < length symbol.now.table.nodes }
     requires tasks { AreTasks symbol.now tasks.old.items }
     ensures presses { OnOk result (press_tasks symbol.now tasks.new.items ≡ written (text_bytes symbol.now first) onto in_way encoding Way.Type (plain_at symbol.now returned) onto in_way encoding Way.Parameters (plain_at symbol.now parameters) onto written (mark_letter (mark_of mark) ++ codes "E") onto press_tasks symbol.now tasks.old.items) }
-    ensures weight { OnOk result (tasks_weight symbol.now tasks.new.items + 0 ≡ 2 + weight (plain_at symbol.now returned) + weight (plain_at symbol.now parameters) + tasks_weight symbol.now tasks.old.items) }
+    ensures weight { OnOk result (tasks_weight symbol.now tasks.new.items ≡ 2 + weight (plain_at symbol.now returned) + weight (plain_at symbol.now parameters) + tasks_weight symbol.now tasks.old.items) }
     ensures tasks { OnOk result (AreTasks symbol.now tasks.new.items) }
     ensures memory { IfErr result (λ e. e ≡ Memory) }
 {
