@@ -4,6 +4,7 @@ mod GeneratedRows
 pub mod Sameness
 pub mod Growing
 pub mod ApartTrees
+pub mod RepeatedReasons
 pub mod Tokens
 pub mod Reading
 pub mod ReadingReferences

@@ -1,16 +1,14 @@
 // A C++ symbol spelled again, each repeated component a reference to the first one.
 #![tactic(auto)]
 
-ghost use Rattle.std.specs.Prelude.{◌≡◌, ℕ, ◌<◌, List, length, IfOk, IfErr};
+ghost use Rattle.std.specs.Prelude.{◌≡◌, ◌<◌, length, IfOk, IfErr};
 ghost use Rattle.sym_core.specs.declared.Refusal.TheVariants.{Memory};
 ghost use Rattle.indexmap.specs.IndexMap.{get};
-ghost use Rattle.cpp_grammar.specs.Values.{Candidate};
 ghost use Rattle.cpp_tree.specs.Nodes.{IsTable};
 ghost use Rattle.cpp_layout.specs.Layout.{table_of, whole_of};
-ghost use Rattle.cpp_press.specs.Components.{first_equal};
 ghost use Rattle.cpp_press.specs.Pressing.{pressed};
 ghost use Rattle.cpp_spell.specs.Tasks.{plain_at};
-ghost use Rattle.cpp_spell.specs.Places.{like, likeness_of, ArePlaces, AreNumbers};
+ghost use Rattle.cpp_spell.specs.Places.{like, likeness_of, AreNumbers, HasFewComponents};
 ghost use Rattle.cpp_spell.specs.Standings.{standing_of, template_standing_of};
 
 use crate::components::{Components, Likeness};
@@ -88,6 +86,7 @@ fn template_standing_of(
 fn press_tasks(alloc: Global, symbol: &Symbol, numbering: &Numbering) -> Result<Vec<u8>, Refusal>
     requires numbers { AreNumbers symbol.now numbering.now }
     ensures pressed { IfOk result (λ out. out.items ≡ pressed (whole_of symbol.now)) }
+    ensures components { IfOk result (λ _. HasFewComponents symbol.now) }
     ensures memory { IfErr result (λ e. e ≡ Memory) }
 {
     let mut components = Components::new(alloc);
@@ -137,6 +136,7 @@ fn press_tasks(alloc: Global, symbol: &Symbol, numbering: &Numbering) -> Result<
 /// `Memory` alone.
 pub fn press_cpp(alloc: Global, symbol: &Symbol) -> Result<Vec<u8>, Refusal>
     ensures pressed { IfOk result (λ out. out.items ≡ pressed (whole_of symbol.now)) }
+    ensures components { IfOk result (λ _. HasFewComponents symbol.now) }
     ensures memory { IfErr result (λ e. e ≡ Memory) }
 {
     let numbering = Numbering::cpp(alloc, symbol)?;
