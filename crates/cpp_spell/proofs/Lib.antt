@@ -9,6 +9,5 @@ mod Weighing
 mod Templates
 mod Counting
 mod Going
-mod Entering
 mod Numbered
 mod Rebuilding

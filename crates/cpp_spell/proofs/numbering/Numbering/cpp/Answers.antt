@@ -1,6 +1,6 @@
 use Rattle.std.proofs.Common.{◌<◌, length, [], ◌∷◌, ap, arith, sym, subst, ◌∙◌, length-append}
 use Rattle.cpp_spell.specs.Numbers.{AreBelow, IsFilled}
-use Rattle.cpp_spell.proofs.Entering.{enters}
+use Rattle.sym_spell.proofs.Entering.{enters}
 use Rattle.cpp_spell.proofs.Rebuilding.{plain-back}
 use Rattle.cpp_spell.proofs.Numbered.{AreOne, filled-more, key-test, numbers-below, own-key}
 use Rattle.cpp_spell.proofs.numbering.Numbering.cpp.Goals as goal
