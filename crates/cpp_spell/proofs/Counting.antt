@@ -14,7 +14,8 @@ use Rattle.cpp_press.specs.Apart.{spelled_components}
 use Rattle.cpp_press.specs.Repeated.{is_spelled, repeated}
 use Rattle.cpp_press.proofs.Sameness.{tree-itself}
 use Rattle.cpp_spell.specs.Tasks.{plain_at}
-use Rattle.cpp_spell.specs.Places.{AreOfNodes, HasFewComponents}
+use Rattle.cpp_spell.specs.Places.{AreOfNodes}
+use Rattle.cpp_spell.specs.OfRead.{HasFewComponents}
 
 true-false : true ≡ false → ⊥
 true-false bad = cc

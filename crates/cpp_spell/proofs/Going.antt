@@ -12,7 +12,8 @@ use Rattle.cpp_spell.specs.declared.components.Likeness.{Likeness}
 use Rattle.cpp_spell.specs.declared.task.Task.{Task}
 use Rattle.cpp_spell.specs.declared.task.Way.{Way}
 use Rattle.cpp_spell.specs.Tasks.{◌onto◌, written, in_way, ending, plain_at, press_task, press_tasks, IsTask, AreTasks, task_weight, tasks_weight}
-use Rattle.cpp_spell.specs.Places.{noted, likeness_of, ArePlaces, AreNumbers, Goes, AreOfNodes, HasFewComponents}
+use Rattle.cpp_spell.specs.Places.{noted, likeness_of, ArePlaces, AreNumbers, Goes, AreOfNodes}
+use Rattle.cpp_spell.specs.OfRead.{HasFewComponents}
 use Rattle.cpp_spell.proofs.Pushed.{tasks-push, weight-push, tasks-less}
 use Rattle.cpp_spell.proofs.Placing.{places-go}
 use Rattle.cpp_spell.proofs.Counting.{few-components}

@@ -1,9 +1,9 @@
 -- Keys of nodes, and what a map of them is behind one more.
 use Rattle.std.proofs.Common.{◌≡◌, ℕ, zero, suc, ◌+◌, ◌<◌, ◌⊎◌, inl, inr, length, List, [], ◌∷◌, ◌++◌, slice_get, get_or, Option, Some, None, Bool, true, false, refl, ap, arith, sym, subst, ◌∙◌, length-append}
-use Rattle.std.specs.Prelude.{map, ◌&&◌, nat_lt}
+use Rattle.std.specs.Prelude.{map, ◌&&◌}
 use Rattle.std.proofs.Math.Dec.{eqb}
 use lib.Pointwise.{pointwise}
-use Rattle.std.proofs.lemmas.Bool.{eqb-true, eq-eqb, ltb-true, lt-ltb}
+use Rattle.std.proofs.lemmas.Bool.{eqb-true, eq-eqb}
 use Rattle.sym_core.specs.declared.Span.{Span}
 use Rattle.cpp_grammar.specs.Term.{Term}
 use Rattle.cpp_tree.specs.Nodes.{IsWithin}

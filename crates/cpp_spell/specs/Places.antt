@@ -1,13 +1,12 @@
 -- The components so far, as the writer knows them.
-use Rattle.std.specs.Prelude.{◌≡◌, ℕ, ◌+◌, ◌<◌, ◌≤◌, List, [], ◌∷◌, ◌++◌, length, Bool, cond, ◌&&◌, nat_eq, Option, Some, None, get_or}
+use Rattle.std.specs.Prelude.{◌≡◌, ℕ, ◌+◌, ◌<◌, List, [], ◌∷◌, ◌++◌, length, Bool, cond, ◌&&◌, nat_eq, Option, Some, None, get_or}
 use Rattle.cpp_grammar.specs.Term.{Term}
 use Rattle.cpp_grammar.specs.Scope.{is_open}
 use Rattle.cpp_grammar.specs.Values.{Candidate}
-use Rattle.cpp_layout.specs.Layout.{ReadSymbol, whole_of}
+use Rattle.cpp_layout.specs.Layout.{ReadSymbol}
 use Rattle.cpp_press.specs.Components.{first_equal}
 use Rattle.cpp_press.specs.Pressing.{pressed}
 use Rattle.cpp_press.specs.Apart.{spelled_components}
-use Rattle.cpp_press.specs.Repeated.{repeated_components}
 use Rattle.cpp_spell.specs.declared.components.Likeness.{Likeness}
 use Rattle.cpp_spell.specs.declared.task.Task.{Task}
 use Rattle.cpp_spell.specs.Tasks.{plain_at, press_tasks, AreTasks}
@@ -38,10 +37,6 @@ pub record AreNumbers (y : ReadSymbol) (numbers : List ℕ) : Type 0 where
 abbrev pub AreOfNodes : ReadSymbol → List Candidate → Type 0
 AreOfNodes y [] = Unit {0}
 AreOfNodes y (c ∷ cs) = ((node : ℕ) × (node < length y.table.nodes) × (plain_at y node ≡ c.tree)) × AreOfNodes y cs
-
--- The components that are spelled out are at most as many as the nodes, apart from those whose tree is spelled out again.
-abbrev pub HasFewComponents : ReadSymbol → Type 0
-HasFewComponents y = length (spelled_components (whole_of y)) ≤ length y.table.nodes + length (repeated_components (whole_of y))
 
 -- What is written, and what the tasks will write, is the pressed spelling of a tree, and so are the components so far and those of the
 -- tasks.

@@ -8,7 +8,8 @@ ghost use Rattle.cpp_tree.specs.Nodes.{IsTable};
 ghost use Rattle.cpp_layout.specs.Layout.{table_of, whole_of};
 ghost use Rattle.cpp_press.specs.Pressing.{pressed};
 ghost use Rattle.cpp_spell.specs.Tasks.{plain_at};
-ghost use Rattle.cpp_spell.specs.Places.{like, likeness_of, AreNumbers, HasFewComponents};
+ghost use Rattle.cpp_spell.specs.Places.{like, likeness_of, AreNumbers};
+ghost use Rattle.cpp_spell.specs.OfRead.{HasFewComponents};
 ghost use Rattle.cpp_spell.specs.Standings.{standing_of, template_standing_of};
 
 use crate::components::{Components, Likeness};
