@@ -68,6 +68,7 @@ impl Symbol {
         ensures nodes_bound { result.nodes ≤ 2 * length self.now.bytes + 8 }
         ensures steps_bound { result.steps ≤ 32 * length self.now.bytes + 48 }
         ensures counted { result.rows ≤ result.steps }
+        ensures is_read { IsRead self.now }
     {
         Counts {
             rows: self.rows,

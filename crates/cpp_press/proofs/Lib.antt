@@ -6,6 +6,7 @@ pub mod Growing
 pub mod ApartTrees
 pub mod Covering
 pub mod CoveredTrees
+pub mod RepeatedReasons
 pub mod Tokens
 pub mod Reading
 pub mod ReadingReferences

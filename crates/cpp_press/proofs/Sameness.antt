@@ -2,13 +2,10 @@
 use Rattle.std.specs.Prelude.{◌≡◌, ℕ, List, [], ◌∷◌, Bool, true, false, ◌&&◌, refl, Option, Some, None}
 use Rattle.std.proofs.Common.{ap, sym}
 use Rattle.std.proofs.lemmas.Bool.{eqb-true, eq-eqb}
+use Rattle.sym_spell.proofs.Tests.{both, all}
 use Rattle.cpp_grammar.specs.Texts.{same_bytes}
 use Rattle.cpp_grammar.specs.Term.{Qualifiers, RefQualifier, any_value, lvalue_only, rvalue_only, Signed, Adjustment, non_virtual, by_table, Thunk, adjusting, covariant, Term, symbol, function, object, special, thunk, guard, alone, in_std, within, instance, local, abbreviation, parameter, source, operator, literal_operator, constructor, destructor, lambda, unnamed, string_literal, builtin, vendor, pointer, lvalue, rvalue, array, member_pointer, function_type, qualified, vector, complex, expansion, integer, boolean, null_pointer, encoding_literal, address_of, pack, nil, list, absent}
 use Rattle.cpp_press.specs.Same.{same_truth, same_qualifiers, same_mark, same_signed, same_adjustment, same_thunk, same_discriminator, same_tree}
-
-both : {a b : Bool} → a && b ≡ true → (a ≡ true) × (b ≡ true)
-both {a = true} {b} h = (refl, h)
-both {a = false} {b} h = cc
 
 never : false ≡ true → ⊥
 never h = cc
@@ -18,9 +15,6 @@ both_3 h = ((both (both h).0).0, (both (both h).0).1, (both h).1)
 
 both_5 : {a b c d e : Bool} → a && b && c && d && e ≡ true → (a ≡ true) × (b ≡ true) × (c ≡ true) × (d ≡ true) × (e ≡ true)
 both_5 h = let p = both_3 (both (both h).0).0 in (p.0, p.1, p.2, (both (both h).0).1, (both h).1)
-
-all : {a b : Bool} → a ≡ true → b ≡ true → a && b ≡ true
-all {a} {b} h k = rw (h, k) refl
 
 pub equal-bytes : (xs ys : List ℕ) → same_bytes xs ys ≡ true → xs ≡ ys
 unfolding same_bytes

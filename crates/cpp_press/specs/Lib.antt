@@ -3,4 +3,5 @@ pub mod Texts
 pub mod Components
 pub mod Pressing
 pub mod Apart
+pub mod Repeated
 pub mod PressLaws

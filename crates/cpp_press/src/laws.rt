@@ -2,6 +2,7 @@
 ghost use Rattle.std.specs.Prelude.{◌≡◌, true};
 ghost use Rattle.cpp_grammar.specs.Term.{Term};
 ghost use Rattle.cpp_press.specs.Apart.{ComponentsAreApart};
+ghost use Rattle.cpp_press.specs.Repeated.{RepeatedComponentsHaveReasons};
 ghost use Rattle.cpp_press.specs.Same.{same_tree};
 
 /// Pressing takes two trees for the same where they are equal, and nowhere else: no mark, number, name or discriminator is left
@@ -15,4 +16,10 @@ pub fn trees_are_compared()
 /// its own encoding, and a template name with none before it where no reference can stand.
 pub fn components_are_apart()
     ensures { ComponentsAreApart }
+{}
+
+/// A component whose tree is spelled out already, in whatever encoding, has free parameters or is a template name that stands
+/// somewhere in the symbol where no reference can.
+pub fn repeated_components_have_reasons()
+    ensures { RepeatedComponentsHaveReasons }
 {}

@@ -1,7 +1,7 @@
 //! C++ symbols spelled again with each repeated part as a reference, so that symbols of one thing have the same bytes. Here is what
-//! their pressed spelling is; nothing writes it yet.
+//! their pressed spelling is, and what holds of it; `cpp_spell` writes it.
 #![tactic(auto)]
 
 mod laws;
 
-pub use laws::{components_are_apart, trees_are_compared};
+pub use laws::{components_are_apart, repeated_components_have_reasons, trees_are_compared};

@@ -7,7 +7,7 @@ mod Placing
 mod Standing
 mod Weighing
 mod Templates
+mod Counting
 mod Going
-mod Entering
 mod Numbered
 mod Rebuilding

@@ -1,9 +1,9 @@
 -- Keys of nodes, and what a map of them is behind one more.
 use Rattle.std.proofs.Common.{◌≡◌, ℕ, zero, suc, ◌+◌, ◌<◌, ◌⊎◌, inl, inr, length, List, [], ◌∷◌, ◌++◌, slice_get, get_or, Option, Some, None, Bool, true, false, refl, ap, arith, sym, subst, ◌∙◌, length-append}
-use Rattle.std.specs.Prelude.{map, ◌&&◌, nat_lt}
+use Rattle.std.specs.Prelude.{map, ◌&&◌}
 use Rattle.std.proofs.Math.Dec.{eqb}
 use lib.Pointwise.{pointwise}
-use Rattle.std.proofs.lemmas.Bool.{eqb-true, eq-eqb, ltb-true, lt-ltb}
+use Rattle.std.proofs.lemmas.Bool.{eqb-true, eq-eqb}
 use Rattle.sym_core.specs.declared.Span.{Span}
 use Rattle.cpp_grammar.specs.Term.{Term}
 use Rattle.cpp_tree.specs.Nodes.{IsWithin}
@@ -12,7 +12,8 @@ use Rattle.cpp_spell.specs.declared.numbering.Key.{Key}
 use Rattle.cpp_spell.specs.Tasks.{plain_at}
 use Rattle.cpp_spell.specs.Fields.{Fields, fields_of, tree_of_fields, slot, AreWithin, IsSlotBelow, AreSlotsBelow}
 use Rattle.cpp_spell.specs.Numbers.{AreBelow, IsKeyOf, IsPartNumber, IsFilled, part_number}
-use Rattle.cpp_spell.proofs.Entering.{IsTest, Enters, one-place}
+use Rattle.sym_spell.proofs.Entering.{last-or, old-number, new-number, IsTest, one-place, Enters}
+use Rattle.sym_spell.proofs.Tests.{both, all, same-list, list-itself}
 
 -- ## Four texts and three parts
 
@@ -51,24 +52,6 @@ part-is y ns (Some p) m low is = (p, low, refl, is)
 
 true-false : true ≡ false → ⊥
 true-false bad = cc
-
-last-or : (i k : ℕ) → i < suc k → (i < k) ⊎ (i ≡ k)
-last-or i k low = go (nat_lt i k) refl
-  where
-    go : (b : Bool) → nat_lt i k ≡ b → (i < k) ⊎ (i ≡ k)
-    go true is = inl (ltb-true i k is)
-    go false is =
-        let not-below : i < k → ⊥ = λ less. true-false (sym (lt-ltb i k less) ∙ is) in
-        inr (omega (arith, low, not-below))
-
-old-number : (ns : List ℕ) (n i : ℕ) → i < length ns → get_or (ns ++ n ∷ []) i 0 ≡ get_or ns i 0
-old-number [] n i low = absurd (omega (arith, low))
-old-number (m ∷ ns) n zero low = refl
-old-number (m ∷ ns) n (suc i) low = old-number ns n i (omega (arith, low))
-
-new-number : (ns : List ℕ) (n : ℕ) → get_or (ns ++ n ∷ []) (length ns) 0 ≡ n
-new-number [] n = refl
-new-number (m ∷ ns) n = new-number ns n
 
 stored-below : {A : Type 0} (ks : List A) (m : ℕ) (k : A) → slice_get ks m ≡ Some k → m < length ks
 stored-below [] m k is = none-some is
@@ -306,47 +289,16 @@ key_eq a b =
     && (pointwise eqb a.second_text.now b.second_text.now && (pointwise eqb a.third_text.now b.third_text.now
     && (pointwise eqb a.fourth_text.now b.fourth_text.now && (eqb a.first_part b.first_part && (eqb a.second_part b.second_part && eqb a.third_part b.third_part)))))))
 
-both : (a b : Bool) → a && b ≡ true → (a ≡ true) × (b ≡ true)
-both true b h = (refl, h)
-both false b h = cc
-
-together : (a b : Bool) → a ≡ true → b ≡ true → a && b ≡ true
-together a b h k = rw (h, k) refl
-
-same-list : (xs ys : List ℕ) → pointwise eqb xs ys ≡ true → xs ≡ ys
-same-list [] [] h = refl
-same-list [] (y ∷ ys) h = cc
-same-list (x ∷ xs) [] h = cc
-same-list (x ∷ xs) (y ∷ ys) h =
-    let split : (eqb x y ≡ true) × (pointwise eqb xs ys ≡ true) = both (eqb x y) (pointwise eqb xs ys) h in
-    rw (eqb-true x y split.0, same-list xs ys split.1) refl
-
-list-itself : (xs ys : List ℕ) → xs ≡ ys → pointwise eqb xs ys ≡ true
-list-itself xs ys h = subst (λ l. pointwise eqb xs l ≡ true) h (itself xs)
-  where
-    itself : (zs : List ℕ) → pointwise eqb zs zs ≡ true
-    itself [] = refl
-    itself (z ∷ zs) = together (eqb z z) (pointwise eqb zs zs) (eq-eqb z z refl) (itself zs)
-
 test-one : (a b : Key) → key_eq a b ≡ true → AreOne a b
 test-one a b h =
-    let n = pointwise eqb a.numbers b.numbers in
-    let p = eqb a.production b.production in
-    let t = pointwise eqb a.first_text.now b.first_text.now in
-    let u = pointwise eqb a.second_text.now b.second_text.now in
-    let v = pointwise eqb a.third_text.now b.third_text.now in
-    let w = pointwise eqb a.fourth_text.now b.fourth_text.now in
-    let x = eqb a.first_part b.first_part in
-    let y = eqb a.second_part b.second_part in
-    let z = eqb a.third_part b.third_part in
-    let h1 = both p (n && (t && (u && (v && (w && (x && (y && z))))))) h in
-    let h2 = both n (t && (u && (v && (w && (x && (y && z)))))) h1.1 in
-    let h3 = both t (u && (v && (w && (x && (y && z))))) h2.1 in
-    let h4 = both u (v && (w && (x && (y && z)))) h3.1 in
-    let h5 = both v (w && (x && (y && z))) h4.1 in
-    let h6 = both w (x && (y && z)) h5.1 in
-    let h7 = both x (y && z) h6.1 in
-    let h8 = both y z h7.1 in
+    let h1 = both h in
+    let h2 = both h1.1 in
+    let h3 = both h2.1 in
+    let h4 = both h3.1 in
+    let h5 = both h4.1 in
+    let h6 = both h5.1 in
+    let h7 = both h6.1 in
+    let h8 = both h7.1 in
     record {
       production = eqb-true a.production b.production h1.0;
       own_numbers = same-list a.numbers b.numbers h2.0;
@@ -361,21 +313,14 @@ test-one a b h =
 
 test-passed : (a b : Key) → AreOne a b → key_eq a b ≡ true
 test-passed a b h =
-    let t = pointwise eqb a.first_text.now b.first_text.now in
-    let u = pointwise eqb a.second_text.now b.second_text.now in
-    let v = pointwise eqb a.third_text.now b.third_text.now in
-    let w = pointwise eqb a.fourth_text.now b.fourth_text.now in
-    let x = eqb a.first_part b.first_part in
-    let y = eqb a.second_part b.second_part in
-    let z = eqb a.third_part b.third_part in
-    together (eqb a.production b.production) (pointwise eqb a.numbers b.numbers && (t && (u && (v && (w && (x && (y && z))))))) (eq-eqb a.production b.production h.production)
-    (together (pointwise eqb a.numbers b.numbers) (t && (u && (v && (w && (x && (y && z)))))) (list-itself a.numbers b.numbers h.own_numbers)
-    (together t (u && (v && (w && (x && (y && z))))) (list-itself a.first_text.now b.first_text.now h.first_text)
-    (together u (v && (w && (x && (y && z)))) (list-itself a.second_text.now b.second_text.now h.second_text)
-    (together v (w && (x && (y && z))) (list-itself a.third_text.now b.third_text.now h.third_text)
-    (together w (x && (y && z)) (list-itself a.fourth_text.now b.fourth_text.now h.fourth_text)
-    (together x (y && z) (eq-eqb a.first_part b.first_part h.first_part)
-    (together y z (eq-eqb a.second_part b.second_part h.second_part) (eq-eqb a.third_part b.third_part h.third_part))))))))
+    all (eq-eqb a.production b.production h.production)
+    (all (list-itself a.numbers b.numbers h.own_numbers)
+    (all (list-itself a.first_text.now b.first_text.now h.first_text)
+    (all (list-itself a.second_text.now b.second_text.now h.second_text)
+    (all (list-itself a.third_text.now b.third_text.now h.third_text)
+    (all (list-itself a.fourth_text.now b.fourth_text.now h.fourth_text)
+    (all (eq-eqb a.first_part b.first_part h.first_part)
+    (all (eq-eqb a.second_part b.second_part h.second_part) (eq-eqb a.third_part b.third_part h.third_part))))))))
 
 pub key-test : IsTest AreOne key_eq
 key-test = record { one = test-one; passed = test-passed; turned = one-turned }

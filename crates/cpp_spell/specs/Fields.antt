@@ -8,6 +8,17 @@ use Rattle.cpp_layout.specs.Layout.{ReadSymbol}
 use Rattle.cpp_spell.specs.declared.view.View.{View}
 use Rattle.cpp_spell.specs.Tasks.{plain_at}
 
+-- The numbers of productions, which tell nodes apart and stand nowhere else:
+--   0 absent, 1 nil,
+--   2 function, 3 object, 4 special, 5 guard,
+--   6 integer, 7 boolean, 8 null pointer, 9 encoding literal, 10 address, 11 pack, 12 list, 13 symbol,
+--   14 pointer, 15 lvalue, 16 rvalue, 17 complex, 18 expansion, 19 array, 20 vector, 21 member pointer, 22 qualified, 23 function type,
+--   24 alone, 25 in std, 26 within, 27 instance, 28 local without a discriminator, 29 local with one,
+--   30 abbreviation, 31 parameter, 32 builtin of one letter, 33 builtin behind D, 34 vendor,
+--   37, 38 thunks that adjust one pointer, without a table and by one,
+--   39, 40, 41, 42 those that adjust two: neither by a table, the second, the first, both.
+-- No production has 35 or 36. `tree_of_fields` is the list of them all.
+
 -- a production, its four numbers, the bytes of its four texts, and the trees of its three parts
 pub record Fields : Type 0 where
   pub production : ℕ
@@ -135,7 +146,7 @@ fields_of (builtin (d ∷ letter ∷ [])) = told 33 (letter ∷ 0 ∷ 0 ∷ 0 �
 fields_of (vendor name) = told 34 (0 ∷ 0 ∷ 0 ∷ 0 ∷ []) name (None ∷ None ∷ None ∷ [])
 fields_of _ = told 0 (0 ∷ 0 ∷ 0 ∷ 0 ∷ []) [] (None ∷ None ∷ None ∷ [])
 
--- ## The tree of fields
+-- ## The tree of fields, by its production
 
 abbrev number : Fields → ℕ → ℕ
 number f k = get_or f.numbers k 0

@@ -3,6 +3,7 @@ pub mod Weight
 pub mod Tasks
 pub mod Spelled
 pub mod Places
+pub mod OfRead
 pub mod Standings
 pub mod Fields
 pub mod Numbers

@@ -1,9 +1,12 @@
 -- The components so far, as the writer knows them.
-use Rattle.std.specs.Prelude.{◌≡◌, ℕ, ◌<◌, List, ◌++◌, length, Bool, cond, ◌&&◌, nat_eq, Option, Some, None, get_or}
+use Rattle.std.specs.Prelude.{◌≡◌, ℕ, ◌+◌, ◌<◌, List, [], ◌∷◌, ◌++◌, length, Bool, cond, ◌&&◌, nat_eq, Option, Some, None, get_or}
+use Rattle.cpp_grammar.specs.Term.{Term}
 use Rattle.cpp_grammar.specs.Scope.{is_open}
 use Rattle.cpp_grammar.specs.Values.{Candidate}
 use Rattle.cpp_layout.specs.Layout.{ReadSymbol}
 use Rattle.cpp_press.specs.Components.{first_equal}
+use Rattle.cpp_press.specs.Pressing.{pressed}
+use Rattle.cpp_press.specs.Apart.{spelled_components}
 use Rattle.cpp_spell.specs.declared.components.Likeness.{Likeness}
 use Rattle.cpp_spell.specs.declared.task.Task.{Task}
 use Rattle.cpp_spell.specs.Tasks.{plain_at, press_tasks, AreTasks}
@@ -30,10 +33,18 @@ pub record AreNumbers (y : ReadSymbol) (numbers : List ℕ) : Type 0 where
   pub same : (i j : ℕ) → i < length numbers → j < length numbers → get_or numbers i 0 ≡ get_or numbers j 0 → plain_at y i ≡ plain_at y j
   pub equal : (i j : ℕ) → i < length numbers → j < length numbers → plain_at y i ≡ plain_at y j → get_or numbers i 0 ≡ get_or numbers j 0
 
--- What is written, and what the tasks will write, is the whole.
-pub record Goes (y : ReadSymbol) (numbers : List ℕ) (whole : List ℕ) (first : Likeness → Option ℕ) (count : ℕ) (tasks : List Task) (out : List ℕ) : Type 0 where
+-- Each component is the tree of a node.
+abbrev pub AreOfNodes : ReadSymbol → List Candidate → Type 0
+AreOfNodes y [] = Unit {0}
+AreOfNodes y (c ∷ cs) = ((node : ℕ) × (node < length y.table.nodes) × (plain_at y node ≡ c.tree)) × AreOfNodes y cs
+
+-- What is written, and what the tasks will write, is the pressed spelling of a tree, and so are the components so far and those of the
+-- tasks.
+pub record Goes (y : ReadSymbol) (numbers : List ℕ) (whole : Term) (first : Likeness → Option ℕ) (count : ℕ) (tasks : List Task) (out : List ℕ) : Type 0 where
   pub components : List Candidate
   pub places : ArePlaces y numbers first components
   pub counted : count ≡ length components
   pub tasks_are : AreTasks y tasks
-  pub bytes : out ++ (press_tasks y tasks (length out) components).bytes ≡ whole
+  pub bytes : out ++ (press_tasks y tasks (length out) components).bytes ≡ pressed whole
+  pub spelled : (press_tasks y tasks (length out) components).components ≡ spelled_components whole
+  pub own : AreOfNodes y components

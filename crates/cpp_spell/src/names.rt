@@ -6,7 +6,7 @@ ghost use Rattle.sym_core.specs.declared.Refusal.TheVariants.{Memory};
 ghost use Rattle.cpp_press.specs.Texts.{ordinal};
 ghost use Rattle.cpp_press.specs.Pressing.{is_operator, is_encoding, is_one_piece};
 ghost use Rattle.cpp_tree.specs.Nodes.{qualifiers_of, mark_of, discriminator_of, IsSpan, IsTable};
-ghost use Rattle.cpp_layout.specs.Layout.{table_of};
+ghost use Rattle.cpp_layout.specs.Layout.{ReadSymbol, table_of};
 ghost use Rattle.cpp_spell.specs.Bytes.{text_bytes, IsThere};
 ghost use Rattle.cpp_spell.specs.Weight.{weight};
 ghost use Rattle.cpp_spell.specs.Tasks.{◌onto◌, written, in_way, plain_at, node_tree, piece_tree, IsMade, IsPieceMade, press_tasks, AreTasks, tasks_weight};
@@ -22,8 +22,8 @@ use sym_core::{Refusal, Span};
 
 /// Whether a piece of a name is an operator.
 #[tactic(auto, unfolding(cpp_press::specs::Pressing::is_operator, cpp_term::specs::Erased::erase, cpp_tree::specs::Nodes::piece_of))]
-pub fn is_operator(symbol: &Symbol, piece: Piece) -> bool
-    ensures { result ≡ is_operator (piece_tree symbol.now piece) }
+pub fn is_operator(piece: Piece) -> bool
+    ensures { (y : ReadSymbol) → result ≡ is_operator (piece_tree y piece) }
 {
     match piece {
         Piece::Operator(_, _) => true,
@@ -34,8 +34,8 @@ pub fn is_operator(symbol: &Symbol, piece: Piece) -> bool
 
 /// Whether a node is an encoding.
 #[tactic(auto, unfolding(cpp_press::specs::Pressing::is_encoding, cpp_term::specs::Erased::erase, cpp_tree::specs::Nodes::tree_of))]
-fn is_encoding(symbol: &Symbol, node: Node) -> bool
-    ensures { result ≡ is_encoding (node_tree symbol.now node) }
+fn is_encoding(node: Node) -> bool
+    ensures { (y : ReadSymbol) → result ≡ is_encoding (node_tree y node) }
 {
     match node {
         Node::Function { .. } => true,
@@ -55,7 +55,7 @@ fn is_piece_behind(symbol: &Symbol, name: u32) -> bool
     ensures { result ≡ is_piece_behind (plain_at symbol.now name) }
 {
     match symbol.node(name) {
-        Node::Within { prefix, .. } => is_encoding(symbol, symbol.node(prefix)),
+        Node::Within { prefix, .. } => is_encoding(symbol.node(prefix)),
         _ => false,
     }
 }
@@ -85,7 +85,7 @@ fn then_lambda(
     requires parameters { parameters < length symbol.now.table.nodes }
     requires tasks { AreTasks symbol.now tasks.old.items }
     ensures presses { OnOk result (press_tasks symbol.now tasks.new.items ≡ written (codes "Ul") onto in_way encoding Way.Parameters (plain_at symbol.now parameters) onto written (codes "E" ++ ordinal (number - 1)) onto press_tasks symbol.now tasks.old.items) }
-    ensures weight { OnOk result (tasks_weight symbol.now tasks.new.items + 0 ≡ 2 + weight (plain_at symbol.now parameters) + tasks_weight symbol.now tasks.old.items) }
+    ensures weight { OnOk result (tasks_weight symbol.now tasks.new.items ≡ 2 + weight (plain_at symbol.now parameters) + tasks_weight symbol.now tasks.old.items) }
     ensures tasks { OnOk result (AreTasks symbol.now tasks.new.items) }
     ensures memory { IfErr result (λ e. e ≡ Memory) }
 {
@@ -317,7 +317,7 @@ fn then_lettered(
     requires name { name < length symbol.now.table.nodes }
     requires tasks { AreTasks symbol.now tasks.old.items }
     ensures presses { OnOk result (press_tasks symbol.now tasks.new.items ≡ lettered_onto encoding (text_bytes symbol.now letters) (plain_at symbol.now name) (press_tasks symbol.now tasks.old.items)) }
-    ensures weight { OnOk result (tasks_weight symbol.now tasks.new.items + 0 ≡ 2 + weight (plain_at symbol.now name) + tasks_weight symbol.now tasks.old.items) }
+    ensures weight { OnOk result (tasks_weight symbol.now tasks.new.items ≡ 2 + weight (plain_at symbol.now name) + tasks_weight symbol.now tasks.old.items) }
     ensures tasks { OnOk result (AreTasks symbol.now tasks.new.items) }
     ensures memory { IfErr result (λ e. e ≡ Memory) }
 {
@@ -363,8 +363,8 @@ pub fn then_local(
 
 /// Whether a node is a name that isn't local.
 #[tactic(auto, unfolding(crate::specs::Spelled::is_name, cpp_term::specs::Erased::erase, cpp_tree::specs::Nodes::tree_of))]
-pub fn is_name(symbol: &Symbol, node: Node) -> bool
-    ensures { result ≡ is_name (node_tree symbol.now node) }
+pub fn is_name(node: Node) -> bool
+    ensures { (y : ReadSymbol) → result ≡ is_name (node_tree y node) }
 {
     match node {
         Node::Alone(_) => true,
@@ -409,7 +409,7 @@ pub fn then_name(
             encoding,
             tasks,
         )?;
-    } else if is_name(symbol, node) && has_letters(qualifiers, mark) {
+    } else if is_name(node) && has_letters(qualifiers, mark) {
         then_lettered(
             symbol,
             Text::Letters(qualifiers, mark),

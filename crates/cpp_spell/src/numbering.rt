@@ -90,7 +90,6 @@ impl Numbering {
     ///
     /// `Memory` alone.
     pub fn cpp(alloc: Global, symbol: &Symbol) -> Result<Numbering, Refusal>
-        requires table { IsTable (table_of symbol.now) }
         ensures numbers { IfOk result (AreNumbers symbol.now) }
         ensures memory { IfErr result (λ e. e ≡ Memory) }
     {

@@ -1,16 +1,15 @@
 // A C++ symbol spelled again, each repeated component a reference to the first one.
 #![tactic(auto)]
 
-ghost use Rattle.std.specs.Prelude.{◌≡◌, ℕ, ◌<◌, List, length, IfOk, IfErr};
+ghost use Rattle.std.specs.Prelude.{◌≡◌, ◌<◌, length, IfOk, IfErr};
 ghost use Rattle.sym_core.specs.declared.Refusal.TheVariants.{Memory};
 ghost use Rattle.indexmap.specs.IndexMap.{get};
-ghost use Rattle.cpp_grammar.specs.Values.{Candidate};
 ghost use Rattle.cpp_tree.specs.Nodes.{IsTable};
 ghost use Rattle.cpp_layout.specs.Layout.{table_of, whole_of};
-ghost use Rattle.cpp_press.specs.Components.{first_equal};
 ghost use Rattle.cpp_press.specs.Pressing.{pressed};
 ghost use Rattle.cpp_spell.specs.Tasks.{plain_at};
-ghost use Rattle.cpp_spell.specs.Places.{like, likeness_of, ArePlaces, AreNumbers};
+ghost use Rattle.cpp_spell.specs.Places.{like, likeness_of, AreNumbers};
+ghost use Rattle.cpp_spell.specs.OfRead.{HasFewComponents};
 ghost use Rattle.cpp_spell.specs.Standings.{standing_of, template_standing_of};
 
 use crate::components::{Components, Likeness};
@@ -57,7 +56,7 @@ fn standing_of(
     requires number { node < length numbering.now }
     ensures { result ≡ standing_of way (plain_at symbol.now node) (get like components.now.first (likeness_of symbol.now numbering.now node encoding)) }
 {
-    if is_compared(symbol, way, symbol.node(node)) {
+    if is_compared(way, symbol.node(node)) {
         compared(components.first(likeness_of(symbol, numbering, node, encoding)))
     } else {
         Standing::Apart
@@ -77,7 +76,7 @@ fn template_standing_of(
     requires number { name < length numbering.now }
     ensures { result ≡ template_standing_of (plain_at symbol.now name) (get like components.now.first (likeness_of symbol.now numbering.now name encoding)) }
 {
-    if is_name(symbol, symbol.node(name)) {
+    if is_name(symbol.node(name)) {
         compared(components.first(likeness_of(symbol, numbering, name, encoding)))
     } else {
         Standing::Apart
@@ -86,9 +85,9 @@ fn template_standing_of(
 
 /// The pressed spelling of a C++ symbol, by the numbers of its nodes.
 fn press_tasks(alloc: Global, symbol: &Symbol, numbering: &Numbering) -> Result<Vec<u8>, Refusal>
-    requires table { IsTable (table_of symbol.now) }
     requires numbers { AreNumbers symbol.now numbering.now }
     ensures pressed { IfOk result (λ out. out.items ≡ pressed (whole_of symbol.now)) }
+    ensures components { IfOk result (λ _. HasFewComponents symbol.now) }
     ensures memory { IfErr result (λ e. e ≡ Memory) }
 {
     let mut components = Components::new(alloc);
@@ -138,9 +137,9 @@ fn press_tasks(alloc: Global, symbol: &Symbol, numbering: &Numbering) -> Result<
 /// `Memory` alone.
 pub fn press_cpp(alloc: Global, symbol: &Symbol) -> Result<Vec<u8>, Refusal>
     ensures pressed { IfOk result (λ out. out.items ≡ pressed (whole_of symbol.now)) }
+    ensures components { IfOk result (λ _. HasFewComponents symbol.now) }
     ensures memory { IfErr result (λ e. e ≡ Memory) }
 {
-    let _root = symbol.root_node();
     let numbering = Numbering::cpp(alloc, symbol)?;
     press_tasks(alloc, symbol, &numbering)
 }

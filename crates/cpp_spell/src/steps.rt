@@ -5,7 +5,7 @@ ghost use Rattle.std.specs.Prelude.{◌≡◌, ℕ, ◌≤◌, ◌<◌, ◌+◌,
 ghost use Rattle.sym_core.specs.declared.Refusal.TheVariants.{Memory};
 ghost use Rattle.cpp_grammar.specs.Values.{Candidate};
 ghost use Rattle.cpp_tree.specs.Nodes.{IsTable};
-ghost use Rattle.cpp_layout.specs.Layout.{table_of};
+ghost use Rattle.cpp_layout.specs.Layout.{ReadSymbol, table_of};
 ghost use Rattle.cpp_press.specs.Components.{first_equal};
 ghost use Rattle.cpp_spell.specs.Weight.{weight};
 ghost use Rattle.cpp_spell.specs.Tasks.{◌onto◌, in_way, before, plain_at, node_tree, press_tasks, AreTasks, way_weight, tasks_weight};
@@ -73,11 +73,11 @@ pub fn step_tree(
 
 /// Whether a template name that is spelled out needs an N.
 #[tactic(auto, unfolding(crate::specs::Standings::needs_N, cpp_term::specs::Erased::erase, cpp_tree::specs::Nodes::tree_of))]
-fn needs_n(symbol: &Symbol, node: Node, in_type: bool) -> bool
-    ensures { result ≡ needs_N in_type (node_tree symbol.now node) }
+fn needs_n(node: Node, in_type: bool) -> bool
+    ensures { (y : ReadSymbol) → result ≡ needs_N in_type (node_tree y node) }
 {
     match node {
-        Node::InStd(piece) => in_type && is_operator(symbol, piece),
+        Node::InStd(piece) => in_type && is_operator(piece),
         Node::Within { .. } => true,
         _ => false,
     }
@@ -102,7 +102,7 @@ fn then_template_out(
     ensures tasks { OnOk result (AreTasks symbol.now tasks.new.items) }
     ensures memory { IfErr result (λ e. e ≡ Memory) }
 {
-    if needs_n(symbol, symbol.node(name), in_type) {
+    if needs_n(symbol.node(name), in_type) {
         then_fixed(symbol, b"E", tasks)?;
         then_between_arguments(symbol, name, arguments, encoding, tasks)?;
         then_fixed(symbol, b"N", tasks)?;
@@ -132,7 +132,7 @@ fn then_between_arguments(
 {
     then_arguments(symbol, arguments, encoding, tasks)?;
     then_ended(symbol, name, encoding, tasks)?;
-    if !is_instance(symbol, symbol.node(name)) {
+    if !is_instance(symbol.node(name)) {
         then_tree(symbol, name, Way::Between, encoding, tasks)?;
     }
     Ok(())
@@ -140,8 +140,8 @@ fn then_between_arguments(
 
 /// Whether a name ends in arguments.
 #[tactic(auto, unfolding(crate::specs::Standings::is_instance, cpp_term::specs::Erased::erase, cpp_tree::specs::Nodes::tree_of))]
-fn is_instance(symbol: &Symbol, node: Node) -> bool
-    ensures { result ≡ is_instance (node_tree symbol.now node) }
+fn is_instance(node: Node) -> bool
+    ensures { (y : ReadSymbol) → result ≡ is_instance (node_tree y node) }
 {
     match node {
         Node::Instance { .. } => true,

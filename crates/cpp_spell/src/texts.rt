@@ -5,7 +5,7 @@ ghost use Rattle.std.specs.Prelude.{◌≡◌, ◌++◌, ◌∷◌, [], cond, co
 ghost use Rattle.sym_core.specs.declared.Refusal.TheVariants.{Memory};
 ghost use Rattle.cpp_press.specs.Texts.{ordinal, counted, signed_text, qualifier_letters, mark_letter, name_letters, offset_text, thunk_text, discriminator_text};
 ghost use Rattle.cpp_press.specs.Components.{seq_id};
-ghost use Rattle.cpp_tree.specs.Nodes.{bytes_at, signed_of, qualifiers_of, mark_of, adjustment_of, thunk_of, discriminator_of, IsSpan, IsWithin, IsAdjustmentWithin, IsTable};
+ghost use Rattle.cpp_tree.specs.Nodes.{signed_of, qualifiers_of, mark_of, adjustment_of, thunk_of, discriminator_of, IsSpan, IsWithin, IsAdjustmentWithin, IsTable};
 ghost use Rattle.cpp_layout.specs.Layout.{table_of};
 ghost use Rattle.cpp_spell.specs.Bytes.{text_bytes, IsThere, IsKnownThunk};
 

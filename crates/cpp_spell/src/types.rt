@@ -5,7 +5,7 @@ ghost use Rattle.std.specs.Prelude.{◌≡◌, ◌≤◌, ◌<◌, ◌+◌, ◌+
 ghost use Rattle.sym_core.specs.declared.Refusal.TheVariants.{Memory};
 ghost use Rattle.cpp_press.specs.Texts.{mark_letter};
 ghost use Rattle.cpp_tree.specs.Nodes.{mark_of, IsTable};
-ghost use Rattle.cpp_layout.specs.Layout.{table_of};
+ghost use Rattle.cpp_layout.specs.Layout.{ReadSymbol, table_of};
 ghost use Rattle.cpp_spell.specs.Bytes.{text_bytes, IsThere};
 ghost use Rattle.cpp_spell.specs.Weight.{weight};
 ghost use Rattle.cpp_spell.specs.Tasks.{◌onto◌, written, in_way, plain_at, node_tree, IsMade, press_tasks, AreTasks, way_weight, tasks_weight};
@@ -23,8 +23,8 @@ use sym_core::Refusal;
 
 /// Whether a type is compared with others: each that has more than letters is.
 #[tactic(auto, unfolding(crate::specs::Spelled::is_component, cpp_term::specs::Erased::erase, cpp_tree::specs::Nodes::tree_of))]
-pub fn is_component(symbol: &Symbol, node: Node) -> bool
-    ensures { result ≡ is_component (node_tree symbol.now node) }
+fn is_component(node: Node) -> bool
+    ensures { (y : ReadSymbol) → result ≡ is_component (node_tree y node) }
 {
     match node {
         Node::Alone(_) => true,
@@ -50,16 +50,16 @@ pub fn is_component(symbol: &Symbol, node: Node) -> bool
 
 /// Whether a tree is compared with others where it stands. A function type right under qualifiers isn't.
 #[tactic(auto, unfolding(crate::specs::Spelled::is_component, crate::specs::Spelled::is_function_type, cpp_term::specs::Erased::erase, cpp_tree::specs::Nodes::tree_of))]
-pub fn is_compared(symbol: &Symbol, way: Way, node: Node) -> bool
-    ensures { result ≡ is_compared way (node_tree symbol.now node) }
+pub fn is_compared(way: Way, node: Node) -> bool
+    ensures { (y : ReadSymbol) → result ≡ is_compared way (node_tree y node) }
 {
     match way {
-        Way::Type => is_component(symbol, node),
-        Way::Prefix => is_component(symbol, node),
-        Way::Argument => is_component(symbol, node),
+        Way::Type => is_component(node),
+        Way::Prefix => is_component(node),
+        Way::Argument => is_component(node),
         Way::UnderQualifiers => match node {
             Node::FunctionType { .. } => false,
-            _ => is_component(symbol, node),
+            _ => is_component(node),
         },
         _ => false,
     }
@@ -76,7 +76,7 @@ fn then_behind(
     requires ty { ty < length symbol.now.table.nodes }
     requires tasks { AreTasks symbol.now tasks.old.items }
     ensures presses { OnOk result (press_tasks symbol.now tasks.new.items ≡ written letters.now onto in_way encoding Way.Type (plain_at symbol.now ty) onto press_tasks symbol.now tasks.old.items) }
-    ensures weight { OnOk result (tasks_weight symbol.now tasks.new.items + 0 ≡ 1 + weight (plain_at symbol.now ty) + tasks_weight symbol.now tasks.old.items) }
+    ensures weight { OnOk result (tasks_weight symbol.now tasks.new.items ≡ 1 + weight (plain_at symbol.now ty) + tasks_weight symbol.now tasks.old.items) }
     ensures tasks { OnOk result (AreTasks symbol.now tasks.new.items) }
     ensures memory { IfErr result (λ e. e ≡ Memory) }
 {
@@ -101,7 +101,7 @@ fn then_function_type(
     requires parameters { parameters < length symbol.now.table.nodes }
     requires tasks { AreTasks symbol.now tasks.old.items }
     ensures presses { OnOk result (press_tasks symbol.now tasks.new.items ≡ written (text_bytes symbol.now first) onto in_way encoding Way.Type (plain_at symbol.now returned) onto in_way encoding Way.Parameters (plain_at symbol.now parameters) onto written (mark_letter (mark_of mark) ++ codes "E") onto press_tasks symbol.now tasks.old.items) }
-    ensures weight { OnOk result (tasks_weight symbol.now tasks.new.items + 0 ≡ 2 + weight (plain_at symbol.now returned) + weight (plain_at symbol.now parameters) + tasks_weight symbol.now tasks.old.items) }
+    ensures weight { OnOk result (tasks_weight symbol.now tasks.new.items ≡ 2 + weight (plain_at symbol.now returned) + weight (plain_at symbol.now parameters) + tasks_weight symbol.now tasks.old.items) }
     ensures tasks { OnOk result (AreTasks symbol.now tasks.new.items) }
     ensures memory { IfErr result (λ e. e ≡ Memory) }
 {
@@ -186,7 +186,7 @@ fn then_class(
     match node {
         Node::Alone(piece) => then_piece(symbol, piece, encoding, tasks)?,
         Node::InStd(piece) => {
-            if is_operator(symbol, piece) {
+            if is_operator(piece) {
                 then_fixed(symbol, b"E", tasks)?;
                 then_in_std(symbol, piece, encoding, tasks)?;
                 then_fixed(symbol, b"N", tasks)?;
@@ -451,7 +451,7 @@ pub fn then_spelled(
         Way::Type => then_type(symbol, is, encoding, tasks)?,
         Way::UnderQualifiers => then_type(symbol, is, encoding, tasks)?,
         Way::Prefix => {
-            if is_name(symbol, is) {
+            if is_name(is) {
                 then_prefix(symbol, is, encoding, tasks)?;
             } else {
                 then_type(symbol, is, encoding, tasks)?;

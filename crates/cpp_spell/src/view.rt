@@ -1,7 +1,12 @@
 // What a node says beside its parts, in numbers and texts.
+//
+// A production has a number here, its place in the list `tree_of_fields` (`specs/Fields.antt`, which names them all): 0 is no
+// tree, 1 to 23 are lists, encodings, literals and types, 24 to 29 names, 30 to 34 types without parts, and 37 to 42 thunks.
+// What has two forms of fields has a number for each: a local name with a discriminator and without, a builtin type of one
+// letter and of two, a thunk by how each of its pointers is adjusted.
 #![tactic(auto)]
 
-ghost use Rattle.std.specs.Prelude.{◌≡◌, ℕ, List, [], ◌∷◌, length, map, Option, Some, None};
+ghost use Rattle.std.specs.Prelude.{◌≡◌, ℕ, [], ◌∷◌, length, map, Option, Some, None};
 ghost use Rattle.cpp_tree.specs.Nodes.{bytes_at, qualifiers_of, mark_of, signed_of, thunk_of, discriminator_of, IsWithin, IsSpan, IsBelow, IsPieceBelow, IsTable};
 ghost use Rattle.cpp_layout.specs.Layout.{table_of};
 ghost use Rattle.cpp_spell.specs.Bytes.{IsKnownThunk};
@@ -15,6 +20,7 @@ use sym_core::Span;
 /// What a node says: its production, numbers, texts and parts.
 #[derive(Clone, Copy)]
 pub struct View {
+    /// Its place in the list `tree_of_fields`.
     pub production: u8,
     pub numbers: [u64; 4],
     pub texts: [Span; 4],

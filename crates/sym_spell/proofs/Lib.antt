@@ -1,3 +1,5 @@
 pub mod WrittenDigits
 pub mod DigitValues
 pub mod Spellings
+pub mod Entering
+pub mod Tests

@@ -10,7 +10,8 @@ joined : {C : Type 0} (xs ys : List ℕ) (h : Pressing C) (cs : List C) (p q : �
     → ◌≡◌ {A = Pressed C} (record { bytes = (xs ++ ys) ++ (h p cs).bytes; components = (h p cs).components }) (record { bytes = xs ++ (ys ++ (h q cs).bytes); components = (h q cs).components })
 joined xs ys h cs p q same = rw (same, append_assoc xs ys (h q cs).bytes) refl
 
-and-assoc-at : {C : Type 0} (f g h : Pressing C) (place : ℕ) (cs : List C) → ((f and g) and h) place cs ≡ (f and (g and h)) place cs
+-- one behind the other, at a place
+pub and-assoc-at : {C : Type 0} (f g h : Pressing C) (place : ℕ) (cs : List C) → ((f and g) and h) place cs ≡ (f and (g and h)) place cs
 and-assoc-at f g h place cs =
     let a = f place cs in
     let b = g (place + length a.bytes) a.components in
@@ -22,14 +23,20 @@ and-assoc f g h = fun_ext (λ place. fun_ext (λ cs. and-assoc-at f g h place cs
 whole : {C : Type 0} (one : Pressed C) → ◌≡◌ {A = Pressed C} (record { bytes = one.bytes ++ []; components = one.components }) one
 whole one = rw (append-nil one.bytes) refl
 
-pub and-nothing : {C : Type 0} (f : Pressing C) → ◌≡◌ {A = Pressing C} (f and nothing) f
-and-nothing f = fun_ext (λ place. fun_ext (λ cs. whole (f place cs)))
+pub and-nothing-at : {C : Type 0} (f : Pressing C) (place : ℕ) (cs : List C) → (f and nothing) place cs ≡ f place cs
+and-nothing-at f place cs = whole (f place cs)
 
-nothing-at : {C : Type 0} (f : Pressing C) (p q : ℕ) (cs : List C) → p ≡ q → ◌≡◌ {A = Pressed C} (record { bytes = (f p cs).bytes; components = (f p cs).components }) (f q cs)
-nothing-at f p q cs same = rw same refl
+pub and-nothing : {C : Type 0} (f : Pressing C) → ◌≡◌ {A = Pressing C} (f and nothing) f
+and-nothing f = fun_ext (λ place. fun_ext (λ cs. and-nothing-at f place cs))
+
+moved : {C : Type 0} (f : Pressing C) (p q : ℕ) (cs : List C) → p ≡ q → ◌≡◌ {A = Pressed C} (record { bytes = (f p cs).bytes; components = (f p cs).components }) (f q cs)
+moved f p q cs same = rw same refl
+
+pub nothing-and-at : {C : Type 0} (f : Pressing C) (place : ℕ) (cs : List C) → (nothing and f) place cs ≡ f place cs
+nothing-and-at f place cs = moved f (place + 0) place cs (omega arith)
 
 pub nothing-and : {C : Type 0} (f : Pressing C) → ◌≡◌ {A = Pressing C} (nothing and f) f
-nothing-and f = fun_ext (λ place. fun_ext (λ cs. nothing-at f (place + 0) place cs (omega arith)))
+nothing-and f = fun_ext (λ place. fun_ext (λ cs. nothing-and-at f place cs))
 
 -- two functions that tell the same digits write the same
 pub digits-same : (base : ℕ) (f g : ℕ → ℕ) → ((n : ℕ) → n % base < base) → ((d : ℕ) → d < base → f d ≡ g d) → (most n : ℕ) → digits_in base f most n ≡ digits_in base g most n

@@ -1,14 +1,13 @@
 use Rattle.std.proofs.Common.{◌≡◌, refl, rules, length, ap, arith, sym, subst, ◌∙◌}
 use Rattle.indexmap.specs.IndexMap.{get}
 use Rattle.cpp_layout.specs.Layout.{whole_of}
-use Rattle.cpp_press.specs.Pressing.{pressed}
 use Rattle.cpp_spell.specs.declared.task.Task.{Task}
 use Rattle.cpp_spell.specs.declared.task.Way.{Way}
 use Rattle.cpp_spell.specs.Bytes.{text_bytes}
 use Rattle.cpp_spell.specs.Tasks.{◌onto◌, in_way, press_task, press_tasks, plain_at, AreTasks}
 use Rattle.cpp_spell.specs.Places.{like, noted}
 use Rattle.cpp_spell.specs.Standings.{standing_of, template_standing_of}
-use Rattle.cpp_spell.proofs.Going.{popped, task-there, weight-there, changed-goes, text-goes, ended-goes, first-goes, last-goes}
+use Rattle.cpp_spell.proofs.Going.{popped, task-there, weight-there, changed-goes, text-goes, ended-goes, first-goes, last-goes, last-few}
 use Rattle.cpp_spell.proofs.pressing.press_tasks.Goals as goal
 
 pub push_text-requires-clause-there : goal.push_text-requires-clause-there
@@ -17,7 +16,7 @@ push_text-requires-clause-there c =
     let ns = c.args.numbering.now in
     let task : Task = Task.Text c.in-Text.text in
     let top = popped c.tasks.tasks.items c.pop.new.self.items c.pop.result c.in-Some.task task c.pop.ensures.items c.in-Some.is c.in-Text.is in
-    let there = task-there y ns (pressed (whole_of y)) (get like c.tasks.components.first) c.tasks.components.count c.tasks.tasks.items c.pop.new.self.items c.tasks.out.items task c.tasks.invariant.0 top in
+    let there = task-there y ns (whole_of y) (get like c.tasks.components.first) c.tasks.components.count c.tasks.tasks.items c.pop.new.self.items c.tasks.out.items task c.tasks.invariant.0 top in
     there.0
 
 pub likeness_of-requires-clause-node : goal.likeness_of-requires-clause-node
@@ -26,7 +25,7 @@ likeness_of-requires-clause-node c =
     let ns = c.args.numbering.now in
     let task : Task = Task.Ended c.in-Ended.node c.in-Ended.encoding in
     let top = popped c.tasks.tasks.items c.pop.new.self.items c.pop.result c.in-Some.task task c.pop.ensures.items c.in-Some.is c.in-Ended.is in
-    let there = task-there y ns (pressed (whole_of y)) (get like c.tasks.components.first) c.tasks.components.count c.tasks.tasks.items c.pop.new.self.items c.tasks.out.items task c.tasks.invariant.0 top in
+    let there = task-there y ns (whole_of y) (get like c.tasks.components.first) c.tasks.components.count c.tasks.tasks.items c.pop.new.self.items c.tasks.out.items task c.tasks.invariant.0 top in
     there.0
 
 pub likeness_of-requires-clause-number : goal.likeness_of-requires-clause-number
@@ -35,7 +34,7 @@ likeness_of-requires-clause-number c =
     let ns = c.args.numbering.now in
     let task : Task = Task.Ended c.in-Ended.node c.in-Ended.encoding in
     let top = popped c.tasks.tasks.items c.pop.new.self.items c.pop.result c.in-Some.task task c.pop.ensures.items c.in-Some.is c.in-Ended.is in
-    let there = task-there y ns (pressed (whole_of y)) (get like c.tasks.components.first) c.tasks.components.count c.tasks.tasks.items c.pop.new.self.items c.tasks.out.items task c.tasks.invariant.0 top in
+    let there = task-there y ns (whole_of y) (get like c.tasks.components.first) c.tasks.components.count c.tasks.tasks.items c.pop.new.self.items c.tasks.out.items task c.tasks.invariant.0 top in
     omega (arith, there.0, c.tasks.invariant.1.long)
 
 pub template_standing_of-standing-requires-clause-node : goal.template_standing_of-standing-requires-clause-node
@@ -44,7 +43,7 @@ template_standing_of-standing-requires-clause-node c =
     let ns = c.args.numbering.now in
     let task : Task = Task.Template c.in-Template.name c.in-Template.arguments c.in-Template.in_type c.in-Template.encoding in
     let top = popped c.tasks.tasks.items c.pop.new.self.items c.pop.result c.in-Some.task task c.pop.ensures.items c.in-Some.is c.in-Template.is in
-    let there = task-there y ns (pressed (whole_of y)) (get like c.tasks.components.first) c.tasks.components.count c.tasks.tasks.items c.pop.new.self.items c.tasks.out.items task c.tasks.invariant.0 top in
+    let there = task-there y ns (whole_of y) (get like c.tasks.components.first) c.tasks.components.count c.tasks.tasks.items c.pop.new.self.items c.tasks.out.items task c.tasks.invariant.0 top in
     there.0.0
 
 pub template_standing_of-standing-requires-clause-number : goal.template_standing_of-standing-requires-clause-number
@@ -53,7 +52,7 @@ template_standing_of-standing-requires-clause-number c =
     let ns = c.args.numbering.now in
     let task : Task = Task.Template c.in-Template.name c.in-Template.arguments c.in-Template.in_type c.in-Template.encoding in
     let top = popped c.tasks.tasks.items c.pop.new.self.items c.pop.result c.in-Some.task task c.pop.ensures.items c.in-Some.is c.in-Template.is in
-    let there = task-there y ns (pressed (whole_of y)) (get like c.tasks.components.first) c.tasks.components.count c.tasks.tasks.items c.pop.new.self.items c.tasks.out.items task c.tasks.invariant.0 top in
+    let there = task-there y ns (whole_of y) (get like c.tasks.components.first) c.tasks.components.count c.tasks.tasks.items c.pop.new.self.items c.tasks.out.items task c.tasks.invariant.0 top in
     omega (arith, there.0.0, c.tasks.invariant.1.long)
 
 pub step_template-requires-clause-name : goal.step_template-requires-clause-name
@@ -62,7 +61,7 @@ step_template-requires-clause-name c =
     let ns = c.args.numbering.now in
     let task : Task = Task.Template c.in-Template.name c.in-Template.arguments c.in-Template.in_type c.in-Template.encoding in
     let top = popped c.tasks.tasks.items c.pop.new.self.items c.pop.result c.in-Some.task task c.pop.ensures.items c.in-Some.is c.in-Template.is in
-    let there = task-there y ns (pressed (whole_of y)) (get like c.tasks.components.first) c.tasks.components.count c.tasks.tasks.items c.pop.new.self.items c.tasks.out.items task c.tasks.invariant.0 top in
+    let there = task-there y ns (whole_of y) (get like c.tasks.components.first) c.tasks.components.count c.tasks.tasks.items c.pop.new.self.items c.tasks.out.items task c.tasks.invariant.0 top in
     there.0.0
 
 pub step_template-requires-clause-arguments : goal.step_template-requires-clause-arguments
@@ -71,7 +70,7 @@ step_template-requires-clause-arguments c =
     let ns = c.args.numbering.now in
     let task : Task = Task.Template c.in-Template.name c.in-Template.arguments c.in-Template.in_type c.in-Template.encoding in
     let top = popped c.tasks.tasks.items c.pop.new.self.items c.pop.result c.in-Some.task task c.pop.ensures.items c.in-Some.is c.in-Template.is in
-    let there = task-there y ns (pressed (whole_of y)) (get like c.tasks.components.first) c.tasks.components.count c.tasks.tasks.items c.pop.new.self.items c.tasks.out.items task c.tasks.invariant.0 top in
+    let there = task-there y ns (whole_of y) (get like c.tasks.components.first) c.tasks.components.count c.tasks.tasks.items c.pop.new.self.items c.tasks.out.items task c.tasks.invariant.0 top in
     there.0.1
 
 pub step_template-requires-clause-tasks : goal.step_template-requires-clause-tasks
@@ -80,7 +79,7 @@ step_template-requires-clause-tasks c =
     let ns = c.args.numbering.now in
     let task : Task = Task.Template c.in-Template.name c.in-Template.arguments c.in-Template.in_type c.in-Template.encoding in
     let top = popped c.tasks.tasks.items c.pop.new.self.items c.pop.result c.in-Some.task task c.pop.ensures.items c.in-Some.is c.in-Template.is in
-    let there = task-there y ns (pressed (whole_of y)) (get like c.tasks.components.first) c.tasks.components.count c.tasks.tasks.items c.pop.new.self.items c.tasks.out.items task c.tasks.invariant.0 top in
+    let there = task-there y ns (whole_of y) (get like c.tasks.components.first) c.tasks.components.count c.tasks.tasks.items c.pop.new.self.items c.tasks.out.items task c.tasks.invariant.0 top in
     there.1
 
 pub standing_of-standing-requires-clause-node : goal.standing_of-standing-requires-clause-node
@@ -89,7 +88,7 @@ standing_of-standing-requires-clause-node c =
     let ns = c.args.numbering.now in
     let task : Task = Task.Tree c.in-Tree.node c.in-Tree.way c.in-Tree.encoding in
     let top = popped c.tasks.tasks.items c.pop.new.self.items c.pop.result c.in-Some.task task c.pop.ensures.items c.in-Some.is c.in-Tree.is in
-    let there = task-there y ns (pressed (whole_of y)) (get like c.tasks.components.first) c.tasks.components.count c.tasks.tasks.items c.pop.new.self.items c.tasks.out.items task c.tasks.invariant.0 top in
+    let there = task-there y ns (whole_of y) (get like c.tasks.components.first) c.tasks.components.count c.tasks.tasks.items c.pop.new.self.items c.tasks.out.items task c.tasks.invariant.0 top in
     there.0
 
 pub standing_of-standing-requires-clause-number : goal.standing_of-standing-requires-clause-number
@@ -98,7 +97,7 @@ standing_of-standing-requires-clause-number c =
     let ns = c.args.numbering.now in
     let task : Task = Task.Tree c.in-Tree.node c.in-Tree.way c.in-Tree.encoding in
     let top = popped c.tasks.tasks.items c.pop.new.self.items c.pop.result c.in-Some.task task c.pop.ensures.items c.in-Some.is c.in-Tree.is in
-    let there = task-there y ns (pressed (whole_of y)) (get like c.tasks.components.first) c.tasks.components.count c.tasks.tasks.items c.pop.new.self.items c.tasks.out.items task c.tasks.invariant.0 top in
+    let there = task-there y ns (whole_of y) (get like c.tasks.components.first) c.tasks.components.count c.tasks.tasks.items c.pop.new.self.items c.tasks.out.items task c.tasks.invariant.0 top in
     omega (arith, there.0, c.tasks.invariant.1.long)
 
 pub step_tree-requires-clause-node : goal.step_tree-requires-clause-node
@@ -107,7 +106,7 @@ step_tree-requires-clause-node c =
     let ns = c.args.numbering.now in
     let task : Task = Task.Tree c.in-Tree.node c.in-Tree.way c.in-Tree.encoding in
     let top = popped c.tasks.tasks.items c.pop.new.self.items c.pop.result c.in-Some.task task c.pop.ensures.items c.in-Some.is c.in-Tree.is in
-    let there = task-there y ns (pressed (whole_of y)) (get like c.tasks.components.first) c.tasks.components.count c.tasks.tasks.items c.pop.new.self.items c.tasks.out.items task c.tasks.invariant.0 top in
+    let there = task-there y ns (whole_of y) (get like c.tasks.components.first) c.tasks.components.count c.tasks.tasks.items c.pop.new.self.items c.tasks.out.items task c.tasks.invariant.0 top in
     there.0
 
 pub step_tree-requires-clause-tasks : goal.step_tree-requires-clause-tasks
@@ -116,7 +115,7 @@ step_tree-requires-clause-tasks c =
     let ns = c.args.numbering.now in
     let task : Task = Task.Tree c.in-Tree.node c.in-Tree.way c.in-Tree.encoding in
     let top = popped c.tasks.tasks.items c.pop.new.self.items c.pop.result c.in-Some.task task c.pop.ensures.items c.in-Some.is c.in-Tree.is in
-    let there = task-there y ns (pressed (whole_of y)) (get like c.tasks.components.first) c.tasks.components.count c.tasks.tasks.items c.pop.new.self.items c.tasks.out.items task c.tasks.invariant.0 top in
+    let there = task-there y ns (whole_of y) (get like c.tasks.components.first) c.tasks.components.count c.tasks.tasks.items c.pop.new.self.items c.tasks.out.items task c.tasks.invariant.0 top in
     there.1
 
 pub then_tree-requires-clause-tasks : goal.then_tree-requires-clause-tasks
@@ -140,7 +139,7 @@ tasks-smaller-in-Continue-branch-2 c =
     let ns = c.args.numbering.now in
     let task : Task = Task.Text c.in-Text.text in
     let top = popped c.tasks.tasks.items c.pop.new.self.items c.pop.result c.in-Some.task task c.pop.ensures.items c.in-Some.is c.in-Text.is in
-    let there = task-there y ns (pressed (whole_of y)) (get like c.tasks.components.first) c.tasks.components.count c.tasks.tasks.items c.pop.new.self.items c.tasks.out.items task c.tasks.invariant.0 top in
+    let there = task-there y ns (whole_of y) (get like c.tasks.components.first) c.tasks.components.count c.tasks.tasks.items c.pop.new.self.items c.tasks.out.items task c.tasks.invariant.0 top in
     omega (arith, weight-there y c.tasks.tasks.items c.pop.new.self.items task top)
 
 pub tasks-preserved-in-Continue-branch-2 : goal.tasks-preserved-in-Continue-branch-2
@@ -149,8 +148,8 @@ tasks-preserved-in-Continue-branch-2 c =
     let ns = c.args.numbering.now in
     let task : Task = Task.Text c.in-Text.text in
     let top = popped c.tasks.tasks.items c.pop.new.self.items c.pop.result c.in-Some.task task c.pop.ensures.items c.in-Some.is c.in-Text.is in
-    let there = task-there y ns (pressed (whole_of y)) (get like c.tasks.components.first) c.tasks.components.count c.tasks.tasks.items c.pop.new.self.items c.tasks.out.items task c.tasks.invariant.0 top in
-    (text-goes y ns (pressed (whole_of y)) (get like c.tasks.components.first) c.tasks.components.count c.tasks.tasks.items c.pop.new.self.items c.tasks.out.items c.push_text.new.out.items (text_bytes y c.in-Text.text) task c.tasks.invariant.0 top refl c.in_ok-push_text-in-Text.ensures.text, c.tasks.invariant.1)
+    let there = task-there y ns (whole_of y) (get like c.tasks.components.first) c.tasks.components.count c.tasks.tasks.items c.pop.new.self.items c.tasks.out.items task c.tasks.invariant.0 top in
+    (text-goes y ns (whole_of y) (get like c.tasks.components.first) c.tasks.components.count c.tasks.tasks.items c.pop.new.self.items c.tasks.out.items c.push_text.new.out.items (text_bytes y c.in-Text.text) task c.tasks.invariant.0 top refl c.in_ok-push_text-in-Text.ensures.text, c.tasks.invariant.1)
 
 pub tasks-smaller-in-Continue-branch-3 : goal.tasks-smaller-in-Continue-branch-3
 tasks-smaller-in-Continue-branch-3 c =
@@ -158,7 +157,7 @@ tasks-smaller-in-Continue-branch-3 c =
     let ns = c.args.numbering.now in
     let task : Task = Task.Ended c.in-Ended.node c.in-Ended.encoding in
     let top = popped c.tasks.tasks.items c.pop.new.self.items c.pop.result c.in-Some.task task c.pop.ensures.items c.in-Some.is c.in-Ended.is in
-    let there = task-there y ns (pressed (whole_of y)) (get like c.tasks.components.first) c.tasks.components.count c.tasks.tasks.items c.pop.new.self.items c.tasks.out.items task c.tasks.invariant.0 top in
+    let there = task-there y ns (whole_of y) (get like c.tasks.components.first) c.tasks.components.count c.tasks.tasks.items c.pop.new.self.items c.tasks.out.items task c.tasks.invariant.0 top in
     omega (arith, weight-there y c.tasks.tasks.items c.pop.new.self.items task top)
 
 pub tasks-preserved-in-Continue-branch-3 : goal.tasks-preserved-in-Continue-branch-3
@@ -167,8 +166,8 @@ tasks-preserved-in-Continue-branch-3 c =
     let ns = c.args.numbering.now in
     let task : Task = Task.Ended c.in-Ended.node c.in-Ended.encoding in
     let top = popped c.tasks.tasks.items c.pop.new.self.items c.pop.result c.in-Some.task task c.pop.ensures.items c.in-Some.is c.in-Ended.is in
-    let there = task-there y ns (pressed (whole_of y)) (get like c.tasks.components.first) c.tasks.components.count c.tasks.tasks.items c.pop.new.self.items c.tasks.out.items task c.tasks.invariant.0 top in (
-      ended-goes y ns (pressed (whole_of y)) (get like c.tasks.components.first) (get like c.push.new.self.first) c.tasks.components.count c.push.new.self.count c.tasks.tasks.items c.pop.new.self.items c.tasks.out.items
+    let there = task-there y ns (whole_of y) (get like c.tasks.components.first) c.tasks.components.count c.tasks.tasks.items c.pop.new.self.items c.tasks.out.items task c.tasks.invariant.0 top in (
+      ended-goes y ns (whole_of y) (get like c.tasks.components.first) (get like c.push.new.self.first) c.tasks.components.count c.push.new.self.count c.tasks.tasks.items c.pop.new.self.items c.tasks.out.items
           c.in-Ended.node c.in-Ended.encoding c.tasks.invariant.1 c.tasks.invariant.0 top
           (λ q. c.in_ok-push-in-Ended.ensures.first q ∙ ap (λ l. noted (get like c.tasks.components.first) l c.tasks.components.count q) c.likeness_of.ensures) c.in_ok-push-in-Ended.ensures.count,
       c.tasks.invariant.1,
@@ -180,7 +179,7 @@ tasks-smaller-in-Continue-branch-4 c =
     let ns = c.args.numbering.now in
     let task : Task = Task.Template c.in-Template.name c.in-Template.arguments c.in-Template.in_type c.in-Template.encoding in
     let top = popped c.tasks.tasks.items c.pop.new.self.items c.pop.result c.in-Some.task task c.pop.ensures.items c.in-Some.is c.in-Template.is in
-    let there = task-there y ns (pressed (whole_of y)) (get like c.tasks.components.first) c.tasks.components.count c.tasks.tasks.items c.pop.new.self.items c.tasks.out.items task c.tasks.invariant.0 top in
+    let there = task-there y ns (whole_of y) (get like c.tasks.components.first) c.tasks.components.count c.tasks.tasks.items c.pop.new.self.items c.tasks.out.items task c.tasks.invariant.0 top in
     omega (arith, weight-there y c.tasks.tasks.items c.pop.new.self.items task top, c.in_ok-step_template-in-Template.ensures.weight)
 
 pub tasks-preserved-in-Continue-branch-4 : goal.tasks-preserved-in-Continue-branch-4
@@ -189,8 +188,8 @@ tasks-preserved-in-Continue-branch-4 c =
     let ns = c.args.numbering.now in
     let task : Task = Task.Template c.in-Template.name c.in-Template.arguments c.in-Template.in_type c.in-Template.encoding in
     let top = popped c.tasks.tasks.items c.pop.new.self.items c.pop.result c.in-Some.task task c.pop.ensures.items c.in-Some.is c.in-Template.is in
-    let there = task-there y ns (pressed (whole_of y)) (get like c.tasks.components.first) c.tasks.components.count c.tasks.tasks.items c.pop.new.self.items c.tasks.out.items task c.tasks.invariant.0 top in (
-      changed-goes y ns (pressed (whole_of y)) (get like c.tasks.components.first) c.tasks.components.count c.tasks.tasks.items c.pop.new.self.items c.step_template.new.tasks.items c.tasks.out.items task c.tasks.invariant.0 top
+    let there = task-there y ns (whole_of y) (get like c.tasks.components.first) c.tasks.components.count c.tasks.tasks.items c.pop.new.self.items c.tasks.out.items task c.tasks.invariant.0 top in (
+      changed-goes y ns (whole_of y) (get like c.tasks.components.first) c.tasks.components.count c.tasks.tasks.items c.pop.new.self.items c.step_template.new.tasks.items c.tasks.out.items task c.tasks.invariant.0 top
           c.in_ok-step_template-in-Template.ensures.tasks
           (λ cs places. c.in_ok-step_template-in-Template.ensures.presses (length c.tasks.out.items) cs
           (c.template_standing_of-standing.ensures ∙ ap (template_standing_of (plain_at y c.in-Template.name)) (places c.in-Template.name c.in-Template.encoding there.0.0))),
@@ -203,7 +202,7 @@ tasks-smaller c =
     let ns = c.args.numbering.now in
     let task : Task = Task.Tree c.in-Tree.node c.in-Tree.way c.in-Tree.encoding in
     let top = popped c.tasks.tasks.items c.pop.new.self.items c.pop.result c.in-Some.task task c.pop.ensures.items c.in-Some.is c.in-Tree.is in
-    let there = task-there y ns (pressed (whole_of y)) (get like c.tasks.components.first) c.tasks.components.count c.tasks.tasks.items c.pop.new.self.items c.tasks.out.items task c.tasks.invariant.0 top in
+    let there = task-there y ns (whole_of y) (get like c.tasks.components.first) c.tasks.components.count c.tasks.tasks.items c.pop.new.self.items c.tasks.out.items task c.tasks.invariant.0 top in
     omega (arith, weight-there y c.tasks.tasks.items c.pop.new.self.items task top, c.in_ok-step_tree-in-Tree.ensures.weight)
 
 pub tasks-preserved : goal.tasks-preserved
@@ -212,8 +211,8 @@ tasks-preserved c =
     let ns = c.args.numbering.now in
     let task : Task = Task.Tree c.in-Tree.node c.in-Tree.way c.in-Tree.encoding in
     let top = popped c.tasks.tasks.items c.pop.new.self.items c.pop.result c.in-Some.task task c.pop.ensures.items c.in-Some.is c.in-Tree.is in
-    let there = task-there y ns (pressed (whole_of y)) (get like c.tasks.components.first) c.tasks.components.count c.tasks.tasks.items c.pop.new.self.items c.tasks.out.items task c.tasks.invariant.0 top in (
-      changed-goes y ns (pressed (whole_of y)) (get like c.tasks.components.first) c.tasks.components.count c.tasks.tasks.items c.pop.new.self.items c.step_tree.new.tasks.items c.tasks.out.items task c.tasks.invariant.0 top
+    let there = task-there y ns (whole_of y) (get like c.tasks.components.first) c.tasks.components.count c.tasks.tasks.items c.pop.new.self.items c.tasks.out.items task c.tasks.invariant.0 top in (
+      changed-goes y ns (whole_of y) (get like c.tasks.components.first) c.tasks.components.count c.tasks.tasks.items c.pop.new.self.items c.step_tree.new.tasks.items c.tasks.out.items task c.tasks.invariant.0 top
           c.in_ok-step_tree-in-Tree.ensures.tasks
           (λ cs places. subst (λ n. press_tasks y c.step_tree.new.tasks.items n cs ≡ (press_task y task onto press_tasks y c.pop.new.self.items) n cs) (c.len-here.ensures ∙ c.tasks.out.ok.0)
           (c.in_ok-step_tree-in-Tree.ensures.presses cs
@@ -224,4 +223,9 @@ tasks-preserved c =
 pub returns-clause-pressed : goal.returns-clause-pressed
 returns-clause-pressed c =
     let y = c.args.symbol.now in
-    last-goes y c.args.numbering.now (pressed (whole_of y)) (get like c.tasks.components.first) c.tasks.components.count c.tasks.tasks.items c.tasks.out.items c.tasks.invariant.0 (search rules)
+    last-goes y c.args.numbering.now (whole_of y) (get like c.tasks.components.first) c.tasks.components.count c.tasks.tasks.items c.tasks.out.items c.tasks.invariant.0 (search rules)
+
+pub returns-clause-components : goal.returns-clause-components
+returns-clause-components c =
+    let y = c.args.symbol.now in
+    last-few y c.args.numbering.now (get like c.tasks.components.first) c.tasks.components.count c.tasks.tasks.items c.tasks.out.items c.tasks.invariant.0 (search rules)

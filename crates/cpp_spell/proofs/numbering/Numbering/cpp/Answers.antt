@@ -1,6 +1,6 @@
 use Rattle.std.proofs.Common.{◌<◌, length, [], ◌∷◌, ap, arith, sym, subst, ◌∙◌, length-append}
 use Rattle.cpp_spell.specs.Numbers.{AreBelow, IsFilled}
-use Rattle.cpp_spell.proofs.Entering.{enters}
+use Rattle.sym_spell.proofs.Entering.{enters}
 use Rattle.cpp_spell.proofs.Rebuilding.{plain-back}
 use Rattle.cpp_spell.proofs.Numbered.{AreOne, filled-more, key-test, numbers-below, own-key}
 use Rattle.cpp_spell.proofs.numbering.Numbering.cpp.Goals as goal
@@ -30,7 +30,7 @@ loop-node-preserved c =
     let room : length ns < length y.table.nodes = omega (arith, inv.1, c.loop-node-test.true, c.counts-count.ensures.nodes) in
     let own = own-key y ns c.deref.result.now c.loop-node.node c.key_of.result c.deref.ensures.value inv.1 c.key_of.ensures in (
       subst (λ l. IsFilled y l c.insert_full.new.self.keys) (sym c.in_ok-push.ensures.items)
-          (filled-more _ key-test y ns c.loop-node.keys.keys c.insert_full.new.self.keys c.key_of.result n (plain-back y c.requires.table) inv.0 room own e),
+          (filled-more _ key-test y ns c.loop-node.keys.keys c.insert_full.new.self.keys c.key_of.result n (plain-back y c.counts-count.ensures.is_read.table) inv.0 room own e),
       omega (arith, ap length c.in_ok-push.ensures.items, length-append ns (n ∷ []), inv.1),
     )
 

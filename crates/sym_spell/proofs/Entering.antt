@@ -1,7 +1,34 @@
--- Maps whose keys are compared by a test: where a key stands, and what is in the map behind one more.
-use Rattle.std.proofs.Common.{◌≡◌, ℕ, zero, suc, ◌+◌, ◌<◌, ◌≤◌, length, List, [], ◌∷◌, ◌++◌, slice_get, Some, None, Bool, true, false, refl, ap, arith, sym, subst, length-append}
-use Rattle.std.specs.Prelude.{max, if◌then◌else◌, ◌||◌, not}
+-- Maps whose keys are compared by a test: where a key stands, and what is in the map behind one more. Lists of the numbers that keys
+-- have, and a list behind one element more.
+use Rattle.std.proofs.Common.{◌≡◌, ℕ, zero, suc, ◌+◌, ◌<◌, ◌≤◌, ◌⊎◌, inl, inr, length, List, [], ◌∷◌, ◌++◌, slice_get, get_or, Some, None, Bool, true, false, refl, ap, arith, sym, subst, ◌∙◌, length-append}
+use Rattle.std.specs.Prelude.{max, if◌then◌else◌, ◌||◌, ◌==◌, not}
+use Rattle.std.proofs.lemmas.Bool.{eqb-true, eq-eqb}
 use Rattle.std.specs.List.{IsDistinct, list_any, position_or_len, AllByRecursion}
+
+-- ## Lists behind one element more
+
+pub last-or : (i n : ℕ) → i < n + 1 → (i < n) ⊎ (i ≡ n)
+last-or i n low = go (i == n) refl
+  where
+    go : (b : Bool) → (i == n) ≡ b → (i < n) ⊎ (i ≡ n)
+    go true h = inr (eqb-true i n h)
+    go false h =
+        let apart : i ≡ n → ⊥ = λ e. true-false (sym (eq-eqb i n e) ∙ h) in
+        inl (omega (arith, low, apart))
+      where
+        true-false : true ≡ false → ⊥
+        true-false bad = cc
+
+pub old-number : (ns : List ℕ) (n i : ℕ) → i < length ns → get_or (ns ++ n ∷ []) i 0 ≡ get_or ns i 0
+old-number [] n i low = absurd (omega (arith, low))
+old-number (m ∷ ns) n zero low = refl
+old-number (m ∷ ns) n (suc i) low = old-number ns n i (omega (arith, low))
+
+pub new-number : (ns : List ℕ) (n : ℕ) → get_or (ns ++ n ∷ []) (length ns) 0 ≡ n
+new-number [] n = refl
+new-number (m ∷ ns) n = new-number ns n
+
+-- ## Keys
 
 -- a test of keys that takes them for one where they are alike
 pub record IsTest {K : Type 0} (Alike : K → K → Type 0) (eq : K → K → Bool) : Type 0 where
@@ -50,7 +77,7 @@ no-place test (x ∷ ks) none = go (test x) none (no-place test ks)
     go true bad more = cc
     go false so more = omega (arith, more so)
 
-old-key : {A : Type 0} (ks more : List A) (m : ℕ) (k : A) → slice_get ks m ≡ Some k → slice_get (ks ++ more) m ≡ Some k
+pub old-key : {A : Type 0} (ks more : List A) (m : ℕ) (k : A) → slice_get ks m ≡ Some k → slice_get (ks ++ more) m ≡ Some k
 old-key [] more m k is = none-some is
   where
     none-some : None ≡ Some k → slice_get more m ≡ Some k

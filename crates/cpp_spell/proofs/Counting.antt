@@ -1,0 +1,106 @@
+-- Components that are trees of nodes: those whose tree none before them has are at most as many as the nodes.
+use Rattle.std.proofs.Common.{◌≡◌, ℕ, ◌+◌, ◌<◌, ◌≤◌, length, List, [], ◌∷◌, ◌++◌, Bool, true, false, refl, ap, arith, sym, subst, ◌∙◌}
+use Rattle.std.specs.Prelude.{◌||◌}
+use Rattle.std.specs.List.{IsDistinct, list_any, AllByRecursion}
+use Rattle.std.proofs.Math.Dec.{eqb}
+use Rattle.std.proofs.lemmas.Bool.{eqb-true}
+use Rattle.std.proofs.lemmas.Map.Keys.{IsDistinct-cons}
+use Rattle.std.proofs.lemmas.Map.Steps.{length-le_from_distinct_below}
+use Rattle.cpp_grammar.specs.Term.{Term}
+use Rattle.cpp_grammar.specs.Values.{Candidate}
+use Rattle.cpp_layout.specs.Layout.{ReadSymbol, whole_of}
+use Rattle.cpp_press.specs.Same.{same_tree}
+use Rattle.cpp_press.specs.Apart.{spelled_components}
+use Rattle.cpp_press.specs.Repeated.{is_spelled, repeated}
+use Rattle.cpp_press.proofs.Sameness.{tree-itself}
+use Rattle.cpp_spell.specs.Tasks.{plain_at}
+use Rattle.cpp_spell.specs.Places.{AreOfNodes}
+use Rattle.cpp_spell.specs.OfRead.{HasFewComponents}
+
+true-false : true ≡ false → ⊥
+true-false bad = cc
+
+-- ## Trees that are spelled
+
+spelled-here : (t : Term) (before : List Candidate) (c : Candidate) → c.tree ≡ t → is_spelled t (before ++ c ∷ []) ≡ true
+unfolding is_spelled
+spelled-here t [] c is = rw (is, tree-itself t) refl
+spelled-here t (d ∷ before) c is = go (same_tree t d.tree) (spelled-here t before c is)
+  where
+    go : (b : Bool) → is_spelled t (before ++ c ∷ []) ≡ true → b || is_spelled t (before ++ c ∷ []) ≡ true
+    go true more = refl
+    go false more = more
+
+spelled-later : (t : Term) (before : List Candidate) (c : Candidate) → is_spelled t before ≡ true → is_spelled t (before ++ c ∷ []) ≡ true
+unfolding is_spelled
+spelled-later t [] c is = cc
+spelled-later t (d ∷ before) c is = go (same_tree t d.tree) is (spelled-later t before c)
+  where
+    go : (b : Bool) → b || is_spelled t before ≡ true → (is_spelled t before ≡ true → is_spelled t (before ++ c ∷ []) ≡ true)
+        → b || is_spelled t (before ++ c ∷ []) ≡ true
+    go true so more = refl
+    go false so more = more so
+
+-- ## Nodes of spelled trees
+
+-- each is the node of a tree that is spelled
+AreKnown : ReadSymbol → (before : List Candidate) → List ℕ → Type 0
+AreKnown y before [] = Unit {0}
+AreKnown y before (x ∷ xs) = ((x < length y.table.nodes) × (is_spelled (plain_at y x) before ≡ true)) × AreKnown y before xs
+
+known-later : (y : ReadSymbol) (before : List Candidate) (c : Candidate) (xs : List ℕ) → AreKnown y before xs → AreKnown y (before ++ c ∷ []) xs
+unfolding AreKnown
+known-later y before c [] are = tt
+known-later y before c (x ∷ xs) are = ((are.0.0, spelled-later (plain_at y x) before c are.0.1), known-later y before c xs are.1)
+
+known-below : (y : ReadSymbol) (before : List Candidate) (xs : List ℕ) → AreKnown y before xs → (q : ℕ) → list_any (eqb q) xs ≡ true → q < length y.table.nodes
+unfolding AreKnown
+known-below y before [] are q is = cc
+known-below y before (x ∷ xs) are q is = go (eqb q x) refl is (known-below y before xs are.1 q)
+  where
+    go : (b : Bool) → eqb q x ≡ b → b || list_any (eqb q) xs ≡ true → (list_any (eqb q) xs ≡ true → q < length y.table.nodes) → q < length y.table.nodes
+    go true same so more = omega (arith, eqb-true q x same, are.0.0)
+    go false same so more = more so
+
+-- the node of a tree that isn't spelled is none of them
+other-node : (y : ReadSymbol) (before : List Candidate) (t : Term) (i : ℕ) (xs : List ℕ) → plain_at y i ≡ t → is_spelled t before ≡ false → AreKnown y before xs
+    → AllByRecursion (λ x. eqb i x ≡ false) xs
+unfolding AreKnown
+other-node y before t i [] is new are = tt
+other-node y before t i (x ∷ xs) is new are = (go (eqb i x) refl, other-node y before t i xs is new are.1)
+  where
+    go : (b : Bool) → eqb i x ≡ b → eqb i x ≡ false
+    go true same =
+        let there : is_spelled (plain_at y i) before ≡ true = subst (λ n. is_spelled (plain_at y n) before ≡ true) (sym (eqb-true i x same)) are.0.1 in
+        absurd (true-false (sym there ∙ ap (λ u. is_spelled u before) is ∙ new))
+    go false same = same
+
+-- ## Components
+
+counted : (y : ReadSymbol) (before cs : List Candidate) (xs : List ℕ) → AreOfNodes y cs → AreKnown y before xs → IsDistinct eqb xs
+    → length xs + length cs ≤ length y.table.nodes + length (repeated before cs)
+unfolding repeated AreKnown
+counted y before [] xs own known distinct =
+    omega (arith, length-le_from_distinct_below xs (length y.table.nodes) distinct (known-below y before xs known))
+counted y before (c ∷ cs) xs own known distinct =
+    let node : ℕ = own.0.0 in
+    let later = known-later y before c xs known in
+    go (is_spelled c.tree before) refl (counted y (before ++ c ∷ []) cs xs own.1 later distinct)
+    (λ new. omega (
+      arith,
+      counted y (before ++ c ∷ []) cs (node ∷ xs) own.1 ((own.0.1, spelled-here (plain_at y node) before c (sym own.0.2)), later)
+          (IsDistinct-cons eqb node xs (other-node y before c.tree node xs own.0.2 new known) distinct),
+    ))
+  where
+    go : (b : Bool) → is_spelled c.tree before ≡ b → length xs + length cs ≤ length y.table.nodes + length (repeated (before ++ c ∷ []) cs)
+        → (is_spelled c.tree before ≡ false → 1 + length xs + length cs ≤ length y.table.nodes + length (repeated (before ++ c ∷ []) cs))
+        → length xs + length (c ∷ cs) ≤ length y.table.nodes
+        + length {A = Candidate} (elim b as (λ _. List Candidate) [ true ↦ c ∷ repeated (before ++ c ∷ []) cs | false ↦ repeated (before ++ c ∷ []) cs ])
+    go true is same fewer = omega (arith, same)
+    go false is same fewer = omega (arith, fewer is)
+
+pub few-components : (y : ReadSymbol) (cs : List Candidate) → AreOfNodes y cs → cs ≡ spelled_components (whole_of y) → HasFewComponents y
+unfolding AreKnown IsDistinct
+few-components y cs own is =
+    let few : length cs ≤ length y.table.nodes + length (repeated [] cs) = omega (arith, counted y [] cs [] own tt tt) in
+    subst (λ l. length l ≤ length y.table.nodes + length (repeated [] l)) is few
