@@ -1,5 +1,5 @@
 -- The next part with a row of a production of C++.
-use Rattle.std.proofs.Common.{◌≡◌, refl, sym, ◌∙◌, ap, subst, arith, ℕ, zero, suc, ◌+◌, ◌<◌, ◌≤◌, List, [], ◌∷◌, ◌++◌, length, drop, Bool, true, ◌&&◌, length-drop, append_assoc, inl, inr}
+use Rattle.std.proofs.Common.{◌≡◌, refl, sym, ◌∙◌, ap, subst, arith, ℕ, zero, suc, ◌+◌, ◌<◌, ◌≤◌, List, [], ◌∷◌, ◌++◌, length, drop, Bool, true, false, ◌&&◌, length-drop, append_assoc, inl, inr}
 use Rattle.std.specs.Prelude.{nat_le, slice_index}
 use Rattle.std.proofs.lemmas.Bool.{and_parts, cases_eq, cases_lt, leb-true}
 use Rattle.std.proofs.lemmas.List.{drop_all, nil_from_length}
@@ -26,11 +26,20 @@ use Rattle.cpp_term.specs.Values.{State, Value, Around}
 use Rattle.cpp_link.specs.declared.part.Part.{Part}
 use Rattle.cpp_link.specs.declared.part.Kept.{Kept}
 use Rattle.cpp_link.specs.declared.linked.Linked.{Linked}
-use Rattle.cpp_link.specs.Next.{at_least, over, is_mark, is_list, is_argument, is_element, nested_mark, type_mark, behind_bytes, next_part, token_part}
+use Rattle.cpp_link.specs.Next.{at_least, over, is_mark, is_list, is_argument, is_element, nested_mark, type_mark, behind_bytes, next_part, token_part, skips_parts}
 use Rattle.cpp_link.specs.View.{cpp_view}
 use Rattle.cpp_link.proofs.Landing.{lands, landed, stops, stopped, all_passed, AreBehind, behind_passed}
 
 -- ## Each production
+
+next_told : (p : Production) (held rule byte : ℕ) → next_part p held rule byte ≡ elim (skips_parts p) [ true ↦ next_part p held rule byte | false ↦ held ]
+unfolding next_part behind_bytes skips_parts
+next_told Production.Mark held rule byte = refl
+next_told _ held rule byte = refl
+
+-- where each part has a row, the next one has
+pub next_plain : (p : Production) (held rule byte : ℕ) → skips_parts p ≡ false → next_part p held rule byte ≡ held
+next_plain p held rule byte plain = next_told p held rule byte ∙ ap (λ b. elim b [ true ↦ next_part p held rule byte | false ↦ held ]) plain
 
 abbrev all_below : (ℕ → Bool) → ℕ → Bool
 all_below is zero = true

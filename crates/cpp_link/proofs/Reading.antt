@@ -28,8 +28,8 @@ pub production_got : (k : ℕ) → get_or productions k Production.Mark ≡ prod
 unfolding production_at
 production_got k = got productions k Production.Mark
 
--- a count of each production, by number
-pub count_got : (f : Production → ℕ) (k : ℕ) → get_or (map f productions) k (f Production.Mark) ≡ f (production_at k)
+-- what is listed of each production, by number
+pub count_got : {X : Type 0} (f : Production → X) (k : ℕ) → get_or (map f productions) k (f Production.Mark) ≡ f (production_at k)
 unfolding production_at
 count_got f k = go productions k
   where

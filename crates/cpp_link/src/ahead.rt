@@ -4,7 +4,7 @@ ghost use Rattle.std.specs.Prelude.{◌≡◌, ℕ, ◌<◌, List, length};
 ghost use Rattle.sym_link.specs.Threads.{IsAhead, IsAheadToken, IsCount};
 ghost use Rattle.cpp_grammar.specs.Grammar.{parts_of};
 ghost use Rattle.cpp_grammar.specs.Unfolding.{production_at};
-ghost use Rattle.cpp_link.specs.Next.{at_least, over, is_mark, is_list, is_argument, is_element, nested_mark, type_mark, behind_bytes, next_part, token_part};
+ghost use Rattle.cpp_link.specs.Next.{at_least, over, is_mark, is_list, is_argument, is_element, nested_mark, type_mark, behind_bytes, next_part, token_part, skips_parts};
 ghost use Rattle.cpp_link.specs.View.{cpp_view};
 
 use crate::dispatch::production_of;
@@ -20,6 +20,19 @@ const PART_COUNTS: [u8; 112] = [
     2, 3, 2, 4, 2, 0, 2, 2, 0, 1, 0, 1, 1, 0, 2, 4, 1, 3, 2, 1, 1, 1, 1, 1, 1, 1, 1, 1, 0, 3, 4, 1,
     2, 2, 2, 4, 0, 1, 2, 3, 1, 1, 1, 0, 1, 1, 2, 0, 2, 2, 2, 2, 3, 3, 4, 2, 3, 4, 2, 5, 2, 1, 1, 2,
     1, 1, 1, 1, 1, 1, 1, 1, 1, 1, 1, 1, 1, 1, 1, 1,
+];
+
+/// Whether parts without a row may stand between those of each production, in the order of their numbers.
+const SKIPS_PARTS: [bool; 112] = [
+    false, false, false, false, false, false, false, false, true, true, false, false, false, true,
+    false, false, true, true, false, false, true, false, false, false, true, false, false, false,
+    false, false, false, false, false, true, false, true, false, false, false, false, false, false,
+    false, false, false, false, false, false, false, true, true, false, false, false, false, false,
+    false, false, false, false, false, true, true, false, false, false, false, true, false, false,
+    false, true, false, false, false, false, false, false, false, false, false, false, false,
+    false, true, true, true, false, true, true, false, true, true, false, false, false, false,
+    false, false, false, false, false, false, false, false, false, false, false, false, false,
+    false, false,
 ];
 
 #[tactic(auto, unfolding(crate::specs::Next::at_least))]
@@ -164,6 +177,29 @@ fn part_count(number: u16) -> usize
     }
 }
 
+/// Whether parts without a row may stand between those of the production with a number.
+#[inline(always)]
+fn skips_parts(number: u16) -> bool
+    ensures { result ≡ skips_parts (production_at number) }
+{
+    match SKIPS_PARTS.get(number as usize) {
+        Some(skips) => *skips,
+        None => false,
+    }
+}
+
+/// The number of the next part of the production with a number, which has a row of this rule that begins with this byte.
+/// Most productions have a row for each part.
+#[inline(always)]
+fn next_of(number: u16, held: usize, rule: u16, byte: u8) -> usize
+    ensures { result ≡ next_part (production_at number) held rule byte }
+{
+    if !skips_parts(number) {
+        return held;
+    }
+    next_part(production_of(number), held, rule, byte)
+}
+
 impl Linked {
     /// The number of the next part of the rule of the frame that has a row: a rule's, of which so many parts have begun.
     #[inline(always)]
@@ -178,12 +214,7 @@ impl Linked {
         requires place { row.from < length symbol.now }
         ensures { IsAhead (cpp_view symbol.now) symbol.now rows.now self.now frame.now held row result }
     {
-        next_part(
-            production_of(frame.rule),
-            held,
-            row.rule,
-            symbol[row.from as usize],
-        )
+        next_of(frame.rule, held, row.rule, symbol[row.from as usize])
     }
 
     /// The number of the next part of the rule of the frame that has a row: a token's, of which so many parts have begun.

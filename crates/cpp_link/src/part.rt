@@ -105,8 +105,8 @@ pub struct Kept {
     pub pack_length: u32,
     pub scope: Scope,
     pub naming: Naming,
-    pub in_expansion: bool,
     pub has_packs: bool,
+    pub in_expansion: bool,
 }
 
 impl Kept {

@@ -12,7 +12,6 @@ returns c own around known from left state rule taken inner rest is count left_i
     let s = c.args.symbol.now in
     let byte = slice_index s c.args.row.from in
     let held = sym count ∙ as_many (IsPart s c.args.self.now) own known is.parts in
-    c.next_part.ensures
-    ∙ ap (λ p. next_part p c.args.held c.args.row.rule byte) c.production_of.ensures
+    c.next_of.ensures
     ∙ ap (λ n. next_part (production_at c.args.frame.now.rule) n c.args.row.rule byte) held
     ∙ next_right s c.args.self.now c.args.frame.now own around known from left state is c.args.rows.now c.args.row rule taken inner rest left_is row_is
