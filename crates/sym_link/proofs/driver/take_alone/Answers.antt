@@ -4,6 +4,8 @@ use Rattle.std.proofs.lemmas.Result.{err_from_is_err_and}
 use Rattle.sym_link.specs.Stepping.{waiting, starting}
 use Rattle.sym_link.proofs.Driving.{more_rows, token_asks, token_taken, begun_waits, alone_within, token_within, token_refused_within}
 use Rattle.sym_link.proofs.driver.take_alone.Goals as goal
+use Rattle.sym_link.specs.Linking.{lists_with}
+use Rattle.sym_link.proofs.Room.{room_same}
 use Rattle.sym_link.proofs.driver.take_alone.Goals.{else-frame-next-via-then-frame-next+else-rows-next, else-frame-next-via-else-frame-next}
 
 open_still : (end next : ℕ) → end ≡ next + 1 → end ≢ next
@@ -86,3 +88,6 @@ returns-then-rows-next-clause-few g c whole left most lower follows =
 pub returns-clause-few : goal.returns-clause-few
 returns-clause-few g c whole left most lower follows =
     alone_within (g.L.Linking.view c.args.symbol.now) c.args.symbol.now c.args.rows.now whole left most c.args.language.now c.args.next lower c.args.frame c.args.parts.now.items follows
+
+pub returns-clause-keeps : goal.returns-clause-keeps
+returns-clause-keeps g c = room_same (lists_with (g.L.Linking.view c.args.symbol.now) c.args.language.now c.args.parts.now)
