@@ -29,7 +29,7 @@ pub struct Counts {
 
 impl Linking for Counts {
     ghost use Rattle.std.specs.Prelude.{◌≡◌, ℕ, ◌<◌, ◌≤◌, length, OnOk, OnErr};
-    ghost use Rattle.sym_link.specs.Linking.{HasRoom, IsOpen, OpensRoot, Opens, TakesToken, ClosesRule, Adds, AddsFew, Pays, KeepsRoom, NeedsRoom, owed_behind, owed_next};
+    ghost use Rattle.sym_link.specs.Linking.{HasRoom, IsOpen, OpensRoot, Opens, TakesToken, ClosesRule, Adds, AddsFew, Pays, KeepsRoom, NeedsRoom, TokenNeedsRoom, owed_behind, owed_next};
     ghost use Rattle.sym_link.specs.Room.{KeepRoom, OnlyForRoom};
     ghost use Rattle.sym_link.specs.Counting.{counting};
     ghost use Rattle.sym_link.specs.CountingLaws.{counting_laws};
@@ -54,7 +54,7 @@ impl Linking for Counts {
         ensures few { OnErr result ((counting _symbol.now).size self.new ≤ (counting _symbol.now).size self.old) }
         ensures pays { OnOk result (Pays (counting _symbol.now) self.old self.new 0 0) }
         ensures keeps { KeepRoom ((counting _symbol.now).lists self.old) ((counting _symbol.now).lists self.new) }
-        ensures full { OnlyForRoom (counting _symbol.now).TakesApart ((counting _symbol.now).lists self.old) ((counting _symbol.now).lists self.new) result }
+        ensures full { OnlyForRoom ⊥ ((counting _symbol.now).lists self.old) ((counting _symbol.now).lists self.new) result }
     {
         Ok(())
     }
@@ -100,7 +100,7 @@ impl Linking for Counts {
         ensures pays { OnOk result ((at : ℕ) → at ≤ row.from → (length parts.old.items ≡ frame.now.base → at ≤ frame.now.place)
             → Pays (counting symbol.now) self.old self.new at row.to) }
         ensures keeps { KeepsRoom (counting symbol.now) self.old self.new parts.old parts.new }
-        ensures full { NeedsRoom (counting symbol.now) self.old self.new parts.old parts.new result }
+        ensures full { TokenNeedsRoom (counting symbol.now) symbol.now self.old self.new frame.now parts.old parts.new row result }
     {
         self.text
             .extend_from_slice(&symbol[row.from as usize..row.to as usize])?;

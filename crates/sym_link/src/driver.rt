@@ -5,8 +5,8 @@ ghost use Rattle.sym_shape.specs.Tree.{Tree};
 ghost use Rattle.sym_link.specs.Reading.{Found};
 ghost use Rattle.sym_link.specs.Stepping.{link_steps, waiting, starting};
 ghost use Rattle.sym_link.specs.Following.{IsShape, Follows, FollowsAfter, FollowsOn, FollowsAlone, StaysWithin, EndsWith, CanClose, CanSettle, CanTake, CanBegin, CanMove, IsOnWay, Moves, CountsMove, Fits, IsDriving, IsStepTo, IsDone, meaning_of};
-
-ghost use Rattle.sym_link.specs.Linking.{KeepsRoom, NeedsRoom, KeepsAllRoom, NeedsSomeRoom};
+ghost use Rattle.sym_link.specs.Linking.{KeepsRoom, NeedsRoom, HasToken, lists_with, KeepsAllRoom, NeedsSomeRoom};
+ghost use Rattle.sym_link.specs.Room.{OnlyForRoom};
 
 use crate::language::{Frame, Linking};
 use std::alloc::Global;
@@ -80,7 +80,8 @@ fn take_alone<L: Linking>(
         → StaysWithin (L.view symbol.now) language.new frame parts.new.items most result }
     ensures counts { IfOk result (λ behind. (next ≤ behind) × (behind ≤ next + 1)) }
     ensures keeps { KeepsRoom (L.view symbol.now) language.old language.new parts.old parts.new }
-    ensures full { NeedsRoom (L.view symbol.now) language.old language.new parts.old parts.new result }
+    ensures full { OnlyForRoom (HasToken (L.view symbol.now) symbol.now) (lists_with (L.view symbol.now) language.old parts.old)
+        (lists_with (L.view symbol.now) language.new parts.new) result }
 {
     if frame.end == next + 1 && rows[next as usize].rule == TOKEN {
         language.token(symbol, &frame, parts, rows[next as usize])?;
@@ -110,7 +111,7 @@ fn settle<L: Linking>(
         → (L.view symbol.now).size language.new ≤ most }
     ensures counts { IfOk result (λ behind. (2 * next + length frames.new.items ≤ 2 * behind + length frames.old.items + 1) × (behind ≤ next + 1)) }
     ensures keeps { KeepsAllRoom (L.view symbol.now) language.old language.new frames.old frames.new parts.old parts.new }
-    ensures full { NeedsSomeRoom (L.view symbol.now) language.old language.new frames.old frames.new parts.old parts.new result }
+    ensures full { NeedsSomeRoom (L.view symbol.now) symbol.now language.old language.new frames.old frames.new parts.old parts.new result }
 {
     let behind = take_alone(language, symbol, rows, next, parts, frame)?;
     if frame.end != behind {
@@ -140,7 +141,7 @@ fn take<L: Linking>(
     ensures counts { IfOk result (λ behind. (2 * next + length frames.new.items + 1 ≤ 2 * behind + length frames.old.items) × (behind ≤ next + 2)) }
     ensures more { next < length rows.now }
     ensures keeps { KeepsAllRoom (L.view symbol.now) language.old language.new frames.old frames.new parts.old parts.new }
-    ensures full { NeedsSomeRoom (L.view symbol.now) language.old language.new frames.old frames.new parts.old parts.new result }
+    ensures full { NeedsSomeRoom (L.view symbol.now) symbol.now language.old language.new frames.old frames.new parts.old parts.new result }
 {
     let frame = top(frames);
     let row = rows[next as usize];
@@ -174,7 +175,7 @@ fn begin<L: Linking>(
     ensures counts { IfOk result (λ behind. (length frames.new.items + 1 ≤ 2 * behind) × (behind ≤ 2)) }
     ensures more { 0 < length rows.now }
     ensures keeps { KeepsAllRoom (L.view symbol.now) language.old language.new frames.old frames.new parts.old parts.new }
-    ensures full { NeedsSomeRoom (L.view symbol.now) language.old language.new frames.old frames.new parts.old parts.new result }
+    ensures full { NeedsSomeRoom (L.view symbol.now) symbol.now language.old language.new frames.old frames.new parts.old parts.new result }
 {
     let row = rows[0];
     let kept = language.root(symbol, rows, row)?;
@@ -212,7 +213,7 @@ fn advance<L: Linking>(
     ensures closed { result ≡ Ok None → frames.old.items ≡ [] }
     ensures begun { result ≡ Ok None → 0 < next }
     ensures keeps { KeepsAllRoom (L.view symbol.now) language.old language.new frames.old frames.new parts.old parts.new }
-    ensures full { NeedsSomeRoom (L.view symbol.now) language.old language.new frames.old frames.new parts.old parts.new result }
+    ensures full { NeedsSomeRoom (L.view symbol.now) symbol.now language.old language.new frames.old frames.new parts.old parts.new result }
 {
     let Some(frame) = innermost(frames) else {
         if next > 0 {
@@ -320,9 +321,9 @@ impl<L: Linking> Driver<L> {
         ensures begun { result ≡ Ok true → 0 < self.new.next }
         ensures again { IfSome self.old.refused (λ refusal. (result ≡ Err refusal) × (language.new ≡ language.old)) }
         ensures keeps { KeepsAllRoom (L.view symbol.now) language.old language.new self.old.frames self.new.frames self.old.parts self.new.parts }
-        // Memory is answered first only where a list had no room, or something in the symbol takes memory of its own.
+        // Memory is answered first only where a list had no room, or the symbol has a token that takes memory of its own.
         ensures full { self.old.refused ≡ None
-            → NeedsSomeRoom (L.view symbol.now) language.old language.new self.old.frames self.new.frames self.old.parts self.new.parts result }
+            → NeedsSomeRoom (L.view symbol.now) symbol.now language.old language.new self.old.frames self.new.frames self.old.parts self.new.parts result }
     {
         if let Some(refusal) = self.refused {
             return Err(refusal);
@@ -378,9 +379,9 @@ impl<L: Linking> Driver<L> {
         ensures again { IfSome self.old.refused (λ refusal. (result ≡ Err refusal) × (language.new ≡ language.old)) }
         ensures steps { self.old.steps ≤ self.new.steps }
         ensures keeps { KeepsAllRoom (L.view symbol.now) language.old language.new self.old.frames self.new.frames self.old.parts self.new.parts }
-        // Memory is answered first only where a list had no room, or something in the symbol takes memory of its own.
+        // Memory is answered first only where a list had no room, or the symbol has a token that takes memory of its own.
         ensures full { self.old.refused ≡ None
-            → NeedsSomeRoom (L.view symbol.now) language.old language.new self.old.frames self.new.frames self.old.parts self.new.parts result }
+            → NeedsSomeRoom (L.view symbol.now) symbol.now language.old language.new self.old.frames self.new.frames self.old.parts self.new.parts result }
     {
         if let Some(refusal) = self.refused {
             return Err(refusal);

@@ -21,13 +21,13 @@
 //   row of its rule (then the frame has no parts, if parts without a row have no value) with those from the rule's place on.
 //   In front of each call the bytes of the whole symbol have paid (`room`), so `IsPaid` may hold other invariants, too.
 // - `full`: `Memory` is answered only where a list, the language's or that of the parts, had no room for what was put on it
-//   (`lists`), or where something in the symbol takes memory of its own (`TakesApart`). With `keeps` this goes on over calls.
+//   (`lists`), or for a token that takes memory of its own (`TakesApart`). With `keeps` this goes on over calls.
 // - `laws`: see `IsLinking`.
 //
 // An impl writes the clauses of its methods out, with its own view in the place of `view`.
 
 ghost use Rattle.std.specs.Prelude.{◌≡◌, ℕ, ◌+◌, ◌<◌, ◌≤◌, List, length, OnOk, OnErr};
-ghost use Rattle.sym_link.specs.Linking.{View, IsLinking, HasRoom, IsOpen, OpensRoot, Opens, TakesToken, ClosesRule, Adds, AddsFew, Pays, KeepsRoom, NeedsRoom, owed_behind, owed_next};
+ghost use Rattle.sym_link.specs.Linking.{View, IsLinking, HasRoom, IsOpen, OpensRoot, Opens, TakesToken, ClosesRule, Adds, AddsFew, Pays, KeepsRoom, NeedsRoom, TokenNeedsRoom, owed_behind, owed_next};
 ghost use Rattle.sym_link.specs.Room.{KeepRoom, OnlyForRoom};
 
 use sym_core::Refusal;
@@ -71,7 +71,7 @@ pub trait Linking {
         ensures few { OnErr result ((view symbol.now).size self.new ≤ (view symbol.now).size self.old) }
         ensures pays { OnOk result (Pays (view symbol.now) self.old self.new 0 0) }
         ensures keeps { KeepRoom ((view symbol.now).lists self.old) ((view symbol.now).lists self.new) }
-        ensures full { OnlyForRoom (view symbol.now).TakesApart ((view symbol.now).lists self.old) ((view symbol.now).lists self.new) result };
+        ensures full { OnlyForRoom ⊥ ((view symbol.now).lists self.old) ((view symbol.now).lists self.new) result };
 
     /// A rule begins in the rule of the frame.
     fn enter(
@@ -113,7 +113,7 @@ pub trait Linking {
         ensures pays { OnOk result ((at : ℕ) → at ≤ row.from → (length parts.old.items ≡ frame.now.base → at ≤ frame.now.place)
             → Pays (view symbol.now) self.old self.new at row.to) }
         ensures keeps { KeepsRoom (view symbol.now) self.old self.new parts.old parts.new }
-        ensures full { NeedsRoom (view symbol.now) self.old self.new parts.old parts.new result };
+        ensures full { TokenNeedsRoom (view symbol.now) symbol.now self.old self.new frame.now parts.old parts.new row result };
 
     /// The rule of the frame closes: what it means takes the place of its parts.
     fn close(

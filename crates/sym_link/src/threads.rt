@@ -9,7 +9,7 @@ ghost use Rattle.std.specs.Prelude.{◌≡◌, ℕ, ◌+◌, ◌-◌, ◌<◌, �
 ghost use Rattle.sym_core.specs.declared.refusal.Refusal.{Refusal};
 ghost use Rattle.sym_link.specs.Machine.{Passed};
 ghost use Rattle.sym_link.specs.Driving.{AreAll};
-ghost use Rattle.sym_link.specs.Linking.{View, HasRoom, IsOpen, Opens, TakesToken, ClosesRule, Adds, AddsFew, Pays, KeepsRoom, NeedsRoom, owed_behind, owed_next};
+ghost use Rattle.sym_link.specs.Linking.{View, HasRoom, IsOpen, Opens, TakesToken, ClosesRule, Adds, AddsFew, Pays, KeepsRoom, NeedsRoom, TokenNeedsRoom, owed_behind, owed_next};
 ghost use Rattle.sym_link.specs.Room.{KeepRoom, OnlyForRoom};
 ghost use Rattle.sym_link.specs.Threads.{IsOpenAt, GoesOn, BeginsIn, ClosesAll, IsTaken, IsAhead, IsAheadToken, IsCount, IsThreading, AddsBefore, Passing, PassesOne, Passes};
 
@@ -76,7 +76,7 @@ pub trait Threading {
         ensures few { OnErr result ((view symbol.now).size self.new ≤ (view symbol.now).size self.old) }
         ensures pays { OnOk result ((at : ℕ) → Pays (view symbol.now) self.old self.new at at) }
         ensures keeps { KeepRoom ((view symbol.now).lists self.old) ((view symbol.now).lists self.new) }
-        ensures full { OnlyForRoom (view symbol.now).TakesApart ((view symbol.now).lists self.old) ((view symbol.now).lists self.new) result };
+        ensures full { OnlyForRoom ⊥ ((view symbol.now).lists self.old) ((view symbol.now).lists self.new) result };
 
     /// The rule of the frame closes over all its parts.
     fn finish(
@@ -117,7 +117,7 @@ pub trait Threading {
         ensures few { OnErr result ((view symbol.now).size self.new ≤ (view symbol.now).size self.old) }
         ensures pays { OnOk result ((at : ℕ) → Pays (view symbol.now) self.old self.new at at) }
         ensures keeps { KeepRoom ((view symbol.now).lists self.old) ((view symbol.now).lists self.new) }
-        ensures full { OnlyForRoom (view symbol.now).TakesApart ((view symbol.now).lists self.old) ((view symbol.now).lists self.new) result };
+        ensures full { OnlyForRoom ⊥ ((view symbol.now).lists self.old) ((view symbol.now).lists self.new) result };
 
     /// The number of the next part of the rule of the frame that has a row: a token's, of which so many parts have begun.
     fn ahead_token(&self, symbol: &[u8], frame: &Frame<Self::Kept>, held: usize) -> usize
@@ -257,7 +257,7 @@ pub fn token_by<L: Threading>(
     ensures few { OnErr result (AddsFew (L.view symbol.now) language.old language.new frame.now parts.old.items) }
     ensures pays { OnOk result ((at : ℕ) → at ≤ row.from → Pays (L.view symbol.now) language.old language.new at row.to) }
     ensures keeps { KeepsRoom (L.view symbol.now) language.old language.new parts.old parts.new }
-    ensures full { NeedsRoom (L.view symbol.now) language.old language.new parts.old parts.new result }
+    ensures full { TokenNeedsRoom (L.view symbol.now) symbol.now language.old language.new frame.now parts.old parts.new row result }
 {
     let to = language.ahead_token(symbol, frame, parts.len() - frame.base);
     pass(language, symbol, frame, parts, to)?;

@@ -2,7 +2,7 @@ use Rattle.std.proofs.Common.{refl, arith}
 use Rattle.std.specs.Prelude.{slice_index_or}
 use Rattle.sym_link.specs.Following.{meaning_of}
 use Rattle.sym_link.proofs.Driving.{root_asks, root_left, root_begun}
-use Rattle.sym_link.specs.Linking.{all_lists}
+use Rattle.sym_link.specs.Linking.{HasToken, all_lists}
 use Rattle.sym_link.proofs.Room.{room_then, only_then}
 use Rattle.sym_link.proofs.driver.begin.Goals as goal
 
@@ -48,5 +48,5 @@ returns-clause-keeps g c =
 
 pub returns-clause-full : goal.returns-clause-full
 returns-clause-full g c =
-    only_then (g.L.Linking.view c.args.symbol.now).TakesApart (all_lists (g.L.Linking.view c.args.symbol.now) c.args.language.now c.args.frames.now c.args.parts.now) (all_lists (g.L.Linking.view c.args.symbol.now) c.root.new.self c.args.frames.now c.args.parts.now) (all_lists (g.L.Linking.view c.args.symbol.now) c.settle.new.language c.settle.new.frames c.settle.new.parts) c.settle.result
+    only_then (HasToken (g.L.Linking.view c.args.symbol.now) c.args.symbol.now) (all_lists (g.L.Linking.view c.args.symbol.now) c.args.language.now c.args.frames.now c.args.parts.now) (all_lists (g.L.Linking.view c.args.symbol.now) c.root.new.self c.args.frames.now c.args.parts.now) (all_lists (g.L.Linking.view c.args.symbol.now) c.settle.new.language c.settle.new.frames c.settle.new.parts) c.settle.result
     (omega arith, (omega arith, c.in_ok-kept.ensures.keeps)) c.settle.ensures.full

@@ -68,7 +68,7 @@ pub returns-in_err-finish-clause-full : goal.returns-in_err-finish-clause-full
 returns-in_err-finish-clause-full g c =
     let p = err_from_is_err_and c.from_residual-in_err-finish.result c.from_residual-in_err-finish.ensures.1 in
     rw (p.1, p.2)
-    (only_refused (g.L.Threading.view c.args.symbol.now).TakesApart (lists_with (g.L.Threading.view c.args.symbol.now) c.args.language.now c.args.parts.now) (lists_with (g.L.Threading.view c.args.symbol.now) c.pass.new.language c.pass.new.parts) (lists_with (g.L.Threading.view c.args.symbol.now) c.finish.new.self c.finish.new.parts) c.in_err-finish.field-0.0 c.in_ok-pass.ensures.keeps c.in_err-finish.ensures.full)
+    (only_refused ⊥ ⊥ (lists_with (g.L.Threading.view c.args.symbol.now) c.args.language.now c.args.parts.now) (lists_with (g.L.Threading.view c.args.symbol.now) c.pass.new.language c.pass.new.parts) (lists_with (g.L.Threading.view c.args.symbol.now) c.finish.new.self c.finish.new.parts) c.in_err-finish.field-0.0 (λ none. none) c.in_ok-pass.ensures.keeps c.in_err-finish.ensures.full)
 
 pub returns-clause-keeps : goal.returns-clause-keeps
 returns-clause-keeps g c = room_then (lists_with (g.L.Threading.view c.args.symbol.now) c.args.language.now c.args.parts.now) (lists_with (g.L.Threading.view c.args.symbol.now) c.pass.new.language c.pass.new.parts) (lists_with (g.L.Threading.view c.args.symbol.now) c.finish.new.self c.finish.new.parts) c.in_ok-pass.ensures.keeps c.in_ok-finish.ensures.keeps

@@ -89,7 +89,7 @@ pub returns-in_err-context-clause-full : goal.returns-in_err-context-clause-full
 returns-in_err-context-clause-full g c =
     let p = err_from_is_err_and c.from_residual-in_err-context.result c.from_residual-in_err-context.ensures.1 in
     rw (p.1, p.2)
-    (only_refused (g.L.Threading.view c.args.symbol.now).TakesApart (lists_with (g.L.Threading.view c.args.symbol.now) c.args.language.now c.args.parts.now) (lists_with (g.L.Threading.view c.args.symbol.now) c.pass.new.language c.pass.new.parts) (lists_with (g.L.Threading.view c.args.symbol.now) c.between.new.self c.between.new.parts) c.in_err-context.field-0.0 c.in_ok-pass.ensures.keeps c.in_err-context.ensures.full)
+    (only_refused ⊥ ⊥ (lists_with (g.L.Threading.view c.args.symbol.now) c.args.language.now c.args.parts.now) (lists_with (g.L.Threading.view c.args.symbol.now) c.pass.new.language c.pass.new.parts) (lists_with (g.L.Threading.view c.args.symbol.now) c.between.new.self c.between.new.parts) c.in_err-context.field-0.0 (λ none. none) c.in_ok-pass.ensures.keeps c.in_err-context.ensures.full)
 
 pub returns-in_err-kept-clause-keeps : goal.returns-in_err-kept-clause-keeps
 returns-in_err-kept-clause-keeps g c =
@@ -100,9 +100,9 @@ pub returns-in_err-kept-clause-full : goal.returns-in_err-kept-clause-full
 returns-in_err-kept-clause-full g c =
     let p = err_from_is_err_and c.from_residual-in_err-kept.result c.from_residual-in_err-kept.ensures.1 in
     rw (p.1, p.2)
-    (only_refused (g.L.Threading.view c.args.symbol.now).TakesApart (lists_with (g.L.Threading.view c.args.symbol.now) c.args.language.now c.args.parts.now) (lists_with (g.L.Threading.view c.args.symbol.now) c.between.new.self c.between.new.parts) (lists_with (g.L.Threading.view c.args.symbol.now) c.begin.new.self c.between.new.parts) c.in_err-kept.field-0.0
+    (only_refused ⊥ ⊥ (lists_with (g.L.Threading.view c.args.symbol.now) c.args.language.now c.args.parts.now) (lists_with (g.L.Threading.view c.args.symbol.now) c.between.new.self c.between.new.parts) (lists_with (g.L.Threading.view c.args.symbol.now) c.begin.new.self c.between.new.parts) c.in_err-kept.field-0.0 (λ none. none)
     (room_then (lists_with (g.L.Threading.view c.args.symbol.now) c.args.language.now c.args.parts.now) (lists_with (g.L.Threading.view c.args.symbol.now) c.pass.new.language c.pass.new.parts) (lists_with (g.L.Threading.view c.args.symbol.now) c.between.new.self c.between.new.parts) c.in_ok-pass.ensures.keeps c.in_ok-context.ensures.keeps)
-    (list_more (g.L.Threading.view c.args.symbol.now).TakesApart (one_by_one c.between.new.parts) (one_by_one c.between.new.parts) ((g.L.Threading.view c.args.symbol.now).lists c.between.new.self) ((g.L.Threading.view c.args.symbol.now).lists c.begin.new.self) (Err c.in_err-kept.field-0.0) c.in_err-kept.ensures.full))
+    (list_more ⊥ (one_by_one c.between.new.parts) (one_by_one c.between.new.parts) ((g.L.Threading.view c.args.symbol.now).lists c.between.new.self) ((g.L.Threading.view c.args.symbol.now).lists c.begin.new.self) (Err c.in_err-kept.field-0.0) c.in_err-kept.ensures.full))
 
 pub returns-clause-keeps : goal.returns-clause-keeps
 returns-clause-keeps g c =

@@ -29,7 +29,7 @@ pub returns-in_err-pass_one-clause-full : goal.returns-in_err-pass_one-clause-fu
 returns-in_err-pass_one-clause-full g c =
     let p = err_from_is_err_and c.from_residual.result c.from_residual.ensures.1 in
     rw (p.1, p.2)
-    (only_refused (g.L.Threading.view c.args.symbol.now).TakesApart (lists_with (g.L.Threading.view c.args.symbol.now) c.args.language.now c.args.parts.now) (lists_with (g.L.Threading.view c.args.symbol.now) c.parts.language c.parts.parts) (lists_with (g.L.Threading.view c.args.symbol.now) c.pass_one.new.language c.pass_one.new.parts) c.in_err-pass_one.field-0.0 c.parts.invariant.7 c.in_err-pass_one.ensures.full)
+    (only_refused ⊥ ⊥ (lists_with (g.L.Threading.view c.args.symbol.now) c.args.language.now c.args.parts.now) (lists_with (g.L.Threading.view c.args.symbol.now) c.parts.language c.parts.parts) (lists_with (g.L.Threading.view c.args.symbol.now) c.pass_one.new.language c.pass_one.new.parts) c.in_err-pass_one.field-0.0 (λ none. none) c.parts.invariant.7 c.in_err-pass_one.ensures.full)
 
 pub returns-clause-keeps : goal.returns-clause-keeps
 returns-clause-keeps g c = c.parts.invariant.7

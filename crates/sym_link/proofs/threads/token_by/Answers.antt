@@ -98,7 +98,7 @@ pub returns-in_err-between-clause-full : goal.returns-in_err-between-clause-full
 returns-in_err-between-clause-full g c =
     let p = err_from_is_err_and c.from_residual-in_err-between.result c.from_residual-in_err-between.ensures.1 in
     rw (p.1, p.2)
-    (only_refused (g.L.Threading.view c.args.symbol.now).TakesApart (lists_with (g.L.Threading.view c.args.symbol.now) c.args.language.now c.args.parts.now) (lists_with (g.L.Threading.view c.args.symbol.now) c.pass.new.language c.pass.new.parts) (lists_with (g.L.Threading.view c.args.symbol.now) c.between.new.self c.between.new.parts) c.in_err-between.field-0.0 c.in_ok-pass.ensures.keeps c.in_err-between.ensures.full)
+    (only_refused ⊥ ((g.L.Threading.view c.args.symbol.now).TakesApart c.args.frame.now.rule (take (c.args.row.to - c.args.row.from) (drop c.args.row.from c.args.symbol.now))) (lists_with (g.L.Threading.view c.args.symbol.now) c.args.language.now c.args.parts.now) (lists_with (g.L.Threading.view c.args.symbol.now) c.pass.new.language c.pass.new.parts) (lists_with (g.L.Threading.view c.args.symbol.now) c.between.new.self c.between.new.parts) c.in_err-between.field-0.0 (λ none. absurd none) c.in_ok-pass.ensures.keeps c.in_err-between.ensures.full)
 
 pub returns-in_err-part-clause-keeps : goal.returns-in_err-part-clause-keeps
 returns-in_err-part-clause-keeps g c =
@@ -109,9 +109,9 @@ pub returns-in_err-part-clause-full : goal.returns-in_err-part-clause-full
 returns-in_err-part-clause-full g c =
     let p = err_from_is_err_and c.from_residual-in_err-part.result c.from_residual-in_err-part.ensures.1 in
     rw (p.1, p.2)
-    (only_refused (g.L.Threading.view c.args.symbol.now).TakesApart (lists_with (g.L.Threading.view c.args.symbol.now) c.args.language.now c.args.parts.now) (lists_with (g.L.Threading.view c.args.symbol.now) c.between.new.self c.between.new.parts) (lists_with (g.L.Threading.view c.args.symbol.now) c.text.new.self c.between.new.parts) c.in_err-part.field-0.0
+    (only_refused ⊥ ((g.L.Threading.view c.args.symbol.now).TakesApart c.args.frame.now.rule (take (c.args.row.to - c.args.row.from) (drop c.args.row.from c.args.symbol.now))) (lists_with (g.L.Threading.view c.args.symbol.now) c.args.language.now c.args.parts.now) (lists_with (g.L.Threading.view c.args.symbol.now) c.between.new.self c.between.new.parts) (lists_with (g.L.Threading.view c.args.symbol.now) c.text.new.self c.between.new.parts) c.in_err-part.field-0.0 (λ none. absurd none)
     (room_then (lists_with (g.L.Threading.view c.args.symbol.now) c.args.language.now c.args.parts.now) (lists_with (g.L.Threading.view c.args.symbol.now) c.pass.new.language c.pass.new.parts) (lists_with (g.L.Threading.view c.args.symbol.now) c.between.new.self c.between.new.parts) c.in_ok-pass.ensures.keeps c.in_ok-between.ensures.keeps)
-    (list_more (g.L.Threading.view c.args.symbol.now).TakesApart (one_by_one c.between.new.parts) (one_by_one c.between.new.parts) ((g.L.Threading.view c.args.symbol.now).lists c.between.new.self) ((g.L.Threading.view c.args.symbol.now).lists c.text.new.self) (Err c.in_err-part.field-0.0) c.in_err-part.ensures.full))
+    (list_more ⊥ (one_by_one c.between.new.parts) (one_by_one c.between.new.parts) ((g.L.Threading.view c.args.symbol.now).lists c.between.new.self) ((g.L.Threading.view c.args.symbol.now).lists c.text.new.self) (Err c.in_err-part.field-0.0) c.in_err-part.ensures.full))
 
 pub returns-in_err-push-clause-keeps : goal.returns-in_err-push-clause-keeps
 returns-in_err-push-clause-keeps g c =

@@ -1,6 +1,6 @@
 use Rattle.std.proofs.Common.{◌∙◌, ap, Ok, None, arith}
 use Rattle.sym_link.proofs.Driving.{driving_none, driving_same, step_moved, step_smaller, step_done, step_refused, none_open, none_kept, driving_on}
-use Rattle.sym_link.specs.Linking.{all_lists}
+use Rattle.sym_link.specs.Linking.{HasToken, all_lists}
 use Rattle.sym_link.proofs.Room.{room_same, room_then, only_refused}
 use Rattle.sym_link.proofs.driver.Driver.run.Goals as goal
 
@@ -74,7 +74,7 @@ returns-in-Err-clause-keeps g c =
 pub returns-in-Err-clause-full : goal.returns-in-Err-clause-full
 returns-in-Err-clause-full g c none =
     rw (c.refuse.ensures.frames, c.refuse.ensures.parts)
-    (only_refused (g.L.Linking.view c.args.symbol.now).TakesApart (all_lists (g.L.Linking.view c.args.symbol.now) c.args.language.now c.args.self.now.frames c.args.self.now.parts) (all_lists (g.L.Linking.view c.args.symbol.now) c.moves.language c.moves.self.frames c.moves.self.parts) (all_lists (g.L.Linking.view c.args.symbol.now) c.advance-moved.new.language c.advance-moved.new.frames c.advance-moved.new.parts) c.in-Err.refusal c.moves.invariant.5
+    (only_refused (HasToken (g.L.Linking.view c.args.symbol.now) c.args.symbol.now) (HasToken (g.L.Linking.view c.args.symbol.now) c.args.symbol.now) (all_lists (g.L.Linking.view c.args.symbol.now) c.args.language.now c.args.self.now.frames c.args.self.now.parts) (all_lists (g.L.Linking.view c.args.symbol.now) c.moves.language c.moves.self.frames c.moves.self.parts) (all_lists (g.L.Linking.view c.args.symbol.now) c.advance-moved.new.language c.advance-moved.new.frames c.advance-moved.new.parts) c.in-Err.refusal (λ more. more) c.moves.invariant.5
     (λ is. c.advance-moved.ensures.full (c.in-Err.is ∙ is)))
 
 pub moves-init : goal.moves-init
