@@ -1,6 +1,7 @@
 -- How the nodes are what the reading of a C++ symbol says.
-use Rattle.std.specs.Prelude.{◌≡◌, ℕ, ◌-◌, ◌*◌, ◌<◌, ◌≤◌, List, length}
+use Rattle.std.specs.Prelude.{◌≡◌, ℕ, ◌-◌, ◌*◌, ◌<◌, ◌≤◌, List, [], ◌∷◌, length}
 use Rattle.sym_link.specs.Reading.{Open}
+use Rattle.sym_link.specs.Room.{Listed}
 use Rattle.sym_link.specs.Linking.{View}
 use Rattle.cpp_grammar.specs.Table.{abi}
 use Rattle.cpp_term.specs.Unfolding.{cpp, first_around, first_state}
@@ -49,6 +50,10 @@ pub record IsPaid (l : Linked) : Type 0 where
   pub begun : 3 ≤ length l.nodes.nodes
   pub thunks : length l.nodes.thunks ≤ length l.nodes.nodes
 
+-- Of C++'s lists nothing is said: a list that always lacks room stands for them.
+abbrev pub unsaid : Listed
+unsaid = record { room = 0; held = 0; most = 1 }
+
 abbrev pub cpp_view : List ℕ → View Linked Part Kept Value State Around
 cpp_view s = record {
   table = abi;
@@ -64,4 +69,6 @@ cpp_view s = record {
   closes = closes;
   most = λ bytes. 2 * bytes;
   IsPaid = λ l bytes. IsPaid l;
+  lists = λ l. unsaid ∷ [];
+  TakesApart = λ number own. ⊥;
 }

@@ -1,6 +1,6 @@
 // What is done before the next part of a rule.
 
-ghost use Rattle.std.specs.Prelude.{◌≡◌, ℕ, ◌+◌, ◌<◌, ◌≤◌, ◌∷◌, ◌++◌, [], List, length, take, drop, true, false, Some, None, IfOk, IfErr, OnOk};
+ghost use Rattle.std.specs.Prelude.{◌≡◌, ℕ, ◌+◌, ◌<◌, ◌≤◌, ◌∷◌, ◌++◌, [], List, length, take, drop, true, false, Some, None, IfOk, IfErr, OnOk, vec_capacity};
 ghost use Rattle.sym_core.specs.declared.refusal.Refusal.TheVariants as refusals;
 ghost use Rattle.sym_link.specs.Linking.{HasRoom, Adds, Pays, owed_behind, owed_next};
 ghost use Rattle.sym_link.specs.Threads.{IsOpenAt, GoesOn, AddsBefore};
@@ -40,6 +40,7 @@ fn put_first(parts: &mut Vec<Part>, base: usize, part: Part)
     ensures own { drop base parts.new.items ≡ part ∷ drop (base + 1) parts.old.items }
     ensures lower { take base parts.new.items ≡ take base parts.old.items }
     ensures count { length parts.new.items ≡ length parts.old.items }
+    ensures capacity { vec_capacity parts.old ≤ vec_capacity parts.new }
 {
     parts[base] = part;
 }
@@ -160,6 +161,7 @@ impl Linked {
         ensures few { (production : Production) → IsStepOf production (length (drop base parts.old.items)) step
             → (production ≡ productions.PackArgument → drop base parts.old.items ≡ variants.Nothing ∷ [] → nodes_of_step step ≡ 0)
             → CountsStep production self.old self.new (drop base parts.old.items) (drop base parts.new.items) result }
+        ensures capacity { vec_capacity parts.old ≤ vec_capacity parts.new }
         ensures memory { IfErr result (λ e. e ≡ refusals.Memory) }
     {
         match step {
@@ -216,6 +218,7 @@ impl Linked {
         ensures few { AddsBefore (cpp_view symbol.now) self.old self.new frame.now parts.old.items (drop frame.now.base parts.new.items ++ variants.Nothing ∷ []) result }
         ensures pays { OnOk result ((at : ℕ) → Pays (cpp_view symbol.now) self.old self.new at at) }
         ensures count { OnOk result (length parts.new.items ≡ length parts.old.items) }
+        ensures capacity { vec_capacity parts.old ≤ vec_capacity parts.new }
     {
         let own = &parts[frame.base..];
         let step = self.step(symbol, production, frame.place, frame.kept, own)?;
@@ -245,6 +248,7 @@ impl Linked {
         ensures few { AddsBefore (cpp_view symbol.now) self.old self.new frame.now parts.old.items (drop frame.now.base parts.new.items ++ variants.Nothing ∷ []) result }
         ensures pays { OnOk result ((at : ℕ) → Pays (cpp_view symbol.now) self.old self.new at at) }
         ensures count { OnOk result (length parts.new.items ≡ length parts.old.items) }
+        ensures capacity { vec_capacity parts.old ≤ vec_capacity parts.new }
     {
         self.go_as(symbol, production, frame, parts)
     }
@@ -269,6 +273,7 @@ impl Linked {
         ensures few { AddsBefore (cpp_view symbol.now) self.old self.new frame.now parts.old.items (drop frame.now.base parts.new.items ++ variants.Nothing ∷ []) result }
         ensures pays { OnOk result ((at : ℕ) → Pays (cpp_view symbol.now) self.old self.new at at) }
         ensures count { OnOk result (length parts.new.items ≡ length parts.old.items) }
+        ensures capacity { vec_capacity parts.old ≤ vec_capacity parts.new }
     {
         let production = production_of(frame.rule);
         match production {
@@ -308,6 +313,7 @@ impl Linked {
         ensures few { AddsBefore (cpp_view symbol.now) self.old self.new frame.now parts.old.items (drop frame.now.base parts.new.items ++ variants.Nothing ∷ []) result }
         ensures pays { OnOk result ((at : ℕ) → Pays (cpp_view symbol.now) self.old self.new at at) }
         ensures count { OnOk result (length parts.new.items ≡ length parts.old.items) }
+        ensures capacity { vec_capacity parts.old ≤ vec_capacity parts.new }
     {
         if parts.len() - frame.base < quiet_parts(frame.rule) {
             return Ok(frame.kept);

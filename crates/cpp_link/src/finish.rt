@@ -1,6 +1,6 @@
 // A rule closes over all its parts.
 
-ghost use Rattle.std.specs.Prelude.{◌≡◌, ℕ, ◌+◌, ◌-◌, ◌<◌, ◌≤◌, ◌^◌, MatchOption, length, slice_get, slice_index, true, Ok, IfOk, IfErr, IfSome, OnOk};
+ghost use Rattle.std.specs.Prelude.{◌≡◌, ℕ, ◌+◌, ◌-◌, ◌<◌, ◌≤◌, ◌^◌, MatchOption, length, slice_get, slice_index, true, Ok, IfOk, IfErr, IfSome, OnOk, vec_capacity};
 ghost use Rattle.sym_core.specs.Number.{FitsSymbol};
 ghost use Rattle.sym_core.specs.Value.{counted_value};
 ghost use Rattle.sym_core.specs.declared.NumberKind.TheVariants as kinds;
@@ -186,6 +186,7 @@ impl Linked {
         ensures adds { OnOk result (Adds (cpp_view symbol.now) self.old self.new (owed_behind (cpp_view symbol.now) frame.now parts.old.items) 0) }
         ensures few { AddsFew (cpp_view symbol.now) self.old self.new frame.now parts.old.items }
         ensures pays { OnOk result ((at : ℕ) → Pays (cpp_view symbol.now) self.old self.new at at) }
+        ensures capacity { vec_capacity parts.old ≤ vec_capacity parts.new }
     {
         let made = self.close_production(
             symbol,
@@ -220,6 +221,7 @@ impl Linked {
         ensures adds { OnOk result (Adds (cpp_view symbol.now) self.old self.new (owed_behind (cpp_view symbol.now) frame.now parts.old.items) 0) }
         ensures few { AddsFew (cpp_view symbol.now) self.old self.new frame.now parts.old.items }
         ensures pays { OnOk result ((at : ℕ) → Pays (cpp_view symbol.now) self.old self.new at at) }
+        ensures capacity { vec_capacity parts.old ≤ vec_capacity parts.new }
     {
         self.finish_as(symbol, production, frame, parts)
     }
@@ -245,6 +247,7 @@ impl Linked {
         ensures adds { OnOk result (Adds (cpp_view symbol.now) self.old self.new (owed_behind (cpp_view symbol.now) frame.now parts.old.items) 0) }
         ensures few { AddsFew (cpp_view symbol.now) self.old self.new frame.now parts.old.items }
         ensures pays { OnOk result ((at : ℕ) → Pays (cpp_view symbol.now) self.old self.new at at) }
+        ensures capacity { vec_capacity parts.old ≤ vec_capacity parts.new }
     {
         let production = production_of(frame.rule);
         match production {

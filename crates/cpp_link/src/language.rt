@@ -3,7 +3,8 @@
 
 ghost use Rattle.std.specs.Prelude.{◌≡◌, ℕ, ◌+◌, ◌-◌, ◌<◌, ◌≤◌, ◌∷◌, ◌++◌, [], List, length, take, drop, OnOk, OnErr};
 ghost use Rattle.sym_link.specs.Driving.{AreAll};
-ghost use Rattle.sym_link.specs.Linking.{HasRoom, IsOpen, OpensRoot, Opens, TakesToken, ClosesRule, Adds, AddsFew, Pays, owed_behind, owed_next};
+ghost use Rattle.sym_link.specs.Linking.{HasRoom, IsOpen, OpensRoot, Opens, TakesToken, ClosesRule, Adds, AddsFew, Pays, KeepsRoom, NeedsRoom, TokenNeedsRoom, owed_behind, owed_next};
+ghost use Rattle.sym_link.specs.Room.{KeepRoom, OnlyForRoom};
 ghost use Rattle.sym_link.specs.Threads.{IsOpenAt, GoesOn, BeginsIn, ClosesAll, IsTaken, IsAhead, IsAheadToken, IsCount, AddsBefore};
 ghost use Rattle.cpp_link.specs.declared.part.Part.TheVariants as variants;
 ghost use Rattle.cpp_term.specs.Values.{Value, State, Around};
@@ -69,6 +70,8 @@ impl Threading for Linked {
         ensures few { AddsBefore (cpp_view symbol.now) self.old self.new frame.now parts.old.items (drop frame.now.base parts.new.items ++ variants.Nothing ∷ []) result }
         ensures pays { OnOk result ((at : ℕ) → Pays (cpp_view symbol.now) self.old self.new at at) }
         ensures count { OnOk result (length parts.new.items ≡ length parts.old.items) }
+        ensures keeps { KeepsRoom (cpp_view symbol.now) self.old self.new parts.old parts.new }
+        ensures full { NeedsRoom (cpp_view symbol.now) self.old self.new parts.old parts.new result }
     {
         self.go_on(symbol, frame, parts)
     }
@@ -86,6 +89,8 @@ impl Threading for Linked {
         ensures adds { OnOk result (Adds (cpp_view symbol.now) self.old self.new 0 0) }
         ensures few { OnErr result ((cpp_view symbol.now).size self.new ≤ (cpp_view symbol.now).size self.old) }
         ensures pays { OnOk result ((at : ℕ) → Pays (cpp_view symbol.now) self.old self.new at at) }
+        ensures keeps { KeepRoom ((cpp_view symbol.now).lists self.old) ((cpp_view symbol.now).lists self.new) }
+        ensures full { OnlyForRoom ⊥ ((cpp_view symbol.now).lists self.old) ((cpp_view symbol.now).lists self.new) result }
     {
         self.begin_rule(symbol, rows, context, row)
     }
@@ -105,6 +110,8 @@ impl Threading for Linked {
         ensures adds { OnOk result (Adds (cpp_view symbol.now) self.old self.new (owed_behind (cpp_view symbol.now) frame.now parts.old.items) 0) }
         ensures few { AddsFew (cpp_view symbol.now) self.old self.new frame.now parts.old.items }
         ensures pays { OnOk result ((at : ℕ) → Pays (cpp_view symbol.now) self.old self.new at at) }
+        ensures keeps { KeepsRoom (cpp_view symbol.now) self.old self.new parts.old parts.new }
+        ensures full { NeedsRoom (cpp_view symbol.now) self.old self.new parts.old parts.new result }
     {
         self.finish_rule(symbol, frame, parts)
     }
@@ -130,6 +137,8 @@ impl Threading for Linked {
         ensures adds { OnOk result (Adds (cpp_view symbol.now) self.old self.new 0 0) }
         ensures few { OnErr result ((cpp_view symbol.now).size self.new ≤ (cpp_view symbol.now).size self.old) }
         ensures pays { OnOk result ((at : ℕ) → Pays (cpp_view symbol.now) self.old self.new at at) }
+        ensures keeps { KeepRoom ((cpp_view symbol.now).lists self.old) ((cpp_view symbol.now).lists self.new) }
+        ensures full { OnlyForRoom ⊥ ((cpp_view symbol.now).lists self.old) ((cpp_view symbol.now).lists self.new) result }
     {
         Ok(self.text_at(symbol, row))
     }
@@ -169,6 +178,8 @@ impl Linking for Linked {
         ensures adds { OnOk result (Adds (cpp_view symbol.now) self.old self.new 0 0) }
         ensures few { OnErr result ((cpp_view symbol.now).size self.new ≤ (cpp_view symbol.now).size self.old) }
         ensures pays { OnOk result (Pays (cpp_view symbol.now) self.old self.new 0 0) }
+        ensures keeps { KeepRoom ((cpp_view symbol.now).lists self.old) ((cpp_view symbol.now).lists self.new) }
+        ensures full { OnlyForRoom ⊥ ((cpp_view symbol.now).lists self.old) ((cpp_view symbol.now).lists self.new) result }
     {
         match production_of(row.rule) {
             Production::Symbol => Ok(OUTSIDE),
@@ -194,6 +205,8 @@ impl Linking for Linked {
         ensures adds { OnOk result (Adds (cpp_view symbol.now) self.old self.new (owed_behind (cpp_view symbol.now) frame.now parts.old.items) (owed_next (cpp_view symbol.now) frame.now parts.new.items)) }
         ensures few { OnErr result (AddsFew (cpp_view symbol.now) self.old self.new frame.now parts.old.items) }
         ensures pays { OnOk result ((at : ℕ) → at ≤ row.from → Pays (cpp_view symbol.now) self.old self.new at row.from) }
+        ensures keeps { KeepsRoom (cpp_view symbol.now) self.old self.new parts.old parts.new }
+        ensures full { NeedsRoom (cpp_view symbol.now) self.old self.new parts.old parts.new result }
     {
         enter_by(self, symbol, rows, frame, parts, row)
     }
@@ -216,6 +229,8 @@ impl Linking for Linked {
         ensures few { OnErr result (AddsFew (cpp_view symbol.now) self.old self.new frame.now parts.old.items) }
         ensures pays { OnOk result ((at : ℕ) → at ≤ row.from → (length parts.old.items ≡ frame.now.base → at ≤ frame.now.place)
             → Pays (cpp_view symbol.now) self.old self.new at row.to) }
+        ensures keeps { KeepsRoom (cpp_view symbol.now) self.old self.new parts.old parts.new }
+        ensures full { TokenNeedsRoom (cpp_view symbol.now) symbol.now self.old self.new frame.now parts.old parts.new row result }
     {
         token_by(self, symbol, frame, parts, row)?;
         Ok(())
@@ -236,6 +251,8 @@ impl Linking for Linked {
         ensures adds { OnOk result (Adds (cpp_view symbol.now) self.old self.new (owed_behind (cpp_view symbol.now) frame.now parts.old.items) 0) }
         ensures few { AddsFew (cpp_view symbol.now) self.old self.new frame.now parts.old.items }
         ensures pays { OnOk result ((at : ℕ) → Pays (cpp_view symbol.now) self.old self.new at at) }
+        ensures keeps { KeepsRoom (cpp_view symbol.now) self.old self.new parts.old parts.new }
+        ensures full { NeedsRoom (cpp_view symbol.now) self.old self.new parts.old parts.new result }
     {
         close_by(self, symbol, frame, parts)
     }

@@ -190,7 +190,7 @@ pushed-there y z e number is at table noted = rw (is, at) (stands-there y e tabl
 pub pushed-stays : (y z : Table) (e : Entry) → z ≡ with_entry y e → IsTable y → IsNoted y e → (i : ℕ) → i < length y.nodes → tree_at (trees z) i ≡ tree_at (trees y) i
 pushed-stays y z e is table noted i less = ap (λ x. tree_at (trees x) i) is ∙ earlier-stays y e table noted i less
 
-pub with-one-more : (s : List ℕ) (stored : Stored) (es : List Entry) (us : List Thunk) (e : Entry) → es ≡ stored.nodes ++ e ∷ [] → us ≡ stored.thunks → over s (record { nodes = es; thunks = us }) ≡ with_entry (over s stored) e
+pub with-one-more : (s : List ℕ) (stored : Stored) (es : List Entry) (us : List Thunk) (e : Entry) → es ≡ stored.nodes ++ e ∷ [] → us ≡ stored.thunks → (let more : Table = record { bytes = s; nodes = es; thunks = us } in more ≡ with_entry (over s stored) e)
 with-one-more s stored es us e is same = rw (is, same) refl
 
 -- ## The first three
@@ -276,5 +276,5 @@ adjusted y z u is table within = subst IsTable (sym is) (adjusted-table y u tabl
 pub adjusted-trees : (y z : Table) (u : Thunk) → z ≡ with_thunk y u → IsTable y → IsThunkWithin y.bytes u → trees z ≡ trees y
 adjusted-trees y z u is table within = ap trees is ∙ same-trees y u table within
 
-pub with-thunk-more : (s : List ℕ) (stored : Stored) (es : List Entry) (us : List Thunk) (u : Thunk) → es ≡ stored.nodes → us ≡ stored.thunks ++ u ∷ [] → over s (record { nodes = es; thunks = us }) ≡ with_thunk (over s stored) u
+pub with-thunk-more : (s : List ℕ) (stored : Stored) (es : List Entry) (us : List Thunk) (u : Thunk) → es ≡ stored.nodes → us ≡ stored.thunks ++ u ∷ [] → (let more : Table = record { bytes = s; nodes = es; thunks = us } in more ≡ with_thunk (over s stored) u)
 with-thunk-more s stored es us u same is = rw (same, is) refl

@@ -19,10 +19,12 @@ use Rattle.cpp_tree.specs.declared.node.Head.{Head}
 use Rattle.cpp_tree.specs.declared.node.HeadClass.{HeadClass}
 use Rattle.cpp_tree.specs.declared.node.Entry.{Entry}
 
--- what is stored: the nodes, and what thunks adjust
+-- what is stored: the nodes, and what thunks adjust; and how many of each fit without taking memory
 pub record Stored : Type 0 where
   pub nodes : List Entry
   pub thunks : List Thunk
+  pub node_room : ℕ
+  pub thunk_room : ℕ
 
 -- a table: what is stored, and the bytes of the symbol that it is of
 pub record Table : Type 0 where

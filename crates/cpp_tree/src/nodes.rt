@@ -20,13 +20,13 @@ pub struct Nodes {
 }
 
 impl Model for Nodes {
-    ghost use Rattle.std.specs.Prelude.{map};
+    ghost use Rattle.std.specs.Prelude.{map, vec_capacity};
     ghost use Rattle.cpp_tree.specs.Compact.{entry_of};
     ghost use Rattle.cpp_tree.specs.Nodes.{Stored};
 
     ghost Value = { Stored };
 
-    ghost view = { λ t. record { nodes = map entry_of t.entries.items; thunks = t.thunks.items } };
+    ghost view = { λ t. record { nodes = map entry_of t.entries.items; thunks = t.thunks.items; node_room = vec_capacity t.entries; thunk_room = vec_capacity t.thunks } };
 }
 
 /// The node where no tree is.
@@ -60,6 +60,9 @@ impl Nodes {
         ensures nodes { OnOk result (length self.new.nodes ≡ 3) }
         ensures thunks { OnOk result (self.new.thunks ≡ []) }
         ensures memory { IfErr result (λ e. e ≡ Refusal.Memory) }
+        ensures full { OnErr result (self.old.node_room < 3) }
+        ensures node_room { self.old.node_room ≤ self.new.node_room }
+        ensures thunk_room { self.new.thunk_room ≡ self.old.thunk_room }
     {
         self.entries.clear();
         self.thunks.clear();
@@ -141,6 +144,9 @@ impl Nodes {
         ensures thunks { self.new.thunks ≡ self.old.thunks }
         ensures same { OnErr result (self.new ≡ self.old) }
         ensures memory { IfErr result (λ e. e ≡ Refusal.Memory) }
+        ensures full { OnErr result (self.old.node_room < length self.old.nodes + 1) }
+        ensures node_room { self.old.node_room ≤ self.new.node_room }
+        ensures thunk_room { self.new.thunk_room ≡ self.old.thunk_room }
     {
         let number = self.len() as u32;
         let compact = self.noted(symbol, node);
@@ -167,6 +173,9 @@ impl Nodes {
         ensures nodes { self.new.nodes ≡ self.old.nodes }
         ensures same { OnErr result (self.new ≡ self.old) }
         ensures memory { IfErr result (λ e. e ≡ Refusal.Memory) }
+        ensures full { OnErr result (self.old.thunk_room < length self.old.thunks + 1) }
+        ensures node_room { self.new.node_room ≡ self.old.node_room }
+        ensures thunk_room { self.old.thunk_room ≤ self.new.thunk_room }
     {
         let number = self.thunks.len() as u32;
         if self.thunks.reserve(1).is_err() {

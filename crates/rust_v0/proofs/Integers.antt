@@ -24,7 +24,7 @@ digits_left zero ds are = are
 digits_left (suc n) [] are = are
 digits_left (suc n) (d ∷ ds) are = digits_left n ds are.1
 
-text_few : (minus : Bool) (ds : List ℕ) → AreDigits Hex ds → value_of Hex ds < 2 ^ 128 → 0 < value_of Hex ds
+pub text_few : (minus : Bool) (ds : List ℕ) → AreDigits Hex ds → value_of Hex ds < 2 ^ 128 → 0 < value_of Hex ds
     → length (signed_text minus (value_of Hex ds)) ≤ 4 * length ds
 text_few minus [] are wide more = absurd (omega (arith, more))
 text_few true (d ∷ ds) are wide more = omega (arith, hex-decimal-few (d ∷ ds) are wide, length-append (45 ∷ []) (decimal (value_of Hex (d ∷ ds))))

@@ -19,3 +19,4 @@ pub mod Taking
 pub mod Sorts
 pub mod SortedParts
 pub mod SortedTrees
+mod Undecoded

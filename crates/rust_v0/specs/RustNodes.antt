@@ -1,5 +1,6 @@
 -- How the nodes that have been made are what the reading of a symbol says.
-use Rattle.std.specs.Prelude.{◌≡◌, ◌⊎◌, ℕ, ◌+◌, ◌-◌, ◌*◌, ◌≤◌, ◌<◌, List, length, get_or, slice_get, Option, Some, None, Err, nat_le, if◌then◌else◌}
+use Rattle.std.specs.Prelude.{◌≡◌, ◌⊎◌, ℕ, ◌+◌, ◌-◌, ◌*◌, ◌≤◌, ◌<◌, List, [], ◌∷◌, true, length, get_or, slice_get, Option, Some, None, Err, nat_le, if◌then◌else◌}
+use Rattle.sym_core.specs.Printed.{IsDecoded}
 use Rattle.sym_link.specs.Linking.{View}
 use Rattle.rust_tree.specs.Symbol as tree
 use Rattle.rust_tree.specs.Tree.{Tree, of_type}
@@ -11,6 +12,7 @@ use Rattle.rust_v0.specs.declared.nodes.Target.{Target}
 use Rattle.rust_v0.specs.declared.nodes.BoundLifetimes.{BoundLifetimes}
 use Rattle.rust_v0.specs.declared.nodes.RustNodes.{RustNodes}
 use Rattle.rust_v0.specs.declared.part.Part.{Part}
+use Rattle.rust_v0.specs.Productions.{production_of}
 use Rattle.rust_v0.specs.Rules.{v0_table}
 use Rattle.rust_v0.specs.Value as value
 use Rattle.rust_v0.specs.Value.{Value, State, Ended}
@@ -59,6 +61,10 @@ pub record IsPaid (linked : RustNodes) (bytes : ℕ) : Type 0 where
   pub text : length linked.nodes.text ≤ 4 * bytes + 20
   pub zero : HasZero linked.nodes.text
 
+-- how many bytes a token adds to the text list at once, at most
+abbrev pub most_text : List ℕ → ℕ
+most_text s = 4 * length s + 10
+
 abbrev pub v0_view : List ℕ → View RustNodes Part BoundLifetimes Value State ℕ
 v0_view s = record {
   table = v0_table;
@@ -74,6 +80,11 @@ v0_view s = record {
   closes = λ number own. 1;
   most = λ bytes. 4 * bytes + 4;
   IsPaid = IsPaid;
+  lists = λ linked.
+      record { room = linked.nodes.node_room; held = length linked.nodes.nodes; most = 1 }
+      ∷ record { room = linked.nodes.text_room; held = length linked.nodes.text; most = most_text s } ∷ [];
+  -- a name is decoded with memory of its own
+  TakesApart = λ number own. (production_of number ≡ Some rules.PunycodeName) × IsDecoded true own;
 }
 
 -- a reference to what has ended, which needs so many lifetimes

@@ -2,10 +2,10 @@
 // closes.
 
 ghost use Rattle.std.specs.Bool.{OnTrue, OnFalse};
-ghost use Rattle.std.specs.Prelude.{◌≡◌, ℕ, ◌<◌, ◌≤◌, ◌∷◌, [], List, length, drop, take, slice_index, Some, true, OnOk, OnErr};
+ghost use Rattle.std.specs.Prelude.{◌≡◌, ◌≢◌, IfErr, ℕ, ◌<◌, ◌≤◌, ◌∷◌, [], List, length, drop, take, slice_index, Some, true, OnOk, OnErr};
 ghost use Rattle.sym_core.specs.Number.{FitsSymbol};
 ghost use Rattle.sym_core.specs.declared.refusal.Refusal.TheVariants as refusals;
-ghost use Rattle.sym_link.specs.Linking.{HasRoom, TakesToken, ClosesRule, Adds, AddsFew, Pays, owed_behind, owed_next};
+ghost use Rattle.sym_link.specs.Linking.{HasRoom, TakesToken, ClosesRule, Adds, AddsFew, Pays, KeepsRoom, NeedsRoom, TokenNeedsRoom, owed_behind, owed_next};
 ghost use Rattle.rust_tree.specs.declared.node.Name.{Name};
 ghost use Rattle.rust_v0.specs.declared.part.Part.{Part};
 ghost use Rattle.rust_v0.specs.RustNodes.{v0_view};
@@ -126,6 +126,8 @@ impl RustNodes {
         ensures few { OnErr result (AddsFew (v0_view symbol.now) self.old self.new frame parts.old.items) }
         ensures pays { OnOk result ((at : ℕ) → at ≤ row.from → (length parts.old.items ≡ frame.base → at ≤ frame.place)
             → Pays (v0_view symbol.now) self.old self.new at row.to) }
+        ensures keeps { KeepsRoom (v0_view symbol.now) self.old self.new parts.old parts.new }
+        ensures full { TokenNeedsRoom (v0_view symbol.now) symbol.now self.old self.new frame parts.old parts.new row result }
     {
         let own = Span {
             from: row.from,
@@ -154,6 +156,8 @@ impl RustNodes {
         ensures few { OnErr result (AddsFew (v0_view symbol.now) self.old self.new frame parts.old.items) }
         ensures pays { OnOk result ((at : ℕ) → at ≤ row.from → (length parts.old.items ≡ frame.base → at ≤ frame.place)
             → Pays (v0_view symbol.now) self.old self.new at row.to) }
+        ensures keeps { KeepsRoom (v0_view symbol.now) self.old self.new parts.old parts.new }
+        ensures full { TokenNeedsRoom (v0_view symbol.now) symbol.now self.old self.new frame parts.old parts.new row result }
     {
         self.take_as(symbol, sort_of(frame.rule), frame, parts, row)
     }
@@ -176,6 +180,8 @@ impl RustNodes {
         ensures few { OnErr result (AddsFew (v0_view symbol.now) self.old self.new frame parts.old.items) }
         ensures pays { OnOk result ((at : ℕ) → at ≤ row.from → (length parts.old.items ≡ frame.base → at ≤ frame.place)
             → Pays (v0_view symbol.now) self.old self.new at row.to) }
+        ensures keeps { KeepsRoom (v0_view symbol.now) self.old self.new parts.old parts.new }
+        ensures full { TokenNeedsRoom (v0_view symbol.now) symbol.now self.old self.new frame parts.old parts.new row result }
     {
         self.take_any(symbol, Frame { ..frame }, parts, Row { ..row })
     }
@@ -198,6 +204,8 @@ impl RustNodes {
         ensures adds { OnOk result (Adds (v0_view symbol.now) self.old self.new (owed_behind (v0_view symbol.now) frame parts.old.items) 0) }
         ensures few { AddsFew (v0_view symbol.now) self.old self.new frame parts.old.items }
         ensures pays { OnOk result ((at : ℕ) → Pays (v0_view symbol.now) self.old self.new at at) }
+        ensures keeps { KeepsRoom (v0_view symbol.now) self.old self.new parts.old parts.new }
+        ensures full { NeedsRoom (v0_view symbol.now) self.old self.new parts.old parts.new result }
     {
         let site = site_of(symbol, frame);
         let part = part_by(production, site, &parts[frame.base..])?;
@@ -214,6 +222,7 @@ impl RustNodes {
         parts: &mut Vec<Part>,
     ) -> Result<(), Refusal>
         requires made { semantics.IsMadeBy made frame.rule (drop frame.base parts.old.items) }
+        requires never { IfErr made (λ e. e ≢ refusals.Memory) }
         requires room { HasRoom (v0_view _symbol.now) _symbol.now self.old (owed_behind (v0_view _symbol.now) frame parts.old.items) }
         requires base { frame.base ≤ length parts.old.items }
         requires place { frame.place < length _symbol.now }
@@ -221,6 +230,8 @@ impl RustNodes {
         ensures adds { OnOk result (Adds (v0_view _symbol.now) self.old self.new (owed_behind (v0_view _symbol.now) frame parts.old.items) 0) }
         ensures few { AddsFew (v0_view _symbol.now) self.old self.new frame parts.old.items }
         ensures pays { OnOk result ((at : ℕ) → Pays (v0_view _symbol.now) self.old self.new at at) }
+        ensures keeps { KeepsRoom (v0_view _symbol.now) self.old self.new parts.old parts.new }
+        ensures full { NeedsRoom (v0_view _symbol.now) self.old self.new parts.old parts.new result }
     {
         let added = self.add_made(frame.place, made)?;
         put(parts, frame.base, part_of(added))
@@ -241,6 +252,8 @@ impl RustNodes {
         ensures adds { OnOk result (Adds (v0_view symbol.now) self.old self.new (owed_behind (v0_view symbol.now) frame parts.old.items) 0) }
         ensures few { AddsFew (v0_view symbol.now) self.old self.new frame parts.old.items }
         ensures pays { OnOk result ((at : ℕ) → Pays (v0_view symbol.now) self.old self.new at at) }
+        ensures keeps { KeepsRoom (v0_view symbol.now) self.old self.new parts.old parts.new }
+        ensures full { NeedsRoom (v0_view symbol.now) self.old self.new parts.old parts.new result }
     {
         let Some(production) = numbered(frame.rule) else {
             return Err(NO_SUCH_PARTS);
@@ -274,6 +287,8 @@ impl RustNodes {
         ensures adds { OnOk result (Adds (v0_view symbol.now) self.old self.new (owed_behind (v0_view symbol.now) frame parts.old.items) 0) }
         ensures few { AddsFew (v0_view symbol.now) self.old self.new frame parts.old.items }
         ensures pays { OnOk result ((at : ℕ) → Pays (v0_view symbol.now) self.old self.new at at) }
+        ensures keeps { KeepsRoom (v0_view symbol.now) self.old self.new parts.old parts.new }
+        ensures full { NeedsRoom (v0_view symbol.now) self.old self.new parts.old parts.new result }
     {
         self.close_any(symbol, Frame { ..frame }, parts)
     }
@@ -281,7 +296,8 @@ impl RustNodes {
 
 impl Linking for RustNodes {
     ghost use Rattle.std.specs.Prelude.{◌≡◌, ℕ, ◌+◌, ◌<◌, ◌≤◌, [], List, length, take, drop, OnOk, OnErr};
-    ghost use Rattle.sym_link.specs.Linking.{HasRoom, IsOpen, OpensRoot, Opens, TakesToken, ClosesRule, Adds, AddsFew, Pays, owed_behind, owed_next};
+    ghost use Rattle.sym_link.specs.Linking.{HasRoom, IsOpen, OpensRoot, Opens, TakesToken, ClosesRule, Adds, AddsFew, Pays, KeepsRoom, NeedsRoom, TokenNeedsRoom, owed_behind, owed_next};
+    ghost use Rattle.sym_link.specs.Room.{KeepRoom, OnlyForRoom};
     ghost use Rattle.rust_v0.specs.Value.{Value, State};
     ghost use Rattle.rust_v0.specs.RustNodes.{v0_view};
     ghost use Rattle.rust_v0.specs.LanguageLaws.{v0_laws};
@@ -305,6 +321,8 @@ impl Linking for RustNodes {
         ensures adds { OnOk result (Adds (v0_view symbol.now) self.old self.new 0 0) }
         ensures few { OnErr result ((v0_view symbol.now).size self.new ≤ (v0_view symbol.now).size self.old) }
         ensures pays { OnOk result (Pays (v0_view symbol.now) self.old self.new 0 0) }
+        ensures keeps { KeepRoom ((v0_view symbol.now).lists self.old) ((v0_view symbol.now).lists self.new) }
+        ensures full { OnlyForRoom ⊥ ((v0_view symbol.now).lists self.old) ((v0_view symbol.now).lists self.new) result }
     {
         Ok(BoundLifetimes { bound: 0 })
     }
@@ -326,6 +344,8 @@ impl Linking for RustNodes {
         ensures adds { OnOk result (Adds (v0_view symbol.now) self.old self.new (owed_behind (v0_view symbol.now) frame.now parts.old.items) (owed_next (v0_view symbol.now) frame.now parts.new.items)) }
         ensures few { OnErr result (AddsFew (v0_view symbol.now) self.old self.new frame.now parts.old.items) }
         ensures pays { OnOk result ((at : ℕ) → at ≤ row.from → Pays (v0_view symbol.now) self.old self.new at row.from) }
+        ensures keeps { KeepsRoom (v0_view symbol.now) self.old self.new parts.old parts.new }
+        ensures full { NeedsRoom (v0_view symbol.now) self.old self.new parts.old parts.new result }
     {
         let bound = bound_behind(*frame, parts);
         Ok(BoundLifetimes { bound })
@@ -349,6 +369,8 @@ impl Linking for RustNodes {
         ensures few { OnErr result (AddsFew (v0_view symbol.now) self.old self.new frame.now parts.old.items) }
         ensures pays { OnOk result ((at : ℕ) → at ≤ row.from → (length parts.old.items ≡ frame.now.base → at ≤ frame.now.place)
             → Pays (v0_view symbol.now) self.old self.new at row.to) }
+        ensures keeps { KeepsRoom (v0_view symbol.now) self.old self.new parts.old parts.new }
+        ensures full { TokenNeedsRoom (v0_view symbol.now) symbol.now self.old self.new frame.now parts.old parts.new row result }
     {
         let frame = *frame;
         match sort_of(frame.rule) {
@@ -378,6 +400,8 @@ impl Linking for RustNodes {
         ensures adds { OnOk result (Adds (v0_view symbol.now) self.old self.new (owed_behind (v0_view symbol.now) frame.now parts.old.items) 0) }
         ensures few { AddsFew (v0_view symbol.now) self.old self.new frame.now parts.old.items }
         ensures pays { OnOk result ((at : ℕ) → Pays (v0_view symbol.now) self.old self.new at at) }
+        ensures keeps { KeepsRoom (v0_view symbol.now) self.old self.new parts.old parts.new }
+        ensures full { NeedsRoom (v0_view symbol.now) self.old self.new parts.old parts.new result }
     {
         let frame = *frame;
         match numbered(frame.rule) {

@@ -1,7 +1,7 @@
 // The table of the nodes that a symbol is linked to: how it begins, what is added where a rule closes, and what references
 // stand for.
 
-ghost use Rattle.std.specs.Prelude.{◌≡◌, ℕ, ◌+◌, ◌<◌, ◌≤◌, ◌++◌, ◌^◌, List, [], length, get_or, slice_get, slice_index, Some, Option, slice_set, replicate, true, false, Ok, IfOk, OnOk, IfErr};
+ghost use Rattle.std.specs.Prelude.{◌≡◌, ◌≢◌, ℕ, ◌+◌, ◌<◌, ◌≤◌, ◌++◌, ◌^◌, List, [], length, get_or, slice_get, slice_index, Some, Option, slice_set, replicate, true, false, Ok, IfOk, OnOk, IfErr};
 ghost use Rattle.sym_core.specs.declared.refusal.Refusal.TheVariants as refusals;
 ghost use Rattle.rust_v0.specs.declared.nodes.Target.TheVariants as target;
 ghost use Rattle.rust_v0.specs.Made.{Made};
@@ -172,6 +172,9 @@ impl RustNodes {
         ensures grows { GoesOn self.old self.new }
         ensures one { length self.new.nodes.nodes ≤ length self.old.nodes.nodes + 1 }
         ensures text { self.new.nodes.text ≡ self.old.nodes.text }
+        ensures full { IfErr result (λ e. e ≡ refusals.Memory → self.old.nodes.node_room < length self.new.nodes.nodes + 1) }
+        ensures node_room { self.old.nodes.node_room ≤ self.new.nodes.node_room }
+        ensures text_room { self.new.nodes.text_room ≡ self.old.nodes.text_room }
     {
         let number = self.nodes.push(node)?;
         let (added, target) = placed(node, number);
@@ -195,6 +198,7 @@ impl RustNodes {
             → IsPart (ground at.symbol self.old.nodes) part v → Gives (v0_view at.symbol) self.new result (refers_to at v (need_of_tree t)) }
         ensures nodes { self.new.nodes ≡ self.old.nodes }
         ensures places { length self.new.targets.items ≡ length self.old.targets.items }
+        ensures never { IfErr result (λ e. e ≢ refusals.Memory) }
     {
         if self.nodes.need(node) > bound {
             return Err(Refusal::BadReference { at: place });
@@ -209,6 +213,7 @@ impl RustNodes {
             → IsNoted (trees at.symbol self.old.nodes.nodes) found known → Gives (v0_view at.symbol) self.new result (refers_to_path at (as_path known)) }
         ensures nodes { self.new.nodes ≡ self.old.nodes }
         ensures places { length self.new.targets.items ≡ length self.old.targets.items }
+        ensures never { IfErr result (λ e. e ≢ refusals.Memory) }
     {
         match found {
             Target::Path(node) => self.refer(place, bound, node, found, Part::Path(node)),
@@ -224,6 +229,7 @@ impl RustNodes {
             → IsNoted (trees at.symbol self.old.nodes.nodes) found known → Gives (v0_view at.symbol) self.new result (refers_to_type at (as_type known)) }
         ensures nodes { self.new.nodes ≡ self.old.nodes }
         ensures places { length self.new.targets.items ≡ length self.old.targets.items }
+        ensures never { IfErr result (λ e. e ≢ refusals.Memory) }
     {
         match found {
             Target::Path(node) => self.refer(place, bound, node, found, Part::Type(node)),
@@ -238,6 +244,7 @@ impl RustNodes {
             → IsNoted (trees at.symbol self.old.nodes.nodes) found known → Gives (v0_view at.symbol) self.new result (refers_to_constant at (as_constant known)) }
         ensures nodes { self.new.nodes ≡ self.old.nodes }
         ensures places { length self.new.targets.items ≡ length self.old.targets.items }
+        ensures never { IfErr result (λ e. e ≢ refusals.Memory) }
     {
         match found {
             Target::Constant(node) => self.refer(place, bound, node, found, Part::Constant(node)),
@@ -259,6 +266,7 @@ impl RustNodes {
             → Keeps at.symbol self.old at.ended → IsNoted (trees at.symbol self.old.nodes.nodes) found known → Gives (v0_view at.symbol) self.new result (refers_by production at known) }
         ensures nodes { self.new.nodes ≡ self.old.nodes }
         ensures places { length self.new.targets.items ≡ length self.old.targets.items }
+        ensures never { IfErr result (λ e. e ≢ refusals.Memory) }
     {
         match production {
             Production::PathReference => self.refer_to_path(place, bound, found),
@@ -281,6 +289,7 @@ impl RustNodes {
             → Gives (v0_view at.symbol) self.new result (meaning production at known) }
         ensures nodes { self.new.nodes ≡ self.old.nodes }
         ensures places { length self.new.targets.items ≡ length self.old.targets.items }
+        ensures never { IfErr result (λ e. e ≢ refusals.Memory) }
     {
         let (found, _) = number(parts)?;
         let target = referred(&self.targets, found);
@@ -291,11 +300,15 @@ impl RustNodes {
     #[inline(always)]
     pub fn add_made(&mut self, place: u32, made: Result<Node, Refusal>) -> Result<Added, Refusal>
         requires room { length self.old.nodes.nodes + 1 < 2 ^ 32 }
+        requires never { IfErr made (λ e. e ≢ refusals.Memory) }
         ensures gives { (at : At) (read : Meaning) (meant : Outcome) → of_node made ≡ meant → at.place ≡ place → place < length self.old.targets.items → Keeps at.symbol self.old at.ended
             → MadeGives at.symbol self.old.nodes at meant read → Gives (v0_view at.symbol) self.new (semantics.as_part result) read }
         ensures grows { GoesOn self.old self.new }
         ensures one { length self.new.nodes.nodes ≤ length self.old.nodes.nodes + 1 }
         ensures text { self.new.nodes.text ≡ self.old.nodes.text }
+        ensures full { IfErr result (λ e. e ≡ refusals.Memory → self.old.nodes.node_room < length self.new.nodes.nodes + 1) }
+        ensures node_room { self.old.nodes.node_room ≤ self.new.nodes.node_room }
+        ensures text_room { self.new.nodes.text_room ≡ self.old.nodes.text_room }
     {
         match made {
             Ok(node) => self.add(place, node),
@@ -318,6 +331,9 @@ impl RustNodes {
         ensures grows { GoesOn self.old self.new }
         ensures one { length self.new.nodes.nodes ≤ length self.old.nodes.nodes + 1 }
         ensures text { self.new.nodes.text ≡ self.old.nodes.text }
+        ensures full { IfErr result (λ e. e ≡ refusals.Memory → self.old.nodes.node_room < length self.new.nodes.nodes + 1) }
+        ensures node_room { self.old.nodes.node_room ≤ self.new.nodes.node_room }
+        ensures text_room { self.new.nodes.text_room ≡ self.old.nodes.text_room }
     {
         let place = site.place;
         match production {

@@ -1,6 +1,7 @@
 // The operands of a rule's meaning: what stands at the front of its parts, and the parts behind it.
 
-ghost use Rattle.std.specs.Prelude.{◌≡◌, MatchResult, Ok, Err};
+ghost use Rattle.std.specs.Prelude.{◌≡◌, ◌≢◌, MatchResult, Ok, Err, IfErr};
+ghost use Rattle.sym_core.specs.declared.refusal.Refusal.TheVariants as refusals;
 ghost use Rattle.rust_v0.specs.CodeOperands as operands;
 
 use crate::part::{Integer, NO_SUCH_PARTS, Part};
@@ -20,7 +21,8 @@ pub const EMPTY_BINDINGS: u32 = 2;
 
 /// The letter at the front, and the parts behind it.
 pub fn letter(parts: &[Part]) -> Result<(u8, &[Part]), Refusal>
-    ensures { MatchResult result (λ r. operands.letter parts.now ≡ Ok (r.0, r.1.now)) (λ e. operands.letter parts.now ≡ Err e) }
+    ensures is { MatchResult result (λ r. operands.letter parts.now ≡ Ok (r.0, r.1.now)) (λ e. operands.letter parts.now ≡ Err e) }
+    ensures never { IfErr result (λ e. e ≢ refusals.Memory) }
 {
     match parts {
         [Part::Letter(c), rest @ ..] => Ok((*c, rest)),
@@ -30,7 +32,8 @@ pub fn letter(parts: &[Part]) -> Result<(u8, &[Part]), Refusal>
 
 /// The name at the front, and the parts behind it.
 pub fn name(parts: &[Part]) -> Result<(Name, &[Part]), Refusal>
-    ensures { MatchResult result (λ r. operands.name parts.now ≡ Ok (r.0, r.1.now)) (λ e. operands.name parts.now ≡ Err e) }
+    ensures is { MatchResult result (λ r. operands.name parts.now ≡ Ok (r.0, r.1.now)) (λ e. operands.name parts.now ≡ Err e) }
+    ensures never { IfErr result (λ e. e ≢ refusals.Memory) }
 {
     match parts {
         [Part::Name(n), rest @ ..] => Ok((*n, rest)),
@@ -40,7 +43,8 @@ pub fn name(parts: &[Part]) -> Result<(Name, &[Part]), Refusal>
 
 /// The name and its disambiguator at the front, and the parts behind it.
 pub fn identifier(parts: &[Part]) -> Result<((Name, u64), &[Part]), Refusal>
-    ensures { MatchResult result (λ r. operands.identifier parts.now ≡ Ok (r.0, r.1.now)) (λ e. operands.identifier parts.now ≡ Err e) }
+    ensures is { MatchResult result (λ r. operands.identifier parts.now ≡ Ok (r.0, r.1.now)) (λ e. operands.identifier parts.now ≡ Err e) }
+    ensures never { IfErr result (λ e. e ≢ refusals.Memory) }
 {
     match parts {
         [
@@ -57,7 +61,8 @@ pub fn identifier(parts: &[Part]) -> Result<((Name, u64), &[Part]), Refusal>
 
 /// The path at the front, and the parts behind it.
 pub fn path(parts: &[Part]) -> Result<(u32, &[Part]), Refusal>
-    ensures { MatchResult result (λ r. operands.path parts.now ≡ Ok (r.0, r.1.now)) (λ e. operands.path parts.now ≡ Err e) }
+    ensures is { MatchResult result (λ r. operands.path parts.now ≡ Ok (r.0, r.1.now)) (λ e. operands.path parts.now ≡ Err e) }
+    ensures never { IfErr result (λ e. e ≢ refusals.Memory) }
 {
     match parts {
         [Part::Path(node), rest @ ..] => Ok((*node, rest)),
@@ -67,7 +72,8 @@ pub fn path(parts: &[Part]) -> Result<(u32, &[Part]), Refusal>
 
 /// The type at the front, and the parts behind it.
 pub fn type_node(parts: &[Part]) -> Result<(u32, &[Part]), Refusal>
-    ensures { MatchResult result (λ r. operands.type parts.now ≡ Ok (r.0, r.1.now)) (λ e. operands.type parts.now ≡ Err e) }
+    ensures is { MatchResult result (λ r. operands.type parts.now ≡ Ok (r.0, r.1.now)) (λ e. operands.type parts.now ≡ Err e) }
+    ensures never { IfErr result (λ e. e ≢ refusals.Memory) }
 {
     match parts {
         [Part::Path(node), rest @ ..] => Ok((*node, rest)),
@@ -78,7 +84,8 @@ pub fn type_node(parts: &[Part]) -> Result<(u32, &[Part]), Refusal>
 
 /// The constant at the front, and the parts behind it.
 pub fn constant(parts: &[Part]) -> Result<(u32, &[Part]), Refusal>
-    ensures { MatchResult result (λ r. operands.constant parts.now ≡ Ok (r.0, r.1.now)) (λ e. operands.constant parts.now ≡ Err e) }
+    ensures is { MatchResult result (λ r. operands.constant parts.now ≡ Ok (r.0, r.1.now)) (λ e. operands.constant parts.now ≡ Err e) }
+    ensures never { IfErr result (λ e. e ≢ refusals.Memory) }
 {
     match parts {
         [Part::Constant(node), rest @ ..] => Ok((*node, rest)),
@@ -88,7 +95,8 @@ pub fn constant(parts: &[Part]) -> Result<(u32, &[Part]), Refusal>
 
 /// The lifetime at the front, and the parts behind it.
 pub fn lifetime(parts: &[Part]) -> Result<(u64, &[Part]), Refusal>
-    ensures { MatchResult result (λ r. operands.lifetime parts.now ≡ Ok (r.0, r.1.now)) (λ e. operands.lifetime parts.now ≡ Err e) }
+    ensures is { MatchResult result (λ r. operands.lifetime parts.now ≡ Ok (r.0, r.1.now)) (λ e. operands.lifetime parts.now ≡ Err e) }
+    ensures never { IfErr result (λ e. e ≢ refusals.Memory) }
 {
     match parts {
         [Part::Lifetime(n), rest @ ..] => Ok((*n, rest)),
@@ -98,7 +106,8 @@ pub fn lifetime(parts: &[Part]) -> Result<(u64, &[Part]), Refusal>
 
 /// The truth value at the front, and the parts behind it.
 pub fn truth(parts: &[Part]) -> Result<(bool, &[Part]), Refusal>
-    ensures { MatchResult result (λ r. operands.truth parts.now ≡ Ok (r.0, r.1.now)) (λ e. operands.truth parts.now ≡ Err e) }
+    ensures is { MatchResult result (λ r. operands.truth parts.now ≡ Ok (r.0, r.1.now)) (λ e. operands.truth parts.now ≡ Err e) }
+    ensures never { IfErr result (λ e. e ≢ refusals.Memory) }
 {
     match parts {
         [Part::Truth(b), rest @ ..] => Ok((*b, rest)),
@@ -108,7 +117,8 @@ pub fn truth(parts: &[Part]) -> Result<(bool, &[Part]), Refusal>
 
 /// The ABI at the front, and the parts behind it.
 pub fn abi_value(parts: &[Part]) -> Result<(Abi, &[Part]), Refusal>
-    ensures { MatchResult result (λ r. operands.abi_value parts.now ≡ Ok (r.0, r.1.now)) (λ e. operands.abi_value parts.now ≡ Err e) }
+    ensures is { MatchResult result (λ r. operands.abi_value parts.now ≡ Ok (r.0, r.1.now)) (λ e. operands.abi_value parts.now ≡ Err e) }
+    ensures never { IfErr result (λ e. e ≢ refusals.Memory) }
 {
     match parts {
         [Part::Abi(abi), rest @ ..] => Ok((*abi, rest)),
@@ -119,7 +129,8 @@ pub fn abi_value(parts: &[Part]) -> Result<(Abi, &[Part]), Refusal>
 
 /// The bounds at the front, and the parts behind it.
 pub fn bounds(parts: &[Part]) -> Result<(u32, &[Part]), Refusal>
-    ensures { MatchResult result (λ r. operands.bounds parts.now ≡ Ok (r.0, r.1.now)) (λ e. operands.bounds parts.now ≡ Err e) }
+    ensures is { MatchResult result (λ r. operands.bounds parts.now ≡ Ok (r.0, r.1.now)) (λ e. operands.bounds parts.now ≡ Err e) }
+    ensures never { IfErr result (λ e. e ≢ refusals.Memory) }
 {
     match parts {
         [Part::Bounds(node), rest @ ..] => Ok((*node, rest)),
@@ -129,7 +140,8 @@ pub fn bounds(parts: &[Part]) -> Result<(u32, &[Part]), Refusal>
 
 /// The types at the front, and the parts behind it.
 pub fn types(parts: &[Part]) -> Result<(u32, &[Part]), Refusal>
-    ensures { MatchResult result (λ r. operands.types parts.now ≡ Ok (r.0, r.1.now)) (λ e. operands.types parts.now ≡ Err e) }
+    ensures is { MatchResult result (λ r. operands.types parts.now ≡ Ok (r.0, r.1.now)) (λ e. operands.types parts.now ≡ Err e) }
+    ensures never { IfErr result (λ e. e ≢ refusals.Memory) }
 {
     match parts {
         [Part::Types(node), rest @ ..] => Ok((*node, rest)),
@@ -139,7 +151,8 @@ pub fn types(parts: &[Part]) -> Result<(u32, &[Part]), Refusal>
 
 /// The number at the front, and the parts behind it.
 pub fn number(parts: &[Part]) -> Result<(Option<u64>, &[Part]), Refusal>
-    ensures { MatchResult result (λ r. operands.number parts.now ≡ Ok (r.0, r.1.now)) (λ e. operands.number parts.now ≡ Err e) }
+    ensures is { MatchResult result (λ r. operands.number parts.now ≡ Ok (r.0, r.1.now)) (λ e. operands.number parts.now ≡ Err e) }
+    ensures never { IfErr result (λ e. e ≢ refusals.Memory) }
 {
     match parts {
         [Part::Number(n), rest @ ..] => Ok((*n, rest)),
@@ -149,7 +162,8 @@ pub fn number(parts: &[Part]) -> Result<(Option<u64>, &[Part]), Refusal>
 
 /// The integer at the front, and the parts behind it.
 pub fn integer(parts: &[Part]) -> Result<(Option<Integer>, &[Part]), Refusal>
-    ensures { MatchResult result (λ r. operands.integer parts.now ≡ Ok (r.0, r.1.now)) (λ e. operands.integer parts.now ≡ Err e) }
+    ensures is { MatchResult result (λ r. operands.integer parts.now ≡ Ok (r.0, r.1.now)) (λ e. operands.integer parts.now ≡ Err e) }
+    ensures never { IfErr result (λ e. e ≢ refusals.Memory) }
 {
     match parts {
         [Part::Integer(n), rest @ ..] => Ok((*n, rest)),
@@ -159,7 +173,8 @@ pub fn integer(parts: &[Part]) -> Result<(Option<Integer>, &[Part]), Refusal>
 
 /// The disambiguator at the front, if there is one, and the parts behind it.
 pub fn disambiguator(parts: &[Part]) -> Result<(u64, &[Part]), Refusal>
-    ensures { MatchResult result (λ r. operands.disambiguator parts.now ≡ Ok (r.0, r.1.now)) (λ e. operands.disambiguator parts.now ≡ Err e) }
+    ensures is { MatchResult result (λ r. operands.disambiguator parts.now ≡ Ok (r.0, r.1.now)) (λ e. operands.disambiguator parts.now ≡ Err e) }
+    ensures never { IfErr result (λ e. e ≢ refusals.Memory) }
 {
     match parts {
         [Part::Disambiguator(n), rest @ ..] => Ok((*n, rest)),
@@ -169,7 +184,8 @@ pub fn disambiguator(parts: &[Part]) -> Result<(u64, &[Part]), Refusal>
 
 /// The binder at the front, if there is one, and the parts behind it.
 pub fn binder(parts: &[Part]) -> Result<(u16, &[Part]), Refusal>
-    ensures { MatchResult result (λ r. operands.binder parts.now ≡ Ok (r.0, r.1.now)) (λ e. operands.binder parts.now ≡ Err e) }
+    ensures is { MatchResult result (λ r. operands.binder parts.now ≡ Ok (r.0, r.1.now)) (λ e. operands.binder parts.now ≡ Err e) }
+    ensures never { IfErr result (λ e. e ≢ refusals.Memory) }
 {
     match parts {
         [Part::Binder(n), rest @ ..] => Ok((*n, rest)),
@@ -179,7 +195,8 @@ pub fn binder(parts: &[Part]) -> Result<(u16, &[Part]), Refusal>
 
 /// The lifetime at the front, if there is one, and the parts behind it.
 pub fn some_lifetime(parts: &[Part]) -> Result<(u64, &[Part]), Refusal>
-    ensures { MatchResult result (λ r. operands.some_lifetime parts.now ≡ Ok (r.0, r.1.now)) (λ e. operands.some_lifetime parts.now ≡ Err e) }
+    ensures is { MatchResult result (λ r. operands.some_lifetime parts.now ≡ Ok (r.0, r.1.now)) (λ e. operands.some_lifetime parts.now ≡ Err e) }
+    ensures never { IfErr result (λ e. e ≢ refusals.Memory) }
 {
     match parts {
         [Part::Lifetime(n), rest @ ..] => Ok((*n, rest)),
@@ -189,7 +206,8 @@ pub fn some_lifetime(parts: &[Part]) -> Result<(u64, &[Part]), Refusal>
 
 /// Whether the mark of an unsafe function stands at the front, if there is one, and the parts behind it.
 pub fn unsafe_mark(parts: &[Part]) -> Result<(bool, &[Part]), Refusal>
-    ensures { MatchResult result (λ r. operands.unsafe parts.now ≡ Ok (r.0, r.1.now)) (λ e. operands.unsafe parts.now ≡ Err e) }
+    ensures is { MatchResult result (λ r. operands.unsafe parts.now ≡ Ok (r.0, r.1.now)) (λ e. operands.unsafe parts.now ≡ Err e) }
+    ensures never { IfErr result (λ e. e ≢ refusals.Memory) }
 {
     match parts {
         [Part::Unsafe, rest @ ..] => Ok((true, rest)),
@@ -199,7 +217,8 @@ pub fn unsafe_mark(parts: &[Part]) -> Result<(bool, &[Part]), Refusal>
 
 /// Whether a minus stands at the front, if there is one, and the parts behind it.
 pub fn minus(parts: &[Part]) -> Result<(bool, &[Part]), Refusal>
-    ensures { MatchResult result (λ r. operands.minus parts.now ≡ Ok (r.0, r.1.now)) (λ e. operands.minus parts.now ≡ Err e) }
+    ensures is { MatchResult result (λ r. operands.minus parts.now ≡ Ok (r.0, r.1.now)) (λ e. operands.minus parts.now ≡ Err e) }
+    ensures never { IfErr result (λ e. e ≢ refusals.Memory) }
 {
     match parts {
         [Part::Minus, rest @ ..] => Ok((true, rest)),
@@ -209,7 +228,8 @@ pub fn minus(parts: &[Part]) -> Result<(bool, &[Part]), Refusal>
 
 /// The ABI at the front, if there is one, and the parts behind it.
 pub fn abi(parts: &[Part]) -> Result<(Abi, &[Part]), Refusal>
-    ensures { MatchResult result (λ r. operands.abi parts.now ≡ Ok (r.0, r.1.now)) (λ e. operands.abi parts.now ≡ Err e) }
+    ensures is { MatchResult result (λ r. operands.abi parts.now ≡ Ok (r.0, r.1.now)) (λ e. operands.abi parts.now ≡ Err e) }
+    ensures never { IfErr result (λ e. e ≢ refusals.Memory) }
 {
     match parts {
         [Part::Abi(abi), rest @ ..] => Ok((*abi, rest)),
@@ -219,7 +239,8 @@ pub fn abi(parts: &[Part]) -> Result<(Abi, &[Part]), Refusal>
 
 /// The arguments at the front, if there is one, and the parts behind it.
 pub fn arguments(parts: &[Part]) -> Result<(u32, &[Part]), Refusal>
-    ensures { MatchResult result (λ r. operands.arguments parts.now ≡ Ok (r.0, r.1.now)) (λ e. operands.arguments parts.now ≡ Err e) }
+    ensures is { MatchResult result (λ r. operands.arguments parts.now ≡ Ok (r.0, r.1.now)) (λ e. operands.arguments parts.now ≡ Err e) }
+    ensures never { IfErr result (λ e. e ≢ refusals.Memory) }
 {
     match parts {
         [Part::Arguments(node), rest @ ..] => Ok((*node, rest)),
@@ -229,7 +250,8 @@ pub fn arguments(parts: &[Part]) -> Result<(u32, &[Part]), Refusal>
 
 /// The bindings at the front, if there is one, and the parts behind it.
 pub fn bindings(parts: &[Part]) -> Result<(u32, &[Part]), Refusal>
-    ensures { MatchResult result (λ r. operands.bindings parts.now ≡ Ok (r.0, r.1.now)) (λ e. operands.bindings parts.now ≡ Err e) }
+    ensures is { MatchResult result (λ r. operands.bindings parts.now ≡ Ok (r.0, r.1.now)) (λ e. operands.bindings parts.now ≡ Err e) }
+    ensures never { IfErr result (λ e. e ≢ refusals.Memory) }
 {
     match parts {
         [Part::Bindings(node), rest @ ..] => Ok((*node, rest)),
@@ -239,7 +261,8 @@ pub fn bindings(parts: &[Part]) -> Result<(u32, &[Part]), Refusal>
 
 /// The suffix at the front, if there is one, and the parts behind it.
 pub fn suffix(parts: &[Part]) -> Result<(Option<Span>, &[Part]), Refusal>
-    ensures { MatchResult result (λ r. operands.suffix parts.now ≡ Ok (r.0, r.1.now)) (λ e. operands.suffix parts.now ≡ Err e) }
+    ensures is { MatchResult result (λ r. operands.suffix parts.now ≡ Ok (r.0, r.1.now)) (λ e. operands.suffix parts.now ≡ Err e) }
+    ensures never { IfErr result (λ e. e ≢ refusals.Memory) }
 {
     match parts {
         [Part::Suffix(span), rest @ ..] => Ok((Some(*span), rest)),
@@ -249,7 +272,8 @@ pub fn suffix(parts: &[Part]) -> Result<(Option<Span>, &[Part]), Refusal>
 
 /// The path at the front, if there is one, and the parts behind it.
 pub fn other_path(parts: &[Part]) -> Result<(Option<u32>, &[Part]), Refusal>
-    ensures { MatchResult result (λ r. operands.other_path parts.now ≡ Ok (r.0, r.1.now)) (λ e. operands.other_path parts.now ≡ Err e) }
+    ensures is { MatchResult result (λ r. operands.other_path parts.now ≡ Ok (r.0, r.1.now)) (λ e. operands.other_path parts.now ≡ Err e) }
+    ensures never { IfErr result (λ e. e ≢ refusals.Memory) }
 {
     match parts {
         [Part::Path(node), rest @ ..] => Ok((Some(*node), rest)),

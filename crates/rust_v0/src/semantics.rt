@@ -1,7 +1,8 @@
 // What a rule means, from its parts: a part, or a node that is to be added. Above each function stand the productions of
 // RFC 2603, "Syntax of mangled names", whose rules it closes.
 
-ghost use Rattle.std.specs.Prelude.{◌≡◌, ℕ, List, length, slice_index, true};
+ghost use Rattle.std.specs.Prelude.{◌≡◌, ◌≢◌, ℕ, List, length, slice_index, true, IfErr};
+ghost use Rattle.sym_core.specs.declared.refusal.Refusal.TheVariants as refusals;
 ghost use Rattle.rust_v0.specs.CodeSemantics as semantics;
 ghost use Rattle.rust_v0.specs.CodeSemantics.{of_part, of_node};
 ghost use Rattle.rust_v0.specs.Unfold.{is_scalar as scalar};
@@ -25,7 +26,8 @@ pub struct Site {
 
 /// `<path> = "C" <identifier>`: the root of a crate.
 pub fn crate_root(parts: &[Part]) -> Result<Node, Refusal>
-    ensures { of_node result ≡ semantics.crate_root parts.now }
+    ensures is { of_node result ≡ semantics.crate_root parts.now }
+    ensures never { IfErr result (λ e. e ≢ refusals.Memory) }
 {
     let (spelled, _) = operands::identifier(parts)?;
     Ok(Node::Path(Path::Crate {
@@ -36,7 +38,8 @@ pub fn crate_root(parts: &[Part]) -> Result<Node, Refusal>
 
 /// `<path> = "M" <impl-path> <type>`: an inherent implementation.
 pub fn inherent_impl(parts: &[Part]) -> Result<Node, Refusal>
-    ensures { of_node result ≡ semantics.inherent_impl parts.now }
+    ensures is { of_node result ≡ semantics.inherent_impl parts.now }
+    ensures never { IfErr result (λ e. e ≢ refusals.Memory) }
 {
     let (disambiguator, parts) = operands::disambiguator(parts)?;
     let (path, parts) = operands::path(parts)?;
@@ -50,7 +53,8 @@ pub fn inherent_impl(parts: &[Part]) -> Result<Node, Refusal>
 
 /// `<path> = "X" <impl-path> <type> <path>`: the implementation of a trait.
 pub fn trait_impl(parts: &[Part]) -> Result<Node, Refusal>
-    ensures { of_node result ≡ semantics.trait_impl parts.now }
+    ensures is { of_node result ≡ semantics.trait_impl parts.now }
+    ensures never { IfErr result (λ e. e ≢ refusals.Memory) }
 {
     let (disambiguator, parts) = operands::disambiguator(parts)?;
     let (path, parts) = operands::path(parts)?;
@@ -66,7 +70,8 @@ pub fn trait_impl(parts: &[Part]) -> Result<Node, Refusal>
 
 /// `<path> = "Y" <type> <path>`: a trait as a type has it.
 pub fn trait_definition(parts: &[Part]) -> Result<Node, Refusal>
-    ensures { of_node result ≡ semantics.trait_definition parts.now }
+    ensures is { of_node result ≡ semantics.trait_definition parts.now }
+    ensures never { IfErr result (λ e. e ≢ refusals.Memory) }
 {
     let (self_type, parts) = operands::type_node(parts)?;
     let (implemented, _) = operands::path(parts)?;
@@ -78,7 +83,8 @@ pub fn trait_definition(parts: &[Part]) -> Result<Node, Refusal>
 
 /// `<path> = "N" <namespace> <path> <identifier>`: a name in a path.
 pub fn nested(parts: &[Part]) -> Result<Node, Refusal>
-    ensures { of_node result ≡ semantics.nested parts.now }
+    ensures is { of_node result ≡ semantics.nested parts.now }
+    ensures never { IfErr result (λ e. e ≢ refusals.Memory) }
 {
     let (namespace, parts) = operands::letter(parts)?;
     let (parent, parts) = operands::path(parts)?;
@@ -93,7 +99,8 @@ pub fn nested(parts: &[Part]) -> Result<Node, Refusal>
 
 /// `<path> = "I" <path> {<generic-arg>} "E"`: a path with its generic arguments.
 pub fn generic(parts: &[Part]) -> Result<Node, Refusal>
-    ensures { of_node result ≡ semantics.generic parts.now }
+    ensures is { of_node result ≡ semantics.generic parts.now }
+    ensures never { IfErr result (λ e. e ≢ refusals.Memory) }
 {
     let (parent, parts) = operands::path(parts)?;
     let (arguments, _) = operands::arguments(parts)?;
@@ -102,7 +109,8 @@ pub fn generic(parts: &[Part]) -> Result<Node, Refusal>
 
 /// `<generic-arg> = <lifetime>`, and the arguments behind it.
 pub fn lifetime_argument(parts: &[Part]) -> Result<Node, Refusal>
-    ensures { of_node result ≡ semantics.lifetime_argument parts.now }
+    ensures is { of_node result ≡ semantics.lifetime_argument parts.now }
+    ensures never { IfErr result (λ e. e ≢ refusals.Memory) }
 {
     let (lifetime, parts) = operands::lifetime(parts)?;
     let (rest, _) = operands::arguments(parts)?;
@@ -111,7 +119,8 @@ pub fn lifetime_argument(parts: &[Part]) -> Result<Node, Refusal>
 
 /// `<generic-arg> = "K" <const>`, and the arguments behind it.
 pub fn constant_argument(parts: &[Part]) -> Result<Node, Refusal>
-    ensures { of_node result ≡ semantics.constant_argument parts.now }
+    ensures is { of_node result ≡ semantics.constant_argument parts.now }
+    ensures never { IfErr result (λ e. e ≢ refusals.Memory) }
 {
     let (constant, parts) = operands::constant(parts)?;
     let (rest, _) = operands::arguments(parts)?;
@@ -120,7 +129,8 @@ pub fn constant_argument(parts: &[Part]) -> Result<Node, Refusal>
 
 /// `<generic-arg> = <type>`, and the arguments behind it.
 pub fn type_argument(parts: &[Part]) -> Result<Node, Refusal>
-    ensures { of_node result ≡ semantics.type_argument parts.now }
+    ensures is { of_node result ≡ semantics.type_argument parts.now }
+    ensures never { IfErr result (λ e. e ≢ refusals.Memory) }
 {
     let (argument, parts) = operands::type_node(parts)?;
     let (rest, _) = operands::arguments(parts)?;
@@ -129,7 +139,8 @@ pub fn type_argument(parts: &[Part]) -> Result<Node, Refusal>
 
 /// `<type> = "A" <type> <const>`: an array.
 pub fn array(parts: &[Part]) -> Result<Node, Refusal>
-    ensures { of_node result ≡ semantics.array parts.now }
+    ensures is { of_node result ≡ semantics.array parts.now }
+    ensures never { IfErr result (λ e. e ≢ refusals.Memory) }
 {
     let (element, parts) = operands::type_node(parts)?;
     let (size, _) = operands::constant(parts)?;
@@ -138,7 +149,8 @@ pub fn array(parts: &[Part]) -> Result<Node, Refusal>
 
 /// `<type> = "S" <type>`: a slice.
 pub fn slice(parts: &[Part]) -> Result<Node, Refusal>
-    ensures { of_node result ≡ semantics.slice parts.now }
+    ensures is { of_node result ≡ semantics.slice parts.now }
+    ensures never { IfErr result (λ e. e ≢ refusals.Memory) }
 {
     let (element, _) = operands::type_node(parts)?;
     Ok(Node::Ty(Ty::Slice(element)))
@@ -146,7 +158,8 @@ pub fn slice(parts: &[Part]) -> Result<Node, Refusal>
 
 /// `<type> = "T" {<type>} "E"`: a tuple.
 pub fn tuple(parts: &[Part]) -> Result<Node, Refusal>
-    ensures { of_node result ≡ semantics.tuple parts.now }
+    ensures is { of_node result ≡ semantics.tuple parts.now }
+    ensures never { IfErr result (λ e. e ≢ refusals.Memory) }
 {
     let (elements, _) = operands::types(parts)?;
     Ok(Node::Ty(Ty::Tuple(elements)))
@@ -154,7 +167,8 @@ pub fn tuple(parts: &[Part]) -> Result<Node, Refusal>
 
 /// `<type> = "R" [<lifetime>] <type>`: a shared reference.
 pub fn shared_reference(parts: &[Part]) -> Result<Node, Refusal>
-    ensures { of_node result ≡ semantics.shared_reference parts.now }
+    ensures is { of_node result ≡ semantics.shared_reference parts.now }
+    ensures never { IfErr result (λ e. e ≢ refusals.Memory) }
 {
     let (lifetime, parts) = operands::some_lifetime(parts)?;
     let (referent, _) = operands::type_node(parts)?;
@@ -163,7 +177,8 @@ pub fn shared_reference(parts: &[Part]) -> Result<Node, Refusal>
 
 /// `<type> = "Q" [<lifetime>] <type>`: a mutable reference.
 pub fn mutable_reference(parts: &[Part]) -> Result<Node, Refusal>
-    ensures { of_node result ≡ semantics.mutable_reference parts.now }
+    ensures is { of_node result ≡ semantics.mutable_reference parts.now }
+    ensures never { IfErr result (λ e. e ≢ refusals.Memory) }
 {
     let (lifetime, parts) = operands::some_lifetime(parts)?;
     let (referent, _) = operands::type_node(parts)?;
@@ -172,7 +187,8 @@ pub fn mutable_reference(parts: &[Part]) -> Result<Node, Refusal>
 
 /// `<type> = "P" <type>`: a `*const` pointer.
 pub fn const_pointer(parts: &[Part]) -> Result<Node, Refusal>
-    ensures { of_node result ≡ semantics.const_pointer parts.now }
+    ensures is { of_node result ≡ semantics.const_pointer parts.now }
+    ensures never { IfErr result (λ e. e ≢ refusals.Memory) }
 {
     let (pointee, _) = operands::type_node(parts)?;
     Ok(Node::Ty(Ty::ConstPointer(pointee)))
@@ -180,7 +196,8 @@ pub fn const_pointer(parts: &[Part]) -> Result<Node, Refusal>
 
 /// `<type> = "O" <type>`: a `*mut` pointer.
 pub fn mut_pointer(parts: &[Part]) -> Result<Node, Refusal>
-    ensures { of_node result ≡ semantics.mut_pointer parts.now }
+    ensures is { of_node result ≡ semantics.mut_pointer parts.now }
+    ensures never { IfErr result (λ e. e ≢ refusals.Memory) }
 {
     let (pointee, _) = operands::type_node(parts)?;
     Ok(Node::Ty(Ty::MutPointer(pointee)))
@@ -188,7 +205,8 @@ pub fn mut_pointer(parts: &[Part]) -> Result<Node, Refusal>
 
 /// `<type> = "F" [<binder>] ["U"] ["K" <abi>] {<type>} "E" <type>`: a function pointer.
 pub fn function(parts: &[Part]) -> Result<Node, Refusal>
-    ensures { of_node result ≡ semantics.function parts.now }
+    ensures is { of_node result ≡ semantics.function parts.now }
+    ensures never { IfErr result (λ e. e ≢ refusals.Memory) }
 {
     let (binder, parts) = operands::binder(parts)?;
     let (is_unsafe, parts) = operands::unsafe_mark(parts)?;
@@ -206,7 +224,8 @@ pub fn function(parts: &[Part]) -> Result<Node, Refusal>
 
 /// `<type> = "D" <dyn-bounds> <lifetime>`, where `<dyn-bounds> = [<binder>] {<dyn-trait>} "E"`: a `dyn` type.
 pub fn dyn_type(parts: &[Part]) -> Result<Node, Refusal>
-    ensures { of_node result ≡ semantics.dyn_type parts.now }
+    ensures is { of_node result ≡ semantics.dyn_type parts.now }
+    ensures never { IfErr result (λ e. e ≢ refusals.Memory) }
 {
     let (binder, parts) = operands::binder(parts)?;
     let (bounds, parts) = operands::bounds(parts)?;
@@ -220,7 +239,8 @@ pub fn dyn_type(parts: &[Part]) -> Result<Node, Refusal>
 
 /// `{<type>}`: a type, and those behind it.
 pub fn more_types(parts: &[Part]) -> Result<Node, Refusal>
-    ensures { of_node result ≡ semantics.more_types parts.now }
+    ensures is { of_node result ≡ semantics.more_types parts.now }
+    ensures never { IfErr result (λ e. e ≢ refusals.Memory) }
 {
     let (first, parts) = operands::type_node(parts)?;
     let (rest, _) = operands::types(parts)?;
@@ -229,7 +249,8 @@ pub fn more_types(parts: &[Part]) -> Result<Node, Refusal>
 
 /// `<dyn-trait> = <path> {<dyn-trait-assoc-binding>}`, and the bounds behind it.
 pub fn more_bounds(parts: &[Part]) -> Result<Node, Refusal>
-    ensures { of_node result ≡ semantics.more_bounds parts.now }
+    ensures is { of_node result ≡ semantics.more_bounds parts.now }
+    ensures never { IfErr result (λ e. e ≢ refusals.Memory) }
 {
     let (path, parts) = operands::path(parts)?;
     let (bindings, parts) = operands::bindings(parts)?;
@@ -243,7 +264,8 @@ pub fn more_bounds(parts: &[Part]) -> Result<Node, Refusal>
 
 /// `<dyn-trait-assoc-binding> = "p" <undisambiguated-identifier> <type>`, and the bindings behind it.
 pub fn binding(parts: &[Part]) -> Result<Node, Refusal>
-    ensures { of_node result ≡ semantics.binding parts.now }
+    ensures is { of_node result ≡ semantics.binding parts.now }
+    ensures never { IfErr result (λ e. e ≢ refusals.Memory) }
 {
     let (name, parts) = operands::name(parts)?;
     let (bound_type, parts) = operands::type_node(parts)?;
@@ -257,7 +279,8 @@ pub fn binding(parts: &[Part]) -> Result<Node, Refusal>
 
 /// `<const> = "b" <const-data>`: false or true.
 pub fn bool_constant(parts: &[Part]) -> Result<Node, Refusal>
-    ensures { of_node result ≡ semantics.bool_constant parts.now }
+    ensures is { of_node result ≡ semantics.bool_constant parts.now }
+    ensures never { IfErr result (λ e. e ≢ refusals.Memory) }
 {
     let (truth_value, _) = operands::truth(parts)?;
     Ok(Node::Constant(Constant::Boolean(truth_value)))
@@ -265,7 +288,8 @@ pub fn bool_constant(parts: &[Part]) -> Result<Node, Refusal>
 
 /// `<symbol-name> = "_R" <path> [<instantiating-crate>] [<vendor-specific-suffix>]`.
 pub fn symbol(parts: &[Part]) -> Result<Node, Refusal>
-    ensures { of_node result ≡ semantics.symbol parts.now }
+    ensures is { of_node result ≡ semantics.symbol parts.now }
+    ensures never { IfErr result (λ e. e ≢ refusals.Memory) }
 {
     let (path, parts) = operands::path(parts)?;
     let (instantiating, parts) = operands::other_path(parts)?;
@@ -280,7 +304,8 @@ pub fn symbol(parts: &[Part]) -> Result<Node, Refusal>
 
 /// One more than a number, where 64 bits hold that.
 fn counted(place: u32, number: Option<u64>) -> Result<u64, Refusal>
-    ensures { result ≡ semantics.counted place number }
+    ensures is { result ≡ semantics.counted place number }
+    ensures never { IfErr result (λ e. e ≢ refusals.Memory) }
 {
     match number {
         Some(n) => {
@@ -296,7 +321,8 @@ fn counted(place: u32, number: Option<u64>) -> Result<u64, Refusal>
 
 /// `<disambiguator> = "s" <base-62-number>`, where it stands before a path: one more than the number.
 pub fn disambiguator(place: u32, parts: &[Part]) -> Result<Part, Refusal>
-    ensures { of_part result ≡ semantics.disambiguator place parts.now }
+    ensures is { of_part result ≡ semantics.disambiguator place parts.now }
+    ensures never { IfErr result (λ e. e ≢ refusals.Memory) }
 {
     let (found, _) = operands::number(parts)?;
     let count = counted(place, found)?;
@@ -305,7 +331,8 @@ pub fn disambiguator(place: u32, parts: &[Part]) -> Result<Part, Refusal>
 
 /// `<identifier> = [<disambiguator>] <undisambiguated-identifier>`, with a disambiguator.
 pub fn disambiguated_identifier(place: u32, parts: &[Part]) -> Result<Part, Refusal>
-    ensures { of_part result ≡ semantics.disambiguated_identifier place parts.now }
+    ensures is { of_part result ≡ semantics.disambiguated_identifier place parts.now }
+    ensures never { IfErr result (λ e. e ≢ refusals.Memory) }
 {
     let (found, parts) = operands::number(parts)?;
     let (spelled, _) = operands::name(parts)?;
@@ -318,7 +345,8 @@ pub fn disambiguated_identifier(place: u32, parts: &[Part]) -> Result<Part, Refu
 
 /// `<undisambiguated-identifier> = ["u"] <decimal-number> ["_"] <bytes>`: its token is the name.
 pub fn undisambiguated_identifier(parts: &[Part]) -> Result<Part, Refusal>
-    ensures { of_part result ≡ semantics.same_name parts.now }
+    ensures is { of_part result ≡ semantics.same_name parts.now }
+    ensures never { IfErr result (λ e. e ≢ refusals.Memory) }
 {
     let (spelled, _) = operands::name(parts)?;
     Ok(Part::Name(spelled))
@@ -326,7 +354,8 @@ pub fn undisambiguated_identifier(parts: &[Part]) -> Result<Part, Refusal>
 
 /// `<binder> = "G" <base-62-number>`: one lifetime more than the number.
 pub fn binder(place: u32, parts: &[Part]) -> Result<Part, Refusal>
-    ensures { of_part result ≡ semantics.binder place parts.now }
+    ensures is { of_part result ≡ semantics.binder place parts.now }
+    ensures never { IfErr result (λ e. e ≢ refusals.Memory) }
 {
     let (found, _) = operands::number(parts)?;
     match found {
@@ -343,7 +372,8 @@ pub fn binder(place: u32, parts: &[Part]) -> Result<Part, Refusal>
 
 /// `<lifetime> = "L" <base-62-number>`: erased, or one of those that are bound.
 pub fn lifetime(place: u32, bound: u64, parts: &[Part]) -> Result<Part, Refusal>
-    ensures { of_part result ≡ semantics.lifetime place bound parts.now }
+    ensures is { of_part result ≡ semantics.lifetime place bound parts.now }
+    ensures never { IfErr result (λ e. e ≢ refusals.Memory) }
 {
     let (found, _) = operands::number(parts)?;
     match found {
@@ -360,7 +390,8 @@ pub fn lifetime(place: u32, bound: u64, parts: &[Part]) -> Result<Part, Refusal>
 
 /// `<abi> = "C" | <undisambiguated-identifier>`.
 pub fn abi(parts: &[Part]) -> Result<Part, Refusal>
-    ensures { of_part result ≡ semantics.abi parts.now }
+    ensures is { of_part result ≡ semantics.abi parts.now }
+    ensures never { IfErr result (λ e. e ≢ refusals.Memory) }
 {
     let (calling, _) = operands::abi_value(parts)?;
     Ok(Part::Abi(calling))
@@ -368,7 +399,8 @@ pub fn abi(parts: &[Part]) -> Result<Part, Refusal>
 
 /// A constant of a number type, if 128 bits hold its number.
 fn integer_node(place: u32, letter: u8, found: Option<Integer>) -> Result<Node, Refusal>
-    ensures { of_node result ≡ semantics.integer_node place letter found }
+    ensures is { of_node result ≡ semantics.integer_node place letter found }
+    ensures never { IfErr result (λ e. e ≢ refusals.Memory) }
 {
     match found {
         Some(found) => Ok(Node::Constant(Constant::Integer {
@@ -383,7 +415,8 @@ fn integer_node(place: u32, letter: u8, found: Option<Integer>) -> Result<Node, 
 
 /// `<const> = <type> <const-data>` of a signed type, where `<const-data> = ["n"] {<hex-digit>} "_"`.
 pub fn signed_constant(place: u32, letter: u8, parts: &[Part]) -> Result<Node, Refusal>
-    ensures { of_node result ≡ semantics.signed_constant place letter parts.now }
+    ensures is { of_node result ≡ semantics.signed_constant place letter parts.now }
+    ensures never { IfErr result (λ e. e ≢ refusals.Memory) }
 {
     let (_, parts) = operands::minus(parts)?;
     let (found, _) = operands::integer(parts)?;
@@ -392,7 +425,8 @@ pub fn signed_constant(place: u32, letter: u8, parts: &[Part]) -> Result<Node, R
 
 /// `<const> = <type> <const-data>` of an unsigned type.
 pub fn unsigned_constant(place: u32, letter: u8, parts: &[Part]) -> Result<Node, Refusal>
-    ensures { of_node result ≡ semantics.unsigned_constant place letter parts.now }
+    ensures is { of_node result ≡ semantics.unsigned_constant place letter parts.now }
+    ensures never { IfErr result (λ e. e ≢ refusals.Memory) }
 {
     let (found, _) = operands::integer(parts)?;
     integer_node(place, letter, found)
@@ -407,7 +441,8 @@ fn is_scalar(n: u64) -> bool
 
 /// `<const> = "c" <const-data>`: the code of a character.
 pub fn char_constant(place: u32, parts: &[Part]) -> Result<Node, Refusal>
-    ensures { of_node result ≡ semantics.char_constant place parts.now }
+    ensures is { of_node result ≡ semantics.char_constant place parts.now }
+    ensures never { IfErr result (λ e. e ≢ refusals.Memory) }
 {
     let (found, _) = operands::number(parts)?;
     match found {
@@ -450,8 +485,9 @@ pub fn makes_part(production: Production) -> bool
 /// What a rule makes of its parts where it makes no node.
 #[inline(always)]
 pub fn part_by(production: Production, at: Site, parts: &[Part]) -> Result<Part, Refusal>
-    ensures { (s : List ℕ) → semantics.makes_part production ≡ true → at.byte ≡ slice_index s at.place → at.end ≡ length s
+    ensures is { (s : List ℕ) → semantics.makes_part production ≡ true → at.byte ≡ slice_index s at.place → at.end ≡ length s
         → of_part result ≡ semantics.made production s at.place at.bound parts.now }
+    ensures never { IfErr result (λ e. e ≢ refusals.Memory) }
 {
     match production {
         Production::Suffix => Ok(Part::Suffix(Span {

@@ -1,8 +1,8 @@
 // What a token is as a part of its rule.
 
-ghost use Rattle.std.specs.Prelude.{◌≡◌, ℕ, ◌+◌, ◌-◌, ◌*◌, ◌<◌, ◌≤◌, ◌^◌, ◌&&◌, List, drop, length, true, IfOk, OnOk, IfErr, nat_lt};
+ghost use Rattle.std.specs.Prelude.{◌≡◌, ℕ, ◌+◌, ◌-◌, ◌*◌, ◌<◌, ◌≤◌, ◌^◌, ◌&&◌, ◌⊎◌, List, drop, length, true, IfOk, OnOk, IfErr, OnErr, nat_lt};
 ghost use Rattle.sym_core.specs.Number.{AreDigitsOf, FitsSymbol};
-ghost use Rattle.sym_core.specs.Printed.{signed_text};
+ghost use Rattle.sym_core.specs.Printed.{signed_text, IsDecoded};
 ghost use Rattle.sym_core.specs.Token.{AreNameBytes};
 ghost use Rattle.sym_core.specs.declared.NameClass.TheVariants.{Rust};
 ghost use Rattle.sym_core.specs.declared.NumberKind.TheVariants.{Base62, Hex};
@@ -15,6 +15,8 @@ ghost use Rattle.rust_v0.specs.Unfold.{value16 as value_of_hex, value62 as value
 ghost use Rattle.rust_v0.specs.Value.{a_name};
 ghost use Rattle.rust_v0.specs.PartValues.{IsNumber, IsPart};
 ghost use Rattle.rust_v0.specs.Made.{ground};
+ghost use Rattle.rust_v0.specs.RustNodes.{most_text};
+ghost use Rattle.rust_v0.specs.declared.tokens.TokenSort.TheVariants as sorts;
 
 use crate::nodes::RustNodes;
 use crate::part::{Integer, NO_SUCH_PARTS, Part};
@@ -125,6 +127,9 @@ impl RustNodes {
         ensures none { OnOk result (magnitude ≡ 0 → self.new.nodes.text ≡ self.old.nodes.text) }
         ensures few { OnOk result (length self.new.nodes.text ≤ length self.old.nodes.text + length (signed_text minus magnitude)) }
         ensures memory { IfErr result (λ e. e ≡ refusals.Memory) }
+        ensures full { OnErr result ((0 < magnitude) × (self.old.nodes.text_room < length self.new.nodes.text + length (signed_text minus magnitude))) }
+        ensures node_room { self.new.nodes.node_room ≡ self.old.nodes.node_room }
+        ensures text_room { self.old.nodes.text_room ≤ self.new.nodes.text_room }
     {
         if magnitude == 0 {
             return Ok(Span { from: 0, to: 1 });
@@ -145,6 +150,9 @@ impl RustNodes {
         ensures grows { Grows self.old.nodes self.new.nodes }
         ensures stays { (s : List ℕ) → IsTable s self.old.nodes → IsTable s self.new.nodes }
         ensures few { OnOk result (length self.new.nodes.text ≤ length self.old.nodes.text + 4 * (own.to - own.from)) }
+        ensures full { IfErr result (λ e. e ≡ refusals.Memory → self.old.nodes.text_room < length self.new.nodes.text + 4 * (own.to - own.from)) }
+        ensures node_room { self.new.nodes.node_room ≡ self.old.nodes.node_room }
+        ensures text_room { self.old.nodes.text_room ≤ self.new.nodes.text_room }
     {
         let bytes = &symbol[own.from as usize..own.to as usize];
         if !are_digits(NumberKind::Hex, bytes) {
@@ -178,6 +186,10 @@ impl RustNodes {
         ensures grows { Grows self.old.nodes self.new.nodes }
         ensures stays { (s : List ℕ) → IsTable s self.old.nodes → IsTable s self.new.nodes }
         ensures few { OnOk result (length self.new.nodes.text ≤ length self.old.nodes.text + 4 * (own.to - own.from) + 8) }
+        ensures full { IfErr result (λ e. e ≡ refusals.Memory → IsDecoded true (bytes_at symbol.now own)
+            ⊎ (self.old.nodes.text_room < length self.new.nodes.text + (own.to - own.from) + 10)) }
+        ensures node_room { self.new.nodes.node_room ≡ self.old.nodes.node_room }
+        ensures text_room { self.old.nodes.text_room ≤ self.new.nodes.text_room }
     {
         let bytes = &symbol[own.from as usize..own.to as usize];
         if !are_name_bytes(NameClass::Rust, bytes) {
@@ -213,6 +225,10 @@ impl RustNodes {
         ensures stays { (s : List ℕ) → IsTable s self.old.nodes → IsTable s self.new.nodes }
         ensures few { OnOk result ((at : ℕ) → at ≤ own.from → (length parts.now ≡ 0 → at ≤ place) → length self.old.nodes.text ≤ 4 * at + 20
             → length self.new.nodes.text ≤ 4 * own.to + 20) }
+        ensures full { IfErr result (λ e. e ≡ refusals.Memory → ((sort ≡ sorts.PunycodeName) × IsDecoded true (bytes_at symbol.now own))
+            ⊎ (self.old.nodes.text_room < length self.new.nodes.text + most_text symbol.now)) }
+        ensures node_room { self.new.nodes.node_room ≡ self.old.nodes.node_room }
+        ensures text_room { self.old.nodes.text_room ≤ self.new.nodes.text_room }
     {
         match sort {
             TokenSort::PlainName => Ok(Part::Name(Name {

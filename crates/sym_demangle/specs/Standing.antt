@@ -8,12 +8,14 @@ use Rattle.sym_shape.specs.declared.rule.Sym.TheVariants.{Kind}
 use Rattle.sym_shape.specs.Table.{Table}
 use Rattle.sym_shape.specs.Tree.{Tree, IsTree, spell, read_steps}
 use Rattle.sym_link.specs.declared.language.Frame.{Frame}
+use Rattle.sym_link.specs.Room.{Listed}
 use Rattle.sym_link.specs.Linking.{View}
 use Rattle.sym_link.specs.Stepping.{link_steps}
 use Rattle.sym_link.specs.Following.{Fits, IsShape, IsDone, IsDriving, meaning_of}
 
 -- How far a symbol is linked: its bytes, how many rows its shape has and how many steps the reader took, the linker's own steps, how
--- many nodes there are, whether it has answered that all is done, and the refusal if there was one.
+-- many nodes there are, whether it has answered that all is done, the refusal if there was one, and the linker's lists: of open rules,
+-- of parts, and those of the table.
 pub record Progress : Type 0 where
   pub bytes : List ℕ
   pub rows : ℕ
@@ -22,10 +24,12 @@ pub record Progress : Type 0 where
   pub nodes : ℕ
   pub done : Bool
   pub refused : Option Refusal
+  pub lists : List Listed
 
 -- nothing is linked yet, and so many nodes are there
-abbrev pub unlinked : (bytes : List ℕ) → (rows read_steps nodes : ℕ) → Progress
-unlinked bytes rows read_steps nodes = record { bytes = bytes; rows = rows; read_steps = read_steps; steps = 0; nodes = nodes; done = false; refused = None }
+abbrev pub unlinked : (bytes : List ℕ) → (rows read_steps nodes : ℕ) → List Listed → Progress
+unlinked bytes rows read_steps nodes lists =
+    record { bytes = bytes; rows = rows; read_steps = read_steps; steps = 0; nodes = nodes; done = false; refused = None; lists = lists }
 
 -- Each step that was taken from one moment to the other has added at most two nodes.
 abbrev pub AddsTwoEach : (old new : Progress) → Type 0

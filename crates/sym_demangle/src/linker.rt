@@ -5,6 +5,8 @@ ghost use Rattle.sym_core.specs.Number.{FitsSymbol};
 ghost use Rattle.sym_core.specs.declared.refusal.Refusal.TheVariants as refusals;
 ghost use Rattle.sym_shape.specs.Tree.{AreRowsOf};
 ghost use Rattle.sym_shape.specs.Reader.{AreFew};
+ghost use Rattle.sym_link.specs.Linking.{HasToken};
+ghost use Rattle.sym_link.specs.Room.{KeepRoom, OnlyForRoom};
 ghost use Rattle.sym_demangle.specs.Mangled.{StandsFor, IsRefused};
 ghost use Rattle.sym_demangle.specs.Standing.{Progress, unlinked, AddsTwoEach, AreFewInAll, AreLinkSteps, IsLinker};
 
@@ -29,11 +31,12 @@ pub struct Linker<M: Mangling> {
 
 impl<M: Mangling> Model for Linker<M> {
     ghost use Rattle.std.specs.Prelude.{length};
+    ghost use Rattle.sym_link.specs.Linking.{all_lists};
     ghost use Rattle.sym_demangle.specs.Standing.{Progress, IsLinker};
 
     ghost Value = { Progress };
 
-    ghost view = { λ l. record { bytes = l.bytes.items; rows = length l.shape.rows; read_steps = l.shape.steps; steps = l.driver.steps; nodes = M.count_of l.linked; done = l.done; refused = l.driver.refused } };
+    ghost view = { λ l. record { bytes = l.bytes.items; rows = length l.shape.rows; read_steps = l.shape.steps; steps = l.driver.steps; nodes = M.count_of l.linked; done = l.done; refused = l.driver.refused; lists = all_lists (M.Linked.view l.bytes.items) l.linked l.driver.frames l.driver.parts } };
 
     ghost invariant = { λ l. IsLinker (M.Linked.view l.bytes.items) l.bytes.items l.shape.rows l.shape.steps l.linked l.driver.steps l.driver.refused l.driver.next l.driver.frames.items l.driver.parts.items l.done };
 }
@@ -68,7 +71,7 @@ impl<M: Mangling> Linker<M> {
         requires fits { FitsSymbol bytes.items }
         requires rows { AreRowsOf M.mangled.table bytes.items shape.rows }
         requires few { AreFew shape.steps (length shape.rows) (length bytes.items) }
-        ensures unlinked { IfOk result (λ linker. linker ≡ unlinked bytes.items (length shape.rows) shape.steps linker.nodes) }
+        ensures unlinked { IfOk result (λ linker. linker ≡ unlinked bytes.items (length shape.rows) shape.steps linker.nodes linker.lists) }
         ensures nodes { IfOk result (λ linker. linker.nodes ≤ 8) }
         ensures memory { IfErr result (λ e. e ≡ refusals.Memory) }
     {
@@ -117,6 +120,10 @@ impl<M: Mangling> Linker<M> {
         ensures done_again { self.old.done ≡ true → self.old.refused ≡ None → (result ≡ Ok true) × (self.new ≡ self.old) }
         // A step that is counted adds at most two nodes, refused or not, and no other adds any.
         ensures nodes { AddsTwoEach self.old self.new }
+        ensures room { KeepRoom self.old.lists self.new.lists }
+        // Memory is answered first only where a list had no room, or the symbol has a token that takes memory of its own.
+        ensures full { self.old.refused ≡ None
+            → OnlyForRoom (HasToken (M.Linked.view self.old.bytes) self.old.bytes) self.old.lists self.new.lists result }
         ensures few { AreFewInAll self.new }
     {
         if let Some(refusal) = self.driver.refused {
@@ -159,6 +166,10 @@ impl<M: Mangling> Linker<M> {
         ensures counted { self.old.steps ≤ self.new.steps }
         // Each of them adds at most two nodes, refused or not.
         ensures nodes { AddsTwoEach self.old self.new }
+        ensures room { KeepRoom self.old.lists self.new.lists }
+        // Memory is answered first only where a list had no room, or the symbol has a token that takes memory of its own.
+        ensures full { self.old.refused ≡ None
+            → OnlyForRoom (HasToken (M.Linked.view self.old.bytes) self.old.bytes) self.old.lists self.new.lists result }
         ensures few { AreFewInAll self.new }
     {
         if let Some(refusal) = self.driver.refused {

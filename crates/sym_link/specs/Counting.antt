@@ -1,5 +1,5 @@
 -- A small language, in which a rule means the number of its parts, of which it may have at most three.
-use Rattle.std.specs.Prelude.{◌≡◌, ℕ, ◌+◌, ◌*◌, ◌<◌, ◌≤◌, nat_lt, List, [], ◌∷◌, ◌++◌, length, get_or, true, false, if◌then◌else◌, Result, Ok, Err}
+use Rattle.std.specs.Prelude.{◌≡◌, ℕ, ◌+◌, ◌*◌, ◌<◌, ◌≤◌, nat_lt, List, [], ◌∷◌, ◌++◌, length, get_or, true, false, if◌then◌else◌, Result, Ok, Err, vec_capacity}
 use Rattle.sym_core.specs.declared.NumberKind.{NumberKind}
 use Rattle.sym_core.specs.declared.refusal.Refusal.{Refusal}
 use Rattle.sym_core.specs.declared.NameClass.{NameClass}
@@ -14,6 +14,7 @@ use Rattle.sym_link.specs.Driving.{Fails}
 use Rattle.sym_link.specs.Unfold.{found}
 use Rattle.sym_link.specs.Cases.{Language, by_meaning}
 use Rattle.sym_link.specs.Linking.{View}
+use Rattle.sym_link.specs.Room.{one_by_one}
 
 abbrev pub blank : KindSheet
 blank = record { choices = []; may_be_empty = false; after = []; rank = 0; height = 0 }
@@ -64,6 +65,8 @@ counting s = record {
   closes = λ number own. 1;
   most = λ bytes. 4 * bytes + 4;
   IsPaid = λ nodes bytes. length nodes.text.items ≤ bytes;
+  lists = λ nodes. one_by_one nodes.counts ∷ record { room = vec_capacity nodes.text; held = length nodes.text.items; most = length s } ∷ [];
+  TakesApart = λ number own. ⊥;
 }
 
 -- the number is the one value that was read, or the refusal is that of the reading

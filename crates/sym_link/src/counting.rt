@@ -29,7 +29,8 @@ pub struct Counts {
 
 impl Linking for Counts {
     ghost use Rattle.std.specs.Prelude.{◌≡◌, ℕ, ◌<◌, ◌≤◌, length, OnOk, OnErr};
-    ghost use Rattle.sym_link.specs.Linking.{HasRoom, IsOpen, OpensRoot, Opens, TakesToken, ClosesRule, Adds, AddsFew, Pays, owed_behind, owed_next};
+    ghost use Rattle.sym_link.specs.Linking.{HasRoom, IsOpen, OpensRoot, Opens, TakesToken, ClosesRule, Adds, AddsFew, Pays, KeepsRoom, NeedsRoom, TokenNeedsRoom, owed_behind, owed_next};
+    ghost use Rattle.sym_link.specs.Room.{KeepRoom, OnlyForRoom};
     ghost use Rattle.sym_link.specs.Counting.{counting};
     ghost use Rattle.sym_link.specs.CountingLaws.{counting_laws};
 
@@ -52,6 +53,8 @@ impl Linking for Counts {
         ensures adds { OnOk result (Adds (counting _symbol.now) self.old self.new 0 0) }
         ensures few { OnErr result ((counting _symbol.now).size self.new ≤ (counting _symbol.now).size self.old) }
         ensures pays { OnOk result (Pays (counting _symbol.now) self.old self.new 0 0) }
+        ensures keeps { KeepRoom ((counting _symbol.now).lists self.old) ((counting _symbol.now).lists self.new) }
+        ensures full { OnlyForRoom ⊥ ((counting _symbol.now).lists self.old) ((counting _symbol.now).lists self.new) result }
     {
         Ok(())
     }
@@ -73,6 +76,8 @@ impl Linking for Counts {
         ensures adds { OnOk result (Adds (counting _symbol.now) self.old self.new (owed_behind (counting _symbol.now) _frame.now _parts.old.items) (owed_next (counting _symbol.now) _frame.now _parts.new.items)) }
         ensures few { OnErr result (AddsFew (counting _symbol.now) self.old self.new _frame.now _parts.old.items) }
         ensures pays { OnOk result ((at : ℕ) → at ≤ _row.from → Pays (counting _symbol.now) self.old self.new at _row.from) }
+        ensures keeps { KeepsRoom (counting _symbol.now) self.old self.new _parts.old _parts.new }
+        ensures full { NeedsRoom (counting _symbol.now) self.old self.new _parts.old _parts.new result }
     {
         Ok(())
     }
@@ -94,6 +99,8 @@ impl Linking for Counts {
         ensures few { OnErr result (AddsFew (counting symbol.now) self.old self.new frame.now parts.old.items) }
         ensures pays { OnOk result ((at : ℕ) → at ≤ row.from → (length parts.old.items ≡ frame.now.base → at ≤ frame.now.place)
             → Pays (counting symbol.now) self.old self.new at row.to) }
+        ensures keeps { KeepsRoom (counting symbol.now) self.old self.new parts.old parts.new }
+        ensures full { TokenNeedsRoom (counting symbol.now) symbol.now self.old self.new frame.now parts.old parts.new row result }
     {
         self.text
             .extend_from_slice(&symbol[row.from as usize..row.to as usize])?;
@@ -118,6 +125,8 @@ impl Linking for Counts {
         ensures adds { OnOk result (Adds (counting symbol.now) self.old self.new (owed_behind (counting symbol.now) frame.now parts.old.items) 0) }
         ensures few { AddsFew (counting symbol.now) self.old self.new frame.now parts.old.items }
         ensures pays { OnOk result ((at : ℕ) → Pays (counting symbol.now) self.old self.new at at) }
+        ensures keeps { KeepsRoom (counting symbol.now) self.old self.new parts.old parts.new }
+        ensures full { NeedsRoom (counting symbol.now) self.old self.new parts.old parts.new result }
     {
         let own = parts.len() - frame.base;
         if own > 3 {

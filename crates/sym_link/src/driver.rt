@@ -1,10 +1,12 @@
 // A machine over the rows of a shape, for any language.
 
-ghost use Rattle.std.specs.Prelude.{◌≡◌, ℕ, ◌+◌, ◌-◌, ◌*◌, ◌<◌, ◌≤◌, ◌++◌, ◌∷◌, [], List, length, take, Ok, Err, Some, None, true, Result, IfSome, IfNone, IfOk, IfErr, OnOk};
+ghost use Rattle.std.specs.Prelude.{◌≡◌, ℕ, ◌+◌, ◌-◌, ◌*◌, ◌<◌, ◌≤◌, ◌++◌, ◌∷◌, [], List, length, take, Ok, Err, Some, None, true, Result, IfSome, IfNone, IfOk, IfErr, OnOk, vec_capacity};
 ghost use Rattle.sym_shape.specs.Tree.{Tree};
 ghost use Rattle.sym_link.specs.Reading.{Found};
 ghost use Rattle.sym_link.specs.Stepping.{link_steps, waiting, starting};
 ghost use Rattle.sym_link.specs.Following.{IsShape, Follows, FollowsAfter, FollowsOn, FollowsAlone, StaysWithin, EndsWith, CanClose, CanSettle, CanTake, CanBegin, CanMove, IsOnWay, Moves, CountsMove, Fits, IsDriving, IsStepTo, IsDone, meaning_of};
+ghost use Rattle.sym_link.specs.Linking.{KeepsRoom, NeedsRoom, HasToken, lists_with, KeepsAllRoom, NeedsSomeRoom};
+ghost use Rattle.sym_link.specs.Room.{OnlyForRoom};
 
 use crate::language::{Frame, Linking};
 use std::alloc::Global;
@@ -34,7 +36,8 @@ fn top<K: Copy>(frames: &[Frame<K>]) -> &Frame<K>
 
 /// Takes the frame of the rule that is open innermost off the others.
 fn take_off<K: Copy>(frames: &mut Vec<Frame<K>>)
-    ensures { frames.new.items ≡ take (length frames.old.items - 1) frames.old.items }
+    ensures items { frames.new.items ≡ take (length frames.old.items - 1) frames.old.items }
+    ensures keeps { vec_capacity frames.old ≤ vec_capacity frames.new }
 {
     let _frame = frames.pop();
 }
@@ -52,6 +55,8 @@ fn leave<L: Linking>(
         → Follows (L.view symbol.now) symbol.now shape whole (waiting (left + 1)) language.old next (lower ++ frame.now ∷ []) parts.old.items → frame.now.end ≡ next
         → FollowsAfter (L.view symbol.now) symbol.now shape whole left language.new next lower parts.new.items result }
     ensures few { (L.view symbol.now).size language.new ≤ (L.view symbol.now).size language.old + 2 }
+    ensures keeps { KeepsRoom (L.view symbol.now) language.old language.new parts.old parts.new }
+    ensures full { NeedsRoom (L.view symbol.now) language.old language.new parts.old parts.new result }
 {
     language.close(symbol, frame, parts)
 }
@@ -74,6 +79,9 @@ fn take_alone<L: Linking>(
         → Follows (L.view symbol.now) symbol.now rows.now whole (starting left most) language.old next (lower ++ frame ∷ []) parts.old.items
         → StaysWithin (L.view symbol.now) language.new frame parts.new.items most result }
     ensures counts { IfOk result (λ behind. (next ≤ behind) × (behind ≤ next + 1)) }
+    ensures keeps { KeepsRoom (L.view symbol.now) language.old language.new parts.old parts.new }
+    ensures full { OnlyForRoom (HasToken (L.view symbol.now) symbol.now) (lists_with (L.view symbol.now) language.old parts.old)
+        (lists_with (L.view symbol.now) language.new parts.new) result }
 {
     if frame.end == next + 1 && rows[next as usize].rule == TOKEN {
         language.token(symbol, &frame, parts, rows[next as usize])?;
@@ -102,6 +110,8 @@ fn settle<L: Linking>(
         → Follows (L.view symbol.now) symbol.now rows.now whole (starting left most) language.old next (frames.old.items ++ frame ∷ []) parts.old.items
         → (L.view symbol.now).size language.new ≤ most }
     ensures counts { IfOk result (λ behind. (2 * next + length frames.new.items ≤ 2 * behind + length frames.old.items + 1) × (behind ≤ next + 1)) }
+    ensures keeps { KeepsAllRoom (L.view symbol.now) language.old language.new frames.old frames.new parts.old parts.new }
+    ensures full { NeedsSomeRoom (L.view symbol.now) symbol.now language.old language.new frames.old frames.new parts.old parts.new result }
 {
     let behind = take_alone(language, symbol, rows, next, parts, frame)?;
     if frame.end != behind {
@@ -130,6 +140,8 @@ fn take<L: Linking>(
     ensures few { (L.view symbol.now).size language.new ≤ (L.view symbol.now).size language.old + 2 }
     ensures counts { IfOk result (λ behind. (2 * next + length frames.new.items + 1 ≤ 2 * behind + length frames.old.items) × (behind ≤ next + 2)) }
     ensures more { next < length rows.now }
+    ensures keeps { KeepsAllRoom (L.view symbol.now) language.old language.new frames.old frames.new parts.old parts.new }
+    ensures full { NeedsSomeRoom (L.view symbol.now) symbol.now language.old language.new frames.old frames.new parts.old parts.new result }
 {
     let frame = top(frames);
     let row = rows[next as usize];
@@ -162,6 +174,8 @@ fn begin<L: Linking>(
     ensures few { (L.view symbol.now).size language.new ≤ (L.view symbol.now).size language.old + 2 }
     ensures counts { IfOk result (λ behind. (length frames.new.items + 1 ≤ 2 * behind) × (behind ≤ 2)) }
     ensures more { 0 < length rows.now }
+    ensures keeps { KeepsAllRoom (L.view symbol.now) language.old language.new frames.old frames.new parts.old parts.new }
+    ensures full { NeedsSomeRoom (L.view symbol.now) symbol.now language.old language.new frames.old frames.new parts.old parts.new result }
 {
     let row = rows[0];
     let kept = language.root(symbol, rows, row)?;
@@ -198,6 +212,8 @@ fn advance<L: Linking>(
     ensures over { frames.old.items ≡ [] → 0 < next → result ≡ Ok None }
     ensures closed { result ≡ Ok None → frames.old.items ≡ [] }
     ensures begun { result ≡ Ok None → 0 < next }
+    ensures keeps { KeepsAllRoom (L.view symbol.now) language.old language.new frames.old frames.new parts.old parts.new }
+    ensures full { NeedsSomeRoom (L.view symbol.now) symbol.now language.old language.new frames.old frames.new parts.old parts.new result }
 {
     let Some(frame) = innermost(frames) else {
         if next > 0 {
@@ -267,8 +283,8 @@ impl<L: Linking> Driver<L> {
 
     /// Keeps a refusal, and the count of steps with the one that was refused.
     fn refuse(&mut self, steps: u32, refusal: Refusal)
-        ensures frames { self.new.frames.items ≡ self.old.frames.items }
-        ensures parts { self.new.parts.items ≡ self.old.parts.items }
+        ensures frames { self.new.frames ≡ self.old.frames }
+        ensures parts { self.new.parts ≡ self.old.parts }
         ensures next { self.new.next ≡ self.old.next }
         ensures steps { self.new.steps ≡ steps }
         ensures refused { self.new.refused ≡ Some refusal }
@@ -304,6 +320,10 @@ impl<L: Linking> Driver<L> {
         ensures closed { result ≡ Ok true → self.new.frames.items ≡ [] }
         ensures begun { result ≡ Ok true → 0 < self.new.next }
         ensures again { IfSome self.old.refused (λ refusal. (result ≡ Err refusal) × (language.new ≡ language.old)) }
+        ensures keeps { KeepsAllRoom (L.view symbol.now) language.old language.new self.old.frames self.new.frames self.old.parts self.new.parts }
+        // Memory is answered first only where a list had no room, or the symbol has a token that takes memory of its own.
+        ensures full { self.old.refused ≡ None
+            → NeedsSomeRoom (L.view symbol.now) symbol.now language.old language.new self.old.frames self.new.frames self.old.parts self.new.parts result }
     {
         if let Some(refusal) = self.refused {
             return Err(refusal);
@@ -358,6 +378,10 @@ impl<L: Linking> Driver<L> {
         ensures kept { IfErr result (λ refusal. self.new.refused ≡ Some refusal) }
         ensures again { IfSome self.old.refused (λ refusal. (result ≡ Err refusal) × (language.new ≡ language.old)) }
         ensures steps { self.old.steps ≤ self.new.steps }
+        ensures keeps { KeepsAllRoom (L.view symbol.now) language.old language.new self.old.frames self.new.frames self.old.parts self.new.parts }
+        // Memory is answered first only where a list had no room, or the symbol has a token that takes memory of its own.
+        ensures full { self.old.refused ≡ None
+            → NeedsSomeRoom (L.view symbol.now) symbol.now language.old language.new self.old.frames self.new.frames self.old.parts self.new.parts result }
     {
         if let Some(refusal) = self.refused {
             return Err(refusal);

@@ -5,7 +5,7 @@
 // one, a token is taken, and a rule closes. An instance gives a `view` (`specs/Linking.antt`), and shows of each moment
 // (`opens`, `takes`, `closes`): if the frame, the parts behind `frame.base` and the nodes stand for an open rule of the
 // reading, for the values of its parts so far and for the state, then behind the call they stand for what the reading
-// says, or the refusal is the reading's. A refusal for want of memory says nothing.
+// says, or the refusal is the reading's. A refusal for want of memory says nothing of the symbol.
 //
 // - At each moment but the root's a rule stands open at the frame (`IsOpen`), so the language may go by what the frame and its
 //   parts stand for.
@@ -20,12 +20,15 @@
 //   where `at` is a place that no row so far lies behind. A token pays with the bytes up to its end; as the first part with a
 //   row of its rule (then the frame has no parts, if parts without a row have no value) with those from the rule's place on.
 //   In front of each call the bytes of the whole symbol have paid (`room`), so `IsPaid` may hold other invariants, too.
+// - `full`: `Memory` is answered only where a list, the language's or that of the parts, had no room for what was put on it
+//   (`lists`), or for a token that takes memory of its own (`TakesApart`). With `keeps` this goes on over calls.
 // - `laws`: see `IsLinking`.
 //
 // An impl writes the clauses of its methods out, with its own view in the place of `view`.
 
 ghost use Rattle.std.specs.Prelude.{◌≡◌, ℕ, ◌+◌, ◌<◌, ◌≤◌, List, length, OnOk, OnErr};
-ghost use Rattle.sym_link.specs.Linking.{View, IsLinking, HasRoom, IsOpen, OpensRoot, Opens, TakesToken, ClosesRule, Adds, AddsFew, Pays, owed_behind, owed_next};
+ghost use Rattle.sym_link.specs.Linking.{View, IsLinking, HasRoom, IsOpen, OpensRoot, Opens, TakesToken, ClosesRule, Adds, AddsFew, Pays, KeepsRoom, NeedsRoom, TokenNeedsRoom, owed_behind, owed_next};
+ghost use Rattle.sym_link.specs.Room.{KeepRoom, OnlyForRoom};
 
 use sym_core::Refusal;
 use sym_shape::rule::Row;
@@ -66,7 +69,9 @@ pub trait Linking {
         ensures opens { OpensRoot (view symbol.now) symbol.now rows.now self.old self.new row result }
         ensures adds { OnOk result (Adds (view symbol.now) self.old self.new 0 0) }
         ensures few { OnErr result ((view symbol.now).size self.new ≤ (view symbol.now).size self.old) }
-        ensures pays { OnOk result (Pays (view symbol.now) self.old self.new 0 0) };
+        ensures pays { OnOk result (Pays (view symbol.now) self.old self.new 0 0) }
+        ensures keeps { KeepRoom ((view symbol.now).lists self.old) ((view symbol.now).lists self.new) }
+        ensures full { OnlyForRoom ⊥ ((view symbol.now).lists self.old) ((view symbol.now).lists self.new) result };
 
     /// A rule begins in the rule of the frame.
     fn enter(
@@ -85,7 +90,9 @@ pub trait Linking {
         ensures opens { Opens (view symbol.now) symbol.now rows.now self.old self.new frame.now parts.old.items parts.new.items row result }
         ensures adds { OnOk result (Adds (view symbol.now) self.old self.new (owed_behind (view symbol.now) frame.now parts.old.items) (owed_next (view symbol.now) frame.now parts.new.items)) }
         ensures few { OnErr result (AddsFew (view symbol.now) self.old self.new frame.now parts.old.items) }
-        ensures pays { OnOk result ((at : ℕ) → at ≤ row.from → Pays (view symbol.now) self.old self.new at row.from) };
+        ensures pays { OnOk result ((at : ℕ) → at ≤ row.from → Pays (view symbol.now) self.old self.new at row.from) }
+        ensures keeps { KeepsRoom (view symbol.now) self.old self.new parts.old parts.new }
+        ensures full { NeedsRoom (view symbol.now) self.old self.new parts.old parts.new result };
 
     /// A token is taken in the rule of the frame.
     fn token(
@@ -104,7 +111,9 @@ pub trait Linking {
         ensures adds { OnOk result (Adds (view symbol.now) self.old self.new (owed_behind (view symbol.now) frame.now parts.old.items) (owed_behind (view symbol.now) frame.now parts.new.items)) }
         ensures few { OnErr result (AddsFew (view symbol.now) self.old self.new frame.now parts.old.items) }
         ensures pays { OnOk result ((at : ℕ) → at ≤ row.from → (length parts.old.items ≡ frame.now.base → at ≤ frame.now.place)
-            → Pays (view symbol.now) self.old self.new at row.to) };
+            → Pays (view symbol.now) self.old self.new at row.to) }
+        ensures keeps { KeepsRoom (view symbol.now) self.old self.new parts.old parts.new }
+        ensures full { TokenNeedsRoom (view symbol.now) symbol.now self.old self.new frame.now parts.old parts.new row result };
 
     /// The rule of the frame closes: what it means takes the place of its parts.
     fn close(
@@ -120,7 +129,9 @@ pub trait Linking {
         ensures closes { ClosesRule (view symbol.now) symbol.now self.old self.new frame.now parts.old.items parts.new.items result }
         ensures adds { OnOk result (Adds (view symbol.now) self.old self.new (owed_behind (view symbol.now) frame.now parts.old.items) 0) }
         ensures few { AddsFew (view symbol.now) self.old self.new frame.now parts.old.items }
-        ensures pays { OnOk result ((at : ℕ) → Pays (view symbol.now) self.old self.new at at) };
+        ensures pays { OnOk result ((at : ℕ) → Pays (view symbol.now) self.old self.new at at) }
+        ensures keeps { KeepsRoom (view symbol.now) self.old self.new parts.old parts.new }
+        ensures full { NeedsRoom (view symbol.now) self.old self.new parts.old parts.new result };
 
     ghost laws: { (s : List ℕ) → IsLinking (view s) };
 }

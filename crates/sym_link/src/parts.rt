@@ -14,6 +14,8 @@ use sym_core::Refusal;
 pub fn push_part<P: Copy>(parts: &mut Vec<P>, part: P) -> Result<(), Refusal>
     ensures items { OnOk result (parts.new.items ≡ parts.old.items ++ part ∷ []) }
     ensures memory { IfErr result (λ e. e ≡ refusals.Memory) }
+    ensures same { OnErr result (parts.new.items ≡ parts.old.items) }
+    ensures keeps { vec_capacity parts.old ≤ vec_capacity parts.new }
     ensures full { OnErr result (vec_capacity parts.old < length parts.old.items + 1) }
 {
     parts.reserve(1)?;
@@ -31,6 +33,8 @@ pub fn put<P: Copy>(parts: &mut Vec<P>, base: usize, part: P) -> Result<(), Refu
     requires { base ≤ length parts.old.items }
     ensures items { OnOk result (parts.new.items ≡ take base parts.old.items ++ part ∷ []) }
     ensures memory { IfErr result (λ e. e ≡ refusals.Memory) }
+    ensures rest { OnErr result (length parts.new.items ≡ base) }
+    ensures keeps { vec_capacity parts.old ≤ vec_capacity parts.new }
     ensures full { OnErr result (vec_capacity parts.old < base + 1) }
 {
     parts.truncate(base);

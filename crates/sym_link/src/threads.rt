@@ -9,7 +9,8 @@ ghost use Rattle.std.specs.Prelude.{◌≡◌, ℕ, ◌+◌, ◌-◌, ◌<◌, �
 ghost use Rattle.sym_core.specs.declared.refusal.Refusal.{Refusal};
 ghost use Rattle.sym_link.specs.Machine.{Passed};
 ghost use Rattle.sym_link.specs.Driving.{AreAll};
-ghost use Rattle.sym_link.specs.Linking.{View, HasRoom, IsOpen, Opens, TakesToken, ClosesRule, Adds, AddsFew, Pays, owed_behind, owed_next};
+ghost use Rattle.sym_link.specs.Linking.{View, HasRoom, IsOpen, Opens, TakesToken, ClosesRule, Adds, AddsFew, Pays, KeepsRoom, NeedsRoom, TokenNeedsRoom, owed_behind, owed_next};
+ghost use Rattle.sym_link.specs.Room.{KeepRoom, OnlyForRoom};
 ghost use Rattle.sym_link.specs.Threads.{IsOpenAt, GoesOn, BeginsIn, ClosesAll, IsTaken, IsAhead, IsAheadToken, IsCount, IsThreading, AddsBefore, Passing, PassesOne, Passes};
 
 use crate::language::Frame;
@@ -56,7 +57,9 @@ pub trait Threading {
         ensures adds { OnOk result (Adds (view symbol.now) self.old self.new (owed_behind (view symbol.now) frame.now parts.old.items) (owed_next (view symbol.now) frame.now parts.new.items)) }
         ensures few { AddsBefore (view symbol.now) self.old self.new frame.now parts.old.items (drop frame.now.base parts.new.items ++ absent ∷ []) result }
         ensures pays { OnOk result ((at : ℕ) → Pays (view symbol.now) self.old self.new at at) }
-        ensures count { OnOk result (length parts.new.items ≡ length parts.old.items) };
+        ensures count { OnOk result (length parts.new.items ≡ length parts.old.items) }
+        ensures keeps { KeepsRoom (view symbol.now) self.old self.new parts.old parts.new }
+        ensures full { NeedsRoom (view symbol.now) self.old self.new parts.old parts.new result };
 
     /// The rule of a row begins, around which this holds.
     fn begin(
@@ -71,7 +74,9 @@ pub trait Threading {
         ensures begins { BeginsIn (view symbol.now) symbol.now (surrounds symbol.now) rows.now self.old self.new context row result }
         ensures adds { OnOk result (Adds (view symbol.now) self.old self.new 0 0) }
         ensures few { OnErr result ((view symbol.now).size self.new ≤ (view symbol.now).size self.old) }
-        ensures pays { OnOk result ((at : ℕ) → Pays (view symbol.now) self.old self.new at at) };
+        ensures pays { OnOk result ((at : ℕ) → Pays (view symbol.now) self.old self.new at at) }
+        ensures keeps { KeepRoom ((view symbol.now).lists self.old) ((view symbol.now).lists self.new) }
+        ensures full { OnlyForRoom ⊥ ((view symbol.now).lists self.old) ((view symbol.now).lists self.new) result };
 
     /// The rule of the frame closes over all its parts.
     fn finish(
@@ -87,7 +92,9 @@ pub trait Threading {
         ensures closes { ClosesAll (view symbol.now) symbol.now self.old self.new frame.now parts.old.items parts.new.items result }
         ensures adds { OnOk result (Adds (view symbol.now) self.old self.new (owed_behind (view symbol.now) frame.now parts.old.items) 0) }
         ensures few { AddsFew (view symbol.now) self.old self.new frame.now parts.old.items }
-        ensures pays { OnOk result ((at : ℕ) → Pays (view symbol.now) self.old self.new at at) };
+        ensures pays { OnOk result ((at : ℕ) → Pays (view symbol.now) self.old self.new at at) }
+        ensures keeps { KeepsRoom (view symbol.now) self.old self.new parts.old parts.new }
+        ensures full { NeedsRoom (view symbol.now) self.old self.new parts.old parts.new result };
 
     /// The number of the next part of the rule of the frame that has a row: a rule's, of which so many parts have begun.
     fn ahead(
@@ -108,7 +115,9 @@ pub trait Threading {
         ensures taken { IsTaken (view symbol.now) symbol.now self.old self.new row result }
         ensures adds { OnOk result (Adds (view symbol.now) self.old self.new 0 0) }
         ensures few { OnErr result ((view symbol.now).size self.new ≤ (view symbol.now).size self.old) }
-        ensures pays { OnOk result ((at : ℕ) → Pays (view symbol.now) self.old self.new at at) };
+        ensures pays { OnOk result ((at : ℕ) → Pays (view symbol.now) self.old self.new at at) }
+        ensures keeps { KeepRoom ((view symbol.now).lists self.old) ((view symbol.now).lists self.new) }
+        ensures full { OnlyForRoom ⊥ ((view symbol.now).lists self.old) ((view symbol.now).lists self.new) result };
 
     /// The number of the next part of the rule of the frame that has a row: a token's, of which so many parts have begun.
     fn ahead_token(&self, symbol: &[u8], frame: &Frame<Self::Kept>, held: usize) -> usize
@@ -140,6 +149,8 @@ fn pass_one<L: Threading>(
     ensures few { AddsBefore (L.view symbol.now) language.old language.new frame.now parts.old.items (drop frame.now.base parts.new.items) result }
     ensures pays { OnOk result ((at : ℕ) → Pays (L.view symbol.now) language.old language.new at at) }
     ensures count { OnOk result (length parts.new.items ≡ length parts.old.items + 1) }
+    ensures keeps { KeepsRoom (L.view symbol.now) language.old language.new parts.old parts.new }
+    ensures full { NeedsRoom (L.view symbol.now) language.old language.new parts.old parts.new result }
 {
     language.between(symbol, frame, parts)?;
     parts.push(language.nothing())?;
@@ -166,6 +177,8 @@ pub fn pass<L: Threading>(
     ensures few { AddsBefore (L.view symbol.now) language.old language.new frame.now parts.old.items (drop frame.now.base parts.new.items) result }
     ensures pays { OnOk result ((at : ℕ) → Pays (L.view symbol.now) language.old language.new at at) }
     ensures base { OnOk result (frame.now.base ≤ length parts.new.items) }
+    ensures keeps { KeepsRoom (L.view symbol.now) language.old language.new parts.old parts.new }
+    ensures full { NeedsRoom (L.view symbol.now) language.old language.new parts.old parts.new result }
 {
     'parts: while parts.len() - frame.base < to {
         pass_one(language, symbol, frame, parts)?;
@@ -191,6 +204,8 @@ pub fn enter_by<L: Threading>(
     ensures adds { OnOk result (Adds (L.view symbol.now) language.old language.new (owed_behind (L.view symbol.now) frame.now parts.old.items) (owed_next (L.view symbol.now) frame.now parts.new.items)) }
     ensures few { OnErr result (AddsFew (L.view symbol.now) language.old language.new frame.now parts.old.items) }
     ensures pays { OnOk result ((at : ℕ) → at ≤ row.from → Pays (L.view symbol.now) language.old language.new at row.from) }
+    ensures keeps { KeepsRoom (L.view symbol.now) language.old language.new parts.old parts.new }
+    ensures full { NeedsRoom (L.view symbol.now) language.old language.new parts.old parts.new result }
 {
     let to = language.ahead(symbol, rows, frame, parts.len() - frame.base, row);
     pass(language, symbol, frame, parts, to)?;
@@ -215,6 +230,8 @@ pub fn close_by<L: Threading>(
     ensures adds { OnOk result (Adds (L.view symbol.now) language.old language.new (owed_behind (L.view symbol.now) frame.now parts.old.items) 0) }
     ensures few { AddsFew (L.view symbol.now) language.old language.new frame.now parts.old.items }
     ensures pays { OnOk result ((at : ℕ) → Pays (L.view symbol.now) language.old language.new at at) }
+    ensures keeps { KeepsRoom (L.view symbol.now) language.old language.new parts.old parts.new }
+    ensures full { NeedsRoom (L.view symbol.now) language.old language.new parts.old parts.new result }
 {
     let to = language.count(symbol, frame, parts.len() - frame.base);
     pass(language, symbol, frame, parts, to)?;
@@ -239,6 +256,8 @@ pub fn token_by<L: Threading>(
     ensures adds { OnOk result (Adds (L.view symbol.now) language.old language.new (owed_behind (L.view symbol.now) frame.now parts.old.items) (owed_behind (L.view symbol.now) frame.now parts.new.items)) }
     ensures few { OnErr result (AddsFew (L.view symbol.now) language.old language.new frame.now parts.old.items) }
     ensures pays { OnOk result ((at : ℕ) → at ≤ row.from → Pays (L.view symbol.now) language.old language.new at row.to) }
+    ensures keeps { KeepsRoom (L.view symbol.now) language.old language.new parts.old parts.new }
+    ensures full { TokenNeedsRoom (L.view symbol.now) symbol.now language.old language.new frame.now parts.old parts.new row result }
 {
     let to = language.ahead_token(symbol, frame, parts.len() - frame.base);
     pass(language, symbol, frame, parts, to)?;

@@ -5,6 +5,8 @@ use Rattle.sym_link.specs.Following.{meaning_of}
 use Rattle.sym_link.specs.Stepping.{waiting}
 use Rattle.sym_link.proofs.Lists.{popped, last_same}
 use Rattle.sym_link.proofs.Driving.{begun_way, closing_way, done_way, fresh_way, root_left}
+use Rattle.sym_link.specs.Linking.{all_lists}
+use Rattle.sym_link.proofs.Room.{room_same}
 use Rattle.sym_link.proofs.driver.advance.Goals as goal
 
 pub returns-then-next-gt0-clause-moves : goal.returns-then-next-gt0-clause-moves
@@ -47,7 +49,7 @@ pub returns-then-frame-next-clause-moves : goal.returns-then-frame-next-clause-m
 returns-then-frame-next-clause-moves g c tree taken is way =
     let some = closing_way (g.L.Linking.view c.args.symbol.now) c.args.symbol.now c.args.rows.now tree taken c.args.language.now c.args.next c.args.frames.now.items c.in-Some.frame.now c.args.parts.now.items way (c.in-Some.ensures.some.0, sym c.deref.ensures.value ∙ c.in-Some.ensures.some.1) in
     rw (
-      c.take_off.ensures,
+      c.take_off.ensures.items,
       popped c.args.frames.now.items c.in-Some.ensures.some.0 c.in-Some.frame.now _ (sym c.deref.ensures.value ∙ c.in-Some.ensures.some.1) refl,
     )
     (some.0, some.1, c.in_ok-leave.ensures.follows (meaning_of (g.L.Linking.view c.args.symbol.now) tree) c.args.rows.now c.in-Some.ensures.some.0 c.args.next some.0 some.2 c.if-frame-next.true)
@@ -89,3 +91,6 @@ returns-in_default-clause-moves g c tree taken is way =
     (g.met.L.Linking.laws c.args.symbol.now) is way (sym c.deref.ensures.value ∙ c.in_default.ensures.none) (omega (arith, c.if-next-gt0.false)) in
     let some = root_left (g.L.Linking.view c.args.symbol.now) c.args.symbol.now c.args.rows.now tree (g.met.L.Linking.laws c.args.symbol.now) is in
     (some.0, omega (arith, fresh.1, some.1), c.in_ok-behind.ensures.follows tree some.0 is some.1)
+
+pub returns-then-next-gt0-clause-keeps : goal.returns-then-next-gt0-clause-keeps
+returns-then-next-gt0-clause-keeps g c = room_same (all_lists (g.L.Linking.view c.args.symbol.now) c.args.language.now c.args.frames.now c.args.parts.now)

@@ -1,7 +1,9 @@
-use Rattle.std.proofs.Common.{refl}
+use Rattle.std.proofs.Common.{refl, arith}
 use Rattle.std.specs.Prelude.{slice_index_or}
 use Rattle.sym_link.specs.Following.{meaning_of}
 use Rattle.sym_link.proofs.Driving.{root_asks, root_left, root_begun}
+use Rattle.sym_link.specs.Linking.{HasToken, all_lists}
+use Rattle.sym_link.proofs.Room.{room_then, only_then}
 use Rattle.sym_link.proofs.driver.begin.Goals as goal
 
 pub root-requires-clause-end : goal.root-requires-clause-end
@@ -38,3 +40,13 @@ returns-clause-few g c =
     c.args.parts.now.items (slice_index_or c.args.rows.now 0 (record { rule = 0; from = 0; to = 0; end = 0 })) (record { rule = 0; from = 0; to = 0; end = 0 }) (g.met.L.Linking.laws c.args.symbol.now) c.requires.is_shape c.requires.fits.rows c.requires.fresh refl
     c.in_ok-kept.ensures.opens c.in_ok-kept.ensures.adds c.in_ok-kept.ensures.pays refl refl refl refl _
     (root_left (g.L.Linking.view c.args.symbol.now) c.args.symbol.now c.args.rows.now c.requires.tree (g.met.L.Linking.laws c.args.symbol.now) c.requires.is_shape).1)
+
+pub returns-clause-keeps : goal.returns-clause-keeps
+returns-clause-keeps g c =
+    room_then (all_lists (g.L.Linking.view c.args.symbol.now) c.args.language.now c.args.frames.now c.args.parts.now) (all_lists (g.L.Linking.view c.args.symbol.now) c.root.new.self c.args.frames.now c.args.parts.now) (all_lists (g.L.Linking.view c.args.symbol.now) c.settle.new.language c.settle.new.frames c.settle.new.parts)
+    (omega arith, (omega arith, c.in_ok-kept.ensures.keeps)) c.settle.ensures.keeps
+
+pub returns-clause-full : goal.returns-clause-full
+returns-clause-full g c =
+    only_then (HasToken (g.L.Linking.view c.args.symbol.now) c.args.symbol.now) (all_lists (g.L.Linking.view c.args.symbol.now) c.args.language.now c.args.frames.now c.args.parts.now) (all_lists (g.L.Linking.view c.args.symbol.now) c.root.new.self c.args.frames.now c.args.parts.now) (all_lists (g.L.Linking.view c.args.symbol.now) c.settle.new.language c.settle.new.frames c.settle.new.parts) c.settle.result
+    (omega arith, (omega arith, c.in_ok-kept.ensures.keeps)) c.settle.ensures.full

@@ -27,4 +27,6 @@ returns g c =
           c.args.parts.now.items c.close.new.parts.items c.close.result (g.met.L.Linking.laws c.args.symbol.now) follows ends
           c.close.ensures.closes c.close.ensures.adds c.close.ensures.pays left refl;
       few = few_two (g.L.Linking.view c.args.symbol.now) c.args.language.now c.close.new.self c.args.frame.now c.args.parts.now.items (g.met.L.Linking.laws c.args.symbol.now) c.close.ensures.few;
+      keeps = c.close.ensures.keeps;
+      full = c.close.ensures.full;
     }

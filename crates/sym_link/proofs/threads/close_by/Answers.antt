@@ -3,6 +3,8 @@ use Rattle.std.specs.Prelude.{take}
 use Rattle.std.proofs.lemmas.Result.{err_from_is_err_and}
 use Rattle.sym_link.specs.Machine.{passed}
 use Rattle.sym_link.proofs.Passing.{passing_first, open_first, closed_all, closed_none}
+use Rattle.sym_link.specs.Linking.{lists_with}
+use Rattle.sym_link.proofs.Room.{room_then, only_refused}
 use Rattle.sym_link.proofs.threads.close_by.Goals as goal
 
 pub pass-requires-clause-open : goal.pass-requires-clause-open
@@ -58,3 +60,15 @@ returns-in_err-finish-clause-few g c = omega (arith, c.in_err-finish.ensures.few
 
 pub returns-clause-few : goal.returns-clause-few
 returns-clause-few g c = omega (arith, c.in_ok-finish.ensures.few, c.in_ok-pass.ensures.few)
+
+pub returns-in_err-finish-clause-keeps : goal.returns-in_err-finish-clause-keeps
+returns-in_err-finish-clause-keeps g c = room_then (lists_with (g.L.Threading.view c.args.symbol.now) c.args.language.now c.args.parts.now) (lists_with (g.L.Threading.view c.args.symbol.now) c.pass.new.language c.pass.new.parts) (lists_with (g.L.Threading.view c.args.symbol.now) c.finish.new.self c.finish.new.parts) c.in_ok-pass.ensures.keeps c.in_err-finish.ensures.keeps
+
+pub returns-in_err-finish-clause-full : goal.returns-in_err-finish-clause-full
+returns-in_err-finish-clause-full g c =
+    let p = err_from_is_err_and c.from_residual-in_err-finish.result c.from_residual-in_err-finish.ensures.1 in
+    rw (p.1, p.2)
+    (only_refused ⊥ ⊥ (lists_with (g.L.Threading.view c.args.symbol.now) c.args.language.now c.args.parts.now) (lists_with (g.L.Threading.view c.args.symbol.now) c.pass.new.language c.pass.new.parts) (lists_with (g.L.Threading.view c.args.symbol.now) c.finish.new.self c.finish.new.parts) c.in_err-finish.field-0.0 (λ none. none) c.in_ok-pass.ensures.keeps c.in_err-finish.ensures.full)
+
+pub returns-clause-keeps : goal.returns-clause-keeps
+returns-clause-keeps g c = room_then (lists_with (g.L.Threading.view c.args.symbol.now) c.args.language.now c.args.parts.now) (lists_with (g.L.Threading.view c.args.symbol.now) c.pass.new.language c.pass.new.parts) (lists_with (g.L.Threading.view c.args.symbol.now) c.finish.new.self c.finish.new.parts) c.in_ok-pass.ensures.keeps c.in_ok-finish.ensures.keeps

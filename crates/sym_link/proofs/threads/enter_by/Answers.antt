@@ -1,8 +1,11 @@
-use Rattle.std.proofs.Common.{◌≡◌, ◌-◌, arith, drop, length, length-drop}
+use Rattle.std.proofs.Common.{◌≡◌, ◌-◌, arith, Err, drop, length, length-drop}
 use Rattle.std.specs.Prelude.{take}
 use Rattle.std.proofs.lemmas.Result.{err_from_is_err_and}
 use Rattle.sym_link.specs.Machine.{passed}
 use Rattle.sym_link.proofs.Passing.{passing_first, open_first, begins_passed, begins_gone, begins_refused, begins_right}
+use Rattle.sym_link.specs.Room.{one_by_one}
+use Rattle.sym_link.specs.Linking.{lists_with}
+use Rattle.sym_link.proofs.Room.{room_then, only_refused, list_more}
 use Rattle.sym_link.proofs.threads.enter_by.Goals as goal
 
 pub pass-requires-clause-open : goal.pass-requires-clause-open
@@ -78,3 +81,30 @@ pub returns-in_err-kept-clause-few : goal.returns-in_err-kept-clause-few
 returns-in_err-kept-clause-few g c =
     let p = err_from_is_err_and c.from_residual-in_err-kept.result c.from_residual-in_err-kept.ensures.1 in
     rw p.1 (omega (arith, c.in_err-kept.ensures.few, c.in_ok-context.ensures.few, c.in_ok-pass.ensures.few))
+
+pub returns-in_err-context-clause-keeps : goal.returns-in_err-context-clause-keeps
+returns-in_err-context-clause-keeps g c = room_then (lists_with (g.L.Threading.view c.args.symbol.now) c.args.language.now c.args.parts.now) (lists_with (g.L.Threading.view c.args.symbol.now) c.pass.new.language c.pass.new.parts) (lists_with (g.L.Threading.view c.args.symbol.now) c.between.new.self c.between.new.parts) c.in_ok-pass.ensures.keeps c.in_err-context.ensures.keeps
+
+pub returns-in_err-context-clause-full : goal.returns-in_err-context-clause-full
+returns-in_err-context-clause-full g c =
+    let p = err_from_is_err_and c.from_residual-in_err-context.result c.from_residual-in_err-context.ensures.1 in
+    rw (p.1, p.2)
+    (only_refused ⊥ ⊥ (lists_with (g.L.Threading.view c.args.symbol.now) c.args.language.now c.args.parts.now) (lists_with (g.L.Threading.view c.args.symbol.now) c.pass.new.language c.pass.new.parts) (lists_with (g.L.Threading.view c.args.symbol.now) c.between.new.self c.between.new.parts) c.in_err-context.field-0.0 (λ none. none) c.in_ok-pass.ensures.keeps c.in_err-context.ensures.full)
+
+pub returns-in_err-kept-clause-keeps : goal.returns-in_err-kept-clause-keeps
+returns-in_err-kept-clause-keeps g c =
+    room_then (lists_with (g.L.Threading.view c.args.symbol.now) c.args.language.now c.args.parts.now) (lists_with (g.L.Threading.view c.args.symbol.now) c.between.new.self c.between.new.parts) (lists_with (g.L.Threading.view c.args.symbol.now) c.begin.new.self c.between.new.parts) (room_then (lists_with (g.L.Threading.view c.args.symbol.now) c.args.language.now c.args.parts.now) (lists_with (g.L.Threading.view c.args.symbol.now) c.pass.new.language c.pass.new.parts) (lists_with (g.L.Threading.view c.args.symbol.now) c.between.new.self c.between.new.parts) c.in_ok-pass.ensures.keeps c.in_ok-context.ensures.keeps)
+    (omega arith, c.in_err-kept.ensures.keeps)
+
+pub returns-in_err-kept-clause-full : goal.returns-in_err-kept-clause-full
+returns-in_err-kept-clause-full g c =
+    let p = err_from_is_err_and c.from_residual-in_err-kept.result c.from_residual-in_err-kept.ensures.1 in
+    rw (p.1, p.2)
+    (only_refused ⊥ ⊥ (lists_with (g.L.Threading.view c.args.symbol.now) c.args.language.now c.args.parts.now) (lists_with (g.L.Threading.view c.args.symbol.now) c.between.new.self c.between.new.parts) (lists_with (g.L.Threading.view c.args.symbol.now) c.begin.new.self c.between.new.parts) c.in_err-kept.field-0.0 (λ none. none)
+    (room_then (lists_with (g.L.Threading.view c.args.symbol.now) c.args.language.now c.args.parts.now) (lists_with (g.L.Threading.view c.args.symbol.now) c.pass.new.language c.pass.new.parts) (lists_with (g.L.Threading.view c.args.symbol.now) c.between.new.self c.between.new.parts) c.in_ok-pass.ensures.keeps c.in_ok-context.ensures.keeps)
+    (list_more ⊥ (one_by_one c.between.new.parts) (one_by_one c.between.new.parts) ((g.L.Threading.view c.args.symbol.now).lists c.between.new.self) ((g.L.Threading.view c.args.symbol.now).lists c.begin.new.self) (Err c.in_err-kept.field-0.0) c.in_err-kept.ensures.full))
+
+pub returns-clause-keeps : goal.returns-clause-keeps
+returns-clause-keeps g c =
+    room_then (lists_with (g.L.Threading.view c.args.symbol.now) c.args.language.now c.args.parts.now) (lists_with (g.L.Threading.view c.args.symbol.now) c.between.new.self c.between.new.parts) (lists_with (g.L.Threading.view c.args.symbol.now) c.begin.new.self c.between.new.parts) (room_then (lists_with (g.L.Threading.view c.args.symbol.now) c.args.language.now c.args.parts.now) (lists_with (g.L.Threading.view c.args.symbol.now) c.pass.new.language c.pass.new.parts) (lists_with (g.L.Threading.view c.args.symbol.now) c.between.new.self c.between.new.parts) c.in_ok-pass.ensures.keeps c.in_ok-context.ensures.keeps)
+    (omega arith, c.in_ok-kept.ensures.keeps)

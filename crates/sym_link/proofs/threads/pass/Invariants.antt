@@ -3,7 +3,7 @@ use Rattle.std.proofs.Common.{◌-◌, ◌+◌, ◌≤◌, ℕ, List, drop, leng
 use Rattle.std.specs.Prelude.{Result}
 use Rattle.sym_core.specs.declared.refusal.Refusal.{Refusal}
 use Rattle.sym_link.specs.Machine.{Passed}
-use Rattle.sym_link.specs.Linking.{HasRoom, Adds, Pays, owed_behind}
+use Rattle.sym_link.specs.Linking.{HasRoom, Adds, Pays, KeepsRoom, owed_behind}
 use Rattle.sym_link.specs.Threads.{IsOpenAt, Passing}
 use Rattle.sym_link.proofs.threads.pass.Given as goal
 
@@ -19,6 +19,7 @@ invariant-parts g l =
     × IsOpenAt (g.L.Threading.view l.symbol) l.symbol l.language l.frame l.parts.items
     × ((g.L.Threading.view l.symbol).size l.language + (g.L.Threading.view l.symbol).closes l.frame.rule (drop l.frame.base l.parts.items)
     ≤ (g.L.Threading.view l.symbol).size l.fn.language + (g.L.Threading.view l.symbol).closes l.frame.rule (drop l.frame.base l.fn.parts.items))
+    × KeepsRoom (g.L.Threading.view l.symbol) l.fn.language l.language l.fn.parts l.parts
 
 abbrev pub decreases-parts : goal.decreases-parts
 decreases-parts g l = l.to - (length l.parts.items - l.frame.base)

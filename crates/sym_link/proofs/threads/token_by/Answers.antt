@@ -1,4 +1,4 @@
-use Rattle.std.proofs.Common.{◌≡◌, ◌-◌, arith, Ok, drop, length, length-drop, sym, subst}
+use Rattle.std.proofs.Common.{rules, ◌≡◌, ◌-◌, arith, Ok, Err, drop, length, length-drop, sym, subst}
 use Rattle.std.specs.Prelude.{take}
 use Rattle.std.proofs.lemmas.Result.{err_from_is_err_and}
 use Rattle.sym_link.specs.Machine.{passed}
@@ -6,6 +6,9 @@ use Rattle.sym_link.specs.Linking.{Takes, next_of, taken_in}
 use Rattle.sym_link.specs.Parts.{skipped_from}
 use Rattle.sym_link.specs.Reading.{◌>>=◌}
 use Rattle.sym_link.proofs.Passing.{passing_first, open_first, token_passed, token_gone, token_refused, token_right}
+use Rattle.sym_link.specs.Room.{one_by_one}
+use Rattle.sym_link.specs.Linking.{lists_with}
+use Rattle.sym_link.proofs.Room.{room_then, only_refused, list_more}
 use Rattle.sym_link.proofs.threads.token_by.Goals as goal
 
 pub pass-requires-clause-open : goal.pass-requires-clause-open
@@ -87,3 +90,35 @@ pub returns-in_err-push-clause-few : goal.returns-in_err-push-clause-few
 returns-in_err-push-clause-few g c =
     let p = err_from_is_err_and c.from_residual-in_err-push.result c.from_residual-in_err-push.ensures.1 in
     rw p.1 (omega (arith, c.in_ok-part.ensures.adds.1, c.in_ok-between.ensures.few, c.in_ok-pass.ensures.few))
+
+pub returns-in_err-between-clause-keeps : goal.returns-in_err-between-clause-keeps
+returns-in_err-between-clause-keeps g c = room_then (lists_with (g.L.Threading.view c.args.symbol.now) c.args.language.now c.args.parts.now) (lists_with (g.L.Threading.view c.args.symbol.now) c.pass.new.language c.pass.new.parts) (lists_with (g.L.Threading.view c.args.symbol.now) c.between.new.self c.between.new.parts) c.in_ok-pass.ensures.keeps c.in_err-between.ensures.keeps
+
+pub returns-in_err-between-clause-full : goal.returns-in_err-between-clause-full
+returns-in_err-between-clause-full g c =
+    let p = err_from_is_err_and c.from_residual-in_err-between.result c.from_residual-in_err-between.ensures.1 in
+    rw (p.1, p.2)
+    (only_refused ⊥ ((g.L.Threading.view c.args.symbol.now).TakesApart c.args.frame.now.rule (take (c.args.row.to - c.args.row.from) (drop c.args.row.from c.args.symbol.now))) (lists_with (g.L.Threading.view c.args.symbol.now) c.args.language.now c.args.parts.now) (lists_with (g.L.Threading.view c.args.symbol.now) c.pass.new.language c.pass.new.parts) (lists_with (g.L.Threading.view c.args.symbol.now) c.between.new.self c.between.new.parts) c.in_err-between.field-0.0 (λ none. absurd none) c.in_ok-pass.ensures.keeps c.in_err-between.ensures.full)
+
+pub returns-in_err-part-clause-keeps : goal.returns-in_err-part-clause-keeps
+returns-in_err-part-clause-keeps g c =
+    room_then (lists_with (g.L.Threading.view c.args.symbol.now) c.args.language.now c.args.parts.now) (lists_with (g.L.Threading.view c.args.symbol.now) c.between.new.self c.between.new.parts) (lists_with (g.L.Threading.view c.args.symbol.now) c.text.new.self c.between.new.parts) (room_then (lists_with (g.L.Threading.view c.args.symbol.now) c.args.language.now c.args.parts.now) (lists_with (g.L.Threading.view c.args.symbol.now) c.pass.new.language c.pass.new.parts) (lists_with (g.L.Threading.view c.args.symbol.now) c.between.new.self c.between.new.parts) c.in_ok-pass.ensures.keeps c.in_ok-between.ensures.keeps)
+    (omega arith, c.in_err-part.ensures.keeps)
+
+pub returns-in_err-part-clause-full : goal.returns-in_err-part-clause-full
+returns-in_err-part-clause-full g c =
+    let p = err_from_is_err_and c.from_residual-in_err-part.result c.from_residual-in_err-part.ensures.1 in
+    rw (p.1, p.2)
+    (only_refused ⊥ ((g.L.Threading.view c.args.symbol.now).TakesApart c.args.frame.now.rule (take (c.args.row.to - c.args.row.from) (drop c.args.row.from c.args.symbol.now))) (lists_with (g.L.Threading.view c.args.symbol.now) c.args.language.now c.args.parts.now) (lists_with (g.L.Threading.view c.args.symbol.now) c.between.new.self c.between.new.parts) (lists_with (g.L.Threading.view c.args.symbol.now) c.text.new.self c.between.new.parts) c.in_err-part.field-0.0 (λ none. absurd none)
+    (room_then (lists_with (g.L.Threading.view c.args.symbol.now) c.args.language.now c.args.parts.now) (lists_with (g.L.Threading.view c.args.symbol.now) c.pass.new.language c.pass.new.parts) (lists_with (g.L.Threading.view c.args.symbol.now) c.between.new.self c.between.new.parts) c.in_ok-pass.ensures.keeps c.in_ok-between.ensures.keeps)
+    (list_more ⊥ (one_by_one c.between.new.parts) (one_by_one c.between.new.parts) ((g.L.Threading.view c.args.symbol.now).lists c.between.new.self) ((g.L.Threading.view c.args.symbol.now).lists c.text.new.self) (Err c.in_err-part.field-0.0) c.in_err-part.ensures.full))
+
+pub returns-in_err-push-clause-keeps : goal.returns-in_err-push-clause-keeps
+returns-in_err-push-clause-keeps g c =
+    room_then (lists_with (g.L.Threading.view c.args.symbol.now) c.args.language.now c.args.parts.now) (lists_with (g.L.Threading.view c.args.symbol.now) c.between.new.self c.between.new.parts) (lists_with (g.L.Threading.view c.args.symbol.now) c.text.new.self c.push.new.self) (room_then (lists_with (g.L.Threading.view c.args.symbol.now) c.args.language.now c.args.parts.now) (lists_with (g.L.Threading.view c.args.symbol.now) c.pass.new.language c.pass.new.parts) (lists_with (g.L.Threading.view c.args.symbol.now) c.between.new.self c.between.new.parts) c.in_ok-pass.ensures.keeps c.in_ok-between.ensures.keeps)
+    (search rules, c.in_ok-part.ensures.keeps)
+
+pub returns-clause-keeps : goal.returns-clause-keeps
+returns-clause-keeps g c =
+    room_then (lists_with (g.L.Threading.view c.args.symbol.now) c.args.language.now c.args.parts.now) (lists_with (g.L.Threading.view c.args.symbol.now) c.between.new.self c.between.new.parts) (lists_with (g.L.Threading.view c.args.symbol.now) c.text.new.self c.push.new.self) (room_then (lists_with (g.L.Threading.view c.args.symbol.now) c.args.language.now c.args.parts.now) (lists_with (g.L.Threading.view c.args.symbol.now) c.pass.new.language c.pass.new.parts) (lists_with (g.L.Threading.view c.args.symbol.now) c.between.new.self c.between.new.parts) c.in_ok-pass.ensures.keeps c.in_ok-between.ensures.keeps)
+    (search rules, c.in_ok-part.ensures.keeps)

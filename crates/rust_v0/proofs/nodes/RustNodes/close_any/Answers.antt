@@ -53,7 +53,7 @@ returns-in_err-part-2-clause-closes c rule known from left state is none =
     let own = drop c.args.frame.base c.args.parts.now.items in
     let made_is : of_part (Err c.in_err-part-2.field-0.0) ≡ semantics.made c.in-Some.production s rule.place rule.context own =
     rw (← is.place, ← c.site_of-site.ensures.place, ← is.kept.is, ← c.site_of-site.ensures.bound, ← rest_all c.args.parts.now.items c.args.frame.base, ← c.deref.ensures.value)
-    (c.in_err-part-2.ensures s (sym c.makes_part.ensures ∙ c.if-makes_part.true) (rw c.site_of-site.ensures.place c.site_of-site.ensures.byte) c.site_of-site.ensures.end) in
+    (c.in_err-part-2.ensures.is s (sym c.makes_part.ensures ∙ c.if-makes_part.true) (rw c.site_of-site.ensures.place c.site_of-site.ensures.byte) c.site_of-site.ensures.end) in
     let p = err_from_is_err_and c.from_residual-in_err-part-2.result c.from_residual-in_err-part-2.ensures.1 in
     rw (p.1, p.2, v0_ended s rule known from left state none, production_is)
     (gives_part s c.args.self.now at (Err c.in_err-part-2.field-0.0) _ _ is.holds made_is
@@ -68,7 +68,7 @@ returns-then-makes_part-clause-closes c rule known from left state is none =
     let own = drop c.args.frame.base c.args.parts.now.items in
     let made_is : of_part (Ok c.in_ok-part-2.part) ≡ semantics.made c.in-Some.production s rule.place rule.context own =
     rw (← is.place, ← c.site_of-site.ensures.place, ← is.kept.is, ← c.site_of-site.ensures.bound, ← rest_all c.args.parts.now.items c.args.frame.base, ← c.deref.ensures.value)
-    (c.in_ok-part-2.ensures s (sym c.makes_part.ensures ∙ c.if-makes_part.true) (rw c.site_of-site.ensures.place c.site_of-site.ensures.byte) c.site_of-site.ensures.end) in
+    (c.in_ok-part-2.ensures.is s (sym c.makes_part.ensures ∙ c.if-makes_part.true) (rw c.site_of-site.ensures.place c.site_of-site.ensures.byte) c.site_of-site.ensures.end) in
     rw (v0_ended s rule known from left state none, production_is)
     (put_gives s c.args.self.now (take c.args.frame.base c.args.parts.now.items) c.put-then-makes_part.new.parts.items c.in_ok-part-2.part c.put-then-makes_part.result _
     c.put-then-makes_part.ensures.items c.put-then-makes_part.ensures.memory

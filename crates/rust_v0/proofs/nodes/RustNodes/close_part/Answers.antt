@@ -19,7 +19,7 @@ returns-in_err-part-clause-closes c rule known from left state is none =
     let fits : rule.context < 2 ^ 64 = omega (arith, is.kept.few, is.place, c.requires.place, c.requires.room.fits) in
     let made_is : of_part (Err c.in_err-part.field-0.0) ≡ semantics.made c.args.production s rule.place rule.context own =
     rw (← is.place, ← c.site_of-site.ensures.place, ← is.kept.is, ← c.site_of-site.ensures.bound, ← rest_all c.args.parts.now.items c.args.frame.base, ← c.deref.ensures.value)
-    (c.in_err-part.ensures s c.requires.part (rw c.site_of-site.ensures.place c.site_of-site.ensures.byte) c.site_of-site.ensures.end) in
+    (c.in_err-part.ensures.is s c.requires.part (rw c.site_of-site.ensures.place c.site_of-site.ensures.byte) c.site_of-site.ensures.end) in
     let p = err_from_is_err_and c.from_residual.result c.from_residual.ensures.1 in
     rw (p.1, p.2, v0_ended s rule known from left state none, production_is)
     (gives_part s c.args.self.now (at_rule s rule state) (Err c.in_err-part.field-0.0) _ _ is.holds made_is
@@ -33,7 +33,7 @@ returns-clause-closes c rule known from left state is none =
     let fits : rule.context < 2 ^ 64 = omega (arith, is.kept.few, is.place, c.requires.place, c.requires.room.fits) in
     let made_is : of_part (Ok c.in_ok-part.part) ≡ semantics.made c.args.production s rule.place rule.context own =
     rw (← is.place, ← c.site_of-site.ensures.place, ← is.kept.is, ← c.site_of-site.ensures.bound, ← rest_all c.args.parts.now.items c.args.frame.base, ← c.deref.ensures.value)
-    (c.in_ok-part.ensures s c.requires.part (rw c.site_of-site.ensures.place c.site_of-site.ensures.byte) c.site_of-site.ensures.end) in
+    (c.in_ok-part.ensures.is s c.requires.part (rw c.site_of-site.ensures.place c.site_of-site.ensures.byte) c.site_of-site.ensures.end) in
     rw (v0_ended s rule known from left state none, production_is)
     (put_gives s c.args.self.now (take c.args.frame.base c.args.parts.now.items) c.put.new.parts.items c.in_ok-part.part c.put.result _ c.put.ensures.items c.put.ensures.memory
     (gives_part s c.args.self.now (at_rule s rule state) (Ok c.in_ok-part.part) _ _ is.holds made_is

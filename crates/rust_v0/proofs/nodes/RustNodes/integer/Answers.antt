@@ -1,5 +1,6 @@
 use Rattle.std.proofs.Common.{refl, ◌≡◌, ◌∙◌, ◌-◌, ◌&&◌, sym, subst, ap, arith, length, take, drop}
 use Rattle.std.specs.Prelude.{nat_lt}
+use Rattle.std.proofs.lemmas.Result.{err_from_is_err_and}
 use Rattle.sym_core.specs.Number.{AreDigits}
 use Rattle.sym_core.specs.declared.NumberKind.TheVariants.{Hex}
 use Rattle.sym_core.specs.Printed.{signed_text}
@@ -7,7 +8,7 @@ use Rattle.sym_link.proofs.Lists.{span_length}
 use Rattle.rust_tree.specs.Nodes.{HasNoZero}
 use Rattle.rust_tree.proofs.Trees.{grows-same}
 use Rattle.rust_v0.specs.Unfold.{value16}
-use Rattle.rust_v0.proofs.Integers.{digits_behind, digits_left, digits_pay}
+use Rattle.rust_v0.proofs.Integers.{digits_behind, digits_left, digits_pay, text_few}
 use Rattle.rust_v0.proofs.nodes.RustNodes.integer.Goals as goal
 
 pub returns-then-not-are_digits-clause-grows : goal.returns-then-not-are_digits-clause-grows
@@ -41,3 +42,13 @@ returns-in_ok-printed-in-Some-clause-few c =
     digits_pay (length c.args.self.now.nodes.text) (length c.print_integer.new.self.nodes.text) c.in-Some.magnitude (c.args.own.to - c.args.own.from) c.args.minus bytes
     (c.are_digits.ensures.only c.if-not-are_digits.false) c.in-Some.ensures (omega (arith, c.in-Some.ensures)) count
     (λ none. ap (λ l. length l) (c.in_ok-printed-in-Some.ensures.none none)) c.in_ok-printed-in-Some.ensures.few
+
+pub returns-in_err-printed-in-Some-clause-full : goal.returns-in_err-printed-in-Some-clause-full
+returns-in_err-printed-in-Some-clause-full c =
+    let bytes = take (c.args.own.to - c.args.own.from) (drop c.args.own.from c.args.symbol.now) in
+    let count : length bytes ≡ c.args.own.to - c.args.own.from = span_length c.args.own.from c.args.own.to c.args.symbol.now c.requires.within.0 c.requires.within.1 in
+    let full = c.in_err-printed-in-Some.ensures.full in
+    let same : length (signed_text c.args.minus c.in-Some.magnitude) ≡ length (signed_text c.args.minus (value16 bytes)) = ap (λ v. length (signed_text c.args.minus v)) c.in-Some.ensures in
+    let few = text_few c.args.minus bytes (c.are_digits.ensures.only c.if-not-are_digits.false) (omega (arith, c.in-Some.ensures)) (omega (arith, c.in-Some.ensures, full.0)) in
+    let p = err_from_is_err_and c.from_residual.result c.from_residual.ensures.1 in
+    rw p.1 (λ memory. omega (arith, full.1, same, few, count))

@@ -1,4 +1,4 @@
-use Rattle.std.proofs.Common.{refl, sym, ◌∙◌, subst, ap, arith}
+use Rattle.std.proofs.Common.{refl, Err, Bool, sym, ◌∙◌, subst, ap, arith}
 use Rattle.sym_shape.specs.declared.rule.Sym.TheVariants.{Kind}
 use Rattle.sym_shape.specs.Tree.{IsTree, spell}
 use Rattle.sym_link.specs.Driving.{Fails}
@@ -6,6 +6,10 @@ use Rattle.sym_link.specs.Following.{meaning_of}
 use Rattle.sym_demangle.specs.Mangled.{IsRefused}
 use Rattle.sym_demangle.specs.Standing.{Progress, AreLinkSteps}
 use Rattle.sym_demangle.proofs.Standing.{shape_steps, driving_fails, refused_of, counted_two}
+use Rattle.sym_link.specs.Linking.{HasToken, all_lists}
+use Rattle.sym_link.specs.Room.{KeepRoom, OnlyForRoom}
+use Rattle.sym_link.proofs.Room.{room_same}
+use Rattle.sym_link.proofs.Driving.{none_kept}
 use Rattle.sym_demangle.proofs.linker.Linker.run.Goals as goal
 
 pub returns-then-self-clause-all_steps : goal.returns-then-self-clause-all_steps
@@ -54,3 +58,28 @@ returns-in-Err-clause-nodes g c =
     i.driver.frames.items i.driver.parts.items g.M.Mangling.count_of g.M.Mangling.first_nodes (g.met.M.Mangling.counts_nodes s) c.in_default.not-Some
     (rw (c.deref.ensures.value, c.rows.ensures) inv.driving) c.run.ensures.nodes in
     omega (arith, added, ap (λ (v : Progress). v.steps) c.self.view_is, ap (λ (v : Progress). v.nodes) c.self.view_is)
+
+pub returns-in-Ok-clause-room : goal.returns-in-Ok-clause-room
+returns-in-Ok-clause-room g c =
+    let i = c.self.inside in
+    subst (λ (v : Progress). KeepRoom v.lists (all_lists (g.M.Linked.Linking.view i.bytes.items) c.run.new.language c.run.new.self.frames c.run.new.self.parts)) c.self.view_is
+    (subst (λ b. KeepRoom (all_lists (g.M.Linked.Linking.view b) i.linked i.driver.frames i.driver.parts) (all_lists (g.M.Linked.Linking.view b) c.run.new.language c.run.new.self.frames c.run.new.self.parts)) c.deref.ensures.value c.run.ensures.keeps)
+
+pub returns-in-Err-clause-room : goal.returns-in-Err-clause-room
+returns-in-Err-clause-room g c =
+    let i = c.self.inside in
+    subst (λ (v : Progress). KeepRoom v.lists (all_lists (g.M.Linked.Linking.view i.bytes.items) c.run.new.language c.run.new.self.frames c.run.new.self.parts)) c.self.view_is
+    (subst (λ b. KeepRoom (all_lists (g.M.Linked.Linking.view b) i.linked i.driver.frames i.driver.parts) (all_lists (g.M.Linked.Linking.view b) c.run.new.language c.run.new.self.frames c.run.new.self.parts)) c.deref.ensures.value c.run.ensures.keeps)
+
+pub returns-in-Err-clause-full : goal.returns-in-Err-clause-full
+returns-in-Err-clause-full g c none =
+    let i = c.self.inside in
+    subst (λ (v : Progress). OnlyForRoom {A = (Unit {0})} (HasToken (g.M.Linked.Linking.view v.bytes) v.bytes) v.lists (all_lists (g.M.Linked.Linking.view i.bytes.items) c.run.new.language c.run.new.self.frames c.run.new.self.parts) (Err c.in-Err.refusal)) c.self.view_is
+    (subst (λ b. OnlyForRoom {A = (Unit {0})} (HasToken (g.M.Linked.Linking.view b) b) (all_lists (g.M.Linked.Linking.view b) i.linked i.driver.frames i.driver.parts) (all_lists (g.M.Linked.Linking.view b) c.run.new.language c.run.new.self.frames c.run.new.self.parts) (Err c.in-Err.refusal)) c.deref.ensures.value
+    (λ is. c.run.ensures.full (none_kept i.driver.refused c.in_default.not-Some) (c.in-Err.is ∙ is)))
+
+pub returns-then-self-clause-room : goal.returns-then-self-clause-room
+returns-then-self-clause-room g c = subst (λ (v : Progress). KeepRoom v.lists v.lists) c.self.view_is (room_same (all_lists (g.M.Linked.Linking.view c.self.inside.bytes.items) c.self.inside.linked c.self.inside.driver.frames c.self.inside.driver.parts))
+
+pub returns-in-Some-clause-room : goal.returns-in-Some-clause-room
+returns-in-Some-clause-room g c = subst (λ (v : Progress). KeepRoom v.lists v.lists) c.self.view_is (room_same (all_lists (g.M.Linked.Linking.view c.self.inside.bytes.items) c.self.inside.linked c.self.inside.driver.frames c.self.inside.driver.parts))

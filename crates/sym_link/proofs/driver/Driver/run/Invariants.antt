@@ -2,6 +2,7 @@
 use Rattle.std.proofs.Common.{◌≡◌, ◌+◌, ◌-◌, ◌*◌, ◌≤◌, length, None}
 use Rattle.sym_shape.specs.Tree.{Tree}
 use Rattle.sym_link.specs.Following.{IsShape, IsDriving}
+use Rattle.sym_link.specs.Linking.{KeepsAllRoom}
 use Rattle.sym_link.proofs.driver.Driver.run.Given as goal
 
 abbrev pub invariant-moves : goal.invariant-moves
@@ -14,6 +15,7 @@ invariant-moves g l =
     → IsDriving (g.L.Linking.view l.symbol) l.symbol l.rows tree l.language l.steps None l.next l.self.frames.items l.self.parts.items)
     × (l.fn.self.steps ≤ l.steps)
     × ((g.L.Linking.view l.symbol).size l.language + 2 * l.fn.self.steps ≤ (g.L.Linking.view l.symbol).size l.fn.language + 2 * l.steps)
+    × KeepsAllRoom (g.L.Linking.view l.symbol) l.fn.language l.language l.fn.self.frames l.self.frames l.fn.self.parts l.self.parts
 
 abbrev pub decreases-moves : goal.decreases-moves
 decreases-moves g l = 2 * (length l.rows - l.next) + length l.self.frames.items
