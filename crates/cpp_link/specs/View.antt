@@ -70,5 +70,5 @@ cpp_view s = record {
   most = λ bytes. 2 * bytes;
   IsPaid = λ l bytes. IsPaid l;
   lists = λ l. unsaid ∷ [];
-  TakesApart = λ number own. ⊥;
+  TakesMemory = λ number own. ⊥;
 }

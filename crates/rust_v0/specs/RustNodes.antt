@@ -84,7 +84,7 @@ v0_view s = record {
       record { room = linked.nodes.node_room; held = length linked.nodes.nodes; most = 1 }
       ∷ record { room = linked.nodes.text_room; held = length linked.nodes.text; most = most_text s } ∷ [];
   -- a name is decoded with memory of its own
-  TakesApart = λ number own. (production_of number ≡ Some rules.PunycodeName) × IsDecoded true own;
+  TakesMemory = λ number own. (production_of number ≡ Some rules.PunycodeName) × IsDecoded true own;
 }
 
 -- a reference to what has ended, which needs so many lifetimes

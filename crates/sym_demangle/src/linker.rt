@@ -5,7 +5,7 @@ ghost use Rattle.sym_core.specs.Number.{FitsSymbol};
 ghost use Rattle.sym_core.specs.declared.refusal.Refusal.TheVariants as refusals;
 ghost use Rattle.sym_shape.specs.Tree.{AreRowsOf};
 ghost use Rattle.sym_shape.specs.Reader.{AreFew};
-ghost use Rattle.sym_link.specs.Linking.{HasToken};
+ghost use Rattle.sym_link.specs.Linking.{TokenTakesMemory};
 ghost use Rattle.sym_link.specs.Room.{KeepRoom, OnlyForRoom};
 ghost use Rattle.sym_demangle.specs.Mangled.{StandsFor, IsRefused};
 ghost use Rattle.sym_demangle.specs.Standing.{Progress, unlinked, AddsTwoEach, AreFewInAll, AreLinkSteps, IsLinker};
@@ -123,7 +123,7 @@ impl<M: Mangling> Linker<M> {
         ensures room { KeepRoom self.old.lists self.new.lists }
         // Memory is answered first only where a list had no room, or the symbol has a token that takes memory of its own.
         ensures full { self.old.refused ≡ None
-            → OnlyForRoom (HasToken (M.Linked.view self.old.bytes) self.old.bytes) self.old.lists self.new.lists result }
+            → OnlyForRoom (TokenTakesMemory (M.Linked.view self.old.bytes) self.old.bytes) self.old.lists self.new.lists result }
         ensures few { AreFewInAll self.new }
     {
         if let Some(refusal) = self.driver.refused {
@@ -169,7 +169,7 @@ impl<M: Mangling> Linker<M> {
         ensures room { KeepRoom self.old.lists self.new.lists }
         // Memory is answered first only where a list had no room, or the symbol has a token that takes memory of its own.
         ensures full { self.old.refused ≡ None
-            → OnlyForRoom (HasToken (M.Linked.view self.old.bytes) self.old.bytes) self.old.lists self.new.lists result }
+            → OnlyForRoom (TokenTakesMemory (M.Linked.view self.old.bytes) self.old.bytes) self.old.lists self.new.lists result }
         ensures few { AreFewInAll self.new }
     {
         if let Some(refusal) = self.driver.refused {

@@ -13,7 +13,7 @@ use Rattle.sym_link.specs.Machine as machine
 use Rattle.sym_link.specs.Unfold.{found, standing}
 use Rattle.sym_link.specs.Parts.{skipped, passed_by, skipped_from, values_in, Stands}
 use Rattle.sym_link.specs.Driving.{AreAll, Fails}
-use Rattle.sym_link.specs.Linking.{View, IsLinking, HasRoom, HasToken, IsOpen, IsRuleRow, IsTokenRow, values_at_once, owed_behind, owed_next, next_of, taken_in, Adds, AddsFew, ClosesRule, TakesToken, Opens, OpensRoot}
+use Rattle.sym_link.specs.Linking.{View, IsLinking, HasRoom, TokenTakesMemory, IsOpen, IsRuleRow, IsTokenRow, values_at_once, owed_behind, owed_next, next_of, taken_in, Adds, AddsFew, ClosesRule, TakesToken, Opens, OpensRoot}
 use Rattle.sym_link.specs.Stepping.{link_steps, link_steps_all, Due, waiting, starting, no_part_has_row, closes_at_once, CountsClose, CountsToken}
 use Rattle.sym_link.specs.Following.{Follows, FollowsAfter, StaysWithin, CanClose, CanTake, CanBegin, EndsWith, IsShape, IsFresh, IsOnWay, IsDone, HoldsAll, Moves, CountsMove, IsDriving, IsStepTo, meaning_of}
 use Rattle.sym_link.proofs.Standing.{NextPart, a_rule, a_token, next_part, skip_from, skip_count, stands_within, stands_end, stands_inner, stands_skip, rows_length_all}
@@ -235,7 +235,7 @@ token_asks view s shape due nodes next codes code parts row d laws can row_is is
 pub token_there : {N P K V S C : Type 0} (view : View N P K V S C) (s : List ℕ) (shape : List Row) (due : Due)
     (nodes : N) (next : ℕ) (codes : List (Frame K)) (code : Frame K) (parts : List P) (row d : Row) → IsLinking view
     → CanTake view s shape due nodes next codes code parts → row ≡ slice_index_or shape next d → row.rule ≡ 65535
-    → view.TakesApart code.rule (take (row.to - row.from) (drop row.from s)) → HasToken view s
+    → view.TakesMemory code.rule (take (row.to - row.from) (drop row.from s)) → TokenTakesMemory view s
 token_there view s shape due nodes next codes code parts row d laws can row_is is_token apart =
     let t = token_next view s shape can.whole due nodes next codes code parts row d laws can.last can.follows can.open_still row_is is_token in
     record {

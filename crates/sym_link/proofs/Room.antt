@@ -25,7 +25,8 @@ lacked_before (x ∷ xs) [] _ ab lacks = absurd ab
 lacked_before (x ∷ xs) (y ∷ ys) [] ab lacks = absurd lacks
 
 -- a call behind another one
-pub only_then : {A : Type 0} (apart : Type 0) (a b c : List Listed) (result : Result A Refusal) → KeepRoom a b → OnlyForRoom apart b c result → OnlyForRoom apart a c result
+pub only_then : {A : Type 0} (apart : Type 0) (a b c : List Listed) (result : Result A Refusal) → KeepRoom a b
+    → OnlyForRoom apart b c result → OnlyForRoom apart a c result
 only_then apart a b c result ab only is = elim (only is) [ inl lacks ↦ inl (lacked_before a b c ab lacks) | inr more ↦ inr more ]
 
 -- a call whose refusal is answered, behind another one
@@ -34,5 +35,6 @@ pub only_refused : {A B : Type 0} (few apart : Type 0) (a b c : List Listed) (e 
 only_refused few apart a b c e so ab only is = elim (only cc) [ inl lacks ↦ inl (lacked_before a b c ab lacks) | inr more ↦ inr (so more) ]
 
 -- a call with lists of its own, beside which there is another list
-pub list_more : {A : Type 0} (apart : Type 0) (x y : Listed) (a b : List Listed) (result : Result A Refusal) → OnlyForRoom apart a b result → OnlyForRoom apart (x ∷ a) (y ∷ b) result
+pub list_more : {A : Type 0} (apart : Type 0) (x y : Listed) (a b : List Listed) (result : Result A Refusal)
+    → OnlyForRoom apart a b result → OnlyForRoom apart (x ∷ a) (y ∷ b) result
 list_more apart x y a b result only is = elim (only is) [ inl lacks ↦ inl (inr lacks) | inr more ↦ inr more ]

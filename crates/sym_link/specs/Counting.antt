@@ -66,7 +66,7 @@ counting s = record {
   most = λ bytes. 4 * bytes + 4;
   IsPaid = λ nodes bytes. length nodes.text.items ≤ bytes;
   lists = λ nodes. one_by_one nodes.counts ∷ record { room = vec_capacity nodes.text; held = length nodes.text.items; most = length s } ∷ [];
-  TakesApart = λ number own. ⊥;
+  TakesMemory = λ number own. ⊥;
 }
 
 -- the number is the one value that was read, or the refusal is that of the reading

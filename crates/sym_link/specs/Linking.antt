@@ -45,7 +45,7 @@ pub record View (N P K V S C : Type 0) : Type 1 where
   pub IsPaid : N → (bytes : ℕ) → Type 0
   -- its lists, and which bytes of a token take memory beside them in a rule of this number
   pub lists : N → List Listed
-  pub TakesApart : (number : ℕ) → (own : List ℕ) → Type 0
+  pub TakesMemory : (number : ℕ) → (own : List ℕ) → Type 0
 
 -- how many nodes the rule of a frame may add still, behind these parts
 abbrev pub owed_behind : {N P K V S C : Type 0} → View N P K V S C → Frame K → List P → ℕ
@@ -227,16 +227,19 @@ abbrev pub KeepsRoom : {N P K V S C : Type 0} → View N P K V S C → (old new 
 KeepsRoom view old new parts new_parts = KeepRoom (lists_with view old parts) (lists_with view new new_parts)
 
 -- A call answers `Memory` only where a list had no room.
-abbrev pub NeedsRoom : {N P K V S C A : Type 0} → View N P K V S C → (old new : N) → (parts new_parts : Vec P Global) → Result A Refusal → Type 0
+abbrev pub NeedsRoom : {N P K V S C A : Type 0} → View N P K V S C → (old new : N) → (parts new_parts : Vec P Global) → Result A Refusal
+    → Type 0
 NeedsRoom view old new parts new_parts result = OnlyForRoom ⊥ (lists_with view old parts) (lists_with view new new_parts) result
 
 -- Where a token is taken in the rule of the frame, `Memory` is answered only where a list had no room, or its bytes take memory.
-abbrev pub TokenNeedsRoom : {N P K V S C : Type 0} → View N P K V S C → (s : List ℕ) → (old new : N) → Frame K → (parts new_parts : Vec P Global) → Row → Result (Unit {0}) Refusal → Type 0
+abbrev pub TokenNeedsRoom : {N P K V S C : Type 0} → View N P K V S C → (s : List ℕ) → (old new : N) → Frame K
+    → (parts new_parts : Vec P Global) → Row → Result (Unit {0}) Refusal → Type 0
 TokenNeedsRoom view s old new frame parts new_parts row result =
-    OnlyForRoom (view.TakesApart frame.rule (take (row.to - row.from) (drop row.from s))) (lists_with view old parts) (lists_with view new new_parts) result
+    OnlyForRoom (view.TakesMemory frame.rule (take (row.to - row.from) (drop row.from s)))
+    (lists_with view old parts) (lists_with view new new_parts) result
 
 -- A rule stands in the symbol whose next part with a row is a token that takes memory of its own.
-pub record HasToken {N P K V S C : Type 0} (view : View N P K V S C) (s : List ℕ) : Type 0 where
+pub record TokenTakesMemory {N P K V S C : Type 0} (view : View N P K V S C) (s : List ℕ) : Type 0 where
   pub rule : Open S C
   pub held : ℕ
   pub from : ℕ
@@ -245,18 +248,19 @@ pub record HasToken {N P K V S C : Type 0} (view : View N P K V S C) (s : List �
   pub rest : Forest
   pub stands : Stands view.table s (length view.reading.rowless) rule held from left
   pub left_is : skipped left ≡ grown (token t) rest
-  pub apart : view.TakesApart rule.rule.number t.own
+  pub apart : view.TakesMemory rule.rule.number t.own
 
 -- the lists that a move of the driver puts something on: that of the frames, and those of the language's calls
 abbrev pub all_lists : {N P K V S C : Type 0} → View N P K V S C → N → Vec (Frame K) Global → Vec P Global → List Listed
 all_lists view nodes frames parts = one_by_one frames ∷ lists_with view nodes parts
 
 -- A move has as much room behind it as before.
-abbrev pub KeepsAllRoom : {N P K V S C : Type 0} → View N P K V S C → (old new : N) → (frames new_frames : Vec (Frame K) Global) → (parts new_parts : Vec P Global) → Type 0
+abbrev pub KeepsAllRoom : {N P K V S C : Type 0} → View N P K V S C → (old new : N) → (frames new_frames : Vec (Frame K) Global)
+    → (parts new_parts : Vec P Global) → Type 0
 KeepsAllRoom view old new frames new_frames parts new_parts = KeepRoom (all_lists view old frames parts) (all_lists view new new_frames new_parts)
 
 -- A move answers `Memory` only where a list had no room, or where the symbol has a token that takes memory of its own.
 abbrev pub NeedsSomeRoom : {N P K V S C A : Type 0} → View N P K V S C → (s : List ℕ) → (old new : N) → (frames new_frames : Vec (Frame K) Global)
     → (parts new_parts : Vec P Global) → Result A Refusal → Type 0
 NeedsSomeRoom view s old new frames new_frames parts new_parts result =
-    OnlyForRoom (HasToken view s) (all_lists view old frames parts) (all_lists view new new_frames new_parts) result
+    OnlyForRoom (TokenTakesMemory view s) (all_lists view old frames parts) (all_lists view new new_frames new_parts) result

@@ -5,7 +5,7 @@ ghost use Rattle.sym_shape.specs.Tree.{Tree};
 ghost use Rattle.sym_link.specs.Reading.{Found};
 ghost use Rattle.sym_link.specs.Stepping.{link_steps, waiting, starting};
 ghost use Rattle.sym_link.specs.Following.{IsShape, Follows, FollowsAfter, FollowsOn, FollowsAlone, StaysWithin, EndsWith, CanClose, CanSettle, CanTake, CanBegin, CanMove, IsOnWay, Moves, CountsMove, Fits, IsDriving, IsStepTo, IsDone, meaning_of};
-ghost use Rattle.sym_link.specs.Linking.{KeepsRoom, NeedsRoom, HasToken, lists_with, KeepsAllRoom, NeedsSomeRoom};
+ghost use Rattle.sym_link.specs.Linking.{KeepsRoom, NeedsRoom, TokenTakesMemory, lists_with, KeepsAllRoom, NeedsSomeRoom};
 ghost use Rattle.sym_link.specs.Room.{OnlyForRoom};
 
 use crate::language::{Frame, Linking};
@@ -80,7 +80,7 @@ fn take_alone<L: Linking>(
         → StaysWithin (L.view symbol.now) language.new frame parts.new.items most result }
     ensures counts { IfOk result (λ behind. (next ≤ behind) × (behind ≤ next + 1)) }
     ensures keeps { KeepsRoom (L.view symbol.now) language.old language.new parts.old parts.new }
-    ensures full { OnlyForRoom (HasToken (L.view symbol.now) symbol.now) (lists_with (L.view symbol.now) language.old parts.old)
+    ensures full { OnlyForRoom (TokenTakesMemory (L.view symbol.now) symbol.now) (lists_with (L.view symbol.now) language.old parts.old)
         (lists_with (L.view symbol.now) language.new parts.new) result }
 {
     if frame.end == next + 1 && rows[next as usize].rule == TOKEN {

@@ -21,7 +21,7 @@
 //   row of its rule (then the frame has no parts, if parts without a row have no value) with those from the rule's place on.
 //   In front of each call the bytes of the whole symbol have paid (`room`), so `IsPaid` may hold other invariants, too.
 // - `full`: `Memory` is answered only where a list, the language's or that of the parts, had no room for what was put on it
-//   (`lists`), or for a token that takes memory of its own (`TakesApart`). With `keeps` this goes on over calls.
+//   (`lists`), or for a token that takes memory of its own (`TakesMemory`). With `keeps` this goes on over calls.
 // - `laws`: see `IsLinking`.
 //
 // An impl writes the clauses of its methods out, with its own view in the place of `view`.

@@ -93,4 +93,7 @@ returns-in_default-clause-moves g c tree taken is way =
     (some.0, omega (arith, fresh.1, some.1), c.in_ok-behind.ensures.follows tree some.0 is some.1)
 
 pub returns-then-next-gt0-clause-keeps : goal.returns-then-next-gt0-clause-keeps
-returns-then-next-gt0-clause-keeps g c = room_same (all_lists (g.L.Linking.view c.args.symbol.now) c.args.language.now c.args.frames.now c.args.parts.now)
+returns-then-next-gt0-clause-keeps g c =
+    let view = g.L.Linking.view c.args.symbol.now in
+    let before = all_lists view c.args.language.now c.args.frames.now c.args.parts.now in
+    room_same before

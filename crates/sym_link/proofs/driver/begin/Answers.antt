@@ -2,7 +2,7 @@ use Rattle.std.proofs.Common.{refl, arith}
 use Rattle.std.specs.Prelude.{slice_index_or}
 use Rattle.sym_link.specs.Following.{meaning_of}
 use Rattle.sym_link.proofs.Driving.{root_asks, root_left, root_begun}
-use Rattle.sym_link.specs.Linking.{HasToken, all_lists}
+use Rattle.sym_link.specs.Linking.{TokenTakesMemory, all_lists}
 use Rattle.sym_link.proofs.Room.{room_then, only_then}
 use Rattle.sym_link.proofs.driver.begin.Goals as goal
 
@@ -43,10 +43,18 @@ returns-clause-few g c =
 
 pub returns-clause-keeps : goal.returns-clause-keeps
 returns-clause-keeps g c =
-    room_then (all_lists (g.L.Linking.view c.args.symbol.now) c.args.language.now c.args.frames.now c.args.parts.now) (all_lists (g.L.Linking.view c.args.symbol.now) c.root.new.self c.args.frames.now c.args.parts.now) (all_lists (g.L.Linking.view c.args.symbol.now) c.settle.new.language c.settle.new.frames c.settle.new.parts)
+    let view = g.L.Linking.view c.args.symbol.now in
+    let before = all_lists view c.args.language.now c.args.frames.now c.args.parts.now in
+    let after_root = all_lists view c.root.new.self c.args.frames.now c.args.parts.now in
+    let after_settle = all_lists view c.settle.new.language c.settle.new.frames c.settle.new.parts in
+    room_then before after_root after_settle
     (omega arith, (omega arith, c.in_ok-kept.ensures.keeps)) c.settle.ensures.keeps
 
 pub returns-clause-full : goal.returns-clause-full
 returns-clause-full g c =
-    only_then (HasToken (g.L.Linking.view c.args.symbol.now) c.args.symbol.now) (all_lists (g.L.Linking.view c.args.symbol.now) c.args.language.now c.args.frames.now c.args.parts.now) (all_lists (g.L.Linking.view c.args.symbol.now) c.root.new.self c.args.frames.now c.args.parts.now) (all_lists (g.L.Linking.view c.args.symbol.now) c.settle.new.language c.settle.new.frames c.settle.new.parts) c.settle.result
+    let view = g.L.Linking.view c.args.symbol.now in
+    let before = all_lists view c.args.language.now c.args.frames.now c.args.parts.now in
+    let after_root = all_lists view c.root.new.self c.args.frames.now c.args.parts.now in
+    let after_settle = all_lists view c.settle.new.language c.settle.new.frames c.settle.new.parts in
+    only_then (TokenTakesMemory view c.args.symbol.now) before after_root after_settle c.settle.result
     (omega arith, (omega arith, c.in_ok-kept.ensures.keeps)) c.settle.ensures.full

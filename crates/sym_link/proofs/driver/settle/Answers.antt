@@ -2,7 +2,7 @@ use Rattle.std.proofs.Common.{Ok, Err, arith}
 use Rattle.std.proofs.lemmas.Result.{err_from_is_err_and}
 use Rattle.sym_link.proofs.Driving.{closing_room, closing_open, closing_place, closing_base, closed}
 use Rattle.sym_link.specs.Room.{one_by_one}
-use Rattle.sym_link.specs.Linking.{HasToken, lists_with, all_lists}
+use Rattle.sym_link.specs.Linking.{TokenTakesMemory, lists_with, all_lists}
 use Rattle.sym_link.proofs.Room.{room_then, only_refused, list_more}
 use Rattle.sym_link.proofs.driver.settle.Goals as goal
 
@@ -78,19 +78,33 @@ returns-then-frame-behind-clause-few g c whole left most follows = (c.in_ok-behi
 
 pub returns-in_err-close-clause-keeps : goal.returns-in_err-close-clause-keeps
 returns-in_err-close-clause-keeps g c =
-    room_then (all_lists (g.L.Linking.view c.args.symbol.now) c.args.language.now c.args.frames.now c.args.parts.now) (all_lists (g.L.Linking.view c.args.symbol.now) c.take_alone.new.language c.args.frames.now c.take_alone.new.parts) (all_lists (g.L.Linking.view c.args.symbol.now) c.close.new.self c.args.frames.now c.close.new.parts)
+    let view = g.L.Linking.view c.args.symbol.now in
+    let before = all_lists view c.args.language.now c.args.frames.now c.args.parts.now in
+    let after_alone = all_lists view c.take_alone.new.language c.args.frames.now c.take_alone.new.parts in
+    let after_close = all_lists view c.close.new.self c.args.frames.now c.close.new.parts in
+    room_then before after_alone after_close
     (omega arith, c.in_ok-behind.ensures.keeps) (omega arith, c.in_err-close.ensures.keeps)
 
 pub returns-in_err-close-clause-full : goal.returns-in_err-close-clause-full
 returns-in_err-close-clause-full g c =
+    let view = g.L.Linking.view c.args.symbol.now in
+    let before = all_lists view c.args.language.now c.args.frames.now c.args.parts.now in
+    let after_alone = all_lists view c.take_alone.new.language c.args.frames.now c.take_alone.new.parts in
+    let after_close = all_lists view c.close.new.self c.args.frames.now c.close.new.parts in
+    let own_after_alone = lists_with view c.take_alone.new.language c.take_alone.new.parts in
+    let own_after_close = lists_with view c.close.new.self c.close.new.parts in
     let p = err_from_is_err_and c.from_residual-in_err-close.result c.from_residual-in_err-close.ensures.1 in
     rw (p.1, p.2)
-    (only_refused ⊥ (HasToken (g.L.Linking.view c.args.symbol.now) c.args.symbol.now) (all_lists (g.L.Linking.view c.args.symbol.now) c.args.language.now c.args.frames.now c.args.parts.now) (all_lists (g.L.Linking.view c.args.symbol.now) c.take_alone.new.language c.args.frames.now c.take_alone.new.parts) (all_lists (g.L.Linking.view c.args.symbol.now) c.close.new.self c.args.frames.now c.close.new.parts) c.in_err-close.field-0.0
+    (only_refused ⊥ (TokenTakesMemory view c.args.symbol.now) before after_alone after_close c.in_err-close.field-0.0
     (λ none. absurd none) (omega arith, c.in_ok-behind.ensures.keeps)
-    (list_more ⊥ (one_by_one c.args.frames.now) (one_by_one c.args.frames.now) (lists_with (g.L.Linking.view c.args.symbol.now) c.take_alone.new.language c.take_alone.new.parts) (lists_with (g.L.Linking.view c.args.symbol.now) c.close.new.self c.close.new.parts)
+    (list_more ⊥ (one_by_one c.args.frames.now) (one_by_one c.args.frames.now) own_after_alone own_after_close
     (Err c.in_err-close.field-0.0) c.in_err-close.ensures.full))
 
 pub returns-clause-keeps : goal.returns-clause-keeps
 returns-clause-keeps g c =
-    room_then (all_lists (g.L.Linking.view c.args.symbol.now) c.args.language.now c.args.frames.now c.args.parts.now) (all_lists (g.L.Linking.view c.args.symbol.now) c.take_alone.new.language c.args.frames.now c.take_alone.new.parts) (all_lists (g.L.Linking.view c.args.symbol.now) c.close.new.self c.args.frames.now c.close.new.parts)
+    let view = g.L.Linking.view c.args.symbol.now in
+    let before = all_lists view c.args.language.now c.args.frames.now c.args.parts.now in
+    let after_alone = all_lists view c.take_alone.new.language c.args.frames.now c.take_alone.new.parts in
+    let after_close = all_lists view c.close.new.self c.args.frames.now c.close.new.parts in
+    room_then before after_alone after_close
     (omega arith, c.in_ok-behind.ensures.keeps) (omega arith, c.in_ok-close.ensures.keeps)

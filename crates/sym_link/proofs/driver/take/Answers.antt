@@ -4,7 +4,7 @@ use Rattle.std.proofs.lemmas.Result.{err_from_is_err_and}
 use Rattle.sym_link.specs.Stepping.{waiting}
 use Rattle.sym_link.proofs.Driving.{more_rows, token_there, token_asks, rule_asks, token_taken, rule_begun, rule_refused, few_two, added_two}
 use Rattle.sym_link.specs.Room.{one_by_one}
-use Rattle.sym_link.specs.Linking.{HasToken, lists_with, all_lists}
+use Rattle.sym_link.specs.Linking.{TokenTakesMemory, lists_with, all_lists}
 use Rattle.sym_link.proofs.Room.{room_same, room_then, only_then, only_refused, list_more}
 use Rattle.sym_link.proofs.driver.take.Goals as goal
 
@@ -146,29 +146,48 @@ overflow_add-next g c =
 
 pub returns-clause-keeps : goal.returns-clause-keeps
 returns-clause-keeps g c =
-    room_then (all_lists (g.L.Linking.view c.args.symbol.now) c.args.language.now c.args.frames.now c.args.parts.now) (all_lists (g.L.Linking.view c.args.symbol.now) c.enter.new.self c.args.frames.now c.enter.new.parts) (all_lists (g.L.Linking.view c.args.symbol.now) c.settle.new.language c.settle.new.frames c.settle.new.parts)
+    let view = g.L.Linking.view c.args.symbol.now in
+    let before = all_lists view c.args.language.now c.args.frames.now c.args.parts.now in
+    let after_enter = all_lists view c.enter.new.self c.args.frames.now c.enter.new.parts in
+    let after_settle = all_lists view c.settle.new.language c.settle.new.frames c.settle.new.parts in
+    room_then before after_enter after_settle
     (omega arith, c.in_ok-kept.ensures.keeps) c.settle.ensures.keeps
 
 pub returns-clause-full : goal.returns-clause-full
 returns-clause-full g c =
-    only_then (HasToken (g.L.Linking.view c.args.symbol.now) c.args.symbol.now) (all_lists (g.L.Linking.view c.args.symbol.now) c.args.language.now c.args.frames.now c.args.parts.now) (all_lists (g.L.Linking.view c.args.symbol.now) c.enter.new.self c.args.frames.now c.enter.new.parts) (all_lists (g.L.Linking.view c.args.symbol.now) c.settle.new.language c.settle.new.frames c.settle.new.parts) c.settle.result
+    let view = g.L.Linking.view c.args.symbol.now in
+    let before = all_lists view c.args.language.now c.args.frames.now c.args.parts.now in
+    let after_enter = all_lists view c.enter.new.self c.args.frames.now c.enter.new.parts in
+    let after_settle = all_lists view c.settle.new.language c.settle.new.frames c.settle.new.parts in
+    only_then (TokenTakesMemory view c.args.symbol.now) before after_enter after_settle c.settle.result
     (omega arith, c.in_ok-kept.ensures.keeps) c.settle.ensures.full
 
 pub returns-in_err-token-clause-full : goal.returns-in_err-token-clause-full
 returns-in_err-token-clause-full g c =
+    let view = g.L.Linking.view c.args.symbol.now in
+    let before = all_lists view c.args.language.now c.args.frames.now c.args.parts.now in
+    let after_token = all_lists view c.token.new.self c.args.frames.now c.token.new.parts in
+    let own_before = lists_with view c.args.language.now c.args.parts.now in
+    let own_after_token = lists_with view c.token.new.self c.token.new.parts in
     let p = err_from_is_err_and c.from_residual.result c.from_residual.ensures.1 in
     rw (p.1, p.2)
-    (only_refused _ (HasToken (g.L.Linking.view c.args.symbol.now) c.args.symbol.now) (all_lists (g.L.Linking.view c.args.symbol.now) c.args.language.now c.args.frames.now c.args.parts.now) (all_lists (g.L.Linking.view c.args.symbol.now) c.args.language.now c.args.frames.now c.args.parts.now) (all_lists (g.L.Linking.view c.args.symbol.now) c.token.new.self c.args.frames.now c.token.new.parts) c.in_err-token.field-0.0
-    (token_there (g.L.Linking.view c.args.symbol.now) c.args.symbol.now c.args.rows.now (waiting (c.requires.0 + 1)) c.args.language.now c.args.next c.args.frames.now.items c.top-frame.result.now c.args.parts.now.items
-    (slice_index_or c.args.rows.now c.args.next (record { rule = 0; from = 0; to = 0; end = 0 })) (record { rule = 0; from = 0; to = 0; end = 0 }) (g.met.L.Linking.laws c.args.symbol.now) (c.requires.1 c.top-frame.result.now (c.top-frame.ensures.0, sym c.deref.ensures.value ∙ c.top-frame.ensures.1)) refl c.if-row.true)
-    (room_same (all_lists (g.L.Linking.view c.args.symbol.now) c.args.language.now c.args.frames.now c.args.parts.now))
-    (list_more _ (one_by_one c.args.frames.now) (one_by_one c.args.frames.now) (lists_with (g.L.Linking.view c.args.symbol.now) c.args.language.now c.args.parts.now) (lists_with (g.L.Linking.view c.args.symbol.now) c.token.new.self c.token.new.parts)
+    (only_refused _ (TokenTakesMemory view c.args.symbol.now) before before after_token c.in_err-token.field-0.0
+    (token_there view c.args.symbol.now c.args.rows.now (waiting (c.requires.0 + 1)) c.args.language.now c.args.next c.args.frames.now.items c.top-frame.result.now c.args.parts.now.items
+    (slice_index_or c.args.rows.now c.args.next (record { rule = 0; from = 0; to = 0; end = 0 })) (record { rule = 0; from = 0; to = 0; end = 0 }) (g.met.L.Linking.laws c.args.symbol.now)
+    (c.requires.1 c.top-frame.result.now (c.top-frame.ensures.0, sym c.deref.ensures.value ∙ c.top-frame.ensures.1)) refl c.if-row.true)
+    (room_same before)
+    (list_more _ (one_by_one c.args.frames.now) (one_by_one c.args.frames.now) own_before own_after_token
     (Err c.in_err-token.field-0.0) c.in_err-token.ensures.full))
 
 pub returns-in_err-kept-clause-full : goal.returns-in_err-kept-clause-full
 returns-in_err-kept-clause-full g c =
+    let view = g.L.Linking.view c.args.symbol.now in
+    let before = all_lists view c.args.language.now c.args.frames.now c.args.parts.now in
+    let after_enter = all_lists view c.enter.new.self c.args.frames.now c.enter.new.parts in
+    let own_before = lists_with view c.args.language.now c.args.parts.now in
+    let own_after_enter = lists_with view c.enter.new.self c.enter.new.parts in
     let p = err_from_is_err_and c.from_residual-in_err-kept.result c.from_residual-in_err-kept.ensures.1 in
     rw (p.1, p.2)
-    (only_refused ⊥ (HasToken (g.L.Linking.view c.args.symbol.now) c.args.symbol.now) (all_lists (g.L.Linking.view c.args.symbol.now) c.args.language.now c.args.frames.now c.args.parts.now) (all_lists (g.L.Linking.view c.args.symbol.now) c.args.language.now c.args.frames.now c.args.parts.now) (all_lists (g.L.Linking.view c.args.symbol.now) c.enter.new.self c.args.frames.now c.enter.new.parts) c.in_err-kept.field-0.0 (λ none. absurd none) (room_same (all_lists (g.L.Linking.view c.args.symbol.now) c.args.language.now c.args.frames.now c.args.parts.now))
-    (list_more ⊥ (one_by_one c.args.frames.now) (one_by_one c.args.frames.now) (lists_with (g.L.Linking.view c.args.symbol.now) c.args.language.now c.args.parts.now) (lists_with (g.L.Linking.view c.args.symbol.now) c.enter.new.self c.enter.new.parts)
+    (only_refused ⊥ (TokenTakesMemory view c.args.symbol.now) before before after_enter c.in_err-kept.field-0.0 (λ none. absurd none) (room_same before)
+    (list_more ⊥ (one_by_one c.args.frames.now) (one_by_one c.args.frames.now) own_before own_after_enter
     (Err c.in_err-kept.field-0.0) c.in_err-kept.ensures.full))

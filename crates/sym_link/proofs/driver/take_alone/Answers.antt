@@ -4,7 +4,7 @@ use Rattle.std.proofs.lemmas.Result.{err_from_is_err_and}
 use Rattle.sym_link.specs.Stepping.{waiting, starting}
 use Rattle.sym_link.proofs.Driving.{token_there, more_rows, token_asks, token_taken, begun_waits, alone_within, token_within, token_refused_within}
 use Rattle.sym_link.proofs.driver.take_alone.Goals as goal
-use Rattle.sym_link.specs.Linking.{HasToken, lists_with}
+use Rattle.sym_link.specs.Linking.{TokenTakesMemory, lists_with}
 use Rattle.sym_link.proofs.Room.{room_same, only_refused}
 use Rattle.sym_link.proofs.driver.take_alone.Goals.{else-frame-next-via-then-frame-next+else-rows-next, else-frame-next-via-else-frame-next}
 
@@ -90,14 +90,20 @@ returns-clause-few g c whole left most lower follows =
     alone_within (g.L.Linking.view c.args.symbol.now) c.args.symbol.now c.args.rows.now whole left most c.args.language.now c.args.next lower c.args.frame c.args.parts.now.items follows
 
 pub returns-clause-keeps : goal.returns-clause-keeps
-returns-clause-keeps g c = room_same (lists_with (g.L.Linking.view c.args.symbol.now) c.args.language.now c.args.parts.now)
+returns-clause-keeps g c =
+    let view = g.L.Linking.view c.args.symbol.now in
+    let before = lists_with view c.args.language.now c.args.parts.now in
+    room_same before
 
 pub returns-in_err-token-clause-full : goal.returns-in_err-token-clause-full
 returns-in_err-token-clause-full g c =
+    let view = g.L.Linking.view c.args.symbol.now in
+    let before = lists_with view c.args.language.now c.args.parts.now in
+    let after_token = lists_with view c.token.new.self c.token.new.parts in
     let p = err_from_is_err_and c.from_residual.result c.from_residual.ensures.1 in
     rw (p.1, p.2)
-    (only_refused _ (HasToken (g.L.Linking.view c.args.symbol.now) c.args.symbol.now) (lists_with (g.L.Linking.view c.args.symbol.now) c.args.language.now c.args.parts.now) (lists_with (g.L.Linking.view c.args.symbol.now) c.args.language.now c.args.parts.now) (lists_with (g.L.Linking.view c.args.symbol.now) c.token.new.self c.token.new.parts) c.in_err-token.field-0.0
-    (token_there (g.L.Linking.view c.args.symbol.now) c.args.symbol.now c.args.rows.now (starting c.requires.1.steps c.requires.1.most) c.args.language.now c.args.next (c.requires.0 ++ c.args.frame ∷ []) c.args.frame c.args.parts.now.items
+    (only_refused _ (TokenTakesMemory view c.args.symbol.now) before before after_token c.in_err-token.field-0.0
+    (token_there view c.args.symbol.now c.args.rows.now (starting c.requires.1.steps c.requires.1.most) c.args.language.now c.args.next (c.requires.0 ++ c.args.frame ∷ []) c.args.frame c.args.parts.now.items
     (slice_index_or c.args.rows.now c.args.next (record { rule = 0; from = 0; to = 0; end = 0 })) (record { rule = 0; from = 0; to = 0; end = 0 }) (g.met.L.Linking.laws c.args.symbol.now)
     (record { whole = c.requires.1.whole; follows = c.requires.1.follows; last = (c.requires.0, refl); open_still = open_still _ _ c.if-frame-next.true; fits = c.requires.1.fits }) refl c.if-rows-next.true)
-    (room_same (lists_with (g.L.Linking.view c.args.symbol.now) c.args.language.now c.args.parts.now)) c.in_err-token.ensures.full)
+    (room_same before) c.in_err-token.ensures.full)

@@ -62,13 +62,27 @@ pub returns-clause-few : goal.returns-clause-few
 returns-clause-few g c = omega (arith, c.in_ok-finish.ensures.few, c.in_ok-pass.ensures.few)
 
 pub returns-in_err-finish-clause-keeps : goal.returns-in_err-finish-clause-keeps
-returns-in_err-finish-clause-keeps g c = room_then (lists_with (g.L.Threading.view c.args.symbol.now) c.args.language.now c.args.parts.now) (lists_with (g.L.Threading.view c.args.symbol.now) c.pass.new.language c.pass.new.parts) (lists_with (g.L.Threading.view c.args.symbol.now) c.finish.new.self c.finish.new.parts) c.in_ok-pass.ensures.keeps c.in_err-finish.ensures.keeps
+returns-in_err-finish-clause-keeps g c =
+    let view = g.L.Threading.view c.args.symbol.now in
+    let before = lists_with view c.args.language.now c.args.parts.now in
+    let after_pass = lists_with view c.pass.new.language c.pass.new.parts in
+    let after_finish = lists_with view c.finish.new.self c.finish.new.parts in
+    room_then before after_pass after_finish c.in_ok-pass.ensures.keeps c.in_err-finish.ensures.keeps
 
 pub returns-in_err-finish-clause-full : goal.returns-in_err-finish-clause-full
 returns-in_err-finish-clause-full g c =
+    let view = g.L.Threading.view c.args.symbol.now in
+    let before = lists_with view c.args.language.now c.args.parts.now in
+    let after_pass = lists_with view c.pass.new.language c.pass.new.parts in
+    let after_finish = lists_with view c.finish.new.self c.finish.new.parts in
     let p = err_from_is_err_and c.from_residual-in_err-finish.result c.from_residual-in_err-finish.ensures.1 in
     rw (p.1, p.2)
-    (only_refused ⊥ ⊥ (lists_with (g.L.Threading.view c.args.symbol.now) c.args.language.now c.args.parts.now) (lists_with (g.L.Threading.view c.args.symbol.now) c.pass.new.language c.pass.new.parts) (lists_with (g.L.Threading.view c.args.symbol.now) c.finish.new.self c.finish.new.parts) c.in_err-finish.field-0.0 (λ none. none) c.in_ok-pass.ensures.keeps c.in_err-finish.ensures.full)
+    (only_refused ⊥ ⊥ before after_pass after_finish c.in_err-finish.field-0.0 (λ none. none) c.in_ok-pass.ensures.keeps c.in_err-finish.ensures.full)
 
 pub returns-clause-keeps : goal.returns-clause-keeps
-returns-clause-keeps g c = room_then (lists_with (g.L.Threading.view c.args.symbol.now) c.args.language.now c.args.parts.now) (lists_with (g.L.Threading.view c.args.symbol.now) c.pass.new.language c.pass.new.parts) (lists_with (g.L.Threading.view c.args.symbol.now) c.finish.new.self c.finish.new.parts) c.in_ok-pass.ensures.keeps c.in_ok-finish.ensures.keeps
+returns-clause-keeps g c =
+    let view = g.L.Threading.view c.args.symbol.now in
+    let before = lists_with view c.args.language.now c.args.parts.now in
+    let after_pass = lists_with view c.pass.new.language c.pass.new.parts in
+    let after_finish = lists_with view c.finish.new.self c.finish.new.parts in
+    room_then before after_pass after_finish c.in_ok-pass.ensures.keeps c.in_ok-finish.ensures.keeps

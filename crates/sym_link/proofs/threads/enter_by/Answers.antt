@@ -83,28 +83,53 @@ returns-in_err-kept-clause-few g c =
     rw p.1 (omega (arith, c.in_err-kept.ensures.few, c.in_ok-context.ensures.few, c.in_ok-pass.ensures.few))
 
 pub returns-in_err-context-clause-keeps : goal.returns-in_err-context-clause-keeps
-returns-in_err-context-clause-keeps g c = room_then (lists_with (g.L.Threading.view c.args.symbol.now) c.args.language.now c.args.parts.now) (lists_with (g.L.Threading.view c.args.symbol.now) c.pass.new.language c.pass.new.parts) (lists_with (g.L.Threading.view c.args.symbol.now) c.between.new.self c.between.new.parts) c.in_ok-pass.ensures.keeps c.in_err-context.ensures.keeps
+returns-in_err-context-clause-keeps g c =
+    let view = g.L.Threading.view c.args.symbol.now in
+    let before = lists_with view c.args.language.now c.args.parts.now in
+    let after_pass = lists_with view c.pass.new.language c.pass.new.parts in
+    let after_between = lists_with view c.between.new.self c.between.new.parts in
+    room_then before after_pass after_between c.in_ok-pass.ensures.keeps c.in_err-context.ensures.keeps
 
 pub returns-in_err-context-clause-full : goal.returns-in_err-context-clause-full
 returns-in_err-context-clause-full g c =
+    let view = g.L.Threading.view c.args.symbol.now in
+    let before = lists_with view c.args.language.now c.args.parts.now in
+    let after_pass = lists_with view c.pass.new.language c.pass.new.parts in
+    let after_between = lists_with view c.between.new.self c.between.new.parts in
     let p = err_from_is_err_and c.from_residual-in_err-context.result c.from_residual-in_err-context.ensures.1 in
     rw (p.1, p.2)
-    (only_refused ⊥ ⊥ (lists_with (g.L.Threading.view c.args.symbol.now) c.args.language.now c.args.parts.now) (lists_with (g.L.Threading.view c.args.symbol.now) c.pass.new.language c.pass.new.parts) (lists_with (g.L.Threading.view c.args.symbol.now) c.between.new.self c.between.new.parts) c.in_err-context.field-0.0 (λ none. none) c.in_ok-pass.ensures.keeps c.in_err-context.ensures.full)
+    (only_refused ⊥ ⊥ before after_pass after_between c.in_err-context.field-0.0 (λ none. none) c.in_ok-pass.ensures.keeps c.in_err-context.ensures.full)
 
 pub returns-in_err-kept-clause-keeps : goal.returns-in_err-kept-clause-keeps
 returns-in_err-kept-clause-keeps g c =
-    room_then (lists_with (g.L.Threading.view c.args.symbol.now) c.args.language.now c.args.parts.now) (lists_with (g.L.Threading.view c.args.symbol.now) c.between.new.self c.between.new.parts) (lists_with (g.L.Threading.view c.args.symbol.now) c.begin.new.self c.between.new.parts) (room_then (lists_with (g.L.Threading.view c.args.symbol.now) c.args.language.now c.args.parts.now) (lists_with (g.L.Threading.view c.args.symbol.now) c.pass.new.language c.pass.new.parts) (lists_with (g.L.Threading.view c.args.symbol.now) c.between.new.self c.between.new.parts) c.in_ok-pass.ensures.keeps c.in_ok-context.ensures.keeps)
+    let view = g.L.Threading.view c.args.symbol.now in
+    let before = lists_with view c.args.language.now c.args.parts.now in
+    let after_between = lists_with view c.between.new.self c.between.new.parts in
+    let after_begin = lists_with view c.begin.new.self c.between.new.parts in
+    let after_pass = lists_with view c.pass.new.language c.pass.new.parts in
+    room_then before after_between after_begin (room_then before after_pass after_between c.in_ok-pass.ensures.keeps c.in_ok-context.ensures.keeps)
     (omega arith, c.in_err-kept.ensures.keeps)
 
 pub returns-in_err-kept-clause-full : goal.returns-in_err-kept-clause-full
 returns-in_err-kept-clause-full g c =
+    let view = g.L.Threading.view c.args.symbol.now in
+    let before = lists_with view c.args.language.now c.args.parts.now in
+    let after_between = lists_with view c.between.new.self c.between.new.parts in
+    let after_begin = lists_with view c.begin.new.self c.between.new.parts in
+    let after_pass = lists_with view c.pass.new.language c.pass.new.parts in
     let p = err_from_is_err_and c.from_residual-in_err-kept.result c.from_residual-in_err-kept.ensures.1 in
     rw (p.1, p.2)
-    (only_refused ⊥ ⊥ (lists_with (g.L.Threading.view c.args.symbol.now) c.args.language.now c.args.parts.now) (lists_with (g.L.Threading.view c.args.symbol.now) c.between.new.self c.between.new.parts) (lists_with (g.L.Threading.view c.args.symbol.now) c.begin.new.self c.between.new.parts) c.in_err-kept.field-0.0 (λ none. none)
-    (room_then (lists_with (g.L.Threading.view c.args.symbol.now) c.args.language.now c.args.parts.now) (lists_with (g.L.Threading.view c.args.symbol.now) c.pass.new.language c.pass.new.parts) (lists_with (g.L.Threading.view c.args.symbol.now) c.between.new.self c.between.new.parts) c.in_ok-pass.ensures.keeps c.in_ok-context.ensures.keeps)
-    (list_more ⊥ (one_by_one c.between.new.parts) (one_by_one c.between.new.parts) ((g.L.Threading.view c.args.symbol.now).lists c.between.new.self) ((g.L.Threading.view c.args.symbol.now).lists c.begin.new.self) (Err c.in_err-kept.field-0.0) c.in_err-kept.ensures.full))
+    (only_refused ⊥ ⊥ before after_between after_begin c.in_err-kept.field-0.0 (λ none. none)
+    (room_then before after_pass after_between c.in_ok-pass.ensures.keeps c.in_ok-context.ensures.keeps)
+    (list_more ⊥ (one_by_one c.between.new.parts) (one_by_one c.between.new.parts)
+    (view.lists c.between.new.self) (view.lists c.begin.new.self) (Err c.in_err-kept.field-0.0) c.in_err-kept.ensures.full))
 
 pub returns-clause-keeps : goal.returns-clause-keeps
 returns-clause-keeps g c =
-    room_then (lists_with (g.L.Threading.view c.args.symbol.now) c.args.language.now c.args.parts.now) (lists_with (g.L.Threading.view c.args.symbol.now) c.between.new.self c.between.new.parts) (lists_with (g.L.Threading.view c.args.symbol.now) c.begin.new.self c.between.new.parts) (room_then (lists_with (g.L.Threading.view c.args.symbol.now) c.args.language.now c.args.parts.now) (lists_with (g.L.Threading.view c.args.symbol.now) c.pass.new.language c.pass.new.parts) (lists_with (g.L.Threading.view c.args.symbol.now) c.between.new.self c.between.new.parts) c.in_ok-pass.ensures.keeps c.in_ok-context.ensures.keeps)
+    let view = g.L.Threading.view c.args.symbol.now in
+    let before = lists_with view c.args.language.now c.args.parts.now in
+    let after_between = lists_with view c.between.new.self c.between.new.parts in
+    let after_begin = lists_with view c.begin.new.self c.between.new.parts in
+    let after_pass = lists_with view c.pass.new.language c.pass.new.parts in
+    room_then before after_between after_begin (room_then before after_pass after_between c.in_ok-pass.ensures.keeps c.in_ok-context.ensures.keeps)
     (omega arith, c.in_ok-kept.ensures.keeps)

@@ -23,28 +23,38 @@ returns-in_err-pass_one-clause-few g c =
 
 pub returns-in_err-pass_one-clause-keeps : goal.returns-in_err-pass_one-clause-keeps
 returns-in_err-pass_one-clause-keeps g c =
-    room_then (lists_with (g.L.Threading.view c.args.symbol.now) c.args.language.now c.args.parts.now) (lists_with (g.L.Threading.view c.args.symbol.now) c.parts.language c.parts.parts) (lists_with (g.L.Threading.view c.args.symbol.now) c.pass_one.new.language c.pass_one.new.parts) c.parts.invariant.7 c.in_err-pass_one.ensures.keeps
+    let view = g.L.Threading.view c.args.symbol.now in
+    let before = lists_with view c.args.language.now c.args.parts.now in
+    let at_loop = lists_with view c.parts.language c.parts.parts in
+    let after_one = lists_with view c.pass_one.new.language c.pass_one.new.parts in
+    room_then before at_loop after_one c.parts.invariant.7 c.in_err-pass_one.ensures.keeps
 
 pub returns-in_err-pass_one-clause-full : goal.returns-in_err-pass_one-clause-full
 returns-in_err-pass_one-clause-full g c =
+    let view = g.L.Threading.view c.args.symbol.now in
+    let before = lists_with view c.args.language.now c.args.parts.now in
+    let at_loop = lists_with view c.parts.language c.parts.parts in
+    let after_one = lists_with view c.pass_one.new.language c.pass_one.new.parts in
     let p = err_from_is_err_and c.from_residual.result c.from_residual.ensures.1 in
     rw (p.1, p.2)
-    (only_refused ⊥ ⊥ (lists_with (g.L.Threading.view c.args.symbol.now) c.args.language.now c.args.parts.now) (lists_with (g.L.Threading.view c.args.symbol.now) c.parts.language c.parts.parts) (lists_with (g.L.Threading.view c.args.symbol.now) c.pass_one.new.language c.pass_one.new.parts) c.in_err-pass_one.field-0.0 (λ none. none) c.parts.invariant.7 c.in_err-pass_one.ensures.full)
+    (only_refused ⊥ ⊥ before at_loop after_one c.in_err-pass_one.field-0.0 (λ none. none) c.parts.invariant.7 c.in_err-pass_one.ensures.full)
 
 pub returns-clause-keeps : goal.returns-clause-keeps
 returns-clause-keeps g c = c.parts.invariant.7
 
 pub parts-init : goal.parts-init
-parts-init g c = (
-  c.requires.base,
-  c.requires.room,
-  ((g.met.L.Threading.laws c.args.symbol.now).grows_same c.args.language.now, omega arith),
-  λ at paid. paid,
-  λ lower whole passing. passing,
-  c.requires.open,
-  omega arith,
-  room_same (lists_with (g.L.Threading.view c.args.symbol.now) c.args.language.now c.args.parts.now),
-)
+parts-init g c =
+    let view = g.L.Threading.view c.args.symbol.now in
+    let before = lists_with view c.args.language.now c.args.parts.now in (
+      c.requires.base,
+      c.requires.room,
+      ((g.met.L.Threading.laws c.args.symbol.now).grows_same c.args.language.now, omega arith),
+      λ at paid. paid,
+      λ lower whole passing. passing,
+      c.requires.open,
+      omega arith,
+      room_same before,
+    )
 
 pub parts-preserved : goal.parts-preserved
 parts-preserved g c =

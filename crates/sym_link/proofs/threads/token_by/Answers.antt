@@ -92,33 +92,65 @@ returns-in_err-push-clause-few g c =
     rw p.1 (omega (arith, c.in_ok-part.ensures.adds.1, c.in_ok-between.ensures.few, c.in_ok-pass.ensures.few))
 
 pub returns-in_err-between-clause-keeps : goal.returns-in_err-between-clause-keeps
-returns-in_err-between-clause-keeps g c = room_then (lists_with (g.L.Threading.view c.args.symbol.now) c.args.language.now c.args.parts.now) (lists_with (g.L.Threading.view c.args.symbol.now) c.pass.new.language c.pass.new.parts) (lists_with (g.L.Threading.view c.args.symbol.now) c.between.new.self c.between.new.parts) c.in_ok-pass.ensures.keeps c.in_err-between.ensures.keeps
+returns-in_err-between-clause-keeps g c =
+    let view = g.L.Threading.view c.args.symbol.now in
+    let before = lists_with view c.args.language.now c.args.parts.now in
+    let after_pass = lists_with view c.pass.new.language c.pass.new.parts in
+    let after_between = lists_with view c.between.new.self c.between.new.parts in
+    room_then before after_pass after_between c.in_ok-pass.ensures.keeps c.in_err-between.ensures.keeps
 
 pub returns-in_err-between-clause-full : goal.returns-in_err-between-clause-full
 returns-in_err-between-clause-full g c =
+    let view = g.L.Threading.view c.args.symbol.now in
+    let before = lists_with view c.args.language.now c.args.parts.now in
+    let after_pass = lists_with view c.pass.new.language c.pass.new.parts in
+    let after_between = lists_with view c.between.new.self c.between.new.parts in
     let p = err_from_is_err_and c.from_residual-in_err-between.result c.from_residual-in_err-between.ensures.1 in
     rw (p.1, p.2)
-    (only_refused ⊥ ((g.L.Threading.view c.args.symbol.now).TakesApart c.args.frame.now.rule (take (c.args.row.to - c.args.row.from) (drop c.args.row.from c.args.symbol.now))) (lists_with (g.L.Threading.view c.args.symbol.now) c.args.language.now c.args.parts.now) (lists_with (g.L.Threading.view c.args.symbol.now) c.pass.new.language c.pass.new.parts) (lists_with (g.L.Threading.view c.args.symbol.now) c.between.new.self c.between.new.parts) c.in_err-between.field-0.0 (λ none. absurd none) c.in_ok-pass.ensures.keeps c.in_err-between.ensures.full)
+    (only_refused ⊥ (view.TakesMemory c.args.frame.now.rule (take (c.args.row.to - c.args.row.from) (drop c.args.row.from c.args.symbol.now)))
+    before after_pass after_between c.in_err-between.field-0.0 (λ none. absurd none) c.in_ok-pass.ensures.keeps c.in_err-between.ensures.full)
 
 pub returns-in_err-part-clause-keeps : goal.returns-in_err-part-clause-keeps
 returns-in_err-part-clause-keeps g c =
-    room_then (lists_with (g.L.Threading.view c.args.symbol.now) c.args.language.now c.args.parts.now) (lists_with (g.L.Threading.view c.args.symbol.now) c.between.new.self c.between.new.parts) (lists_with (g.L.Threading.view c.args.symbol.now) c.text.new.self c.between.new.parts) (room_then (lists_with (g.L.Threading.view c.args.symbol.now) c.args.language.now c.args.parts.now) (lists_with (g.L.Threading.view c.args.symbol.now) c.pass.new.language c.pass.new.parts) (lists_with (g.L.Threading.view c.args.symbol.now) c.between.new.self c.between.new.parts) c.in_ok-pass.ensures.keeps c.in_ok-between.ensures.keeps)
+    let view = g.L.Threading.view c.args.symbol.now in
+    let before = lists_with view c.args.language.now c.args.parts.now in
+    let after_between = lists_with view c.between.new.self c.between.new.parts in
+    let after_text = lists_with view c.text.new.self c.between.new.parts in
+    let after_pass = lists_with view c.pass.new.language c.pass.new.parts in
+    room_then before after_between after_text (room_then before after_pass after_between c.in_ok-pass.ensures.keeps c.in_ok-between.ensures.keeps)
     (omega arith, c.in_err-part.ensures.keeps)
 
 pub returns-in_err-part-clause-full : goal.returns-in_err-part-clause-full
 returns-in_err-part-clause-full g c =
+    let view = g.L.Threading.view c.args.symbol.now in
+    let before = lists_with view c.args.language.now c.args.parts.now in
+    let after_between = lists_with view c.between.new.self c.between.new.parts in
+    let after_text = lists_with view c.text.new.self c.between.new.parts in
+    let after_pass = lists_with view c.pass.new.language c.pass.new.parts in
     let p = err_from_is_err_and c.from_residual-in_err-part.result c.from_residual-in_err-part.ensures.1 in
     rw (p.1, p.2)
-    (only_refused ⊥ ((g.L.Threading.view c.args.symbol.now).TakesApart c.args.frame.now.rule (take (c.args.row.to - c.args.row.from) (drop c.args.row.from c.args.symbol.now))) (lists_with (g.L.Threading.view c.args.symbol.now) c.args.language.now c.args.parts.now) (lists_with (g.L.Threading.view c.args.symbol.now) c.between.new.self c.between.new.parts) (lists_with (g.L.Threading.view c.args.symbol.now) c.text.new.self c.between.new.parts) c.in_err-part.field-0.0 (λ none. absurd none)
-    (room_then (lists_with (g.L.Threading.view c.args.symbol.now) c.args.language.now c.args.parts.now) (lists_with (g.L.Threading.view c.args.symbol.now) c.pass.new.language c.pass.new.parts) (lists_with (g.L.Threading.view c.args.symbol.now) c.between.new.self c.between.new.parts) c.in_ok-pass.ensures.keeps c.in_ok-between.ensures.keeps)
-    (list_more ⊥ (one_by_one c.between.new.parts) (one_by_one c.between.new.parts) ((g.L.Threading.view c.args.symbol.now).lists c.between.new.self) ((g.L.Threading.view c.args.symbol.now).lists c.text.new.self) (Err c.in_err-part.field-0.0) c.in_err-part.ensures.full))
+    (only_refused ⊥ (view.TakesMemory c.args.frame.now.rule (take (c.args.row.to - c.args.row.from) (drop c.args.row.from c.args.symbol.now)))
+    before after_between after_text c.in_err-part.field-0.0 (λ none. absurd none)
+    (room_then before after_pass after_between c.in_ok-pass.ensures.keeps c.in_ok-between.ensures.keeps)
+    (list_more ⊥ (one_by_one c.between.new.parts) (one_by_one c.between.new.parts)
+    (view.lists c.between.new.self) (view.lists c.text.new.self) (Err c.in_err-part.field-0.0) c.in_err-part.ensures.full))
 
 pub returns-in_err-push-clause-keeps : goal.returns-in_err-push-clause-keeps
 returns-in_err-push-clause-keeps g c =
-    room_then (lists_with (g.L.Threading.view c.args.symbol.now) c.args.language.now c.args.parts.now) (lists_with (g.L.Threading.view c.args.symbol.now) c.between.new.self c.between.new.parts) (lists_with (g.L.Threading.view c.args.symbol.now) c.text.new.self c.push.new.self) (room_then (lists_with (g.L.Threading.view c.args.symbol.now) c.args.language.now c.args.parts.now) (lists_with (g.L.Threading.view c.args.symbol.now) c.pass.new.language c.pass.new.parts) (lists_with (g.L.Threading.view c.args.symbol.now) c.between.new.self c.between.new.parts) c.in_ok-pass.ensures.keeps c.in_ok-between.ensures.keeps)
+    let view = g.L.Threading.view c.args.symbol.now in
+    let before = lists_with view c.args.language.now c.args.parts.now in
+    let after_between = lists_with view c.between.new.self c.between.new.parts in
+    let after_push = lists_with view c.text.new.self c.push.new.self in
+    let after_pass = lists_with view c.pass.new.language c.pass.new.parts in
+    room_then before after_between after_push (room_then before after_pass after_between c.in_ok-pass.ensures.keeps c.in_ok-between.ensures.keeps)
     (search rules, c.in_ok-part.ensures.keeps)
 
 pub returns-clause-keeps : goal.returns-clause-keeps
 returns-clause-keeps g c =
-    room_then (lists_with (g.L.Threading.view c.args.symbol.now) c.args.language.now c.args.parts.now) (lists_with (g.L.Threading.view c.args.symbol.now) c.between.new.self c.between.new.parts) (lists_with (g.L.Threading.view c.args.symbol.now) c.text.new.self c.push.new.self) (room_then (lists_with (g.L.Threading.view c.args.symbol.now) c.args.language.now c.args.parts.now) (lists_with (g.L.Threading.view c.args.symbol.now) c.pass.new.language c.pass.new.parts) (lists_with (g.L.Threading.view c.args.symbol.now) c.between.new.self c.between.new.parts) c.in_ok-pass.ensures.keeps c.in_ok-between.ensures.keeps)
+    let view = g.L.Threading.view c.args.symbol.now in
+    let before = lists_with view c.args.language.now c.args.parts.now in
+    let after_between = lists_with view c.between.new.self c.between.new.parts in
+    let after_push = lists_with view c.text.new.self c.push.new.self in
+    let after_pass = lists_with view c.pass.new.language c.pass.new.parts in
+    room_then before after_between after_push (room_then before after_pass after_between c.in_ok-pass.ensures.keeps c.in_ok-between.ensures.keeps)
     (search rules, c.in_ok-part.ensures.keeps)

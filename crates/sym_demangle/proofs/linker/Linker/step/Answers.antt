@@ -1,4 +1,4 @@
-use Rattle.std.proofs.Common.{refl, Err, Bool, sym, ◌∙◌, subst, ap, arith, length}
+use Rattle.std.proofs.Common.{refl, ℕ, List, Err, Bool, sym, ◌∙◌, subst, ap, arith, length}
 use Rattle.sym_link.proofs.Starting.{driving_few}
 use Rattle.sym_shape.specs.declared.rule.Sym.TheVariants.{Kind}
 use Rattle.sym_shape.specs.Tree.{IsTree, spell}
@@ -7,7 +7,7 @@ use Rattle.sym_link.specs.Following.{IsStepTo, meaning_of}
 use Rattle.sym_demangle.specs.Mangled.{IsRefused}
 use Rattle.sym_demangle.specs.Standing.{Progress, AreLinkSteps}
 use Rattle.sym_demangle.proofs.Standing.{shape_steps, done_steps, step_fails, refused_of, counted_two}
-use Rattle.sym_link.specs.Linking.{HasToken, all_lists}
+use Rattle.sym_link.specs.Linking.{TokenTakesMemory, all_lists}
 use Rattle.sym_link.specs.Room.{KeepRoom, OnlyForRoom}
 use Rattle.sym_link.proofs.Room.{room_same}
 use Rattle.sym_link.proofs.Driving.{none_kept}
@@ -75,24 +75,37 @@ returns-in-Err-clause-refused g c =
 pub returns-in-Ok-clause-room : goal.returns-in-Ok-clause-room
 returns-in-Ok-clause-room g c =
     let i = c.self.inside in
-    subst (λ (v : Progress). KeepRoom v.lists (all_lists (g.M.Linked.Linking.view i.bytes.items) c.step.new.language c.step.new.self.frames c.step.new.self.parts)) c.self.view_is
-    (subst (λ b. KeepRoom (all_lists (g.M.Linked.Linking.view b) i.linked i.driver.frames i.driver.parts) (all_lists (g.M.Linked.Linking.view b) c.step.new.language c.step.new.self.frames c.step.new.self.parts)) c.deref.ensures.value c.step.ensures.keeps)
+    let old = λ (b : List ℕ). all_lists (g.M.Linked.Linking.view b) i.linked i.driver.frames i.driver.parts in
+    let new = λ (b : List ℕ). all_lists (g.M.Linked.Linking.view b) c.step.new.language c.step.new.self.frames c.step.new.self.parts in
+    subst (λ (v : Progress). KeepRoom v.lists (new i.bytes.items)) c.self.view_is
+    (subst (λ b. KeepRoom (old b) (new b)) c.deref.ensures.value c.step.ensures.keeps)
 
 pub returns-in-Err-clause-room : goal.returns-in-Err-clause-room
 returns-in-Err-clause-room g c =
     let i = c.self.inside in
-    subst (λ (v : Progress). KeepRoom v.lists (all_lists (g.M.Linked.Linking.view i.bytes.items) c.step.new.language c.step.new.self.frames c.step.new.self.parts)) c.self.view_is
-    (subst (λ b. KeepRoom (all_lists (g.M.Linked.Linking.view b) i.linked i.driver.frames i.driver.parts) (all_lists (g.M.Linked.Linking.view b) c.step.new.language c.step.new.self.frames c.step.new.self.parts)) c.deref.ensures.value c.step.ensures.keeps)
+    let old = λ (b : List ℕ). all_lists (g.M.Linked.Linking.view b) i.linked i.driver.frames i.driver.parts in
+    let new = λ (b : List ℕ). all_lists (g.M.Linked.Linking.view b) c.step.new.language c.step.new.self.frames c.step.new.self.parts in
+    subst (λ (v : Progress). KeepRoom v.lists (new i.bytes.items)) c.self.view_is
+    (subst (λ b. KeepRoom (old b) (new b)) c.deref.ensures.value c.step.ensures.keeps)
 
 pub returns-in-Err-clause-full : goal.returns-in-Err-clause-full
 returns-in-Err-clause-full g c none =
     let i = c.self.inside in
-    subst (λ (v : Progress). OnlyForRoom {A = Bool} (HasToken (g.M.Linked.Linking.view v.bytes) v.bytes) v.lists (all_lists (g.M.Linked.Linking.view i.bytes.items) c.step.new.language c.step.new.self.frames c.step.new.self.parts) (Err c.in-Err.refusal)) c.self.view_is
-    (subst (λ b. OnlyForRoom {A = Bool} (HasToken (g.M.Linked.Linking.view b) b) (all_lists (g.M.Linked.Linking.view b) i.linked i.driver.frames i.driver.parts) (all_lists (g.M.Linked.Linking.view b) c.step.new.language c.step.new.self.frames c.step.new.self.parts) (Err c.in-Err.refusal)) c.deref.ensures.value
+    let token = λ (b : List ℕ). TokenTakesMemory (g.M.Linked.Linking.view b) b in
+    let old = λ (b : List ℕ). all_lists (g.M.Linked.Linking.view b) i.linked i.driver.frames i.driver.parts in
+    let new = λ (b : List ℕ). all_lists (g.M.Linked.Linking.view b) c.step.new.language c.step.new.self.frames c.step.new.self.parts in
+    subst (λ (v : Progress). OnlyForRoom {A = Bool} (token v.bytes) v.lists (new i.bytes.items) (Err c.in-Err.refusal)) c.self.view_is
+    (subst (λ b. OnlyForRoom {A = Bool} (token b) (old b) (new b) (Err c.in-Err.refusal)) c.deref.ensures.value
     (λ is. c.step.ensures.full (none_kept i.driver.refused c.in_default.not-Some) (c.in-Err.is ∙ is)))
 
 pub returns-then-self-clause-room : goal.returns-then-self-clause-room
-returns-then-self-clause-room g c = subst (λ (v : Progress). KeepRoom v.lists v.lists) c.self.view_is (room_same (all_lists (g.M.Linked.Linking.view c.self.inside.bytes.items) c.self.inside.linked c.self.inside.driver.frames c.self.inside.driver.parts))
+returns-then-self-clause-room g c =
+    let i = c.self.inside in
+    subst (λ (v : Progress). KeepRoom v.lists v.lists) c.self.view_is
+    (room_same (all_lists (g.M.Linked.Linking.view i.bytes.items) i.linked i.driver.frames i.driver.parts))
 
 pub returns-in-Some-clause-room : goal.returns-in-Some-clause-room
-returns-in-Some-clause-room g c = subst (λ (v : Progress). KeepRoom v.lists v.lists) c.self.view_is (room_same (all_lists (g.M.Linked.Linking.view c.self.inside.bytes.items) c.self.inside.linked c.self.inside.driver.frames c.self.inside.driver.parts))
+returns-in-Some-clause-room g c =
+    let i = c.self.inside in
+    subst (λ (v : Progress). KeepRoom v.lists v.lists) c.self.view_is
+    (room_same (all_lists (g.M.Linked.Linking.view i.bytes.items) i.linked i.driver.frames i.driver.parts))

@@ -1,6 +1,6 @@
 use Rattle.std.proofs.Common.{◌∙◌, ap, Ok, None, arith}
 use Rattle.sym_link.proofs.Driving.{driving_none, driving_same, step_moved, step_smaller, step_done, step_refused, none_open, none_kept, driving_on}
-use Rattle.sym_link.specs.Linking.{HasToken, all_lists}
+use Rattle.sym_link.specs.Linking.{TokenTakesMemory, all_lists}
 use Rattle.sym_link.proofs.Room.{room_same, room_then, only_refused}
 use Rattle.sym_link.proofs.driver.Driver.run.Goals as goal
 
@@ -60,30 +60,47 @@ returns-in-Err-clause-driving g c tree is driving =
     c.advance-moved.new.frames.items c.advance-moved.new.parts.items c.advance-moved.result c.in-Err.refusal c.in-Err.is on.1 (c.advance-moved.ensures.moves tree c.moves.steps is on.0) c.advance-moved.ensures.counts)
 
 pub returns-in-Some-clause-keeps : goal.returns-in-Some-clause-keeps
-returns-in-Some-clause-keeps g c = room_same (all_lists (g.L.Linking.view c.args.symbol.now) c.args.language.now c.args.self.now.frames c.args.self.now.parts)
+returns-in-Some-clause-keeps g c =
+    let view = g.L.Linking.view c.args.symbol.now in
+    let before = all_lists view c.args.language.now c.args.self.now.frames c.args.self.now.parts in
+    room_same before
 
 pub returns-in-None-clause-keeps : goal.returns-in-None-clause-keeps
 returns-in-None-clause-keeps g c =
-    room_then (all_lists (g.L.Linking.view c.args.symbol.now) c.args.language.now c.args.self.now.frames c.args.self.now.parts) (all_lists (g.L.Linking.view c.args.symbol.now) c.moves.language c.moves.self.frames c.moves.self.parts) (all_lists (g.L.Linking.view c.args.symbol.now) c.advance-moved.new.language c.advance-moved.new.frames c.advance-moved.new.parts) c.moves.invariant.5 c.advance-moved.ensures.keeps
+    let view = g.L.Linking.view c.args.symbol.now in
+    let before = all_lists view c.args.language.now c.args.self.now.frames c.args.self.now.parts in
+    let at_loop = all_lists view c.moves.language c.moves.self.frames c.moves.self.parts in
+    let after_move = all_lists view c.advance-moved.new.language c.advance-moved.new.frames c.advance-moved.new.parts in
+    room_then before at_loop after_move c.moves.invariant.5 c.advance-moved.ensures.keeps
 
 pub returns-in-Err-clause-keeps : goal.returns-in-Err-clause-keeps
 returns-in-Err-clause-keeps g c =
+    let view = g.L.Linking.view c.args.symbol.now in
+    let before = all_lists view c.args.language.now c.args.self.now.frames c.args.self.now.parts in
+    let at_loop = all_lists view c.moves.language c.moves.self.frames c.moves.self.parts in
+    let after_move = all_lists view c.advance-moved.new.language c.advance-moved.new.frames c.advance-moved.new.parts in
     rw (c.refuse.ensures.frames, c.refuse.ensures.parts)
-    (room_then (all_lists (g.L.Linking.view c.args.symbol.now) c.args.language.now c.args.self.now.frames c.args.self.now.parts) (all_lists (g.L.Linking.view c.args.symbol.now) c.moves.language c.moves.self.frames c.moves.self.parts) (all_lists (g.L.Linking.view c.args.symbol.now) c.advance-moved.new.language c.advance-moved.new.frames c.advance-moved.new.parts) c.moves.invariant.5 c.advance-moved.ensures.keeps)
+    (room_then before at_loop after_move c.moves.invariant.5 c.advance-moved.ensures.keeps)
 
 pub returns-in-Err-clause-full : goal.returns-in-Err-clause-full
 returns-in-Err-clause-full g c none =
+    let view = g.L.Linking.view c.args.symbol.now in
+    let before = all_lists view c.args.language.now c.args.self.now.frames c.args.self.now.parts in
+    let at_loop = all_lists view c.moves.language c.moves.self.frames c.moves.self.parts in
+    let after_move = all_lists view c.advance-moved.new.language c.advance-moved.new.frames c.advance-moved.new.parts in
     rw (c.refuse.ensures.frames, c.refuse.ensures.parts)
-    (only_refused (HasToken (g.L.Linking.view c.args.symbol.now) c.args.symbol.now) (HasToken (g.L.Linking.view c.args.symbol.now) c.args.symbol.now) (all_lists (g.L.Linking.view c.args.symbol.now) c.args.language.now c.args.self.now.frames c.args.self.now.parts) (all_lists (g.L.Linking.view c.args.symbol.now) c.moves.language c.moves.self.frames c.moves.self.parts) (all_lists (g.L.Linking.view c.args.symbol.now) c.advance-moved.new.language c.advance-moved.new.frames c.advance-moved.new.parts) c.in-Err.refusal (λ more. more) c.moves.invariant.5
+    (only_refused (TokenTakesMemory view c.args.symbol.now) (TokenTakesMemory view c.args.symbol.now) before at_loop after_move c.in-Err.refusal (λ more. more) c.moves.invariant.5
     (λ is. c.advance-moved.ensures.full (c.in-Err.is ∙ is)))
 
 pub moves-init : goal.moves-init
 moves-init g c =
+    let view = g.L.Linking.view c.args.symbol.now in
+    let before = all_lists view c.args.language.now c.args.self.now.frames c.args.self.now.parts in
     let some = c.requires.driving in (
       none_kept c.args.self.now.refused c.in_default.not-Some,
-      (some.0, some.1, driving_on (g.L.Linking.view c.args.symbol.now) c.args.symbol.now c.args.rows.now some.0 c.args.language.now c.args.self.now.steps c.args.self.now.refused c.args.self.now.next c.args.self.now.frames.items c.args.self.now.parts.items c.in_default.not-Some some.2),
-      λ tree is driving. driving_on (g.L.Linking.view c.args.symbol.now) c.args.symbol.now c.args.rows.now tree c.args.language.now c.args.self.now.steps c.args.self.now.refused c.args.self.now.next c.args.self.now.frames.items c.args.self.now.parts.items c.in_default.not-Some driving,
+      (some.0, some.1, driving_on view c.args.symbol.now c.args.rows.now some.0 c.args.language.now c.args.self.now.steps c.args.self.now.refused c.args.self.now.next c.args.self.now.frames.items c.args.self.now.parts.items c.in_default.not-Some some.2),
+      λ tree is driving. driving_on view c.args.symbol.now c.args.rows.now tree c.args.language.now c.args.self.now.steps c.args.self.now.refused c.args.self.now.next c.args.self.now.frames.items c.args.self.now.parts.items c.in_default.not-Some driving,
       omega arith,
       omega arith,
-      room_same (all_lists (g.L.Linking.view c.args.symbol.now) c.args.language.now c.args.self.now.frames c.args.self.now.parts),
+      room_same before,
     )

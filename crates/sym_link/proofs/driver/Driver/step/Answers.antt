@@ -1,6 +1,6 @@
 use Rattle.std.proofs.Common.{refl, ◌∙◌}
 use Rattle.sym_link.proofs.Driving.{driving_on, step_moved, step_done, step_refused, refused_answer, none_kept}
-use Rattle.sym_link.specs.Linking.{HasToken, all_lists}
+use Rattle.sym_link.specs.Linking.{TokenTakesMemory, all_lists}
 use Rattle.sym_link.proofs.Room.{room_same, only_refused}
 use Rattle.sym_link.proofs.driver.Driver.step.Goals as goal
 
@@ -38,10 +38,16 @@ returns-in-Err-clause-answers g c tree is driving =
     c.advance-moved.new.frames.items c.advance-moved.new.parts.items c.advance-moved.result c.in-Err.refusal c.in-Err.is on.1 (c.advance-moved.ensures.moves tree c.args.self.now.steps is on.0) c.advance-moved.ensures.counts).0
 
 pub returns-in-Some-clause-keeps : goal.returns-in-Some-clause-keeps
-returns-in-Some-clause-keeps g c = room_same (all_lists (g.L.Linking.view c.args.symbol.now) c.args.language.now c.args.self.now.frames c.args.self.now.parts)
+returns-in-Some-clause-keeps g c =
+    let view = g.L.Linking.view c.args.symbol.now in
+    let before = all_lists view c.args.language.now c.args.self.now.frames c.args.self.now.parts in
+    room_same before
 
 pub returns-in-Err-clause-full : goal.returns-in-Err-clause-full
 returns-in-Err-clause-full g c none =
+    let view = g.L.Linking.view c.args.symbol.now in
+    let before = all_lists view c.args.language.now c.args.self.now.frames c.args.self.now.parts in
+    let after_move = all_lists view c.advance-moved.new.language c.advance-moved.new.frames c.advance-moved.new.parts in
     rw (c.refuse.ensures.frames, c.refuse.ensures.parts)
-    (only_refused (HasToken (g.L.Linking.view c.args.symbol.now) c.args.symbol.now) (HasToken (g.L.Linking.view c.args.symbol.now) c.args.symbol.now) (all_lists (g.L.Linking.view c.args.symbol.now) c.args.language.now c.args.self.now.frames c.args.self.now.parts) (all_lists (g.L.Linking.view c.args.symbol.now) c.args.language.now c.args.self.now.frames c.args.self.now.parts) (all_lists (g.L.Linking.view c.args.symbol.now) c.advance-moved.new.language c.advance-moved.new.frames c.advance-moved.new.parts) c.in-Err.refusal (λ more. more) (room_same (all_lists (g.L.Linking.view c.args.symbol.now) c.args.language.now c.args.self.now.frames c.args.self.now.parts))
+    (only_refused (TokenTakesMemory view c.args.symbol.now) (TokenTakesMemory view c.args.symbol.now) before before after_move c.in-Err.refusal (λ more. more) (room_same before)
     (λ is. c.advance-moved.ensures.full (c.in-Err.is ∙ is)))
