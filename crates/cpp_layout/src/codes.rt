@@ -1,7 +1,7 @@
 // The texts of codes. A code that isn't in the tables has no text.
 #![tactic(auto)]
 
-ghost use Rattle.std.specs.Prelude.{◌≡◌, ◌+◌, ◌*◌, ◌<◌, ◌∷◌, ◌++◌, [], codes, drop, ◌||◌};
+ghost use Rattle.std.specs.Prelude.{◌≡◌, ◌<◌, ◌∷◌, ◌++◌, [], codes, drop, ◌||◌};
 ghost use Rattle.cpp_grammar.specs.Texts.{look_up, same_bytes, builtin_texts, operator_texts, abbreviation_texts, special_texts, literal_endings};
 ghost use Rattle.cpp_term.specs.Term.{builtin};
 ghost use Rattle.cpp_term.specs.Parts.{is_plain_integer};

@@ -12,8 +12,9 @@ pub fn trees_are_compared()
     ensures itself { (tree : Term) → same_tree tree tree ≡ true }
 {}
 
-/// No two components that are compared and equal are both spelled out. A component with free parameters is compared with those of
-/// its own encoding, and a template name with none before it where no reference can stand.
+/// A component that is spelled out is equal to none before it; where it has free parameters, to none of its own encoding. The law
+/// says nothing of a component that is equal to a template name for which, somewhere in the tree, no reference can stand: the
+/// exception goes by the tree of the component, and not by the place where it stands.
 pub fn components_are_apart()
     ensures { ComponentsAreApart }
 {}

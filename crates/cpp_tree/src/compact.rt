@@ -1,7 +1,7 @@
 // Entries in few bytes, as a table holds them.
 #![tactic(auto)]
 
-ghost use Rattle.std.specs.Prelude.{◌≡◌, false};
+ghost use Rattle.std.specs.Prelude.{◌≡◌};
 ghost use Rattle.cpp_tree.specs.Compact.{packs_kept, class_kept, arguments_kept, returns_kept, count_kept, run_kept, entry_of};
 ghost use Rattle.cpp_tree.specs.Notes.{bare_entry};
 

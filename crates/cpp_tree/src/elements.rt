@@ -1,7 +1,7 @@
 // The elements of lists.
 #![tactic(auto)]
 
-ghost use Rattle.std.specs.Prelude.{◌≡◌, ◌<◌, length, Option};
+ghost use Rattle.std.specs.Prelude.{◌≡◌, ◌<◌, length};
 ghost use Rattle.cpp_term.specs.Scope.{element};
 ghost use Rattle.cpp_term.specs.Items.{indexed};
 ghost use Rattle.cpp_tree.specs.Nodes.{over, tree_at, trees, IsTable};

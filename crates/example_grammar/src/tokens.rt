@@ -1,7 +1,7 @@
 // `sym_core`'s numbers and names, by their published texts and by hand.
 #![tactic(auto)]
 
-ghost use Rattle.std.specs.Prelude.{◌*◌, ◌<◌, ◌≤◌, length, IfOk};
+ghost use Rattle.std.specs.Prelude.{◌≤◌, length, IfOk};
 ghost use Rattle.sym_core.specs.Token.{AreNameBytes};
 ghost use Rattle.sym_core.specs.declared.NameClass.{NameClass};
 

@@ -1,14 +1,14 @@
 // The parts of a bound.
 #![tactic(auto)]
 
-ghost use Rattle.std.specs.Prelude.{◌≡◌, ◌+◌, ◌*◌, ◌<◌, ◌≤◌, [], slice_get, codes, if◌then◌else◌, true, false};
+ghost use Rattle.std.specs.Prelude.{◌≡◌, ◌+◌, ◌≤◌, [], slice_get, codes, true, false};
 ghost use Rattle.sym_print.specs.Held.{Held};
 ghost use Rattle.sym_print.specs.Unshared.{Unshared};
 ghost use Rattle.sym_print.specs.Building.{◌then◌, ◌also◌, ◌perhaps◌};
 ghost use Rattle.rust_tree.specs.Symbol as tree;
 ghost use Rattle.rust_tree.specs.Nodes.{IsPath, IsArguments, IsBounds, IsBindings, path_in, arguments_in, bounds_in, bindings_in};
 ghost use Rattle.rust_tree.specs.Shown.{path_parts, arguments_from, bindings_from, bound_parts, behind_arguments};
-ghost use Rattle.rust_tree.specs.Layout.{trees_of, HasDepth, Shows, any_arguments, any_bindings, bound_in};
+ghost use Rattle.rust_tree.specs.Layout.{trees_of, HasDepth, Shows, any_bindings, bound_in};
 ghost use Rattle.sym_print.specs.declared.detail.Detail.{Detail};
 ghost use Rattle.rust_tree.specs.declared.form.Form.{Form};
 

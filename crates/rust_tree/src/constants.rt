@@ -1,7 +1,7 @@
 // The parts of constants.
 #![tactic(auto)]
 
-ghost use Rattle.std.specs.Prelude.{◌≡◌, ◌+◌, ◌-◌, ◌<◌, ◌≤◌, ◌++◌, slice_get, codes, if◌then◌else◌, false, drop};
+ghost use Rattle.std.specs.Prelude.{◌≡◌, ◌+◌, ◌<◌, ◌≤◌, ◌++◌, slice_get, codes, false, drop};
 ghost use Rattle.sym_print.specs.Held.{Held};
 ghost use Rattle.sym_print.specs.Unshared.{Unshared};
 ghost use Rattle.sym_print.specs.Building.{◌then◌};

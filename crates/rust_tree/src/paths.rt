@@ -1,7 +1,7 @@
 // The parts of paths, and of the whole symbol.
 #![tactic(auto)]
 
-ghost use Rattle.std.specs.Prelude.{◌+◌, ◌*◌, ◌<◌, ◌≤◌, [], slice_get, codes, nat_le, if◌then◌else◌, true, false};
+ghost use Rattle.std.specs.Prelude.{◌+◌, ◌≤◌, [], slice_get, codes, nat_le, if◌then◌else◌, false};
 ghost use Rattle.sym_print.specs.Held.{Held};
 ghost use Rattle.sym_print.specs.Unshared.{Unshared};
 ghost use Rattle.sym_print.specs.Building.{◌then◌, ◌also◌};
@@ -9,7 +9,6 @@ ghost use Rattle.rust_tree.specs.Symbol as tree;
 ghost use Rattle.rust_tree.specs.Nodes.{IsPath, IsArguments, IsType, IsSymbol, HasName, IsWithin, bytes_at, identifier_of, path_in, arguments_in, type_in, symbol_in};
 ghost use Rattle.rust_tree.specs.Shown.{path_parts, type_parts, arguments_from, symbol_parts, suffix_parts, argument_list, nested_name};
 ghost use Rattle.rust_tree.specs.Layout.{trees_of, HasDepth, Shows};
-ghost use Rattle.sym_print.specs.declared.detail.Detail.{Detail};
 
 use crate::context::Context;
 use crate::form::Form;

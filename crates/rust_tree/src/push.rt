@@ -1,7 +1,7 @@
 // Texts and items that are pushed onto a list of parts, the last first.
 #![tactic(auto)]
 
-ghost use Rattle.std.specs.Prelude.{◌≡◌, ℕ, ◌+◌, ◌-◌, ◌<◌, ◌≤◌, ◌++◌, [], List, length, slice_get, decimal, if◌then◌else◌, take};
+ghost use Rattle.std.specs.Prelude.{◌≡◌, ℕ, ◌+◌, ◌<◌, ◌≤◌, ◌++◌, [], List, length, slice_get, decimal, if◌then◌else◌, take};
 ghost use Rattle.sym_print.specs.Held.{Held};
 ghost use Rattle.sym_print.specs.Unshared.{Unshared};
 ghost use Rattle.sym_print.specs.Building.{◌then◌, ◌also◌};
@@ -9,8 +9,6 @@ ghost use Rattle.rust_tree.specs.Nodes.{HasName, IsWithin, bytes_at, name_of, id
 ghost use Rattle.rust_tree.specs.Shown.{lifetime_text, numbered_lifetime, name_text, name_behind, namespace_text, special_name};
 ghost use Rattle.rust_tree.specs.Texts.{fixed_text};
 ghost use Rattle.rust_tree.specs.Layout.{trees_of, shown, HasForm, HasDepth, Shows, item_if, is_empty, IsOwn};
-ghost use Rattle.std.specs.Fmt.{digits};
-ghost use Rattle.sym_print.specs.declared.layout.Part.{Part};
 
 use crate::context::Context;
 use crate::form::Form;

@@ -1,7 +1,7 @@
 // The parts of types.
 #![tactic(auto)]
 
-ghost use Rattle.std.specs.Prelude.{◌≡◌, ℕ, ◌+◌, ◌-◌, ◌<◌, ◌≤◌, [], List, length, slice_get, codes, if◌then◌else◌, take, true, false};
+ghost use Rattle.std.specs.Prelude.{◌≡◌, ℕ, ◌+◌, ◌<◌, ◌≤◌, [], List, length, slice_get, codes, if◌then◌else◌, take};
 ghost use Rattle.sym_print.specs.Held.{Held};
 ghost use Rattle.sym_print.specs.Unshared.{Unshared};
 ghost use Rattle.sym_print.specs.Building.{◌then◌, ◌also◌, ◌perhaps◌};
@@ -9,7 +9,7 @@ ghost use Rattle.rust_tree.specs.Symbol as tree;
 ghost use Rattle.rust_tree.specs.Nodes.{IsType, IsTypes, IsBounds, IsConstant, type_in, types_in, bounds_in, constant_in, most_bound, HasAbi, HasTypeParts, abi_of, type_of};
 ghost use Rattle.rust_tree.specs.Shown.{type_parts, bounds_from, constant_parts, reference_opening, dyn_lifetime, for_binder, signature_opening, returned_parts, closing_tuple, is_unit, basic_text};
 ghost use Rattle.rust_tree.specs.Texts.{fixed_text};
-ghost use Rattle.rust_tree.specs.Layout.{trees_of, HasDepth, Shows, any_types, is_empty, binder_in, signature_in, names_in};
+ghost use Rattle.rust_tree.specs.Layout.{trees_of, HasDepth, Shows, binder_in, signature_in, names_in};
 ghost use Rattle.rust_tree.specs.Tree.{Tree, of_type};
 
 use crate::context::Context;

@@ -1,5 +1,5 @@
 -- Why a reader that is fed refuses.
-use Rattle.std.proofs.Common.{◌≡◌, ◌≢◌, ◌++◌, ◌+◌, ◌∙◌, ap, subst, ℕ, List, Bool, true, false, length, take, drop, eqb, Bor, Option, Some}
+use Rattle.std.proofs.Common.{◌≡◌, ◌≢◌, ◌++◌, ◌+◌, ◌∙◌, ap, append-nil, subst, ℕ, List, [], Bool, true, false, length, take, drop, eqb, Bor, Option, Some}
 use Rattle.std.specs.Prelude.{MatchOption}
 use Rattle.std.specs.Cmp.Lexicographic.{pointwise}
 use Rattle.std.proofs.lemmas.Bool.Decides.{Decides-eqb}
@@ -19,6 +19,10 @@ reason_told g s ended e told reason = reason
 pub reason_whatever : (g : Table) (s rest : List ℕ) (ended : Bool) (e : Refusal) → ended ≡ false → IsReason g ended s e → IsMalformedOrMemory g (s ++ rest) e
 reason_whatever g s rest ended (Malformed at) untold reason = subst (λ b. IsReason g b s (Malformed at)) untold reason rest
 reason_whatever g s rest ended e untold reason = reason
+
+-- the bytes of a reader that read what it had, was fed the rest, and was told the end
+pub fed_all : (told more ran first rest : List ℕ) → told ≡ more ++ [] → more ≡ ran ++ rest → ran ≡ first → told ≡ first ++ rest
+fed_all told more ran first rest end fed same = end ∙ append-nil more ∙ fed ∙ ap (λ bs. bs ++ rest) same
 
 -- what stands behind a prefix that was taken off
 pub behind_prefix : (s prefix front : List ℕ) (found : Option (Bor (List ℕ))) (rest : Bor (List ℕ))

@@ -8,7 +8,7 @@ use Rattle.sym_demangle.proofs.demangling.link.Goals as goal
 pub returns-clause-symbol : goal.returns-clause-symbol
 returns-clause-symbol g c =
     let linked = c.in_ok-linker.ensures.unlinked in
-    let bytes : c.run.new.self.bytes ≡ c.args.bytes.items = c.run.ensures.bytes ∙ ap (λ (v : Progress). v.bytes) linked in
+    let bytes : c.run.new.self.bytes ≡ c.args.bytes.items = ◌∙◌ {c = c.args.bytes.items} c.run.ensures.bytes (ap (λ (v : Progress). v.bytes) linked) in
     well_shaped (subst (λ b. StandsFor g.M.Mangling.mangled b (Ok (g.M.Mangling.whole_of c.finish.result))) bytes c.finish.ensures.stands)
 
 pub returns-in_err-run-clause-never_too_long : goal.returns-in_err-run-clause-never_too_long

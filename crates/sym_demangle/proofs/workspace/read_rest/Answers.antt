@@ -1,9 +1,8 @@
-use Rattle.std.proofs.Common.{◌≡◌, ◌++◌, subst, ap, ◌∙◌, true}
+use Rattle.std.proofs.Common.{◌≡◌, ◌++◌, subst, ap, true}
 use Rattle.std.proofs.lemmas.Result.{err_from_is_err_and}
-use Rattle.std.proofs.lemmas.List.{append-nil}
 use Rattle.sym_shape.specs.Fed.{Fed, IsReason}
 use Rattle.sym_shape.specs.Reader.{IsMalformedOrMemory}
-use Rattle.sym_demangle.proofs.Feeding.{reason_told, reason_whatever}
+use Rattle.sym_demangle.proofs.Feeding.{fed_all, reason_told, reason_whatever}
 use Rattle.sym_demangle.proofs.Answering.{shape_refused}
 use Rattle.sym_demangle.proofs.workspace.read_rest.Goals as goal
 
@@ -23,7 +22,8 @@ returns-in_err-run-2-clause-refused g c =
     let refusal = c.in_err-run-2.field-0.0 in
     let told : c.feed.new.self.ended ≡ true = ap (λ (v : Fed). v.ended) c.in_ok-feed.ensures.ok in
     let bytes : c.feed.new.self.bytes ≡ s =
-    ap (λ (v : Fed). v.bytes) c.in_ok-feed.ensures.ok ∙ append-nil c.feed_more.new.reader.bytes ∙ c.in_ok-feed_more.ensures.bytes ∙ ap (λ bs. bs ++ c.args.rest.now) c.in_ok-run.ensures.bytes in
+    fed_all c.feed.new.self.bytes c.feed_more.new.reader.bytes c.run.new.self.bytes c.args.reader.now.bytes c.args.rest.now
+    (ap (λ (v : Fed). v.bytes) c.in_ok-feed.ensures.ok) c.in_ok-feed_more.ensures.bytes c.in_ok-run.ensures.bytes in
     let p = err_from_is_err_and c.from_residual-in_err-run-2.result c.from_residual-in_err-run-2.ensures.1 in
     rw (p.1, p.2) (
     shape_refused g.M.Mangling.mangled s refusal (

@@ -33,7 +33,7 @@ returns-in-Err-clause-refused g c =
     let inv = c.self.invariant in
     let e = c.in-Err.refusal in
     let driven = c.in-Err.ensures.driving inv.shape (rw (c.deref.ensures.value, c.rows.ensures) inv.is_shape) (rw (c.deref.ensures.value, c.rows.ensures) inv.driving) in
-    let fails : Fails e (meaning_of (g.M.Linked.Linking.view (spell inv.shape)) inv.shape) = subst (λ b. Fails e (meaning_of (g.M.Linked.Linking.view b) inv.shape)) (c.deref.ensures.value ∙ sym inv.is_shape.spelled)
+    let fails : Fails e (meaning_of (g.M.Linked.Linking.view (spell inv.shape)) inv.shape) = subst (λ b. Fails e (meaning_of (g.M.Linked.Linking.view b) inv.shape)) (◌∙◌ {c = spell inv.shape} c.deref.ensures.value (sym inv.is_shape.spelled))
     (driving_fails (g.M.Linked.Linking.view c.deref.result.now) c.deref.result.now c.rows.result.now inv.shape _ _ _ _ _ _ e driven c.in-Err.ensures.kept) in
     let is_tree : IsTree g.M.Mangling.mangled.table (Kind 0) inv.shape = subst (λ t. IsTree t (Kind 0) inv.shape) (g.met.M.Mangling.view_table i.bytes.items) inv.is_shape.is_tree in
     subst (λ (v : Progress). IsRefused g.M.Mangling.mangled v.bytes e) c.self.view_is

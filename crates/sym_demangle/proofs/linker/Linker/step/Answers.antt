@@ -65,7 +65,7 @@ returns-in-Err-clause-refused g c =
     let e = c.in-Err.refusal in
     let s = c.deref.result.now in
     let to = c.step.ensures.answers inv.shape (rw (c.deref.ensures.value, c.rows.ensures) inv.is_shape) (rw (c.deref.ensures.value, c.rows.ensures) inv.driving) in
-    let fails : Fails e (meaning_of (g.M.Linked.Linking.view (spell inv.shape)) inv.shape) = subst (λ b. Fails e (meaning_of (g.M.Linked.Linking.view b) inv.shape)) (c.deref.ensures.value ∙ sym inv.is_shape.spelled)
+    let fails : Fails e (meaning_of (g.M.Linked.Linking.view (spell inv.shape)) inv.shape) = subst (λ b. Fails e (meaning_of (g.M.Linked.Linking.view b) inv.shape)) (◌∙◌ {c = spell inv.shape} c.deref.ensures.value (sym inv.is_shape.spelled))
     (step_fails (g.M.Linked.Linking.view s) s c.rows.result.now inv.shape c.step.new.language i.driver.steps c.step.new.self.steps i.driver.refused c.step.new.self.refused c.step.new.self.parts.items e
     (subst (λ r. IsStepTo (g.M.Linked.Linking.view s) s c.rows.result.now inv.shape c.step.new.language i.driver.steps c.step.new.self.steps i.driver.refused c.step.new.self.refused c.step.new.self.parts.items r) c.in-Err.is to)) in
     let is_tree : IsTree g.M.Mangling.mangled.table (Kind 0) inv.shape = subst (λ t. IsTree t (Kind 0) inv.shape) (g.met.M.Mangling.view_table i.bytes.items) inv.is_shape.is_tree in

@@ -42,4 +42,4 @@ returns-clause-steps g c =
 
 pub returns-2-clause-symbol : goal.returns-2-clause-symbol
 returns-2-clause-symbol g c =
-    links_read g.M.Mangling.mangled c.refuses_bad_tokens.ensures g.M.Mangling.whole_of _ c.args.s.now c.link.result (c.in_ok-extend_from_slice.ensures.items ∙ ap (λ xs. xs ++ c.args.s.now) c.clear.ensures.items) c.link.ensures.stands
+    links_read g.M.Mangling.mangled c.refuses_bad_tokens.ensures g.M.Mangling.whole_of _ c.args.s.now c.link.result (◌∙◌ {c = c.args.s.now} c.in_ok-extend_from_slice.ensures.items (ap (λ xs. xs ++ c.args.s.now) c.clear.ensures.items)) c.link.ensures.stands
