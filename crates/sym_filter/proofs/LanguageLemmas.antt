@@ -12,7 +12,7 @@ use Rattle.sym_demangle.specs.Mangled.{Mangled, IsAnswer, IsReading, answer}
 use Rattle.sym_demangle.specs.Standing.{AreStepsInAll}
 use Rattle.sym_demangle.proofs.Answering.{is_answer, reading_answered}
 use Rattle.sym_filter.specs.Demangled.{IsDemangled}
-use Rattle.sym_filter.specs.Languages.{language_answer, behind_front, Readings, AreCounts, AreCountsOf}
+use Rattle.sym_filter.specs.Languages.{behind_front, Readings, AreCounts, AreCountsOf}
 use Rattle.sym_filter.specs.declared.demangler.Demangled.{Demangled}
 use Rattle.sym_filter.specs.declared.kinds.Lang.{Lang}
 
@@ -69,11 +69,10 @@ read_counts readings symbol read counts rows steps (shape, are_rows, same) bytes
     }
 
 -- what was done with a symbol of a language, where the language is known by an equation
-pub demangled_in : (limit : ℕ) (detail : Detail) (lang known : Lang) (symbol old new : List ℕ) (demangled : Demangled) → lang ≡ known
-    → IsDemangled (language_answer limit detail known symbol) (AreCountsOf known symbol) old new demangled
-    → IsDemangled (language_answer limit detail lang symbol) (AreCountsOf lang symbol) old new demangled
-demangled_in limit detail lang known symbol old new demangled same is =
-    subst (λ l. IsDemangled (language_answer limit detail l symbol) (AreCountsOf l symbol) old new demangled) (sym same) is
+pub demangled_in : (answers : Lang → Result (List ℕ) Refusal) (lang known : Lang) (symbol old new : List ℕ) (demangled : Demangled) → lang ≡ known
+    → IsDemangled (answers known) (AreCountsOf known symbol) old new demangled → IsDemangled (answers lang) (AreCountsOf lang symbol) old new demangled
+demangled_in answers lang known symbol old new demangled same is =
+    subst (λ l. IsDemangled (answers l) (AreCountsOf l symbol) old new demangled) (sym same) is
 
 -- ## Symbols that are pressed
 
