@@ -6,7 +6,7 @@ use std::test::Fail;
 
 /// Options and symbols, with the line that is answered and what is complained of. What symbols are answered stands in the
 /// rows of crates/check_rows; these show that options come to the calls.
-static ROWS: [(&str, &str, &str, &str); 17] = [
+static ROWS: [(&str, &str, &str, &str); 19] = [
     ("--limit=6", "_Z1fv", "f()", ""),
     ("--limit=5", "_Z1fv", "_Z1fv", "symfilt: _Z1fv: too long\n"),
     (
