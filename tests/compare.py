@@ -12,7 +12,7 @@ import subprocess
 import sys
 
 BATCH = 100
-OPTIONS = ([], ["--limit", "60"], ["--brief"])
+OPTIONS = ([], ["--limit", "60"], ["--brief"], ["--press"])
 
 
 def run(command, data=b""):

@@ -5,8 +5,8 @@
 
 SYMFILT is the built program, REFERENCE another one, as for compare.py. The words are symbols that are cut, flipped, spliced,
 that name a part twice, or have numbers at the edges of their ranges. They come from those of FILE, one a line, or from
-the rows of crates/check_rows/stdin and tests/vectors_cpp.tsv. A word has at most BYTES bytes (400), and after S seconds (60) it
-ends. The status is 1 where a word is answered otherwise, 2 where nothing was compared.
+the rows of crates/check_rows/stdin. A word has at most BYTES bytes (400), and after S seconds (60) it ends. The status is 1
+where a word is answered otherwise, 2 where nothing was compared.
 """
 
 import argparse
@@ -20,7 +20,7 @@ import time
 from compare import command_of
 
 HERE = os.path.dirname(os.path.abspath(__file__))
-ROWS = [os.path.join(HERE, "..", "crates", "check_rows", "stdin"), os.path.join(HERE, "vectors_cpp.tsv")]
+ROWS = os.path.join(HERE, "..", "crates", "check_rows", "stdin")
 BATCH = 200
 PATIENCE = 60
 OPTIONS = ([], ["--limit", "60"], ["--brief"], ["--press"], ["--limit", "0"])
@@ -201,10 +201,10 @@ def seeds_of(files, lang):
     for path in files:
         with open(path, "rb") as file:
             words += [line for line in file.read().split(b"\n") if line]
-    for path in filter(os.path.exists, ROWS) if not files else ():
-        with open(path, "rb") as file:
+    if not files:
+        with open(ROWS, "rb") as file:
             rows = [row.split(b"\t") for row in file.read().split(b"\n")]
-        words += [row[3] for row in rows if row[0] == b"text"] + [row[1] for row in rows if row[0] == b"refused"]
+        words += [row[3] for row in rows if row[0] == b"text"] + [row[1] for row in rows if row[0] in (b"refused", b"press")]
     return [word for word in dict.fromkeys(words) if is_of(word, lang)]
 
 

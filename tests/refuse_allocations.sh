@@ -61,7 +61,7 @@ refuse_each() {
 # refuse_each_in_calls: gives rows to the library's calls until no allocation is left to refuse
 refuse_each_in_calls() {
     local number=1 status answered=0
-    grep -aE $'^(text\tfull\t[0-9]+|refused|press)\t_R(NvC3foo3bar|INvC3foo3barFG_RL0_hEuE|NvB_3foo|NvC3fo)\t' \
+    grep -aE $'^(text\tfull\t[0-9]+|refused|press)\t_(RNvC3foo3bar|RINvC3foo3barFG_RL0_hEuE|RNvB_3foo|RNvC3fo|ZN3foo3barEN3foo3bazE|Z1fNSt1AE)\t' \
         "$here/../crates/check_rows/stdin" >"$work/rows"
     if ! "$check_rows" <"$work/rows" >"$work/whole" || [ "$(cat "$work/whole")" != 'each row holds' ]; then
         echo "calls: $check_rows doesn't answer that each row holds" >&2
@@ -99,6 +99,7 @@ refuse_each_in_calls() {
 
 refuse_each 'command line' 1 _RNvC3foo3bar _RNvC3fo _Z1fv foo
 refuse_each 'counts' 0 --stats _RNvC3foo3bar
+refuse_each 'pressed' 0 --press --stats _RINvC3foo3barNtC3foo1AE _Z1fN1A1BEN1A1BIiEE
 refuse_each 'filter' 0
 if [ -n "$check_rows" ]; then
     refuse_each_in_calls

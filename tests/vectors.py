@@ -131,7 +131,9 @@ def check_repeated(program, detail, cost, front, count, repeated, end, length):
 
 def check_refused(program, word, reason):
     wrong = check_answer(program, [], word, reason)
-    return wrong + check_answer(program, ["--limit=0", "--brief"], word, reason)
+    wrong += check_answer(program, ["--limit=0", "--brief"], word, reason)
+    # what is too long is pressed
+    return wrong if reason == b"too long" else wrong + differences([word], program.answers(["--press"], [word]), [reason])
 
 
 def check_press(program, word, pressed):

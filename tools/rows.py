@@ -3,7 +3,7 @@
 usage: rows.py REFERENCE GENERATOR CRATES
 REFERENCE is a Python module with demangle(symbol, limit, brief) that answers (answer, at, text, cost), and press(symbol) that answers
 the pressed spelling; GENERATOR is one with symbols(seed, count, lang, mode, size=, wild=). CRATES is the folder of the crates. The
-symbols that are printed stand in cpp_symbols.txt, those that are pressed in tests/vectors_cpp.tsv."""
+symbols that are printed stand in cpp_symbols.txt, those that are pressed in crates/check_rows/stdin."""
 import os, re, sys
 
 from loading import load
@@ -80,7 +80,7 @@ def pressed_row(reference, symbol):
 def listed_presses(reference):
     """the short symbols that are pressed, each with the spelling that the reference agrees with"""
     out = []
-    for line in open(f"{HERE}/../tests/vectors_cpp.tsv"):
+    for line in open(f"{HERE}/../crates/check_rows/stdin"):
         words = line.rstrip("\n").split("\t")
         if words[0] != "press" or not words[1].startswith("_Z") or len(words[1]) > 120: continue
         text = pressed_row(reference, words[1].encode())

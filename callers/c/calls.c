@@ -100,11 +100,25 @@ static void other_calls(void)
     check(answer.length == strlen(filtered) && memcmp(room, filtered, answer.length) == 0 && is_kept(answer.length), "lines", log);
     check(symdemangle_count(bytes("_RNvMC3fooINtB2_1AhE3baz"), 24, &counts, &answer) == SYMDEMANGLE_OK, "counts", "");
     check(counts.rows == 18 && counts.nodes == 11 && counts.steps == 56, "numbers of the counts", "_RNvMC3fooINtB2_1AhE3baz");
-    const char *repeated = "_RINvC3foo3barNtC3foo1AE";
-    const char *pressed = "_RINvC3foo3barNtB2_1AE";
+}
+
+static void presses_to(const char *repeated, const char *pressed)
+{
+    symdemangle_answer answer;
     memset(room, '#', sizeof room);
     check(symdemangle_press(bytes(repeated), strlen(repeated), room, sizeof room, &answer) == SYMDEMANGLE_OK, "press", repeated);
     check(answer.length == strlen(pressed) && memcmp(room, pressed, answer.length) == 0 && is_kept(answer.length), "pressed", repeated);
+}
+
+static void pressed_spellings(void)
+{
+    symdemangle_answer answer;
+    presses_to("_RINvC3foo3barNtC3foo1AE", "_RINvC3foo3barNtB2_1AE");
+    presses_to("_ZN3foo3barEN3foo3bazE", "_ZN3foo3barENS_3bazE");
+    presses_to("_ZN3foo3barENS_3bazE", "_ZN3foo3barENS_3bazE");
+    memset(room, '#', sizeof room);
+    check(symdemangle_press(bytes("_Z1fS_"), 6, room, sizeof room, &answer) == SYMDEMANGLE_BAD_REFERENCE && answer.place == 4 && is_kept(0),
+          "press what is refused", "_Z1fS_");
 }
 
 int main(void)
@@ -112,6 +126,7 @@ int main(void)
     texts();
     bad_arguments();
     other_calls();
+    pressed_spellings();
     puts(failed ? "FAILED" : "ok");
     return failed;
 }

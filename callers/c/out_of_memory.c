@@ -34,6 +34,7 @@ void *realloc(void *old, size_t size)
 }
 
 static const char symbol[] = "_RNvMC3fooINtB2_1AhE3baz";
+static const char cpp_symbol[] = "_ZN3foo3barEN3foo3bazEPNS_1AIiEE";
 static uint8_t room[64];
 static symdemangle_answer answer;
 static symdemangle_counts counts;
@@ -57,6 +58,11 @@ static uint32_t count(void)
 static uint32_t press(void)
 {
     return symdemangle_press((const uint8_t *)symbol, strlen(symbol), room, sizeof room, &answer);
+}
+
+static uint32_t press_cpp(void)
+{
+    return symdemangle_press((const uint8_t *)cpp_symbol, strlen(cpp_symbol), room, sizeof room, &answer);
 }
 
 /* The allocations of a call are refused one after the other, until it makes fewer. Each refused one is SYMDEMANGLE_MEMORY with
@@ -89,7 +95,7 @@ static int each_refused(const char *name, uint32_t (*call)(void))
 int main(void)
 {
     int failed = each_refused("text", text) | each_refused("filter", filter) | each_refused("count", count) |
-                 each_refused("press", press);
+                 each_refused("press", press) | each_refused("press, C++", press_cpp);
     puts(failed ? "FAILED" : "ok");
     return failed;
 }

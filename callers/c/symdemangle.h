@@ -1,8 +1,7 @@
 /* Mangled C++ (Itanium ABI 5.1) and Rust (RFC 2603, v0) symbols: their texts within a limit on what a text costs, the work
    that reading one takes, and their pressed spelling.
 
-   A symbol that begins with "_R" is read as Rust, any other as C++. C++ symbols aren't pressed yet: there each is
-   SYMDEMANGLE_MALFORMED with place 1. A symbol is bytes with a length, and needs no 0 byte.
+   A symbol that begins with "_R" is read as Rust, any other as C++. A symbol is bytes with a length, and needs no 0 byte.
 
    It needs C from C99 on, or C++ from C++11 on.
 

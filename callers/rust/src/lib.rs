@@ -1,9 +1,8 @@
 //! Mangled C++ (Itanium ABI 5.1) and Rust (RFC 2603, v0) symbols: their texts within a limit on what a text costs, the work
 //! that reading one takes, and their pressed spelling, by a proved library.
 //!
-//! A symbol that begins with `_R` is read as Rust, any other as C++; C++ symbols aren't pressed yet, and there each is
-//! malformed at 1. Names in a symbol are bytes, so texts are bytes too; [`demangle`] gives a `String` in which what isn't
-//! UTF-8 is replaced.
+//! A symbol that begins with `_R` is read as Rust, any other as C++. Names in a symbol are bytes, so texts are bytes too;
+//! [`demangle`] gives a `String` in which what isn't UTF-8 is replaced.
 //!
 //! ```
 //! assert_eq!(symdemangle::demangle("_RNvC3foo3bar").unwrap(), "foo::bar");

@@ -86,4 +86,7 @@ fn the_work_and_the_pressed_spelling() {
     let mut room = Vec::new();
     press_into(b"_RINvC3foo3barNtC3foo1AE", &mut room).unwrap();
     assert_eq!(room, b"_RINvC3foo3barNtB2_1AE");
+    press_into(b"_ZN3foo3barEN3foo3bazE", &mut room).unwrap();
+    assert_eq!(room, b"_ZN3foo3barENS_3bazE");
+    assert_eq!(press_into(b"_Z1fS_", &mut room), Err(Error::BadReference { at: 4 }));
 }

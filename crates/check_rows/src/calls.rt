@@ -279,3 +279,32 @@ pub fn pieces_say<M: Calls>(
     }
     Ok(true)
 }
+
+/// A symbol that is read whole, and pressed.
+fn read_and_pressed<M: Calls>(alloc: Global, s: &[u8]) -> Result<Vec<u8>, Refusal>
+    requires { FitsSymbol s.now }
+{
+    let symbol = M::read(alloc, s)?;
+    M::press(alloc, &symbol)
+}
+
+/// A symbol that is fed byte by byte, and pressed.
+fn fed_and_pressed<M: Calls>(alloc: Global, s: &[u8]) -> Result<Vec<u8>, Refusal> {
+    let bytes: Vec<&[u8]> = s.chunks(1).collect(alloc)?;
+    match M::read_fed(alloc, &bytes)? {
+        Some(symbol) => M::press(alloc, &symbol),
+        None => broken(alloc, b"(a reader stepped otherwise)"),
+    }
+}
+
+/// Whether a mangling's call that presses answers this for a symbol.
+pub fn presses_say<M: Calls>(alloc: Global, s: &[u8], wanted: &[u8]) -> Result<bool, Refusal>
+    requires { FitsSymbol s.now }
+{
+    let pressed = read_and_pressed::<M>(alloc, s);
+    if !says(alloc, &pressed, wanted)? {
+        return Ok(false);
+    }
+    let pressed = fed_and_pressed::<M>(alloc, s);
+    says(alloc, &pressed, wanted)
+}

@@ -4,11 +4,13 @@ ghost use Rattle.std.specs.Prelude.{◌≡◌, true, IfOk, IfSome};
 ghost use Rattle.sym_core.specs.Number.{FitsSymbol};
 
 use crate::feeding::fed;
+use cpp_spell::press_cpp;
 use itanium::Abi;
 use rust_v0::V0;
 use std::alloc::Global;
 use sym_core::{Counts, Refusal};
 use sym_demangle::Mangling;
+use sym_press::press_rust;
 use sym_print::Detail;
 
 /// A mangling with its crate's calls.
@@ -30,6 +32,8 @@ pub trait Calls: Mangling {
     fn text_as(symbol: &Self::Symbol, limit: u32, detail: Detail) -> Result<Vec<u8>, Refusal>;
 
     fn counts(symbol: &Self::Symbol) -> Counts;
+
+    fn press(alloc: Global, symbol: &Self::Symbol) -> Result<Vec<u8>, Refusal>;
 }
 
 impl Calls for V0 {
@@ -68,6 +72,10 @@ impl Calls for V0 {
     fn counts(symbol: &rust_v0::Symbol) -> Counts {
         symbol.counts()
     }
+
+    fn press(alloc: Global, symbol: &rust_v0::Symbol) -> Result<Vec<u8>, Refusal> {
+        press_rust(alloc, symbol)
+    }
 }
 
 impl Calls for Abi {
@@ -105,5 +113,9 @@ impl Calls for Abi {
 
     fn counts(symbol: &itanium::Symbol) -> Counts {
         symbol.counts()
+    }
+
+    fn press(alloc: Global, symbol: &itanium::Symbol) -> Result<Vec<u8>, Refusal> {
+        press_cpp(alloc, symbol)
     }
 }

@@ -1,7 +1,7 @@
 // Rows: a word that says what a row is of, and fields behind it, with tabs between.
 
 use crate::answer::says;
-use crate::calls::{by_demangler, calls_say, pieces_say};
+use crate::calls::{by_demangler, calls_say, pieces_say, presses_say};
 use crate::changes::{self, Change};
 use itanium::Abi;
 use rust_v0::{Detail, V0};
@@ -105,7 +105,8 @@ fn is_refused(
     Ok(
         is_answered(alloc, lists, kind, s, LIMIT, Detail::Full, reason)?
             && is_answered(alloc, lists, kind, s, 0, Detail::Brief, reason)?
-            && is_answered_in_pieces(alloc, kind, s, 0, Detail::Full, reason)?,
+            && is_answered_in_pieces(alloc, kind, s, 0, Detail::Full, reason)?
+            && is_unpressed(alloc, lists, kind, s, reason)?,
     )
 }
 
@@ -150,6 +151,31 @@ fn repeated(
     Ok(whole)
 }
 
+/// Whether each call that presses answers this for a word.
+fn is_pressed_to(
+    alloc: Global,
+    lists: &mut Lists,
+    word: &[u8],
+    pressed: &[u8],
+) -> Result<bool, Refusal> {
+    let (Some(kind), Some(pressed_kind)) = (kind_of(word), kind_of(pressed)) else {
+        return Ok(false);
+    };
+    let s = kind.symbol_of(word);
+    if !fits(s) {
+        return Ok(false);
+    }
+    let answer = by_demangler(alloc, &Pressing, lists, kind, s);
+    if !says(alloc, &answer, pressed)? {
+        return Ok(false);
+    }
+    let pressed_symbol = pressed_kind.symbol_of(pressed);
+    match kind.lang {
+        Lang::Cpp => presses_say::<Abi>(alloc, s, pressed_symbol),
+        Lang::Rust => presses_say::<V0>(alloc, s, pressed_symbol),
+    }
+}
+
 /// Whether a word's pressed spelling is this one, and is pressed again unchanged.
 fn is_pressed(
     alloc: Global,
@@ -157,20 +183,31 @@ fn is_pressed(
     word: &[u8],
     pressed: &[u8],
 ) -> Result<bool, Refusal> {
-    for word in [word, pressed] {
-        let Some(kind) = kind_of(word) else {
-            return Ok(false);
-        };
-        let s = kind.symbol_of(word);
-        if !fits(s) {
-            return Ok(false);
-        }
-        let answer = by_demangler(alloc, &Pressing, lists, kind, s);
-        if !says(alloc, &answer, pressed)? {
-            return Ok(false);
-        }
+    Ok(
+        is_pressed_to(alloc, lists, word, pressed)?
+            && is_pressed_to(alloc, lists, pressed, pressed)?,
+    )
+}
+
+/// Whether a symbol that isn't read isn't pressed either, for the same reason. One that is too long is read.
+fn is_unpressed(
+    alloc: Global,
+    lists: &mut Lists,
+    kind: Kind,
+    s: &[u8],
+    reason: &[u8],
+) -> Result<bool, Refusal> {
+    if !fits(s) {
+        return Ok(false);
     }
-    Ok(true)
+    let answer = by_demangler(alloc, &Pressing, lists, kind, s);
+    match reason {
+        b"too long" => {
+            answer?;
+            Ok(true)
+        }
+        _ => says(alloc, &answer, reason),
+    }
 }
 
 /// Whether a symbol that is cut, or changed, at each place in turn is answered as a row says.

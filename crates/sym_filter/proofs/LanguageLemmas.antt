@@ -11,14 +11,8 @@ use Rattle.sym_shape.specs.Tree.{AreRowsOf}
 use Rattle.sym_demangle.specs.Mangled.{Mangled, IsAnswer, IsReading, answer}
 use Rattle.sym_demangle.specs.Standing.{AreStepsInAll}
 use Rattle.sym_demangle.proofs.Answering.{is_answer, reading_answered}
-use Rattle.rust_tree.specs.Layout.{ReadSymbol}
-use Rattle.rust_v0.specs.Mangled.{whole_of}
-use Rattle.rust_v0.specs.Mangled as rust
 use Rattle.sym_filter.specs.Demangled.{IsDemangled}
-use Rattle.sym_press.specs.Answers.{pressed_answer}
-use Rattle.sym_press.specs.OfRead.{pressed_symbol}
-use Rattle.sym_press.specs.Pressing.{pressed}
-use Rattle.sym_filter.specs.Languages.{language_answer, behind_front, Readings, AreCounts, AreCountsOf}
+use Rattle.sym_filter.specs.Languages.{behind_front, Readings, AreCounts, AreCountsOf}
 use Rattle.sym_filter.specs.declared.demangler.Demangled.{Demangled}
 use Rattle.sym_filter.specs.declared.kinds.Lang.{Lang}
 
@@ -75,22 +69,23 @@ read_counts readings symbol read counts rows steps (shape, are_rows, same) bytes
     }
 
 -- what was done with a symbol of a language, where the language is known by an equation
-pub demangled_in : (limit : ℕ) (detail : Detail) (lang known : Lang) (symbol old new : List ℕ) (demangled : Demangled) → lang ≡ known
-    → IsDemangled (language_answer limit detail known symbol) (AreCountsOf known symbol) old new demangled
-    → IsDemangled (language_answer limit detail lang symbol) (AreCountsOf lang symbol) old new demangled
-demangled_in limit detail lang known symbol old new demangled same is =
-    subst (λ l. IsDemangled (language_answer limit detail l symbol) (AreCountsOf l symbol) old new demangled) (sym same) is
+pub demangled_in : (answers : Lang → Result (List ℕ) Refusal) (lang known : Lang) (symbol old new : List ℕ) (demangled : Demangled) → lang ≡ known
+    → IsDemangled (answers known) (AreCountsOf known symbol) old new demangled → IsDemangled (answers lang) (AreCountsOf lang symbol) old new demangled
+demangled_in answers lang known symbol old new demangled same is =
+    subst (λ l. IsDemangled (answers l) (AreCountsOf l symbol) old new demangled) (sym same) is
 
 -- ## Symbols that are pressed
 
-pub unread_pressed : (front symbol : List ℕ) (refusal : Refusal) → (rust.IsReading symbol (Err refusal) → pressed_answer symbol ≡ Err refusal) → refusal ≢ TooLong
-    → (refusal ≡ Memory) ⊎ rust.IsReading symbol (Err refusal) → refusal ≢ Memory → (behind_front front (pressed_answer symbol) ≡ Err refusal) × (refusal ≢ TooLong)
-unread_pressed front symbol refusal law short (inl memory) other = absurd (other memory)
-unread_pressed front symbol refusal law short (inr is) other = (ap (behind_front front) (law is), short)
+-- a symbol that isn't read
+pub unread_pressed : {W : Type 0} (m : Mangled W) (answer : List ℕ → Result (List ℕ) Refusal) (front symbol : List ℕ) (refusal : Refusal)
+    → (IsReading m symbol (Err refusal) → answer symbol ≡ Err refusal) → refusal ≢ TooLong → (refusal ≡ Memory) ⊎ IsReading m symbol (Err refusal)
+    → refusal ≢ Memory → (behind_front front (answer symbol) ≡ Err refusal) × (refusal ≢ TooLong)
+unread_pressed m answer front symbol refusal law short (inl memory) other = absurd (other memory)
+unread_pressed m answer front symbol refusal law short (inr is) other = (ap (behind_front front) (law is), short)
 
-pub pressed_given : (front symbol old new bytes : List ℕ) (read : ReadSymbol) → pressed_answer symbol ≡ Ok (pressed (whole_of read)) → bytes ≡ pressed_symbol read
-    → new ≡ old ++ (front ++ bytes) → (text : List ℕ) × (behind_front front (pressed_answer symbol) ≡ Ok text) × (new ≡ old ++ text)
-unfolding pressed_symbol
-pressed_given front symbol old new bytes read law is pushed =
+-- one that is read, whose pressed spelling was appended
+pub pressed_given : (front old new bytes spelling : List ℕ) (answer : Result (List ℕ) Refusal) → answer ≡ Ok spelling → bytes ≡ spelling → new ≡ old ++ (front ++ bytes)
+    → (text : List ℕ) × (behind_front front answer ≡ Ok text) × (new ≡ old ++ text)
+pressed_given front old new bytes spelling answer law is pushed =
     let answered : List ℕ → Result (List ℕ) Refusal = λ text. Ok text in
     (front ++ bytes, ap (behind_front front) (law ∙ ap answered (sym is)), pushed)

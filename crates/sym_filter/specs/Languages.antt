@@ -1,7 +1,6 @@
 -- What is answered for a symbol of each mangling.
 use Rattle.std.specs.Prelude.{◌≡◌, ℕ, ◌+◌, ◌*◌, ◌≤◌, List, [], ◌∷◌, ◌++◌, length, Result, Ok, Err, ◌==◌, if◌then◌else◌}
 use Rattle.sym_core.specs.declared.refusal.Refusal.{Refusal}
-use Rattle.sym_core.specs.declared.refusal.Refusal.TheVariants.{Malformed}
 use Rattle.sym_print.specs.declared.detail.Detail.{Detail}
 use Rattle.sym_shape.specs.declared.rule.Row.{Row}
 use Rattle.sym_shape.specs.Tree.{AreRowsOf}
@@ -15,7 +14,9 @@ use Rattle.rust_tree.specs.Layout.{ReadSymbol}
 use Rattle.rust_tree.specs.Symbol.{Symbol}
 use Rattle.rust_v0.specs.Mangled.{v0_mangled, whole_of}
 use Rattle.sym_core.specs.declared.counts.Counts.{Counts}
-use Rattle.sym_press.specs.Answers.{pressed_answer}
+use Rattle.cpp_press.specs.Pressing as cpp_spelling
+use Rattle.sym_press.specs.Pressing as rust_spelling
+use Rattle.sym_filter.specs.Pressed.{pressed_answer}
 use Rattle.sym_filter.specs.declared.kinds.Kind.{Kind}
 use Rattle.sym_filter.specs.declared.kinds.Lang.{Lang}
 use Rattle.sym_filter.specs.declared.kinds.Lang.TheVariants.{Cpp, Rust}
@@ -38,13 +39,14 @@ abbrev pub behind_front : List ℕ → Result (List ℕ) Refusal → Result (Lis
 behind_front front (Ok text) = Ok (front ++ text)
 behind_front front (Err refusal) = Err refusal
 
--- Where symbols are pressed: the pressed spelling, behind the underscore that was dropped. No C++ symbol is pressed yet.
-abbrev pub pressed_language : Lang → (skip : ℕ) → List ℕ → Result (List ℕ) Refusal
-pressed_language Cpp skip symbol = Err (Malformed 1)
-pressed_language Rust skip symbol = behind_front (underscore_of skip) (pressed_answer symbol)
+-- where symbols are pressed
+abbrev pub pressed_language : Lang → List ℕ → Result (List ℕ) Refusal
+pressed_language Cpp symbol = pressed_answer cpp_mangled cpp_spelling.pressed symbol
+pressed_language Rust symbol = pressed_answer v0_mangled rust_spelling.pressed symbol
 
+-- the pressed spelling stands behind the underscore that was dropped
 abbrev pub pressed_of : Kind → List ℕ → Result (List ℕ) Refusal
-pressed_of kind symbol = pressed_language kind.lang kind.skip symbol
+pressed_of kind symbol = behind_front (underscore_of kind.skip) (pressed_language kind.lang symbol)
 
 -- The symbols of a mangling that are read: W are the trees that they stand for, R what is kept of them.
 pub record Readings (W R : Type 0) : Type 1 where

@@ -3,6 +3,7 @@ pub mod Held
 pub mod Kinds
 pub mod Languages
 pub mod Plain
+pub mod Pressed
 pub mod Runs
 pub mod Splits
 pub mod Streams

@@ -1,4 +1,9 @@
-// What the filtered text is, in the words of runs.
+// What the filtered text is, in the words of runs, and what is answered where symbols are pressed.
+ghost use Rattle.cpp_grammar.specs.Mangled.{cpp_mangled};
+ghost use Rattle.cpp_press.specs.Pressing as cpp_spelling;
+ghost use Rattle.rust_v0.specs.Mangled.{v0_mangled};
+ghost use Rattle.sym_press.specs.Pressing as rust_spelling;
+ghost use Rattle.sym_filter.specs.Pressed.{ReadingIsPressed};
 ghost use Rattle.sym_filter.specs.Splits.{FilteredByJoins, FilteredBySplits};
 
 /// A law over the definitions alone: however a text is split into longest runs, its filtered text is the replaced runs
@@ -11,4 +16,11 @@ pub fn filtered_by_splits()
 /// their filtered texts joined by it. So a text can be cut there, and its pieces filtered apart.
 pub fn filtered_by_joins()
     ensures { FilteredByJoins }
+{}
+
+/// A law over the definitions alone: what a symbol reads as decides what is answered where it is pressed: the pressed spelling of
+/// its tree, or the refusal.
+pub fn reading_is_pressed()
+    ensures cpp { ReadingIsPressed cpp_mangled cpp_spelling.pressed }
+    ensures rust { ReadingIsPressed v0_mangled rust_spelling.pressed }
 {}

@@ -16,7 +16,7 @@ pub use demangler::{Demangled, Demangler};
 pub use filtering::{filter, filter_as, filter_with};
 pub use kinds::{Kind, Lang, kind_of};
 pub use languages::Languages;
-pub use laws::{filtered_by_joins, filtered_by_splits};
+pub use laws::{filtered_by_joins, filtered_by_splits, reading_is_pressed};
 pub use pressing::Pressing;
 pub use standard::{ListSink, ReaderSource, WriterSink};
 pub use streams::{FilterFault, Sink, Source, write_all, write_out};

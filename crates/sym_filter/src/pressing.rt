@@ -1,22 +1,84 @@
 // Symbols of both manglings spelled again in place of printed.
-ghost use Rattle.std.specs.Prelude.{◌≡◌, ◌++◌, OnOk, OnErr};
-ghost use Rattle.sym_press.specs.Answers.{pressed_answer};
-ghost use Rattle.sym_filter.specs.Demangled.{IsDemangled};
-ghost use Rattle.sym_filter.specs.Languages.{AreCounts, AreCountsOf, behind_front, pressed_of, underscore_of, v0_readings};
+ghost use Rattle.std.specs.Prelude.{◌≡◌, ◌++◌, ℕ, List, Result, Ok, Err, OnOk, OnErr, IfOk, IfErr};
+ghost use Rattle.sym_core.specs.declared.refusal.Refusal.{Refusal};
+ghost use Rattle.sym_core.specs.declared.refusal.Refusal.TheVariants.{Memory};
 ghost use Rattle.sym_core.specs.Number.{FitsSymbol};
+ghost use Rattle.sym_shape.specs.Decided.{AreBytes};
+ghost use Rattle.sym_demangle.specs.Mangled.{IsReading};
+ghost use Rattle.sym_filter.specs.Demangled.{IsDemangled};
+ghost use Rattle.sym_filter.specs.Languages.{AreCounts, AreCountsOf, behind_front, pressed_of, underscore_of};
 
 use crate::counted::Counted;
 use crate::demangler::{Demangled, Demangler};
 use crate::kinds::{Kind, Lang};
 use crate::languages::Lists;
+use cpp_spell::press_cpp;
+use itanium::Abi;
 use rust_v0::V0;
 use std::alloc::{AllocError, Global};
 use sym_core::Refusal;
 use sym_demangle::Workspace;
-use sym_press::{press_rust, reading_is_pressed};
+use sym_press::press_rust;
 
-/// No symbol of C++ is pressed yet.
-const UNPRESSED: Refusal = Refusal::Malformed { at: 1 };
+/// A mangling whose symbols are spelled again, with each repeated part as a reference.
+pub trait Pressable: Counted {
+    // what is answered for a symbol: its pressed spelling, or why it isn't read
+    ghost answer: { List ℕ → Result (List ℕ) Refusal };
+
+    // the pressed spelling of a symbol that was read
+    ghost pressed: { Self.Symbol → List ℕ };
+
+    /// The pressed spelling of a symbol.
+    ///
+    /// # Errors
+    ///
+    /// `Memory` alone.
+    fn press(alloc: Global, symbol: &Self::Symbol) -> Result<Vec<u8>, Refusal>
+        ensures pressed { IfOk result (λ out. out.items ≡ pressed symbol.now) }
+        ensures memory { IfErr result (λ e. e ≡ Memory) };
+
+    // what a symbol reads as decides its answer
+    ghost read: { (s : List ℕ) (symbol : Self.Symbol) → AreBytes s → IsReading Self.Mangling.mangled s (Ok (Self.Mangling.whole_of symbol)) → answer s ≡ Ok (pressed symbol) };
+
+    ghost refused: { (s : List ℕ) (refusal : Refusal) → AreBytes s → IsReading Self.Mangling.mangled s (Err refusal) → answer s ≡ Err refusal };
+}
+
+impl Pressable for Abi {
+    ghost use Rattle.cpp_grammar.specs.Mangled.{cpp_mangled};
+    ghost use Rattle.cpp_layout.specs.Layout.{whole_of};
+    ghost use Rattle.cpp_press.specs.Pressing as cpp;
+    ghost use Rattle.sym_filter.specs.Pressed.{pressed_answer, reading_pressed};
+
+    ghost answer = { pressed_answer cpp_mangled cpp.pressed };
+
+    ghost pressed = { λ symbol. cpp.pressed (whole_of symbol) };
+
+    fn press(alloc: Global, symbol: &itanium::Symbol) -> Result<Vec<u8>, Refusal> {
+        press_cpp(alloc, symbol)
+    }
+
+    ghost read = { λ s symbol bytes is. reading_pressed cpp_mangled cpp.pressed s (Ok (whole_of symbol)) bytes is };
+
+    ghost refused = { λ s refusal bytes is. reading_pressed cpp_mangled cpp.pressed s (Err refusal) bytes is };
+}
+
+impl Pressable for V0 {
+    ghost use Rattle.rust_v0.specs.Mangled.{v0_mangled, whole_of};
+    ghost use Rattle.sym_press.specs.Pressing as rust;
+    ghost use Rattle.sym_filter.specs.Pressed.{pressed_answer, reading_pressed};
+
+    ghost answer = { pressed_answer v0_mangled rust.pressed };
+
+    ghost pressed = { λ symbol. rust.pressed (whole_of symbol) };
+
+    fn press(alloc: Global, symbol: &rust_v0::Symbol) -> Result<Vec<u8>, Refusal> {
+        press_rust(alloc, symbol)
+    }
+
+    ghost read = { λ s symbol bytes is. reading_pressed v0_mangled rust.pressed s (Ok (whole_of symbol)) bytes is };
+
+    ghost refused = { λ s refusal bytes is. reading_pressed v0_mangled rust.pressed s (Err refusal) bytes is };
+}
 
 /// Both manglings, where the text of a symbol is its pressed spelling: each repeated part is a reference. It has no limit, so
 /// that no symbol is too long.
@@ -46,29 +108,30 @@ impl Demangler for Pressing {
         out: &mut Vec<u8>,
     ) -> Demangled {
         match kind.lang {
-            Lang::Cpp => Demangled::Refused(UNPRESSED),
-            Lang::Rust => press_rust_into(&mut lists.rust, kind.skip, symbol, out),
+            Lang::Cpp => press_into(&mut lists.cpp, kind.skip, symbol, out),
+            Lang::Rust => press_into(&mut lists.rust, kind.skip, symbol, out),
         }
     }
 }
 
-/// Appends the pressed spelling of a Rust symbol, where it is read, behind the underscore that was dropped.
-fn press_rust_into(
-    workspace: &mut Workspace<V0>,
+/// Appends the pressed spelling of a symbol of a mangling, where it is read, behind the underscore that was dropped.
+fn press_into<M: Pressable>(
+    workspace: &mut Workspace<M>,
     skip: u32,
     symbol: &[u8],
     out: &mut Vec<u8>,
 ) -> Demangled
     requires { FitsSymbol symbol.now }
-    ensures { IsDemangled (behind_front (underscore_of skip) (pressed_answer symbol.now)) (AreCounts v0_readings symbol.now) out.old.items out.new.items result }
+    ensures { IsDemangled (behind_front (underscore_of skip) (M.answer symbol.now))
+        (AreCounts (record { mangled = M.mangled; IsRead = M.is_read; bytes_of = M.bytes_of; whole_of = M.whole_of; nodes_of = M.nodes_of; nodes_a_byte = M.nodes_a_byte }) symbol.now)
+        out.old.items out.new.items result }
 {
-    reading_is_pressed();
     let read = match workspace.read(symbol) {
         Ok(read) => read,
         Err(refusal) => return Demangled::Refused(refusal),
     };
-    let counts = V0::counts(&read);
-    let pressed = press_rust(*out.allocator(), &read);
+    let counts = M::counts(&read);
+    let pressed = M::press(*out.allocator(), &read);
     workspace.recycle(read);
     let Ok(pressed) = pressed else {
         return Demangled::Refused(Refusal::Memory);

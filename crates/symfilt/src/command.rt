@@ -92,7 +92,7 @@ fn command_line<'a>(alloc: Global, words: &'a [&'a str]) -> Result<ArgMatches<'a
         );
     let stats = flag(alloc, "stats").help("Show the rows, nodes and steps of each symbol");
     let press = flag(alloc, "press").help(
-        "Spell each Rust symbol again with its repeated parts as references, in place of printing it; C++ symbols are refused",
+        "Spell each symbol again with its repeated parts as references, in place of printing it",
     );
     let brief = flag(alloc, "brief").help("Leave out template and generic arguments");
     let symbols = Arg::new(alloc, "SYMBOL")

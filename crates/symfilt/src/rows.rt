@@ -6,7 +6,7 @@ use std::test::Fail;
 
 /// Options and symbols, with the line that is answered and what is complained of. What symbols are answered stands in the
 /// rows of crates/check_rows; these show that options come to the calls.
-static ROWS: [(&str, &str, &str, &str); 17] = [
+static ROWS: [(&str, &str, &str, &str); 19] = [
     ("--limit=6", "_Z1fv", "f()", ""),
     ("--limit=5", "_Z1fv", "_Z1fv", "symfilt: _Z1fv: too long\n"),
     (
@@ -80,9 +80,16 @@ static ROWS: [(&str, &str, &str, &str); 17] = [
     ("--press", "__RINvC3foo3barRL_hE", "__RINvC3foo3barRhE", ""),
     (
         "--press",
-        "_Z1fv",
-        "_Z1fv",
-        "symfilt: _Z1fv: malformed at 1\n",
+        "_ZN3foo3barEN3foo3bazE",
+        "_ZN3foo3barENS_3bazE",
+        "",
+    ),
+    ("--press", "__Z1fNSt1AE", "__Z1fSt1A", ""),
+    (
+        "--press",
+        "_Z1fS_",
+        "_Z1fS_",
+        "symfilt: _Z1fS_: bad reference at 4\n",
     ),
 ];
 

@@ -1,0 +1,6 @@
+use Rattle.sym_press.specs.OfRead.{pressed_symbol}
+use Rattle.sym_filter.proofs.pressing.V0Pressable.press.Goals as goal
+
+pub returns-clause-pressed : goal.returns-clause-pressed
+unfolding pressed_symbol
+returns-clause-pressed c = c.press_rust.ensures.pressed
