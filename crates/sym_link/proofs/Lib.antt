@@ -12,3 +12,4 @@ pub mod Starting
 pub mod Driving
 pub mod Passing
 pub mod Ahead
+pub mod Tally

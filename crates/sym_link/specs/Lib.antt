@@ -13,5 +13,6 @@ pub mod PayingLaws
 pub mod Linking
 pub mod Stepping
 pub mod Following
+pub mod Tally
 pub mod Counting
 pub mod CountingLaws
