@@ -245,7 +245,7 @@ impl Nodes {
         ensures stands { IfOk result (λ number. (s : List ℕ) (t : Tree) → IsTable s self.old → Makes s self.old node t → IsTable s self.new × (slice_get (trees s self.new.nodes) number ≡ Some t)) }
         ensures grows { Grows self.old self.new }
         ensures one { length self.new.nodes ≤ length self.old.nodes + 1 }
-        ensures added { OnOk result (length self.new.nodes ≡ length self.old.nodes + 1) }
+        ensures more { OnOk result (length self.new.nodes ≡ length self.old.nodes + 1) }
         ensures text { self.new.text ≡ self.old.text }
         ensures same { OnErr result (self.new ≡ self.old) }
         ensures memory { IfErr result (λ r. r ≡ Refusal.Memory) }

@@ -1,5 +1,5 @@
 -- How many nodes are made of a symbol.
-use Rattle.std.specs.Prelude.{ℕ, ◌+◌, ◌||◌, if◌then◌else◌, List, Option, Some, None}
+use Rattle.std.specs.Prelude.{◌≡◌, ℕ, ◌+◌, ◌||◌, if◌then◌else◌, List, Option, Some, None}
 use Rattle.sym_shape.specs.Tree.{Tree}
 use Rattle.sym_link.specs.Linking.{View}
 use Rattle.sym_link.specs.Tally.{Tally, closing_makes, tallied_view, nodes_in}
@@ -25,6 +25,10 @@ made_by number = nodes_of_production (production_of number)
 -- the nodes of a symbol of this shape: those with which each table begins, and those that its rules make
 abbrev pub nodes_of_shape : Tree → ℕ
 nodes_of_shape shape = first_nodes + nodes_in made_by shape
+
+-- a symbol of this shape has so many nodes
+abbrev pub are_nodes : Tree → ℕ → Type 0
+are_nodes shape nodes = nodes ≡ nodes_of_shape shape
 
 -- Rust's language, whose nodes are counted
 abbrev pub v0_counted : List ℕ → View RustNodes Part BoundLifetimes Value (Tally State) ℕ

@@ -171,7 +171,7 @@ impl RustNodes {
             → MadeGives at.symbol self.old.nodes at (Ok (Made.Node node)) read → Gives (v0_view at.symbol) self.new (semantics.as_part result) read }
         ensures grows { GoesOn self.old self.new }
         ensures one { length self.new.nodes.nodes ≤ length self.old.nodes.nodes + 1 }
-        ensures added { OnOk result (length self.new.nodes.nodes ≡ length self.old.nodes.nodes + 1) }
+        ensures more { OnOk result (length self.new.nodes.nodes ≡ length self.old.nodes.nodes + 1) }
         ensures text { self.new.nodes.text ≡ self.old.nodes.text }
     {
         let number = self.nodes.push(node)?;
@@ -296,7 +296,7 @@ impl RustNodes {
             → MadeGives at.symbol self.old.nodes at meant read → Gives (v0_view at.symbol) self.new (semantics.as_part result) read }
         ensures grows { GoesOn self.old self.new }
         ensures one { length self.new.nodes.nodes ≤ length self.old.nodes.nodes + 1 }
-        ensures added { OnOk result (length self.new.nodes.nodes ≡ length self.old.nodes.nodes + 1) }
+        ensures more { OnOk result (length self.new.nodes.nodes ≡ length self.old.nodes.nodes + 1) }
         ensures text { self.new.nodes.text ≡ self.old.nodes.text }
     {
         match made {
@@ -319,7 +319,7 @@ impl RustNodes {
             → MadeGives at.symbol self.old.nodes at (semantics.made production at.symbol at.place at.bound parts.now) read → Gives (v0_view at.symbol) self.new (semantics.as_part result) read }
         ensures grows { GoesOn self.old self.new }
         ensures one { length self.new.nodes.nodes ≤ length self.old.nodes.nodes + 1 }
-        ensures added { OnOk result (length self.new.nodes.nodes ≡ length self.old.nodes.nodes + 1) }
+        ensures more { OnOk result (length self.new.nodes.nodes ≡ length self.old.nodes.nodes + 1) }
         ensures text { self.new.nodes.text ≡ self.old.nodes.text }
     {
         let place = site.place;
