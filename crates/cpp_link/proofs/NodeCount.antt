@@ -3,10 +3,12 @@ use Rattle.std.proofs.Common.{◌≡◌, refl, sym, ◌∙◌, ap, subst, arith,
 use Rattle.std.specs.Prelude.{Result, OnOk}
 use Rattle.sym_core.specs.declared.refusal.Refusal.{Refusal}
 use Rattle.sym_link.specs.declared.language.Frame.{Frame}
+use Rattle.sym_link.specs.Reading.{Open}
+use Rattle.sym_link.specs.Threads.{IsAt}
 use Rattle.cpp_grammar.specs.declared.production.Production.{Production}
 use Rattle.cpp_grammar.specs.Unfolding.{production_at}
 use Rattle.cpp_term.specs.Term.{Term}
-use Rattle.cpp_term.specs.Values.{Value, is_there}
+use Rattle.cpp_term.specs.Values.{State, Value, Around, is_there}
 use Rattle.cpp_link.specs.declared.linked.Linked.{Linked}
 use Rattle.cpp_link.specs.declared.part.Kept.{Kept}
 use Rattle.cpp_link.specs.declared.part.Part.{Part}
@@ -14,7 +16,9 @@ use Rattle.cpp_link.specs.Owed.{made_before, made_at_end}
 use Rattle.cpp_link.specs.Parts.{trees_in, value_of, values_in}
 use Rattle.cpp_link.specs.Stepping.{quiet_parts}
 use Rattle.cpp_link.specs.NodeCount.{makes_before, makes_at_end, one_if_there, std_before, pack_before}
+use Rattle.cpp_link.specs.View.{cpp_view}
 use Rattle.cpp_link.proofs.Places.{values_length}
+use Rattle.cpp_link.proofs.Viewing.{parts_are}
 
 -- ## Before the next part
 
@@ -92,3 +96,32 @@ pub pack_made : (s : List ℕ) (ts : List Term) (elements : Part) → (elements 
 unfolding makes_before pack_before one_if_there is_there value_of
 pack_made s ts Part.Nothing some = absurd (some refl)
 pack_made s ts _ some = refl
+
+-- ## In terms of the rule that stands open
+
+pub before_read : (s : List ℕ) (old new : Linked) (frame : Frame Kept) (parts : List Part) (result : Result Kept Refusal) → 3 ≤ length old.nodes.nodes
+    → OnOk result (length new.nodes.nodes ≡ length old.nodes.nodes + makes_before (production_at frame.rule) (values_in s old.nodes (drop frame.base parts)))
+    → (rule : Open State Around) (known : List Value) (state : State) → IsAt (cpp_view s) s old frame (drop frame.base parts) rule known state
+    → OnOk result (length new.nodes.nodes - 3 ≡ length old.nodes.nodes - 3 + makes_before (production_at rule.rule.number) known)
+before_read s old new frame parts (Err e) begun made rule known state is = tt
+before_read s old new frame parts (Ok kept) begun made rule known state is =
+    let same : makes_before (production_at frame.rule) (values_in s old.nodes (drop frame.base parts)) ≡ makes_before (production_at rule.rule.number) known =
+    ap (λ n. makes_before (production_at n) (values_in s old.nodes (drop frame.base parts))) is.number
+    ∙ ap (λ vs. makes_before (production_at rule.rule.number) vs) (parts_are s old (drop frame.base parts) known is.parts).1 in
+    omega (arith, begun, made, same)
+
+pub end_read : (s : List ℕ) (old new : Linked) (frame : Frame Kept) (parts : List Part) (result : Result (Unit {0}) Refusal) → 3 ≤ length old.nodes.nodes
+    → OnOk result (length new.nodes.nodes ≡ length old.nodes.nodes + makes_at_end (production_at frame.rule) (values_in s old.nodes (drop frame.base parts)))
+    → (rule : Open State Around) (known : List Value) (state : State) → IsAt (cpp_view s) s old frame (drop frame.base parts) rule known state
+    → OnOk result (length new.nodes.nodes - 3 ≡ length old.nodes.nodes - 3 + makes_at_end (production_at rule.rule.number) known)
+end_read s old new frame parts (Err e) begun made rule known state is = tt
+end_read s old new frame parts (Ok done) begun made rule known state is =
+    let same : makes_at_end (production_at frame.rule) (values_in s old.nodes (drop frame.base parts)) ≡ makes_at_end (production_at rule.rule.number) known =
+    ap (λ n. makes_at_end (production_at n) (values_in s old.nodes (drop frame.base parts))) is.number
+    ∙ ap (λ vs. makes_at_end (production_at rule.rule.number) vs) (parts_are s old (drop frame.base parts) known is.parts).1 in
+    omega (arith, begun, made, same)
+
+pub none_begun : (old new : Linked) (result : Result Kept Refusal) → OnOk result (length new.nodes.nodes ≡ length old.nodes.nodes)
+    → OnOk result (length new.nodes.nodes - 3 ≡ length old.nodes.nodes - 3)
+none_begun old new (Ok kept) same = ap (λ n. n - 3) same
+none_begun old new (Err e) same = tt

@@ -1,5 +1,5 @@
 -- A language whose nodes are counted keeps to what it keeps to without the count, and says the same of a symbol.
-use Rattle.std.proofs.Common.{◌≡◌, refl, sym, ◌∙◌, ap, subst, arith, add-zero, ℕ, ◌+◌, List, [], ◌∷◌, ◌++◌, length, Ok, Err}
+use Rattle.std.proofs.Common.{◌≡◌, refl, sym, ◌∙◌, ap, subst, arith, add-zero, ℕ, ◌+◌, List, [], ◌∷◌, ◌++◌, length, take, drop, Ok, Err}
 use Rattle.std.specs.Prelude.{Result, OnOk}
 use Rattle.std.specs.Result.{IfOk}
 use Rattle.sym_core.specs.declared.refusal.Refusal.{Refusal}
@@ -14,7 +14,8 @@ use Rattle.sym_link.specs.Unfold.{found, alone, standing, unfold_tree, unfold_fo
 use Rattle.sym_link.specs.Machine.{Passed, passed, ended}
 use Rattle.sym_link.specs.Parts.{Stands}
 use Rattle.sym_link.specs.Driving.{Fails}
-use Rattle.sym_link.specs.Linking.{View, IsLinking, HasRoom, IsInside, IsOpen, Begun, begun, next_of, taken_in, Begins, Takes, Puts, OpensRoot, Opens, TakesToken, ClosesRule}
+use Rattle.sym_link.specs.Linking.{View, IsLinking, HasRoom, IsInside, IsOpen, Begun, begun, next_of, taken_in, Begins, Takes, Gives, Puts, OpensRoot, Opens, TakesToken, ClosesRule}
+use Rattle.sym_link.specs.Threads.{IsAt, IsOpenAt, Goes, GoesOn, BeginsAs, BeginsIn, ClosesAll, IsTaken, IsAhead, IsAheadToken, IsCount, IsThreading}
 use Rattle.sym_link.specs.Following.{IsDone, meaning_of}
 use Rattle.sym_link.specs.Tally.{Tally, tally, Makes, untallied, tallied, tallied_view, closing_makes, nodes_in, nodes_in_all}
 use Rattle.sym_link.proofs.Steps.{bind_assoc, bind_same}
@@ -54,6 +55,14 @@ tallied_laws view makes laws = record {
       record { closed = two.closed; refused = two.refused };
 }
 
+pub tallied_threads : {N P K V S C : Type 0} (view : View N P K V S C) (makes : Makes V S C) → IsThreading view → IsThreading (tallied_view view makes)
+tallied_threads view makes threads = record {
+  linking = tallied_laws view makes threads.linking;
+  grows_same = threads.grows_same;
+  grows_then = threads.grows_then;
+  one = threads.one;
+}
+
 -- ## What is there
 
 pub room_untallied : {N P K V S C : Type 0} (view : View N P K V S C) (makes : Makes V S C) (s : List ℕ) (nodes : N) (more : ℕ)
@@ -81,6 +90,27 @@ open_untallied view makes s nodes frame parts is = record {
   left = is.left;
   state = is.state.state;
   inside = inside_untallied view makes s nodes frame _ is.rule is.known is.from is.left is.state is.inside;
+}
+
+pub at_untallied : {N P K V S C : Type 0} (view : View N P K V S C) (makes : Makes V S C) (s : List ℕ) (nodes : N) (frame : Frame K) (own : List P)
+    (rule : Open (Tally S) C) (known : List V) (now : Tally S)
+    → IsAt (tallied_view view makes) s nodes frame own rule known now → IsAt view s nodes frame own (untallied rule) known now.state
+at_untallied view makes s nodes frame own rule known now is = record {
+  there = record { kind = is.there.kind; is_kind = is.there.is_kind; takes = is.there.takes; behind = is.there.behind; spelled = is.there.spelled };
+  number = is.number;
+  place = is.place;
+  kept = is.kept;
+  parts = is.parts;
+  holds = is.holds.0;
+}
+
+pub open_at_untallied : {N P K V S C : Type 0} (view : View N P K V S C) (makes : Makes V S C) (s : List ℕ) (nodes : N) (frame : Frame K) (parts : List P)
+    → IsOpenAt (tallied_view view makes) s nodes frame parts → IsOpenAt view s nodes frame parts
+open_at_untallied view makes s nodes frame parts is = record {
+  rule = untallied is.rule;
+  known = is.known;
+  state = is.state.state;
+  at = at_untallied view makes s nodes frame _ is.rule is.known is.state is.at;
 }
 
 -- ## What a symbol means is the same
@@ -168,7 +198,7 @@ done_untallied view makes s rows shape nodes parts done = record {
   paid = done.paid;
 }
 
--- ## Nodes that are made where rules close alone
+-- ## What is read with a count
 
 -- a value, a next part and a rule that has begun, with a count
 abbrev with_nodes : {A S : Type 0} → ℕ → Found A S → Result (Found A (Tally S)) Refusal
@@ -186,6 +216,24 @@ begun_with n b = record {
   values = b.values;
   state = tally b.state n;
 }
+
+-- beginning a rule and taking a token make nothing
+module _ {V S C : Type 0} (reading : Reading V S C) (makes : Makes V S C) where
+  begun_tallied : (rule : Rule) (taken : List ℕ) (place : ℕ) (parts : Forest) (n : ℕ) (next : Next V S C)
+      → begun (tallied reading makes) rule taken place parts (next_with n next) ≡ (begun reading rule taken place parts next >>= λ b. Ok (begun_with n b))
+  begun_tallied rule taken place parts n next =
+      let around = standing rule taken place next.context next.state in
+      bind_assoc (reading.begin around parts) (λ state. Ok (tally state n))
+      (λ state. Ok (record { rule = standing rule taken place next.context (tally next.state n); values = next.values; state = state }))
+      ∙ sym (bind_assoc (reading.begin around parts) (λ state. Ok (record { rule = around; values = next.values; state = state })) (λ b. Ok (begun_with n b)))
+
+  taken_tallied : (t : Token) (place n : ℕ) (next : Next V S C)
+      → taken_in (tallied reading makes) t place (next_with n next) ≡ (taken_in reading t place next >>= with_nodes n)
+  taken_tallied t place n next =
+      bind_assoc (reading.token place t next.state) (with_nodes n) (λ one. Ok (found (next.values ++ one.value ∷ []) one.state))
+      ∙ sym (bind_assoc (reading.token place t next.state) (λ one. Ok (found (next.values ++ one.value ∷ []) one.state)) (with_nodes n))
+
+-- ## Nodes that are made where rules close alone
 
 module _ {V S C : Type 0} (reading : Reading V S C) (number : ℕ → ℕ) where
   abbrev counting : Reading V (Tally S) C
@@ -229,20 +277,6 @@ module _ {V S C : Type 0} (reading : Reading V S C) (number : ℕ → ℕ) where
       ∙ bind_assoc (passed reading (untallied rule) known from left state) (λ p. Ok (passed_with n p)) (λ p. counting.close rule p.known p.state)
       ∙ sym (bind_assoc (passed reading (untallied rule) known from left state) (λ p. reading.close (untallied rule) p.known p.state) (with_nodes (n + number rule.rule.number)))
 
-  begun_tallied : (rule : Rule) (taken : List ℕ) (place : ℕ) (parts : Forest) (n : ℕ) (next : Next V S C)
-      → begun counting rule taken place parts (next_with n next) ≡ (begun reading rule taken place parts next >>= λ b. Ok (begun_with n b))
-  begun_tallied rule taken place parts n next =
-      let around = standing rule taken place next.context next.state in
-      bind_assoc (reading.begin around parts) (λ state. Ok (tally state n))
-      (λ state. Ok (record { rule = standing rule taken place next.context (tally next.state n); values = next.values; state = state }))
-      ∙ sym (bind_assoc (reading.begin around parts) (λ state. Ok (record { rule = around; values = next.values; state = state })) (λ b. Ok (begun_with n b)))
-
-  taken_tallied : (t : Token) (place n : ℕ) (next : Next V S C)
-      → taken_in counting t place (next_with n next) ≡ (taken_in reading t place next >>= with_nodes n)
-  taken_tallied t place n next =
-      bind_assoc (reading.token place t next.state) (with_nodes n) (λ one. Ok (found (next.values ++ one.value ∷ []) one.state))
-      ∙ sym (bind_assoc (reading.token place t next.state) (λ one. Ok (found (next.values ++ one.value ∷ []) one.state)) (with_nodes n))
-
   next_begun : (around : Open (Tally S) C) (known : List V) (from : ℕ) (left : Forest) (state : S) (n : ℕ) (rule : Rule) (taken : List ℕ) (place : ℕ) (parts : Forest)
       → (next_of counting around known from left (tally state n) >>= begun counting rule taken place parts)
       ≡ ((next_of reading (untallied around) known from left state >>= begun reading rule taken place parts) >>= λ b. Ok (begun_with n b))
@@ -251,7 +285,7 @@ module _ {V S C : Type 0} (reading : Reading V S C) (number : ℕ → ℕ) where
       ap (λ r. r >>= begun counting rule taken place parts) (next_tallied around known from left state n)
       ∙ bind_assoc next (λ x. Ok (next_with n x)) (begun counting rule taken place parts)
       ∙ bind_same next (λ x. begun counting rule taken place parts (next_with n x)) (λ x. begun reading rule taken place parts x >>= λ b. Ok (begun_with n b))
-      (begun_tallied rule taken place parts n)
+      (begun_tallied reading (closing_makes number) rule taken place parts n)
       ∙ sym (bind_assoc next (begun reading rule taken place parts) (λ b. Ok (begun_with n b)))
 
   next_taken : (around : Open (Tally S) C) (known : List V) (from : ℕ) (left : Forest) (state : S) (n : ℕ) (t : Token) (place : ℕ)
@@ -261,7 +295,7 @@ module _ {V S C : Type 0} (reading : Reading V S C) (number : ℕ → ℕ) where
       let next = next_of reading (untallied around) known from left state in
       ap (λ r. r >>= taken_in counting t place) (next_tallied around known from left state n)
       ∙ bind_assoc next (λ x. Ok (next_with n x)) (taken_in counting t place)
-      ∙ bind_same next (λ x. taken_in counting t place (next_with n x)) (λ x. taken_in reading t place x >>= with_nodes n) (taken_tallied t place n)
+      ∙ bind_same next (λ x. taken_in counting t place (next_with n x)) (λ x. taken_in reading t place x >>= with_nodes n) (taken_tallied reading (closing_makes number) t place n)
       ∙ sym (bind_assoc next (taken_in reading t place) (with_nodes n))
 
   -- what is counted is what the rules make
@@ -296,11 +330,11 @@ module _ {V S C : Type 0} (reading : Reading V S C) (number : ℕ → ℕ) where
         (λ whole. whole.state.nodes ≡ part.state.nodes + nodes_in_all number rest) whole_counts (λ whole end. omega (arith, same, more, end))
         (forest_counts rule (next.values ++ part.value) (place + length (spell first)) rest part.state)))
 
--- ## The moments of such a language
+-- ## The moments of a language
 
-module _ {N P K V S C : Type 0} (view : View N P K V S C) (number : ℕ → ℕ) where
+module _ {N P K V S C : Type 0} (view : View N P K V S C) (makes : Makes V S C) where
   abbrev counted : View N P K V (Tally S) C
-  counted = tallied_view view (closing_makes number)
+  counted = tallied_view view makes
 
   begins_tallied : (nodes : N) (lower parts : List P) (result : Result K Refusal) (read : Result (Begun V S C) Refusal) (n : ℕ) → OnOk result (view.size nodes ≡ n)
       → Begins view nodes lower parts result read → Begins counted nodes lower parts result (read >>= λ b. Ok (begun_with n b))
@@ -332,33 +366,104 @@ module _ {N P K V S C : Type 0} (view : View N P K V S C) (number : ℕ → ℕ)
   pub root_tallied : (s : List ℕ) (rows : List Row) (old new : N) (row : Row) (result : Result K Refusal) → OnOk result (view.size new ≡ view.size old)
       → OpensRoot view s rows old new row result → OpensRoot counted s rows old new row result
   root_tallied s rows old new row result size opens rule taken parts is_row holds =
-      subst (Begins counted new [] [] result) (sym (begun_tallied view.reading number rule taken 0 parts 0 (record { context = view.around; values = []; state = view.first })))
+      subst (Begins counted new [] [] result) (sym (begun_tallied view.reading makes rule taken 0 parts 0 (record { context = view.around; values = []; state = view.first })))
       (begins_tallied new [] [] result _ 0 (size_same old new result 0 holds.1 size) (opens rule taken parts is_row holds.0))
 
+  -- something is done before a part
+  goes_tallied : (IsContext : N → K → C → Type 0) (nodes : N) (lower parts : List P) (result : Result K Refusal) (read : Result (Next V S C) Refusal) (n : ℕ) → OnOk result (view.size nodes ≡ n)
+      → Goes view IsContext nodes lower parts result read → Goes counted IsContext nodes lower parts result (read >>= λ next. Ok (next_with n next))
+  goes_tallied IsContext nodes lower parts (Ok context) read n size (next, is, is_context, holds, own, parts_are, are) =
+      (next_with n next, ap (λ r. r >>= λ next. Ok (next_with n next)) is, is_context, (holds, size), own, parts_are, are)
+  goes_tallied IsContext nodes lower parts (Err e) read n size fails = fails_behind e read (λ next. Ok (next_with n next)) fails
+
+  pub between_tallied : (s : List ℕ) (IsContext : N → K → C → Type 0) (old new : N) (frame : Frame K) (parts new_parts : List P) (result : Result K Refusal)
+      → ((rule : Open S C) (known : List V) (state : S) → IsAt view s old frame (drop frame.base parts) rule known state → OnOk result (view.size new ≡ view.size old + makes.before rule known state))
+      → GoesOn view s IsContext old new frame parts new_parts result → GoesOn counted s IsContext old new frame parts new_parts result
+  between_tallied s IsContext old new frame parts new_parts result size goes rule known now is =
+      let at = at_untallied view makes s old frame (drop frame.base parts) rule known now is in
+      goes_tallied IsContext new (take frame.base parts) new_parts result (view.reading.between (untallied rule) known now.state) (now.nodes + makes.before (untallied rule) known now.state)
+      (size_on old new result now.nodes _ is.holds.1 (size (untallied rule) known now.state at)) (goes (untallied rule) known now.state at)
+
+  -- a rule begins
+  begins_as_tallied : (nodes : N) (rule : Open (Tally S) C) (result : Result K Refusal) (read : Result S Refusal) (n : ℕ) → OnOk result (view.size nodes ≡ n)
+      → BeginsAs view nodes (untallied rule) result read → BeginsAs counted nodes rule result (read >>= λ state. Ok (tally state n))
+  begins_as_tallied nodes rule (Ok kept) read n size (state, is, is_kept, holds) = (tally state n, ap (λ r. r >>= λ state. Ok (tally state n)) is, is_kept, (holds, size))
+  begins_as_tallied nodes rule (Err e) read n size fails = fails_behind e read (λ state. Ok (tally state n)) fails
+
+  pub begin_tallied : (s : List ℕ) (Surrounds : N → K → C → Type 0) (rows : List Row) (old new : N) (context : K) (row : Row) (result : Result K Refusal) → OnOk result (view.size new ≡ view.size old)
+      → BeginsIn view s Surrounds rows old new context row result → BeginsIn counted s Surrounds rows old new context row result
+  begin_tallied s Surrounds rows old new context row result size begins around now rule taken inner place is_row kind is_kind is_tree behind there surrounds holds =
+      begins_as_tallied new (standing rule taken place around now) result (view.reading.begin (standing rule taken place around now.state) inner) now.nodes
+      (size_same old new result now.nodes holds.1 size) (begins around now.state rule taken inner place is_row kind is_kind is_tree behind there surrounds holds.0)
+
+  -- a rule closes over all its parts
+  pub finish_tallied : (s : List ℕ) (old new : N) (frame : Frame K) (parts new_parts : List P) (result : Result (Unit {0}) Refusal)
+      → ((rule : Open S C) (known : List V) (state : S) → IsAt view s old frame (drop frame.base parts) rule known state → OnOk result (view.size new ≡ view.size old + makes.at_end rule known state))
+      → ClosesAll view s old new frame parts new_parts result → ClosesAll counted s old new frame parts new_parts result
+  finish_tallied s old new frame parts new_parts result size closes rule known now is =
+      let at = at_untallied view makes s old frame (drop frame.base parts) rule known now is in
+      puts_tallied new (take frame.base parts) new_parts result (view.reading.close (untallied rule) known now.state) (now.nodes + makes.at_end (untallied rule) known now.state)
+      (size_on old new result now.nodes _ is.holds.1 (size (untallied rule) known now.state at)) (closes (untallied rule) known now.state at)
+
+  -- a token is taken
+  gives_tallied : (nodes : N) (result : Result P Refusal) (read : Result (Found V S) Refusal) (n : ℕ) → OnOk result (view.size nodes ≡ n) → Gives view nodes result read → Gives counted nodes result (read >>= with_nodes n)
+  gives_tallied nodes (Ok part) read n size (value, state, is, is_part, holds) = (value, tally state n, ap (λ r. r >>= with_nodes n) is, is_part, (holds, size))
+  gives_tallied nodes (Err e) read n size fails = fails_behind e read (with_nodes n) fails
+
+  pub text_tallied : (s : List ℕ) (old new : N) (row : Row) (result : Result P Refusal) → OnOk result (view.size new ≡ view.size old)
+      → IsTaken view s old new row result → IsTaken counted s old new row result
+  text_tallied s old new row result size taken now t place is_row holds =
+      gives_tallied new result (view.reading.token place t now.state) now.nodes (size_same old new result now.nodes holds.1 size) (taken now.state t place is_row holds.0)
+
+  -- which part comes next
+  pub ahead_tallied : (s : List ℕ) (rows : List Row) (nodes : N) (frame : Frame K) (held : ℕ) (row : Row) (ahead : ℕ) → IsAhead view s rows nodes frame held row ahead → IsAhead counted s rows nodes frame held row ahead
+  ahead_tallied s rows nodes frame held row ahead is own around known from left now rule taken inner rest inside =
+      is own (untallied around) known from left now.state rule taken inner rest (inside_untallied view makes s nodes frame own around known from left now inside)
+
+  pub ahead_token_tallied : (s : List ℕ) (nodes : N) (frame : Frame K) (held ahead : ℕ) → IsAheadToken view s nodes frame held ahead → IsAheadToken counted s nodes frame held ahead
+  ahead_token_tallied s nodes frame held ahead is own around known from left now t rest inside =
+      is own (untallied around) known from left now.state t rest (inside_untallied view makes s nodes frame own around known from left now inside)
+
+  pub count_tallied : (s : List ℕ) (nodes : N) (frame : Frame K) (held count : ℕ) → IsCount view s nodes frame held count → IsCount counted s nodes frame held count
+  count_tallied s nodes frame held count is own around known from left now inside =
+      is own (untallied around) known from left now.state (inside_untallied view makes s nodes frame own around known from left now inside)
+
+  -- a symbol that is linked has as many nodes as were counted
+  pub done_nodes : (s : List ℕ) (rows : List Row) (shape : Tree) (nodes : N) (parts : List P) (count : Result (Found (List V) (Tally S)) Refusal → ℕ)
+      → ((read : Found (List V) (Tally S)) → count (Ok read) ≡ read.state.nodes)
+      → IsDone counted s rows (meaning_of counted shape) nodes parts → view.size nodes ≡ count (meaning_of counted shape)
+  done_nodes s rows shape nodes parts count counts done = rw done.means (done.holds.1 ∙ sym (counts (found (done.value ∷ []) done.state)))
+
+-- ## The moments of a language that makes nodes where rules close alone
+
+module _ {N P K V S C : Type 0} (view : View N P K V S C) (number : ℕ → ℕ) where
+  abbrev closing_view : View N P K V (Tally S) C
+  closing_view = tallied_view view (closing_makes number)
+
   pub opens_tallied : (s : List ℕ) (rows : List Row) (old new : N) (frame : Frame K) (parts new_parts : List P) (row : Row) (result : Result K Refusal) → OnOk result (view.size new ≡ view.size old)
-      → Opens view s rows old new frame parts new_parts row result → Opens counted s rows old new frame parts new_parts row result
+      → Opens view s rows old new frame parts new_parts row result → Opens closing_view s rows old new frame parts new_parts row result
   opens_tallied s rows old new frame parts new_parts row result size opens around known from left now rule taken inner rest inside left_is row_is =
-      subst (Begins counted new _ new_parts result) (sym (next_begun view.reading number around known from left now.state now.nodes rule taken _ inner))
-      (begins_tallied new _ new_parts result _ now.nodes (size_same old new result now.nodes inside.holds.1 size)
+      subst (Begins closing_view new _ new_parts result) (sym (next_begun view.reading number around known from left now.state now.nodes rule taken _ inner))
+      (begins_tallied view (closing_makes number) new _ new_parts result _ now.nodes (size_same view (closing_makes number) old new result now.nodes inside.holds.1 size)
       (opens (untallied around) known from left now.state rule taken inner rest (inside_untallied view (closing_makes number) s old frame _ around known from left now inside) left_is row_is))
 
   pub token_tallied : (s : List ℕ) (old new : N) (frame : Frame K) (parts new_parts : List P) (row : Row) (result : Result (Unit {0}) Refusal) → OnOk result (view.size new ≡ view.size old)
-      → TakesToken view s old new frame parts new_parts row result → TakesToken counted s old new frame parts new_parts row result
+      → TakesToken view s old new frame parts new_parts row result → TakesToken closing_view s old new frame parts new_parts row result
   token_tallied s old new frame parts new_parts row result size takes around known from left now t rest inside left_is row_is =
-      subst (Takes counted new _ new_parts result) (sym (next_taken view.reading number around known from left now.state now.nodes t _))
-      (takes_tallied new _ new_parts result _ now.nodes (size_same old new result now.nodes inside.holds.1 size)
+      subst (Takes closing_view new _ new_parts result) (sym (next_taken view.reading number around known from left now.state now.nodes t _))
+      (takes_tallied view (closing_makes number) new _ new_parts result _ now.nodes (size_same view (closing_makes number) old new result now.nodes inside.holds.1 size)
       (takes (untallied around) known from left now.state t rest (inside_untallied view (closing_makes number) s old frame _ around known from left now inside) left_is row_is))
 
   pub close_tallied : (s : List ℕ) (old new : N) (frame : Frame K) (parts new_parts : List P) (result : Result (Unit {0}) Refusal)
       → OnOk result (view.size new ≡ view.size old + number frame.rule)
-      → ClosesRule view s old new frame parts new_parts result → ClosesRule counted s old new frame parts new_parts result
+      → ClosesRule view s old new frame parts new_parts result → ClosesRule closing_view s old new frame parts new_parts result
   close_tallied s old new frame parts new_parts result size closes rule known from left now inside none =
-      subst (Puts counted new _ new_parts result) (sym (ended_tallied view.reading number rule known from left now.state now.nodes))
-      (puts_tallied new _ new_parts result _ _ (subst (λ k. OnOk result (view.size new ≡ now.nodes + number k)) inside.number (size_on old new result now.nodes (number frame.rule) inside.holds.1 size))
+      subst (Puts closing_view new _ new_parts result) (sym (ended_tallied view.reading number rule known from left now.state now.nodes))
+      (puts_tallied view (closing_makes number) new _ new_parts result _ _ (subst (λ k. OnOk result (view.size new ≡ now.nodes + number k)) inside.number (size_on view (closing_makes number) old new result now.nodes (number frame.rule) inside.holds.1 size))
       (closes (untallied rule) known from left now.state (inside_untallied view (closing_makes number) s old frame _ rule known from left now inside) none))
 
   -- a symbol that is linked has as many nodes as the rules of its tree make
-  pub done_counts : (s : List ℕ) (rows : List Row) (shape : Tree) (nodes : N) (parts : List P) → IsDone counted s rows (meaning_of counted shape) nodes parts
+  pub done_counts : (s : List ℕ) (rows : List Row) (shape : Tree) (nodes : N) (parts : List P) → IsDone closing_view s rows (meaning_of closing_view shape) nodes parts
       → view.size nodes ≡ nodes_in number shape
   done_counts s rows shape nodes parts done =
       let is : done.state.nodes ≡ 0 + nodes_in number shape = subst (λ r. IfOk r (λ whole. whole.state.nodes ≡ 0 + nodes_in number shape)) done.means
