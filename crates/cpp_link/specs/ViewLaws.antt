@@ -1,5 +1,6 @@
 -- What is linked of a C++ symbol keeps to what every language does.
 use Rattle.std.proofs.Common.{◌≡◌, refl, ◌∙◌, arith, ℕ, ◌≤◌, false, List, length}
+use Rattle.sym_link.proofs.Tally.{tallied_laws, tallied_threads}
 use Rattle.sym_link.specs.Reading.{Open}
 use Rattle.sym_link.specs.Linking.{IsLinking}
 use Rattle.sym_link.specs.Threads.{IsThreading}
@@ -17,6 +18,7 @@ use Rattle.cpp_link.specs.Bound.{few_nodes}
 use Rattle.cpp_link.specs.Closes.{closes}
 use Rattle.cpp_link.specs.ClosesLaws.{owes_two, closes_owed}
 use Rattle.cpp_link.specs.AtOnce.{at_once_two}
+use Rattle.cpp_link.specs.NodeCount.{cpp_makes, cpp_counted}
 use Rattle.cpp_link.specs.View.{IsPart, Surrounds, IsKept, GoesOn, cpp_view}
 use Rattle.cpp_link.specs.Counts.{between_counts}
 use Rattle.cpp_link.specs.Staying.{value_stays, around_stays, there_more, kept_more}
@@ -74,3 +76,10 @@ cpp_threads s = record {
   grows_then = λ a b c first second. record { least = omega (arith, first.least, second.least); stays = λ i less. second.stays i (omega (arith, first.least, less)) ∙ first.stays i less };
   one = refl;
 }
+
+-- and so it is where the nodes are counted
+pub counted_laws : (s : List ℕ) → IsLinking (cpp_counted s)
+counted_laws s = tallied_laws (cpp_view s) cpp_makes (cpp_laws s)
+
+pub counted_threads : (s : List ℕ) → IsThreading (cpp_counted s)
+counted_threads s = tallied_threads (cpp_view s) cpp_makes (cpp_threads s)

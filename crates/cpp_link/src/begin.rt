@@ -81,6 +81,7 @@ impl Linked {
         ensures begins { BeginsIn (cpp_view symbol.now) symbol.now (Surrounds symbol.now) rows.now self.old self.new context row result }
         ensures adds { OnOk result (Adds (cpp_view symbol.now) self.old self.new 0 0) }
         ensures few { OnErr result ((cpp_view symbol.now).size self.new ≤ (cpp_view symbol.now).size self.old) }
+        ensures none { OnOk result (length self.new.nodes.nodes ≡ length self.old.nodes.nodes) }
         ensures pays { OnOk result ((at : ℕ) → Pays (cpp_view symbol.now) self.old self.new at at) }
     {
         let kept = context.with_packs(self.packs);

@@ -11,7 +11,8 @@ ghost use Rattle.cpp_grammar.specs.Unfolding.{production_at};
 ghost use Rattle.cpp_tree.specs.Nodes.{IsArgumentsBelow, IsBelow, tree_at};
 ghost use Rattle.cpp_link.specs.Grows.{Grows, HasPlace};
 ghost use Rattle.cpp_link.specs.Making.{state_of};
-ghost use Rattle.cpp_link.specs.Parts.{trees_in, tree_of_node, around_of, candidates_of, AreThere, IsKeptThere, AreCandidatesThere, IsStepThere};
+ghost use Rattle.cpp_link.specs.NodeCount.{makes_before};
+ghost use Rattle.cpp_link.specs.Parts.{trees_in, values_in, tree_of_node, around_of, candidates_of, AreThere, IsKeptThere, AreCandidatesThere, IsStepThere};
 ghost use Rattle.cpp_link.specs.Reads.{with_candidate, named_if, appended_if};
 ghost use Rattle.cpp_link.specs.Stepping.{IsStepOf, Takes, CountsStep, nodes_of_step, quiet_parts};
 ghost use Rattle.cpp_link.specs.View.{Surrounds, cpp_view};
@@ -109,6 +110,7 @@ impl Linked {
         requires kept { IsKeptThere (length self.old.nodes.nodes) kept }
         requires there { AreCandidatesThere (length self.old.nodes.nodes) self.old.candidates.items }
         ensures grows { Grows symbol.now self.old.nodes self.new.nodes 1 }
+        ensures more { OnOk result (length self.new.nodes.nodes ≡ length self.old.nodes.nodes + 1) }
         ensures thunks { self.new.nodes.thunks ≡ self.old.nodes.thunks }
         ensures tree { IfOk result (λ number. tree_at (trees_in symbol.now self.new.nodes) number ≡ tree_of_node symbol.now self.old.nodes node) }
         ensures below { IfOk result (λ number. number < length self.new.nodes.nodes) }
@@ -158,6 +160,7 @@ impl Linked {
         requires there { AreCandidatesThere (length self.old.nodes.nodes) self.old.candidates.items }
         requires parts { AreThere symbol.now (length self.old.nodes.nodes) (drop base parts.old.items) }
         ensures takes { IfOk result (λ then. Takes symbol.now self.old self.new kept base parts.old.items parts.new.items step then) }
+        ensures more { OnOk result (length self.new.nodes.nodes ≡ length self.old.nodes.nodes + nodes_of_step step) }
         ensures few { (production : Production) → IsStepOf production (length (drop base parts.old.items)) step
             → (production ≡ productions.PackArgument → drop base parts.old.items ≡ variants.Nothing ∷ [] → nodes_of_step step ≡ 0)
             → CountsStep production self.old self.new (drop base parts.old.items) (drop base parts.new.items) result }
@@ -216,6 +219,7 @@ impl Linked {
         ensures goes { GoesOn (cpp_view symbol.now) symbol.now (Surrounds symbol.now) self.old self.new frame.now parts.old.items parts.new.items result }
         ensures adds { OnOk result (Adds (cpp_view symbol.now) self.old self.new (owed_behind (cpp_view symbol.now) frame.now parts.old.items) (owed_next (cpp_view symbol.now) frame.now parts.new.items)) }
         ensures few { AddsBefore (cpp_view symbol.now) self.old self.new frame.now parts.old.items (drop frame.now.base parts.new.items ++ variants.Nothing ∷ []) result }
+        ensures makes { OnOk result (length self.new.nodes.nodes ≡ length self.old.nodes.nodes + makes_before (production_at frame.now.rule) (values_in symbol.now self.old.nodes (drop frame.now.base parts.old.items))) }
         ensures pays { OnOk result ((at : ℕ) → Pays (cpp_view symbol.now) self.old self.new at at) }
         ensures count { OnOk result (length parts.new.items ≡ length parts.old.items) }
         ensures capacity { vec_capacity parts.old ≤ vec_capacity parts.new }
@@ -246,6 +250,7 @@ impl Linked {
         ensures goes { GoesOn (cpp_view symbol.now) symbol.now (Surrounds symbol.now) self.old self.new frame.now parts.old.items parts.new.items result }
         ensures adds { OnOk result (Adds (cpp_view symbol.now) self.old self.new (owed_behind (cpp_view symbol.now) frame.now parts.old.items) (owed_next (cpp_view symbol.now) frame.now parts.new.items)) }
         ensures few { AddsBefore (cpp_view symbol.now) self.old self.new frame.now parts.old.items (drop frame.now.base parts.new.items ++ variants.Nothing ∷ []) result }
+        ensures makes { OnOk result (length self.new.nodes.nodes ≡ length self.old.nodes.nodes + makes_before (production_at frame.now.rule) (values_in symbol.now self.old.nodes (drop frame.now.base parts.old.items))) }
         ensures pays { OnOk result ((at : ℕ) → Pays (cpp_view symbol.now) self.old self.new at at) }
         ensures count { OnOk result (length parts.new.items ≡ length parts.old.items) }
         ensures capacity { vec_capacity parts.old ≤ vec_capacity parts.new }
@@ -271,6 +276,7 @@ impl Linked {
         ensures goes { GoesOn (cpp_view symbol.now) symbol.now (Surrounds symbol.now) self.old self.new frame.now parts.old.items parts.new.items result }
         ensures adds { OnOk result (Adds (cpp_view symbol.now) self.old self.new (owed_behind (cpp_view symbol.now) frame.now parts.old.items) (owed_next (cpp_view symbol.now) frame.now parts.new.items)) }
         ensures few { AddsBefore (cpp_view symbol.now) self.old self.new frame.now parts.old.items (drop frame.now.base parts.new.items ++ variants.Nothing ∷ []) result }
+        ensures makes { OnOk result (length self.new.nodes.nodes ≡ length self.old.nodes.nodes + makes_before (production_at frame.now.rule) (values_in symbol.now self.old.nodes (drop frame.now.base parts.old.items))) }
         ensures pays { OnOk result ((at : ℕ) → Pays (cpp_view symbol.now) self.old self.new at at) }
         ensures count { OnOk result (length parts.new.items ≡ length parts.old.items) }
         ensures capacity { vec_capacity parts.old ≤ vec_capacity parts.new }
@@ -311,6 +317,7 @@ impl Linked {
         ensures goes { GoesOn (cpp_view symbol.now) symbol.now (Surrounds symbol.now) self.old self.new frame.now parts.old.items parts.new.items result }
         ensures adds { OnOk result (Adds (cpp_view symbol.now) self.old self.new (owed_behind (cpp_view symbol.now) frame.now parts.old.items) (owed_next (cpp_view symbol.now) frame.now parts.new.items)) }
         ensures few { AddsBefore (cpp_view symbol.now) self.old self.new frame.now parts.old.items (drop frame.now.base parts.new.items ++ variants.Nothing ∷ []) result }
+        ensures makes { OnOk result (length self.new.nodes.nodes ≡ length self.old.nodes.nodes + makes_before (production_at frame.now.rule) (values_in symbol.now self.old.nodes (drop frame.now.base parts.old.items))) }
         ensures pays { OnOk result ((at : ℕ) → Pays (cpp_view symbol.now) self.old self.new at at) }
         ensures count { OnOk result (length parts.new.items ≡ length parts.old.items) }
         ensures capacity { vec_capacity parts.old ≤ vec_capacity parts.new }

@@ -1,6 +1,6 @@
 // A rule closes over all its parts.
 
-ghost use Rattle.std.specs.Prelude.{◌≡◌, ℕ, ◌+◌, ◌-◌, ◌<◌, ◌≤◌, ◌^◌, MatchOption, length, slice_get, slice_index, true, Ok, IfOk, IfErr, IfSome, OnOk, vec_capacity};
+ghost use Rattle.std.specs.Prelude.{◌≡◌, ℕ, ◌+◌, ◌-◌, ◌<◌, ◌≤◌, ◌^◌, MatchOption, length, drop, slice_get, slice_index, true, Ok, IfOk, IfErr, IfSome, OnOk, vec_capacity};
 ghost use Rattle.sym_core.specs.Number.{FitsSymbol};
 ghost use Rattle.sym_core.specs.Value.{counted_value};
 ghost use Rattle.sym_core.specs.declared.NumberKind.TheVariants as kinds;
@@ -17,6 +17,7 @@ ghost use Rattle.cpp_tree.specs.Nodes.{bytes_at, IsWithin};
 ghost use Rattle.cpp_grammar.specs.Unfolding.{production_at};
 ghost use Rattle.cpp_link.specs.Grows.{HasPlace};
 ghost use Rattle.cpp_link.specs.Making.{state_of};
+ghost use Rattle.cpp_link.specs.NodeCount.{makes_at_end};
 ghost use Rattle.cpp_link.specs.Closes.{ends_of};
 ghost use Rattle.cpp_link.specs.Parts.{trees_in, value_in, values_in, packs_of, around_of, candidates_of, IsThere, AreThere, IsKeptThere, AreCandidatesThere};
 ghost use Rattle.cpp_link.specs.Reads.{maybe_candidate};
@@ -114,6 +115,7 @@ impl Linked {
         ensures there { IfOk result (λ made. IsThere symbol.now (length self.new.nodes.nodes) made) }
         ensures grows { OnOk result (GoesOn symbol.now self.old self.new) }
         ensures few { length self.new.nodes.nodes ≤ length self.old.nodes.nodes + ends_of production parts.now }
+        ensures makes { OnOk result (length self.new.nodes.nodes ≡ length self.old.nodes.nodes + makes_at_end production (values_in symbol.now self.old.nodes parts.now)) }
         ensures paid { OnOk result (IsPaid self.new) }
         ensures whole { OnOk result (IsWhole symbol.now self.new) }
         ensures memory { IfErr result (λ e. e ≡ refusals.Memory) }
@@ -155,6 +157,7 @@ impl Linked {
         ensures there { IfOk result (λ made. IsThere symbol.now (length self.new.nodes.nodes) made) }
         ensures grows { OnOk result (GoesOn symbol.now self.old self.new) }
         ensures few { length self.new.nodes.nodes ≤ length self.old.nodes.nodes + ends_of production parts.now }
+        ensures makes { OnOk result (length self.new.nodes.nodes ≡ length self.old.nodes.nodes + makes_at_end production (values_in symbol.now self.old.nodes parts.now)) }
         ensures paid { OnOk result (IsPaid self.new) }
         ensures whole { OnOk result (IsWhole symbol.now self.new) }
     {
@@ -185,6 +188,7 @@ impl Linked {
         ensures closes { ClosesAll (cpp_view symbol.now) symbol.now self.old self.new frame.now parts.old.items parts.new.items result }
         ensures adds { OnOk result (Adds (cpp_view symbol.now) self.old self.new (owed_behind (cpp_view symbol.now) frame.now parts.old.items) 0) }
         ensures few { AddsFew (cpp_view symbol.now) self.old self.new frame.now parts.old.items }
+        ensures makes { OnOk result (length self.new.nodes.nodes ≡ length self.old.nodes.nodes + makes_at_end (production_at frame.now.rule) (values_in symbol.now self.old.nodes (drop frame.now.base parts.old.items))) }
         ensures pays { OnOk result ((at : ℕ) → Pays (cpp_view symbol.now) self.old self.new at at) }
         ensures capacity { vec_capacity parts.old ≤ vec_capacity parts.new }
     {
@@ -220,6 +224,7 @@ impl Linked {
         ensures closes { ClosesAll (cpp_view symbol.now) symbol.now self.old self.new frame.now parts.old.items parts.new.items result }
         ensures adds { OnOk result (Adds (cpp_view symbol.now) self.old self.new (owed_behind (cpp_view symbol.now) frame.now parts.old.items) 0) }
         ensures few { AddsFew (cpp_view symbol.now) self.old self.new frame.now parts.old.items }
+        ensures makes { OnOk result (length self.new.nodes.nodes ≡ length self.old.nodes.nodes + makes_at_end (production_at frame.now.rule) (values_in symbol.now self.old.nodes (drop frame.now.base parts.old.items))) }
         ensures pays { OnOk result ((at : ℕ) → Pays (cpp_view symbol.now) self.old self.new at at) }
         ensures capacity { vec_capacity parts.old ≤ vec_capacity parts.new }
     {
@@ -246,6 +251,7 @@ impl Linked {
         ensures closes { ClosesAll (cpp_view symbol.now) symbol.now self.old self.new frame.now parts.old.items parts.new.items result }
         ensures adds { OnOk result (Adds (cpp_view symbol.now) self.old self.new (owed_behind (cpp_view symbol.now) frame.now parts.old.items) 0) }
         ensures few { AddsFew (cpp_view symbol.now) self.old self.new frame.now parts.old.items }
+        ensures makes { OnOk result (length self.new.nodes.nodes ≡ length self.old.nodes.nodes + makes_at_end (production_at frame.now.rule) (values_in symbol.now self.old.nodes (drop frame.now.base parts.old.items))) }
         ensures pays { OnOk result ((at : ℕ) → Pays (cpp_view symbol.now) self.old self.new at at) }
         ensures capacity { vec_capacity parts.old ≤ vec_capacity parts.new }
     {

@@ -5,11 +5,13 @@ ghost use Rattle.std.specs.Prelude.{◌≡◌, ℕ, ◌+◌, ◌-◌, ◌<◌, �
 ghost use Rattle.sym_link.specs.Driving.{AreAll};
 ghost use Rattle.sym_link.specs.Linking.{HasRoom, IsOpen, OpensRoot, Opens, TakesToken, ClosesRule, Adds, AddsFew, Pays, KeepsRoom, NeedsRoom, TokenNeedsRoom, owed_behind, owed_next};
 ghost use Rattle.sym_link.specs.Room.{KeepRoom, OnlyForRoom};
+ghost use Rattle.sym_link.specs.Tally.{Tally};
 ghost use Rattle.sym_link.specs.Threads.{IsOpenAt, GoesOn, BeginsIn, ClosesAll, IsTaken, IsAhead, IsAheadToken, IsCount, AddsBefore};
 ghost use Rattle.cpp_link.specs.declared.part.Part.TheVariants as variants;
 ghost use Rattle.cpp_term.specs.Values.{Value, State, Around};
-ghost use Rattle.cpp_link.specs.View.{Surrounds, cpp_view};
-ghost use Rattle.cpp_link.specs.ViewLaws.{cpp_laws, cpp_threads};
+ghost use Rattle.cpp_link.specs.View.{Surrounds};
+ghost use Rattle.cpp_link.specs.NodeCount.{cpp_counted};
+ghost use Rattle.cpp_link.specs.ViewLaws.{counted_laws, counted_threads};
 
 use crate::dispatch::production_of;
 use crate::linked::Linked;
@@ -39,11 +41,11 @@ impl Threading for Linked {
 
     ghost Value = { Value };
 
-    ghost State = { State };
+    ghost State = { Tally State };
 
     ghost Context = { Around };
 
-    ghost view = { cpp_view };
+    ghost view = { cpp_counted };
 
     ghost surrounds = { Surrounds };
 
@@ -51,7 +53,7 @@ impl Threading for Linked {
 
     fn nothing(&self) -> Part
         ensures is { result ≡ variants.Nothing }
-        ensures stands { (s : List ℕ) → AreAll ((cpp_view s).IsPart self.now) (result ∷ []) (cpp_view s).reading.rowless }
+        ensures stands { (s : List ℕ) → AreAll ((cpp_counted s).IsPart self.now) (result ∷ []) (cpp_counted s).reading.rowless }
     {
         Part::Nothing
     }
@@ -62,16 +64,16 @@ impl Threading for Linked {
         frame: &Frame<Kept>,
         parts: &mut Vec<Part>,
     ) -> Result<Kept, Refusal>
-        requires room { HasRoom (cpp_view symbol.now) symbol.now self.old (owed_behind (cpp_view symbol.now) frame.now parts.old.items) }
-        requires open { IsOpenAt (cpp_view symbol.now) symbol.now self.old frame.now parts.old.items }
+        requires room { HasRoom (cpp_counted symbol.now) symbol.now self.old (owed_behind (cpp_counted symbol.now) frame.now parts.old.items) }
+        requires open { IsOpenAt (cpp_counted symbol.now) symbol.now self.old frame.now parts.old.items }
         requires base { frame.now.base ≤ length parts.old.items }
-        ensures goes { GoesOn (cpp_view symbol.now) symbol.now (Surrounds symbol.now) self.old self.new frame.now parts.old.items parts.new.items result }
-        ensures adds { OnOk result (Adds (cpp_view symbol.now) self.old self.new (owed_behind (cpp_view symbol.now) frame.now parts.old.items) (owed_next (cpp_view symbol.now) frame.now parts.new.items)) }
-        ensures few { AddsBefore (cpp_view symbol.now) self.old self.new frame.now parts.old.items (drop frame.now.base parts.new.items ++ variants.Nothing ∷ []) result }
-        ensures pays { OnOk result ((at : ℕ) → Pays (cpp_view symbol.now) self.old self.new at at) }
+        ensures goes { GoesOn (cpp_counted symbol.now) symbol.now (Surrounds symbol.now) self.old self.new frame.now parts.old.items parts.new.items result }
+        ensures adds { OnOk result (Adds (cpp_counted symbol.now) self.old self.new (owed_behind (cpp_counted symbol.now) frame.now parts.old.items) (owed_next (cpp_counted symbol.now) frame.now parts.new.items)) }
+        ensures few { AddsBefore (cpp_counted symbol.now) self.old self.new frame.now parts.old.items (drop frame.now.base parts.new.items ++ variants.Nothing ∷ []) result }
+        ensures pays { OnOk result ((at : ℕ) → Pays (cpp_counted symbol.now) self.old self.new at at) }
         ensures count { OnOk result (length parts.new.items ≡ length parts.old.items) }
-        ensures keeps { KeepsRoom (cpp_view symbol.now) self.old self.new parts.old parts.new }
-        ensures full { NeedsRoom (cpp_view symbol.now) self.old self.new parts.old parts.new result }
+        ensures keeps { KeepsRoom (cpp_counted symbol.now) self.old self.new parts.old parts.new }
+        ensures full { NeedsRoom (cpp_counted symbol.now) self.old self.new parts.old parts.new result }
     {
         self.go_on(symbol, frame, parts)
     }
@@ -85,12 +87,12 @@ impl Threading for Linked {
     ) -> Result<Kept, Refusal>
         requires place { row.from < length symbol.now }
         requires end { row.end ≤ length rows.now }
-        ensures begins { BeginsIn (cpp_view symbol.now) symbol.now (Surrounds symbol.now) rows.now self.old self.new context row result }
-        ensures adds { OnOk result (Adds (cpp_view symbol.now) self.old self.new 0 0) }
-        ensures few { OnErr result ((cpp_view symbol.now).size self.new ≤ (cpp_view symbol.now).size self.old) }
-        ensures pays { OnOk result ((at : ℕ) → Pays (cpp_view symbol.now) self.old self.new at at) }
-        ensures keeps { KeepRoom ((cpp_view symbol.now).lists self.old) ((cpp_view symbol.now).lists self.new) }
-        ensures full { OnlyForRoom ⊥ ((cpp_view symbol.now).lists self.old) ((cpp_view symbol.now).lists self.new) result }
+        ensures begins { BeginsIn (cpp_counted symbol.now) symbol.now (Surrounds symbol.now) rows.now self.old self.new context row result }
+        ensures adds { OnOk result (Adds (cpp_counted symbol.now) self.old self.new 0 0) }
+        ensures few { OnErr result ((cpp_counted symbol.now).size self.new ≤ (cpp_counted symbol.now).size self.old) }
+        ensures pays { OnOk result ((at : ℕ) → Pays (cpp_counted symbol.now) self.old self.new at at) }
+        ensures keeps { KeepRoom ((cpp_counted symbol.now).lists self.old) ((cpp_counted symbol.now).lists self.new) }
+        ensures full { OnlyForRoom ⊥ ((cpp_counted symbol.now).lists self.old) ((cpp_counted symbol.now).lists self.new) result }
     {
         self.begin_rule(symbol, rows, context, row)
     }
@@ -102,16 +104,16 @@ impl Threading for Linked {
         frame: &Frame<Kept>,
         parts: &mut Vec<Part>,
     ) -> Result<(), Refusal>
-        requires room { HasRoom (cpp_view symbol.now) symbol.now self.old (owed_behind (cpp_view symbol.now) frame.now parts.old.items) }
-        requires open { IsOpenAt (cpp_view symbol.now) symbol.now self.old frame.now parts.old.items }
+        requires room { HasRoom (cpp_counted symbol.now) symbol.now self.old (owed_behind (cpp_counted symbol.now) frame.now parts.old.items) }
+        requires open { IsOpenAt (cpp_counted symbol.now) symbol.now self.old frame.now parts.old.items }
         requires base { frame.now.base ≤ length parts.old.items }
         requires place { frame.now.place < length symbol.now }
-        ensures closes { ClosesAll (cpp_view symbol.now) symbol.now self.old self.new frame.now parts.old.items parts.new.items result }
-        ensures adds { OnOk result (Adds (cpp_view symbol.now) self.old self.new (owed_behind (cpp_view symbol.now) frame.now parts.old.items) 0) }
-        ensures few { AddsFew (cpp_view symbol.now) self.old self.new frame.now parts.old.items }
-        ensures pays { OnOk result ((at : ℕ) → Pays (cpp_view symbol.now) self.old self.new at at) }
-        ensures keeps { KeepsRoom (cpp_view symbol.now) self.old self.new parts.old parts.new }
-        ensures full { NeedsRoom (cpp_view symbol.now) self.old self.new parts.old parts.new result }
+        ensures closes { ClosesAll (cpp_counted symbol.now) symbol.now self.old self.new frame.now parts.old.items parts.new.items result }
+        ensures adds { OnOk result (Adds (cpp_counted symbol.now) self.old self.new (owed_behind (cpp_counted symbol.now) frame.now parts.old.items) 0) }
+        ensures few { AddsFew (cpp_counted symbol.now) self.old self.new frame.now parts.old.items }
+        ensures pays { OnOk result ((at : ℕ) → Pays (cpp_counted symbol.now) self.old self.new at at) }
+        ensures keeps { KeepsRoom (cpp_counted symbol.now) self.old self.new parts.old parts.new }
+        ensures full { NeedsRoom (cpp_counted symbol.now) self.old self.new parts.old parts.new result }
     {
         self.finish_rule(symbol, frame, parts)
     }
@@ -125,7 +127,7 @@ impl Threading for Linked {
         row: Row,
     ) -> usize
         requires place { row.from < length symbol.now }
-        ensures { IsAhead (cpp_view symbol.now) symbol.now rows.now self.now frame.now held row result }
+        ensures { IsAhead (cpp_counted symbol.now) symbol.now rows.now self.now frame.now held row result }
     {
         self.next_rule(symbol, rows, frame, held, row)
     }
@@ -133,29 +135,29 @@ impl Threading for Linked {
     fn text(&mut self, symbol: &[u8], row: Row) -> Result<Part, Refusal>
         requires from { row.from ≤ row.to }
         requires to { row.to ≤ length symbol.now }
-        ensures taken { IsTaken (cpp_view symbol.now) symbol.now self.old self.new row result }
-        ensures adds { OnOk result (Adds (cpp_view symbol.now) self.old self.new 0 0) }
-        ensures few { OnErr result ((cpp_view symbol.now).size self.new ≤ (cpp_view symbol.now).size self.old) }
-        ensures pays { OnOk result ((at : ℕ) → Pays (cpp_view symbol.now) self.old self.new at at) }
-        ensures keeps { KeepRoom ((cpp_view symbol.now).lists self.old) ((cpp_view symbol.now).lists self.new) }
-        ensures full { OnlyForRoom ⊥ ((cpp_view symbol.now).lists self.old) ((cpp_view symbol.now).lists self.new) result }
+        ensures taken { IsTaken (cpp_counted symbol.now) symbol.now self.old self.new row result }
+        ensures adds { OnOk result (Adds (cpp_counted symbol.now) self.old self.new 0 0) }
+        ensures few { OnErr result ((cpp_counted symbol.now).size self.new ≤ (cpp_counted symbol.now).size self.old) }
+        ensures pays { OnOk result ((at : ℕ) → Pays (cpp_counted symbol.now) self.old self.new at at) }
+        ensures keeps { KeepRoom ((cpp_counted symbol.now).lists self.old) ((cpp_counted symbol.now).lists self.new) }
+        ensures full { OnlyForRoom ⊥ ((cpp_counted symbol.now).lists self.old) ((cpp_counted symbol.now).lists self.new) result }
     {
         Ok(self.text_at(symbol, row))
     }
 
     fn ahead_token(&self, symbol: &[u8], frame: &Frame<Kept>, held: usize) -> usize
-        ensures { IsAheadToken (cpp_view symbol.now) symbol.now self.now frame.now held result }
+        ensures { IsAheadToken (cpp_counted symbol.now) symbol.now self.now frame.now held result }
     {
         self.next_token(symbol, frame, held)
     }
 
     fn count(&self, symbol: &[u8], frame: &Frame<Kept>, held: usize) -> usize
-        ensures { IsCount (cpp_view symbol.now) symbol.now self.now frame.now held result }
+        ensures { IsCount (cpp_counted symbol.now) symbol.now self.now frame.now held result }
     {
         self.count_parts(symbol, frame, held)
     }
 
-    ghost laws = { cpp_threads };
+    ghost laws = { counted_threads };
 }
 
 impl Linking for Linked {
@@ -165,21 +167,21 @@ impl Linking for Linked {
 
     ghost Value = { Value };
 
-    ghost State = { State };
+    ghost State = { Tally State };
 
     ghost Context = { Around };
 
-    ghost view = { cpp_view };
+    ghost view = { cpp_counted };
 
     fn root(&mut self, symbol: &[u8], rows: &[Row], row: Row) -> Result<Kept, Refusal>
-        requires room { HasRoom (cpp_view symbol.now) symbol.now self.old 0 }
+        requires room { HasRoom (cpp_counted symbol.now) symbol.now self.old 0 }
         requires end { row.end ≤ length rows.now }
-        ensures opens { OpensRoot (cpp_view symbol.now) symbol.now rows.now self.old self.new row result }
-        ensures adds { OnOk result (Adds (cpp_view symbol.now) self.old self.new 0 0) }
-        ensures few { OnErr result ((cpp_view symbol.now).size self.new ≤ (cpp_view symbol.now).size self.old) }
-        ensures pays { OnOk result (Pays (cpp_view symbol.now) self.old self.new 0 0) }
-        ensures keeps { KeepRoom ((cpp_view symbol.now).lists self.old) ((cpp_view symbol.now).lists self.new) }
-        ensures full { OnlyForRoom ⊥ ((cpp_view symbol.now).lists self.old) ((cpp_view symbol.now).lists self.new) result }
+        ensures opens { OpensRoot (cpp_counted symbol.now) symbol.now rows.now self.old self.new row result }
+        ensures adds { OnOk result (Adds (cpp_counted symbol.now) self.old self.new 0 0) }
+        ensures few { OnErr result ((cpp_counted symbol.now).size self.new ≤ (cpp_counted symbol.now).size self.old) }
+        ensures pays { OnOk result (Pays (cpp_counted symbol.now) self.old self.new 0 0) }
+        ensures keeps { KeepRoom ((cpp_counted symbol.now).lists self.old) ((cpp_counted symbol.now).lists self.new) }
+        ensures full { OnlyForRoom ⊥ ((cpp_counted symbol.now).lists self.old) ((cpp_counted symbol.now).lists self.new) result }
     {
         match production_of(row.rule) {
             Production::Symbol => Ok(OUTSIDE),
@@ -196,17 +198,17 @@ impl Linking for Linked {
         parts: &mut Vec<Part>,
         row: Row,
     ) -> Result<Kept, Refusal>
-        requires room { HasRoom (cpp_view symbol.now) symbol.now self.old (owed_behind (cpp_view symbol.now) frame.now parts.old.items) }
-        requires open { IsOpen (cpp_view symbol.now) symbol.now self.old frame.now parts.old.items }
+        requires room { HasRoom (cpp_counted symbol.now) symbol.now self.old (owed_behind (cpp_counted symbol.now) frame.now parts.old.items) }
+        requires open { IsOpen (cpp_counted symbol.now) symbol.now self.old frame.now parts.old.items }
         requires base { frame.now.base ≤ length parts.old.items }
         requires place { row.from < length symbol.now }
         requires end { row.end ≤ length rows.now }
-        ensures opens { Opens (cpp_view symbol.now) symbol.now rows.now self.old self.new frame.now parts.old.items parts.new.items row result }
-        ensures adds { OnOk result (Adds (cpp_view symbol.now) self.old self.new (owed_behind (cpp_view symbol.now) frame.now parts.old.items) (owed_next (cpp_view symbol.now) frame.now parts.new.items)) }
-        ensures few { OnErr result (AddsFew (cpp_view symbol.now) self.old self.new frame.now parts.old.items) }
-        ensures pays { OnOk result ((at : ℕ) → at ≤ row.from → Pays (cpp_view symbol.now) self.old self.new at row.from) }
-        ensures keeps { KeepsRoom (cpp_view symbol.now) self.old self.new parts.old parts.new }
-        ensures full { NeedsRoom (cpp_view symbol.now) self.old self.new parts.old parts.new result }
+        ensures opens { Opens (cpp_counted symbol.now) symbol.now rows.now self.old self.new frame.now parts.old.items parts.new.items row result }
+        ensures adds { OnOk result (Adds (cpp_counted symbol.now) self.old self.new (owed_behind (cpp_counted symbol.now) frame.now parts.old.items) (owed_next (cpp_counted symbol.now) frame.now parts.new.items)) }
+        ensures few { OnErr result (AddsFew (cpp_counted symbol.now) self.old self.new frame.now parts.old.items) }
+        ensures pays { OnOk result ((at : ℕ) → at ≤ row.from → Pays (cpp_counted symbol.now) self.old self.new at row.from) }
+        ensures keeps { KeepsRoom (cpp_counted symbol.now) self.old self.new parts.old parts.new }
+        ensures full { NeedsRoom (cpp_counted symbol.now) self.old self.new parts.old parts.new result }
     {
         enter_by(self, symbol, rows, frame, parts, row)
     }
@@ -219,18 +221,18 @@ impl Linking for Linked {
         parts: &mut Vec<Part>,
         row: Row,
     ) -> Result<(), Refusal>
-        requires room { HasRoom (cpp_view symbol.now) symbol.now self.old (owed_behind (cpp_view symbol.now) frame.now parts.old.items) }
-        requires open { IsOpen (cpp_view symbol.now) symbol.now self.old frame.now parts.old.items }
+        requires room { HasRoom (cpp_counted symbol.now) symbol.now self.old (owed_behind (cpp_counted symbol.now) frame.now parts.old.items) }
+        requires open { IsOpen (cpp_counted symbol.now) symbol.now self.old frame.now parts.old.items }
         requires base { frame.now.base ≤ length parts.old.items }
         requires from { row.from ≤ row.to }
         requires to { row.to ≤ length symbol.now }
-        ensures takes { TakesToken (cpp_view symbol.now) symbol.now self.old self.new frame.now parts.old.items parts.new.items row result }
-        ensures adds { OnOk result (Adds (cpp_view symbol.now) self.old self.new (owed_behind (cpp_view symbol.now) frame.now parts.old.items) (owed_behind (cpp_view symbol.now) frame.now parts.new.items)) }
-        ensures few { OnErr result (AddsFew (cpp_view symbol.now) self.old self.new frame.now parts.old.items) }
+        ensures takes { TakesToken (cpp_counted symbol.now) symbol.now self.old self.new frame.now parts.old.items parts.new.items row result }
+        ensures adds { OnOk result (Adds (cpp_counted symbol.now) self.old self.new (owed_behind (cpp_counted symbol.now) frame.now parts.old.items) (owed_behind (cpp_counted symbol.now) frame.now parts.new.items)) }
+        ensures few { OnErr result (AddsFew (cpp_counted symbol.now) self.old self.new frame.now parts.old.items) }
         ensures pays { OnOk result ((at : ℕ) → at ≤ row.from → (length parts.old.items ≡ frame.now.base → at ≤ frame.now.place)
-            → Pays (cpp_view symbol.now) self.old self.new at row.to) }
-        ensures keeps { KeepsRoom (cpp_view symbol.now) self.old self.new parts.old parts.new }
-        ensures full { TokenNeedsRoom (cpp_view symbol.now) symbol.now self.old self.new frame.now parts.old parts.new row result }
+            → Pays (cpp_counted symbol.now) self.old self.new at row.to) }
+        ensures keeps { KeepsRoom (cpp_counted symbol.now) self.old self.new parts.old parts.new }
+        ensures full { TokenNeedsRoom (cpp_counted symbol.now) symbol.now self.old self.new frame.now parts.old parts.new row result }
     {
         token_by(self, symbol, frame, parts, row)?;
         Ok(())
@@ -243,19 +245,19 @@ impl Linking for Linked {
         frame: &Frame<Kept>,
         parts: &mut Vec<Part>,
     ) -> Result<(), Refusal>
-        requires room { HasRoom (cpp_view symbol.now) symbol.now self.old (owed_behind (cpp_view symbol.now) frame.now parts.old.items) }
-        requires open { IsOpen (cpp_view symbol.now) symbol.now self.old frame.now parts.old.items }
+        requires room { HasRoom (cpp_counted symbol.now) symbol.now self.old (owed_behind (cpp_counted symbol.now) frame.now parts.old.items) }
+        requires open { IsOpen (cpp_counted symbol.now) symbol.now self.old frame.now parts.old.items }
         requires base { frame.now.base ≤ length parts.old.items }
         requires place { frame.now.place < length symbol.now }
-        ensures closes { ClosesRule (cpp_view symbol.now) symbol.now self.old self.new frame.now parts.old.items parts.new.items result }
-        ensures adds { OnOk result (Adds (cpp_view symbol.now) self.old self.new (owed_behind (cpp_view symbol.now) frame.now parts.old.items) 0) }
-        ensures few { AddsFew (cpp_view symbol.now) self.old self.new frame.now parts.old.items }
-        ensures pays { OnOk result ((at : ℕ) → Pays (cpp_view symbol.now) self.old self.new at at) }
-        ensures keeps { KeepsRoom (cpp_view symbol.now) self.old self.new parts.old parts.new }
-        ensures full { NeedsRoom (cpp_view symbol.now) self.old self.new parts.old parts.new result }
+        ensures closes { ClosesRule (cpp_counted symbol.now) symbol.now self.old self.new frame.now parts.old.items parts.new.items result }
+        ensures adds { OnOk result (Adds (cpp_counted symbol.now) self.old self.new (owed_behind (cpp_counted symbol.now) frame.now parts.old.items) 0) }
+        ensures few { AddsFew (cpp_counted symbol.now) self.old self.new frame.now parts.old.items }
+        ensures pays { OnOk result ((at : ℕ) → Pays (cpp_counted symbol.now) self.old self.new at at) }
+        ensures keeps { KeepsRoom (cpp_counted symbol.now) self.old self.new parts.old parts.new }
+        ensures full { NeedsRoom (cpp_counted symbol.now) self.old self.new parts.old parts.new result }
     {
         close_by(self, symbol, frame, parts)
     }
 
-    ghost laws = { cpp_laws };
+    ghost laws = { counted_laws };
 }

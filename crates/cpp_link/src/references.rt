@@ -11,6 +11,7 @@ ghost use Rattle.cpp_term.specs.References.{with_packs, substituted};
 ghost use Rattle.cpp_term.specs.Scope.{is_open, pack_length, count, arguments_of, length_if_pack};
 ghost use Rattle.cpp_tree.specs.Nodes.{over, tree_at, bytes_at, IsWithin, arguments_are, IsArgumentsBelow, IsTable};
 ghost use Rattle.cpp_link.specs.Parts.{trees_in, is_lambda, around_of, IsKeptThere, IsStepThere};
+ghost use Rattle.cpp_link.specs.Stepping.{nodes_of_step};
 ghost use Rattle.cpp_link.specs.Reads.{packs_read, maybe_candidate, node_read, elements_of, goes_on};
 
 use crate::linked::Linked;
@@ -185,6 +186,7 @@ impl Linked {
             ≡ goes_on symbol.now self.now.nodes kept (v ∷ []) cs self.now.packs step) }
         ensures refused { IfErr result (λ e. (cs : List values.Candidate) → Fails e (parameter_so_far (around_of (trees_in symbol.now self.now.nodes) kept) place (counted_value kinds.Decimal (bytes_at symbol.now digits)) [] (record { candidates = cs; packs = self.now.packs }))) }
         ensures there { IfOk result (λ step. IsStepThere symbol.now (length self.now.nodes.thunks) (length self.now.nodes.nodes) step) }
+        ensures one { IfOk result (λ step. nodes_of_step step ≡ 1) }
     {
         let Some(scope) = kept.in_scope() else {
             return Err(Refusal::BadReference { at: place });

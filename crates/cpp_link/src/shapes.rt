@@ -14,6 +14,7 @@ ghost use Rattle.cpp_tree.specs.declared.node.Thunk as thunks;
 ghost use Rattle.cpp_tree.specs.Nodes.{over, tree_at, IsTable, IsSpan, IsPieceBelow, IsBelow};
 ghost use Rattle.cpp_link.specs.Closes.{name_closes};
 ghost use Rattle.cpp_link.specs.Making.{nodes_of_meant};
+ghost use Rattle.cpp_link.specs.NodeCount.{name_at_end, lambda_at_end};
 ghost use Rattle.cpp_link.specs.Parts.{trees_in, tree_of_node, value_of, value_in, values_in, prefix_of, meant_value, IsThere, AreThere, IsMeantThere, IsPrefixThere};
 
 use crate::linked::Linked;
@@ -72,7 +73,7 @@ impl Linked {
     }
 
     /// A name, with arguments where there are some.
-    #[tactic(auto, unfolding(cpp_term::specs::Between::applied, crate::specs::Parts::meant_value, crate::specs::Parts::value_of, cpp_tree::specs::Nodes::tree_of, crate::specs::Making::nodes_of_meant))]
+    #[tactic(auto, unfolding(cpp_term::specs::Between::applied, crate::specs::Parts::meant_value, crate::specs::Parts::value_of, cpp_tree::specs::Nodes::tree_of, crate::specs::Making::nodes_of_meant, crate::specs::NodeCount::name_at_end, crate::specs::NodeCount::one_if_there))]
     pub fn applied(&self, symbol: &[u8], parts: &[Part], listed: bool) -> Meant
         requires table { IsTable (over symbol.now self.now.nodes) }
         requires there { AreThere symbol.now (length self.now.nodes.nodes) parts.now }
@@ -80,6 +81,7 @@ impl Linked {
         ensures there { IsMeantThere symbol.now (length self.now.nodes.thunks) (length self.now.nodes.nodes) result }
         ensures nodes { nodes_of_meant result ≤ 1 }
         ensures named { nodes_of_meant result ≤ name_closes parts.now }
+        ensures makes { nodes_of_meant result ≡ name_at_end (values_in symbol.now self.now.nodes parts.now) }
     {
         let name = self.tree(symbol, parts, 0);
         if self.there(symbol, parts, 1) {
@@ -117,7 +119,7 @@ impl Linked {
         requires there { AreThere symbol.now (length self.now.nodes.nodes) parts.now }
         ensures is { meant_value symbol.now self.now.nodes result ≡ listed_value (reference_to byte (part (values_in symbol.now self.now.nodes parts.now) 0)) }
         ensures there { IsMeantThere symbol.now (length self.now.nodes.thunks) (length self.now.nodes.nodes) result }
-        ensures nodes { nodes_of_meant result ≤ 1 }
+        ensures nodes { nodes_of_meant result ≡ 1 }
     {
         let inner = self.tree(symbol, parts, 0);
         if byte == b'R' {
@@ -160,13 +162,14 @@ impl Linked {
     /// # Errors
     ///
     /// `Memory` where its number is past 64 bits, which is refused where the lambda begins.
-    #[tactic(auto, unfolding(crate::specs::Parts::meant_value, crate::specs::Parts::value_of, cpp_tree::specs::Nodes::piece_of, cpp_term::specs::Meaning::parameters, crate::specs::Making::nodes_of_meant))]
+    #[tactic(auto, unfolding(crate::specs::Parts::meant_value, crate::specs::Parts::value_of, cpp_tree::specs::Nodes::piece_of, cpp_term::specs::Meaning::parameters, crate::specs::Making::nodes_of_meant, crate::specs::NodeCount::lambda_at_end))]
     pub fn lambda(&self, symbol: &[u8], parts: &[Part]) -> Result<Meant, Refusal>
         requires table { IsTable (over symbol.now self.now.nodes) }
         requires there { AreThere symbol.now (length self.now.nodes.nodes) parts.now }
         ensures is { IfOk result (λ meant. meant_value symbol.now self.now.nodes meant ≡ values.piece (term.lambda (parameters (term.list (tree_of (part (values_in symbol.now self.now.nodes parts.now) 0)) (no_items (part (values_in symbol.now self.now.nodes parts.now) 1)))) (local_number (text_of (part (values_in symbol.now self.now.nodes parts.now) 3))))) }
         ensures there { IfOk result (λ meant. IsMeantThere symbol.now (length self.now.nodes.thunks) (length self.now.nodes.nodes) meant) }
         ensures nodes { IfOk result (λ meant. nodes_of_meant meant ≤ 1) }
+        ensures makes { IfOk result (λ meant. nodes_of_meant meant ≡ lambda_at_end (values_in symbol.now self.now.nodes parts.now)) }
         ensures memory { IfErr result (λ e. e ≡ refusals.Memory) }
     {
         let number = local_number(symbol, self.text(symbol, parts, 3))?;

@@ -105,7 +105,7 @@ impl Linked {
         requires there { AreThere symbol.now (length self.now.nodes.nodes) parts.now }
         ensures is { meant_value symbol.now self.now.nodes result ≡ values.tree (encoding_of (part (values_in symbol.now self.now.nodes parts.now) 0) (no_items (part (values_in symbol.now self.now.nodes parts.now) 1))) true }
         ensures there { IsMeantThere symbol.now (length self.now.nodes.thunks) (length self.now.nodes.nodes) result }
-        ensures nodes { nodes_of_meant result ≤ 1 }
+        ensures nodes { nodes_of_meant result ≡ 1 }
     {
         let name = self.tree(symbol, parts, 0);
         let qualifiers = self.qualifiers(symbol, parts, 0);

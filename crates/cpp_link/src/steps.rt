@@ -17,6 +17,7 @@ ghost use Rattle.cpp_link.specs.Parts.{trees_in, value_in, values_in, prefix_of,
 ghost use Rattle.cpp_link.specs.Reads.{with_candidate, goes_on};
 ghost use Rattle.cpp_link.specs.Stepping.{IsStepOf, nodes_of_step};
 ghost use Rattle.cpp_link.specs.Closes.{pack_makes};
+ghost use Rattle.cpp_link.specs.NodeCount.{makes_before};
 
 use crate::linked::Linked;
 use crate::part::{Kept, Naming, Part, Scope, Step};
@@ -196,7 +197,7 @@ impl Linked {
     }
 
     /// What is done before the first part.
-    #[tactic(auto, unfolding(cpp_term::specs::Between::between, cpp_term::specs::Between::in_name, cpp_term::specs::Between::in_types, cpp_term::specs::Between::in_signature, cpp_term::specs::Between::under_expansion, cpp_term::specs::Between::after, cpp_term::specs::Between::inside, cpp_term::specs::Between::applied, cpp_term::specs::Between::piece_so_far, cpp_term::specs::Between::named_so_far, cpp_term::specs::Between::listed_so_far, cpp_term::specs::Values::tree_of, crate::specs::Parts::around_of, crate::specs::Parts::prefix_of, cpp_tree::specs::Nodes::arguments_are, cpp_tree::specs::Nodes::tree_of, cpp_tree::specs::Nodes::piece_of, crate::specs::Reads::goes_on, crate::specs::Reads::behind_first, crate::specs::Reads::named_if, crate::specs::Reads::appended_if, crate::specs::Reads::with_candidate))]
+    #[tactic(auto, unfolding(cpp_term::specs::Between::between, cpp_term::specs::Between::in_name, cpp_term::specs::Between::in_types, cpp_term::specs::Between::in_signature, cpp_term::specs::Between::under_expansion, cpp_term::specs::Between::after, cpp_term::specs::Between::inside, cpp_term::specs::Between::applied, cpp_term::specs::Between::piece_so_far, cpp_term::specs::Between::named_so_far, cpp_term::specs::Between::listed_so_far, cpp_term::specs::Values::tree_of, crate::specs::Parts::around_of, crate::specs::Parts::prefix_of, cpp_tree::specs::Nodes::arguments_are, cpp_tree::specs::Nodes::tree_of, cpp_tree::specs::Nodes::piece_of, crate::specs::Reads::goes_on, crate::specs::Reads::behind_first, crate::specs::Reads::named_if, crate::specs::Reads::appended_if, crate::specs::Reads::with_candidate, crate::specs::NodeCount::makes_before, crate::specs::Owed::made_before, crate::specs::NodeCount::std_before, crate::specs::NodeCount::one_if_there, crate::specs::NodeCount::pack_before))]
     #[inline(always)]
     fn step_first(&self, symbol: &[u8], production: Production, place: u32, kept: Kept) -> Step
         requires table { IsTable (over symbol.now self.now.nodes) }
@@ -204,6 +205,7 @@ impl Linked {
         ensures is { (cs : List values.Candidate) → between production (around_of (trees_in symbol.now self.now.nodes) kept) place [] (record { candidates = cs; packs = self.now.packs }) ≡ goes_on symbol.now self.now.nodes kept [] cs self.now.packs result }
         ensures there { IsStepThere symbol.now (length self.now.nodes.thunks) (length self.now.nodes.nodes) result }
         ensures of { (held : ℕ) → IsStepOf production held result }
+        ensures makes { nodes_of_step result ≡ makes_before production [] }
     {
         match production {
             Production::Encoding => self.go(self.in_encoding(kept, place, None)),
@@ -266,7 +268,7 @@ impl Linked {
     }
 
     /// A pack of the elements that a part is: that of none is there.
-    #[tactic(auto, unfolding(crate::specs::Closes::pack_makes, cpp_term::specs::Between::no_items, cpp_term::specs::Values::tree_of, crate::specs::Parts::value_of, cpp_tree::specs::Nodes::tree_of, crate::specs::Reads::goes_on, crate::specs::Reads::behind_first, crate::specs::Reads::named_if, crate::specs::Reads::appended_if))]
+    #[tactic(auto, unfolding(crate::specs::Closes::pack_makes, cpp_term::specs::Between::no_items, cpp_term::specs::Values::tree_of, crate::specs::Parts::value_of, cpp_tree::specs::Nodes::tree_of, crate::specs::Reads::goes_on, crate::specs::Reads::behind_first, crate::specs::Reads::named_if, crate::specs::Reads::appended_if, crate::specs::NodeCount::makes_before, crate::specs::NodeCount::pack_before, crate::specs::NodeCount::one_if_there, cpp_term::specs::Values::is_there))]
     #[inline(always)]
     fn pack(&self, symbol: &[u8], elements: Part) -> Step
         requires table { IsTable (over symbol.now self.now.nodes) }
@@ -276,6 +278,7 @@ impl Linked {
         ensures there { IsStepThere symbol.now (length self.now.nodes.thunks) (length self.now.nodes.nodes) result }
         ensures made { nodes_of_step result ≡ pack_makes elements }
         ensures of { IsStepOf productions.PackArgument 1 result }
+        ensures makes { nodes_of_step result ≡ makes_before productions.PackArgument (value_in symbol.now self.now.nodes elements ∷ []) }
     {
         match elements {
             Part::Nothing => Step::Named {
@@ -294,7 +297,7 @@ impl Linked {
     }
 
     /// What is done before the second part, of a production that is no parameter and no pack.
-    #[tactic(auto, unfolding(cpp_term::specs::Between::between, cpp_term::specs::Between::in_name, cpp_term::specs::Between::in_types, cpp_term::specs::Between::in_signature, cpp_term::specs::Between::under_expansion, cpp_term::specs::Between::after, cpp_term::specs::Between::inside, cpp_term::specs::Between::applied, cpp_term::specs::Between::piece_so_far, cpp_term::specs::Between::named_so_far, cpp_term::specs::Between::listed_so_far, cpp_term::specs::Values::tree_of, crate::specs::Parts::around_of, crate::specs::Parts::prefix_of, cpp_tree::specs::Nodes::arguments_are, cpp_tree::specs::Nodes::tree_of, cpp_tree::specs::Nodes::piece_of, crate::specs::Reads::goes_on, crate::specs::Reads::behind_first, crate::specs::Reads::named_if, crate::specs::Reads::appended_if, crate::specs::Reads::with_candidate, crate::specs::Owed::made_before))]
+    #[tactic(auto, unfolding(cpp_term::specs::Between::between, cpp_term::specs::Between::in_name, cpp_term::specs::Between::in_types, cpp_term::specs::Between::in_signature, cpp_term::specs::Between::under_expansion, cpp_term::specs::Between::after, cpp_term::specs::Between::inside, cpp_term::specs::Between::applied, cpp_term::specs::Between::piece_so_far, cpp_term::specs::Between::named_so_far, cpp_term::specs::Between::listed_so_far, cpp_term::specs::Values::tree_of, crate::specs::Parts::around_of, crate::specs::Parts::prefix_of, cpp_tree::specs::Nodes::arguments_are, cpp_tree::specs::Nodes::tree_of, cpp_tree::specs::Nodes::piece_of, crate::specs::Reads::goes_on, crate::specs::Reads::behind_first, crate::specs::Reads::named_if, crate::specs::Reads::appended_if, crate::specs::Reads::with_candidate, crate::specs::Owed::made_before, crate::specs::NodeCount::makes_before, crate::specs::Owed::made_before, crate::specs::NodeCount::std_before, crate::specs::NodeCount::one_if_there, crate::specs::NodeCount::pack_before))]
     #[inline(always)]
     fn step_second(
         &self,
@@ -313,6 +316,7 @@ impl Linked {
         ensures is { (cs : List values.Candidate) → between production (around_of (trees_in symbol.now self.now.nodes) kept) place (value_in symbol.now self.now.nodes first ∷ []) (record { candidates = cs; packs = self.now.packs }) ≡ goes_on symbol.now self.now.nodes kept (value_in symbol.now self.now.nodes first ∷ []) cs self.now.packs result }
         ensures there { IsStepThere symbol.now (length self.now.nodes.thunks) (length self.now.nodes.nodes) result }
         ensures of { IsStepOf production 1 result }
+        ensures makes { nodes_of_step result ≡ makes_before production (value_in symbol.now self.now.nodes first ∷ []) }
     {
         match production {
             Production::Special => self.go(self.in_encoding(kept, place, None)),
@@ -440,7 +444,7 @@ impl Linked {
     }
 
     /// What is done before the third part.
-    #[tactic(auto, unfolding(cpp_term::specs::Between::between, cpp_term::specs::Between::in_name, cpp_term::specs::Between::in_types, cpp_term::specs::Between::in_signature, cpp_term::specs::Between::under_expansion, cpp_term::specs::Between::after, cpp_term::specs::Between::inside, cpp_term::specs::Between::applied, cpp_term::specs::Between::piece_so_far, cpp_term::specs::Between::named_so_far, cpp_term::specs::Between::listed_so_far, cpp_term::specs::Values::tree_of, crate::specs::Parts::around_of, crate::specs::Parts::prefix_of, cpp_tree::specs::Nodes::arguments_are, cpp_tree::specs::Nodes::tree_of, cpp_tree::specs::Nodes::piece_of, crate::specs::Reads::goes_on, crate::specs::Reads::behind_first, crate::specs::Reads::named_if, crate::specs::Reads::appended_if, crate::specs::Reads::with_candidate, crate::specs::Owed::made_before))]
+    #[tactic(auto, unfolding(cpp_term::specs::Between::between, cpp_term::specs::Between::in_name, cpp_term::specs::Between::in_types, cpp_term::specs::Between::in_signature, cpp_term::specs::Between::under_expansion, cpp_term::specs::Between::after, cpp_term::specs::Between::inside, cpp_term::specs::Between::applied, cpp_term::specs::Between::piece_so_far, cpp_term::specs::Between::named_so_far, cpp_term::specs::Between::listed_so_far, cpp_term::specs::Values::tree_of, crate::specs::Parts::around_of, crate::specs::Parts::prefix_of, cpp_tree::specs::Nodes::arguments_are, cpp_tree::specs::Nodes::tree_of, cpp_tree::specs::Nodes::piece_of, crate::specs::Reads::goes_on, crate::specs::Reads::behind_first, crate::specs::Reads::named_if, crate::specs::Reads::appended_if, crate::specs::Reads::with_candidate, crate::specs::Owed::made_before, crate::specs::NodeCount::makes_before, crate::specs::Owed::made_before, crate::specs::NodeCount::std_before, crate::specs::NodeCount::one_if_there, crate::specs::NodeCount::pack_before))]
     fn step_third(
         &self,
         symbol: &[u8],
@@ -457,6 +461,7 @@ impl Linked {
         ensures is { (cs : List values.Candidate) → between production (around_of (trees_in symbol.now self.now.nodes) kept) place (value_in symbol.now self.now.nodes first ∷ value_in symbol.now self.now.nodes second ∷ []) (record { candidates = cs; packs = self.now.packs }) ≡ goes_on symbol.now self.now.nodes kept (value_in symbol.now self.now.nodes first ∷ value_in symbol.now self.now.nodes second ∷ []) cs self.now.packs result }
         ensures there { IsStepThere symbol.now (length self.now.nodes.thunks) (length self.now.nodes.nodes) result }
         ensures of { IsStepOf production 2 result }
+        ensures makes { nodes_of_step result ≡ makes_before production (value_in symbol.now self.now.nodes first ∷ value_in symbol.now self.now.nodes second ∷ []) }
     {
         match production {
             Production::Special => self.go(self.in_encoding(kept, place, None)),
@@ -515,7 +520,7 @@ impl Linked {
     }
 
     /// What is done before the fourth part.
-    #[tactic(auto, unfolding(cpp_term::specs::Between::between, cpp_term::specs::Between::in_name, cpp_term::specs::Between::in_types, cpp_term::specs::Between::in_signature, cpp_term::specs::Between::under_expansion, cpp_term::specs::Between::after, cpp_term::specs::Between::inside, cpp_term::specs::Between::applied, cpp_term::specs::Between::piece_so_far, cpp_term::specs::Between::named_so_far, cpp_term::specs::Between::listed_so_far, cpp_term::specs::Values::tree_of, crate::specs::Parts::around_of, crate::specs::Parts::prefix_of, cpp_tree::specs::Nodes::arguments_are, cpp_tree::specs::Nodes::tree_of, cpp_tree::specs::Nodes::piece_of, crate::specs::Reads::goes_on, crate::specs::Reads::behind_first, crate::specs::Reads::named_if, crate::specs::Reads::appended_if, crate::specs::Reads::with_candidate))]
+    #[tactic(auto, unfolding(cpp_term::specs::Between::between, cpp_term::specs::Between::in_name, cpp_term::specs::Between::in_types, cpp_term::specs::Between::in_signature, cpp_term::specs::Between::under_expansion, cpp_term::specs::Between::after, cpp_term::specs::Between::inside, cpp_term::specs::Between::applied, cpp_term::specs::Between::piece_so_far, cpp_term::specs::Between::named_so_far, cpp_term::specs::Between::listed_so_far, cpp_term::specs::Values::tree_of, crate::specs::Parts::around_of, crate::specs::Parts::prefix_of, cpp_tree::specs::Nodes::arguments_are, cpp_tree::specs::Nodes::tree_of, cpp_tree::specs::Nodes::piece_of, crate::specs::Reads::goes_on, crate::specs::Reads::behind_first, crate::specs::Reads::named_if, crate::specs::Reads::appended_if, crate::specs::Reads::with_candidate, crate::specs::NodeCount::makes_before, crate::specs::Owed::made_before, crate::specs::NodeCount::std_before, crate::specs::NodeCount::one_if_there, crate::specs::NodeCount::pack_before))]
     fn step_fourth(
         &self,
         symbol: &[u8],
@@ -534,6 +539,7 @@ impl Linked {
         ensures is { (cs : List values.Candidate) → between production (around_of (trees_in symbol.now self.now.nodes) kept) place (value_in symbol.now self.now.nodes first ∷ value_in symbol.now self.now.nodes second ∷ value_in symbol.now self.now.nodes third ∷ []) (record { candidates = cs; packs = self.now.packs }) ≡ goes_on symbol.now self.now.nodes kept (value_in symbol.now self.now.nodes first ∷ value_in symbol.now self.now.nodes second ∷ value_in symbol.now self.now.nodes third ∷ []) cs self.now.packs result }
         ensures there { IsStepThere symbol.now (length self.now.nodes.thunks) (length self.now.nodes.nodes) result }
         ensures of { (held : ℕ) → IsStepOf production held result }
+        ensures makes { nodes_of_step result ≡ makes_before production (value_in symbol.now self.now.nodes first ∷ value_in symbol.now self.now.nodes second ∷ value_in symbol.now self.now.nodes third ∷ []) }
     {
         match production {
             Production::Special => self.go(self.in_encoding(kept, place, None)),
@@ -568,7 +574,7 @@ impl Linked {
     }
 
     /// What is done before a later part.
-    #[tactic(auto, unfolding(cpp_term::specs::Between::between, cpp_term::specs::Between::in_name, cpp_term::specs::Between::in_types, cpp_term::specs::Between::in_signature, cpp_term::specs::Between::under_expansion, cpp_term::specs::Between::after, cpp_term::specs::Between::inside, cpp_term::specs::Between::applied, cpp_term::specs::Between::piece_so_far, cpp_term::specs::Between::named_so_far, cpp_term::specs::Between::listed_so_far, cpp_term::specs::Values::tree_of, crate::specs::Parts::around_of, crate::specs::Parts::prefix_of, cpp_tree::specs::Nodes::arguments_are, cpp_tree::specs::Nodes::tree_of, cpp_tree::specs::Nodes::piece_of, crate::specs::Reads::goes_on, crate::specs::Reads::behind_first, crate::specs::Reads::named_if, crate::specs::Reads::appended_if, crate::specs::Reads::with_candidate))]
+    #[tactic(auto, unfolding(cpp_term::specs::Between::between, cpp_term::specs::Between::in_name, cpp_term::specs::Between::in_types, cpp_term::specs::Between::in_signature, cpp_term::specs::Between::under_expansion, cpp_term::specs::Between::after, cpp_term::specs::Between::inside, cpp_term::specs::Between::applied, cpp_term::specs::Between::piece_so_far, cpp_term::specs::Between::named_so_far, cpp_term::specs::Between::listed_so_far, cpp_term::specs::Values::tree_of, crate::specs::Parts::around_of, crate::specs::Parts::prefix_of, cpp_tree::specs::Nodes::arguments_are, cpp_tree::specs::Nodes::tree_of, cpp_tree::specs::Nodes::piece_of, crate::specs::Reads::goes_on, crate::specs::Reads::behind_first, crate::specs::Reads::named_if, crate::specs::Reads::appended_if, crate::specs::Reads::with_candidate, crate::specs::NodeCount::makes_before, crate::specs::Owed::made_before, crate::specs::NodeCount::std_before, crate::specs::NodeCount::one_if_there, crate::specs::NodeCount::pack_before))]
     fn step_later(
         &self,
         symbol: &[u8],
@@ -583,6 +589,7 @@ impl Linked {
         ensures is { (v w x : values.Value) (vs : List values.Value) (cs : List values.Candidate) → between production (around_of (trees_in symbol.now self.now.nodes) kept) place (value_in symbol.now self.now.nodes first ∷ v ∷ w ∷ x ∷ vs) (record { candidates = cs; packs = self.now.packs }) ≡ goes_on symbol.now self.now.nodes kept (value_in symbol.now self.now.nodes first ∷ v ∷ w ∷ x ∷ vs) cs self.now.packs result }
         ensures there { IsStepThere symbol.now (length self.now.nodes.thunks) (length self.now.nodes.nodes) result }
         ensures of { (held : ℕ) → IsStepOf production held result }
+        ensures makes { (v w x : values.Value) (vs : List values.Value) → nodes_of_step result ≡ makes_before production (value_in symbol.now self.now.nodes first ∷ v ∷ w ∷ x ∷ vs) }
     {
         match production {
             Production::Special => self.go(self.in_encoding(kept, place, None)),
@@ -634,6 +641,7 @@ impl Linked {
         ensures refused { IfErr result (λ e. (cs : List values.Candidate) → Fails e (between production (around_of (trees_in symbol.now self.now.nodes) kept) place (value_in symbol.now self.now.nodes first ∷ []) (record { candidates = cs; packs = self.now.packs }))) }
         ensures there { IfOk result (λ step. IsStepThere symbol.now (length self.now.nodes.thunks) (length self.now.nodes.nodes) step) }
         ensures of { IfOk result (λ step. IsStepOf production 1 step) }
+        ensures makes { IfOk result (λ step. nodes_of_step step ≡ makes_before production (value_in symbol.now self.now.nodes first ∷ [])) }
         ensures pack { production ≡ productions.PackArgument → IfOk result (λ step. nodes_of_step step ≡ pack_makes first) }
     {
         match production {
@@ -672,6 +680,7 @@ impl Linked {
         ensures refused { IfErr result (λ e. (cs : List values.Candidate) → Fails e (between production (around_of (trees_in symbol.now self.now.nodes) kept) place (values_in symbol.now self.now.nodes parts.now) (record { candidates = cs; packs = self.now.packs }))) }
         ensures there { IfOk result (λ step. IsStepThere symbol.now (length self.now.nodes.thunks) (length self.now.nodes.nodes) step) }
         ensures of { IfOk result (λ step. IsStepOf production (length parts.now) step) }
+        ensures makes { IfOk result (λ step. nodes_of_step step ≡ makes_before production (values_in symbol.now self.now.nodes parts.now)) }
         ensures pack { production ≡ productions.PackArgument → parts.now ≡ variants.Nothing ∷ [] → IfOk result (λ step. nodes_of_step step ≡ 0) }
     {
         if parts.is_empty() {

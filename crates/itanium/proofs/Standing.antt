@@ -3,6 +3,7 @@ use Rattle.std.proofs.Common.{◌≡◌, refl, sym, ◌∙◌, ap, subst, arith,
 use Rattle.sym_core.specs.Number.{FitsSymbol}
 use Rattle.sym_shape.specs.declared.rule.Row.{Row}
 use Rattle.sym_shape.specs.Tree.{Tree}
+use Rattle.sym_link.proofs.Tally.{done_nodes}
 use Rattle.sym_link.specs.Following.{IsDone, meaning_of}
 use Rattle.cpp_grammar.specs.Unfolding.{unfold_cpp}
 use Rattle.cpp_term.specs.Term.{Term, symbol}
@@ -13,6 +14,7 @@ use Rattle.cpp_tree.specs.Nodes.{tree_at, over, IsTable}
 use Rattle.cpp_link.specs.declared.part.Part.{Part}
 use Rattle.cpp_link.specs.declared.linked.Linked.{Linked}
 use Rattle.cpp_link.specs.Parts.{trees_in, value_of, IsThere}
+use Rattle.cpp_link.specs.NodeCount.{cpp_makes, cpp_counted, counted_nodes, nodes_of_shape}
 use Rattle.cpp_link.specs.View.{cpp_view}
 use Rattle.cpp_layout.specs.Layout.{IsRead}
 
@@ -109,3 +111,9 @@ reads s shape linked parts w node rows steps listed is fits few each all =
       steps = all;
       counted = each;
     }
+
+-- its nodes are those that were counted
+pub nodes_counted : (s : List ℕ) (rows : List Row) (shape : Tree) (linked : Linked) (parts : List Part) → IsDone (cpp_counted s) s rows (meaning_of (cpp_counted s) shape) linked parts
+    → length linked.nodes.nodes ≡ nodes_of_shape shape
+nodes_counted s rows shape linked parts done =
+    omega (arith, done_nodes (cpp_view s) cpp_makes s rows shape linked parts counted_nodes (λ read. refl) done, done.paid.begun)

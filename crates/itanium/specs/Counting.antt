@@ -2,7 +2,7 @@
 use Rattle.std.proofs.Common.{arith, ℕ, List, length}
 use Rattle.sym_demangle.specs.Standing.{CountsNodes}
 use Rattle.cpp_link.specs.declared.linked.Linked.{Linked}
-use Rattle.cpp_link.specs.View.{cpp_view}
+use Rattle.cpp_link.specs.NodeCount.{cpp_counted}
 
 abbrev pub node_count : Linked → ℕ
 node_count linked = length linked.nodes.nodes
@@ -11,5 +11,5 @@ node_count linked = length linked.nodes.nodes
 abbrev pub first_nodes : ℕ
 first_nodes = 3
 
-pub cpp_counts : (s : List ℕ) → CountsNodes (cpp_view s) node_count first_nodes
+pub cpp_counts : (s : List ℕ) → CountsNodes (cpp_counted s) node_count first_nodes
 cpp_counts s = record { few = omega arith; most = λ nodes. omega arith; least = λ nodes bytes paid. omega (arith, paid.begun) }

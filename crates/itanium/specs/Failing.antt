@@ -4,10 +4,12 @@ use Rattle.sym_shape.specs.declared.rule.Sym.TheVariants.{Kind}
 use Rattle.sym_shape.specs.Tree.{Tree, IsTree, spell}
 use Rattle.sym_link.specs.Driving.{Fails}
 use Rattle.sym_link.specs.Following.{meaning_of}
+use Rattle.sym_link.proofs.Tally.{fails_untallied}
 use Rattle.cpp_grammar.specs.Table.{abi}
 use Rattle.cpp_grammar.specs.Unfolding.{unfold_cpp}
 use Rattle.cpp_term.proofs.Erasing.{reading_fails}
 use Rattle.cpp_link.specs.View.{cpp_view}
+use Rattle.cpp_link.specs.NodeCount.{cpp_makes, cpp_counted}
 
-pub cpp_fails : (shape : Tree) (refusal : Refusal) → IsTree abi (Kind 0) shape → Fails refusal (meaning_of (cpp_view (spell shape)) shape) → Fails refusal (unfold_cpp shape)
-cpp_fails shape refusal is fails = reading_fails shape refusal is fails
+pub cpp_fails : (shape : Tree) (refusal : Refusal) → IsTree abi (Kind 0) shape → Fails refusal (meaning_of (cpp_counted (spell shape)) shape) → Fails refusal (unfold_cpp shape)
+cpp_fails shape refusal is fails = reading_fails shape refusal is (fails_untallied (cpp_view (spell shape)) cpp_makes shape refusal fails)

@@ -1,6 +1,6 @@
 // C++'s mangling, as the demangler takes it.
 
-ghost use Rattle.std.specs.Prelude.{◌≡◌, ℕ, ◌∷◌, [], Bool, OnOk, IfErr, Ok};
+ghost use Rattle.std.specs.Prelude.{◌≡◌, ℕ, ◌∷◌, [], length, Bool, OnOk, IfErr, Ok};
 ghost use Rattle.sym_core.specs.Number.{FitsSymbol};
 ghost use Rattle.sym_core.specs.declared.refusal.Refusal.TheVariants as refusals;
 ghost use Rattle.sym_print.specs.declared.layout.Part.TheVariants as parts;
@@ -10,7 +10,7 @@ ghost use Rattle.cpp_grammar.specs.Answer.{shown, root_item};
 ghost use Rattle.cpp_grammar.specs.Unfolding.{unfold_cpp};
 ghost use Rattle.cpp_layout.specs.Layout.{MayBeAsked, unshared_of, whole_of};
 ghost use Rattle.cpp_link.specs.declared.part.Part.TheVariants as part;
-ghost use Rattle.cpp_link.specs.View.{cpp_view};
+ghost use Rattle.cpp_link.specs.NodeCount.{cpp_counted, nodes_of_shape};
 
 use crate::grammar::Abi;
 use cpp_layout::{Context, Detail, Symbol};
@@ -36,10 +36,11 @@ fn whole_node(parts: &[Part]) -> u32
 }
 
 impl Mangling for Abi {
-    ghost use Rattle.std.specs.Prelude.{refl};
+    ghost use Rattle.std.specs.Prelude.{length, refl};
     ghost use Rattle.cpp_grammar.specs.Mangled.{cpp_mangled};
     ghost use Rattle.cpp_grammar.specs.Term.{Term};
     ghost use Rattle.cpp_layout.specs.Layout.{whole_of};
+    ghost use Rattle.cpp_link.specs.NodeCount.{are_nodes};
     ghost use Rattle.itanium.specs.Counting as counting;
     ghost use Rattle.itanium.specs.Counting.{cpp_counts, node_count};
     ghost use Rattle.itanium.specs.Failing.{cpp_fails};
@@ -60,6 +61,10 @@ impl Mangling for Abi {
 
     ghost steps_of = { λ y. y.steps };
 
+    ghost nodes_of = { λ y. length y.table.nodes };
+
+    ghost are_nodes = { are_nodes };
+
     ghost count_of = { node_count };
 
     ghost first_nodes = { counting.first_nodes };
@@ -74,7 +79,7 @@ impl Mangling for Abi {
 
     fn restart(linked: &mut Linked, _symbol: &[u8]) -> Result<(), Refusal>
         requires { FitsSymbol _symbol.now }
-        ensures begins { OnOk result (Begins (cpp_view _symbol.now) linked.new) }
+        ensures begins { OnOk result (Begins (cpp_counted _symbol.now) linked.new) }
         ensures memory { IfErr result (λ e. e ≡ refusals.Memory) }
     {
         linked.restart()?;
@@ -82,11 +87,12 @@ impl Mangling for Abi {
     }
 
     fn finish(bytes: Vec<u8>, linked: &mut Linked, parts: &[Part], rows: u32, steps: u32) -> Symbol
-        requires { (shape : Tree) × IsLinked (cpp_view bytes.items) bytes.items linked.old parts.now rows steps shape }
+        requires { (shape : Tree) × IsLinked (cpp_counted bytes.items) bytes.items linked.old parts.now rows steps shape }
         ensures bytes { result.bytes ≡ bytes.items }
-        ensures whole { (shape : Tree) → IsLinked (cpp_view bytes.items) bytes.items linked.old parts.now rows steps shape → Ok (whole_of result) ≡ unfold_cpp shape }
+        ensures whole { (shape : Tree) → IsLinked (cpp_counted bytes.items) bytes.items linked.old parts.now rows steps shape → Ok (whole_of result) ≡ unfold_cpp shape }
         ensures rows { result.rows ≡ rows }
         ensures steps { result.steps ≡ steps }
+        ensures nodes { (shape : Tree) → IsLinked (cpp_counted bytes.items) bytes.items linked.old parts.now rows steps shape → length result.table.nodes ≡ nodes_of_shape shape }
     {
         symbols_are_read_as_trees();
         let root = whole_node(parts);

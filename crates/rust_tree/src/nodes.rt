@@ -1,7 +1,7 @@
 // A table of nodes, and the text list.
 #![tactic(auto)]
 
-ghost use Rattle.std.specs.Prelude.{◌≡◌, ℕ, ◌+◌, ◌*◌, ◌<◌, ◌≤◌, ◌^◌, ◌++◌, [], List, length, slice_get, Some, true, IfOk, IfErr, OnErr, ◌⊎◌};
+ghost use Rattle.std.specs.Prelude.{◌≡◌, ℕ, ◌+◌, ◌*◌, ◌<◌, ◌≤◌, ◌^◌, ◌++◌, [], List, length, slice_get, Some, true, IfOk, IfErr, OnErr, OnOk, ◌⊎◌};
 ghost use Rattle.rust_tree.specs.Nodes.{Table, IsTable, Makes, Grows, trees, IsWithin, bytes_at};
 ghost use Rattle.rust_tree.specs.Needs.{need_at, path_needs, arguments_need, type_needs, types_need, bounds_need, bindings_need, symbol_needs, needs};
 ghost use Rattle.rust_tree.specs.Tree.{Tree, need_of_tree};
@@ -245,6 +245,7 @@ impl Nodes {
         ensures stands { IfOk result (λ number. (s : List ℕ) (t : Tree) → IsTable s self.old → Makes s self.old node t → IsTable s self.new × (slice_get (trees s self.new.nodes) number ≡ Some t)) }
         ensures grows { Grows self.old self.new }
         ensures one { length self.new.nodes ≤ length self.old.nodes + 1 }
+        ensures more { OnOk result (length self.new.nodes ≡ length self.old.nodes + 1) }
         ensures text { self.new.text ≡ self.old.text }
         ensures same { OnErr result (self.new ≡ self.old) }
         ensures memory { IfErr result (λ r. r ≡ Refusal.Memory) }

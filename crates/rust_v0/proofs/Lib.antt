@@ -8,6 +8,7 @@ pub mod Integers
 pub mod SemanticsLemmas
 pub mod Letters
 pub mod Meanings
+pub mod NodeCount
 pub mod Noted
 pub mod Places
 pub mod Reading

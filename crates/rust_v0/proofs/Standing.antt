@@ -14,10 +14,13 @@ use Rattle.sym_shape.specs.Tree.{Tree, Forest, branch, spell, IsTree}
 use Rattle.sym_link.specs.Reading.{Found, ◌>>=◌}
 use Rattle.sym_link.specs.Unfold.{found, alone, standing, unfold_tree, unfold_forest}
 use Rattle.sym_link.specs.Following.{IsShape, IsDone, meaning_of}
+use Rattle.sym_link.specs.Tally.{closing_makes}
 use Rattle.sym_link.proofs.Starting.{root_of}
+use Rattle.sym_link.proofs.Tally.{done_untallied, done_counts}
 use Rattle.rust_tree.specs.Symbol as tree
 use Rattle.rust_tree.specs.Counts.{IsRead}
-use Rattle.rust_tree.specs.Nodes.{IsSymbol, IsTable, trees}
+use Rattle.rust_tree.specs.Layout.{ReadSymbol}
+use Rattle.rust_tree.specs.Nodes.{IsSymbol, IsTable, trees, symbol_in}
 use Rattle.rust_v0.specs.declared.nodes.RustNodes.{RustNodes}
 use Rattle.rust_v0.specs.declared.part.Part.{Part}
 use Rattle.rust_v0.specs.declared.production.Production.{Production}
@@ -30,7 +33,9 @@ use Rattle.rust_v0.specs.Value.{Value, State}
 use Rattle.rust_v0.specs.Unfold as defined
 use Rattle.rust_v0.specs.Unfold.{At, Meaning, v0, at_first, at_rule, meaning, symbol_of, unfolded, path_part, other_path_part, suffix_part}
 use Rattle.rust_v0.specs.PartValues.{Ground, IsPart}
+use Rattle.rust_v0.specs.Mangled.{whole_of}
 use Rattle.rust_v0.specs.RustNodes.{v0_view}
+use Rattle.rust_v0.specs.NodeCount.{made_by, nodes_of_shape, v0_counted}
 
 -- ## The root's rule makes a symbol
 
@@ -111,9 +116,9 @@ pub record HasWhole (s : List ℕ) (shape : Tree) (linked : RustNodes) (parts : 
   pub nodes : length linked.nodes.nodes ≤ 4 * length s + 8
   pub text : length linked.nodes.text ≤ 4 * length s + 20
 
-pub has_whole : (s : List ℕ) (rows : List Row) (shape : Tree) (linked : RustNodes) (parts : List Part) → IsShape v0_table s rows shape
+has_plain : (s : List ℕ) (rows : List Row) (shape : Tree) (linked : RustNodes) (parts : List Part) → IsShape v0_table s rows shape
     → IsDone (v0_view s) s rows (meaning_of (v0_view s) shape) linked parts → HasWhole s shape linked parts
-has_whole s rows shape linked parts is done =
+has_plain s rows shape linked parts is done =
     let w = whole_is s shape done.value done.state is.is_tree done.means in
     let p = symbol_part _ done.part w.0 (subst (λ v. IsPart _ done.part v) w.1 done.is_part) in
     record {
@@ -126,6 +131,15 @@ has_whole s rows shape linked parts is done =
       nodes = omega (arith, done.size, done.paid.begun);
       text = done.paid.text;
     }
+
+pub has_whole : (s : List ℕ) (rows : List Row) (shape : Tree) (linked : RustNodes) (parts : List Part) → IsShape v0_table s rows shape
+    → IsDone (v0_counted s) s rows (meaning_of (v0_counted s) shape) linked parts → HasWhole s shape linked parts
+has_whole s rows shape linked parts is done = has_plain s rows shape linked parts is (done_untallied (v0_view s) (closing_makes made_by) s rows shape linked parts done)
+
+-- its nodes are those of its shape
+pub counted_nodes : (s : List ℕ) (rows : List Row) (shape : Tree) (linked : RustNodes) (parts : List Part)
+    → IsDone (v0_counted s) s rows (meaning_of (v0_counted s) shape) linked parts → length linked.nodes.nodes ≡ nodes_of_shape shape
+counted_nodes s rows shape linked parts done = omega (arith, done_counts (v0_view s) made_by s rows shape linked parts done, done.paid.begun)
 
 -- ## The end
 
@@ -151,3 +165,9 @@ reads s shape linked parts w node rows steps is fits few each all = record {
   steps = all;
   counted = each;
 }
+
+-- the symbol that was read stands for its shape
+pub whole_read : (y : ReadSymbol) (s : List ℕ) (shape : Tree) (linked : RustNodes) (parts : List Part) (w : HasWhole s shape linked parts) (node rows steps : ℕ)
+    → y ≡ record { bytes = s; table = linked.nodes; root = node; rows = rows; steps = steps } → parts ≡ Part.Symbol node ∷ [] → Ok (whole_of y) ≡ unfolded shape
+whole_read y s shape linked parts w node rows steps is there =
+    rw (is, same_node s shape linked parts w node there) (ap (λ o. let okay : tree.Symbol → Result tree.Symbol Refusal = λ t. Ok t in okay (symbol_in o)) w.is_whole ∙ w.stands)

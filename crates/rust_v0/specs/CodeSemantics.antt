@@ -366,4 +366,5 @@ pub record IsMadeBy (result : Result Node Refusal) (number : ℕ) (own : List Pa
   pub production : Production
   pub is : production_of number ≡ Some production
   pub no_reference : is_reference production ≡ false
+  pub no_part : makes_part production ≡ false
   pub made_is : (s : List ℕ) (place bound : ℕ) → of_node result ≡ made production s place bound own

@@ -2,6 +2,8 @@
 use Rattle.std.proofs.Common.{refl, arith, ℕ, List, Option, Some, None, [], sym, subst, ◌∙◌}
 use Rattle.sym_link.specs.Linking.{IsLinking}
 use Rattle.sym_link.specs.OwingLaws.{cost_rows}
+use Rattle.sym_link.specs.Tally.{closing_makes}
+use Rattle.sym_link.proofs.Tally.{tallied_laws}
 use Rattle.rust_tree.specs.Nodes.{IsAbi, HasAbi}
 use Rattle.rust_tree.proofs.Trees.{tree-stays, type-stays, name-stays, within-grown, bytes-grown, HasAbi-grown}
 use Rattle.rust_tree.specs.Symbol as tree
@@ -15,6 +17,7 @@ use Rattle.rust_v0.specs.TableLaws as laws
 use Rattle.rust_v0.specs.PartValues.{IsPart, IsSomeInteger}
 use Rattle.rust_v0.specs.Made.{ground}
 use Rattle.rust_v0.specs.RustNodes.{v0_view, GoesOn}
+use Rattle.rust_v0.specs.NodeCount.{made_by, v0_counted}
 
 module _ (s : List ℕ) (old new : RustNodes) (grows : GoesOn old new) where
   abi_stays : (abi : Abi) (spelled : tree.Abi) → IsAbi s old.nodes.text abi spelled → IsAbi s new.nodes.text abi spelled
@@ -71,3 +74,6 @@ v0_laws s = record {
   closing = λ number own. omega arith;
   two_at_once = λ s around held from left rule taken parts rest stands next at_once. record { closed = λ own counted. omega arith; refused = omega arith };
 }
+
+pub v0_counted_laws : (s : List ℕ) → IsLinking (v0_counted s)
+v0_counted_laws s = tallied_laws (v0_view s) (closing_makes made_by) (v0_laws s)

@@ -10,5 +10,6 @@ pub mod CodeOperands
 pub mod Made
 pub mod CodeSemantics
 pub mod RustNodes
+pub mod NodeCount
 pub mod LanguageLaws
 pub mod Mangled

@@ -1,14 +1,14 @@
 -- Rust's mangling: what its symbols read as, and their answers.
-use Rattle.std.proofs.Common.{ap, arith, ℕ, List, length, Result}
+use Rattle.std.proofs.Common.{arith, ℕ, List, length, Result}
 use Rattle.std.specs.Prelude.{slice_get}
 use Rattle.sym_core.specs.declared.refusal.Refusal.{Refusal}
-use Rattle.sym_core.specs.declared.refusal.Refusal.TheVariants as refusals
 use Rattle.sym_print.specs.declared.detail.Detail.{Detail}
 use Rattle.sym_shape.specs.declared.rule.Sym.TheVariants.{Kind}
 use Rattle.sym_shape.specs.Tree.{Tree, IsTree, spell}
 use Rattle.sym_link.specs.Driving.{Fails}
 use Rattle.sym_link.specs.Following.{meaning_of}
-use Rattle.sym_link.specs.Reading.{◌>>=◌}
+use Rattle.sym_link.specs.Tally.{closing_makes}
+use Rattle.sym_link.proofs.Tally.{fails_behind, fails_untallied}
 use Rattle.sym_demangle.specs.Mangled as demangle
 use Rattle.sym_demangle.specs.Mangled.{Mangled}
 use Rattle.sym_demangle.specs.Standing.{CountsNodes}
@@ -21,6 +21,7 @@ use Rattle.rust_v0.specs.TableLaws.{lawful}
 use Rattle.rust_v0.specs.Unfold.{unfolded, symbol_of}
 use Rattle.rust_v0.specs.declared.nodes.RustNodes.{RustNodes}
 use Rattle.rust_v0.specs.RustNodes.{v0_view, first_nodes}
+use Rattle.rust_v0.specs.NodeCount.{made_by, v0_counted}
 
 abbrev pub v0_mangled : Mangled tree.Symbol
 v0_mangled = record { table = v0_table; unfolded = unfolded; shown = symbol_parts; lawful = lawful }
@@ -42,16 +43,13 @@ answer detail s limit = demangle.answer v0_mangled detail s limit
 abbrev pub answer_of_shape : Detail → ℕ → Tree → Result (List ℕ) Refusal
 answer_of_shape detail limit shape = demangle.answer_of_shape v0_mangled detail limit shape
 
-fails_behind : {A B : Type 0} (e : Refusal) (m : Result A Refusal) (k : A → Result B Refusal) → Fails e m → Fails e (m >>= k)
-fails_behind refusals.Memory m k fails = tt
-fails_behind e m k fails = ap (λ r. r >>= k) fails
-
-pub v0_fails : (shape : Tree) (e : Refusal) → IsTree v0_table (Kind 0) shape → Fails e (meaning_of (v0_view (spell shape)) shape) → Fails e (unfolded shape)
-v0_fails shape e is fails = fails_behind e (meaning_of (v0_view (spell shape)) shape) (λ whole. symbol_of whole.value) fails
+pub v0_fails : (shape : Tree) (e : Refusal) → IsTree v0_table (Kind 0) shape → Fails e (meaning_of (v0_counted (spell shape)) shape) → Fails e (unfolded shape)
+v0_fails shape e is fails =
+    fails_behind e (meaning_of (v0_view (spell shape)) shape) (λ whole. symbol_of whole.value) (fails_untallied (v0_view (spell shape)) (closing_makes made_by) shape e fails)
 
 -- the nodes of a table, and those that it has before the first row
 abbrev pub node_count : RustNodes → ℕ
 node_count linked = length linked.nodes.nodes
 
-pub v0_counts : (s : List ℕ) → CountsNodes (v0_view s) node_count first_nodes
+pub v0_counts : (s : List ℕ) → CountsNodes (v0_counted s) node_count first_nodes
 v0_counts s = record { few = omega arith; most = λ nodes. omega arith; least = λ nodes bytes paid. omega (arith, paid.begun) }

@@ -6,8 +6,9 @@ ghost use Rattle.sym_core.specs.declared.refusal.Refusal.TheVariants as refusals
 ghost use Rattle.sym_print.specs.declared.detail.Detail.{Detail};
 ghost use Rattle.sym_shape.specs.Tree.{AreRowsOf};
 ghost use Rattle.sym_shape.specs.declared.rule.Row.{Row};
-ghost use Rattle.sym_demangle.specs.Standing.{AreStepsInAll};
+ghost use Rattle.sym_demangle.specs.Standing.{AreStepsInAll, AreNodesOf};
 ghost use Rattle.rust_v0.specs.Mangled.{IsReading, IsAnswer, whole_of};
+ghost use Rattle.rust_v0.specs.NodeCount.{are_nodes};
 ghost use Rattle.rust_v0.specs.Rules.{v0_table};
 
 use crate::grammar::V0;
@@ -26,9 +27,10 @@ pub fn read(alloc: Global, s: &[u8]) -> Result<Symbol, Refusal>
     requires { FitsSymbol s.now }
     ensures bytes { IfOk result (λ symbol. symbol.bytes ≡ s.now) }
     ensures symbol { IfOk result (λ symbol. IsReading s.now (Ok (whole_of symbol))) }
-    // The rows and steps that are counted are those of the symbol's one tree.
+    // The rows, steps and nodes that are counted are those of the symbol's one tree.
     ensures rows { IfOk result (λ symbol. (rows : List Row) × AreRowsOf v0_table s.now rows × (symbol.rows ≡ length rows)) }
     ensures steps { IfOk result (λ symbol. AreStepsInAll v0_table s.now symbol.steps) }
+    ensures nodes { IfOk result (λ symbol. AreNodesOf v0_table are_nodes s.now (length symbol.table.nodes)) }
     ensures refused { IfErr result (λ e. (e ≡ refusals.Memory) ⊎ IsReading s.now (Err e)) }
     ensures never_too_long { IfErr result (λ e. e ≢ refusals.TooLong) }
 {
@@ -44,9 +46,10 @@ pub fn read_fed(alloc: Global, reader: Reader<V0>) -> Result<Symbol, Refusal>
     requires { reader.ended ≡ true }
     ensures bytes { IfOk result (λ symbol. symbol.bytes ≡ reader.bytes) }
     ensures symbol { IfOk result (λ symbol. IsReading reader.bytes (Ok (whole_of symbol))) }
-    // The rows and steps that are counted are those of the symbol's one tree.
+    // The rows, steps and nodes that are counted are those of the symbol's one tree.
     ensures rows { IfOk result (λ symbol. (rows : List Row) × AreRowsOf v0_table reader.bytes rows × (symbol.rows ≡ length rows)) }
     ensures steps { IfOk result (λ symbol. AreStepsInAll v0_table reader.bytes symbol.steps) }
+    ensures nodes { IfOk result (λ symbol. AreNodesOf v0_table are_nodes reader.bytes (length symbol.table.nodes)) }
     ensures refused { IfErr result (λ e. (e ≡ refusals.Memory) ⊎ IsReading reader.bytes (Err e)) }
     ensures never_too_long { IfErr result (λ e. e ≢ refusals.TooLong) }
 {

@@ -2,13 +2,14 @@
 // closes.
 
 ghost use Rattle.std.specs.Bool.{OnTrue, OnFalse};
-ghost use Rattle.std.specs.Prelude.{◌≡◌, ◌≢◌, IfErr, ℕ, ◌<◌, ◌≤◌, ◌∷◌, [], List, length, drop, take, slice_index, Some, true, OnOk, OnErr};
+ghost use Rattle.std.specs.Prelude.{◌≡◌, ◌≢◌, IfErr, ℕ, ◌+◌, ◌<◌, ◌≤◌, ◌∷◌, [], List, length, drop, take, slice_index, Some, true, OnOk, OnErr};
 ghost use Rattle.sym_core.specs.Number.{FitsSymbol};
 ghost use Rattle.sym_core.specs.declared.refusal.Refusal.TheVariants as refusals;
 ghost use Rattle.sym_link.specs.Linking.{HasRoom, TakesToken, ClosesRule, Adds, AddsFew, Pays, KeepsRoom, NeedsRoom, TokenNeedsRoom, owed_behind, owed_next};
 ghost use Rattle.rust_tree.specs.declared.node.Name.{Name};
 ghost use Rattle.rust_v0.specs.declared.part.Part.{Part};
 ghost use Rattle.rust_v0.specs.RustNodes.{v0_view};
+ghost use Rattle.rust_v0.specs.NodeCount.{made_by};
 ghost use Rattle.rust_v0.specs.Productions.{production_of};
 ghost use Rattle.rust_v0.specs.CodeOperands as operands;
 ghost use Rattle.rust_v0.specs.Tokens as tokens;
@@ -124,6 +125,7 @@ impl RustNodes {
         ensures takes { TakesToken (v0_view symbol.now) symbol.now self.old self.new frame parts.old.items parts.new.items row result }
         ensures adds { OnOk result (Adds (v0_view symbol.now) self.old self.new (owed_behind (v0_view symbol.now) frame parts.old.items) (owed_behind (v0_view symbol.now) frame parts.new.items)) }
         ensures few { OnErr result (AddsFew (v0_view symbol.now) self.old self.new frame parts.old.items) }
+        ensures none { OnOk result (length self.new.nodes.nodes ≡ length self.old.nodes.nodes) }
         ensures pays { OnOk result ((at : ℕ) → at ≤ row.from → (length parts.old.items ≡ frame.base → at ≤ frame.place)
             → Pays (v0_view symbol.now) self.old self.new at row.to) }
         ensures keeps { KeepsRoom (v0_view symbol.now) self.old self.new parts.old parts.new }
@@ -154,6 +156,7 @@ impl RustNodes {
         ensures takes { TakesToken (v0_view symbol.now) symbol.now self.old self.new frame parts.old.items parts.new.items row result }
         ensures adds { OnOk result (Adds (v0_view symbol.now) self.old self.new (owed_behind (v0_view symbol.now) frame parts.old.items) (owed_behind (v0_view symbol.now) frame parts.new.items)) }
         ensures few { OnErr result (AddsFew (v0_view symbol.now) self.old self.new frame parts.old.items) }
+        ensures none { OnOk result (length self.new.nodes.nodes ≡ length self.old.nodes.nodes) }
         ensures pays { OnOk result ((at : ℕ) → at ≤ row.from → (length parts.old.items ≡ frame.base → at ≤ frame.place)
             → Pays (v0_view symbol.now) self.old self.new at row.to) }
         ensures keeps { KeepsRoom (v0_view symbol.now) self.old self.new parts.old parts.new }
@@ -178,6 +181,7 @@ impl RustNodes {
         ensures takes { TakesToken (v0_view symbol.now) symbol.now self.old self.new frame parts.old.items parts.new.items row result }
         ensures adds { OnOk result (Adds (v0_view symbol.now) self.old self.new (owed_behind (v0_view symbol.now) frame parts.old.items) (owed_behind (v0_view symbol.now) frame parts.new.items)) }
         ensures few { OnErr result (AddsFew (v0_view symbol.now) self.old self.new frame parts.old.items) }
+        ensures none { OnOk result (length self.new.nodes.nodes ≡ length self.old.nodes.nodes) }
         ensures pays { OnOk result ((at : ℕ) → at ≤ row.from → (length parts.old.items ≡ frame.base → at ≤ frame.place)
             → Pays (v0_view symbol.now) self.old self.new at row.to) }
         ensures keeps { KeepsRoom (v0_view symbol.now) self.old self.new parts.old parts.new }
@@ -203,6 +207,7 @@ impl RustNodes {
         ensures closes { ClosesRule (v0_view symbol.now) symbol.now self.old self.new frame parts.old.items parts.new.items result }
         ensures adds { OnOk result (Adds (v0_view symbol.now) self.old self.new (owed_behind (v0_view symbol.now) frame parts.old.items) 0) }
         ensures few { AddsFew (v0_view symbol.now) self.old self.new frame parts.old.items }
+        ensures made { OnOk result (length self.new.nodes.nodes ≡ length self.old.nodes.nodes + made_by frame.rule) }
         ensures pays { OnOk result ((at : ℕ) → Pays (v0_view symbol.now) self.old self.new at at) }
         ensures keeps { KeepsRoom (v0_view symbol.now) self.old self.new parts.old parts.new }
         ensures full { NeedsRoom (v0_view symbol.now) self.old self.new parts.old parts.new result }
@@ -229,6 +234,7 @@ impl RustNodes {
         ensures closes { ClosesRule (v0_view _symbol.now) _symbol.now self.old self.new frame parts.old.items parts.new.items result }
         ensures adds { OnOk result (Adds (v0_view _symbol.now) self.old self.new (owed_behind (v0_view _symbol.now) frame parts.old.items) 0) }
         ensures few { AddsFew (v0_view _symbol.now) self.old self.new frame parts.old.items }
+        ensures made { OnOk result (length self.new.nodes.nodes ≡ length self.old.nodes.nodes + made_by frame.rule) }
         ensures pays { OnOk result ((at : ℕ) → Pays (v0_view _symbol.now) self.old self.new at at) }
         ensures keeps { KeepsRoom (v0_view _symbol.now) self.old self.new parts.old parts.new }
         ensures full { NeedsRoom (v0_view _symbol.now) self.old self.new parts.old parts.new result }
@@ -251,6 +257,7 @@ impl RustNodes {
         ensures closes { ClosesRule (v0_view symbol.now) symbol.now self.old self.new frame parts.old.items parts.new.items result }
         ensures adds { OnOk result (Adds (v0_view symbol.now) self.old self.new (owed_behind (v0_view symbol.now) frame parts.old.items) 0) }
         ensures few { AddsFew (v0_view symbol.now) self.old self.new frame parts.old.items }
+        ensures made { OnOk result (length self.new.nodes.nodes ≡ length self.old.nodes.nodes + made_by frame.rule) }
         ensures pays { OnOk result ((at : ℕ) → Pays (v0_view symbol.now) self.old self.new at at) }
         ensures keeps { KeepsRoom (v0_view symbol.now) self.old self.new parts.old parts.new }
         ensures full { NeedsRoom (v0_view symbol.now) self.old self.new parts.old parts.new result }
@@ -286,95 +293,37 @@ impl RustNodes {
         ensures closes { ClosesRule (v0_view symbol.now) symbol.now self.old self.new frame parts.old.items parts.new.items result }
         ensures adds { OnOk result (Adds (v0_view symbol.now) self.old self.new (owed_behind (v0_view symbol.now) frame parts.old.items) 0) }
         ensures few { AddsFew (v0_view symbol.now) self.old self.new frame parts.old.items }
+        ensures made { OnOk result (length self.new.nodes.nodes ≡ length self.old.nodes.nodes + made_by frame.rule) }
         ensures pays { OnOk result ((at : ℕ) → Pays (v0_view symbol.now) self.old self.new at at) }
         ensures keeps { KeepsRoom (v0_view symbol.now) self.old self.new parts.old parts.new }
         ensures full { NeedsRoom (v0_view symbol.now) self.old self.new parts.old parts.new result }
     {
         self.close_any(symbol, Frame { ..frame }, parts)
     }
-}
 
-impl Linking for RustNodes {
-    ghost use Rattle.std.specs.Prelude.{◌≡◌, ℕ, ◌+◌, ◌<◌, ◌≤◌, [], List, length, take, drop, OnOk, OnErr};
-    ghost use Rattle.sym_link.specs.Linking.{HasRoom, IsOpen, OpensRoot, Opens, TakesToken, ClosesRule, Adds, AddsFew, Pays, KeepsRoom, NeedsRoom, TokenNeedsRoom, owed_behind, owed_next};
-    ghost use Rattle.sym_link.specs.Room.{KeepRoom, OnlyForRoom};
-    ghost use Rattle.rust_v0.specs.Value.{Value, State};
-    ghost use Rattle.rust_v0.specs.RustNodes.{v0_view};
-    ghost use Rattle.rust_v0.specs.LanguageLaws.{v0_laws};
-
-    type Part = Part;
-
-    type Kept = BoundLifetimes;
-
-    ghost Value = { Value };
-
-    ghost State = { State };
-
-    ghost Context = { ℕ };
-
-    ghost view = { v0_view };
-
-    fn root(&mut self, symbol: &[u8], _rows: &[Row], row: Row) -> Result<BoundLifetimes, Refusal>
-        requires room { HasRoom (v0_view symbol.now) symbol.now self.old 0 }
-        requires end { row.end ≤ length _rows.now }
-        ensures opens { OpensRoot (v0_view symbol.now) symbol.now _rows.now self.old self.new row result }
-        ensures adds { OnOk result (Adds (v0_view symbol.now) self.old self.new 0 0) }
-        ensures few { OnErr result ((v0_view symbol.now).size self.new ≤ (v0_view symbol.now).size self.old) }
-        ensures pays { OnOk result (Pays (v0_view symbol.now) self.old self.new 0 0) }
-        ensures keeps { KeepRoom ((v0_view symbol.now).lists self.old) ((v0_view symbol.now).lists self.new) }
-        ensures full { OnlyForRoom ⊥ ((v0_view symbol.now).lists self.old) ((v0_view symbol.now).lists self.new) result }
-    {
-        Ok(BoundLifetimes { bound: 0 })
-    }
-
-    fn enter(
-        &mut self,
-        symbol: &[u8],
-        _rows: &[Row],
-        frame: &Frame<BoundLifetimes>,
-        parts: &mut Vec<Part>,
-        row: Row,
-    ) -> Result<BoundLifetimes, Refusal>
-        requires room { HasRoom (v0_view symbol.now) symbol.now self.old (owed_behind (v0_view symbol.now) frame.now parts.old.items) }
-        requires open { IsOpen (v0_view symbol.now) symbol.now self.old frame.now parts.old.items }
-        requires base { frame.now.base ≤ length parts.old.items }
-        requires place { row.from < length symbol.now }
-        requires end { row.end ≤ length _rows.now }
-        ensures opens { Opens (v0_view symbol.now) symbol.now _rows.now self.old self.new frame.now parts.old.items parts.new.items row result }
-        ensures adds { OnOk result (Adds (v0_view symbol.now) self.old self.new (owed_behind (v0_view symbol.now) frame.now parts.old.items) (owed_next (v0_view symbol.now) frame.now parts.new.items)) }
-        ensures few { OnErr result (AddsFew (v0_view symbol.now) self.old self.new frame.now parts.old.items) }
-        ensures pays { OnOk result ((at : ℕ) → at ≤ row.from → Pays (v0_view symbol.now) self.old self.new at row.from) }
-        ensures keeps { KeepsRoom (v0_view symbol.now) self.old self.new parts.old parts.new }
-        ensures full { NeedsRoom (v0_view symbol.now) self.old self.new parts.old parts.new result }
-    {
-        let bound = bound_behind(*frame, parts);
-        Ok(BoundLifetimes { bound })
-    }
-
+    /// Takes a token in the rule of a frame. The tokens of most rules have code of their own.
     #[inline(always)]
-    fn token(
+    fn take_token(
         &mut self,
         symbol: &[u8],
-        frame: &Frame<BoundLifetimes>,
+        frame: Frame<BoundLifetimes>,
         parts: &mut Vec<Part>,
         row: Row,
     ) -> Result<(), Refusal>
-        requires room { HasRoom (v0_view symbol.now) symbol.now self.old (owed_behind (v0_view symbol.now) frame.now parts.old.items) }
-        requires open { IsOpen (v0_view symbol.now) symbol.now self.old frame.now parts.old.items }
-        requires base { frame.now.base ≤ length parts.old.items }
+        requires room { HasRoom (v0_view symbol.now) symbol.now self.old (owed_behind (v0_view symbol.now) frame parts.old.items) }
+        requires base { frame.base ≤ length parts.old.items }
         requires from { row.from ≤ row.to }
         requires to { row.to ≤ length symbol.now }
-        ensures takes { TakesToken (v0_view symbol.now) symbol.now self.old self.new frame.now parts.old.items parts.new.items row result }
-        ensures adds { OnOk result (Adds (v0_view symbol.now) self.old self.new (owed_behind (v0_view symbol.now) frame.now parts.old.items) (owed_behind (v0_view symbol.now) frame.now parts.new.items)) }
-        ensures few { OnErr result (AddsFew (v0_view symbol.now) self.old self.new frame.now parts.old.items) }
-        ensures pays { OnOk result ((at : ℕ) → at ≤ row.from → (length parts.old.items ≡ frame.now.base → at ≤ frame.now.place)
+        ensures takes { TakesToken (v0_view symbol.now) symbol.now self.old self.new frame parts.old.items parts.new.items row result }
+        ensures adds { OnOk result (Adds (v0_view symbol.now) self.old self.new (owed_behind (v0_view symbol.now) frame parts.old.items) (owed_behind (v0_view symbol.now) frame parts.new.items)) }
+        ensures few { OnErr result (AddsFew (v0_view symbol.now) self.old self.new frame parts.old.items) }
+        ensures none { OnOk result (length self.new.nodes.nodes ≡ length self.old.nodes.nodes) }
+        ensures pays { OnOk result ((at : ℕ) → at ≤ row.from → (length parts.old.items ≡ frame.base → at ≤ frame.place)
             → Pays (v0_view symbol.now) self.old self.new at row.to) }
         ensures keeps { KeepsRoom (v0_view symbol.now) self.old self.new parts.old parts.new }
-        ensures full { TokenNeedsRoom (v0_view symbol.now) symbol.now self.old self.new frame.now parts.old parts.new row result }
+        ensures full { TokenNeedsRoom (v0_view symbol.now) symbol.now self.old self.new frame parts.old parts.new row result }
     {
-        let frame = *frame;
         match sort_of(frame.rule) {
-            // the tokens of most rules
             TokenSort::PlainName => {
                 self.take_as(symbol, TokenSort::PlainName, frame, parts, row)
             }
@@ -385,25 +334,25 @@ impl Linking for RustNodes {
         }
     }
 
+    /// Closes the rule of a frame. The commonest productions have code of their own.
     #[inline(always)]
-    fn close(
+    fn close_rule(
         &mut self,
         symbol: &[u8],
-        frame: &Frame<BoundLifetimes>,
+        frame: Frame<BoundLifetimes>,
         parts: &mut Vec<Part>,
     ) -> Result<(), Refusal>
-        requires room { HasRoom (v0_view symbol.now) symbol.now self.old (owed_behind (v0_view symbol.now) frame.now parts.old.items) }
-        requires open { IsOpen (v0_view symbol.now) symbol.now self.old frame.now parts.old.items }
-        requires base { frame.now.base ≤ length parts.old.items }
-        requires place { frame.now.place < length symbol.now }
-        ensures closes { ClosesRule (v0_view symbol.now) symbol.now self.old self.new frame.now parts.old.items parts.new.items result }
-        ensures adds { OnOk result (Adds (v0_view symbol.now) self.old self.new (owed_behind (v0_view symbol.now) frame.now parts.old.items) 0) }
-        ensures few { AddsFew (v0_view symbol.now) self.old self.new frame.now parts.old.items }
+        requires room { HasRoom (v0_view symbol.now) symbol.now self.old (owed_behind (v0_view symbol.now) frame parts.old.items) }
+        requires base { frame.base ≤ length parts.old.items }
+        requires place { frame.place < length symbol.now }
+        ensures closes { ClosesRule (v0_view symbol.now) symbol.now self.old self.new frame parts.old.items parts.new.items result }
+        ensures adds { OnOk result (Adds (v0_view symbol.now) self.old self.new (owed_behind (v0_view symbol.now) frame parts.old.items) 0) }
+        ensures few { AddsFew (v0_view symbol.now) self.old self.new frame parts.old.items }
+        ensures made { OnOk result (length self.new.nodes.nodes ≡ length self.old.nodes.nodes + made_by frame.rule) }
         ensures pays { OnOk result ((at : ℕ) → Pays (v0_view symbol.now) self.old self.new at at) }
         ensures keeps { KeepsRoom (v0_view symbol.now) self.old self.new parts.old parts.new }
         ensures full { NeedsRoom (v0_view symbol.now) self.old self.new parts.old parts.new result }
     {
-        let frame = *frame;
         match numbered(frame.rule) {
             // the name is what the rule means: it stays
             Some(Production::PlainName) if is_name(&parts[frame.base..]) => Ok(()),
@@ -424,6 +373,110 @@ impl Linking for RustNodes {
             _ => self.close_rare(symbol, frame, parts),
         }
     }
+}
 
-    ghost laws = { v0_laws };
+impl Linking for RustNodes {
+    ghost use Rattle.std.specs.Prelude.{◌≡◌, ℕ, ◌+◌, ◌<◌, ◌≤◌, [], List, length, take, drop, OnOk, OnErr};
+    ghost use Rattle.sym_link.specs.Linking.{HasRoom, IsOpen, OpensRoot, Opens, TakesToken, ClosesRule, Adds, AddsFew, Pays, KeepsRoom, NeedsRoom, TokenNeedsRoom, owed_behind, owed_next};
+    ghost use Rattle.sym_link.specs.Room.{KeepRoom, OnlyForRoom};
+    ghost use Rattle.sym_link.specs.Tally.{Tally};
+    ghost use Rattle.rust_v0.specs.Value.{Value, State};
+    ghost use Rattle.rust_v0.specs.NodeCount.{v0_counted};
+    ghost use Rattle.rust_v0.specs.LanguageLaws.{v0_counted_laws};
+
+    type Part = Part;
+
+    type Kept = BoundLifetimes;
+
+    ghost Value = { Value };
+
+    ghost State = { Tally State };
+
+    ghost Context = { ℕ };
+
+    ghost view = { v0_counted };
+
+    fn root(&mut self, symbol: &[u8], _rows: &[Row], row: Row) -> Result<BoundLifetimes, Refusal>
+        requires room { HasRoom (v0_counted symbol.now) symbol.now self.old 0 }
+        requires end { row.end ≤ length _rows.now }
+        ensures opens { OpensRoot (v0_counted symbol.now) symbol.now _rows.now self.old self.new row result }
+        ensures adds { OnOk result (Adds (v0_counted symbol.now) self.old self.new 0 0) }
+        ensures few { OnErr result ((v0_counted symbol.now).size self.new ≤ (v0_counted symbol.now).size self.old) }
+        ensures pays { OnOk result (Pays (v0_counted symbol.now) self.old self.new 0 0) }
+        ensures keeps { KeepRoom ((v0_counted symbol.now).lists self.old) ((v0_counted symbol.now).lists self.new) }
+        ensures full { OnlyForRoom ⊥ ((v0_counted symbol.now).lists self.old) ((v0_counted symbol.now).lists self.new) result }
+    {
+        Ok(BoundLifetimes { bound: 0 })
+    }
+
+    fn enter(
+        &mut self,
+        symbol: &[u8],
+        _rows: &[Row],
+        frame: &Frame<BoundLifetimes>,
+        parts: &mut Vec<Part>,
+        row: Row,
+    ) -> Result<BoundLifetimes, Refusal>
+        requires room { HasRoom (v0_counted symbol.now) symbol.now self.old (owed_behind (v0_counted symbol.now) frame.now parts.old.items) }
+        requires open { IsOpen (v0_counted symbol.now) symbol.now self.old frame.now parts.old.items }
+        requires base { frame.now.base ≤ length parts.old.items }
+        requires place { row.from < length symbol.now }
+        requires end { row.end ≤ length _rows.now }
+        ensures opens { Opens (v0_counted symbol.now) symbol.now _rows.now self.old self.new frame.now parts.old.items parts.new.items row result }
+        ensures adds { OnOk result (Adds (v0_counted symbol.now) self.old self.new (owed_behind (v0_counted symbol.now) frame.now parts.old.items) (owed_next (v0_counted symbol.now) frame.now parts.new.items)) }
+        ensures few { OnErr result (AddsFew (v0_counted symbol.now) self.old self.new frame.now parts.old.items) }
+        ensures pays { OnOk result ((at : ℕ) → at ≤ row.from → Pays (v0_counted symbol.now) self.old self.new at row.from) }
+        ensures keeps { KeepsRoom (v0_counted symbol.now) self.old self.new parts.old parts.new }
+        ensures full { NeedsRoom (v0_counted symbol.now) self.old self.new parts.old parts.new result }
+    {
+        let bound = bound_behind(*frame, parts);
+        Ok(BoundLifetimes { bound })
+    }
+
+    #[inline(always)]
+    fn token(
+        &mut self,
+        symbol: &[u8],
+        frame: &Frame<BoundLifetimes>,
+        parts: &mut Vec<Part>,
+        row: Row,
+    ) -> Result<(), Refusal>
+        requires room { HasRoom (v0_counted symbol.now) symbol.now self.old (owed_behind (v0_counted symbol.now) frame.now parts.old.items) }
+        requires open { IsOpen (v0_counted symbol.now) symbol.now self.old frame.now parts.old.items }
+        requires base { frame.now.base ≤ length parts.old.items }
+        requires from { row.from ≤ row.to }
+        requires to { row.to ≤ length symbol.now }
+        ensures takes { TakesToken (v0_counted symbol.now) symbol.now self.old self.new frame.now parts.old.items parts.new.items row result }
+        ensures adds { OnOk result (Adds (v0_counted symbol.now) self.old self.new (owed_behind (v0_counted symbol.now) frame.now parts.old.items) (owed_behind (v0_counted symbol.now) frame.now parts.new.items)) }
+        ensures few { OnErr result (AddsFew (v0_counted symbol.now) self.old self.new frame.now parts.old.items) }
+        ensures pays { OnOk result ((at : ℕ) → at ≤ row.from → (length parts.old.items ≡ frame.now.base → at ≤ frame.now.place)
+            → Pays (v0_counted symbol.now) self.old self.new at row.to) }
+        ensures keeps { KeepsRoom (v0_counted symbol.now) self.old self.new parts.old parts.new }
+        ensures full { TokenNeedsRoom (v0_counted symbol.now) symbol.now self.old self.new frame.now parts.old parts.new row result }
+    {
+        self.take_token(symbol, *frame, parts, row)
+    }
+
+    #[inline(always)]
+    fn close(
+        &mut self,
+        symbol: &[u8],
+        frame: &Frame<BoundLifetimes>,
+        parts: &mut Vec<Part>,
+    ) -> Result<(), Refusal>
+        requires room { HasRoom (v0_counted symbol.now) symbol.now self.old (owed_behind (v0_counted symbol.now) frame.now parts.old.items) }
+        requires open { IsOpen (v0_counted symbol.now) symbol.now self.old frame.now parts.old.items }
+        requires base { frame.now.base ≤ length parts.old.items }
+        requires place { frame.now.place < length symbol.now }
+        ensures closes { ClosesRule (v0_counted symbol.now) symbol.now self.old self.new frame.now parts.old.items parts.new.items result }
+        ensures adds { OnOk result (Adds (v0_counted symbol.now) self.old self.new (owed_behind (v0_counted symbol.now) frame.now parts.old.items) 0) }
+        ensures few { AddsFew (v0_counted symbol.now) self.old self.new frame.now parts.old.items }
+        ensures pays { OnOk result ((at : ℕ) → Pays (v0_counted symbol.now) self.old self.new at at) }
+        ensures keeps { KeepsRoom (v0_counted symbol.now) self.old self.new parts.old parts.new }
+        ensures full { NeedsRoom (v0_counted symbol.now) self.old self.new parts.old parts.new result }
+    {
+        self.close_rule(symbol, *frame, parts)
+    }
+
+    ghost laws = { v0_counted_laws };
 }

@@ -1,6 +1,6 @@
 // Rust's mangling, as the demangler takes it.
 
-ghost use Rattle.std.specs.Prelude.{◌≡◌, ℕ, ◌∷◌, [], OnOk, IfErr, Ok};
+ghost use Rattle.std.specs.Prelude.{◌≡◌, ℕ, ◌∷◌, [], length, OnOk, IfErr, Ok};
 ghost use Rattle.sym_core.specs.Number.{FitsSymbol};
 ghost use Rattle.sym_core.specs.declared.refusal.Refusal.TheVariants as refusals;
 ghost use Rattle.sym_print.specs.declared.layout.Part.TheVariants as parts;
@@ -9,7 +9,7 @@ ghost use Rattle.sym_demangle.specs.Standing.{Begins, IsLinked};
 ghost use Rattle.rust_tree.specs.Layout.{MayCome, unshared_of};
 ghost use Rattle.rust_tree.specs.Shown.{symbol_parts};
 ghost use Rattle.rust_v0.specs.declared.part.Part.TheVariants as part;
-ghost use Rattle.rust_v0.specs.RustNodes.{v0_view};
+ghost use Rattle.rust_v0.specs.NodeCount.{v0_counted, nodes_of_shape};
 ghost use Rattle.rust_v0.specs.Mangled.{whole_of};
 ghost use Rattle.rust_v0.specs.Unfold.{unfolded};
 
@@ -35,10 +35,11 @@ fn whole_node(parts: &[Part]) -> u32
 }
 
 impl Mangling for V0 {
-    ghost use Rattle.std.specs.Prelude.{refl};
+    ghost use Rattle.std.specs.Prelude.{length, refl};
     ghost use Rattle.rust_tree.specs.Symbol as tree;
     ghost use Rattle.rust_v0.specs.Mangled.{v0_mangled, v0_fails, v0_counts, node_count, whole_of};
     ghost use Rattle.rust_v0.specs.RustNodes as nodes;
+    ghost use Rattle.rust_v0.specs.NodeCount as count;
 
     type Linked = RustNodes;
 
@@ -56,6 +57,10 @@ impl Mangling for V0 {
 
     ghost steps_of = { λ y. y.steps };
 
+    ghost nodes_of = { λ y. length y.table.nodes };
+
+    ghost are_nodes = { count.are_nodes };
+
     ghost count_of = { node_count };
 
     ghost first_nodes = { nodes.first_nodes };
@@ -70,7 +75,7 @@ impl Mangling for V0 {
 
     fn restart(linked: &mut RustNodes, symbol: &[u8]) -> Result<(), Refusal>
         requires { FitsSymbol symbol.now }
-        ensures begins { OnOk result (Begins (v0_view symbol.now) linked.new) }
+        ensures begins { OnOk result (Begins (v0_counted symbol.now) linked.new) }
         ensures memory { IfErr result (λ e. e ≡ refusals.Memory) }
     {
         linked.restart(symbol)
@@ -83,11 +88,12 @@ impl Mangling for V0 {
         rows: u32,
         steps: u32,
     ) -> Symbol
-        requires { (shape : Tree) × IsLinked (v0_view bytes.items) bytes.items linked.old parts.now rows steps shape }
+        requires { (shape : Tree) × IsLinked (v0_counted bytes.items) bytes.items linked.old parts.now rows steps shape }
         ensures bytes { result.bytes ≡ bytes.items }
-        ensures whole { (shape : Tree) → IsLinked (v0_view bytes.items) bytes.items linked.old parts.now rows steps shape → Ok (whole_of result) ≡ unfolded shape }
+        ensures whole { (shape : Tree) → IsLinked (v0_counted bytes.items) bytes.items linked.old parts.now rows steps shape → Ok (whole_of result) ≡ unfolded shape }
         ensures rows { result.rows ≡ rows }
         ensures steps { result.steps ≡ steps }
+        ensures nodes { (shape : Tree) → IsLinked (v0_counted bytes.items) bytes.items linked.old parts.now rows steps shape → length result.table.nodes ≡ nodes_of_shape shape }
     {
         let root = whole_node(parts);
         let nodes = mem::replace(&mut linked.nodes, Nodes::new(linked.alloc));

@@ -171,6 +171,7 @@ impl RustNodes {
             → MadeGives at.symbol self.old.nodes at (Ok (Made.Node node)) read → Gives (v0_view at.symbol) self.new (semantics.as_part result) read }
         ensures grows { GoesOn self.old self.new }
         ensures one { length self.new.nodes.nodes ≤ length self.old.nodes.nodes + 1 }
+        ensures more { OnOk result (length self.new.nodes.nodes ≡ length self.old.nodes.nodes + 1) }
         ensures text { self.new.nodes.text ≡ self.old.nodes.text }
         ensures full { IfErr result (λ e. e ≡ refusals.Memory → self.old.nodes.node_room < length self.new.nodes.nodes + 1) }
         ensures node_room { self.old.nodes.node_room ≤ self.new.nodes.node_room }
@@ -305,6 +306,7 @@ impl RustNodes {
             → MadeGives at.symbol self.old.nodes at meant read → Gives (v0_view at.symbol) self.new (semantics.as_part result) read }
         ensures grows { GoesOn self.old self.new }
         ensures one { length self.new.nodes.nodes ≤ length self.old.nodes.nodes + 1 }
+        ensures more { OnOk result (length self.new.nodes.nodes ≡ length self.old.nodes.nodes + 1) }
         ensures text { self.new.nodes.text ≡ self.old.nodes.text }
         ensures full { IfErr result (λ e. e ≡ refusals.Memory → self.old.nodes.node_room < length self.new.nodes.nodes + 1) }
         ensures node_room { self.old.nodes.node_room ≤ self.new.nodes.node_room }
@@ -330,6 +332,7 @@ impl RustNodes {
             → MadeGives at.symbol self.old.nodes at (semantics.made production at.symbol at.place at.bound parts.now) read → Gives (v0_view at.symbol) self.new (semantics.as_part result) read }
         ensures grows { GoesOn self.old self.new }
         ensures one { length self.new.nodes.nodes ≤ length self.old.nodes.nodes + 1 }
+        ensures more { OnOk result (length self.new.nodes.nodes ≡ length self.old.nodes.nodes + 1) }
         ensures text { self.new.nodes.text ≡ self.old.nodes.text }
         ensures full { IfErr result (λ e. e ≡ refusals.Memory → self.old.nodes.node_room < length self.new.nodes.nodes + 1) }
         ensures node_room { self.old.nodes.node_room ≤ self.new.nodes.node_room }

@@ -19,7 +19,7 @@ use Rattle.sym_link.specs.Following.{IsShape, IsDriving, IsStepTo, meaning_of}
 use Rattle.sym_link.proofs.Starting.{driving_few}
 use Rattle.sym_link.proofs.Driving.{driving_on}
 use Rattle.sym_demangle.specs.Mangled.{Mangled, IsRefused}
-use Rattle.sym_demangle.specs.Standing.{Begins, IsLinker, IsLinked, CountsNodes, AreLinkSteps, AreStepsInAll}
+use Rattle.sym_demangle.specs.Standing.{Begins, IsLinker, IsLinked, CountsNodes, AreLinkSteps, AreStepsInAll, AreNodesOf}
 
 -- a linker in front of the first row
 pub begun : {N P K V S C : Type 0} (view : View N P K V S C) (g : Table) (s : List ℕ) (rows : List Row) (read : ℕ) (nodes : N) → view.table ≡ g
@@ -110,3 +110,9 @@ pub counted_two : {N P K V S C : Type 0} (view : View N P K V S C) (s : List ℕ
 counted_two view s rows shape old new steps new_steps refused next frames parts count first counts open_still driving added =
     let paid = driving_paid view s rows shape old steps refused next frames parts open_still driving in
     omega (arith, counts.most new, counts.least old paid.0 paid.1, added)
+
+-- nodes of a shape that spells the symbol are those of its one tree
+pub shape_nodes : (g : Table) (lawful : IsLawful g) (Are : Tree → ℕ → Type 0) (s : List ℕ) (shape : Tree) (nodes : ℕ) → IsTree g (Kind 0) shape → spell shape ≡ s → Are shape nodes
+    → AreNodesOf g Are s nodes
+shape_nodes g lawful Are s shape nodes is spelled are = λ tree is_tree there.
+    subst (λ t. Are t nodes) (one_tree g lawful shape tree is is_tree (spelled ∙ sym there)) are

@@ -48,6 +48,10 @@ AreLinkSteps g s steps = (tree : Tree) → IsTree g (Kind 0) tree → spell tree
 abbrev pub AreStepsInAll : Table → List ℕ → ℕ → Type 0
 AreStepsInAll g s steps = (tree : Tree) → IsTree g (Kind 0) tree → spell tree ≡ s → steps ≡ read_steps tree + link_steps tree
 
+-- So many nodes are those of the one tree that spells the symbol, where a language says which those of a tree are.
+abbrev pub AreNodesOf : Table → (Are : Tree → ℕ → Type 0) → List ℕ → ℕ → Type 0
+AreNodesOf g Are s nodes = (tree : Tree) → IsTree g (Kind 0) tree → spell tree ≡ s → Are tree nodes
+
 -- A table has its first nodes, of which there are few, and those that the language counts.
 pub record CountsNodes {N P K V S C : Type 0} (view : View N P K V S C) (count : N → ℕ) (first : ℕ) : Type 0 where
   pub few : first ≤ 8

@@ -8,7 +8,7 @@ ghost use Rattle.sym_shape.specs.Reader.{AreFew};
 ghost use Rattle.sym_shape.specs.Tree.{AreRowsOf, AreStepsOf};
 ghost use Rattle.sym_shape.specs.declared.rule.Row.{Row};
 ghost use Rattle.sym_demangle.specs.Mangled.{IsReading, IsAnswer};
-ghost use Rattle.sym_demangle.specs.Standing.{AreStepsInAll};
+ghost use Rattle.sym_demangle.specs.Standing.{AreStepsInAll, AreNodesOf};
 
 use crate::linker::Linker;
 use crate::mangling::Mangling;
@@ -27,6 +27,7 @@ fn link<M: Mangling>(alloc: Global, bytes: Vec<u8>, shape: Shape) -> Result<M::S
     ensures symbol { IfOk result (λ symbol. IsReading M.mangled bytes.items (Ok (M.whole_of symbol))) }
     ensures rows { IfOk result (λ symbol. M.rows_of symbol ≡ length shape.rows) }
     ensures steps { IfOk result (λ symbol. AreStepsInAll M.mangled.table bytes.items (M.steps_of symbol)) }
+    ensures nodes { IfOk result (λ symbol. AreNodesOf M.mangled.table M.are_nodes bytes.items (M.nodes_of symbol)) }
     ensures refused { IfErr result (λ e. (e ≡ refusals.Memory) ⊎ IsReading M.mangled bytes.items (Err e)) }
     ensures never_too_long { IfErr result (λ e. e ≢ refusals.TooLong) }
 {
@@ -46,9 +47,10 @@ pub fn read<M: Mangling>(alloc: Global, s: &[u8]) -> Result<M::Symbol, Refusal>
     requires { FitsSymbol s.now }
     ensures bytes { IfOk result (λ symbol. M.bytes_of symbol ≡ s.now) }
     ensures symbol { IfOk result (λ symbol. IsReading M.mangled s.now (Ok (M.whole_of symbol))) }
-    // The rows and steps that are counted are those of the symbol's one tree.
+    // The rows, steps and nodes that are counted are those of the symbol's one tree.
     ensures rows { IfOk result (λ symbol. (rows : List Row) × AreRowsOf M.mangled.table s.now rows × (M.rows_of symbol ≡ length rows)) }
     ensures steps { IfOk result (λ symbol. AreStepsInAll M.mangled.table s.now (M.steps_of symbol)) }
+    ensures nodes { IfOk result (λ symbol. AreNodesOf M.mangled.table M.are_nodes s.now (M.nodes_of symbol)) }
     ensures refused { IfErr result (λ e. (e ≡ refusals.Memory) ⊎ IsReading M.mangled s.now (Err e)) }
     ensures never_too_long { IfErr result (λ e. e ≢ refusals.TooLong) }
 {
@@ -67,9 +69,10 @@ pub fn read_fed<M: Mangling>(alloc: Global, mut reader: Reader<M>) -> Result<M::
     requires { reader.ended ≡ true }
     ensures bytes { IfOk result (λ symbol. M.bytes_of symbol ≡ reader.bytes) }
     ensures symbol { IfOk result (λ symbol. IsReading M.mangled reader.bytes (Ok (M.whole_of symbol))) }
-    // The rows and steps that are counted are those of the symbol's one tree.
+    // The rows, steps and nodes that are counted are those of the symbol's one tree.
     ensures rows { IfOk result (λ symbol. (rows : List Row) × AreRowsOf M.mangled.table reader.bytes rows × (M.rows_of symbol ≡ length rows)) }
     ensures steps { IfOk result (λ symbol. AreStepsInAll M.mangled.table reader.bytes (M.steps_of symbol)) }
+    ensures nodes { IfOk result (λ symbol. AreNodesOf M.mangled.table M.are_nodes reader.bytes (M.nodes_of symbol)) }
     ensures refused { IfErr result (λ e. (e ≡ refusals.Memory) ⊎ IsReading M.mangled reader.bytes (Err e)) }
     ensures never_too_long { IfErr result (λ e. e ≢ refusals.TooLong) }
 {

@@ -8,7 +8,7 @@ ghost use Rattle.sym_shape.specs.Reader.{AreFew};
 ghost use Rattle.sym_link.specs.Linking.{TokenTakesMemory};
 ghost use Rattle.sym_link.specs.Room.{KeepRoom, OnlyForRoom};
 ghost use Rattle.sym_demangle.specs.Mangled.{StandsFor, IsRefused};
-ghost use Rattle.sym_demangle.specs.Standing.{Progress, unlinked, AddsTwoEach, AreFewInAll, AreLinkSteps, IsLinker};
+ghost use Rattle.sym_demangle.specs.Standing.{Progress, unlinked, AddsTwoEach, AreFewInAll, AreLinkSteps, AreNodesOf, IsLinker};
 
 use crate::mangling::Mangling;
 use std::alloc::Global;
@@ -55,6 +55,7 @@ pub(crate) fn finished<M: Mangling>(
     ensures rows { M.rows_of result ≡ length shape.now.rows }
     ensures steps { M.steps_of result ≡ shape.now.steps + driver.now.steps }
     ensures all_steps { AreLinkSteps M.mangled.table bytes.items driver.now.steps }
+    ensures nodes { AreNodesOf M.mangled.table M.are_nodes bytes.items (M.nodes_of result) }
 {
     let rows = shape.rows().len() as u32;
     let steps = shape.steps() + driver.steps;
@@ -198,6 +199,7 @@ impl<M: Mangling> Linker<M> {
         ensures rows { M.rows_of result ≡ self.rows }
         ensures steps { M.steps_of result ≡ self.read_steps + self.steps }
         ensures all_steps { AreLinkSteps M.mangled.table self.bytes self.steps }
+        ensures nodes { AreNodesOf M.mangled.table M.are_nodes self.bytes (M.nodes_of result) }
     {
         let Linker {
             bytes,

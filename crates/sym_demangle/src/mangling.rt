@@ -32,7 +32,7 @@ pub trait Mangling: Grammar + Copy {
 
     ghost mangled: { Mangled Whole };
 
-    // the tree of a symbol that was read, its bytes, and the numbers of its rows and of the steps that reading took
+    // the tree of a symbol that was read, its bytes, the numbers of its rows and of the steps that reading took, and of its nodes
     ghost whole_of: { Self.Symbol → Whole };
 
     ghost bytes_of: { Self.Symbol → List ℕ };
@@ -40,6 +40,11 @@ pub trait Mangling: Grammar + Copy {
     ghost rows_of: { Self.Symbol → ℕ };
 
     ghost steps_of: { Self.Symbol → ℕ };
+
+    ghost nodes_of: { Self.Symbol → ℕ };
+
+    // whether a symbol of a shape has so many nodes
+    ghost are_nodes: { Tree → ℕ → Type 0 };
 
     // how many nodes a table has, and how many of them it has before the first step
     ghost count_of: { Self.Linked → ℕ };
@@ -70,7 +75,8 @@ pub trait Mangling: Grammar + Copy {
         ensures bytes { bytes_of result ≡ bytes.items }
         ensures whole { (shape : Tree) → IsLinked (Self.Linked.view bytes.items) bytes.items linked.old parts.now rows steps shape → Ok (whole_of result) ≡ mangled.unfolded shape }
         ensures rows { rows_of result ≡ rows }
-        ensures steps { steps_of result ≡ steps };
+        ensures steps { steps_of result ≡ steps }
+        ensures nodes { (shape : Tree) → IsLinked (Self.Linked.view bytes.items) bytes.items linked.old parts.now rows steps shape → are_nodes shape (nodes_of result) };
 
     /// The item of a whole symbol in a detail.
     fn root(symbol: &Self::Symbol, detail: Detail) -> Item<<Self::Symbol as Layout>::Ctx>

@@ -9,7 +9,7 @@ ghost use Rattle.sym_shape.specs.Reader.{AreFew};
 ghost use Rattle.sym_shape.specs.Tree.{AreRowsOf, AreStepsOf};
 ghost use Rattle.sym_shape.specs.declared.rule.Row.{Row};
 ghost use Rattle.sym_demangle.specs.Mangled.{IsReading, IsAnswer, StandsFor, IsRefused};
-ghost use Rattle.sym_demangle.specs.Standing.{AreStepsInAll};
+ghost use Rattle.sym_demangle.specs.Standing.{AreStepsInAll, AreNodesOf};
 
 use crate::linker::finished;
 use crate::mangling::Mangling;
@@ -143,6 +143,7 @@ impl<M: Mangling> Workspace<M> {
         ensures symbol { IfOk result (λ symbol. IsReading M.mangled (self.old.ahead.bytes ++ rest.now) (Ok (M.whole_of symbol))) }
         ensures rows { IfOk result (λ symbol. (rows : List Row) × AreRowsOf M.mangled.table (self.old.ahead.bytes ++ rest.now) rows × (M.rows_of symbol ≡ length rows)) }
         ensures steps { IfOk result (λ symbol. AreStepsInAll M.mangled.table (self.old.ahead.bytes ++ rest.now) (M.steps_of symbol)) }
+        ensures nodes { IfOk result (λ symbol. AreNodesOf M.mangled.table M.are_nodes (self.old.ahead.bytes ++ rest.now) (M.nodes_of symbol)) }
         ensures refused { IfErr result (λ e. (e ≡ refusals.Memory) ⊎ IsReading M.mangled (self.old.ahead.bytes ++ rest.now) (Err e)) }
         ensures never_too_long { IfErr result (λ e. e ≢ refusals.TooLong) }
     {
@@ -172,6 +173,7 @@ impl<M: Mangling> Workspace<M> {
         ensures stands { IfOk result (λ symbol. StandsFor M.mangled self.old.bytes.items (Ok (M.whole_of symbol))) }
         ensures rows { IfOk result (λ symbol. M.rows_of symbol ≡ length self.old.shape.rows) }
         ensures steps { IfOk result (λ symbol. AreStepsInAll M.mangled.table self.old.bytes.items (M.steps_of symbol)) }
+        ensures nodes { IfOk result (λ symbol. AreNodesOf M.mangled.table M.are_nodes self.old.bytes.items (M.nodes_of symbol)) }
         ensures refused { IfErr result (IsRefused M.mangled self.old.bytes.items) }
     {
         M::restart(&mut self.linked, &self.bytes)?;
@@ -192,9 +194,10 @@ impl<M: Mangling> Workspace<M> {
         requires { FitsSymbol s.now }
         ensures bytes { IfOk result (λ symbol. M.bytes_of symbol ≡ s.now) }
         ensures symbol { IfOk result (λ symbol. IsReading M.mangled s.now (Ok (M.whole_of symbol))) }
-        // The rows and steps that are counted are those of the symbol's one tree.
+        // The rows, steps and nodes that are counted are those of the symbol's one tree.
         ensures rows { IfOk result (λ symbol. (rows : List Row) × AreRowsOf M.mangled.table s.now rows × (M.rows_of symbol ≡ length rows)) }
         ensures steps { IfOk result (λ symbol. AreStepsInAll M.mangled.table s.now (M.steps_of symbol)) }
+        ensures nodes { IfOk result (λ symbol. AreNodesOf M.mangled.table M.are_nodes s.now (M.nodes_of symbol)) }
         ensures refused { IfErr result (λ e. (e ≡ refusals.Memory) ⊎ IsReading M.mangled s.now (Err e)) }
         ensures never_too_long { IfErr result (λ e. e ≢ refusals.TooLong) }
     {

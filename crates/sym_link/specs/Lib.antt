@@ -14,5 +14,6 @@ pub mod Room
 pub mod Linking
 pub mod Stepping
 pub mod Following
+pub mod Tally
 pub mod Counting
 pub mod CountingLaws

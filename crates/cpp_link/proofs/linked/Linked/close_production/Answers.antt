@@ -1,6 +1,7 @@
 use Rattle.std.specs.Prelude.{slice_index}
 use Rattle.cpp_link.specs.Making.{state_of}
 use Rattle.cpp_link.specs.Parts.{trees_in, value_in, values_in, packs_of, around_of}
+use Rattle.cpp_link.proofs.NodeCount.{none_substituted}
 use Rattle.cpp_link.proofs.Making.{substitution_closes, substitution_refused, other_closes}
 use Rattle.cpp_link.proofs.linked.Linked.close_production.Goals as goal
 
@@ -21,3 +22,7 @@ returns-in_default-clause-is c =
     let s = c.args.symbol.now in
     other_closes c.args.production (slice_index s c.args.place) (around_of (trees_in s c.args.self.now.nodes) c.args.kept) c.args.place (values_in s c.args.self.now.nodes c.args.parts.now)
     (state_of s c.args.self.now) (state_of s c.make.new.self) (packs_of c.args.kept) (value_in s c.make.new.self.nodes) c.make.result c.in_default.not-Substitution c.make.ensures.value c.make.ensures.state
+
+pub returns-in-Substitution-clause-makes : goal.returns-in-Substitution-clause-makes
+returns-in-Substitution-clause-makes c =
+    none_substituted c.args.self.now c.substitute.new.self c.substitute.result c.args.production (values_in c.args.symbol.now c.args.self.now.nodes c.args.parts.now) c.in-Substitution.is c.substitute.ensures.nodes

@@ -1,6 +1,7 @@
 use Rattle.std.proofs.Common.{drop, take}
 use Rattle.std.proofs.lemmas.Result.{err_from_is_err_and}
 use Rattle.sym_link.proofs.Lists.{rest_all}
+use Rattle.cpp_link.proofs.NodeCount.{made_where_closed}
 use Rattle.cpp_link.proofs.Finishing.{put_right, refused_right, ends_few, few_adds}
 use Rattle.cpp_link.proofs.Viewing.{open_there}
 use Rattle.cpp_link.proofs.linked.Linked.finish_as.Goals as goal
@@ -49,3 +50,8 @@ returns-clause-adds c = (
       (ends_few c.args.symbol.now c.args.self.now c.close_production.new.self c.args.frame.now c.args.parts.now.items _ c.args.production
       c.requires.numbered (rw c.deref.ensures.value (rest_all c.args.parts.now.items c.args.frame.now.base)) c.requires.room.paid.begun c.in_ok-made.ensures.few),
 )
+
+pub returns-clause-makes : goal.returns-clause-makes
+returns-clause-makes c =
+    made_where_closed c.args.symbol.now c.args.self.now c.close_production.new.self c.args.frame.now c.args.parts.now.items _ c.args.production
+    (rw c.deref.ensures.value (rest_all c.args.parts.now.items c.args.frame.now.base)) c.requires.numbered c.in_ok-made.ensures.makes

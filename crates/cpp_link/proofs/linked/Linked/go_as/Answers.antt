@@ -5,6 +5,7 @@ use Rattle.cpp_grammar.specs.declared.production.Production.{Production}
 use Rattle.cpp_grammar.specs.Unfolding.{production_at}
 use Rattle.cpp_link.specs.declared.part.Part.{Part}
 use Rattle.cpp_link.specs.Stepping.{IsStepOf, nodes_of_step}
+use Rattle.cpp_link.proofs.NodeCount.{made_before_part}
 use Rattle.cpp_link.proofs.GoingOn.{goes_right, refused_right, adds_right, steps_few, refused_few}
 use Rattle.cpp_link.proofs.Viewing.{open_there}
 use Rattle.cpp_link.proofs.linked.Linked.go_as.Goals as goal
@@ -87,3 +88,10 @@ returns-clause-few c =
     λ is none. c.in_ok-step.ensures.pack (numbered ∙ is) (same ∙ none) in
     steps_few c.args.symbol.now c.args.self.now c.take_step.new.self c.args.frame.now c.args.parts.now.items c.take_step.new.parts.items c.in_ok-then.then c.requires.room.paid
     c.in_ok-then.ensures.takes.grows.least (c.in_ok-then.ensures.few (production_at c.args.frame.now.rule) of pack)
+
+pub returns-clause-makes : goal.returns-clause-makes
+returns-clause-makes c =
+    let own : List Part = take (length c.deref.result.now - c.args.frame.now.base) (drop c.args.frame.now.base c.deref.result.now) in
+    let same : own ≡ drop c.args.frame.now.base c.args.parts.now.items = rest_all c.deref.result.now c.args.frame.now.base ∙ ap (λ ps. drop c.args.frame.now.base ps) c.deref.ensures.value in
+    omega (arith, c.in_ok-then.ensures.more, made_before_part c.args.symbol.now c.args.self.now c.args.frame.now c.args.parts.now.items own c.args.production (nodes_of_step c.in_ok-step.step)
+    same c.requires.numbered c.in_ok-step.ensures.makes)

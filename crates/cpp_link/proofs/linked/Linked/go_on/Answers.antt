@@ -1,4 +1,5 @@
 use Rattle.std.proofs.Common.{subst, ◌∙◌, ap, ◌-◌, ◌<◌}
+use Rattle.cpp_link.proofs.NodeCount.{quiet_made}
 use Rattle.cpp_link.proofs.GoingOn.{quiet_right, quiet_adds, quiet_few}
 use Rattle.cpp_link.proofs.linked.Linked.go_on.Goals as goal
 
@@ -13,3 +14,9 @@ returns-then-len-frame-clause-adds c = quiet_adds c.args.symbol.now c.args.self.
 
 pub returns-then-len-frame-clause-few : goal.returns-then-len-frame-clause-few
 returns-then-len-frame-clause-few c = quiet_few c.args.symbol.now c.args.self.now c.args.frame.now c.args.parts.now.items
+
+pub returns-then-len-frame-clause-makes : goal.returns-then-len-frame-clause-makes
+returns-then-len-frame-clause-makes c =
+    quiet_made c.args.symbol.now c.args.self.now c.args.frame.now c.args.parts.now.items (c.len.result - c.args.frame.now.base)
+    (ap (λ n. n - c.args.frame.now.base) (c.len.ensures ∙ c.args.parts.now.ok.0))
+    (subst (λ m. c.len.result - c.args.frame.now.base < m) c.quiet_parts.ensures c.if-len-frame.true)

@@ -3,6 +3,8 @@ use Rattle.cpp_tree.specs.Nodes as nodes
 use Rattle.cpp_link.specs.Closes.{pack_makes}
 use Rattle.cpp_link.specs.Owed.{made_before}
 use Rattle.cpp_link.specs.Reads.{goes_on, behind_first, named_if, appended_if}
+use Rattle.cpp_link.specs.Parts.{trees_in}
+use Rattle.cpp_link.proofs.NodeCount.{pack_made}
 use Rattle.cpp_link.proofs.Stepping.{pack_there}
 use Rattle.cpp_link.proofs.linked.Linked.pack.Goals as goal
 
@@ -17,4 +19,5 @@ returns-in_default c = record {
   there = c.list_in.ensures.there;
   made = sym (pack_there c.args.elements c.in_default.not-Nothing);
   of = (omega arith, refl);
+  makes = sym (pack_made c.args.symbol.now (trees_in c.args.symbol.now c.args.self.now.nodes) c.args.elements c.in_default.not-Nothing);
 }

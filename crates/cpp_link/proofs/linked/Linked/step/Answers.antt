@@ -12,7 +12,8 @@ use Rattle.cpp_link.specs.declared.part.Step.{Step}
 use Rattle.cpp_link.specs.Parts.{trees_in, value_in, values_in, around_of}
 use Rattle.cpp_link.specs.Reads.{goes_on}
 use Rattle.cpp_link.specs.declared.part.Part.{Part}
-use Rattle.cpp_link.specs.Stepping.{IsStepOf}
+use Rattle.cpp_link.specs.NodeCount.{makes_before}
+use Rattle.cpp_link.specs.Stepping.{IsStepOf, nodes_of_step}
 use Rattle.cpp_link.proofs.Stepping.{none_made}
 use Rattle.cpp_link.proofs.Places.{values_length, none_are, one_is, two_are, three_are, later_are, empty_length, many_more}
 use Rattle.cpp_link.proofs.linked.Linked.step.Goals as goal
@@ -102,3 +103,43 @@ returns-then-parts-eq3-clause-pack c is one = absurd (c.if-parts-eq1.false (ap (
 
 pub returns-clause-pack : goal.returns-clause-pack
 returns-clause-pack c is one = absurd (c.if-parts-eq1.false (ap (λ ps. length ps) one))
+
+pub returns-then-is_empty-clause-makes : goal.returns-then-is_empty-clause-makes
+returns-then-is_empty-clause-makes c =
+    let vs = values_in c.args.symbol.now c.args.self.now.nodes c.args.parts.now in
+    let none : vs ≡ [] = none_are vs (values_length _ _ c.args.parts.now ∙ empty_length c.args.parts.now (sym c.is_empty.ensures ∙ c.if-is_empty.true)) in
+    subst (λ xs. nodes_of_step c.step_first.result ≡ makes_before c.args.production xs) (sym none) c.step_first.ensures.makes
+
+pub returns-then-parts-eq1-clause-makes : goal.returns-then-parts-eq1-clause-makes
+returns-then-parts-eq1-clause-makes c =
+    let vs = values_in c.args.symbol.now c.args.self.now.nodes c.args.parts.now in
+    let one : vs ≡ value_in c.args.symbol.now c.args.self.now.nodes c.given-first.result ∷ [] =
+    one_is vs (values_length _ _ c.args.parts.now ∙ c.if-parts-eq1.true) ∙ ap (λ v. v ∷ []) (sym c.given-first.ensures.is) in
+    subst (λ xs. IfOk c.step_behind_first.result (λ step. nodes_of_step step ≡ makes_before c.args.production xs)) (sym one) c.step_behind_first.ensures.makes
+
+pub returns-then-parts-eq2-clause-makes : goal.returns-then-parts-eq2-clause-makes
+returns-then-parts-eq2-clause-makes c =
+    let vs = values_in c.args.symbol.now c.args.self.now.nodes c.args.parts.now in
+    let two : vs ≡ value_in c.args.symbol.now c.args.self.now.nodes c.given-first.result ∷ value_in c.args.symbol.now c.args.self.now.nodes c.given-second.result ∷ [] =
+    two_are vs (values_length _ _ c.args.parts.now ∙ c.if-parts-eq2.true) ∙ ap (λ v. v ∷ part vs 1 ∷ []) (sym c.given-first.ensures.is)
+    ∙ ap (λ v. value_in c.args.symbol.now c.args.self.now.nodes c.given-first.result ∷ v ∷ []) (sym c.given-second.ensures.is) in
+    subst (λ xs. nodes_of_step c.step_third.result ≡ makes_before c.args.production xs) (sym two) c.step_third.ensures.makes
+
+pub returns-then-parts-eq3-clause-makes : goal.returns-then-parts-eq3-clause-makes
+returns-then-parts-eq3-clause-makes c =
+    let vs = values_in c.args.symbol.now c.args.self.now.nodes c.args.parts.now in
+    let first : Value = value_in c.args.symbol.now c.args.self.now.nodes c.given-first.result in
+    let second : Value = value_in c.args.symbol.now c.args.self.now.nodes c.given-second.result in
+    let three : vs ≡ first ∷ second ∷ value_in c.args.symbol.now c.args.self.now.nodes c.given-third.result ∷ [] =
+    three_are vs (values_length _ _ c.args.parts.now ∙ c.if-parts-eq3.true) ∙ ap (λ v. v ∷ part vs 1 ∷ part vs 2 ∷ []) (sym c.given-first.ensures.is)
+    ∙ ap (λ v. first ∷ v ∷ part vs 2 ∷ []) (sym c.given-second.ensures.is) ∙ ap (λ v. first ∷ second ∷ v ∷ []) (sym c.given-third.ensures.is) in
+    subst (λ xs. nodes_of_step c.step_fourth.result ≡ makes_before c.args.production xs) (sym three) c.step_fourth.ensures.makes
+
+pub returns-clause-makes : goal.returns-clause-makes
+returns-clause-makes c =
+    let vs = values_in c.args.symbol.now c.args.self.now.nodes c.args.parts.now in
+    let size = values_length c.args.symbol.now (trees_in c.args.symbol.now c.args.self.now.nodes) c.args.parts.now in
+    let later = later_are vs (subst (λ n. 3 < n) (sym size) (many_more _ (sym c.is_empty.ensures ∙ c.if-is_empty.false) c.if-parts-eq1.false c.if-parts-eq2.false c.if-parts-eq3.false)) in
+    let are : vs ≡ value_in c.args.symbol.now c.args.self.now.nodes c.given-first.result ∷ later.second ∷ later.third ∷ later.fourth ∷ later.rest =
+    later.are ∙ ap (λ v. v ∷ later.second ∷ later.third ∷ later.fourth ∷ later.rest) (sym c.given-first.ensures.is) in
+    subst (λ xs. nodes_of_step c.step_later.result ≡ makes_before c.args.production xs) (sym are) (c.step_later.ensures.makes later.second later.third later.fourth later.rest)

@@ -1,9 +1,11 @@
-use Rattle.std.proofs.Common.{◌≡◌, sym, ◌∙◌, subst}
+use Rattle.std.proofs.Common.{◌≡◌, sym, ◌∙◌, subst, [], ◌∷◌}
 use Rattle.std.specs.Prelude.{IfOk}
 use Rattle.cpp_grammar.specs.declared.production.Production.{Production}
 use Rattle.cpp_term.specs.Between.{between}
 use Rattle.cpp_link.specs.Parts.{value_in}
-use Rattle.cpp_link.specs.Stepping.{IsStepOf}
+use Rattle.cpp_link.specs.Owed.{made_before}
+use Rattle.cpp_link.specs.NodeCount.{makes_before}
+use Rattle.cpp_link.specs.Stepping.{IsStepOf, nodes_of_step}
 use Rattle.cpp_link.proofs.Stepping.{parameter_steps, nest_parameter_steps}
 use Rattle.cpp_link.proofs.linked.Linked.step_behind_first.Goals as goal
 
@@ -37,3 +39,14 @@ returns-in-PackArgument-clause-pack c is = c.pack.ensures.made
 
 pub returns-in_default-clause-pack : goal.returns-in_default-clause-pack
 returns-in_default-clause-pack c is = absurd (c.in_default.not-PackArgument is)
+
+pub returns-in-Parameter-clause-makes : goal.returns-in-Parameter-clause-makes
+unfolding makes_before made_before
+returns-in-Parameter-clause-makes c =
+    subst (λ p. IfOk c.parameter.result (λ step. nodes_of_step step ≡ makes_before p (value_in c.args.symbol.now c.args.self.now.nodes c.args.first ∷ []))) (sym c.in-Parameter.is) c.parameter.ensures.one
+
+pub returns-in-NestParameter-clause-makes : goal.returns-in-NestParameter-clause-makes
+unfolding makes_before made_before
+returns-in-NestParameter-clause-makes c =
+    subst (λ p. IfOk c.parameter-in-NestParameter.result (λ step. nodes_of_step step ≡ makes_before p (value_in c.args.symbol.now c.args.self.now.nodes c.args.first ∷ []))) (sym c.in-NestParameter.is)
+    c.parameter-in-NestParameter.ensures.one

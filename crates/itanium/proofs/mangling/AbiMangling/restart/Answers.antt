@@ -4,6 +4,6 @@ use Rattle.itanium.proofs.mangling.AbiMangling.restart.Goals as goal
 pub returns-clause-begins : goal.returns-clause-begins
 returns-clause-begins c = record {
   size = omega (arith, c.in_ok-restart.ensures.size);
-  holds = c.in_ok-restart.ensures.holds c.args._symbol.now;
+  holds = (c.in_ok-restart.ensures.holds c.args._symbol.now, omega (arith, c.in_ok-restart.ensures.size));
   paid = c.in_ok-restart.ensures.paid;
 }

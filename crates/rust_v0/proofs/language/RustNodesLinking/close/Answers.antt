@@ -1,32 +1,14 @@
-use Rattle.std.proofs.Common.{◌≡◌, ◌<◌, ◌++◌, ◌∷◌, [], refl, sym, ap, ◌∙◌, arith, Some, Ok, drop, take}
-use Rattle.std.specs.Prelude.{◌^◌}
-use Rattle.sym_link.proofs.Lists.{rest_all, taken_dropped}
-use Rattle.rust_v0.specs.declared.part.Part.{Part}
-use Rattle.rust_v0.specs.declared.production.Production.TheVariants as rules
-use Rattle.rust_v0.specs.CodeSemantics as semantics
-use Rattle.rust_v0.specs.CodeSemantics.{of_part}
-use Rattle.rust_v0.specs.Productions.{production_of}
-use Rattle.rust_v0.specs.Unfold.{at_rule}
-use Rattle.rust_v0.proofs.Closing.{same_adds}
-use Rattle.rust_v0.proofs.Meanings.{made_gives, gives_part}
-use Rattle.rust_v0.proofs.Reading.{v0_ended}
+use Rattle.rust_v0.specs.RustNodes.{v0_view}
+use Rattle.rust_v0.specs.NodeCount.{made_by}
+use Rattle.sym_link.specs.Tally.{closing_makes}
+use Rattle.sym_link.proofs.Tally.{room_untallied, close_tallied}
+use Rattle.rust_v0.proofs.NodeCount.{size_added}
 use Rattle.rust_v0.proofs.language.RustNodesLinking.close.Goals as goal
 
-pub returns-in-Some-PlainName-clause-closes : goal.returns-in-Some-PlainName-clause-closes
-returns-in-Some-PlainName-clause-closes c rule known from left state is none =
-    let s = c.args.symbol.now in
-    let own = drop c.args.frame.now.base c.args.parts.now.items in
-    let one = c.if-is_name.ensures in
-    let own_is : own ≡ Part.Name one.0 ∷ [] = sym (rest_all c.args.parts.now.items c.args.frame.now.base) ∙ (rw c.deref.ensures.value at one.1) in
-    let production_is : production_of rule.rule.number ≡ Some rules.PlainName = rw (← is.number) (sym c.numbered.ensures ∙ c.in-Some-PlainName.is ∙ ap (λ p. Some p) c.in-Some-PlainName.field-0-is) in
-    let fits : rule.context < 2 ^ 64 = omega (arith, is.kept.few, is.place, c.requires.place, c.requires.room.fits) in
-    let made_is : of_part (Ok (Part.Name one.0)) ≡ semantics.made rules.PlainName s rule.place rule.context own = rw own_is refl in
-    rw (v0_ended s rule known from left state none, production_is) (
-      Part.Name one.0,
-      sym (taken_dropped c.args.frame.now.base c.args.parts.now.items) ∙ ap (λ ps. take c.args.frame.now.base c.args.parts.now.items ++ ps) own_is,
-      gives_part s c.args.self.now (at_rule s rule state) (Ok (Part.Name one.0)) _ _ is.holds made_is
-          (made_gives c.args.self.now.nodes (at_rule s rule state) rules.PlainName own known refl (rw (← is.place) c.requires.place) fits is.holds.lists is.parts),
-    )
+pub close_rule-requires-clause-room : goal.close_rule-requires-clause-room
+close_rule-requires-clause-room c = room_untallied (v0_view c.args.symbol.now) (closing_makes made_by) c.args.symbol.now c.args.self.now _ c.requires.room
 
-pub returns-in-Some-PlainName-clause-adds : goal.returns-in-Some-PlainName-clause-adds
-returns-in-Some-PlainName-clause-adds c = same_adds c.args.symbol.now c.args.self.now c.args.self.now (Ok tt) refl refl
+pub returns-clause-closes : goal.returns-clause-closes
+returns-clause-closes c =
+    close_tallied (v0_view c.args.symbol.now) made_by c.args.symbol.now c.args.self.now c.close_rule.new.self c.args.frame.now c.args.parts.now.items c.close_rule.new.parts.items c.close_rule.result
+    (size_added c.args.self.now c.close_rule.new.self c.close_rule.result _ c.requires.room.paid.begun c.close_rule.ensures.made) c.close_rule.ensures.closes

@@ -1,5 +1,8 @@
-use Rattle.std.proofs.Common.{◌≡◌, ◌≤◌, ◌+◌, ◌<◌, refl, sym, arith, length, drop, ◌∙◌}
+use Rattle.std.proofs.Common.{◌≡◌, ◌≤◌, ◌+◌, ◌<◌, refl, sym, arith, length, drop, ◌∙◌, Ok}
 use Rattle.sym_link.specs.Parts.{skipped_from}
+use Rattle.sym_link.proofs.Tally.{opens_tallied}
+use Rattle.rust_v0.specs.RustNodes.{v0_view}
+use Rattle.rust_v0.specs.NodeCount.{made_by}
 use Rattle.rust_v0.specs.Productions.{production_of}
 use Rattle.rust_v0.specs.Unfold.{bound_behind}
 use Rattle.rust_v0.specs.Made.{ground}
@@ -14,7 +17,8 @@ pub returns-clause-adds : goal.returns-clause-adds
 returns-clause-adds c = (goes_on_same c.args.self.now c.args.self.now refl refl, omega arith)
 
 pub returns-clause-opens : goal.returns-clause-opens
-returns-clause-opens c around known from left state rule taken inner rest is left_is row_is =
+returns-clause-opens c = opens_tallied (v0_view c.args.symbol.now) made_by c.args.symbol.now c.args._rows.now c.args.self.now c.args.self.now c.args.frame.now c.args.parts.now.items c.args.parts.now.items
+    c.args.row (Ok (record { bound = c.bound_behind-bound.result })) refl (λ around known from left state rule taken inner rest is left_is row_is.
     let later : around.place ≤ skipped_from from left = omega (arith, is.stands.starts, skipped_further from left) in
     let fits : around.context + 1000 < 2 ^ 64 = omega (arith, is.kept.few, later, row_is.from, c.requires.place, c.requires.room.fits) in
     let g = ground c.args.symbol.now c.args.self.now.nodes in
@@ -33,4 +37,4 @@ returns-clause-opens c around known from left state rule taken inner rest is lef
       _,
       sym (taken_dropped c.args.frame.now.base c.args.parts.now.items),
       is.parts,
-    )
+    ))

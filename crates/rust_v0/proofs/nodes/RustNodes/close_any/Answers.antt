@@ -1,4 +1,4 @@
-use Rattle.std.proofs.Common.{◌≡◌, ◌<◌, refl, sym, ◌∙◌, arith, Some, None, Ok, Err, Option, drop, take}
+use Rattle.std.proofs.Common.{◌≡◌, ◌<◌, refl, sym, ◌∙◌, arith, Some, None, Ok, Err, Option, drop, take, ap, length}
 use Rattle.std.specs.Prelude.{◌^◌}
 use Rattle.std.proofs.lemmas.Result.{err_from_is_err_and}
 use Rattle.sym_link.proofs.Lists.{rest_all}
@@ -9,6 +9,7 @@ use Rattle.rust_v0.specs.Productions.{production_of}
 use Rattle.rust_v0.specs.Unfold.{at_rule}
 use Rattle.rust_v0.proofs.Closing.{put_gives, same_adds}
 use Rattle.rust_v0.proofs.Meanings.{made_gives, gives_part}
+use Rattle.rust_v0.proofs.NodeCount.{made_so_many, none_by_reference, none_by_part, one_by_node}
 use Rattle.rust_v0.proofs.Reading.{v0_ended}
 use Rattle.rust_v0.proofs.nodes.RustNodes.close_any.Goals as goal
 
@@ -105,3 +106,18 @@ returns-clause-closes c rule known from left state is none =
     (rw (← is.place) c.site_of-site.ensures.byte) (rw (c.site_of-site.ensures.place, is.place) is.kept.there) is.holds
     (rw (c.deref.ensures.value, rest_all c.args.parts.now.items c.args.frame.base)
     (made_gives c.args.self.now.nodes at c.in-Some.production own known (sym c.is_reference.ensures ∙ c.if-is_reference.false) (rw (← is.place) c.requires.place) fits is.holds.lists is.parts)))))
+
+pub returns-then-is_reference-clause-made : goal.returns-then-is_reference-clause-made
+returns-then-is_reference-clause-made c =
+    made_so_many c.args.self.now c.reference.new.self c.put.result _ 0 (omega (arith, ap (λ t. length t.nodes) c.reference.ensures.nodes))
+    (none_by_reference c.args.frame.rule c.in-Some.production (sym c.numbered.ensures ∙ c.in-Some.is) (sym c.is_reference.ensures ∙ c.if-is_reference.true))
+
+pub returns-then-makes_part-clause-made : goal.returns-then-makes_part-clause-made
+returns-then-makes_part-clause-made c =
+    made_so_many c.args.self.now c.args.self.now c.put-then-makes_part.result _ 0 (omega arith)
+    (none_by_part c.args.frame.rule c.in-Some.production (sym c.numbered.ensures ∙ c.in-Some.is) (sym c.makes_part.ensures ∙ c.if-makes_part.true))
+
+pub returns-clause-made : goal.returns-clause-made
+returns-clause-made c =
+    made_so_many c.args.self.now c.add_by.new.self c.put-2.result _ 1 c.in_ok-added.ensures.more
+    (one_by_node c.args.frame.rule c.in-Some.production (sym c.numbered.ensures ∙ c.in-Some.is) (sym c.is_reference.ensures ∙ c.if-is_reference.false) (sym c.makes_part.ensures ∙ c.if-makes_part.false))

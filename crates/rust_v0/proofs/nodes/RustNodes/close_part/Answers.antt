@@ -8,6 +8,7 @@ use Rattle.rust_v0.specs.Productions.{production_of}
 use Rattle.rust_v0.specs.Unfold.{at_rule}
 use Rattle.rust_v0.proofs.Closing.{put_gives, same_adds}
 use Rattle.rust_v0.proofs.Meanings.{made_gives, gives_part, makes_no_reference}
+use Rattle.rust_v0.proofs.NodeCount.{made_so_many, none_by_part}
 use Rattle.rust_v0.proofs.Reading.{v0_ended}
 use Rattle.rust_v0.proofs.nodes.RustNodes.close_part.Goals as goal
 
@@ -41,3 +42,6 @@ returns-clause-closes c rule known from left state is none =
 
 pub returns-clause-adds : goal.returns-clause-adds
 returns-clause-adds c = same_adds c.args.symbol.now c.args.self.now c.args.self.now c.put.result refl refl
+
+pub returns-clause-made : goal.returns-clause-made
+returns-clause-made c = made_so_many c.args.self.now c.args.self.now c.put.result _ 0 (omega arith) (none_by_part c.args.frame.rule c.args.production c.requires.production c.requires.part)

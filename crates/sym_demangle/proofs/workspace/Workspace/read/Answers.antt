@@ -43,3 +43,8 @@ returns-clause-steps g c =
 pub returns-2-clause-symbol : goal.returns-2-clause-symbol
 returns-2-clause-symbol g c =
     links_read g.M.Mangling.mangled c.refuses_bad_tokens.ensures g.M.Mangling.whole_of _ c.args.s.now c.link.result (◌∙◌ {c = c.args.s.now} c.in_ok-extend_from_slice.ensures.items (ap (λ xs. xs ++ c.args.s.now) c.clear.ensures.items)) c.link.ensures.stands
+
+pub returns-clause-nodes : goal.returns-clause-nodes
+returns-clause-nodes g c =
+    let is = behind_prefix c.args.s.now c.bytes.result.now c.args.self.now.ahead.bytes c.strip_prefix.result c.in-Some.rest c.strip_prefix.ensures.cases c.in-Some.is c.bytes.ensures in
+    rw is c.read_on.ensures.nodes

@@ -1,0 +1,127 @@
+-- What is made before the parts of a rule and where it closes is what its production makes.
+use Rattle.std.proofs.Common.{◌≡◌, refl, sym, ◌∙◌, ap, subst, arith, ℕ, suc, ◌+◌, ◌-◌, ◌<◌, ◌≤◌, List, [], ◌∷◌, length, drop, length-drop, Ok, Err}
+use Rattle.std.specs.Prelude.{Result, OnOk}
+use Rattle.sym_core.specs.declared.refusal.Refusal.{Refusal}
+use Rattle.sym_link.specs.declared.language.Frame.{Frame}
+use Rattle.sym_link.specs.Reading.{Open}
+use Rattle.sym_link.specs.Threads.{IsAt}
+use Rattle.cpp_grammar.specs.declared.production.Production.{Production}
+use Rattle.cpp_grammar.specs.Unfolding.{production_at}
+use Rattle.cpp_term.specs.Term.{Term}
+use Rattle.cpp_term.specs.Values.{State, Value, Around, is_there}
+use Rattle.cpp_link.specs.declared.linked.Linked.{Linked}
+use Rattle.cpp_link.specs.declared.part.Kept.{Kept}
+use Rattle.cpp_link.specs.declared.part.Part.{Part}
+use Rattle.cpp_link.specs.Owed.{made_before, made_at_end}
+use Rattle.cpp_link.specs.Parts.{trees_in, value_of, values_in}
+use Rattle.cpp_link.specs.Stepping.{quiet_parts}
+use Rattle.cpp_link.specs.NodeCount.{makes_before, makes_at_end, one_if_there, std_before, pack_before}
+use Rattle.cpp_link.specs.View.{cpp_view}
+use Rattle.cpp_link.proofs.Places.{values_length}
+use Rattle.cpp_link.proofs.Viewing.{parts_are}
+
+-- ## Before the next part
+
+never : {A : Type 0} (xs : List A) → length xs < 0 → ⊥
+never xs less = absurd (omega (arith, less))
+
+not_first : {A : Type 0} (xs : List A) → suc (length xs) < 1 → ⊥
+not_first xs less = absurd (omega (arith, less))
+
+-- where nothing is done, nothing is made
+quiet_makes : (p : Production) (known : List Value) → length known < quiet_parts p → makes_before p known ≡ 0
+unfolding makes_before made_before std_before pack_before quiet_parts
+quiet_makes Production.InternalName [] less = refl
+quiet_makes Production.InternalName (v ∷ vs) less = absurd (not_first vs less)
+quiet_makes Production.LocalTypeName [] less = refl
+quiet_makes Production.LocalTypeName (v ∷ vs) less = absurd (not_first vs less)
+quiet_makes Production.SourceName [] less = refl
+quiet_makes Production.SourceName (v ∷ vs) less = absurd (not_first vs less)
+quiet_makes Production.OperatorName [] less = refl
+quiet_makes Production.OperatorName (v ∷ vs) less = absurd (not_first vs less)
+quiet_makes Production.StdName [] less = refl
+quiet_makes Production.StdName (v ∷ vs) less = absurd (not_first vs less)
+quiet_makes Production.NestParameter [] less = refl
+quiet_makes Production.NestParameter (v ∷ vs) less = absurd (not_first vs less)
+quiet_makes Production.NestInternal [] less = refl
+quiet_makes Production.NestInternal (v ∷ vs) less = absurd (not_first vs less)
+quiet_makes Production.NestLocalType [] less = refl
+quiet_makes Production.NestLocalType (v ∷ vs) less = absurd (not_first vs less)
+quiet_makes Production.NestSource [] less = refl
+quiet_makes Production.NestSource (v ∷ vs) less = absurd (not_first vs less)
+quiet_makes Production.NestStd [] less = refl
+quiet_makes Production.NestStd (v ∷ vs) less = absurd (not_first vs less)
+quiet_makes Production.Constructor [] less = refl
+quiet_makes Production.Constructor (v ∷ vs) less = absurd (not_first vs less)
+quiet_makes Production.Destructor [] less = refl
+quiet_makes Production.Destructor (v ∷ vs) less = absurd (not_first vs less)
+quiet_makes Production.Parameter [] less = refl
+quiet_makes Production.Parameter (v ∷ vs) less = absurd (not_first vs less)
+quiet_makes Production.LvalueItem [] less = refl
+quiet_makes Production.LvalueItem (v ∷ vs) less = absurd (not_first vs less)
+quiet_makes Production.RvalueItem [] less = refl
+quiet_makes Production.RvalueItem (v ∷ vs) less = absurd (not_first vs less)
+quiet_makes Production.PackArgument [] less = refl
+quiet_makes Production.PackArgument (v ∷ vs) less = absurd (not_first vs less)
+quiet_makes Production.NestArguments vs less = absurd (never vs less)
+quiet_makes _ vs less = refl
+
+pub quiet_made : (s : List ℕ) (old : Linked) (frame : Frame Kept) (parts : List Part) (held : ℕ) → held ≡ length parts - frame.base → held < quiet_parts (production_at frame.rule)
+    → length old.nodes.nodes ≡ length old.nodes.nodes + makes_before (production_at frame.rule) (values_in s old.nodes (drop frame.base parts))
+quiet_made s old frame parts held counted less =
+    omega (arith, quiet_makes (production_at frame.rule) (values_in s old.nodes (drop frame.base parts))
+    (omega (arith, values_length s (trees_in s old.nodes) (drop frame.base parts), length-drop frame.base parts, counted, less)))
+
+-- what a production makes of these parts, the rule of the frame makes of its own
+pub made_before_part : (s : List ℕ) (old : Linked) (frame : Frame Kept) (parts own : List Part) (p : Production) (made : ℕ) → own ≡ drop frame.base parts → p ≡ production_at frame.rule
+    → made ≡ makes_before p (values_in s old.nodes own) → made ≡ makes_before (production_at frame.rule) (values_in s old.nodes (drop frame.base parts))
+made_before_part s old frame parts own p made same numbered is = rw (← same, ← numbered) is
+
+-- ## Where a rule closes
+
+pub made_where_closed : (s : List ℕ) (old new : Linked) (frame : Frame Kept) (parts own : List Part) (p : Production) → own ≡ drop frame.base parts → p ≡ production_at frame.rule
+    → length new.nodes.nodes ≡ length old.nodes.nodes + makes_at_end p (values_in s old.nodes own)
+    → length new.nodes.nodes ≡ length old.nodes.nodes + makes_at_end (production_at frame.rule) (values_in s old.nodes (drop frame.base parts))
+made_where_closed s old new frame parts own p same numbered is = rw (← same, ← numbered) is
+
+-- a substitution makes nothing
+pub none_substituted : (old new : Linked) (result : Result Part Refusal) (p : Production) (known : List Value) → p ≡ Production.Substitution → new.nodes ≡ old.nodes
+    → OnOk result (length new.nodes.nodes ≡ length old.nodes.nodes + makes_at_end p known)
+unfolding makes_at_end made_at_end
+none_substituted old new (Ok part) p known is nodes = omega (arith, ap (λ q. makes_at_end q known) is, ap (λ y. length y.nodes) nodes)
+none_substituted old new (Err e) p known is nodes = tt
+
+-- a pack of elements is made
+pub pack_made : (s : List ℕ) (ts : List Term) (elements : Part) → (elements ≡ Part.Nothing → ⊥) → makes_before Production.PackArgument (value_of s ts elements ∷ []) ≡ 1
+unfolding makes_before pack_before one_if_there is_there value_of
+pack_made s ts Part.Nothing some = absurd (some refl)
+pack_made s ts _ some = refl
+
+-- ## In terms of the rule that stands open
+
+pub before_read : (s : List ℕ) (old new : Linked) (frame : Frame Kept) (parts : List Part) (result : Result Kept Refusal) → 3 ≤ length old.nodes.nodes
+    → OnOk result (length new.nodes.nodes ≡ length old.nodes.nodes + makes_before (production_at frame.rule) (values_in s old.nodes (drop frame.base parts)))
+    → (rule : Open State Around) (known : List Value) (state : State) → IsAt (cpp_view s) s old frame (drop frame.base parts) rule known state
+    → OnOk result (length new.nodes.nodes - 3 ≡ length old.nodes.nodes - 3 + makes_before (production_at rule.rule.number) known)
+before_read s old new frame parts (Err e) begun made rule known state is = tt
+before_read s old new frame parts (Ok kept) begun made rule known state is =
+    let same : makes_before (production_at frame.rule) (values_in s old.nodes (drop frame.base parts)) ≡ makes_before (production_at rule.rule.number) known =
+    ap (λ n. makes_before (production_at n) (values_in s old.nodes (drop frame.base parts))) is.number
+    ∙ ap (λ vs. makes_before (production_at rule.rule.number) vs) (parts_are s old (drop frame.base parts) known is.parts).1 in
+    omega (arith, begun, made, same)
+
+pub end_read : (s : List ℕ) (old new : Linked) (frame : Frame Kept) (parts : List Part) (result : Result (Unit {0}) Refusal) → 3 ≤ length old.nodes.nodes
+    → OnOk result (length new.nodes.nodes ≡ length old.nodes.nodes + makes_at_end (production_at frame.rule) (values_in s old.nodes (drop frame.base parts)))
+    → (rule : Open State Around) (known : List Value) (state : State) → IsAt (cpp_view s) s old frame (drop frame.base parts) rule known state
+    → OnOk result (length new.nodes.nodes - 3 ≡ length old.nodes.nodes - 3 + makes_at_end (production_at rule.rule.number) known)
+end_read s old new frame parts (Err e) begun made rule known state is = tt
+end_read s old new frame parts (Ok done) begun made rule known state is =
+    let same : makes_at_end (production_at frame.rule) (values_in s old.nodes (drop frame.base parts)) ≡ makes_at_end (production_at rule.rule.number) known =
+    ap (λ n. makes_at_end (production_at n) (values_in s old.nodes (drop frame.base parts))) is.number
+    ∙ ap (λ vs. makes_at_end (production_at rule.rule.number) vs) (parts_are s old (drop frame.base parts) known is.parts).1 in
+    omega (arith, begun, made, same)
+
+pub none_begun : (old new : Linked) (result : Result Kept Refusal) → OnOk result (length new.nodes.nodes ≡ length old.nodes.nodes)
+    → OnOk result (length new.nodes.nodes - 3 ≡ length old.nodes.nodes - 3)
+none_begun old new (Ok kept) same = ap (λ n. n - 3) same
+none_begun old new (Err e) same = tt

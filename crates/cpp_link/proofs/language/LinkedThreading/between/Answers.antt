@@ -1,0 +1,16 @@
+use Rattle.cpp_link.specs.View.{Surrounds, cpp_view}
+use Rattle.cpp_link.specs.NodeCount.{cpp_makes}
+use Rattle.sym_link.proofs.Tally.{room_untallied, open_at_untallied, between_tallied}
+use Rattle.cpp_link.proofs.NodeCount.{before_read}
+use Rattle.cpp_link.proofs.language.LinkedThreading.between.Goals as goal
+
+pub go_on-requires-clause-room : goal.go_on-requires-clause-room
+go_on-requires-clause-room c = room_untallied (cpp_view c.args.symbol.now) cpp_makes c.args.symbol.now c.args.self.now _ c.requires.room
+
+pub go_on-requires-clause-open : goal.go_on-requires-clause-open
+go_on-requires-clause-open c = open_at_untallied (cpp_view c.args.symbol.now) cpp_makes c.args.symbol.now c.args.self.now c.args.frame.now c.args.parts.now.items c.requires.open
+
+pub returns-clause-goes : goal.returns-clause-goes
+returns-clause-goes c =
+    between_tallied (cpp_view c.args.symbol.now) cpp_makes c.args.symbol.now (Surrounds c.args.symbol.now) c.args.self.now c.go_on.new.self c.args.frame.now c.args.parts.now.items c.go_on.new.parts.items
+    c.go_on.result (before_read c.args.symbol.now c.args.self.now c.go_on.new.self c.args.frame.now c.args.parts.now.items c.go_on.result c.requires.room.paid.begun c.go_on.ensures.makes) c.go_on.ensures.goes
