@@ -21,7 +21,8 @@ unfolding is_same is_spelled
 new-open n own [] new is = cc
 new-open n own (c ∷ cs) new is = go (same_tree own c.tree) refl is (new-open n own cs new.1)
   where
-    go : (b : Bool) → same_tree own c.tree ≡ b → b || is_spelled own cs ≡ true → (is_spelled own cs ≡ true → is_open own ≡ true) → is_open own ≡ true
+    go : (b : Bool) → same_tree own c.tree ≡ b → b || is_spelled own cs ≡ true → (is_spelled own cs ≡ true → is_open own ≡ true)
+        → is_open own ≡ true
     go true same is more = open-by (same_tree own c.tree) (is_open own) (nat_eq c.encoding n) new.0 same
     go false same is more = more is
 

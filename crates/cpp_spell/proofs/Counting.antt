@@ -48,22 +48,26 @@ AreKnown : ReadSymbol → (before : List Candidate) → List ℕ → Type 0
 AreKnown y before [] = Unit {0}
 AreKnown y before (x ∷ xs) = ((x < length y.table.nodes) × (is_spelled (plain_at y x) before ≡ true)) × AreKnown y before xs
 
-known-later : (y : ReadSymbol) (before : List Candidate) (c : Candidate) (xs : List ℕ) → AreKnown y before xs → AreKnown y (before ++ c ∷ []) xs
+known-later : (y : ReadSymbol) (before : List Candidate) (c : Candidate) (xs : List ℕ) → AreKnown y before xs
+    → AreKnown y (before ++ c ∷ []) xs
 unfolding AreKnown
 known-later y before c [] are = tt
 known-later y before c (x ∷ xs) are = ((are.0.0, spelled-later (plain_at y x) before c are.0.1), known-later y before c xs are.1)
 
-known-below : (y : ReadSymbol) (before : List Candidate) (xs : List ℕ) → AreKnown y before xs → (q : ℕ) → list_any (eqb q) xs ≡ true → q < length y.table.nodes
+known-below : (y : ReadSymbol) (before : List Candidate) (xs : List ℕ) → AreKnown y before xs → (q : ℕ) → list_any (eqb q) xs ≡ true
+    → q < length y.table.nodes
 unfolding AreKnown
 known-below y before [] are q is = cc
 known-below y before (x ∷ xs) are q is = go (eqb q x) refl is (known-below y before xs are.1 q)
   where
-    go : (b : Bool) → eqb q x ≡ b → b || list_any (eqb q) xs ≡ true → (list_any (eqb q) xs ≡ true → q < length y.table.nodes) → q < length y.table.nodes
+    go : (b : Bool) → eqb q x ≡ b → b || list_any (eqb q) xs ≡ true → (list_any (eqb q) xs ≡ true → q < length y.table.nodes)
+        → q < length y.table.nodes
     go true same so more = omega (arith, eqb-true q x same, are.0.0)
     go false same so more = more so
 
 -- the node of a tree that isn't spelled is none of them
-other-node : (y : ReadSymbol) (before : List Candidate) (t : Term) (i : ℕ) (xs : List ℕ) → plain_at y i ≡ t → is_spelled t before ≡ false → AreKnown y before xs
+other-node : (y : ReadSymbol) (before : List Candidate) (t : Term) (i : ℕ) (xs : List ℕ) → plain_at y i ≡ t → is_spelled t before ≡ false
+    → AreKnown y before xs
     → AllByRecursion (λ x. eqb i x ≡ false) xs
 unfolding AreKnown
 other-node y before t i [] is new are = tt

@@ -1,12 +1,12 @@
 -- The components so far, as the writer knows them.
 use Rattle.std.specs.Prelude.{◌≡◌, ℕ, ◌+◌, ◌<◌, List, [], ◌∷◌, ◌++◌, length, Bool, cond, ◌&&◌, nat_eq, Option, Some, None, get_or}
+use Rattle.sym_spell.specs.Pressing.{Pressed}
 use Rattle.cpp_grammar.specs.Term.{Term}
 use Rattle.cpp_grammar.specs.Scope.{is_open}
 use Rattle.cpp_grammar.specs.Values.{Candidate}
 use Rattle.cpp_layout.specs.Layout.{ReadSymbol}
 use Rattle.cpp_press.specs.Components.{first_equal}
-use Rattle.cpp_press.specs.Pressing.{pressed}
-use Rattle.cpp_press.specs.Apart.{spelled_components}
+use Rattle.cpp_press.specs.Pressing.{ways_of}
 use Rattle.cpp_spell.specs.declared.components.Likeness.{Likeness}
 use Rattle.cpp_spell.specs.declared.task.Task.{Task}
 use Rattle.cpp_spell.specs.Tasks.{plain_at, press_tasks, AreTasks}
@@ -38,13 +38,16 @@ abbrev pub AreOfNodes : ReadSymbol → List Candidate → Type 0
 AreOfNodes y [] = Unit {0}
 AreOfNodes y (c ∷ cs) = ((node : ℕ) × (node < length y.table.nodes) × (plain_at y node ≡ c.tree)) × AreOfNodes y cs
 
--- What is written, and what the tasks will write, is the pressed spelling of a tree, and so are the components so far and those of the
--- tasks.
+-- what is written, and a spelling behind it
+abbrev pub behind : List ℕ → Pressed Candidate → Pressed Candidate
+behind out one = record { bytes = out ++ one.bytes; components = one.components }
+
+-- What is written, and what the tasks will write behind it, are the spelling of a symbol's tree; the components so far are trees of
+-- nodes.
 pub record Goes (y : ReadSymbol) (numbers : List ℕ) (whole : Term) (first : Likeness → Option ℕ) (count : ℕ) (tasks : List Task) (out : List ℕ) : Type 0 where
   pub components : List Candidate
   pub places : ArePlaces y numbers first components
   pub counted : count ≡ length components
-  pub tasks_are : AreTasks y tasks
-  pub bytes : out ++ (press_tasks y tasks (length out) components).bytes ≡ pressed whole
-  pub spelled : (press_tasks y tasks (length out) components).components ≡ spelled_components whole
   pub own : AreOfNodes y components
+  pub tasks_are : AreTasks y tasks
+  pub spelled : behind out (press_tasks y tasks (length out) components) ≡ (ways_of 0 whole).as_encoding 0 []

@@ -1,6 +1,5 @@
 use Rattle.std.proofs.Common.{◌≡◌, refl, rules, length, ap, arith, sym, subst, ◌∙◌}
 use Rattle.indexmap.specs.IndexMap.{get}
-use Rattle.cpp_layout.specs.Layout.{whole_of}
 use Rattle.cpp_spell.specs.declared.task.Task.{Task}
 use Rattle.cpp_spell.specs.declared.task.Way.{Way}
 use Rattle.cpp_spell.specs.Bytes.{text_bytes}
@@ -10,123 +9,69 @@ use Rattle.cpp_spell.specs.Standings.{standing_of, template_standing_of}
 use Rattle.cpp_spell.proofs.Going.{popped, task-there, weight-there, changed-goes, text-goes, ended-goes, first-goes, last-goes, last-few}
 use Rattle.cpp_spell.proofs.pressing.press_tasks.Goals as goal
 
+-- ## What each task asks for is there
+
 pub push_text-requires-clause-there : goal.push_text-requires-clause-there
 push_text-requires-clause-there c =
-    let y = c.args.symbol.now in
-    let ns = c.args.numbering.now in
-    let task : Task = Task.Text c.in-Text.text in
-    let top = popped c.tasks.tasks.items c.pop.new.self.items c.pop.result c.in-Some.task task c.pop.ensures.items c.in-Some.is c.in-Text.is in
-    let there = task-there y ns (whole_of y) (get like c.tasks.components.first) c.tasks.components.count c.tasks.tasks.items c.pop.new.self.items c.tasks.out.items task c.tasks.invariant.0 top in
-    there.0
+    (task-there c.tasks.invariant.0 (popped c.pop.new.self.items c.pop.ensures.items c.in-Some.is c.in-Text.is)).0
 
 pub likeness_of-requires-clause-node : goal.likeness_of-requires-clause-node
 likeness_of-requires-clause-node c =
-    let y = c.args.symbol.now in
-    let ns = c.args.numbering.now in
-    let task : Task = Task.Ended c.in-Ended.node c.in-Ended.encoding in
-    let top = popped c.tasks.tasks.items c.pop.new.self.items c.pop.result c.in-Some.task task c.pop.ensures.items c.in-Some.is c.in-Ended.is in
-    let there = task-there y ns (whole_of y) (get like c.tasks.components.first) c.tasks.components.count c.tasks.tasks.items c.pop.new.self.items c.tasks.out.items task c.tasks.invariant.0 top in
-    there.0
+    (task-there c.tasks.invariant.0 (popped c.pop.new.self.items c.pop.ensures.items c.in-Some.is c.in-Ended.is)).0
 
 pub likeness_of-requires-clause-number : goal.likeness_of-requires-clause-number
 likeness_of-requires-clause-number c =
-    let y = c.args.symbol.now in
-    let ns = c.args.numbering.now in
-    let task : Task = Task.Ended c.in-Ended.node c.in-Ended.encoding in
-    let top = popped c.tasks.tasks.items c.pop.new.self.items c.pop.result c.in-Some.task task c.pop.ensures.items c.in-Some.is c.in-Ended.is in
-    let there = task-there y ns (whole_of y) (get like c.tasks.components.first) c.tasks.components.count c.tasks.tasks.items c.pop.new.self.items c.tasks.out.items task c.tasks.invariant.0 top in
+    let there = task-there c.tasks.invariant.0 (popped c.pop.new.self.items c.pop.ensures.items c.in-Some.is c.in-Ended.is) in
     omega (arith, there.0, c.tasks.invariant.1.long)
 
 pub template_standing_of-standing-requires-clause-node : goal.template_standing_of-standing-requires-clause-node
 template_standing_of-standing-requires-clause-node c =
-    let y = c.args.symbol.now in
-    let ns = c.args.numbering.now in
-    let task : Task = Task.Template c.in-Template.name c.in-Template.arguments c.in-Template.in_type c.in-Template.encoding in
-    let top = popped c.tasks.tasks.items c.pop.new.self.items c.pop.result c.in-Some.task task c.pop.ensures.items c.in-Some.is c.in-Template.is in
-    let there = task-there y ns (whole_of y) (get like c.tasks.components.first) c.tasks.components.count c.tasks.tasks.items c.pop.new.self.items c.tasks.out.items task c.tasks.invariant.0 top in
-    there.0.0
+    (task-there c.tasks.invariant.0 (popped c.pop.new.self.items c.pop.ensures.items c.in-Some.is c.in-Template.is)).0.0
 
 pub template_standing_of-standing-requires-clause-number : goal.template_standing_of-standing-requires-clause-number
 template_standing_of-standing-requires-clause-number c =
-    let y = c.args.symbol.now in
-    let ns = c.args.numbering.now in
-    let task : Task = Task.Template c.in-Template.name c.in-Template.arguments c.in-Template.in_type c.in-Template.encoding in
-    let top = popped c.tasks.tasks.items c.pop.new.self.items c.pop.result c.in-Some.task task c.pop.ensures.items c.in-Some.is c.in-Template.is in
-    let there = task-there y ns (whole_of y) (get like c.tasks.components.first) c.tasks.components.count c.tasks.tasks.items c.pop.new.self.items c.tasks.out.items task c.tasks.invariant.0 top in
+    let there = task-there c.tasks.invariant.0 (popped c.pop.new.self.items c.pop.ensures.items c.in-Some.is c.in-Template.is) in
     omega (arith, there.0.0, c.tasks.invariant.1.long)
 
 pub step_template-requires-clause-name : goal.step_template-requires-clause-name
 step_template-requires-clause-name c =
-    let y = c.args.symbol.now in
-    let ns = c.args.numbering.now in
-    let task : Task = Task.Template c.in-Template.name c.in-Template.arguments c.in-Template.in_type c.in-Template.encoding in
-    let top = popped c.tasks.tasks.items c.pop.new.self.items c.pop.result c.in-Some.task task c.pop.ensures.items c.in-Some.is c.in-Template.is in
-    let there = task-there y ns (whole_of y) (get like c.tasks.components.first) c.tasks.components.count c.tasks.tasks.items c.pop.new.self.items c.tasks.out.items task c.tasks.invariant.0 top in
-    there.0.0
+    (task-there c.tasks.invariant.0 (popped c.pop.new.self.items c.pop.ensures.items c.in-Some.is c.in-Template.is)).0.0
 
 pub step_template-requires-clause-arguments : goal.step_template-requires-clause-arguments
 step_template-requires-clause-arguments c =
-    let y = c.args.symbol.now in
-    let ns = c.args.numbering.now in
-    let task : Task = Task.Template c.in-Template.name c.in-Template.arguments c.in-Template.in_type c.in-Template.encoding in
-    let top = popped c.tasks.tasks.items c.pop.new.self.items c.pop.result c.in-Some.task task c.pop.ensures.items c.in-Some.is c.in-Template.is in
-    let there = task-there y ns (whole_of y) (get like c.tasks.components.first) c.tasks.components.count c.tasks.tasks.items c.pop.new.self.items c.tasks.out.items task c.tasks.invariant.0 top in
-    there.0.1
+    (task-there c.tasks.invariant.0 (popped c.pop.new.self.items c.pop.ensures.items c.in-Some.is c.in-Template.is)).0.1
 
 pub step_template-requires-clause-tasks : goal.step_template-requires-clause-tasks
 step_template-requires-clause-tasks c =
-    let y = c.args.symbol.now in
-    let ns = c.args.numbering.now in
-    let task : Task = Task.Template c.in-Template.name c.in-Template.arguments c.in-Template.in_type c.in-Template.encoding in
-    let top = popped c.tasks.tasks.items c.pop.new.self.items c.pop.result c.in-Some.task task c.pop.ensures.items c.in-Some.is c.in-Template.is in
-    let there = task-there y ns (whole_of y) (get like c.tasks.components.first) c.tasks.components.count c.tasks.tasks.items c.pop.new.self.items c.tasks.out.items task c.tasks.invariant.0 top in
-    there.1
+    (task-there c.tasks.invariant.0 (popped c.pop.new.self.items c.pop.ensures.items c.in-Some.is c.in-Template.is)).1
 
 pub standing_of-standing-requires-clause-node : goal.standing_of-standing-requires-clause-node
 standing_of-standing-requires-clause-node c =
-    let y = c.args.symbol.now in
-    let ns = c.args.numbering.now in
-    let task : Task = Task.Tree c.in-Tree.node c.in-Tree.way c.in-Tree.encoding in
-    let top = popped c.tasks.tasks.items c.pop.new.self.items c.pop.result c.in-Some.task task c.pop.ensures.items c.in-Some.is c.in-Tree.is in
-    let there = task-there y ns (whole_of y) (get like c.tasks.components.first) c.tasks.components.count c.tasks.tasks.items c.pop.new.self.items c.tasks.out.items task c.tasks.invariant.0 top in
-    there.0
+    (task-there c.tasks.invariant.0 (popped c.pop.new.self.items c.pop.ensures.items c.in-Some.is c.in-Tree.is)).0
 
 pub standing_of-standing-requires-clause-number : goal.standing_of-standing-requires-clause-number
 standing_of-standing-requires-clause-number c =
-    let y = c.args.symbol.now in
-    let ns = c.args.numbering.now in
-    let task : Task = Task.Tree c.in-Tree.node c.in-Tree.way c.in-Tree.encoding in
-    let top = popped c.tasks.tasks.items c.pop.new.self.items c.pop.result c.in-Some.task task c.pop.ensures.items c.in-Some.is c.in-Tree.is in
-    let there = task-there y ns (whole_of y) (get like c.tasks.components.first) c.tasks.components.count c.tasks.tasks.items c.pop.new.self.items c.tasks.out.items task c.tasks.invariant.0 top in
+    let there = task-there c.tasks.invariant.0 (popped c.pop.new.self.items c.pop.ensures.items c.in-Some.is c.in-Tree.is) in
     omega (arith, there.0, c.tasks.invariant.1.long)
 
 pub step_tree-requires-clause-node : goal.step_tree-requires-clause-node
 step_tree-requires-clause-node c =
-    let y = c.args.symbol.now in
-    let ns = c.args.numbering.now in
-    let task : Task = Task.Tree c.in-Tree.node c.in-Tree.way c.in-Tree.encoding in
-    let top = popped c.tasks.tasks.items c.pop.new.self.items c.pop.result c.in-Some.task task c.pop.ensures.items c.in-Some.is c.in-Tree.is in
-    let there = task-there y ns (whole_of y) (get like c.tasks.components.first) c.tasks.components.count c.tasks.tasks.items c.pop.new.self.items c.tasks.out.items task c.tasks.invariant.0 top in
-    there.0
+    (task-there c.tasks.invariant.0 (popped c.pop.new.self.items c.pop.ensures.items c.in-Some.is c.in-Tree.is)).0
 
 pub step_tree-requires-clause-tasks : goal.step_tree-requires-clause-tasks
 step_tree-requires-clause-tasks c =
-    let y = c.args.symbol.now in
-    let ns = c.args.numbering.now in
-    let task : Task = Task.Tree c.in-Tree.node c.in-Tree.way c.in-Tree.encoding in
-    let top = popped c.tasks.tasks.items c.pop.new.self.items c.pop.result c.in-Some.task task c.pop.ensures.items c.in-Some.is c.in-Tree.is in
-    let there = task-there y ns (whole_of y) (get like c.tasks.components.first) c.tasks.components.count c.tasks.tasks.items c.pop.new.self.items c.tasks.out.items task c.tasks.invariant.0 top in
-    there.1
+    (task-there c.tasks.invariant.0 (popped c.pop.new.self.items c.pop.ensures.items c.in-Some.is c.in-Tree.is)).1
 
 pub then_tree-requires-clause-tasks : goal.then_tree-requires-clause-tasks
 unfolding AreTasks
 then_tree-requires-clause-tasks c = subst (AreTasks c.args.symbol.now) (sym c.new-tasks.ensures.items) tt
 
+-- ## Turns
+
 pub tasks-init : goal.tasks-init
 tasks-init c =
     let y = c.args.symbol.now in (
-      first-goes y c.args.numbering.now (get like c.new-components.result.first) c.new-components.result.count c.then_tree.new.tasks.items c.new-out.result.items
-          c.new-components.ensures.first c.new-components.ensures.count c.in_ok-then_tree.ensures.tasks
+      first-goes c.new-components.ensures.first c.new-components.ensures.count c.in_ok-then_tree.ensures.tasks
           (c.in_ok-then_tree.ensures.presses ∙ ap (λ n. in_way 0 Way.Encoding (plain_at y n) onto press_tasks y c.new-tasks.result.items) c.root_node.ensures.root
           ∙ ap (λ l. in_way 0 Way.Encoding (plain_at y y.root) onto press_tasks y l) c.new-tasks.ensures.items)
           c.new-out.ensures.items,
@@ -135,97 +80,73 @@ tasks-init c =
 
 pub tasks-smaller-in-Continue-branch-2 : goal.tasks-smaller-in-Continue-branch-2
 tasks-smaller-in-Continue-branch-2 c =
-    let y = c.args.symbol.now in
-    let ns = c.args.numbering.now in
-    let task : Task = Task.Text c.in-Text.text in
-    let top = popped c.tasks.tasks.items c.pop.new.self.items c.pop.result c.in-Some.task task c.pop.ensures.items c.in-Some.is c.in-Text.is in
-    let there = task-there y ns (whole_of y) (get like c.tasks.components.first) c.tasks.components.count c.tasks.tasks.items c.pop.new.self.items c.tasks.out.items task c.tasks.invariant.0 top in
-    omega (arith, weight-there y c.tasks.tasks.items c.pop.new.self.items task top)
+    omega (arith, weight-there c.args.symbol.now (popped c.pop.new.self.items c.pop.ensures.items c.in-Some.is c.in-Text.is))
 
 pub tasks-preserved-in-Continue-branch-2 : goal.tasks-preserved-in-Continue-branch-2
-tasks-preserved-in-Continue-branch-2 c =
-    let y = c.args.symbol.now in
-    let ns = c.args.numbering.now in
-    let task : Task = Task.Text c.in-Text.text in
-    let top = popped c.tasks.tasks.items c.pop.new.self.items c.pop.result c.in-Some.task task c.pop.ensures.items c.in-Some.is c.in-Text.is in
-    let there = task-there y ns (whole_of y) (get like c.tasks.components.first) c.tasks.components.count c.tasks.tasks.items c.pop.new.self.items c.tasks.out.items task c.tasks.invariant.0 top in
-    (text-goes y ns (whole_of y) (get like c.tasks.components.first) c.tasks.components.count c.tasks.tasks.items c.pop.new.self.items c.tasks.out.items c.push_text.new.out.items (text_bytes y c.in-Text.text) task c.tasks.invariant.0 top refl c.in_ok-push_text-in-Text.ensures.text, c.tasks.invariant.1)
+tasks-preserved-in-Continue-branch-2 c = (
+  text-goes (text_bytes c.args.symbol.now c.in-Text.text) (Task.Text c.in-Text.text) c.tasks.invariant.0
+      (popped c.pop.new.self.items c.pop.ensures.items c.in-Some.is c.in-Text.is) refl c.in_ok-push_text-in-Text.ensures.text,
+  c.tasks.invariant.1,
+)
 
 pub tasks-smaller-in-Continue-branch-3 : goal.tasks-smaller-in-Continue-branch-3
 tasks-smaller-in-Continue-branch-3 c =
-    let y = c.args.symbol.now in
-    let ns = c.args.numbering.now in
-    let task : Task = Task.Ended c.in-Ended.node c.in-Ended.encoding in
-    let top = popped c.tasks.tasks.items c.pop.new.self.items c.pop.result c.in-Some.task task c.pop.ensures.items c.in-Some.is c.in-Ended.is in
-    let there = task-there y ns (whole_of y) (get like c.tasks.components.first) c.tasks.components.count c.tasks.tasks.items c.pop.new.self.items c.tasks.out.items task c.tasks.invariant.0 top in
-    omega (arith, weight-there y c.tasks.tasks.items c.pop.new.self.items task top)
+    omega (arith, weight-there c.args.symbol.now (popped c.pop.new.self.items c.pop.ensures.items c.in-Some.is c.in-Ended.is))
 
 pub tasks-preserved-in-Continue-branch-3 : goal.tasks-preserved-in-Continue-branch-3
-tasks-preserved-in-Continue-branch-3 c =
-    let y = c.args.symbol.now in
-    let ns = c.args.numbering.now in
-    let task : Task = Task.Ended c.in-Ended.node c.in-Ended.encoding in
-    let top = popped c.tasks.tasks.items c.pop.new.self.items c.pop.result c.in-Some.task task c.pop.ensures.items c.in-Some.is c.in-Ended.is in
-    let there = task-there y ns (whole_of y) (get like c.tasks.components.first) c.tasks.components.count c.tasks.tasks.items c.pop.new.self.items c.tasks.out.items task c.tasks.invariant.0 top in (
-      ended-goes y ns (whole_of y) (get like c.tasks.components.first) (get like c.push.new.self.first) c.tasks.components.count c.push.new.self.count c.tasks.tasks.items c.pop.new.self.items c.tasks.out.items
-          c.in-Ended.node c.in-Ended.encoding c.tasks.invariant.1 c.tasks.invariant.0 top
-          (λ q. c.in_ok-push-in-Ended.ensures.first q ∙ ap (λ l. noted (get like c.tasks.components.first) l c.tasks.components.count q) c.likeness_of.ensures) c.in_ok-push-in-Ended.ensures.count,
-      c.tasks.invariant.1,
-    )
+tasks-preserved-in-Continue-branch-3 c = (
+  ended-goes c.in-Ended.node c.in-Ended.encoding c.tasks.invariant.1 c.tasks.invariant.0
+      (popped c.pop.new.self.items c.pop.ensures.items c.in-Some.is c.in-Ended.is)
+      (λ q. c.in_ok-push-in-Ended.ensures.first q ∙ ap (λ l. noted (get like c.tasks.components.first) l c.tasks.components.count q) c.likeness_of.ensures)
+      c.in_ok-push-in-Ended.ensures.count,
+  c.tasks.invariant.1,
+)
 
 pub tasks-smaller-in-Continue-branch-4 : goal.tasks-smaller-in-Continue-branch-4
 tasks-smaller-in-Continue-branch-4 c =
-    let y = c.args.symbol.now in
-    let ns = c.args.numbering.now in
-    let task : Task = Task.Template c.in-Template.name c.in-Template.arguments c.in-Template.in_type c.in-Template.encoding in
-    let top = popped c.tasks.tasks.items c.pop.new.self.items c.pop.result c.in-Some.task task c.pop.ensures.items c.in-Some.is c.in-Template.is in
-    let there = task-there y ns (whole_of y) (get like c.tasks.components.first) c.tasks.components.count c.tasks.tasks.items c.pop.new.self.items c.tasks.out.items task c.tasks.invariant.0 top in
-    omega (arith, weight-there y c.tasks.tasks.items c.pop.new.self.items task top, c.in_ok-step_template-in-Template.ensures.weight)
+    omega (
+      arith,
+      weight-there c.args.symbol.now (popped c.pop.new.self.items c.pop.ensures.items c.in-Some.is c.in-Template.is),
+      c.in_ok-step_template-in-Template.ensures.weight,
+    )
 
 pub tasks-preserved-in-Continue-branch-4 : goal.tasks-preserved-in-Continue-branch-4
 tasks-preserved-in-Continue-branch-4 c =
-    let y = c.args.symbol.now in
-    let ns = c.args.numbering.now in
-    let task : Task = Task.Template c.in-Template.name c.in-Template.arguments c.in-Template.in_type c.in-Template.encoding in
-    let top = popped c.tasks.tasks.items c.pop.new.self.items c.pop.result c.in-Some.task task c.pop.ensures.items c.in-Some.is c.in-Template.is in
-    let there = task-there y ns (whole_of y) (get like c.tasks.components.first) c.tasks.components.count c.tasks.tasks.items c.pop.new.self.items c.tasks.out.items task c.tasks.invariant.0 top in (
-      changed-goes y ns (whole_of y) (get like c.tasks.components.first) c.tasks.components.count c.tasks.tasks.items c.pop.new.self.items c.step_template.new.tasks.items c.tasks.out.items task c.tasks.invariant.0 top
-          c.in_ok-step_template-in-Template.ensures.tasks
+    let top = popped c.pop.new.self.items c.pop.ensures.items c.in-Some.is c.in-Template.is in
+    let there = task-there c.tasks.invariant.0 top in (
+      changed-goes c.tasks.invariant.0 top c.in_ok-step_template-in-Template.ensures.tasks
           (λ cs places. c.in_ok-step_template-in-Template.ensures.presses (length c.tasks.out.items) cs
-          (c.template_standing_of-standing.ensures ∙ ap (template_standing_of (plain_at y c.in-Template.name)) (places c.in-Template.name c.in-Template.encoding there.0.0))),
+          (c.template_standing_of-standing.ensures
+          ∙ ap (template_standing_of (plain_at c.args.symbol.now c.in-Template.name)) (places c.in-Template.name c.in-Template.encoding there.0.0))),
       c.tasks.invariant.1,
     )
 
 pub tasks-smaller : goal.tasks-smaller
 tasks-smaller c =
-    let y = c.args.symbol.now in
-    let ns = c.args.numbering.now in
-    let task : Task = Task.Tree c.in-Tree.node c.in-Tree.way c.in-Tree.encoding in
-    let top = popped c.tasks.tasks.items c.pop.new.self.items c.pop.result c.in-Some.task task c.pop.ensures.items c.in-Some.is c.in-Tree.is in
-    let there = task-there y ns (whole_of y) (get like c.tasks.components.first) c.tasks.components.count c.tasks.tasks.items c.pop.new.self.items c.tasks.out.items task c.tasks.invariant.0 top in
-    omega (arith, weight-there y c.tasks.tasks.items c.pop.new.self.items task top, c.in_ok-step_tree-in-Tree.ensures.weight)
+    omega (
+      arith,
+      weight-there c.args.symbol.now (popped c.pop.new.self.items c.pop.ensures.items c.in-Some.is c.in-Tree.is),
+      c.in_ok-step_tree-in-Tree.ensures.weight,
+    )
 
 pub tasks-preserved : goal.tasks-preserved
 tasks-preserved c =
     let y = c.args.symbol.now in
-    let ns = c.args.numbering.now in
     let task : Task = Task.Tree c.in-Tree.node c.in-Tree.way c.in-Tree.encoding in
-    let top = popped c.tasks.tasks.items c.pop.new.self.items c.pop.result c.in-Some.task task c.pop.ensures.items c.in-Some.is c.in-Tree.is in
-    let there = task-there y ns (whole_of y) (get like c.tasks.components.first) c.tasks.components.count c.tasks.tasks.items c.pop.new.self.items c.tasks.out.items task c.tasks.invariant.0 top in (
-      changed-goes y ns (whole_of y) (get like c.tasks.components.first) c.tasks.components.count c.tasks.tasks.items c.pop.new.self.items c.step_tree.new.tasks.items c.tasks.out.items task c.tasks.invariant.0 top
-          c.in_ok-step_tree-in-Tree.ensures.tasks
-          (λ cs places. subst (λ n. press_tasks y c.step_tree.new.tasks.items n cs ≡ (press_task y task onto press_tasks y c.pop.new.self.items) n cs) (c.len-here.ensures ∙ c.tasks.out.ok.0)
+    let top = popped c.pop.new.self.items c.pop.ensures.items c.in-Some.is c.in-Tree.is in
+    let there = task-there c.tasks.invariant.0 top in (
+      changed-goes c.tasks.invariant.0 top c.in_ok-step_tree-in-Tree.ensures.tasks
+          (λ cs places. subst (λ n. press_tasks y c.step_tree.new.tasks.items n cs ≡ (press_task y task onto press_tasks y c.pop.new.self.items) n cs)
+          (c.len-here.ensures ∙ c.tasks.out.ok.0)
           (c.in_ok-step_tree-in-Tree.ensures.presses cs
           (c.standing_of-standing.ensures ∙ ap (standing_of c.in-Tree.way (plain_at y c.in-Tree.node)) (places c.in-Tree.node c.in-Tree.encoding there.0)))),
       c.tasks.invariant.1,
     )
 
+-- ## Behind the last turn
+
 pub returns-clause-pressed : goal.returns-clause-pressed
-returns-clause-pressed c =
-    let y = c.args.symbol.now in
-    last-goes y c.args.numbering.now (whole_of y) (get like c.tasks.components.first) c.tasks.components.count c.tasks.tasks.items c.tasks.out.items c.tasks.invariant.0 (search rules)
+returns-clause-pressed c = last-goes c.tasks.invariant.0 (search rules)
 
 pub returns-clause-components : goal.returns-clause-components
-returns-clause-components c =
-    let y = c.args.symbol.now in
-    last-few y c.args.numbering.now (get like c.tasks.components.first) c.tasks.components.count c.tasks.tasks.items c.tasks.out.items c.tasks.invariant.0 (search rules)
+returns-clause-components c = last-few c.tasks.invariant.0 (search rules)
