@@ -1,4 +1,4 @@
-use Rattle.std.proofs.Common.{ℕ, ◌<◌, get_or, refl, rules, Ok, Err, ◌∙◌}
+use Rattle.std.proofs.Common.{ℕ, ◌<◌, get_or, length, refl, rules, Ok, Err, ◌∙◌}
 use Rattle.rust_v0.specs.Mangled.{whole_of}
 use Rattle.sym_filter.specs.Languages.{underscore_of, v0_readings}
 use Rattle.sym_filter.proofs.LanguageLemmas.{unread_pressed, pressed_given, read_counts}
@@ -19,7 +19,7 @@ returns-in-Ok-push_behind_underscore c =
     let bytes : (i : ℕ) → get_or symbol i 0 < 256 = λ i. search (rules, c.type_inv.symbol i) in
     let known = c.in-Ok.ensures in
     let counted = c.counts-counts.ensures in (
-      read_counts v0_readings symbol c.in-Ok.read c.counts-counts.result c.in-Ok.read.rows c.in-Ok.read.steps known.rows known.bytes known.symbol known.steps
+      read_counts v0_readings symbol c.in-Ok.read c.counts-counts.result c.in-Ok.read.rows c.in-Ok.read.steps (length c.in-Ok.read.table.nodes) known.rows known.bytes known.symbol known.steps known.nodes
           counted.is_read counted.rows counted.nodes counted.steps counted.nodes_few counted.steps_few counted.steps_enough,
       pressed_given (underscore_of c.args.skip) symbol c.args.out.now.items c.push_behind_underscore.new.out.items c.deref.result.now c.in-Ok.read
           (c.reading_is_pressed.ensures symbol (Ok (whole_of c.in-Ok.read)) bytes known.symbol)
