@@ -69,8 +69,11 @@ quiet_makes _ vs less = refl
 pub quiet_made : (s : List ℕ) (old : Linked) (frame : Frame Kept) (parts : List Part) (held : ℕ) → held ≡ length parts - frame.base → held < quiet_parts (production_at frame.rule)
     → length old.nodes.nodes ≡ length old.nodes.nodes + makes_before (production_at frame.rule) (values_in s old.nodes (drop frame.base parts))
 quiet_made s old frame parts held counted less =
-    omega (arith, quiet_makes (production_at frame.rule) (values_in s old.nodes (drop frame.base parts))
-    (omega (arith, values_length s (trees_in s old.nodes) (drop frame.base parts), length-drop frame.base parts, counted, less)))
+    omega (
+      arith,
+      quiet_makes (production_at frame.rule) (values_in s old.nodes (drop frame.base parts))
+          (omega (arith, values_length s (trees_in s old.nodes) (drop frame.base parts), length-drop frame.base parts, counted, less)),
+    )
 
 -- what a production makes of these parts, the rule of the frame makes of its own
 pub made_before_part : (s : List ℕ) (old : Linked) (frame : Frame Kept) (parts own : List Part) (p : Production) (made : ℕ) → own ≡ drop frame.base parts → p ≡ production_at frame.rule

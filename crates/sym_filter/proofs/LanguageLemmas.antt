@@ -9,7 +9,7 @@ use Rattle.sym_shape.specs.Decided.{AreBytes}
 use Rattle.sym_shape.specs.declared.rule.Row.{Row}
 use Rattle.sym_shape.specs.Tree.{AreRowsOf}
 use Rattle.sym_demangle.specs.Mangled.{Mangled, IsAnswer, IsReading, answer}
-use Rattle.sym_demangle.specs.Standing.{AreStepsInAll}
+use Rattle.sym_demangle.specs.Standing.{AreStepsInAll, AreNodesOf}
 use Rattle.sym_demangle.proofs.Answering.{is_answer, reading_answered}
 use Rattle.sym_filter.specs.Demangled.{IsDemangled}
 use Rattle.sym_filter.specs.Languages.{behind_front, Readings, AreCounts, AreCountsOf}
@@ -46,13 +46,13 @@ module _ {W : Type 0} (m : Mangled W) (limit : ℕ) (detail : Detail) (symbol : 
   unread_answered refusal short (inr is) other = (reading_answered m detail symbol limit (Err refusal) bytes is, short)
 
 -- the counts of a symbol that was read
-pub read_counts : {W R : Type 0} (readings : Readings W R) (symbol : List ℕ) (read : R) (counts : Counts) (rows steps : ℕ)
+pub read_counts : {W R : Type 0} (readings : Readings W R) (symbol : List ℕ) (read : R) (counts : Counts) (rows steps nodes : ℕ)
     → (shape : List Row) × AreRowsOf readings.mangled.table symbol shape × (rows ≡ length shape)
     → readings.bytes_of read ≡ symbol → IsReading readings.mangled symbol (Ok (readings.whole_of read)) → AreStepsInAll readings.mangled.table symbol steps
-    → readings.IsRead read → counts.rows ≡ rows → counts.nodes ≡ readings.nodes_of read → counts.steps ≡ steps
+    → AreNodesOf readings.mangled.table readings.are_nodes symbol nodes → readings.IsRead read → counts.rows ≡ rows → counts.nodes ≡ nodes → counts.steps ≡ steps
     → counts.nodes ≤ readings.nodes_a_byte * length (readings.bytes_of read) + 8 → counts.steps ≤ 32 * length (readings.bytes_of read) + 48
     → counts.rows ≤ counts.steps → AreCounts readings symbol counts
-read_counts readings symbol read counts rows steps (shape, are_rows, same) bytes stands counted is_read rows_are nodes_are steps_are nodes_few steps_few enough =
+read_counts readings symbol read counts rows steps nodes (shape, are_rows, same) bytes stands counted are_nodes is_read rows_are nodes_are steps_are nodes_few steps_few enough =
     record {
       shape = shape;
       are_rows = are_rows;
@@ -61,7 +61,7 @@ read_counts readings symbol read counts rows steps (shape, are_rows, same) bytes
       is_read = is_read;
       bytes = bytes;
       stands = stands;
-      nodes = nodes_are;
+      nodes = subst (λ n. AreNodesOf readings.mangled.table readings.are_nodes symbol n) (sym nodes_are) are_nodes;
       nodes_few = subst (λ (s : List ℕ). counts.nodes ≤ readings.nodes_a_byte * length s + 8) bytes nodes_few;
       steps = subst (λ n. AreStepsInAll readings.mangled.table symbol n) (sym steps_are) counted;
       steps_few = subst (λ (s : List ℕ). counts.steps ≤ 32 * length s + 48) bytes steps_few;

@@ -3,16 +3,18 @@ use Rattle.std.specs.Prelude.{◌≡◌, ℕ, ◌+◌, ◌*◌, ◌≤◌, List,
 use Rattle.sym_core.specs.declared.refusal.Refusal.{Refusal}
 use Rattle.sym_print.specs.declared.detail.Detail.{Detail}
 use Rattle.sym_shape.specs.declared.rule.Row.{Row}
-use Rattle.sym_shape.specs.Tree.{AreRowsOf}
+use Rattle.sym_shape.specs.Tree.{Tree, AreRowsOf}
 use Rattle.sym_demangle.specs.Mangled.{Mangled, IsReading, answer}
-use Rattle.sym_demangle.specs.Standing.{AreStepsInAll}
+use Rattle.sym_demangle.specs.Standing.{AreStepsInAll, AreNodesOf}
 use Rattle.cpp_grammar.specs.Mangled.{cpp_mangled}
 use Rattle.cpp_grammar.specs.Term.{Term}
 use Rattle.cpp_layout.specs.Layout as cpp
+use Rattle.cpp_link.specs.NodeCount as cpp_count
 use Rattle.rust_tree.specs.Counts.{IsRead}
 use Rattle.rust_tree.specs.Layout.{ReadSymbol}
 use Rattle.rust_tree.specs.Symbol.{Symbol}
 use Rattle.rust_v0.specs.Mangled.{v0_mangled, whole_of}
+use Rattle.rust_v0.specs.NodeCount as rust_count
 use Rattle.sym_core.specs.declared.counts.Counts.{Counts}
 use Rattle.cpp_press.specs.Pressing as cpp_spelling
 use Rattle.sym_press.specs.Pressing as rust_spelling
@@ -55,7 +57,8 @@ pub record Readings (W R : Type 0) : Type 1 where
   pub IsRead : R → Type 0
   pub bytes_of : R → List ℕ
   pub whole_of : R → W
-  pub nodes_of : R → ℕ
+  -- whether a symbol of a shape has so many nodes
+  pub are_nodes : Tree → ℕ → Type 0
   -- the most nodes that a byte brings
   pub nodes_a_byte : ℕ
 
@@ -65,7 +68,7 @@ cpp_readings = record {
   IsRead = λ read. cpp.IsRead read;
   bytes_of = λ read. read.bytes;
   whole_of = λ read. cpp.whole_of read;
-  nodes_of = λ read. length read.table.nodes;
+  are_nodes = cpp_count.are_nodes;
   nodes_a_byte = 2;
 }
 
@@ -75,12 +78,12 @@ v0_readings = record {
   IsRead = λ read. IsRead read;
   bytes_of = λ read. read.bytes;
   whole_of = λ read. whole_of read;
-  nodes_of = λ read. length read.table.nodes;
+  are_nodes = rust_count.are_nodes;
   nodes_a_byte = 4;
 }
 
--- The counts of a symbol that is read: the rows and steps of its one shape, and the nodes of a symbol that was read and stands
--- for its tree. There is at least a step for each row, and no more of each than its bytes allow.
+-- The counts of a symbol that is read and stands for a tree: the rows, the steps and the nodes of its one shape. There is at least a
+-- step for each row, and no more of each than its bytes allow.
 pub record AreCounts {W R : Type 0} (readings : Readings W R) (symbol : List ℕ) (counts : Counts) : Type 0 where
   pub shape : List Row
   pub are_rows : AreRowsOf readings.mangled.table symbol shape
@@ -89,7 +92,7 @@ pub record AreCounts {W R : Type 0} (readings : Readings W R) (symbol : List ℕ
   pub is_read : readings.IsRead read
   pub bytes : readings.bytes_of read ≡ symbol
   pub stands : IsReading readings.mangled symbol (Ok (readings.whole_of read))
-  pub nodes : counts.nodes ≡ readings.nodes_of read
+  pub nodes : AreNodesOf readings.mangled.table readings.are_nodes symbol counts.nodes
   pub nodes_few : counts.nodes ≤ readings.nodes_a_byte * length symbol + 8
   pub steps : AreStepsInAll readings.mangled.table symbol counts.steps
   pub steps_few : counts.steps ≤ 32 * length symbol + 48

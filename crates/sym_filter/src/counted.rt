@@ -11,8 +11,6 @@ pub trait Counted: Mangling {
     // what holds of each symbol that was read
     ghost is_read: { Self.Symbol → Type 0 };
 
-    ghost nodes_of: { Self.Symbol → ℕ };
-
     // the most nodes that a byte brings
     ghost nodes_a_byte: { ℕ };
 
@@ -20,7 +18,7 @@ pub trait Counted: Mangling {
     fn counts(symbol: &Self::Symbol) -> Counts
         ensures is_read { is_read symbol.now }
         ensures rows { result.rows ≡ Self.rows_of symbol.now }
-        ensures nodes { result.nodes ≡ nodes_of symbol.now }
+        ensures nodes { result.nodes ≡ Self.nodes_of symbol.now }
         ensures steps { result.steps ≡ Self.steps_of symbol.now }
         ensures nodes_few { result.nodes ≤ nodes_a_byte * length (Self.bytes_of symbol.now) + 8 }
         ensures steps_few { result.steps ≤ 32 * length (Self.bytes_of symbol.now) + 48 }
@@ -31,8 +29,6 @@ impl Counted for Abi {
     ghost use Rattle.cpp_layout.specs.Layout.{IsRead};
 
     ghost is_read = { λ symbol. IsRead symbol };
-
-    ghost nodes_of = { λ symbol. length symbol.table.nodes };
 
     ghost nodes_a_byte = { 2 };
 
@@ -46,8 +42,6 @@ impl Counted for V0 {
     ghost use Rattle.rust_tree.specs.Counts.{IsRead};
 
     ghost is_read = { λ symbol. IsRead symbol };
-
-    ghost nodes_of = { λ symbol. length symbol.table.nodes };
 
     ghost nodes_a_byte = { 4 };
 

@@ -86,7 +86,7 @@ fn demangle_in<M: Counted>(
 ) -> Demangled
     requires { FitsSymbol symbol.now }
     ensures { IsDemangled (answer M.mangled detail symbol.now limit)
-        (AreCounts (record { mangled = M.mangled; IsRead = M.is_read; bytes_of = M.bytes_of; whole_of = M.whole_of; nodes_of = M.nodes_of; nodes_a_byte = M.nodes_a_byte }) symbol.now)
+        (AreCounts (record { mangled = M.mangled; IsRead = M.is_read; bytes_of = M.bytes_of; whole_of = M.whole_of; are_nodes = M.are_nodes; nodes_a_byte = M.nodes_a_byte }) symbol.now)
         out.old.items out.new.items result }
 {
     let read = match workspace.read(symbol) {

@@ -123,7 +123,7 @@ fn press_into<M: Pressable>(
 ) -> Demangled
     requires { FitsSymbol symbol.now }
     ensures { IsDemangled (behind_front (underscore_of skip) (M.answer symbol.now))
-        (AreCounts (record { mangled = M.mangled; IsRead = M.is_read; bytes_of = M.bytes_of; whole_of = M.whole_of; nodes_of = M.nodes_of; nodes_a_byte = M.nodes_a_byte }) symbol.now)
+        (AreCounts (record { mangled = M.mangled; IsRead = M.is_read; bytes_of = M.bytes_of; whole_of = M.whole_of; are_nodes = M.are_nodes; nodes_a_byte = M.nodes_a_byte }) symbol.now)
         out.old.items out.new.items result }
 {
     let read = match workspace.read(symbol) {

@@ -93,5 +93,9 @@ pub returns-clause-makes : goal.returns-clause-makes
 returns-clause-makes c =
     let own : List Part = take (length c.deref.result.now - c.args.frame.now.base) (drop c.args.frame.now.base c.deref.result.now) in
     let same : own ≡ drop c.args.frame.now.base c.args.parts.now.items = rest_all c.deref.result.now c.args.frame.now.base ∙ ap (λ ps. drop c.args.frame.now.base ps) c.deref.ensures.value in
-    omega (arith, c.in_ok-then.ensures.more, made_before_part c.args.symbol.now c.args.self.now c.args.frame.now c.args.parts.now.items own c.args.production (nodes_of_step c.in_ok-step.step)
-    same c.requires.numbered c.in_ok-step.ensures.makes)
+    omega (
+      arith,
+      c.in_ok-then.ensures.more,
+      made_before_part c.args.symbol.now c.args.self.now c.args.frame.now c.args.parts.now.items own c.args.production (nodes_of_step c.in_ok-step.step)
+          same c.requires.numbered c.in_ok-step.ensures.makes,
+    )
