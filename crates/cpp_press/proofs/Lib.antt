@@ -7,6 +7,11 @@ pub mod ApartTrees
 pub mod Covering
 pub mod CoveredTrees
 pub mod RepeatedReasons
+pub mod Parts
+pub mod Known
+pub mod KnownTrees
+pub mod Complete
+pub mod Steps
 pub mod Tokens
 pub mod Reading
 pub mod ReadingReferences
