@@ -24,3 +24,4 @@ pub mod ReadingWays
 pub mod ReadingQualified
 pub mod ReadingParameters
 pub mod ReadingPrefixes
+pub mod Fit
