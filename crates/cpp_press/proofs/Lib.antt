@@ -25,3 +25,5 @@ pub mod ReadingQualified
 pub mod ReadingParameters
 pub mod ReadingPrefixes
 pub mod Fit
+pub mod Keeping
+pub mod ReadingSlots
