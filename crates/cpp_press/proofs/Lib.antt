@@ -27,3 +27,6 @@ pub mod ReadingPrefixes
 pub mod Fit
 pub mod Keeping
 pub mod ReadingSlots
+pub mod ReadingNamed
+pub mod ReadingBetween
+pub mod ReadingTemplates

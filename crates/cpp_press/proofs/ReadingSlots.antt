@@ -26,7 +26,7 @@ use Rattle.cpp_press.proofs.ReadingFunctions.{rest-item}
 use Rattle.cpp_press.proofs.ReadingArguments.{IsSpellableNumber, integer-reads}
 use Rattle.cpp_press.proofs.ReadingLiterals.{integer-literal, integer-literal-same}
 use Rattle.cpp_press.proofs.ReadingParameters.{RestReads}
-use Rattle.cpp_press.proofs.Keeping.{Keeps}
+use Rattle.cpp_press.proofs.Keeping.{Keeps, keeps-component}
 use Rattle.cpp_press.proofs.Fit.{Slot, any_type, bare_type, item_type, parameter_type, literal_type, IsFirst, Fitting, as_component}
 
 -- ## Room
@@ -190,13 +190,19 @@ in-slot literal_type around allowed t h = in-literal around allowed t
 
 -- ## Components
 
+-- what a reference, or an abbreviation, becomes behind an S
+abbrev pub BehindS : Around → Option ℕ → Term → (ℕ → List Candidate → Written → Type 0) → Type 0
+BehindS around allowed t reads =
+    (place : ℕ) (cs : List Candidate) (w : Written) → ReadsAt around allowed (OfKind 22) (Is (tree t true)) (place + 1) cs w
+    → reads place cs (written (83 ∷ w.bytes) w.components)
+
 -- a component: a reference where an equal one stands before, or else its own spelling
-pub component-in : (around : Around) (allowed : Option ℕ) (own : Term) (solid : ℕ) (reads : ℕ → List Candidate → Written → Type 0) (place : ℕ)
-    (cs : List Candidate) (spelling : Spelling) → InSlot around allowed own solid reads → length cs ≤ greatest → MayBeReferred around allowed own
+pub component-in : (around : Around) (allowed : Option ℕ) (own : Term) (reads : ℕ → List Candidate → Written → Type 0) (place : ℕ)
+    (cs : List Candidate) (spelling : Spelling) → BehindS around allowed own reads → length cs ≤ greatest → MayBeReferred around allowed own
     → (IsFirst around own cs → reads place cs (written (spelling place cs).bytes (more around (spelling place cs).components own)))
     → reads place cs (component around.encoding own spelling place cs)
 unfolding component reference spelled_out ended
-component-in around allowed own solid reads place cs spelling slot few may out = go (first_equal around.encoding own 0 cs) refl
+component-in around allowed own reads place cs spelling behind few may out = go (first_equal around.encoding own 0 cs) refl
   where
     go : (o : Option ℕ) → first_equal around.encoding own 0 cs ≡ o → reads place cs (elim o as (λ _. Written) [
       | Some number ↦ reference number place cs
@@ -206,18 +212,19 @@ component-in around allowed own solid reads place cs spelling slot few may out =
         let f = found-first around.encoding own 0 number cs is in
         let named : f.0 ≡ number = omega (arith, f.1) in
         subst (λ n. reads place cs (reference n place cs)) named
-        (slot.behind_s place cs (written (seq_id f.0 ++ 95 ∷ []) cs) (number-refers around allowed own f.0 (place + 1) cs few may f.2))
+        (behind place cs (written (seq_id f.0 ++ 95 ∷ []) cs) (number-refers around allowed own f.0 (place + 1) cs few may f.2))
     go None is =
         subst (λ l. reads place cs (written l (more around (spelling place cs).components own))) (sym (append-nil (spelling place cs).bytes)) (out is)
 
 -- a component that fits
-pub fitting-in : (around : Around) (allowed : Option ℕ) (own : Term) (solid : ℕ) (reads : ℕ → List Candidate → Written → Type 0) (place : ℕ)
-    (cs : List Candidate) (spelling : Spelling) (spelled : Fitting) → InSlot around allowed own solid reads → Keeps (component around.encoding own spelling)
+pub fitting-in : (around : Around) (allowed : Option ℕ) (own : Term) (reads : ℕ → List Candidate → Written → Type 0) (place : ℕ)
+    (cs : List Candidate) (spelling : Spelling) (spelled : Fitting) → BehindS around allowed own reads
+    → Keeps spelling
     → HasRoom (component around.encoding own spelling place cs) → as_component own spelled around allowed place cs
     → (spelled around allowed place cs → HasRoom (spelling place cs)
     → reads place cs (written (spelling place cs).bytes (more around (spelling place cs).components own)))
     → reads place cs (component around.encoding own spelling place cs)
-fitting-in around allowed own solid reads place cs spelling spelled slot keeps room fits out =
-    component-in around allowed own solid reads place cs spelling slot
-    (few-before (component around.encoding own spelling) place cs keeps room) fits.0
+fitting-in around allowed own reads place cs spelling spelled behind keeps room fits out =
+    component-in around allowed own reads place cs spelling behind
+    (few-before (component around.encoding own spelling) place cs (keeps-component around.encoding own spelling keeps) room) fits.0
     (λ none. out (fits.1 none) (room-component around.encoding own spelling place cs none room))
