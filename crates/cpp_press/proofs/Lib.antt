@@ -30,3 +30,5 @@ pub mod ReadingSlots
 pub mod ReadingNamed
 pub mod ReadingBetween
 pub mod ReadingTemplates
+pub mod Readings
+pub mod ReadingsOfTypes
