@@ -32,3 +32,7 @@ pub mod ReadingBetween
 pub mod ReadingTemplates
 pub mod Readings
 pub mod ReadingsOfTypes
+pub mod ReadingsOfNames
+pub mod ReadingsOfStd
+pub mod ReadingsOfWithin
+pub mod ReadingsOfInstances

@@ -3,8 +3,8 @@ use Rattle.std.proofs.Common.{◌≡◌, ℕ, ◌+◌, ◌≤◌, length, List, 
 use Rattle.std.specs.Prelude.{codes, ◌&&◌}
 use Rattle.sym_shape.specs.declared.rule.Sym.TheVariants.{Kind as OfKind}
 use Rattle.sym_spell.specs.Pressing.{◌and◌, text, nothing}
-use Rattle.cpp_grammar.specs.Term.{Qualifiers, RefQualifier, Term, instance, list}
-use Rattle.cpp_grammar.specs.Values.{Candidate, Around, Value, tree, tree_of, qualifiers_of, ref_of}
+use Rattle.cpp_grammar.specs.Term.{Qualifiers, RefQualifier, any_value, Term, instance, list}
+use Rattle.cpp_grammar.specs.Values.{Candidate, Around, Value, tree, tree_of, qualifiers_of, ref_of, unqualified}
 use Rattle.cpp_grammar.specs.References.{is_function_type}
 use Rattle.cpp_grammar.specs.Between.{no_items}
 use Rattle.cpp_grammar.specs.Meaning.{parameters}
@@ -35,6 +35,18 @@ pub record NameReads (around : Around) (allowed : Option ℕ) (k : ℕ) (t : Ter
   pub qualifiers_are : qualifiers_of value ≡ q
   pub ref_is : ref_of value ≡ ref
   pub reads : ReadsAt around allowed (OfKind k) (Is value) place cs w
+
+-- an instance in a type, or as an encoding's own name without letters
+abbrev pub TemplateReads : (typed : Bool) → Around → Option ℕ → (k : ℕ) → Term → (place : ℕ) → List Candidate → Written → Type 0
+TemplateReads true around allowed k t place cs w = ReadsAt around allowed (OfKind k) (Is (tree t false)) place cs w
+TemplateReads false around allowed k t place cs w = NameReads around allowed k t unqualified any_value place cs w
+
+pub template-value : (typed : Bool) (around : Around) (allowed : Option ℕ) (k : ℕ) (t : Term) (place : ℕ) (cs : List Candidate) (w : Written)
+    → ReadsAt around allowed (OfKind k) (Is (tree t false)) place cs w → TemplateReads typed around allowed k t place cs w
+unfolding tree_of qualifiers_of ref_of
+template-value true around allowed k t place cs w one = one
+template-value false around allowed k t place cs w one =
+    record { value = tree t false; tree_is = refl; qualifiers_are = refl; ref_is = refl; reads = one }
 
 -- as the entity of a local name
 abbrev pub EntityReads : Role → Around → Option ℕ → Term → (place : ℕ) → List Candidate → Written → Type 0
@@ -107,8 +119,7 @@ pub record ReadsAll (t : Term) (ways : ℕ → Ways) (fits : Fits) : Type 1 wher
       (arguments : Fitting) (elements : Spelling) (items : Term) (last : Value) → no_items last ≡ items
       → ReadElements around allowed last arguments elements → Keeps (of_elements elements) → IsSmall around
       → HasRoom ((ways around.encoding).before typed (of_elements elements) place cs) → fits.before typed arguments around allowed place cs
-      → ReadsAt around allowed (OfKind k) (Is (tree (instance t items) false)) place cs
-      ((ways around.encoding).before typed (of_elements elements) place cs)
+      → TemplateReads typed around allowed k (instance t items) place cs ((ways around.encoding).before typed (of_elements elements) place cs)
   pub as_argument : (in_pack : Bool) → Leads (λ n. (ways n).as_argument) (fits.as_argument in_pack)
       (λ around allowed. ArgumentReads in_pack around allowed t)
   pub as_items : Leads (λ n. (ways n).as_parameters) (fits.as_parameters item_type) (λ around allowed. ItemsRead around allowed t)
@@ -283,8 +294,9 @@ reads-type t spelling spelled other keeps out = record {
   as_encoding = λ around allowed place cs small room h. absurd h;
   as_name = λ q ref around allowed place cs small room h. absurd h;
   before = λ typed k kind around allowed place cs arguments elements items last are read kept small room h.
-      referred-before typed k around allowed t kind place cs (spelling around.encoding) arguments elements items last are read
-      (keeps around.encoding) kept room h;
+      template-value typed around allowed k (instance t items) place cs _
+      (referred-before typed k around allowed t kind place cs (spelling around.encoding) arguments elements items last are read
+      (keeps around.encoding) kept room h);
   as_argument = λ in_pack around allowed place cs small room h.
       typed-argument in_pack around allowed t place cs (component around.encoding t (spelling around.encoding) place cs)
       (as_types item_type around allowed place cs small room h);
