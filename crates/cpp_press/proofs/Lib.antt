@@ -36,3 +36,7 @@ pub mod ReadingsOfNames
 pub mod ReadingsOfStd
 pub mod ReadingsOfWithin
 pub mod ReadingsOfInstances
+pub mod ReadingsOfParts
+pub mod ReadingsOfLists
+pub mod ReadingsOfEncodings
+pub mod FittingLaw
