@@ -20,8 +20,6 @@ pub mod ReadingEncodings
 pub mod ReadingSymbols
 pub mod ReadingPieces
 pub mod ReadingLocals
-pub mod ReadingWays
-pub mod ReadingQualified
 pub mod ReadingParameters
 pub mod ReadingPrefixes
 pub mod Fit
@@ -40,3 +38,6 @@ pub mod ReadingsOfParts
 pub mod ReadingsOfLists
 pub mod ReadingsOfEncodings
 pub mod FittingLaw
+pub mod Counting
+pub mod ReadLaw
+mod FitRows

@@ -28,7 +28,7 @@ use Rattle.cpp_press.proofs.ReadingArguments.{items_value, items-more, IsSpellab
 use Rattle.cpp_press.proofs.ReadingLiterals.{boolean-literal, null-literal, char-literal, encoding-literal, literal-argument, literal-element, pack-argument, address-reads, address-argument, address-element}
 use Rattle.cpp_press.proofs.ReadingNames.{SoFar, Extends}
 use Rattle.cpp_press.proofs.ReadingParameters.{RestReads, end-reads, none-read}
-use Rattle.cpp_press.proofs.ReadingQualified.{abbreviation-behind-s}
+use Rattle.cpp_press.proofs.ReadingSolids.{abbreviation-behind-s}
 use Rattle.cpp_press.proofs.Keeping.{Keeps, keeps-text, keeps-and, keeps-front, keeps-behind, keeps-component, keeps}
 use Rattle.cpp_press.proofs.ReadingSlots.{HasRoom, IsSmall, room-first, room-rest, few-before, ReadsAs, solid_kind, is_bare, room-component, in-slot, InSlot, component-in, fitting-in}
 use Rattle.cpp_press.proofs.ReadingNamed.{PieceReads, ItemsRead, source-reads, operator-piece-reads, literal-operator-piece-reads, constructor-piece-reads, destructor-piece-reads, lambda-piece-reads, unnamed-piece-reads}
@@ -145,8 +145,8 @@ local-as-name e entity d re rn q ref around allowed place cs small room h =
           p.three;
     }
 
-keeps-local_ : (n : ℕ) (e entity : Term) (d : Option (List ℕ)) (letters : List ℕ) → Keeps (local_spelling n e entity d letters)
-keeps-local_ n e entity d letters =
+keeps-local-spelling : (n : ℕ) (e entity : Term) (d : Option (List ℕ)) (letters : List ℕ) → Keeps (local_spelling n e entity d letters)
+keeps-local-spelling n e entity d letters =
     keeps-local (ways_of n e).as_encoding entity (ways_of n entity).between_N_and_E d letters (keeps e n).as_encoding (keeps entity n).between_N_and_E
 
 pub reads-local : (e entity : Term) (d : Option (List ℕ)) → Reading e → Reading entity → Reading (local e entity d)
@@ -156,11 +156,11 @@ reads-local e entity d re rn = record {
   as_prefix = λ around allowed place cs small room h.
       fitting-in around allowed (local e entity d) (Extends around allowed (local e entity d)) place cs
       (local_spelling around.encoding e entity d []) nowhere
-      (prefix-behind-s around allowed (local e entity d)) (keeps-local_ around.encoding e entity d []) room h (λ fits enough. absurd fits);
+      (prefix-behind-s around allowed (local e entity d)) (keeps-local-spelling around.encoding e entity d []) room h (λ fits enough. absurd fits);
   as_prefix_template = λ around allowed place cs small room h.
       fitting-in around allowed (local e entity d) (ExtendsWith around allowed (local e entity d)) place cs
       (local_spelling around.encoding e entity d []) nowhere
-      (extends-with-behind-s around allowed (local e entity d)) (keeps-local_ around.encoding e entity d []) room h (λ fits enough. absurd fits);
+      (extends-with-behind-s around allowed (local e entity d)) (keeps-local-spelling around.encoding e entity d []) room h (λ fits enough. absurd fits);
   between = λ around allowed place cs small room h. absurd h;
   between_template = λ around allowed place cs small room h. absurd h;
   as_entity = λ role around allowed place cs small room h. absurd h;
@@ -171,7 +171,7 @@ reads-local e entity d re rn = record {
   before = λ typed k kind around allowed place cs arguments elements items last are read kept small room h.
       template-value typed around allowed k (instance (local e entity d) items) place cs _
       (referred-before typed k around allowed (local e entity d) kind place cs (local_spelling around.encoding e entity d []) arguments elements
-      items last are read (keeps-local_ around.encoding e entity d []) kept room h);
+      items last are read (keeps-local-spelling around.encoding e entity d []) kept room h);
   as_argument = λ in_pack around allowed place cs small room h.
       typed-argument in_pack around allowed (local e entity d) place cs _ (whole item_type around allowed place cs small room h);
   as_items = λ around allowed place cs small room h. absurd h;
@@ -187,7 +187,7 @@ reads-local e entity d re rn = record {
         let s = in-slot slot around allowed (local e entity d) refl in
         fitting-in around allowed (local e entity d) (ReadsAs slot around allowed (local e entity d)) place cs
         (local_spelling around.encoding e entity d [])
-        (local_fits e entity d in_type) s.behind_s (keeps-local_ around.encoding e entity d []) room h
+        (local_fits e entity d in_type) s.behind_s (keeps-local-spelling around.encoding e entity d []) room h
         (λ fits enough. s.adds place cs (local_spelling around.encoding e entity d [] place cs)
         (local-typed e entity d re rn (solid_kind slot) (slot-rules slot) around allowed place cs small enough fits))
 

@@ -41,13 +41,13 @@ items-kept _ = refl
 
 -- ## Arguments
 
-abbrev elements_of : (a : Term) → Fitting
+abbrev pub elements_of : (a : Term) → Fitting
 elements_of a around allowed place cs = (fits_of a).as_elements false (inside around) allowed (place + 1) cs
 
-abbrev arguments_of_ : ℕ → (a : Term) → Spelling
-arguments_of_ n a = of_elements (ways_of n a).as_elements
+abbrev pub spelled_arguments : ℕ → (a : Term) → Spelling
+spelled_arguments n a = of_elements (ways_of n a).as_elements
 
-keeps-arguments : (n : ℕ) (a : Term) → Keeps (arguments_of_ n a)
+keeps-arguments : (n : ℕ) (a : Term) → Keeps (spelled_arguments n a)
 keeps-arguments n a =
     keeps-front (codes "I") ((ways_of n a).as_elements and text (codes "E")) (keeps-behind (ways_of n a).as_elements (codes "E") (keeps a n).as_elements)
 
@@ -58,16 +58,16 @@ elements-read a r around allowed small place cs fits room = (r.as_elements false
 
 -- ## Between N and E
 
-abbrev instance_between : ℕ → (t a : Term) → Spelling
-instance_between n t a = (ways_of n t).between_N_and_E and ended n t and arguments_of_ n a
+abbrev pub instance_between : ℕ → (t a : Term) → Spelling
+instance_between n t a = (ways_of n t).between_N_and_E and ended n t and spelled_arguments n a
 
 abbrev instance_joined : (t a : Term) → Fitting
 instance_joined t a around allowed place cs =
     (fits_of t).between_template around allowed place cs
     × Behind ((ways_of around.encoding t).between_N_and_E and ended around.encoding t) (elements_of a around allowed) place cs
 
-keeps-rest : (n : ℕ) (t a : Term) → Keeps (ended n t and arguments_of_ n a)
-keeps-rest n t a = keeps-and (ended n t) (arguments_of_ n a) (keeps-ended n t) (keeps-arguments n a)
+keeps-rest : (n : ℕ) (t a : Term) → Keeps (ended n t and spelled_arguments n a)
+keeps-rest n t a = keeps-and (ended n t) (spelled_arguments n a) (keeps-ended n t) (keeps-arguments n a)
 
 -- the elements behind a name that has become a component
 behind-name : (t a : Term) → Reading a → (around : Around) (allowed : Option ℕ) (place : ℕ) (cs : List Candidate) → IsSmall around
@@ -83,7 +83,7 @@ behind-name t a ra around allowed place cs small room fits =
     let w : Written = (ways_of n t).between_N_and_E place cs in
     elements-behind around allowed (items_value a) (elements_of a) (ways_of n a).as_elements t w place (place + length (w.bytes ++ []))
     (elements-read a ra around allowed small)
-    (room-rest (ways_of n t).between_N_and_E (ended n t and arguments_of_ n a) place cs room) (omega (arith, length-append w.bytes [])) fits
+    (room-rest (ways_of n t).between_N_and_E (ended n t and spelled_arguments n a) place cs room) (omega (arith, length-append w.bytes [])) fits
 
 instance-nested : (t a : Term) → Reading t → Reading a → (around : Around) (allowed : Option ℕ) (place : ℕ) (cs : List Candidate) → IsSmall around
     → HasRoom (instance_between around.encoding t a place cs) → instance_joined t a around allowed place cs
@@ -93,14 +93,14 @@ instance-nested t a rt ra around allowed place cs small room h =
     let n : ℕ = around.encoding in
     let w : Written = (ways_of n t).between_N_and_E place cs in
     rt.between_template around allowed place cs small
-    (room-first (ways_of n t).between_N_and_E (ended n t and arguments_of_ n a) place cs (keeps-rest n t a) room) h.0 a (items_value a)
+    (room-first (ways_of n t).between_N_and_E (ended n t and spelled_arguments n a) place cs (keeps-rest n t a) room) h.0 a (items_value a)
     ((ways_of n a).as_elements (place + length w.bytes + 0 + 1) (more around w.components t)) (items-kept a)
     (behind-name t a ra around allowed place cs small room h.1)
 
 -- ## As the entity of a local name
 
 -- what stands between N and E isn't one piece
-not-one-piece : (t a : Term) (around : Around) (allowed : Option ℕ) (place : ℕ) (cs : List Candidate)
+pub not-one-piece : (t a : Term) (around : Around) (allowed : Option ℕ) (place : ℕ) (cs : List Candidate)
     → (fits_of t).between_template around allowed place cs → is_one_piece (instance t a) ≡ false
 unfolding fits_of is_one_piece encoding_fits piece_fits argument_fits type_fits fits_nowhere
 not-one-piece (within x p) a around allowed place cs h = no-encoding x around allowed place cs h.0
@@ -124,7 +124,7 @@ piece-entity t a rt ra (in_name_with q ref) around allowed place cs small room n
     ((ways_of around.encoding a).as_elements (place + length w.bytes + 0 + 1) (more around w.components t)) (items-kept a)
     (behind-name t a ra around allowed place cs small room fits))
 
-one-piece-is : (t a : Term) (around : Around) (allowed : Option ℕ) (place : ℕ) (cs : List Candidate)
+pub one-piece-is : (t a : Term) (around : Around) (allowed : Option ℕ) (place : ℕ) (cs : List Candidate)
     → (fits_of t).as_entity_template around allowed place cs → is_one_piece (instance t a) ≡ false → ⊥
 unfolding fits_of is_one_piece encoding_fits piece_fits argument_fits type_fits fits_nowhere
 one-piece-is (within x p) a around allowed place cs h k = let e : true ≡ false = sym h.0 ∙ k in cc
@@ -143,7 +143,7 @@ instance-entity t a rt ra role around allowed place cs small true is room (inl h
     let n : ℕ = around.encoding in
     piece-entity t a rt ra role around allowed place cs small room h.0
     (rt.as_entity_template around allowed place cs small
-    (room-first (ways_of n t).between_N_and_E (ended n t and arguments_of_ n a) place cs (keeps-rest n t a) room) h.1) h.2
+    (room-first (ways_of n t).between_N_and_E (ended n t and spelled_arguments n a) place cs (keeps-rest n t a) room) h.1) h.2
 instance-entity t a rt ra role around allowed place cs small false is room (inl h) = absurd (never h.1)
   where
     never : (fits_of t).as_entity_template around allowed place cs → ⊥
@@ -159,9 +159,9 @@ instance-entity t a rt ra role around allowed place cs small false is room (inr 
 
 instance-own : (t a : Term) → Reading t → Reading a → (typed : Bool) (k : ℕ) → TemplateKind typed k → (around : Around) (allowed : Option ℕ)
     (place : ℕ) (cs : List Candidate) → IsSmall around
-    → HasRoom ((ways_of around.encoding t).before typed (arguments_of_ around.encoding a) place cs)
+    → HasRoom ((ways_of around.encoding t).before typed (spelled_arguments around.encoding a) place cs)
     → (fits_of t).before typed (elements_of a) around allowed place cs
-    → TemplateReads typed around allowed k (instance t a) place cs ((ways_of around.encoding t).before typed (arguments_of_ around.encoding a) place cs)
+    → TemplateReads typed around allowed k (instance t a) place cs ((ways_of around.encoding t).before typed (spelled_arguments around.encoding a) place cs)
 instance-own t a rt ra typed k kind around allowed place cs small room h =
     rt.before typed k kind around allowed place cs (elements_of a) (ways_of around.encoding a).as_elements a (items_value a) (items-kept a)
     (elements-read a ra around allowed small) (keeps-arguments around.encoding a) small room h
@@ -173,21 +173,21 @@ reads-instance t a rt ra = record {
   as_prefix = λ around allowed place cs small room h.
       let n : ℕ = around.encoding in
       let prefix : Spelling = (ways_of n t).as_prefix in
-      fitting-in around allowed (instance t a) (Extends around allowed (instance t a)) place cs (prefix and arguments_of_ n a)
+      fitting-in around allowed (instance t a) (Extends around allowed (instance t a)) place cs (prefix and spelled_arguments n a)
       (λ inner others at ds. (fits_of t).as_prefix_template inner others at ds
       × Behind (ways_of inner.encoding t).as_prefix (elements_of a inner others) at ds)
-      (prefix-behind-s around allowed (instance t a)) (keeps-and prefix (arguments_of_ n a) (keeps t n).as_prefix (keeps-arguments n a)) room h
+      (prefix-behind-s around allowed (instance t a)) (keeps-and prefix (spelled_arguments n a) (keeps t n).as_prefix (keeps-arguments n a)) room h
       (λ fits enough.
       let w : Written = prefix place cs in
-      rt.as_prefix_template around allowed place cs small (room-first prefix (arguments_of_ n a) place cs (keeps-arguments n a) enough) fits.0
+      rt.as_prefix_template around allowed place cs small (room-first prefix (spelled_arguments n a) place cs (keeps-arguments n a) enough) fits.0
       a (items_value a) ((ways_of n a).as_elements (place + length w.bytes + 1) w.components) (items-kept a)
       (elements-read a ra around allowed small (place + length w.bytes) w.components fits.1
       (elements-room prefix (ways_of n a).as_elements place cs enough)));
   as_prefix_template = λ around allowed place cs small room h.
       let n : ℕ = around.encoding in
-      fitting-in around allowed (instance t a) (ExtendsWith around allowed (instance t a)) place cs ((ways_of n t).as_prefix and arguments_of_ n a)
+      fitting-in around allowed (instance t a) (ExtendsWith around allowed (instance t a)) place cs ((ways_of n t).as_prefix and spelled_arguments n a)
       nowhere (extends-with-behind-s around allowed (instance t a))
-      (keeps-and (ways_of n t).as_prefix (arguments_of_ n a) (keeps t n).as_prefix (keeps-arguments n a)) room h
+      (keeps-and (ways_of n t).as_prefix (spelled_arguments n a) (keeps t n).as_prefix (keeps-arguments n a)) room h
       (λ fits enough. absurd fits);
   between = λ around allowed place cs small room h. instance-nested t a rt ra around allowed place cs small room h;
   between_template = λ around allowed place cs small room h. absurd h;
@@ -198,7 +198,7 @@ reads-instance t a rt ra = record {
   as_encoding = λ around allowed place cs small room h. absurd h;
   as_name = λ q ref around allowed place cs small room h.
       let n : ℕ = around.encoding in
-      name-by-letters around allowed (instance t a) q ref place cs ((ways_of n t).before false (arguments_of_ n a)) (instance_between n t a)
+      name-by-letters around allowed (instance t a) q ref place cs ((ways_of n t).before false (spelled_arguments n a)) (instance_between n t a)
       ((fits_of t).before false (elements_of a)) (instance_joined t a) room h
       (λ fits enough. instance-own t a rt ra false 8 refl around allowed place cs small enough fits)
       (λ at fits enough. instance-nested t a rt ra around allowed at cs small enough fits);
@@ -214,14 +214,14 @@ reads-instance t a rt ra = record {
   as_elements = λ in_pack around allowed place cs small room h. absurd h;
 }
   where
-    whole : (slot : Slot) → Leads (λ n. component n (instance t a) ((ways_of n t).before true (arguments_of_ n a)))
+    whole : (slot : Slot) → Leads (λ n. component n (instance t a) ((ways_of n t).before true (spelled_arguments n a)))
         (as_component (instance t a) ((fits_of t).before true (elements_of a))) (λ around allowed. ReadsAs slot around allowed (instance t a))
     whole slot around allowed place cs small room h =
         let s = in-slot slot around allowed (instance t a) refl in
         let n : ℕ = around.encoding in
-        fitting-in around allowed (instance t a) (ReadsAs slot around allowed (instance t a)) place cs ((ways_of n t).before true (arguments_of_ n a))
-        ((fits_of t).before true (elements_of a)) s.behind_s ((keeps t n).before true (arguments_of_ n a) (keeps-arguments n a)) room h
-        (λ fits enough. s.adds place cs ((ways_of n t).before true (arguments_of_ n a) place cs)
+        fitting-in around allowed (instance t a) (ReadsAs slot around allowed (instance t a)) place cs ((ways_of n t).before true (spelled_arguments n a))
+        ((fits_of t).before true (elements_of a)) s.behind_s ((keeps t n).before true (spelled_arguments n a) (keeps-arguments n a)) room h
+        (λ fits enough. s.adds place cs ((ways_of n t).before true (spelled_arguments n a) place cs)
         (instance-own t a rt ra true (solid_kind slot) (slot-rules slot) around allowed place cs small enough fits))
 
     as_types : (slot : Slot) → Leads (λ n. slot_way slot (ways_of n (instance t a))) ((fits_of (instance t a)).as_type slot)

@@ -28,7 +28,7 @@ use Rattle.cpp_press.proofs.ReadingArguments.{items_value, items-more, IsSpellab
 use Rattle.cpp_press.proofs.ReadingLiterals.{boolean-literal, null-literal, char-literal, encoding-literal, literal-argument, literal-element, pack-argument, address-reads, address-argument, address-element}
 use Rattle.cpp_press.proofs.ReadingNames.{SoFar, Extends}
 use Rattle.cpp_press.proofs.ReadingParameters.{RestReads, end-reads, none-read}
-use Rattle.cpp_press.proofs.ReadingQualified.{abbreviation-behind-s}
+use Rattle.cpp_press.proofs.ReadingSolids.{abbreviation-behind-s}
 use Rattle.cpp_press.proofs.Keeping.{Keeps, keeps-text, keeps-and, keeps-front, keeps-behind, keeps-component, keeps}
 use Rattle.cpp_press.proofs.ReadingSlots.{HasRoom, IsSmall, room-first, room-rest, few-before, ReadsAs, solid_kind, is_bare, room-component, in-slot, InSlot, component-in, fitting-in}
 use Rattle.cpp_press.proofs.ReadingNamed.{PieceReads, ItemsRead, source-reads, operator-piece-reads, literal-operator-piece-reads, constructor-piece-reads, destructor-piece-reads, lambda-piece-reads, unnamed-piece-reads}

@@ -73,14 +73,14 @@ begins-unless (operator a b) h k = absurd (let e : true ≡ false = k in cc)
 begins-unless (literal_operator name) h k = absurd (let e : true ≡ false = k in cc)
 begins-unless _ h k = absurd (let e : false ≡ true = h in cc)
 
-abbrev std_spelling : ℕ → Term → Spelling
+abbrev pub std_spelling : ℕ → Term → Spelling
 std_spelling n p = text (codes "St") and (ways_of n p).as_piece
 
 abbrev std_fits : Term → Fitting
 std_fits p around allowed place cs = (names_function p ≡ true) × (fits_of p).as_piece around allowed (place + 2) cs
 
 -- a name that a type needs an N for, or not
-abbrev maybe_N : Bool → List ℕ
+abbrev pub maybe_N : Bool → List ℕ
 maybe_N b = elim b as (λ _. List ℕ) [ true ↦ codes "N" | false ↦ [] ]
 
 keeps-std : (n : ℕ) (p : Term) → Keeps (std_spelling n p)
