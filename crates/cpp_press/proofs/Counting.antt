@@ -1,22 +1,22 @@
 -- The arguments that a name ends in are at most the bytes that spell it.
-use Rattle.std.proofs.Common.{◌≡◌, ℕ, suc, ◌+◌, ◌-◌, ◌<◌, ◌≤◌, ◌⊎◌, inl, inr, length, List, [], ◌∷◌, ◌++◌, Option, Some, None, Bool, true, false, refl, ap, arith, sym, subst, ◌∙◌, length-append}
+use Rattle.std.proofs.Common.{◌≡◌, ℕ, suc, ◌+◌, ◌<◌, ◌≤◌, ◌⊎◌, inl, inr, length, List, [], ◌∷◌, ◌++◌, Option, Some, None, Bool, true, false, refl, arith, sym, subst, ◌∙◌, length-append}
 use Rattle.std.specs.Prelude.{cond, codes, ◌&&◌, ◌||◌, nat_lt, ◌/◌, ◌%◌}
 use Rattle.sym_spell.specs.Pressing.{◌and◌, text, nothing}
 use Rattle.sym_spell.specs.Digits.{digits_in, decimal_digit}
-use Rattle.cpp_grammar.specs.Term.{Qualifiers, RefQualifier, Term, symbol, function, object, special, thunk, guard, alone, in_std, within, instance, local, abbreviation, parameter, source, operator, literal_operator, constructor, destructor, lambda, unnamed, string_literal, builtin, vendor, pointer, lvalue, rvalue, array, member_pointer, function_type, qualified, vector, complex, expansion, integer, boolean, null_pointer, encoding_literal, address_of, pack, nil, list, absent}
+use Rattle.cpp_grammar.specs.Term.{Qualifiers, Term, alone, in_std, within, instance, local, abbreviation, parameter, source, operator, literal_operator, constructor, destructor, lambda, unnamed, string_literal, builtin, vendor, pointer, lvalue, rvalue, array, member_pointer, function_type, qualified, vector, complex, expansion, integer, boolean, null_pointer, encoding_literal, address_of, pack, nil, list}
 use Rattle.cpp_grammar.specs.Scope.{count, arguments_of}
 use Rattle.cpp_grammar.specs.Values.{Candidate, Around}
 use Rattle.cpp_grammar.specs.Between.{after, inside}
-use Rattle.cpp_press.specs.Texts.{decimal, counted, ordinal, signed_text, qualifier_letters, mark_letter, name_letters, discriminator_text}
+use Rattle.cpp_press.specs.Texts.{decimal, counted, ordinal, qualifier_letters, mark_letter, name_letters, discriminator_text}
 use Rattle.cpp_press.specs.Components.{Spelling, reference, first_equal, ended, spelled_out, referred, component}
-use Rattle.cpp_press.specs.Pressing.{no_ways, type_ways, piece_ways, argument_ways, encoding_ways, begun, function_text, name_ways, with_letters, in_N_and_E, template_before, is_operator, is_one_piece, entity_text, local_text, ways_of}
+use Rattle.cpp_press.specs.Pressing.{no_ways, type_ways, piece_ways, argument_ways, encoding_ways, function_text, name_ways, with_letters, in_N_and_E, template_before, is_operator, is_one_piece, entity_text, local_text, ways_of}
 use Rattle.cpp_press.proofs.Reading.{Written}
 use Rattle.cpp_press.proofs.Keeping.{choice}
 use Rattle.cpp_press.proofs.ReadingTemplates.{of_elements}
 use Rattle.cpp_press.proofs.ReadingsOfStd.{std_spelling, maybe_N}
 use Rattle.cpp_press.proofs.ReadingsOfInstances.{elements_of, instance_between, not-one-piece, one-piece-is}
 use Rattle.cpp_press.proofs.ReadingsOfEncodings.{CountsArguments}
-use Rattle.cpp_press.proofs.Fit.{IsWithoutLetters, Fitting, Standing, IsFirst, Role, in_type, in_name_with, letters_of, item_type, IsBuiltin, has_letters, by_letters, Behind, behind_bytes, as_component, as_reference, as_template, nowhere, fits_nowhere, type_fits, piece_fits, argument_fits, encoding_fits, names_function, names_type, fits_of}
+use Rattle.cpp_press.proofs.Fit.{IsWithoutLetters, Fitting, IsFirst, Role, in_name_with, letters_of, item_type, IsBuiltin, has_letters, by_letters, Behind, as_template, nowhere, fits_nowhere, type_fits, piece_fits, argument_fits, encoding_fits, fits_of}
 
 -- ## Lengths
 
@@ -317,9 +317,12 @@ elements-count nil in_pack around allowed place cs h = omega arith
 elements-count (list f r) in_pack around allowed place cs h =
     let n : ℕ = around.encoding in
     let w : Written = (ways_of n f).as_argument place cs in
-    omega (arith, argument-writes f in_pack around allowed place cs h.0,
-    elements-count r in_pack around allowed (place + length w.bytes) w.components h.1,
-    length-append w.bytes ((ways_of n r).as_elements (place + length w.bytes) w.components).bytes)
+    omega (
+      arith,
+      argument-writes f in_pack around allowed place cs h.0,
+      elements-count r in_pack around allowed (place + length w.bytes) w.components h.1,
+      length-append w.bytes ((ways_of n r).as_elements (place + length w.bytes) w.components).bytes,
+    )
 elements-count _ in_pack around allowed place cs h = absurd h
 
 -- ## Names

@@ -1,10 +1,9 @@
 -- A symbol that fits: what repeats a type is a reference to it.
-use Rattle.std.proofs.Common.{◌≡◌, ℕ, ◌<◌, inl, List, [], ◌∷◌, Option, Some, None, false, refl, arith}
-use Rattle.std.specs.Prelude.{◌&&◌}
+use Rattle.std.proofs.Common.{◌≡◌, ℕ, inl, [], ◌∷◌, Option, Some, None, false, refl, arith}
 use Rattle.cpp_grammar.specs.Grammar.{in_ranges, among, is_in, pick, alternatives, choose}
 use Rattle.cpp_grammar.specs.Term.{any_value, Term, symbol, function, alone, source, builtin, pointer, nil, list, absent}
 use Rattle.cpp_grammar.specs.Scope.{is_open, arguments_of, has_return_type}
-use Rattle.cpp_grammar.specs.Values.{Around, unqualified}
+use Rattle.cpp_grammar.specs.Values.{unqualified}
 use Rattle.cpp_grammar.specs.References.{packs_in}
 use Rattle.cpp_grammar.specs.Between.{in_name, in_types}
 use Rattle.cpp_grammar.specs.Meaning.{is_void, is_nil}

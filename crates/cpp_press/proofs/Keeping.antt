@@ -4,7 +4,7 @@ use Rattle.std.specs.Prelude.{cond, ◌&&◌, codes}
 use Rattle.sym_spell.specs.Pressing.{◌and◌, text, nothing}
 use Rattle.cpp_grammar.specs.Term.{Term, symbol, function, object, special, thunk, guard, alone, in_std, within, instance, local, abbreviation, parameter, source, operator, literal_operator, constructor, destructor, lambda, unnamed, string_literal, builtin, vendor, pointer, lvalue, rvalue, array, member_pointer, function_type, qualified, vector, complex, expansion, integer, boolean, null_pointer, encoding_literal, address_of, pack, nil, list, absent}
 use Rattle.cpp_grammar.specs.Values.{Candidate}
-use Rattle.cpp_press.specs.Texts.{ordinal, counted, signed_text, qualifier_letters, mark_letter, name_letters, thunk_text, discriminator_text}
+use Rattle.cpp_press.specs.Texts.{ordinal, signed_text, qualifier_letters, mark_letter, name_letters, thunk_text, discriminator_text}
 use Rattle.cpp_press.specs.Components.{Spelling, reference, first_equal, ended, spelled_out, referred, component}
 use Rattle.cpp_press.specs.Pressing.{Ways, no_ways, type_ways, function_text, in_N_and_E, with_letters, name_ways, template_before, is_operator, is_one_piece, entity_text, local_text, begun, encoding_ways, piece_ways, argument_ways, ways_of}
 use Rattle.cpp_press.proofs.Reading.{Written}
@@ -220,38 +220,38 @@ keeps-function-type : (n : ℕ) (t : Term) (spelling : Spelling) → Keeps spell
 unfolding type_ways no_ways
 keeps-function-type n t spelling one =
     let c : Keeps (component n t spelling) = keeps-component n t spelling one in record {
-  as_type = c;
-  under_qualifiers = one;
-  as_prefix = c;
-  between_N_and_E = keeps-text [];
-  as_piece = keeps-text [];
-  as_encoding = keeps-text [];
-  as_name = λ letters. keeps-text [];
-  before = λ in_type arguments more. keeps-and (component n t spelling) arguments c more;
-  as_argument = c;
-  as_parameters = keeps-text [];
-  as_more_parameters = keeps-text [];
-  as_elements = keeps-text [];
-}
+      as_type = c;
+      under_qualifiers = one;
+      as_prefix = c;
+      between_N_and_E = keeps-text [];
+      as_piece = keeps-text [];
+      as_encoding = keeps-text [];
+      as_name = λ letters. keeps-text [];
+      before = λ in_type arguments more. keeps-and (component n t spelling) arguments c more;
+      as_argument = c;
+      as_parameters = keeps-text [];
+      as_more_parameters = keeps-text [];
+      as_elements = keeps-text [];
+    }
 
 keeps-local-ways : (n : ℕ) (t : Term) (spelling : (letters : List ℕ) → Spelling) → ((letters : List ℕ) → Keeps (spelling letters))
     → KeepsAll (record (type_ways (component n t (spelling []))) { as_name = spelling })
 unfolding type_ways no_ways
 keeps-local-ways n t spelling one =
     let c : Keeps (component n t (spelling [])) = keeps-component n t (spelling []) (one []) in record {
-  as_type = c;
-  under_qualifiers = c;
-  as_prefix = c;
-  between_N_and_E = keeps-text [];
-  as_piece = keeps-text [];
-  as_encoding = keeps-text [];
-  as_name = one;
-  before = λ in_type arguments more. keeps-and (component n t (spelling [])) arguments c more;
-  as_argument = c;
-  as_parameters = keeps-text [];
-  as_more_parameters = keeps-text [];
-  as_elements = keeps-text [];
-}
+      as_type = c;
+      under_qualifiers = c;
+      as_prefix = c;
+      between_N_and_E = keeps-text [];
+      as_piece = keeps-text [];
+      as_encoding = keeps-text [];
+      as_name = one;
+      before = λ in_type arguments more. keeps-and (component n t (spelling [])) arguments c more;
+      as_argument = c;
+      as_parameters = keeps-text [];
+      as_more_parameters = keeps-text [];
+      as_elements = keeps-text [];
+    }
 
 keeps-symbol : (spelling : Spelling) → Keeps spelling → KeepsAll (record no_ways { as_encoding = spelling })
 unfolding no_ways
@@ -325,7 +325,7 @@ keeps (within prefix p) n =
 keeps (instance template arguments) n =
     let behind : Spelling = text (codes "I") and (ways_of n arguments).as_elements and text (codes "E") in
     let one : Keeps behind = keeps-front (codes "I") ((ways_of n arguments).as_elements and text (codes "E"))
-        (keeps-behind (ways_of n arguments).as_elements (codes "E") (keeps arguments n).as_elements) in
+    (keeps-behind (ways_of n arguments).as_elements (codes "E") (keeps arguments n).as_elements) in
     let t : KeepsAll (ways_of n template) = keeps template n in
     keeps-name n (instance template arguments) ((ways_of n template).before true behind) ((ways_of n template).before false behind)
     ((ways_of n template).as_prefix and behind) ((ways_of n template).between_N_and_E and ended n template and behind) _
@@ -392,6 +392,6 @@ keeps (list first rest) n =
     let f : KeepsAll (ways_of n first) = keeps first n in
     let r : KeepsAll (ways_of n rest) = keeps rest n in
     let more : Keeps ((ways_of n first).as_type and (ways_of n rest).as_more_parameters) =
-        keeps-and (ways_of n first).as_type (ways_of n rest).as_more_parameters f.as_type r.as_more_parameters in
+    keeps-and (ways_of n first).as_type (ways_of n rest).as_more_parameters f.as_type r.as_more_parameters in
     keeps-list _ _ _ more more (keeps-and (ways_of n first).as_argument (ways_of n rest).as_elements f.as_argument r.as_elements)
 keeps absent n = keeps-none

@@ -1,12 +1,11 @@
 -- Names are read from their pieces: alone and behind St, as prefixes and between N and E, with arguments and without.
-use Rattle.std.proofs.Common.{◌≡◌, ℕ, ◌+◌, length, List, [], ◌∷◌, ◌++◌, Option, Bool, true, false, refl, ap, arith, sym, subst, ◌∙◌, append-nil, append_assoc, length-append}
+use Rattle.std.proofs.Common.{◌≡◌, ℕ, ◌+◌, length, List, [], ◌∷◌, ◌++◌, Option, true, false, ap, arith, sym, subst, append-nil, append_assoc, length-append}
 use Rattle.sym_shape.specs.declared.rule.Sym.TheVariants.{Kind as OfKind}
 use Rattle.sym_shape.specs.Tree.{TakesRule}
-use Rattle.cpp_grammar.specs.declared.kind.Kind.{Kind}
 use Rattle.cpp_grammar.specs.declared.production.Production.{Production}
 use Rattle.cpp_grammar.specs.Table.{abi, rule_of}
 use Rattle.cpp_grammar.specs.Term.{Term, in_std, within, instance, parameter}
-use Rattle.cpp_grammar.specs.Values.{Candidate, Prefix, Around, Value, nothing_there, tree, piece, tree_of, is_there}
+use Rattle.cpp_grammar.specs.Values.{Candidate, Around, Value, nothing_there, tree, piece, tree_of, is_there}
 use Rattle.cpp_grammar.specs.Between.{after, inside, extended, applied, no_items}
 use Rattle.cpp_press.specs.Texts.{ordinal}
 use Rattle.cpp_press.proofs.Reading.{Written, written, ReadsAt}
@@ -16,7 +15,7 @@ use Rattle.cpp_press.proofs.ReadingNames.{SoFar, Extends, no-arguments, some-arg
 use Rattle.cpp_press.proofs.ReadingNests.{nest-parameter, nest-behind-s, nest-std, nest-arguments}
 use Rattle.cpp_press.proofs.ReadingEncodings.{std-name, nested-type, std-type, type-with-arguments}
 use Rattle.cpp_press.proofs.ReadingPrefixes.{next-17, next-18, extends-behind-s}
-use Rattle.cpp_press.proofs.ReadingNamed.{NameRule, NamesAt, PieceReads}
+use Rattle.cpp_press.proofs.ReadingNamed.{NameRule, PieceReads}
 
 -- ## Arguments
 
@@ -60,7 +59,7 @@ pub named-std : (around : Around) (allowed : Option ℕ) (p : Term) (place : ℕ
 unfolding applied is_there tree_of
 named-std around allowed p place cs w one =
     let first : ReadsAt around allowed (OfKind 14) (Is (piece p)) (place + 1 + 1) cs w =
-        subst (λ q. ReadsAt around allowed (OfKind 14) (Is (piece p)) q cs w) (omega arith) one in
+    subst (λ q. ReadsAt around allowed (OfKind 14) (Is (piece p)) q cs w) (omega arith) one in
     record {
       bare = same-written around allowed (OfKind 8) (Is (tree (in_std p) false)) place cs w.components (83 ∷ 116 ∷ (w.bytes ++ []))
           (83 ∷ 116 ∷ w.bytes) (ap (λ l. 83 ∷ 116 ∷ l) (append-nil w.bytes))
@@ -79,8 +78,8 @@ pub named-std-type : (k : ℕ) (around : Around) (allowed : Option ℕ) (p : Ter
     → Named around allowed k (in_std p) place cs (written (83 ∷ 116 ∷ w.bytes) w.components)
 named-std-type k around allowed p place cs w takes one =
     let first : ReadsAt around allowed (OfKind 36) (Is (tree (in_std p) false)) (place + 1) cs (written (116 ∷ w.bytes) w.components) =
-        std-type around allowed p (place + 1) cs w
-            (subst (λ q. ReadsAt around allowed (OfKind 37) (Is (piece p)) q cs w) (omega arith) one) in
+    std-type around allowed p (place + 1) cs w
+    (subst (λ q. ReadsAt around allowed (OfKind 37) (Is (piece p)) q cs w) (omega arith) one) in
     record {
       bare = solid-with-s k around allowed place (in_std p) false cs (written (116 ∷ w.bytes) w.components) takes first;
       instanced = λ items last args are two.
@@ -110,7 +109,7 @@ pub nested-std : (around : Around) (allowed : Option ℕ) (p : Term) (place : �
 unfolding applied is_there tree_of
 nested-std around allowed p place cs w one =
     let first : ReadsAt around allowed (OfKind 14) (Is (piece p)) (place + 1 + 1) cs w =
-        subst (λ q. ReadsAt around allowed (OfKind 14) (Is (piece p)) q cs w) (omega arith) one in
+    subst (λ q. ReadsAt around allowed (OfKind 14) (Is (piece p)) q cs w) (omega arith) one in
     record {
       bare = subst (λ l. SoFar around allowed (in_std p) false 18 place cs (written (83 ∷ 116 ∷ l) w.components)) (append-nil w.bytes)
           (nest-std around allowed p nothing_there place cs w (written [] w.components) first

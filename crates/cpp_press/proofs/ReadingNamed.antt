@@ -1,15 +1,15 @@
 -- Pieces of names are read wherever names stand: as a name with arguments or without, behind St, and as the first of a name between N and E.
-use Rattle.std.proofs.Common.{◌≡◌, ℕ, ◌+◌, ◌-◌, ◌<◌, ◌≤◌, length, List, [], ◌∷◌, ◌++◌, Option, Some, Bool, true, false, refl, ap, arith, sym, subst, ◌∙◌, append_assoc, length-append}
+use Rattle.std.proofs.Common.{◌≡◌, ℕ, ◌+◌, ◌-◌, ◌<◌, length, List, [], ◌∷◌, ◌++◌, Option, Some, Bool, true, false, refl, ap, arith, sym, subst, ◌∙◌, append_assoc}
 use Rattle.std.proofs.lemmas.Bool.{ltb-true}
-use Rattle.std.specs.Prelude.{not, cond, codes, nat_lt, ◌^◌}
+use Rattle.std.specs.Prelude.{cond, codes, nat_lt, ◌^◌}
 use Rattle.sym_shape.specs.declared.rule.Sym.TheVariants.{Kind as OfKind}
 use Rattle.sym_shape.specs.Tree.{TakesRule}
 use Rattle.cpp_grammar.specs.declared.kind.Kind.{Kind}
 use Rattle.cpp_grammar.specs.declared.production.Production.{Production}
-use Rattle.cpp_grammar.specs.Grammar.{in_ranges, among, is_in, pick, number_of_kind, alternatives, choose, kinds, parts_of, is_chain}
+use Rattle.cpp_grammar.specs.Grammar.{in_ranges, among, is_in, pick, alternatives, choose, kinds, is_chain}
 use Rattle.cpp_grammar.specs.Table.{abi, rule_of}
 use Rattle.cpp_grammar.specs.Term.{Term, source, operator, literal_operator, constructor, destructor, lambda, unnamed, list}
-use Rattle.cpp_grammar.specs.Values.{Candidate, Around, Value, letter, tree, piece}
+use Rattle.cpp_grammar.specs.Values.{Candidate, Around, Value, tree, piece}
 use Rattle.cpp_grammar.specs.Between.{in_signature, after, extended, applied, no_items}
 use Rattle.cpp_grammar.specs.Meaning.{parameters}
 use Rattle.cpp_press.specs.Texts.{counted, ordinal}

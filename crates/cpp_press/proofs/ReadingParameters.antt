@@ -1,21 +1,17 @@
 -- What is left of a function type's parameters: its end, and none.
-use Rattle.std.proofs.Common.{◌≡◌, ℕ, ◌+◌, ◌≤◌, length, List, [], ◌∷◌, ◌++◌, Option, Some, None, true, refl, ap, arith, sym, subst, ◌∙◌, append-nil, length-append}
+use Rattle.std.proofs.Common.{ℕ, ◌+◌, List, [], ◌∷◌, ◌++◌, Option, refl, arith}
 use Rattle.std.specs.Prelude.{codes}
 use Rattle.sym_shape.specs.declared.rule.Sym.TheVariants.{Kind as OfKind}
-use Rattle.sym_spell.specs.Pressing.{◌and◌, text}
 use Rattle.cpp_grammar.specs.declared.kind.Kind.{Kind}
 use Rattle.cpp_grammar.specs.declared.production.Production.{Production}
 use Rattle.cpp_grammar.specs.Grammar.{in_ranges, among, is_in, pick, alternatives, choose, kinds, is_chain}
-use Rattle.cpp_grammar.specs.Term.{RefQualifier, any_value, lvalue_only, rvalue_only, Term, builtin, lvalue, nil, list}
-use Rattle.cpp_grammar.specs.Values.{Candidate, Around, tree, signature}
+use Rattle.cpp_grammar.specs.Term.{RefQualifier, any_value, lvalue_only, rvalue_only, Term, builtin, nil, list}
+use Rattle.cpp_grammar.specs.Values.{Candidate, Around, signature}
 use Rattle.cpp_press.specs.Texts.{mark_letter}
-use Rattle.cpp_press.specs.Components.{Spelling, first_equal, reference, ended, spelled_out, component}
 use Rattle.cpp_press.specs.Pressing.{ways_of, type_ways}
-use Rattle.cpp_press.proofs.Tokens.{greatest}
 use Rattle.cpp_press.proofs.Reading.{Written, written, ReadsAt, takes-byte}
-use Rattle.cpp_press.proofs.ReadingReferences.{MayBeReferred}
-use Rattle.cpp_press.proofs.ReadingTypes.{Is, same-written, more, types-31, component-reads}
-use Rattle.cpp_press.proofs.ReadingFunctions.{rest-ends, rest-ends-lvalue, rest-ends-rvalue, rest-item, rest-lvalue}
+use Rattle.cpp_press.proofs.ReadingTypes.{Is, types-31}
+use Rattle.cpp_press.proofs.ReadingFunctions.{rest-ends, rest-ends-lvalue, rest-ends-rvalue, rest-item}
 use Rattle.cpp_press.proofs.ReadingSolids.{builtin-solid}
 
 -- what is left of a function type's parameters, with these items and this mark

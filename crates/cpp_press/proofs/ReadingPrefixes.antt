@@ -1,5 +1,5 @@
 -- Prefixes in the way in which pressing spells them extend to longer names, as references and spelled out.
-use Rattle.std.proofs.Common.{◌≡◌, ℕ, ◌+◌, ◌≤◌, length, List, [], ◌∷◌, ◌++◌, Option, Some, None, true, refl, arith, sym, subst, append-nil}
+use Rattle.std.proofs.Common.{ℕ, ◌+◌, List, [], ◌∷◌, Option, true, refl, arith}
 use Rattle.sym_shape.specs.declared.rule.Sym.TheVariants.{Kind as OfKind}
 use Rattle.sym_shape.specs.Tree.{TakesRule}
 use Rattle.cpp_grammar.specs.declared.kind.Kind.{Kind}
@@ -8,11 +8,8 @@ use Rattle.cpp_grammar.specs.Grammar.{in_ranges, among, is_in, pick, alternative
 use Rattle.cpp_grammar.specs.Table.{abi, rule_of}
 use Rattle.cpp_grammar.specs.Term.{Term}
 use Rattle.cpp_grammar.specs.Values.{Candidate, Around, tree}
-use Rattle.cpp_press.specs.Components.{Spelling, first_equal, seq_id, reference, ended, spelled_out, component}
-use Rattle.cpp_press.proofs.Tokens.{greatest}
 use Rattle.cpp_press.proofs.Reading.{Written, written, ReadsAt, takes-none}
-use Rattle.cpp_press.proofs.ReadingReferences.{MayBeReferred, found-first, number-refers}
-use Rattle.cpp_press.proofs.ReadingTypes.{Is, more}
+use Rattle.cpp_press.proofs.ReadingTypes.{Is}
 use Rattle.cpp_press.proofs.ReadingNames.{Extends, extends-same}
 use Rattle.cpp_press.proofs.ReadingNests.{nest-behind-s}
 

@@ -4,7 +4,7 @@ use Rattle.sym_core.specs.declared.NumberKind.TheVariants.{Decimal}
 use Rattle.sym_shape.specs.declared.rule.Sym.TheVariants.{Kind as OfKind, Number}
 use Rattle.sym_shape.specs.Tree.{TakesRule}
 use Rattle.sym_spell.specs.Pressing.{◌and◌, text}
-use Rattle.std.specs.Prelude.{not, codes}
+use Rattle.std.specs.Prelude.{codes}
 use Rattle.cpp_grammar.specs.declared.kind.Kind.{Kind}
 use Rattle.cpp_grammar.specs.declared.production.Production.{Production}
 use Rattle.cpp_grammar.specs.Grammar.{in_ranges, among, is_in, pick, number_of_kind, alternatives, choose, kinds, parts_of, is_chain}
@@ -19,8 +19,8 @@ use Rattle.cpp_grammar.specs.Unfolding.{opening, close}
 use Rattle.cpp_press.specs.Texts.{ordinal}
 use Rattle.cpp_press.specs.Components.{Spelling, first_equal, seq_id, reference, referred}
 use Rattle.cpp_press.proofs.Tokens.{greatest, ordinal_digits, ordinal_token, ordinal-spelled, ordinal-is-token}
-use Rattle.cpp_press.proofs.Reading.{Written, written, ReadsAt, row-last, takes-none, takes-byte, number-reads}
-use Rattle.cpp_press.proofs.ReadingReferences.{MayBeReferred, found-first, number-refers}
+use Rattle.cpp_press.proofs.Reading.{Written, written, ReadsAt, row-last, takes-byte, number-reads}
+use Rattle.cpp_press.proofs.ReadingReferences.{found-first, number-refers}
 use Rattle.cpp_press.proofs.ReadingTypes.{Is, AreOnly, same-written, more, then-part, whole-same}
 use Rattle.cpp_press.proofs.ReadingFunctions.{IsInScope, parameter-passes}
 use Rattle.cpp_press.proofs.ReadingEncodings.{listed-arguments, abbreviated-name, type-with-arguments}
@@ -28,8 +28,8 @@ use Rattle.cpp_press.proofs.Keeping.{Keeps, keeps-referred}
 use Rattle.cpp_press.proofs.ReadingSlots.{HasRoom, room-rest, few-before, behind-s}
 use Rattle.cpp_press.proofs.ReadingNamed.{NameRule, type-rule, literal-type-rule}
 use Rattle.cpp_press.proofs.ReadingBetween.{in_I_and_E, ElementsRead}
-use Rattle.cpp_press.proofs.Fit.{Slot, any_type, bare_type, item_type, parameter_type, literal_type, names_type, IsFirst, Fitting, Behind, as_template}
-use Rattle.cpp_press.proofs.ReadingSlots.{solid_kind, takes-S}
+use Rattle.cpp_press.proofs.Fit.{Slot, any_type, bare_type, item_type, parameter_type, literal_type, names_type, IsFirst, Fitting, as_template}
+use Rattle.cpp_press.proofs.ReadingSlots.{solid_kind}
 
 -- ## Kinds of template names
 

@@ -1,16 +1,16 @@
 -- What each way in which a tree is spelled is read as, where it fits.
-use Rattle.std.proofs.Common.{◌≡◌, ℕ, ◌+◌, ◌≤◌, length, List, [], ◌∷◌, ◌++◌, Option, Some, None, Bool, true, false, refl, ap, arith, sym, subst, ◌∙◌, append_assoc, append-nil}
+use Rattle.std.proofs.Common.{◌≡◌, ℕ, ◌+◌, ◌≤◌, length, List, [], ◌∷◌, ◌++◌, Option, Some, None, Bool, true, false, refl, ap, arith, subst}
 use Rattle.std.specs.Prelude.{codes, ◌&&◌}
 use Rattle.sym_shape.specs.declared.rule.Sym.TheVariants.{Kind as OfKind}
-use Rattle.sym_spell.specs.Pressing.{◌and◌, text, nothing}
+use Rattle.sym_spell.specs.Pressing.{◌and◌, text}
 use Rattle.cpp_grammar.specs.Term.{Qualifiers, RefQualifier, any_value, Term, instance, list}
 use Rattle.cpp_grammar.specs.Values.{Candidate, Around, Value, tree, tree_of, qualifiers_of, ref_of, unqualified}
 use Rattle.cpp_grammar.specs.References.{is_function_type}
 use Rattle.cpp_grammar.specs.Between.{no_items}
 use Rattle.cpp_grammar.specs.Meaning.{parameters}
 use Rattle.cpp_press.specs.Texts.{name_letters, mark_letter}
-use Rattle.cpp_press.specs.Components.{Spelling, first_equal, seq_id, reference, ended, spelled_out, component}
-use Rattle.cpp_press.specs.Pressing.{Ways, ways_of, no_ways, type_ways, piece_ways, argument_ways, begun, encoding_ways, is_one_piece, entity_text}
+use Rattle.cpp_press.specs.Components.{Spelling, first_equal, seq_id, reference, spelled_out, component}
+use Rattle.cpp_press.specs.Pressing.{Ways, no_ways, type_ways, is_one_piece, entity_text}
 use Rattle.cpp_press.proofs.Tokens.{greatest}
 use Rattle.cpp_press.proofs.Reading.{Written, written, ReadsAt}
 use Rattle.cpp_press.proofs.ReadingReferences.{found-first, number-refers}
@@ -19,11 +19,11 @@ use Rattle.cpp_press.proofs.ReadingArguments.{items_value, type-argument, type-e
 use Rattle.cpp_press.proofs.ReadingNames.{SoFar, Extends}
 use Rattle.cpp_press.proofs.ReadingParameters.{RestReads}
 use Rattle.cpp_press.proofs.Keeping.{Keeps, keeps-component, keeps-and}
-use Rattle.cpp_press.proofs.ReadingSlots.{HasRoom, IsSmall, room-first, few-before, ReadsAs, is_bare, InSlot, in-slot, component-in, fitting-in}
+use Rattle.cpp_press.proofs.ReadingSlots.{HasRoom, IsSmall, few-before, ReadsAs, is_bare, in-slot, fitting-in}
 use Rattle.cpp_press.proofs.ReadingNamed.{PieceReads, ItemsRead}
-use Rattle.cpp_press.proofs.ReadingBetween.{in_I_and_E, ElementsRead, Named, SoFarWith, ExtendsWith, extends-with-behind-s, prefix-behind-s}
+use Rattle.cpp_press.proofs.ReadingBetween.{Named, SoFarWith, ExtendsWith, extends-with-behind-s, prefix-behind-s}
 use Rattle.cpp_press.proofs.ReadingTemplates.{TemplateKind, InstancedAt, instanced-behind-s, of_elements, ReadElements, elements-room}
-use Rattle.cpp_press.proofs.Fit.{Slot, any_type, bare_type, item_type, parameter_type, literal_type, Standing, Fitting, IsFirst, as_component, as_reference, as_template, Role, in_type, in_name_with, letters_of, Fits, nowhere, fits_nowhere, type_fits, piece_fits, argument_fits, encoding_fits, fits_of}
+use Rattle.cpp_press.proofs.Fit.{Slot, any_type, bare_type, item_type, parameter_type, literal_type, Standing, Fitting, as_component, as_template, Role, in_type, in_name_with, letters_of, Fits, nowhere, fits_nowhere, type_fits, piece_fits, argument_fits, encoding_fits}
 
 -- ## What is read
 

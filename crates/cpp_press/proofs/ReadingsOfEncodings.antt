@@ -1,47 +1,34 @@
 -- Local names and encodings are read in each of their ways.
-use Rattle.std.proofs.Common.{◌≡◌, ℕ, ◌+◌, ◌-◌, ◌<◌, ◌≤◌, length, List, [], ◌∷◌, ◌++◌, Option, Some, None, Bool, true, false, refl, ap, arith, sym, subst, ◌∙◌, append-nil, append_assoc, length-append}
-use Rattle.std.proofs.lemmas.Bool.{ltb-true}
-use Rattle.std.specs.Prelude.{slice_get, cond, codes, nat_lt, ◌&&◌}
-use Rattle.sym_core.specs.declared.NumberKind.TheVariants.{Digits}
+use Rattle.std.proofs.Common.{◌≡◌, ℕ, ◌+◌, ◌≤◌, length, List, [], ◌∷◌, ◌++◌, Option, Some, None, Bool, true, false, refl, ap, arith, sym, subst, ◌∙◌, append-nil, append_assoc, length-append}
+use Rattle.std.specs.Prelude.{codes}
 use Rattle.sym_shape.specs.declared.rule.Sym.TheVariants.{Kind as OfKind}
-use Rattle.sym_shape.specs.Tree.{TakesRule}
 use Rattle.sym_spell.specs.Pressing.{◌and◌, text, nothing}
 use Rattle.cpp_grammar.specs.declared.kind.Kind.{Kind}
-use Rattle.cpp_grammar.specs.declared.production.Production.{Production}
-use Rattle.cpp_grammar.specs.Grammar.{in_ranges, among, is_in, pick, alternatives, choose, kinds, is_chain, may_be_empty}
-use Rattle.cpp_grammar.specs.Table.{abi, rule_of}
-use Rattle.cpp_grammar.specs.Term.{Adjustment, non_virtual, by_table, Thunk, adjusting, covariant, symbol, function, object, special, thunk, guard, absent, Qualifiers, RefQualifier, lvalue_only, rvalue_only, local, any_value, Signed, Term, abbreviation, parameter, source, operator, literal_operator, constructor, destructor, lambda, unnamed, string_literal, builtin, function_type, integer, boolean, null_pointer, encoding_literal, address_of, pack, nil, list, instance}
+use Rattle.cpp_grammar.specs.Grammar.{kinds, may_be_empty}
+use Rattle.cpp_grammar.specs.Term.{Adjustment, non_virtual, by_table, Thunk, adjusting, covariant, function, object, special, thunk, guard, absent, Qualifiers, RefQualifier, local, Term, nil, list, instance}
 use Rattle.cpp_grammar.specs.Scope.{count, arguments_of, has_return_type}
-use Rattle.cpp_grammar.specs.Values.{Candidate, Around, Value, nothing_there, tree, tree_of, signature}
+use Rattle.cpp_grammar.specs.Values.{Candidate, Around, Value, nothing_there, tree, tree_of}
 use Rattle.cpp_grammar.specs.References.{is_function_type}
-use Rattle.cpp_grammar.specs.Between.{in_name, in_types, after, in_signature, inside, no_items}
-use Rattle.cpp_grammar.specs.Meaning.{encoding_of, is_void, is_nil, parameters}
-use Rattle.cpp_press.specs.Texts.{offset_text, thunk_text, name_letters, discriminator_text, counted, ordinal, signed_text, mark_letter}
+use Rattle.cpp_grammar.specs.Between.{in_name, in_types, after, no_items}
+use Rattle.cpp_grammar.specs.Meaning.{encoding_of, parameters}
+use Rattle.cpp_press.specs.Texts.{offset_text, thunk_text, name_letters, discriminator_text, signed_text}
 use Rattle.cpp_press.specs.Components.{Spelling, component}
-use Rattle.cpp_press.specs.Pressing.{begun, encoding_ways, in_N_and_E, is_one_piece, entity_text, local_text, ways_of, no_ways, type_ways, piece_ways, argument_ways, function_text}
-use Rattle.cpp_press.proofs.Tokens.{greatest}
-use Rattle.cpp_press.proofs.Reading.{Written, written, ReadsAt, takes-byte, empty-reads}
-use Rattle.cpp_press.proofs.ReadingTypes.{Is, same-written, more, function-under-qualifiers, noexcept-under-qualifiers}
-use Rattle.cpp_press.proofs.ReadingSolids.{builtin-solid, builtin-behind-d}
-use Rattle.cpp_press.proofs.ReadingFunctions.{IsInScope, parameter-solid, mark_bytes, function-solid, noexcept-behind-d}
-use Rattle.cpp_press.proofs.ReadingArguments.{items_value, items-more, IsSpellableNumber, integer-reads}
-use Rattle.cpp_press.proofs.ReadingLiterals.{boolean-literal, null-literal, char-literal, encoding-literal, literal-argument, literal-element, pack-argument, address-reads, address-argument, address-element}
-use Rattle.cpp_press.proofs.ReadingNames.{SoFar, Extends}
-use Rattle.cpp_press.proofs.ReadingParameters.{RestReads, end-reads, none-read}
-use Rattle.cpp_press.proofs.ReadingSolids.{abbreviation-behind-s}
-use Rattle.cpp_press.proofs.Keeping.{Keeps, keeps-text, keeps-and, keeps-front, keeps-behind, keeps-component, keeps}
-use Rattle.cpp_press.proofs.ReadingSlots.{HasRoom, IsSmall, room-first, room-rest, few-before, ReadsAs, solid_kind, is_bare, room-component, in-slot, InSlot, component-in, fitting-in}
-use Rattle.cpp_press.proofs.ReadingNamed.{PieceReads, ItemsRead, source-reads, operator-piece-reads, literal-operator-piece-reads, constructor-piece-reads, destructor-piece-reads, lambda-piece-reads, unnamed-piece-reads}
-use Rattle.cpp_press.proofs.ReadingBetween.{in_I_and_E, ElementsRead, ExtendsWith, extends-with-behind-s, prefix-behind-s, prefix-parameter, prefix-with-parameter}
-use Rattle.cpp_press.proofs.ReadingTemplates.{TypeRules, slot-rules, TemplateKind, InstancedAt, instanced-behind-s, parameter-instanced, of_elements, ReadElements, elements-room}
-use Rattle.cpp_press.proofs.Readings.{NameReads, EntityReads, TemplateReads, template-value, ListReads, list_kind, ArgumentReads, ParametersRead, with_end, Leads, slot_way, ReadsAll, typed-argument, reads-nowhere, reads-piece, reads-argument, reads-encoding, referred-before}
-use Rattle.cpp_press.proofs.ReadingsOfTypes.{Reading, solid-in-all, with-d-in-all, with-d-kept}
-use Rattle.cpp_press.proofs.ReadingsOfInstances.{items-kept}
-use Rattle.cpp_press.proofs.Fit.{IsSpellableOffset, IsSpellableThunk, either, encoding_fits, takes_all, behind_bytes, Role, in_type, in_name_with, letters_of, IsSpellableDiscriminator, Slot, any_type, bare_type, item_type, parameter_type, literal_type, takes_all, IsBuiltin, IsAbbreviation, NamesArgument, Fitting, IsFirst, as_component, as_reference, as_template, nowhere, Behind, type_fits, piece_fits, argument_fits, fits_nowhere, fits_of}
-use Rattle.cpp_press.proofs.ReadingSolids.{AreSpellableDigits}
+use Rattle.cpp_press.specs.Pressing.{begun, encoding_ways, in_N_and_E, is_one_piece, entity_text, local_text, ways_of, no_ways, type_ways}
+use Rattle.cpp_press.proofs.Reading.{Written, written, ReadsAt, empty-reads}
+use Rattle.cpp_press.proofs.ReadingTypes.{Is, same-written}
+use Rattle.cpp_press.proofs.ReadingArguments.{items-more, integer-reads}
+use Rattle.cpp_press.proofs.ReadingNames.{Extends}
+use Rattle.cpp_press.proofs.Keeping.{Keeps, keeps-text, keeps-and, keeps-front, keeps-behind, keeps}
+use Rattle.cpp_press.proofs.ReadingSlots.{HasRoom, IsSmall, room-first, room-rest, ReadsAs, solid_kind, in-slot, fitting-in}
+use Rattle.cpp_press.proofs.ReadingNamed.{ItemsRead}
+use Rattle.cpp_press.proofs.ReadingBetween.{ExtendsWith, extends-with-behind-s, prefix-behind-s}
+use Rattle.cpp_press.proofs.ReadingTemplates.{TypeRules, slot-rules}
+use Rattle.cpp_press.proofs.Readings.{NameReads, EntityReads, template-value, Leads, slot_way, typed-argument, reads-encoding, referred-before}
+use Rattle.cpp_press.proofs.ReadingsOfTypes.{Reading}
+use Rattle.cpp_press.proofs.Fit.{IsSpellableOffset, IsSpellableThunk, either, Role, in_type, in_name_with, letters_of, IsSpellableDiscriminator, Slot, any_type, bare_type, item_type, parameter_type, literal_type, Fitting, as_component, nowhere, Behind, type_fits, fits_nowhere, fits_of}
 use Rattle.cpp_press.proofs.ReadingSymbols.{discriminator_value, no-discriminator, one-digit, many-digits, local-type, local-name, encoding-reads, guard-reads, special-reads, special-type, non-virtual-thunk, virtual-thunk, covariant-thunk, non-virtual-offset, virtual-offset}
 use Rattle.cpp_grammar.specs.Values.{qualifiers_of, ref_of, named, adjusted}
-use Rattle.cpp_press.proofs.Keeping.{keeps-local, keeps-N-and-E, keeps-choice, choice}
+use Rattle.cpp_press.proofs.Keeping.{keeps-local, keeps-N-and-E, keeps-choice}
 
 -- ## Local names
 
@@ -279,7 +266,7 @@ returned-items name r ps q ref rr rp around allowed v place cs small room a b c 
     let w : Written = (ways_of n r).as_type place cs in
     let x : Written = (ways_of n ps).as_parameters (place + length w.bytes) w.components in
     let i = rp.as_items around allowed (place + length w.bytes) w.components small
-        (room-rest (ways_of n r).as_type (ways_of n ps).as_parameters place cs room) two in
+    (room-rest (ways_of n r).as_type (ways_of n ps).as_parameters place cs room) two in
     record {
       last = tree (list r (list i.first i.items)) true;
       means = encoding-returned v name r (list i.first i.items) ps q ref a b c has i.means;
@@ -350,10 +337,10 @@ reads-function counts name r ps q ref rn rr rp =
     let named_room : HasRoom first = room-first a (b and c) here cs (keeps-and b c (keeps r here).as_type (keeps ps here).as_parameters) room in
     let v = rn.as_name q ref (in_name here) allowed here cs (name-small here) named_room h.0 in
     let i = function-items name r ps q ref rr rp (in_types here name) allowed v.value at first.components
-        (types-small counts name q ref allowed here cs h.0 named_room) (room-rest a (b and c) here cs room) v.tree_is v.qualifiers_are v.ref_is
-        (has_return_type name) refl h.1
-        (subst (λ p. (fits_of ps).as_parameters item_type (in_types here name) allowed p (b at first.components).components)
-        (omega (arith, length-append first.bytes (b at first.components).bytes)) h.2) in
+    (types-small counts name q ref allowed here cs h.0 named_room) (room-rest a (b and c) here cs room) v.tree_is v.qualifiers_are v.ref_is
+    (has_return_type name) refl h.1
+    (subst (λ p. (fits_of ps).as_parameters item_type (in_types here name) allowed p (b at first.components).components)
+    (omega (arith, length-append first.bytes (b at first.components).bytes)) h.2) in
     subst (λ x. ReadsAt around allowed (OfKind 4) (Is (tree x true)) here cs ((a and b and c) here cs)) i.means
     (encoding-reads around allowed v.value i.last here cs first ((b and c) at first.components)
     (subst (λ p. ReadsAt (in_name here) allowed (OfKind 8) (Is v.value) p cs first) (omega arith) v.reads)
@@ -446,8 +433,12 @@ thunk-reads (adjusting (by_table n m)) around allowed e place cs w h one =
     (integer-reads (in_name place) allowed n (place + 1 + 1) cs h.0)
     (integer-reads (in_name place) allowed m (place + 1 + 1 + length (signed_text n) + 1) cs h.1)
     (subst (λ p. ReadsAt (in_name place) allowed (OfKind 4) (Is (tree e true)) p cs w)
-    (omega (arith, length-append ((signed_text n ++ (95 ∷ [])) ++ signed_text m) (95 ∷ []), length-append (signed_text n ++ (95 ∷ [])) (signed_text m),
-    length-append (signed_text n) (95 ∷ []))) one)))
+    (omega (
+      arith,
+      length-append ((signed_text n ++ (95 ∷ [])) ++ signed_text m) (95 ∷ []),
+      length-append (signed_text n ++ (95 ∷ [])) (signed_text m),
+      length-append (signed_text n) (95 ∷ []),
+    )) one)))
 thunk-reads (covariant a b) around allowed e place cs w h one =
     same-written around allowed (OfKind 4) (Is (tree (thunk (covariant a b) e) true)) place cs w.components
     (84 ∷ 99 ∷ (offset_text a ++ (offset_text b ++ w.bytes))) (84 ∷ 99 ∷ ((offset_text a ++ offset_text b) ++ w.bytes))

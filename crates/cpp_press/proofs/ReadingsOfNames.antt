@@ -1,6 +1,6 @@
 -- Names of a piece, alone and behind St, are read in each of their ways.
-use Rattle.std.proofs.Common.{◌≡◌, ℕ, ◌+◌, length, List, [], ◌∷◌, ◌++◌, Option, Some, None, Bool, true, false, refl, ap, arith, sym, subst, ◌∙◌, append-nil, append_assoc, length-append}
-use Rattle.std.specs.Prelude.{cond, codes, ◌&&◌}
+use Rattle.std.proofs.Common.{◌≡◌, ℕ, ◌+◌, length, List, [], ◌∷◌, ◌++◌, Option, Bool, true, false, refl, ap, arith, sym, subst, ◌∙◌, append-nil, append_assoc, length-append}
+use Rattle.std.specs.Prelude.{cond, codes}
 use Rattle.sym_shape.specs.declared.rule.Sym.TheVariants.{Kind as OfKind}
 use Rattle.sym_shape.specs.Tree.{TakesRule}
 use Rattle.sym_spell.specs.Pressing.{◌and◌, text}
@@ -8,26 +8,26 @@ use Rattle.cpp_grammar.specs.declared.kind.Kind.{Kind}
 use Rattle.cpp_grammar.specs.declared.production.Production.{Production}
 use Rattle.cpp_grammar.specs.Grammar.{in_ranges, among, is_in, pick, alternatives, choose, kinds, is_chain}
 use Rattle.cpp_grammar.specs.Table.{abi, rule_of}
-use Rattle.cpp_grammar.specs.Term.{Qualifiers, RefQualifier, any_value, lvalue_only, rvalue_only, Term, alone, in_std, instance, operator, literal_operator, source, lambda, unnamed}
-use Rattle.cpp_grammar.specs.Values.{Candidate, Prefix, outermost, Around, Value, tree, piece, named, tree_of, qualifiers_of, ref_of, unqualified}
+use Rattle.cpp_grammar.specs.Term.{Qualifiers, RefQualifier, any_value, lvalue_only, rvalue_only, Term, alone, instance}
+use Rattle.cpp_grammar.specs.Values.{Candidate, outermost, Around, Value, tree, named, tree_of, qualifiers_of, ref_of, unqualified}
 use Rattle.cpp_grammar.specs.References.{is_function_type}
 use Rattle.cpp_grammar.specs.Between.{extended, inside}
 use Rattle.cpp_press.specs.Texts.{qualifier_letters, mark_letter, name_letters}
 use Rattle.cpp_press.specs.Components.{Spelling, ended, component}
-use Rattle.cpp_press.specs.Pressing.{ways_of, no_ways, name_ways, with_letters, in_N_and_E, template_before, is_operator, is_one_piece, entity_text}
+use Rattle.cpp_press.specs.Pressing.{ways_of, no_ways, name_ways, with_letters, in_N_and_E, template_before}
 use Rattle.cpp_press.proofs.Reading.{Written, written, ReadsAt, takes-byte}
 use Rattle.cpp_press.proofs.ReadingTypes.{Is, more}
 use Rattle.cpp_press.proofs.ReadingFunctions.{mark_bytes}
 use Rattle.cpp_press.proofs.ReadingNames.{SoFar, Extends, nest-whole}
 use Rattle.cpp_press.proofs.ReadingEncodings.{ref_bytes, nested-name}
-use Rattle.cpp_press.proofs.Keeping.{Keeps, keeps-text, keeps-and, keeps-front, keeps-behind, keeps-ended, keeps-choice, keeps-N-and-E, choice, keeps}
-use Rattle.cpp_press.proofs.ReadingSlots.{HasRoom, IsSmall, room-first, room-rest, ReadsAs, solid_kind, in-slot, component-in, fitting-in}
-use Rattle.cpp_press.proofs.ReadingNamed.{NameRule, own-rule, std-rule, std-type-rule, PieceReads}
-use Rattle.cpp_press.proofs.ReadingBetween.{in_I_and_E, ElementsRead, Named, named-piece, named-std, named-std-type, SoFarWith, Nested, nested-std, whole-nested, ExtendsWith, extends-with-behind-s, prefix-behind-s, prefix-piece, prefix-with-piece, prefix-nested, prefix-with-nested}
-use Rattle.cpp_press.proofs.ReadingTemplates.{TypeRules, slot-rules, TemplateKind, of_elements, ReadElements, elements-room, template-reads}
-use Rattle.cpp_press.proofs.Readings.{NameReads, TemplateReads, template-value, EntityReads, Leads, slot_way, ReadsAll, typed-argument}
+use Rattle.cpp_press.proofs.Keeping.{keeps-text, keeps-and, keeps-ended, keeps}
+use Rattle.cpp_press.proofs.ReadingSlots.{HasRoom, room-first, room-rest, ReadsAs, solid_kind, in-slot, fitting-in}
+use Rattle.cpp_press.proofs.ReadingNamed.{NameRule, own-rule}
+use Rattle.cpp_press.proofs.ReadingBetween.{ElementsRead, named-piece, ExtendsWith, extends-with-behind-s, prefix-behind-s, prefix-piece, prefix-with-piece}
+use Rattle.cpp_press.proofs.ReadingTemplates.{slot-rules, TemplateKind, of_elements, ReadElements, elements-room, template-reads}
+use Rattle.cpp_press.proofs.Readings.{NameReads, TemplateReads, template-value, Leads, slot_way, typed-argument}
 use Rattle.cpp_press.proofs.ReadingsOfTypes.{Reading}
-use Rattle.cpp_press.proofs.Fit.{Slot, any_type, bare_type, item_type, parameter_type, literal_type, Fitting, IsFirst, as_component, as_template, behind_bytes, one_piece, Behind, names_type, names_function, begins_name, Role, in_type, in_name_with, letters_of, IsWithoutLetters, by_letters, fits_nowhere, fits_of}
+use Rattle.cpp_press.proofs.Fit.{Slot, any_type, bare_type, item_type, parameter_type, literal_type, Fitting, as_component, one_piece, names_type, names_function, begins_name, IsWithoutLetters, by_letters, fits_nowhere, fits_of}
 
 -- ## Letters
 

@@ -1,7 +1,6 @@
 -- Types are read in each of their ways.
 use Rattle.std.proofs.Common.{◌≡◌, ℕ, ◌+◌, length, List, [], ◌∷◌, ◌++◌, Option, Bool, true, false, refl, ap, arith, sym, subst, ◌∙◌, append-nil, append_assoc, length-append}
 use Rattle.std.specs.Prelude.{codes, ◌&&◌, ◌||◌}
-use Rattle.sym_core.specs.declared.NumberKind.TheVariants.{Decimal, Digits}
 use Rattle.sym_shape.specs.declared.rule.Sym.TheVariants.{Kind as OfKind}
 use Rattle.sym_shape.specs.Tree.{TakesRule}
 use Rattle.sym_spell.specs.Pressing.{◌and◌, text}
@@ -17,19 +16,18 @@ use Rattle.cpp_grammar.specs.Meaning.{meaning, listed_value}
 use Rattle.cpp_grammar.specs.Unfolding as unfolding_
 use Rattle.cpp_grammar.specs.Unfolding.{opening, close}
 use Rattle.cpp_press.specs.Texts.{counted, qualifier_letters}
-use Rattle.cpp_press.specs.Components.{Spelling}
 use Rattle.cpp_press.specs.Pressing.{ways_of}
 use Rattle.cpp_press.proofs.Reading.{Written, written, ReadsAt, takes-byte}
-use Rattle.cpp_press.proofs.ReadingTypes.{Is, same-written, more, HasTypes, wraps, types-28, types-29, types-30, types-31}
+use Rattle.cpp_press.proofs.ReadingTypes.{Is, more, wraps, types-28, types-29, types-30, types-31}
 use Rattle.cpp_press.proofs.ReadingSolids.{vendor-solid, pointer-solid, complex-solid, member-pointer-solid, array-solid, lvalue-reads, rvalue-reads}
-use Rattle.cpp_press.proofs.ReadingFunctions.{qualified_with, mark_bytes, const-reads, volatile-reads, restrict-reads, vector-behind-d, rest-lvalue, rest-rvalue}
+use Rattle.cpp_press.proofs.ReadingFunctions.{qualified_with, const-reads, volatile-reads, restrict-reads, vector-behind-d, rest-lvalue, rest-rvalue}
 use Rattle.cpp_press.proofs.ReadingArguments.{expansion-reads}
 use Rattle.cpp_press.proofs.ReadingParameters.{RestReads}
 use Rattle.cpp_press.proofs.Keeping.{keeps-text, keeps-and, keeps-front, keeps}
 use Rattle.cpp_press.proofs.ReadingSlots.{HasRoom, room-first, room-rest, ReadsAs, solid_kind, is_bare, in-rest, in-slot}
 use Rattle.cpp_press.proofs.ReadingTemplates.{slot-rules}
 use Rattle.cpp_press.proofs.Readings.{ReadsAll, reads-type}
-use Rattle.cpp_press.proofs.Fit.{Slot, any_type, bare_type, item_type, parameter_type, literal_type, takes_all, takes_qualified, takes_expansions, has_letters, Fits, behind_bytes, Behind, fits_of}
+use Rattle.cpp_press.proofs.Fit.{Slot, any_type, bare_type, item_type, parameter_type, literal_type, takes_all, takes_qualified, takes_expansions, has_letters, fits_of}
 
 -- ## What all slots but that of literals take
 
@@ -316,7 +314,7 @@ reads-member-pointer class member a b =
     let x : Written = (ways_of n class).as_type (place + 1) cs in
     let y : Written = (ways_of n member).as_type (place + 1 + length x.bytes) x.components in
     let inner : HasRoom (((ways_of n class).as_type and (ways_of n member).as_type) (place + 1) cs) =
-        room-rest (text (codes "M")) ((ways_of n class).as_type and (ways_of n member).as_type) place cs room in
+    room-rest (text (codes "M")) ((ways_of n class).as_type and (ways_of n member).as_type) place cs room in
     (in-slot slot around allowed (member_pointer class member) refl).adds place cs (written (77 ∷ (x.bytes ++ y.bytes)) y.components)
     (member-pointer-solid (solid_kind slot) around allowed class member place cs x y (slot-rules slot).members
     (a.as_type any_type around allowed (place + 1) cs small

@@ -1,35 +1,30 @@
 -- Names of a prefix and a piece are read in each of their ways.
-use Rattle.std.proofs.Common.{◌≡◌, ℕ, ◌+◌, length, List, [], ◌∷◌, ◌++◌, Option, Some, None, Bool, true, false, refl, ap, arith, inl, inr, ◌⊎◌, sym, subst, ◌∙◌, append-nil, append_assoc, length-append}
-use Rattle.std.specs.Prelude.{cond, codes, ◌&&◌}
-use Rattle.sym_shape.specs.declared.rule.Sym.TheVariants.{Kind as OfKind}
-use Rattle.sym_shape.specs.Tree.{TakesRule}
+use Rattle.std.proofs.Common.{◌≡◌, ℕ, ◌+◌, length, List, [], ◌∷◌, ◌++◌, Option, Bool, true, false, refl, ap, arith, inl, inr, ◌⊎◌, sym, subst, ◌∙◌, length-append}
+use Rattle.std.specs.Prelude.{codes}
 use Rattle.sym_spell.specs.Pressing.{◌and◌, text, nothing}
 use Rattle.cpp_grammar.specs.declared.kind.Kind.{Kind}
 use Rattle.cpp_grammar.specs.declared.production.Production.{Production}
 use Rattle.cpp_grammar.specs.Grammar.{in_ranges, among, is_in, pick, alternatives, choose, kinds, is_chain}
-use Rattle.cpp_grammar.specs.Table.{abi, rule_of}
-use Rattle.cpp_grammar.specs.Term.{Qualifiers, function, object, special, thunk, guard, within, string_literal, RefQualifier, any_value, lvalue_only, rvalue_only, Term, alone, in_std, instance, operator, literal_operator, source, lambda, unnamed}
-use Rattle.cpp_grammar.specs.Values.{Candidate, Prefix, outermost, behind, Around, Value, tree, piece, named, tree_of, qualifiers_of, ref_of, unqualified}
+use Rattle.cpp_grammar.specs.Term.{Qualifiers, function, object, special, thunk, guard, within, string_literal, RefQualifier, any_value, Term, instance}
+use Rattle.cpp_grammar.specs.Values.{Candidate, behind, Around, tree, tree_of, qualifiers_of, ref_of, unqualified}
 use Rattle.cpp_grammar.specs.References.{is_function_type}
-use Rattle.cpp_grammar.specs.Between.{after, extended, inside, no_items}
-use Rattle.cpp_press.specs.Texts.{qualifier_letters, mark_letter, name_letters}
+use Rattle.cpp_grammar.specs.Between.{after, extended}
+use Rattle.cpp_press.specs.Texts.{name_letters}
 use Rattle.cpp_press.specs.Components.{Spelling, ended, component}
-use Rattle.cpp_press.specs.Pressing.{ways_of, no_ways, name_ways, with_letters, in_N_and_E, template_before, encoding_ways, piece_ways, is_encoding, is_operator, is_one_piece, entity_text}
-use Rattle.cpp_press.proofs.Reading.{Written, written, ReadsAt, takes-byte}
-use Rattle.cpp_press.proofs.ReadingTypes.{Is, more}
-use Rattle.cpp_press.proofs.ReadingFunctions.{mark_bytes}
-use Rattle.cpp_press.proofs.ReadingNames.{SoFar, Extends, nest-whole}
-use Rattle.cpp_press.proofs.ReadingEncodings.{ref_bytes, nested-name}
-use Rattle.cpp_press.proofs.Keeping.{Keeps, keeps-text, keeps-and, keeps-front, keeps-behind, keeps-ended, keeps-choice, keeps-N-and-E, choice, keeps}
-use Rattle.cpp_press.proofs.ReadingSlots.{HasRoom, IsSmall, room-first, room-rest, ReadsAs, solid_kind, in-slot, component-in, fitting-in}
-use Rattle.cpp_press.proofs.ReadingNamed.{member-rule, entity-rule, type-entity-rule, NameRule, own-rule, std-rule, std-type-rule, PieceReads}
-use Rattle.cpp_press.proofs.ReadingBetween.{in_I_and_E, ElementsRead, Named, named-piece, named-std, named-std-type, SoFarWith, Nested, nested-std, nested-within, whole-nested, ExtendsWith, extends-with-behind-s, prefix-behind-s, prefix-piece, prefix-with-piece, prefix-nested, prefix-with-nested}
-use Rattle.cpp_press.proofs.ReadingTemplates.{TypeRules, slot-rules, TemplateKind, of_elements, ReadElements, elements-room, template-reads}
-use Rattle.cpp_press.proofs.Readings.{OnePiece, NameReads, TemplateReads, template-value, EntityReads, Leads, slot_way, ReadsAll, typed-argument}
+use Rattle.cpp_press.specs.Pressing.{ways_of, no_ways, name_ways, with_letters, in_N_and_E, template_before, encoding_ways, piece_ways, is_encoding, is_one_piece, entity_text}
+use Rattle.cpp_press.proofs.Reading.{Written, written, takes-byte}
+use Rattle.cpp_press.proofs.ReadingTypes.{more}
+use Rattle.cpp_press.proofs.ReadingNames.{SoFar, Extends}
+use Rattle.cpp_press.proofs.Keeping.{Keeps, keeps-and, keeps-ended, keeps-N-and-E, choice, keeps}
+use Rattle.cpp_press.proofs.ReadingSlots.{HasRoom, IsSmall, room-first, room-rest, ReadsAs, solid_kind, in-slot, fitting-in}
+use Rattle.cpp_press.proofs.ReadingNamed.{member-rule, entity-rule, type-entity-rule, NameRule, PieceReads}
+use Rattle.cpp_press.proofs.ReadingBetween.{in_I_and_E, Named, named-piece, Nested, nested-within, whole-nested, ExtendsWith, extends-with-behind-s, prefix-behind-s, prefix-piece, prefix-with-piece, prefix-nested, prefix-with-nested}
+use Rattle.cpp_press.proofs.ReadingTemplates.{slot-rules, of_elements, template-reads}
+use Rattle.cpp_press.proofs.Readings.{NameReads, TemplateReads, template-value, EntityReads, Leads, slot_way, typed-argument}
 use Rattle.cpp_press.proofs.ReadingsOfTypes.{Reading}
 use Rattle.cpp_press.proofs.ReadingsOfStd.{entity-nested, template-nested}
-use Rattle.cpp_press.proofs.ReadingsOfNames.{letters-nested, plain-name, no-qualifiers, no-letters, nested-room, name-by-letters, elements-behind}
-use Rattle.cpp_press.proofs.Fit.{Fits, names_member, names_entity, names_in, Slot, any_type, bare_type, item_type, parameter_type, literal_type, Fitting, IsFirst, as_component, as_template, behind_bytes, one_piece, Behind, names_type, names_function, begins_name, Role, in_type, in_name_with, letters_of, IsWithoutLetters, by_letters, fits_nowhere, encoding_fits, fits_of}
+use Rattle.cpp_press.proofs.ReadingsOfNames.{letters-nested, no-qualifiers, no-letters, nested-room, elements-behind}
+use Rattle.cpp_press.proofs.Fit.{names_member, names_entity, names_in, Slot, any_type, bare_type, item_type, parameter_type, literal_type, Fitting, as_component, behind_bytes, one_piece, Behind, begins_name, Role, in_type, in_name_with, letters_of, IsWithoutLetters, fits_nowhere, encoding_fits, fits_of}
 use Rattle.cpp_press.proofs.ReadingSymbols.{string-literal-reads}
 
 -- ## Encodings as prefixes
@@ -241,10 +236,10 @@ reads-within x p rx rp = record {
   as_entity = λ role around allowed place cs small room h.
       within-entity x p rx rp role around allowed place cs small (is_encoding x) refl room h;
   as_entity_template = λ around allowed place cs small room h. record {
-        is = λ arguments. h.0;
-        in_name = local-named x p (begins_name p) rp 23 (entity-rule p h.1.1) around allowed place cs small room h;
-        in_a_type = local-named x p (begins_name p) rp 24 (type-entity-rule p h.1.1) around allowed place cs small room h;
-      };
+    is = λ arguments. h.0;
+    in_name = local-named x p (begins_name p) rp 23 (entity-rule p h.1.1) around allowed place cs small room h;
+    in_a_type = local-named x p (begins_name p) rp 24 (type-entity-rule p h.1.1) around allowed place cs small room h;
+  };
   as_piece = λ around allowed place cs small room h. absurd h;
   as_encoding = λ around allowed place cs small room h. absurd h;
   as_name = λ q ref around allowed place cs small room h.
