@@ -30,7 +30,8 @@ writes-rest m first rest place cs one =
     let w : Written = first place cs in
     omega (arith, one, length-append w.bytes (rest (place + length w.bytes) w.components).bytes)
 
-writes-first : (m : ℕ) (first rest : Spelling) (place : ℕ) (cs : List Candidate) → Writes m (first place cs) → Writes m ((first and rest) place cs)
+writes-first : (m : ℕ) (first rest : Spelling) (place : ℕ) (cs : List Candidate) → Writes m (first place cs)
+    → Writes m ((first and rest) place cs)
 writes-first m first rest place cs one =
     let w : Written = first place cs in
     omega (arith, one, length-append w.bytes (rest (place + length w.bytes) w.components).bytes)
@@ -61,7 +62,8 @@ unfolding counted decimal
 counted-long name = omega (arith, length-append (digits_in 10 decimal_digit 40 (length name)) name, digits-long 39 (length name))
 
 -- a piece has bytes
-piece-writes : (p : Term) (around : Around) (allowed : Option ℕ) (place : ℕ) (cs : List Candidate) → (fits_of p).as_piece around allowed place cs
+piece-writes : (p : Term) (around : Around) (allowed : Option ℕ) (place : ℕ) (cs : List Candidate)
+    → (fits_of p).as_piece around allowed place cs
     → Writes 1 ((ways_of around.encoding p).as_piece place cs)
 unfolding ways_of fits_of piece_ways no_ways fits_nowhere type_fits piece_fits argument_fits encoding_fits
 piece-writes (source true name) around allowed place cs h = omega arith
@@ -95,13 +97,15 @@ unfolding ended
 behind-writes m around allowed own arguments elements place at w write there fits =
     elements-write m elements (place + length w.bytes + 0) (w.components ++ record { tree = own; encoding = around.encoding } ∷ [])
     (write (place + length w.bytes + 0) (w.components ++ record { tree = own; encoding = around.encoding } ∷ [])
-    (subst (λ q. arguments around allowed q (w.components ++ record { tree = own; encoding = around.encoding } ∷ [])) (omega (arith, there)) fits))
+    (subst (λ q. arguments around allowed q (w.components ++ record { tree = own; encoding = around.encoding } ∷ [])) (omega
+    (arith, there)) fits))
 
 -- a reference, or what is spelled
 referred-writes : (m : ℕ) (around : Around) (allowed : Option ℕ) (own : Term) (arguments : Fitting)
     (elements other : Spelling) (place : ℕ) (cs : List Candidate) → ArgumentsWrite m around allowed arguments elements
     → ((number : ℕ) → first_equal around.encoding own 0 cs ≡ Some number → Behind (reference number) (arguments around allowed) place cs)
-    → (IsFirst around own cs → Writes (m + 2) (other place cs)) → Writes (m + 2) (referred around.encoding own (of_elements elements) other place cs)
+    → (IsFirst around own cs → Writes (m + 2) (other place cs))
+    → Writes (m + 2) (referred around.encoding own (of_elements elements) other place cs)
 unfolding referred reference
 referred-writes m around allowed own arguments elements other place cs write fits out = go (first_equal around.encoding own 0 cs) refl
   where
@@ -167,7 +171,8 @@ std-writes false p m around allowed arguments elements place cs write fits =
     (subst (λ q. arguments around allowed (place + length ((std_spelling n p q cs).bytes ++ []))
     ((std_spelling n p q cs).components ++ record { tree = in_std p; encoding = n } ∷ [])) (omega arith) fits))
 
-before-writes : (t : Term) (typed : Bool) (m : ℕ) (around : Around) (allowed : Option ℕ) (arguments : Fitting) (elements : Spelling) (place : ℕ)
+before-writes : (t : Term) (typed : Bool) (m : ℕ) (around : Around) (allowed : Option ℕ) (arguments : Fitting) (elements : Spelling)
+    (place : ℕ)
     (cs : List Candidate) → ArgumentsWrite m around allowed arguments elements
     → (fits_of t).before typed arguments around allowed place cs
     → Writes (m + 2) ((ways_of around.encoding t).before typed (of_elements elements) place cs)
@@ -201,7 +206,8 @@ before-writes (instance t a) typed m around allowed arguments elements place cs 
 before-writes (local e entity d) typed m around allowed arguments elements place cs write h =
     component-before-writes m around allowed (local e entity d) _ arguments elements place cs write h
 before-writes (abbreviation l) typed m around allowed arguments elements place cs write h =
-    writes-rest (m + 2) (text (codes "S" ++ l ∷ [])) (of_elements elements) place cs (elements-write m elements (place + 2) cs (write (place + 2) cs h.1))
+    writes-rest (m + 2) (text (codes "S" ++ l ∷ [])) (of_elements elements) place cs (elements-write m elements (place + 2) cs (write
+    (place + 2) cs h.1))
 before-writes (parameter k) typed m around allowed arguments elements place cs write h =
     let own : Spelling = component around.encoding (parameter k) (text (codes "T" ++ ordinal k)) in
     let w : Written = own place cs in
@@ -257,7 +263,8 @@ marks-long true false = omega arith
 marks-long false true = omega arith
 marks-long false false = omega arith
 
-std-long : (b : Bool) (p : Term) (n place : ℕ) (cs : List Candidate) → Writes 1 (choice b (in_N_and_E [] (std_spelling n p)) (std_spelling n p) place cs)
+std-long : (b : Bool) (p : Term) (n place : ℕ) (cs : List Candidate)
+    → Writes 1 (choice b (in_N_and_E [] (std_spelling n p)) (std_spelling n p) place cs)
 std-long true p n place cs = nested-writes 1 [] (std_spelling n p) place cs (omega arith)
 std-long false p n place cs = omega arith
 
@@ -272,21 +279,30 @@ argument-writes (in_std p) in_pack around allowed place cs h =
     component-writes around.encoding (in_std p) (choice (is_operator p) (in_N_and_E [] std) std) place cs
     (λ none. std-long (is_operator p) p around.encoding place cs)
 argument-writes (within x p) in_pack around allowed place cs h =
-    component-writes around.encoding (within x p) (in_N_and_E [] ((ways_of around.encoding x).as_prefix and (ways_of around.encoding p).as_piece)) place
+    component-writes around.encoding (within x p) (in_N_and_E [] ((ways_of around.encoding x).as_prefix and
+    (ways_of around.encoding p).as_piece)) place
     cs (λ none. omega arith)
 argument-writes (instance t a) in_pack around allowed place cs h =
-    component-writes around.encoding (instance t a) ((ways_of around.encoding t).before true (of_elements (ways_of around.encoding a).as_elements))
-    place cs (λ none. omega (arith, before-writes t true 0 around allowed _ (ways_of around.encoding a).as_elements place cs (λ p c f. omega arith) (h.1 none)))
+    component-writes around.encoding (instance t a) ((ways_of around.encoding t).before true (of_elements
+    (ways_of around.encoding a).as_elements))
+    place cs (λ none. omega (
+      arith,
+      before-writes t true 0 around allowed _ (ways_of around.encoding a).as_elements place cs
+          (λ p c f. omega arith) (h.1 none),
+    ))
 argument-writes (local e entity d) in_pack around allowed place cs h =
     component-writes around.encoding (local e entity d) _ place cs (λ none. omega arith)
 argument-writes (abbreviation l) in_pack around allowed place cs h = omega arith
-argument-writes (parameter k) in_pack around allowed place cs h = component-writes around.encoding (parameter k) _ place cs (λ none. omega arith)
+argument-writes (parameter k) in_pack around allowed place cs h = component-writes around.encoding (parameter k) _ place cs
+    (λ none. omega arith)
 argument-writes (builtin code) in_pack around allowed place cs h = builtin-long code h
-argument-writes (vendor name) in_pack around allowed place cs h = component-writes around.encoding (vendor name) _ place cs (λ none. omega arith)
+argument-writes (vendor name) in_pack around allowed place cs h = component-writes around.encoding (vendor name) _ place cs
+    (λ none. omega arith)
 argument-writes (pointer t) in_pack around allowed place cs h = component-writes around.encoding (pointer t) _ place cs (λ none. omega arith)
 argument-writes (lvalue t) in_pack around allowed place cs h = component-writes around.encoding (lvalue t) _ place cs (λ none. omega arith)
 argument-writes (rvalue t) in_pack around allowed place cs h = component-writes around.encoding (rvalue t) _ place cs (λ none. omega arith)
-argument-writes (array digits t) in_pack around allowed place cs h = component-writes around.encoding (array digits t) _ place cs (λ none. omega arith)
+argument-writes (array digits t) in_pack around allowed place cs h = component-writes around.encoding (array digits t) _ place cs
+    (λ none. omega arith)
 argument-writes (member_pointer class t) in_pack around allowed place cs h =
     component-writes around.encoding (member_pointer class t) _ place cs (λ none. omega arith)
 argument-writes (function_type c x ref returned parameters) in_pack around allowed place cs h =
@@ -298,9 +314,11 @@ argument-writes (function_type c x ref returned parameters) in_pack around allow
 argument-writes (qualified q t) in_pack around allowed place cs h =
     component-writes around.encoding (qualified q t) (text (qualifier_letters q) and (ways_of around.encoding t).under_qualifiers) place cs
     (λ none. writes-first 1 (text (qualifier_letters q)) (ways_of around.encoding t).under_qualifiers place cs (letters-long q (h.1 none).1))
-argument-writes (vector digits t) in_pack around allowed place cs h = component-writes around.encoding (vector digits t) _ place cs (λ none. omega arith)
+argument-writes (vector digits t) in_pack around allowed place cs h = component-writes around.encoding (vector digits t) _ place cs
+    (λ none. omega arith)
 argument-writes (complex t) in_pack around allowed place cs h = component-writes around.encoding (complex t) _ place cs (λ none. omega arith)
-argument-writes (expansion t) in_pack around allowed place cs h = component-writes around.encoding (expansion t) _ place cs (λ none. omega arith)
+argument-writes (expansion t) in_pack around allowed place cs h = component-writes around.encoding (expansion t) _ place cs
+    (λ none. omega arith)
 argument-writes (integer t value) in_pack around allowed place cs h = omega arith
 argument-writes (boolean true) in_pack around allowed place cs h = omega arith
 argument-writes (boolean false) in_pack around allowed place cs h = omega arith
@@ -356,7 +374,8 @@ entity-between : (t a : Term) (letters : List ℕ) (around : Around) (allowed : 
     ⊎ (let at = place + length (codes "N" ++ letters) in
     (fits_of t).between_template around allowed at cs
     × Behind ((ways_of around.encoding t).between_N_and_E and ended around.encoding t) (elements_of a around allowed) at cs)
-    → Writes (count a + 2) (choice b (instance_between around.encoding t a) (in_N_and_E letters (instance_between around.encoding t a)) place cs)
+    → Writes (count a + 2) (choice b (instance_between around.encoding t a) (in_N_and_E letters
+    (instance_between around.encoding t a)) place cs)
 entity-between t a letters around allowed place cs true is (inl h) = between-counts t a around allowed place cs h.1
 entity-between t a letters around allowed place cs false is (inl h) = absurd (one-piece-is t a around allowed place cs h.0 is)
 entity-between t a letters around allowed place cs true is (inr h) =
@@ -371,7 +390,8 @@ entity-counts : (entity : Term) (role : Role) (around : Around) (allowed : Optio
 unfolding ways_of fits_of name_ways no_ways fits_nowhere type_fits arguments_of entity_text
 entity-counts (instance t b) role around allowed place cs h a is =
     let n : ℕ = around.encoding in
-    subst (λ x. Writes (count x) (choice (is_one_piece (instance t b)) (instance_between n t b) (in_N_and_E (letters_of role) (instance_between n t b))
+    subst (λ x. Writes (count x) (choice (is_one_piece (instance t b)) (instance_between n t b) (in_N_and_E (letters_of role)
+    (instance_between n t b))
     place cs)) (some-one is)
     (omega (arith, entity-between t b (letters_of role) around allowed place cs (is_one_piece (instance t b)) refl (sides h)))
   where
@@ -394,12 +414,15 @@ entity-counts _ role around allowed place cs h a is = absurd (none-some is)
 own-counts : (t a : Term) (ls : List ℕ) (around : Around) (allowed : Option ℕ) (place : ℕ) (cs : List Candidate)
     → by_letters ls ((fits_of t).before false (elements_of a)) (λ inner others at ds.
     (fits_of t).between_template inner others at ds
-    × Behind ((ways_of inner.encoding t).between_N_and_E and ended inner.encoding t) (elements_of a inner others) at ds) around allowed place cs
+    × Behind ((ways_of inner.encoding t).between_N_and_E and ended inner.encoding t)
+    (elements_of a inner others) at ds) around allowed place cs
     → (let n = around.encoding in
-    Writes (count a + 2) (with_letters ls ((ways_of n t).before false (of_elements (ways_of n a).as_elements)) (instance_between n t a) place cs))
+    Writes (count a + 2) (with_letters ls ((ways_of n t).before false (of_elements (ways_of n a).as_elements))
+    (instance_between n t a) place cs))
 unfolding by_letters with_letters
 own-counts t a [] around allowed place cs h =
-    before-writes t false (count a) around allowed (elements_of a) (ways_of around.encoding a).as_elements place cs (arguments-write a around allowed) h
+    before-writes t false (count a) around allowed (elements_of a) (ways_of around.encoding a).as_elements place cs
+    (arguments-write a around allowed) h
 own-counts t a (l ∷ ls) around allowed place cs h =
     nested-writes (count a + 2) (l ∷ ls) (instance_between around.encoding t a) place cs
     (between-counts t a around allowed (place + length (codes "N" ++ l ∷ ls)) cs h.1)

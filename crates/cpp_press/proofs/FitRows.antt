@@ -30,7 +30,8 @@ some-none : {n : ℕ} → ◌≡◌ {A = Option ℕ} (Some n) None → ⊥
 some-none h = cc
 
 -- _Z1fPiS_
-pub row : SymbolFits (symbol (function (alone (source false (102 ∷ []))) unqualified any_value absent (list pointer_to_int (list pointer_to_int nil))) [])
+pub row : SymbolFits (symbol (function (alone (source false (102 ∷ []))) unqualified any_value absent (list pointer_to_int
+    (list pointer_to_int nil))) [])
 unfolding in_ranges among is_in pick alternatives choose is_open arguments_of has_return_type packs_in in_name in_types is_void is_nil same_bytes same_tree decimal counted name_letters qualifier_letters mark_letter is_same first_equal reference ended spelled_out component seq_id ways_of no_ways type_ways piece_ways name_ways with_letters names_function begins_name either fits_nowhere type_fits piece_fits encoding_fits fits_of
 row = (
   (

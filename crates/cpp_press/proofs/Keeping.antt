@@ -36,7 +36,12 @@ keeps-component n own spelling one = record { kept = λ place cs. go place cs (f
       | None ↦ spelled_out n own spelling place cs
     ]).components
     go place cs (Some number) = omega arith
-    go place cs None = omega (arith, one.kept place cs, length-append (spelling place cs).components (record { tree = own; encoding = n } ∷ []))
+    go place cs None = omega (
+      arith,
+      one.kept place cs,
+      length-append (spelling place cs).components
+          (record { tree = own; encoding = n } ∷ []),
+    )
 
 pub keeps-referred : (n : ℕ) (own : Term) (behind other : Spelling) → Keeps behind → Keeps other → Keeps (referred n own behind other)
 unfolding referred reference
@@ -295,16 +300,19 @@ keeps-typed n t spelling one = keeps-type (component n t spelling) (keeps-compon
 pub keeps : (t : Term) (n : ℕ) → KeepsAll (ways_of n t)
 unfolding ways_of no_ways function_text
 keeps (symbol e suffix) n =
-    keeps-symbol _ (keeps-front (codes "_Z") ((ways_of n e).as_encoding and text suffix) (keeps-behind (ways_of n e).as_encoding suffix (keeps e n).as_encoding))
+    keeps-symbol _ (keeps-front (codes "_Z") ((ways_of n e).as_encoding and text suffix) (keeps-behind
+    (ways_of n e).as_encoding suffix (keeps e n).as_encoding))
 keeps (function name q ref returned parameters) n =
     keeps-encoding _ (λ here. keeps-and ((ways_of here name).as_name (name_letters q ref))
     ((ways_of here returned).as_type and (ways_of here parameters).as_parameters) ((keeps name here).as_name (name_letters q ref))
-    (keeps-and (ways_of here returned).as_type (ways_of here parameters).as_parameters (keeps returned here).as_type (keeps parameters here).as_parameters))
+    (keeps-and (ways_of here returned).as_type (ways_of here parameters).as_parameters (keeps returned here).as_type
+    (keeps parameters here).as_parameters))
 keeps (object name q ref) n = keeps-encoding _ (λ here. (keeps name here).as_name (name_letters q ref))
 keeps (special l type) n = keeps-encoding _ (λ here. keeps-front (codes "T" ++ l ∷ []) (ways_of here type).as_type (keeps type here).as_type)
 keeps (thunk kind e) n = keeps-encoding _ (λ here. keeps-front (thunk_text kind) (ways_of here e).as_encoding (keeps e here).as_encoding)
 keeps (guard name q ref) n =
-    keeps-encoding _ (λ here. keeps-front (codes "GV") ((ways_of here name).as_name (name_letters q ref)) ((keeps name here).as_name (name_letters q ref)))
+    keeps-encoding _ (λ here. keeps-front (codes "GV") ((ways_of here name).as_name (name_letters q ref)) ((keeps name here).as_name
+    (name_letters q ref)))
 keeps (alone p) n =
     let spelling : Spelling = (ways_of n p).as_piece in
     let one : Keeps spelling = (keeps p n).as_piece in
@@ -335,7 +343,8 @@ keeps (instance template arguments) n =
     (λ in_type more kept. keeps-and (component n (instance template arguments) nothing) more
     (keeps-component n (instance template arguments) nothing (keeps-text [])) kept)
 keeps (local e entity discriminator) n =
-    keeps-local-ways n (local e entity discriminator) (local_text (ways_of n e).as_encoding entity (ways_of n entity).between_N_and_E discriminator)
+    keeps-local-ways n (local e entity discriminator) (local_text (ways_of n e).as_encoding entity
+    (ways_of n entity).between_N_and_E discriminator)
     (λ letters. keeps-local (ways_of n e).as_encoding entity (ways_of n entity).between_N_and_E discriminator letters (keeps e n).as_encoding
     (keeps entity n).between_N_and_E)
 keeps (abbreviation l) n = keeps-type _ (keeps-text _)
@@ -372,7 +381,8 @@ keeps (qualified q type) n =
 keeps (vector digits type) n =
     keeps-typed n (vector digits type) _ (keeps-front (codes "Dv" ++ digits ++ codes "_") (ways_of n type).as_type (keeps type n).as_type)
 keeps (complex type) n = keeps-typed n (complex type) _ (keeps-front (codes "C") (ways_of n type).as_type (keeps type n).as_type)
-keeps (expansion pattern) n = keeps-typed n (expansion pattern) _ (keeps-front (codes "Dp") (ways_of n pattern).as_type (keeps pattern n).as_type)
+keeps (expansion pattern) n = keeps-typed n (expansion pattern) _ (keeps-front (codes "Dp") (ways_of n pattern).as_type
+    (keeps pattern n).as_type)
 keeps (integer type value) n =
     keeps-argument _ (keeps-front (codes "L") ((ways_of n type).as_type and text (signed_text value ++ codes "E"))
     (keeps-behind (ways_of n type).as_type (signed_text value ++ codes "E") (keeps type n).as_type))

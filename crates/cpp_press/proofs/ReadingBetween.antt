@@ -33,7 +33,8 @@ pub record Named (around : Around) (allowed : Option ℕ) (k : ℕ) (t : Term) (
   pub bare : ReadsAt around allowed (OfKind k) (Is (tree t false)) place cs w
   pub instanced : (items : Term) (last : Value) (args : Written) → no_items last ≡ items
       → ElementsRead around allowed last (place + length w.bytes) (more around w.components t) args
-      → ReadsAt around allowed (OfKind k) (Is (tree (instance t items) false)) place cs (written (w.bytes ++ in_I_and_E args.bytes) args.components)
+      → ReadsAt around allowed (OfKind k) (Is (tree (instance t items) false)) place cs (written
+      (w.bytes ++ in_I_and_E args.bytes) args.components)
 
 pub named-piece : (around : Around) (allowed : Option ℕ) (k : ℕ) (p t : Term) (place : ℕ) (cs : List Candidate) (w : Written)
     → PieceReads around allowed p place cs w → NameRule k p → extended around.prefix p ≡ t → Named around allowed k t place cs w
@@ -68,7 +69,8 @@ named-std around allowed p place cs w one =
       instanced = λ items last args are two.
           std-name around allowed p (tree items true) place cs w (written (in_I_and_E args.bytes) args.components) first
           (some-arguments around allowed (in_std p) items last (place + 1 + 1 + length w.bytes) w.components args are
-          (subst (λ q. ReadsAt (inside around) allowed (OfKind 44) (Is last) q (more around w.components (in_std p)) args) (omega arith) two));
+          (subst (λ q. ReadsAt (inside around) allowed (OfKind 44) (Is last) q (more around w.components (in_std p)) args)
+          (omega arith) two));
     }
 
 -- and as a type
@@ -86,7 +88,8 @@ named-std-type k around allowed p place cs w takes one =
           type-with-arguments k around allowed (in_std p) items false place cs (written (116 ∷ w.bytes) w.components)
           (written (in_I_and_E args.bytes) args.components) takes first
           (some-arguments around allowed (in_std p) items last (place + 1 + length (116 ∷ w.bytes)) w.components args are
-          (subst (λ q. ReadsAt (inside around) allowed (OfKind 44) (Is last) q (more around w.components (in_std p)) args) (omega arith) two));
+          (subst (λ q. ReadsAt (inside around) allowed (OfKind 44) (Is last) q (more around w.components (in_std p)) args)
+          (omega arith) two));
     }
 
 -- ## Between N and E
@@ -117,7 +120,8 @@ nested-std around allowed p place cs w one =
       instanced = λ items last args are two.
           nest-std around allowed p (tree items true) place cs w (written (in_I_and_E args.bytes) args.components) first
           (some-arguments around allowed (in_std p) items last (place + 1 + 1 + length w.bytes) w.components args are
-          (subst (λ q. ReadsAt (inside around) allowed (OfKind 44) (Is last) q (more around w.components (in_std p)) args) (omega arith) two));
+          (subst (λ q. ReadsAt (inside around) allowed (OfKind 44) (Is last) q (more around w.components (in_std p)) args)
+          (omega arith) two));
     }
 
 -- a piece behind a prefix

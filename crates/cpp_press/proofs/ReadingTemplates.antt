@@ -86,7 +86,8 @@ abbrev pub InstancedAt : Around → Option ℕ → (k : ℕ) → (t : Term) → 
 InstancedAt around allowed k t place cs w =
     (items : Term) (last : Value) (args : Written) → no_items last ≡ items
     → ElementsRead around allowed last (place + length w.bytes) w.components args
-    → ReadsAt around allowed (OfKind k) (Is (tree (instance t items) false)) place cs (written (w.bytes ++ in_I_and_E args.bytes) args.components)
+    → ReadsAt around allowed (OfKind k) (Is (tree (instance t items) false)) place cs (written
+    (w.bytes ++ in_I_and_E args.bytes) args.components)
 
 takes-42 : TakesRule abi 42 (rule_of Production.Arguments) (73 ∷ [])
 unfolding choose alternatives pick is_in in_ranges among kinds is_chain
@@ -155,7 +156,8 @@ pub elements-room : (first elements : Spelling) (place : ℕ) (cs : List Candida
 elements-room first elements place cs room =
     let w : Written = first place cs in
     let at : ℕ = place + length w.bytes in
-    let behind = room-rest (text (codes "I")) (elements and text (codes "E")) at w.components (room-rest first (of_elements elements) place cs room) in
+    let behind = room-rest (text (codes "I")) (elements and text (codes "E")) at w.components (room-rest first
+    (of_elements elements) place cs room) in
     record {
       short = omega (arith, behind.short, length-append (elements (at + 1) w.components).bytes (69 ∷ []));
       few = behind.few;
@@ -163,7 +165,8 @@ elements-room first elements place cs room =
 
 -- A template name that fits before arguments: they stand behind a reference, or behind its spelling.
 pub template-reads : (typed : Bool) (k : ℕ) (around : Around) (allowed : Option ℕ) (t : Term) → TemplateKind typed k → (place : ℕ)
-    (cs : List Candidate) (spelled : Fitting) (front : ℕ → Spelling) (arguments : Fitting) (elements other : Spelling) (items : Term) (last : Value)
+    (cs : List Candidate) (spelled : Fitting) (front : ℕ → Spelling) (arguments : Fitting) (elements other : Spelling) (items : Term)
+    (last : Value)
     (R : Written → Type 0)
     → ((w : Written) → ReadsAt around allowed (OfKind k) (Is (tree (instance t items) false)) place cs w → R w)
     → no_items last ≡ items → ReadElements around allowed last arguments elements → Keeps (of_elements elements) → Keeps other
@@ -172,7 +175,8 @@ pub template-reads : (typed : Bool) (k : ℕ) (around : Around) (allowed : Optio
     → (IsFirst around t cs → HasRoom (other place cs) → R (other place cs))
     → R (referred around.encoding t (of_elements elements) other place cs)
 unfolding referred reference
-template-reads typed k around allowed t kind place cs spelled front arguments elements other items last R from are reads keeps kept room fits out =
+template-reads typed k around allowed t kind place cs spelled front arguments elements other items last R from are reads keeps kept
+    room fits out =
     go (first_equal around.encoding t 0 cs) refl room
     (few-before (referred around.encoding t (of_elements elements) other) place cs (keeps-referred around.encoding t _ other keeps kept) room)
   where

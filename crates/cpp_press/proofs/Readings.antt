@@ -123,7 +123,8 @@ pub record ReadsAll (t : Term) (ways : ℕ → Ways) (fits : Fits) : Type 1 wher
   pub as_argument : (in_pack : Bool) → Leads (λ n. (ways n).as_argument) (fits.as_argument in_pack)
       (λ around allowed. ArgumentReads in_pack around allowed t)
   pub as_items : Leads (λ n. (ways n).as_parameters) (fits.as_parameters item_type) (λ around allowed. ItemsRead around allowed t)
-  pub as_more_items : Leads (λ n. (ways n).as_more_parameters) (fits.as_more_parameters item_type) (λ around allowed. ListReads 41 around allowed t)
+  pub as_more_items : Leads (λ n. (ways n).as_more_parameters) (fits.as_more_parameters item_type)
+      (λ around allowed. ListReads 41 around allowed t)
   pub as_parameters : (ref : RefQualifier) → Leads (λ n. (ways n).as_parameters) (fits.as_parameters parameter_type)
       (λ around allowed. ParametersRead ref around allowed t)
   pub as_more_parameters : (ref : RefQualifier) → Leads (λ n. (ways n).as_more_parameters) (fits.as_more_parameters parameter_type)
@@ -242,7 +243,8 @@ typed-argument false around allowed t place cs w one items last rest are two =
 
 -- a component before its arguments, of which only a reference stands there
 pub referred-before : (typed : Bool) (k : ℕ) (around : Around) (allowed : Option ℕ) (t : Term) → TemplateKind typed k → (place : ℕ)
-    (cs : List Candidate) (spelling : Spelling) (arguments : Fitting) (elements : Spelling) (items : Term) (last : Value) → no_items last ≡ items
+    (cs : List Candidate) (spelling : Spelling) (arguments : Fitting) (elements : Spelling) (items : Term) (last : Value)
+    → no_items last ≡ items
     → ReadElements around allowed last arguments elements → Keeps spelling → Keeps (of_elements elements)
     → HasRoom ((component around.encoding t spelling and of_elements elements) place cs)
     → as_template t nowhere (λ n. text []) arguments around allowed place cs
@@ -255,7 +257,11 @@ referred-before typed k around allowed t kind place cs spelling arguments elemen
     (keeps-and (component around.encoding t spelling) (of_elements elements) (keeps-component around.encoding t spelling keeps) kept) room)
   where
     go : (o : Option ℕ) → first_equal around.encoding t 0 cs ≡ o
-        → (let w = elim o as (λ _. Written) [ Some number ↦ reference number place cs | None ↦ spelled_out around.encoding t spelling place cs ] in
+        → (let w = elim o as (λ _. Written) [
+          | Some number ↦ reference number place cs
+          | None ↦ spelled_out around.encoding t spelling
+              place cs
+        ] in
         let rest = of_elements elements (place + length w.bytes) w.components in HasRoom (written (w.bytes ++ rest.bytes) rest.components)
         → length cs ≤ greatest
         → ReadsAt around allowed (OfKind k) (Is (tree (instance t items) false)) place cs (written (w.bytes ++ rest.bytes) rest.components))
@@ -310,7 +316,8 @@ reads-type t spelling spelled other keeps out = record {
     bare : (slot : Slot) → is_function_type t && is_bare slot ≡ false
     bare slot = ap (λ b. b && is_bare slot) other
 
-    whole : (slot : Slot) → Leads (λ n. component n t (spelling n)) (as_component t (spelled slot)) (λ around allowed. ReadsAs slot around allowed t)
+    whole : (slot : Slot) → Leads (λ n. component n t (spelling n)) (as_component t (spelled slot))
+        (λ around allowed. ReadsAs slot around allowed t)
     whole slot around allowed place cs small room h =
         let s = in-slot slot around allowed t (bare slot) in
         fitting-in around allowed t (ReadsAs slot around allowed t) place cs (spelling around.encoding) (spelled slot) s.behind_s

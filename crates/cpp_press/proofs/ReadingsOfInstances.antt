@@ -39,7 +39,8 @@ spelled_arguments n a = of_elements (ways_of n a).as_elements
 
 keeps-arguments : (n : ℕ) (a : Term) → Keeps (spelled_arguments n a)
 keeps-arguments n a =
-    keeps-front (codes "I") ((ways_of n a).as_elements and text (codes "E")) (keeps-behind (ways_of n a).as_elements (codes "E") (keeps a n).as_elements)
+    keeps-front (codes "I") ((ways_of n a).as_elements and text (codes "E")) (keeps-behind (ways_of n a).as_elements (codes "E")
+    (keeps a n).as_elements)
 
 elements-read : (a : Term) → Reading a → (around : Around) (allowed : Option ℕ) → IsSmall around
     → ReadElements around allowed (items_value a) (elements_of a) (ways_of around.encoding a).as_elements
@@ -73,9 +74,11 @@ behind-name t a ra around allowed place cs small room fits =
     let w : Written = (ways_of n t).between_N_and_E place cs in
     elements-behind around allowed (items_value a) (elements_of a) (ways_of n a).as_elements t w place (place + length (w.bytes ++ []))
     (elements-read a ra around allowed small)
-    (room-rest (ways_of n t).between_N_and_E (ended n t and spelled_arguments n a) place cs room) (omega (arith, length-append w.bytes [])) fits
+    (room-rest (ways_of n t).between_N_and_E (ended n t and spelled_arguments n a) place cs room) (omega
+    (arith, length-append w.bytes [])) fits
 
-instance-nested : (t a : Term) → Reading t → Reading a → (around : Around) (allowed : Option ℕ) (place : ℕ) (cs : List Candidate) → IsSmall around
+instance-nested : (t a : Term) → Reading t → Reading a → (around : Around) (allowed : Option ℕ) (place : ℕ) (cs : List Candidate)
+    → IsSmall around
     → HasRoom (instance_between around.encoding t a place cs) → instance_joined t a around allowed place cs
     → SoFar around allowed (instance t a) false 18 place cs (instance_between around.encoding t a place cs)
 unfolding ended
@@ -120,7 +123,8 @@ unfolding fits_of is_one_piece encoding_fits piece_fits argument_fits type_fits 
 one-piece-is (within x p) a around allowed place cs h k = let e : true ≡ false = sym h.0 ∙ k in cc
 one-piece-is _ a around allowed place cs h k = h
 
-instance-entity : (t a : Term) → Reading t → Reading a → (role : Role) (around : Around) (allowed : Option ℕ) (place : ℕ) (cs : List Candidate)
+instance-entity : (t a : Term) → Reading t → Reading a → (role : Role) (around : Around) (allowed : Option ℕ) (place : ℕ)
+    (cs : List Candidate)
     → IsSmall around → (b : Bool) → is_one_piece (instance t a) ≡ b
     → HasRoom (choice b (instance_between around.encoding t a) (in_N_and_E (letters_of role) (instance_between around.encoding t a)) place cs)
     → (IsWithoutLetters (letters_of role)
@@ -143,7 +147,8 @@ instance-entity t a rt ra role around allowed place cs small true is room (inr h
 instance-entity t a rt ra role around allowed place cs small false is room (inr h) =
     let at : ℕ = place + length (codes "N" ++ letters_of role) in
     entity-nested role around allowed (instance t a) place cs (instance_between around.encoding t a)
-    (instance-nested t a rt ra around allowed at cs small (nested-room (letters_of role) (instance_between around.encoding t a) place cs room) h)
+    (instance-nested t a rt ra around allowed at cs small (nested-room (letters_of role)
+    (instance_between around.encoding t a) place cs room) h)
 
 -- ## In its ways
 
@@ -151,7 +156,8 @@ instance-own : (t a : Term) → Reading t → Reading a → (typed : Bool) (k : 
     (place : ℕ) (cs : List Candidate) → IsSmall around
     → HasRoom ((ways_of around.encoding t).before typed (spelled_arguments around.encoding a) place cs)
     → (fits_of t).before typed (elements_of a) around allowed place cs
-    → TemplateReads typed around allowed k (instance t a) place cs ((ways_of around.encoding t).before typed (spelled_arguments around.encoding a) place cs)
+    → TemplateReads typed around allowed k (instance t a) place cs ((ways_of around.encoding t).before typed
+    (spelled_arguments around.encoding a) place cs)
 instance-own t a rt ra typed k kind around allowed place cs small room h =
     rt.before typed k kind around allowed place cs (elements_of a) (ways_of around.encoding a).as_elements a (items_value a) (items-kept a)
     (elements-read a ra around allowed small) (keeps-arguments around.encoding a) small room h
@@ -166,16 +172,19 @@ reads-instance t a rt ra = record {
       fitting-in around allowed (instance t a) (Extends around allowed (instance t a)) place cs (prefix and spelled_arguments n a)
       (λ inner others at ds. (fits_of t).as_prefix_template inner others at ds
       × Behind (ways_of inner.encoding t).as_prefix (elements_of a inner others) at ds)
-      (prefix-behind-s around allowed (instance t a)) (keeps-and prefix (spelled_arguments n a) (keeps t n).as_prefix (keeps-arguments n a)) room h
+      (prefix-behind-s around allowed (instance t a)) (keeps-and prefix (spelled_arguments n a) (keeps t n).as_prefix
+      (keeps-arguments n a)) room h
       (λ fits enough.
       let w : Written = prefix place cs in
-      rt.as_prefix_template around allowed place cs small (room-first prefix (spelled_arguments n a) place cs (keeps-arguments n a) enough) fits.0
+      rt.as_prefix_template around allowed place cs small (room-first prefix (spelled_arguments n a) place cs
+      (keeps-arguments n a) enough) fits.0
       a (items_value a) ((ways_of n a).as_elements (place + length w.bytes + 1) w.components) (items-kept a)
       (elements-read a ra around allowed small (place + length w.bytes) w.components fits.1
       (elements-room prefix (ways_of n a).as_elements place cs enough)));
   as_prefix_template = λ around allowed place cs small room h.
       let n : ℕ = around.encoding in
-      fitting-in around allowed (instance t a) (ExtendsWith around allowed (instance t a)) place cs ((ways_of n t).as_prefix and spelled_arguments n a)
+      fitting-in around allowed (instance t a) (ExtendsWith around allowed (instance t a)) place cs
+      ((ways_of n t).as_prefix and spelled_arguments n a)
       nowhere (extends-with-behind-s around allowed (instance t a))
       (keeps-and (ways_of n t).as_prefix (spelled_arguments n a) (keeps t n).as_prefix (keeps-arguments n a)) room h
       (λ fits enough. absurd fits);
@@ -188,13 +197,15 @@ reads-instance t a rt ra = record {
   as_encoding = λ around allowed place cs small room h. absurd h;
   as_name = λ q ref around allowed place cs small room h.
       let n : ℕ = around.encoding in
-      name-by-letters around allowed (instance t a) q ref place cs ((ways_of n t).before false (spelled_arguments n a)) (instance_between n t a)
+      name-by-letters around allowed (instance t a) q ref place cs ((ways_of n t).before false (spelled_arguments n a))
+      (instance_between n t a)
       ((fits_of t).before false (elements_of a)) (instance_joined t a) room h
       (λ fits enough. instance-own t a rt ra false 8 refl around allowed place cs small enough fits)
       (λ at fits enough. instance-nested t a rt ra around allowed at cs small enough fits);
   before = λ typed k kind around allowed place cs arguments elements items last are read kept small room h.
       template-value typed around allowed k (instance (instance t a) items) place cs _
-      (referred-before typed k around allowed (instance t a) kind place cs nothing arguments elements items last are read (keeps-text []) kept room h);
+      (referred-before typed k around allowed (instance t a) kind place cs nothing arguments elements items last are read
+      (keeps-text []) kept room h);
   as_argument = λ in_pack around allowed place cs small room h.
       typed-argument in_pack around allowed (instance t a) place cs _ (whole item_type around allowed place cs small room h);
   as_items = λ around allowed place cs small room h. absurd h;
@@ -209,7 +220,8 @@ reads-instance t a rt ra = record {
     whole slot around allowed place cs small room h =
         let s = in-slot slot around allowed (instance t a) refl in
         let n : ℕ = around.encoding in
-        fitting-in around allowed (instance t a) (ReadsAs slot around allowed (instance t a)) place cs ((ways_of n t).before true (spelled_arguments n a))
+        fitting-in around allowed (instance t a) (ReadsAs slot around allowed (instance t a)) place cs ((ways_of n t).before true
+        (spelled_arguments n a))
         ((fits_of t).before true (elements_of a)) s.behind_s ((keeps t n).before true (spelled_arguments n a) (keeps-arguments n a)) room h
         (λ fits enough. s.adds place cs ((ways_of n t).before true (spelled_arguments n a) place cs)
         (instance-own t a rt ra true (solid_kind slot) (slot-rules slot) around allowed place cs small enough fits))

@@ -154,7 +154,8 @@ reads-list f r rf rr = record {
       (room-rest (ways_of n f).as_argument (ways_of n r).as_elements place cs room) h.1 in (
         items-kept (list f r),
         rf.as_argument in_pack around allowed place cs small
-            (room-first (ways_of n f).as_argument (ways_of n r).as_elements place cs (keeps r n).as_elements room) h.0 r (items_value r) rest m.0 m.1,
+            (room-first (ways_of n f).as_argument (ways_of n r).as_elements place cs (keeps r n).as_elements room) h.0 r
+            (items_value r) rest m.0 m.1,
       );
 }
   where
@@ -168,7 +169,8 @@ reads-list f r rf rr = record {
         let rest : Written = (ways_of n r).as_more_parameters (place + length one.bytes) one.components in
         subst (RestReads around allowed (list f r) ref place cs) (sym (more-with-end ref one rest))
         (rf.as_type parameter_type around allowed place cs small
-        (room-first (ways_of n f).as_type (ways_of n r).as_more_parameters place cs (keeps r n).as_more_parameters room) h.0 r ref (with_end ref rest)
+        (room-first (ways_of n f).as_type (ways_of n r).as_more_parameters place cs (keeps r n).as_more_parameters room) h.0 r ref
+        (with_end ref rest)
         (rr.as_more_parameters ref around allowed (place + length one.bytes) one.components small
         (room-rest (ways_of n f).as_type (ways_of n r).as_more_parameters place cs room) h.1))
 
@@ -184,22 +186,26 @@ function_spelling n c_linkage noexcept ref a ps =
 abbrev function_fits : (c_linkage noexcept : Bool) → (a ps : Term) → Fitting
 function_fits c_linkage noexcept a ps around allowed place cs =
     (fits_of a).as_type any_type around allowed (place + length (marks_of c_linkage noexcept)) cs
-    × Behind (text (marks_of c_linkage noexcept) and (ways_of around.encoding a).as_type) ((fits_of ps).as_parameters parameter_type around allowed) place cs
+    × Behind (text (marks_of c_linkage noexcept) and (ways_of around.encoding a).as_type)
+    ((fits_of ps).as_parameters parameter_type around allowed) place cs
 
-keeps-function : (n : ℕ) (c_linkage noexcept : Bool) (ref : RefQualifier) (a ps : Term) → Keeps (function_spelling n c_linkage noexcept ref a ps)
+keeps-function : (n : ℕ) (c_linkage noexcept : Bool) (ref : RefQualifier) (a ps : Term)
+    → Keeps (function_spelling n c_linkage noexcept ref a ps)
 keeps-function n c_linkage noexcept ref a ps =
     keeps-front (marks_of c_linkage noexcept) ((ways_of n a).as_type and (ways_of n ps).as_parameters and text (mark_letter ref ++ codes "E"))
     (keeps-and (ways_of n a).as_type ((ways_of n ps).as_parameters and text (mark_letter ref ++ codes "E")) (keeps a n).as_type
     (keeps-behind (ways_of n ps).as_parameters (mark_letter ref ++ codes "E") (keeps ps n).as_parameters))
 
 -- the return type, and the parameters with the end
-record FunctionParts (around : Around) (allowed : Option ℕ) (ref : RefQualifier) (a ps : Term) (at : ℕ) (cs : List Candidate) (one rest : Written) : Type 0 where
+record FunctionParts (around : Around) (allowed : Option ℕ) (ref : RefQualifier) (a ps : Term) (at : ℕ) (cs : List Candidate)
+    (one rest : Written) : Type 0 where
   items : Term
   means : parameters items ≡ ps
   reads_one : ReadsAt around allowed (OfKind 28) (Is (tree a true)) at cs one
   reads_rest : RestReads around allowed items ref (at + length one.bytes) one.components (with_end ref rest)
 
-function-parts : (c_linkage noexcept : Bool) (ref : RefQualifier) (a ps : Term) → Reading a → Reading ps → (around : Around) (allowed : Option ℕ)
+function-parts : (c_linkage noexcept : Bool) (ref : RefQualifier) (a ps : Term) → Reading a → Reading ps
+    → (around : Around) (allowed : Option ℕ)
     (place : ℕ) (cs : List Candidate) → IsSmall around → HasRoom (function_spelling around.encoding c_linkage noexcept ref a ps place cs)
     → function_fits c_linkage noexcept a ps around allowed place cs
     → (let at = place + length (marks_of c_linkage noexcept) in
@@ -230,9 +236,11 @@ function-parts c_linkage noexcept ref a ps ra rp around allowed place cs small r
 abbrev FunctionReads : (noexcept : Bool) → Around → Option ℕ → Term → ℕ → List Candidate → Written → Type 0
 FunctionReads false around allowed t place cs w = ReadsAt around allowed (OfKind 34) (Is (tree t false)) place cs w
 FunctionReads true around allowed t place cs w =
-    (inner : Written) × (w ≡ written (68 ∷ inner.bytes) inner.components) × ReadsAt around allowed (OfKind 33) (Is (tree t false)) (place + 1) cs inner
+    (inner : Written) × (w ≡ written (68 ∷ inner.bytes) inner.components)
+    × ReadsAt around allowed (OfKind 33) (Is (tree t false)) (place + 1) cs inner
 
-function-reads : (c_linkage noexcept : Bool) (ref : RefQualifier) (a ps : Term) → Reading a → Reading ps → (around : Around) (allowed : Option ℕ)
+function-reads : (c_linkage noexcept : Bool) (ref : RefQualifier) (a ps : Term) → Reading a → Reading ps
+    → (around : Around) (allowed : Option ℕ)
     (place : ℕ) (cs : List Candidate) → IsSmall around → HasRoom (function_spelling around.encoding c_linkage noexcept ref a ps place cs)
     → function_fits c_linkage noexcept a ps around allowed place cs
     → FunctionReads noexcept around allowed (function_type c_linkage noexcept ref a ps) place cs
@@ -281,7 +289,8 @@ function-reads false true ref a ps ra rp around allowed place cs small room h =
     )
 
 -- a function type as a component
-function-in : (noexcept : Bool) (slot : Slot) (around : Around) (allowed : Option ℕ) (t : Term) (place : ℕ) (cs : List Candidate) (w : Written)
+function-in : (noexcept : Bool) (slot : Slot) (around : Around) (allowed : Option ℕ) (t : Term) (place : ℕ) (cs : List Candidate)
+    (w : Written)
     → takes_all slot ≡ true → is_function_type t && is_bare slot ≡ false → FunctionReads noexcept around allowed t place cs w
     → ReadsAs slot around allowed t place cs (written w.bytes (more around w.components t))
 function-in false slot around allowed t place cs w all bare one = solid-in-all slot around allowed t place cs w all bare one
@@ -311,8 +320,10 @@ reads-function-type c_linkage noexcept ref a ps ra rp = record {
       (prefix-behind-s around allowed t) (keeps-function around.encoding c_linkage noexcept ref a ps) room h (λ fits enough. absurd fits);
   as_prefix_template = λ around allowed place cs small room h.
       let t : Term = function_type c_linkage noexcept ref a ps in
-      fitting-in around allowed t (ExtendsWith around allowed t) place cs (function_spelling around.encoding c_linkage noexcept ref a ps) nowhere
-      (extends-with-behind-s around allowed t) (keeps-function around.encoding c_linkage noexcept ref a ps) room h (λ fits enough. absurd fits);
+      fitting-in around allowed t (ExtendsWith around allowed t) place cs
+      (function_spelling around.encoding c_linkage noexcept ref a ps) nowhere
+      (extends-with-behind-s around allowed t) (keeps-function around.encoding c_linkage noexcept ref a ps) room h
+      (λ fits enough. absurd fits);
   between = λ around allowed place cs small room h. absurd h;
   between_template = λ around allowed place cs small room h. absurd h;
   as_entity = λ role around allowed place cs small room h. absurd h;
@@ -323,7 +334,8 @@ reads-function-type c_linkage noexcept ref a ps ra rp = record {
   before = λ typed k kind around allowed place cs arguments elements items last are read kept small room h.
       let t : Term = function_type c_linkage noexcept ref a ps in
       template-value typed around allowed k (instance t items) place cs _
-      (referred-before typed k around allowed t kind place cs (function_spelling around.encoding c_linkage noexcept ref a ps) arguments elements
+      (referred-before typed k around allowed t kind place cs
+      (function_spelling around.encoding c_linkage noexcept ref a ps) arguments elements
       items last are read (keeps-function around.encoding c_linkage noexcept ref a ps) kept room h);
   as_argument = λ in_pack around allowed place cs small room h.
       typed-argument in_pack around allowed (function_type c_linkage noexcept ref a ps) place cs _
@@ -345,7 +357,8 @@ reads-function-type c_linkage noexcept ref a ps ra rp = record {
         let s = in-slot slot around allowed t bare in
         fitting-in around allowed t (ReadsAs slot around allowed t) place cs (function_spelling n c_linkage noexcept ref a ps)
         (function_fits c_linkage noexcept a ps) s.behind_s (keeps-function n c_linkage noexcept ref a ps) room h
-        (λ fits enough. function-in noexcept slot around allowed t place cs (function_spelling n c_linkage noexcept ref a ps place cs) all bare
+        (λ fits enough. function-in noexcept slot around allowed t place cs
+        (function_spelling n c_linkage noexcept ref a ps place cs) all bare
         (function-reads c_linkage noexcept ref a ps ra rp around allowed place cs small enough fits))
 
     as_types : (slot : Slot) → Leads (λ n. slot_way slot (ways_of n (function_type c_linkage noexcept ref a ps)))
@@ -361,5 +374,6 @@ reads-function-type c_linkage noexcept ref a ps ra rp = record {
     as_types literal_type = λ around allowed place cs small room h.
         let t : Term = function_type c_linkage noexcept ref a ps in
         let s = in-slot literal_type around allowed t refl in
-        fitting-in around allowed t (ReadsAs literal_type around allowed t) place cs (function_spelling around.encoding c_linkage noexcept ref a ps)
+        fitting-in around allowed t (ReadsAs literal_type around allowed t) place cs
+        (function_spelling around.encoding c_linkage noexcept ref a ps)
         nowhere s.behind_s (keeps-function around.encoding c_linkage noexcept ref a ps) room h (λ fits enough. absurd fits)

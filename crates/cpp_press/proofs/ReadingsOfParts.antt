@@ -47,12 +47,14 @@ reads-operator a b =
 pub reads-literal-operator : (name : List ℕ) → Reading (literal_operator name)
 unfolding ways_of fits_of piece_ways no_ways
 reads-literal-operator name =
-    reads-piece (literal_operator name) _ _ (λ around allowed place cs small room h. literal-operator-piece-reads around allowed name place cs h)
+    reads-piece (literal_operator name) _ _ (λ around allowed place cs small room h. literal-operator-piece-reads around allowed name
+    place cs h)
 
 pub reads-constructor : (digit : ℕ) → Reading (constructor digit)
 unfolding ways_of fits_of piece_ways no_ways
 reads-constructor digit =
-    reads-piece (constructor digit) _ _ (λ around allowed place cs small room h. constructor-piece-reads around allowed digit place cs h.0 h.1)
+    reads-piece (constructor digit) _ _ (λ around allowed place cs small room h. constructor-piece-reads around allowed digit place cs
+    h.0 h.1)
 
 pub reads-destructor : (digit : ℕ) → Reading (destructor digit)
 unfolding ways_of fits_of piece_ways no_ways
@@ -224,7 +226,8 @@ abbrev parameter_fits : ℕ → Fitting
 parameter_fits k around allowed place cs = NamesArgument around allowed k
 
 -- a parameter before its arguments, in a type
-parameter-before : (typed : Bool) (k : ℕ) (around : Around) (allowed : Option ℕ) (j : ℕ) → TemplateKind typed k → (place : ℕ) (cs : List Candidate)
+parameter-before : (typed : Bool) (k : ℕ) (around : Around) (allowed : Option ℕ) (j : ℕ) → TemplateKind typed k
+    → (place : ℕ) (cs : List Candidate)
     → IsSmall around → HasRoom (component around.encoding (parameter j) (parameter_spelling j) place cs)
     → as_component (parameter j) (elim typed as (λ _. Fitting) [ true ↦ parameter_fits j | false ↦ nowhere ]) around allowed place cs
     → InstancedAt around allowed k (parameter j) place cs (component around.encoding (parameter j) (parameter_spelling j) place cs)
@@ -323,10 +326,12 @@ pub reads-boolean : (truth : Bool) → Reading (boolean truth)
 unfolding ways_of fits_of argument_ways no_ways
 reads-boolean true =
     reads-argument (boolean true) _ _ (λ in_pack around allowed place cs small room h.
-    literal-in in_pack around allowed (boolean true) place cs (written (98 ∷ 49 ∷ []) cs) (boolean-literal around allowed true (place + 1) cs))
+    literal-in in_pack around allowed (boolean true) place cs (written (98 ∷ 49 ∷ []) cs) (boolean-literal around allowed true
+    (place + 1) cs))
 reads-boolean false =
     reads-argument (boolean false) _ _ (λ in_pack around allowed place cs small room h.
-    literal-in in_pack around allowed (boolean false) place cs (written (98 ∷ 48 ∷ []) cs) (boolean-literal around allowed false (place + 1) cs))
+    literal-in in_pack around allowed (boolean false) place cs (written (98 ∷ 48 ∷ []) cs) (boolean-literal around allowed false
+    (place + 1) cs))
 
 pub reads-null-pointer : Reading null_pointer
 unfolding ways_of fits_of argument_ways no_ways

@@ -30,7 +30,8 @@ use Rattle.cpp_press.proofs.Fit.{Slot, any_type, bare_type, item_type, parameter
 
 -- a whole name between N and E, as the entity of a local name
 pub entity-nested : (role : Role) (around : Around) (allowed : Option ℕ) (t : Term) (place : ℕ) (cs : List Candidate) (between : Spelling)
-    → SoFar around allowed t false 18 (place + length (codes "N" ++ letters_of role)) cs (between (place + length (codes "N" ++ letters_of role)) cs)
+    → SoFar around allowed t false 18 (place + length (codes "N" ++ letters_of role)) cs (between (place + length
+    (codes "N" ++ letters_of role)) cs)
     → EntityReads role around allowed t place cs (in_N_and_E (letters_of role) between place cs)
 unfolding letters_of in_N_and_E choose alternatives pick is_in in_ranges among kinds is_chain
 entity-nested in_type around allowed t place cs between so_far =
@@ -125,14 +126,16 @@ std-type-reads p r false is k rules around allowed place cs small room h =
     (std-typed p r k rules around allowed place cs is small room (subst (λ q. std_fits p around allowed q cs) (omega arith) h)).bare
 
 -- what stands before arguments, with an N or without
-std-before : (typed b : Bool) (p : Term) → Reading p → is_operator p ≡ b → (k : ℕ) → TemplateKind typed k → (around : Around) (allowed : Option ℕ)
+std-before : (typed b : Bool) (p : Term) → Reading p → is_operator p ≡ b → (k : ℕ) → TemplateKind typed k
+    → (around : Around) (allowed : Option ℕ)
     (place : ℕ) (cs : List Candidate) (arguments : Fitting) (elements : Spelling) (items : Term) (last : Value) → no_items last ≡ items
     → ReadElements around allowed last arguments elements → Keeps (of_elements elements) → IsSmall around
     → (let whole = std_spelling around.encoding p and ended around.encoding (in_std p) and of_elements elements in
     let other = choice (typed && b) (in_N_and_E [] whole) whole in
     HasRoom (other place cs)
     → (elim typed as (λ _. Fitting) [ true ↦ behind_bytes (maybe_N b) (std_fits p) | false ↦ std_fits p ]) around allowed place cs
-    → Behind ((text (maybe_N (typed && b)) and std_spelling around.encoding p) and ended around.encoding (in_std p)) (arguments around allowed) place cs
+    → Behind ((text (maybe_N (typed && b)) and std_spelling around.encoding p) and ended around.encoding (in_std p))
+    (arguments around allowed) place cs
     → TemplateReads typed around allowed k (instance (in_std p) items) place cs (other place cs))
 unfolding in_N_and_E ended
 std-before true true p r is k rules around allowed place cs arguments elements items last are read kept small room h behind =
@@ -141,9 +144,11 @@ std-before true true p r is k rules around allowed place cs arguments elements i
     let rest : Spelling = ended n (in_std p) and of_elements elements in
     let args : Written = elements (place + 1 + length w.bytes + 0 + 1) (more around w.components (in_std p)) in
     let inner : HasRoom ((std_spelling n p and rest) (place + 1) cs) = nested-room [] (std_spelling n p and rest) place cs room in
-    template-nested true k around allowed (instance (in_std p) items) rules place cs (written (w.bytes ++ in_I_and_E args.bytes) args.components)
+    template-nested true k around allowed (instance (in_std p) items) rules place cs (written
+    (w.bytes ++ in_I_and_E args.bytes) args.components)
     ((std-nested p r around allowed (place + 1) cs small
-    (room-first (std_spelling n p) rest (place + 1) cs (keeps-and (ended n (in_std p)) (of_elements elements) (keeps-ended n (in_std p)) kept) inner)
+    (room-first (std_spelling n p) rest (place + 1) cs (keeps-and (ended n (in_std p)) (of_elements elements) (keeps-ended n
+    (in_std p)) kept) inner)
     h).instanced items last args are
     (elements-behind around allowed last arguments elements (in_std p) w (place + 1) (place + length ((78 ∷ w.bytes) ++ [])) read
     (room-rest (std_spelling n p) rest (place + 1) cs inner) (omega (arith, length-append w.bytes [])) behind))
@@ -198,9 +203,11 @@ reads-in-std p r = record {
   as_piece = λ around allowed place cs small room h. absurd h;
   as_encoding = λ around allowed place cs small room h. absurd h;
   as_name = λ q ref around allowed place cs small room h.
-      name-by-letters around allowed (in_std p) q ref place cs (std_spelling around.encoding p) (std_spelling around.encoding p) (std_fits p) (std_fits p)
+      name-by-letters around allowed (in_std p) q ref place cs (std_spelling around.encoding p) (std_spelling around.encoding p)
+      (std_fits p) (std_fits p)
       room h
-      (λ fits enough. template-value false around allowed 8 (in_std p) place cs _ (std-named p r around allowed place cs small enough fits).bare)
+      (λ fits enough. template-value false around allowed 8 (in_std p) place cs _
+      (std-named p r around allowed place cs small enough fits).bare)
       (λ at fits enough. (std-nested p r around allowed at cs small enough fits).bare);
   before = λ typed k kind around allowed place cs arguments elements items last are read kept small room h.
       let n : ℕ = around.encoding in
@@ -214,7 +221,8 @@ reads-in-std p r = record {
       (TemplateReads typed around allowed k (instance (in_std p) items) place cs)
       (template-value typed around allowed k (instance (in_std p) items) place cs) are read kept
       (keeps-choice (typed && is_operator p) (in_N_and_E [] whole) whole (keeps-N-and-E [] whole wholly) wholly) room h
-      (λ none enough. std-before typed (is_operator p) p r refl k kind around allowed place cs arguments elements items last are read kept small
+      (λ none enough. std-before typed (is_operator p) p r refl k kind around allowed place cs arguments elements items last are read
+      kept small
       enough (h.2 none).0 (h.2 none).1);
   as_argument = λ in_pack around allowed place cs small room h.
       typed-argument in_pack around allowed (in_std p) place cs _ (whole item_type around allowed place cs small room h);
@@ -226,12 +234,14 @@ reads-in-std p r = record {
 }
   where
     whole : (slot : Slot) → Leads (λ n. component n (in_std p) (choice (is_operator p) (in_N_and_E [] (std_spelling n p)) (std_spelling n p)))
-        (as_component (in_std p) (behind_bytes (maybe_N (is_operator p)) (std_fits p))) (λ around allowed. ReadsAs slot around allowed (in_std p))
+        (as_component (in_std p) (behind_bytes (maybe_N (is_operator p)) (std_fits p))) (λ around allowed. ReadsAs slot around allowed
+        (in_std p))
     whole slot around allowed place cs small room h =
         let s = in-slot slot around allowed (in_std p) refl in
         let n : ℕ = around.encoding in
         let spelled : Spelling = choice (is_operator p) (in_N_and_E [] (std_spelling n p)) (std_spelling n p) in
-        fitting-in around allowed (in_std p) (ReadsAs slot around allowed (in_std p)) place cs spelled (behind_bytes (maybe_N (is_operator p)) (std_fits p))
+        fitting-in around allowed (in_std p) (ReadsAs slot around allowed (in_std p)) place cs spelled (behind_bytes (maybe_N
+        (is_operator p)) (std_fits p))
         s.behind_s
         (keeps-choice (is_operator p) (in_N_and_E [] (std_spelling n p)) (std_spelling n p)
         (keeps-N-and-E [] (std_spelling n p) (keeps-std n p)) (keeps-std n p)) room h

@@ -72,7 +72,8 @@ joined_fits x p around allowed place cs =
 keeps-joined : (n : ℕ) (x p : Term) → Keeps (joined_spelling n x p)
 keeps-joined n x p = keeps-and (ways_of n x).as_prefix (ways_of n p).as_piece (keeps x n).as_prefix (keeps p n).as_piece
 
-joined-nested : (x p : Term) → Reading x → Reading p → (around : Around) (allowed : Option ℕ) (place : ℕ) (cs : List Candidate) → IsSmall around
+joined-nested : (x p : Term) → Reading x → Reading p → (around : Around) (allowed : Option ℕ) (place : ℕ) (cs : List Candidate)
+    → IsSmall around
     → HasRoom (joined_spelling around.encoding x p place cs) → joined_fits x p around allowed place cs
     → Nested around allowed (within x p) place cs (joined_spelling around.encoding x p place cs)
 unfolding extended after
@@ -81,7 +82,8 @@ joined-nested x p rx rp around allowed place cs small room h =
     let w : Written = (ways_of n x).as_prefix place cs in
     let one : Written = (ways_of n p).as_piece (place + length w.bytes) w.components in
     nested-within around allowed x p place cs w one
-    (rx.as_prefix around allowed place cs small (room-first (ways_of n x).as_prefix (ways_of n p).as_piece place cs (keeps p n).as_piece room) h.0)
+    (rx.as_prefix around allowed place cs small (room-first (ways_of n x).as_prefix (ways_of n p).as_piece place cs
+    (keeps p n).as_piece room) h.0)
     (named-piece (after x true around) allowed 19 p (within x p) (place + length w.bytes) w.components one
     (rp.as_piece (after x true around) allowed (place + length w.bytes) w.components small
     (room-rest (ways_of n x).as_prefix (ways_of n p).as_piece place cs room) h.2)
@@ -90,10 +92,12 @@ joined-nested x p rx rp around allowed place cs small room h =
 -- ## In the scope of an encoding
 
 abbrev local_fits : (x p : Term) → (may : Bool) → Fitting
-local_fits x p may around allowed place cs = (is_encoding x ≡ true) × one_piece (behind x true) may (fits_of p).as_piece around allowed place cs
+local_fits x p may around allowed place cs = (is_encoding x ≡ true)
+    × one_piece (behind x true) may (fits_of p).as_piece around allowed place cs
 
 -- the piece itself
-local-piece : (x p : Term) (may : Bool) → Reading p → (around : Around) (allowed : Option ℕ) (place : ℕ) (cs : List Candidate) → IsSmall around
+local-piece : (x p : Term) (may : Bool) → Reading p → (around : Around) (allowed : Option ℕ) (place : ℕ) (cs : List Candidate)
+    → IsSmall around
     → HasRoom (joined_spelling around.encoding x p place cs) → local_fits x p may around allowed place cs
     → PieceReads around allowed p place cs ((ways_of around.encoding p).as_piece place cs)
 local-piece x p may rp around allowed place cs small room h =
@@ -106,7 +110,8 @@ local-named : (x p : Term) (may : Bool) → Reading p → (k : ℕ) → NameRule
     → HasRoom (joined_spelling around.encoding x p place cs) → local_fits x p may around allowed place cs
     → Named around allowed k (within x p) place cs (joined_spelling around.encoding x p place cs)
 local-named x p may rp k rule around allowed place cs small room h =
-    subst (Named around allowed k (within x p) place cs) (sym (scope-first x around.encoding (ways_of around.encoding p).as_piece place cs h.0))
+    subst (Named around allowed k (within x p) place cs) (sym (scope-first x around.encoding
+    (ways_of around.encoding p).as_piece place cs h.0))
     (named-piece around allowed k p (within x p) place cs ((ways_of around.encoding p).as_piece place cs)
     (local-piece x p may rp around allowed place cs small room h) rule (within-scope around x p h.1.0))
 
@@ -142,13 +147,15 @@ local-in-name x p rp around allowed place cs small room h = go (entity-piece p h
         template-value false around allowed 23 (within x p) place cs _
         (local-named x p (names_entity p) rp 23 (entity-rule p begins) around allowed place cs small room h).bare
     go (inr is) =
-        subst (λ y. NameReads around allowed 23 (within x y) unqualified any_value place cs (joined_spelling around.encoding x y place cs)) (sym is)
+        subst (λ y. NameReads around allowed 23 (within x y) unqualified any_value place cs
+        (joined_spelling around.encoding x y place cs)) (sym is)
         (string-named x around allowed place cs h.0 h.1.0)
 
 abbrev begun_fits : (x p : Term) → Fitting
 begun_fits x p around allowed place cs = local_fits x p (begins_name p) around allowed place cs ⊎ joined_fits x p around allowed place cs
 
-begun-extends : (x p : Term) → Reading x → Reading p → (around : Around) (allowed : Option ℕ) (place : ℕ) (cs : List Candidate) → IsSmall around
+begun-extends : (x p : Term) → Reading x → Reading p → (around : Around) (allowed : Option ℕ) (place : ℕ) (cs : List Candidate)
+    → IsSmall around
     → HasRoom (joined_spelling around.encoding x p place cs) → begun_fits x p around allowed place cs
     → (let w = joined_spelling around.encoding x p place cs in
     Extends around allowed (within x p) place cs (written w.bytes (more around w.components (within x p)))
@@ -182,7 +189,8 @@ unfolding letters_of names_in
 within-entity x p rx rp in_type around allowed place cs small true is room (inl h) =
     (local-named x p (begins_name p) rp 24 (type-entity-rule p h.1.1.1) around allowed place cs small room h.1).bare
 within-entity x p rx rp (in_name_with q ref) around allowed place cs small true is room (inl h) =
-    no-qualifiers 23 around allowed (within x p) q ref place cs (joined_spelling around.encoding x p place cs) (no-letters (name_letters q ref) h.0)
+    no-qualifiers 23 around allowed (within x p) q ref place cs (joined_spelling around.encoding x p place cs) (no-letters
+    (name_letters q ref) h.0)
     (local-in-name x p rp around allowed place cs small room h.1)
 within-entity x p rx rp role around allowed place cs small false is room (inl h) = absurd (let e : false ≡ true = sym is ∙ h.1.0 in cc)
 within-entity x p rx rp role around allowed place cs small true is room (inr h) =
@@ -190,14 +198,16 @@ within-entity x p rx rp role around allowed place cs small true is room (inr h) 
 within-entity x p rx rp role around allowed place cs small false is room (inr h) =
     let at : ℕ = place + length (codes "N" ++ letters_of role) in
     entity-nested role around allowed (within x p) place cs (joined_spelling around.encoding x p)
-    (joined-nested x p rx rp around allowed at cs small (nested-room (letters_of role) (joined_spelling around.encoding x p) place cs room) h).bare
+    (joined-nested x p rx rp around allowed at cs small (nested-room (letters_of role)
+    (joined_spelling around.encoding x p) place cs room) h).bare
 
 -- ## As a name
 
 -- between N and E, with letters or without
 name-nested : (around : Around) (allowed : Option ℕ) (t : Term) (q : Qualifiers) (ref : RefQualifier) (place : ℕ) (cs : List Candidate)
     (between : Spelling)
-    → ((at : ℕ) → at ≡ place + length (78 ∷ name_letters q ref) → HasRoom (between at cs) → SoFar around allowed t false 18 at cs (between at cs))
+    → ((at : ℕ) → at ≡ place + length (78 ∷ name_letters q ref) → HasRoom (between at cs)
+    → SoFar around allowed t false 18 at cs (between at cs))
     → HasRoom (with_letters (name_letters q ref) (in_N_and_E [] between) between place cs)
     → NameReads around allowed 8 t q ref place cs (with_letters (name_letters q ref) (in_N_and_E [] between) between place cs)
 unfolding with_letters in_N_and_E choose alternatives pick is_in in_ranges among kinds is_chain
@@ -224,11 +234,13 @@ unfolding ways_of fits_of fits_nowhere name_ways no_ways template_before is_func
 reads-within x p rx rp = record {
   as_type = as_types;
   as_prefix = λ around allowed place cs small room h.
-      fitting-in around allowed (within x p) (Extends around allowed (within x p)) place cs (joined_spelling around.encoding x p) (begun_fits x p)
+      fitting-in around allowed (within x p) (Extends around allowed (within x p)) place cs (joined_spelling around.encoding x p)
+      (begun_fits x p)
       (prefix-behind-s around allowed (within x p)) (keeps-joined around.encoding x p) room h
       (λ fits enough. (begun-extends x p rx rp around allowed place cs small enough fits).0);
   as_prefix_template = λ around allowed place cs small room h.
-      fitting-in around allowed (within x p) (ExtendsWith around allowed (within x p)) place cs (joined_spelling around.encoding x p) (begun_fits x p)
+      fitting-in around allowed (within x p) (ExtendsWith around allowed (within x p)) place cs (joined_spelling around.encoding x p)
+      (begun_fits x p)
       (extends-with-behind-s around allowed (within x p)) (keeps-joined around.encoding x p) room h
       (λ fits enough. (begun-extends x p rx rp around allowed place cs small enough fits).1);
   between = λ around allowed place cs small room h. (joined-nested x p rx rp around allowed place cs small room h).bare;
