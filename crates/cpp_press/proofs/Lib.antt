@@ -28,7 +28,24 @@ pub mod ReadingEncodings
 pub mod ReadingSymbols
 pub mod ReadingPieces
 pub mod ReadingLocals
-pub mod ReadingWays
-pub mod ReadingQualified
 pub mod ReadingParameters
 pub mod ReadingPrefixes
+pub mod Fit
+pub mod Keeping
+pub mod ReadingSlots
+pub mod ReadingNamed
+pub mod ReadingBetween
+pub mod ReadingTemplates
+pub mod Readings
+pub mod ReadingsOfTypes
+pub mod ReadingsOfNames
+pub mod ReadingsOfStd
+pub mod ReadingsOfWithin
+pub mod ReadingsOfInstances
+pub mod ReadingsOfParts
+pub mod ReadingsOfLists
+pub mod ReadingsOfEncodings
+pub mod FittingLaw
+pub mod Counting
+pub mod ReadLaw
+mod FitRows
