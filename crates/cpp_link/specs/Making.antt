@@ -17,7 +17,7 @@ nodes_of_meant _ = 1
 abbrev pub state_of : List ℕ → Linked → State
 state_of s l = record { candidates = candidates_of (trees_in s l.nodes) l.candidates.items; packs = l.packs }
 
--- a production that is none of the commonest, which `meant` has at hand
+-- a production that is none of the commonest
 abbrev pub IsRare : Production → Type 0
 IsRare Production.NestNext = ⊥
 IsRare Production.SourceName = ⊥
@@ -44,4 +44,9 @@ IsRare Production.Mark = ⊥
 IsRare Production.SourcePiece = ⊥
 IsRare Production.StdType = ⊥
 IsRare Production.Special = ⊥
+IsRare Production.Substitution = ⊥
 IsRare _ = Unit {0}
+
+-- one of the commonest
+abbrev pub IsCommon : Production → Type 0
+IsCommon production = IsRare production → ⊥

@@ -295,7 +295,10 @@ impl Linked {
                 parts,
             ),
             Production::TypeWithS => self.go_as(symbol, Production::TypeWithS, frame, parts),
-            _ => self.go_rare(symbol, production, frame, parts),
+            _ => match self.go_rare(symbol, production, frame, parts) {
+                Ok(then) => Ok(then),
+                Err(refusal) => Err(refusal),
+            },
         }
     }
 

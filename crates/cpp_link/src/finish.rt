@@ -16,17 +16,17 @@ ghost use Rattle.cpp_term.specs.Unfolding as unfolding_;
 ghost use Rattle.cpp_tree.specs.Nodes.{bytes_at, IsWithin};
 ghost use Rattle.cpp_grammar.specs.Unfolding.{production_at};
 ghost use Rattle.cpp_link.specs.Grows.{HasPlace};
-ghost use Rattle.cpp_link.specs.Making.{state_of};
+ghost use Rattle.cpp_link.specs.Making.{IsCommon, IsRare, nodes_of_meant, state_of};
 ghost use Rattle.cpp_link.specs.NodeCount.{makes_at_end};
 ghost use Rattle.cpp_link.specs.Closes.{ends_of};
-ghost use Rattle.cpp_link.specs.Parts.{trees_in, value_in, values_in, packs_of, around_of, candidates_of, IsThere, AreThere, IsKeptThere, AreCandidatesThere};
+ghost use Rattle.cpp_link.specs.Parts.{trees_in, value_in, values_in, packs_of, around_of, candidates_of, meant_value, IsMeantThere, IsThere, AreThere, IsKeptThere, AreCandidatesThere};
 ghost use Rattle.cpp_link.specs.Reads.{maybe_candidate};
 ghost use Rattle.cpp_link.specs.View.{GoesOn, IsPaid, IsWhole, cpp_view};
 
 use crate::dispatch::production_of;
 use crate::linked::Linked;
 use crate::numbers::base36;
-use crate::part::{Candidate, Kept, Part};
+use crate::part::{Candidate, Kept, Meant, Part};
 use cpp_grammar::production::Production;
 use sym_core::{Refusal, Span};
 use sym_link::language::Frame;
@@ -88,7 +88,52 @@ impl Linked {
         Ok(Part::Tree { node, listed: true })
     }
 
-    /// Another rule closes: the node of what it stands for is made, and a type may become a candidate.
+    /// A rule closes that stands for this: its node is made, and a type may become a candidate.
+    ///
+    /// # Errors
+    ///
+    /// `Memory` where a list couldn't grow.
+    #[inline(always)]
+    fn keep(
+        &mut self,
+        symbol: &[u8],
+        production: Production,
+        place: u32,
+        kept: Kept,
+        parts: &[Part],
+        meant: Meant,
+    ) -> Result<Part, Refusal>
+        requires fits { FitsSymbol symbol.now }
+        requires place { place < length symbol.now }
+        requires room { HasPlace symbol.now self.old.nodes 2 }
+        requires paid { IsPaid self.old }
+        requires whole { IsWhole symbol.now self.old }
+        requires there { AreThere symbol.now (length self.old.nodes.nodes) parts.now }
+        requires kept { IsKeptThere (length self.old.nodes.nodes) kept }
+        requires meant { IsMeantThere symbol.now (length self.old.nodes.thunks) (length self.old.nodes.nodes) meant }
+        requires value { meant_value symbol.now self.old.nodes meant ≡ meaning production (slice_index symbol.now place) (around_of (trees_in symbol.now self.old.nodes) kept) (values_in symbol.now self.old.nodes parts.now) }
+        requires nodes { nodes_of_meant meant ≤ ends_of production parts.now }
+        requires makes { nodes_of_meant meant ≡ makes_at_end production (values_in symbol.now self.old.nodes parts.now) }
+        ensures value { IfOk result (λ made. value_in symbol.now self.new.nodes made ≡ meaning production (slice_index symbol.now place) (around_of (trees_in symbol.now self.old.nodes) kept) (values_in symbol.now self.old.nodes parts.now)) }
+        ensures state { OnOk result ((began : State) → began.packs ≡ packs_of kept
+            → unfolding_.behind production (slice_index symbol.now place) (around_of (trees_in symbol.now self.old.nodes) kept) began (values_in symbol.now self.old.nodes parts.now) (state_of symbol.now self.old) ≡ state_of symbol.now self.new) }
+        ensures there { IfOk result (λ made. IsThere symbol.now (length self.new.nodes.nodes) made) }
+        ensures grows { OnOk result (GoesOn symbol.now self.old self.new) }
+        ensures few { length self.new.nodes.nodes ≤ length self.old.nodes.nodes + ends_of production parts.now }
+        ensures makes { OnOk result (length self.new.nodes.nodes ≡ length self.old.nodes.nodes + makes_at_end production (values_in symbol.now self.old.nodes parts.now)) }
+        ensures paid { OnOk result (IsPaid self.new) }
+        ensures whole { OnOk result (IsWhole symbol.now self.new) }
+        ensures memory { IfErr result (λ e. e ≡ refusals.Memory) }
+    {
+        let byte = symbol[place as usize];
+        let made = self.settle(symbol, meant)?;
+        let behind = self.behind(symbol, production, byte, kept, parts, made);
+        self.append(symbol, kept, behind.candidate)?;
+        self.packs = behind.packs;
+        Ok(made)
+    }
+
+    /// A rule closes, of a production that is common and no substitution.
     ///
     /// # Errors
     ///
@@ -102,6 +147,7 @@ impl Linked {
         kept: Kept,
         parts: &[Part],
     ) -> Result<Part, Refusal>
+        requires common { IsCommon production }
         requires fits { FitsSymbol symbol.now }
         requires place { place < length symbol.now }
         requires room { HasPlace symbol.now self.old.nodes 2 }
@@ -120,16 +166,11 @@ impl Linked {
         ensures whole { OnOk result (IsWhole symbol.now self.new) }
         ensures memory { IfErr result (λ e. e ≡ refusals.Memory) }
     {
-        let byte = symbol[place as usize];
-        let meant = self.meant(symbol, production, place, kept, parts)?;
-        let made = self.settle(symbol, meant)?;
-        let behind = self.behind(symbol, production, byte, kept, parts, made);
-        self.append(symbol, kept, behind.candidate)?;
-        self.packs = behind.packs;
-        Ok(made)
+        let meant = self.meant(symbol, production, place, kept, parts);
+        self.keep(symbol, production, place, kept, parts, meant)
     }
 
-    /// What a production closes to that begins at a place, with these parts.
+    /// What a production that is common closes to, that begins at a place, with these parts.
     ///
     /// # Errors
     ///
@@ -143,6 +184,7 @@ impl Linked {
         kept: Kept,
         parts: &[Part],
     ) -> Result<Part, Refusal>
+        requires common { IsCommon production }
         requires fits { FitsSymbol symbol.now }
         requires place { place < length symbol.now }
         requires room { HasPlace symbol.now self.old.nodes 2 }
@@ -167,6 +209,43 @@ impl Linked {
         }
     }
 
+    /// What a production that is rare closes to, that begins at a place, with these parts.
+    ///
+    /// # Errors
+    ///
+    /// `Memory` where a list couldn't grow.
+    #[inline(always)]
+    fn close_rare(
+        &mut self,
+        symbol: &[u8],
+        production: Production,
+        place: u32,
+        kept: Kept,
+        parts: &[Part],
+    ) -> Result<Part, Refusal>
+        requires rare { IsRare production }
+        requires fits { FitsSymbol symbol.now }
+        requires place { place < length symbol.now }
+        requires room { HasPlace symbol.now self.old.nodes 2 }
+        requires paid { IsPaid self.old }
+        requires whole { IsWhole symbol.now self.old }
+        requires there { AreThere symbol.now (length self.old.nodes.nodes) parts.now }
+        requires kept { IsKeptThere (length self.old.nodes.nodes) kept }
+        ensures is { IfOk result (λ made. (began : State) → began.packs ≡ packs_of kept
+            → unfolding_.close production (slice_index symbol.now place) (around_of (trees_in symbol.now self.old.nodes) kept) place began (values_in symbol.now self.old.nodes parts.now) (state_of symbol.now self.old) ≡ Ok (found (value_in symbol.now self.new.nodes made) (state_of symbol.now self.new))) }
+        ensures refused { IfErr result (λ e. (began : State)
+            → Fails e (unfolding_.close production (slice_index symbol.now place) (around_of (trees_in symbol.now self.old.nodes) kept) place began (values_in symbol.now self.old.nodes parts.now) (state_of symbol.now self.old))) }
+        ensures there { IfOk result (λ made. IsThere symbol.now (length self.new.nodes.nodes) made) }
+        ensures grows { OnOk result (GoesOn symbol.now self.old self.new) }
+        ensures few { length self.new.nodes.nodes ≤ length self.old.nodes.nodes + ends_of production parts.now }
+        ensures makes { OnOk result (length self.new.nodes.nodes ≡ length self.old.nodes.nodes + makes_at_end production (values_in symbol.now self.old.nodes parts.now)) }
+        ensures paid { OnOk result (IsPaid self.new) }
+        ensures whole { OnOk result (IsWhole symbol.now self.new) }
+    {
+        let meant = self.meant_rare(symbol, production, place, kept, parts)?;
+        self.keep(symbol, production, place, kept, parts, meant)
+    }
+
     /// The rule of the frame closes, of this production, over all its parts: what it means takes their place.
     ///
     /// # Errors
@@ -180,6 +259,7 @@ impl Linked {
         frame: &Frame<Kept>,
         parts: &mut Vec<Part>,
     ) -> Result<(), Refusal>
+        requires common { IsCommon production }
         requires numbered { production ≡ production_at frame.now.rule }
         requires room { HasRoom (cpp_view symbol.now) symbol.now self.old (owed_behind (cpp_view symbol.now) frame.now parts.old.items) }
         requires open { IsOpenAt (cpp_view symbol.now) symbol.now self.old frame.now parts.old.items }
@@ -207,7 +287,7 @@ impl Linked {
     ///
     /// # Errors
     ///
-    /// `BadReference` at a substitution that names no candidate that it may name, `Memory` where a list couldn't grow.
+    /// `Memory` where a list couldn't grow.
     #[inline(never)]
     fn finish_rare(
         &mut self,
@@ -216,6 +296,7 @@ impl Linked {
         frame: &Frame<Kept>,
         parts: &mut Vec<Part>,
     ) -> Result<(), Refusal>
+        requires rare { IsRare production }
         requires numbered { production ≡ production_at frame.now.rule }
         requires room { HasRoom (cpp_view symbol.now) symbol.now self.old (owed_behind (cpp_view symbol.now) frame.now parts.old.items) }
         requires open { IsOpenAt (cpp_view symbol.now) symbol.now self.old frame.now parts.old.items }
@@ -228,7 +309,15 @@ impl Linked {
         ensures pays { OnOk result ((at : ℕ) → Pays (cpp_view symbol.now) self.old self.new at at) }
         ensures capacity { vec_capacity parts.old ≤ vec_capacity parts.new }
     {
-        self.finish_as(symbol, production, frame, parts)
+        let made = self.close_rare(
+            symbol,
+            production,
+            frame.place,
+            frame.kept,
+            &parts[frame.base..],
+        )?;
+        put(parts, frame.base, made)?;
+        Ok(())
     }
 
     /// The rule of the frame closes over all its parts: what it means takes their place. The productions that are common

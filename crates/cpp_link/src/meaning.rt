@@ -14,7 +14,7 @@ ghost use Rattle.cpp_link.specs.declared.part.Part.{Part};
 ghost use Rattle.cpp_tree.specs.declared.node.Node.{Node};
 ghost use Rattle.cpp_link.specs.Parts.{trees_in, value_of, value_in, values_in, around_of, meant_value, AreThere, IsThere, IsMeantThere, IsPrefixThere, name_of};
 ghost use Rattle.cpp_link.specs.Closes.{ends_of};
-ghost use Rattle.cpp_link.specs.Making.{IsRare, nodes_of_meant};
+ghost use Rattle.cpp_link.specs.Making.{IsCommon, IsRare, nodes_of_meant};
 ghost use Rattle.cpp_link.specs.NodeCount.{makes_at_end};
 
 use crate::linked::Linked;
@@ -79,14 +79,15 @@ fn qualified(restrict: bool, volatile: bool, const_: bool, ty: u32) -> Meant
 }
 
 impl Linked {
-    /// What a production stands for that is none of the commonest, which `meant` has. This code takes room for the parts of each.
+    /// What a production that is rare stands for, that begins at a place, given its parts. This code takes room for the parts of
+    /// each.
     ///
     /// # Errors
     ///
-    /// Those of `meant`.
-    #[tactic(auto, unfolding(cpp_term::specs::Meaning::meaning, cpp_term::specs::Meaning::qualified_by, cpp_term::specs::Meaning::listed_value, cpp_term::specs::Meaning::function_of, cpp_term::specs::Meaning::with_item, cpp_term::specs::Values::tree_of, cpp_term::specs::Values::is_there, crate::specs::Parts::around_of, crate::specs::Parts::meant_value, crate::specs::Parts::value_of, cpp_tree::specs::Nodes::tree_of, cpp_tree::specs::Nodes::piece_of, cpp_tree::specs::Nodes::thunk_of, cpp_tree::specs::Nodes::adjustment_of, crate::specs::Owed::made_at_end, crate::specs::Closes::ends_of, crate::specs::Making::nodes_of_meant, crate::specs::NodeCount::makes_at_end, crate::specs::Owed::made_at_end))]
+    /// `Memory` where a number is past 64 bits or a suffix isn't behind its byte, which no parts of a symbol come to.
+    #[tactic(auto, unfolding(cpp_term::specs::Meaning::meaning, cpp_term::specs::Meaning::qualified_by, cpp_term::specs::Meaning::listed_value, cpp_term::specs::Meaning::function_of, cpp_term::specs::Meaning::with_item, cpp_term::specs::Values::tree_of, cpp_term::specs::Values::is_there, crate::specs::Parts::around_of, crate::specs::Parts::meant_value, crate::specs::Parts::value_of, cpp_tree::specs::Nodes::tree_of, cpp_tree::specs::Nodes::piece_of, cpp_tree::specs::Nodes::thunk_of, cpp_tree::specs::Nodes::adjustment_of, crate::specs::Owed::made_at_end, crate::specs::Closes::ends_of, crate::specs::Making::nodes_of_meant, crate::specs::NodeCount::makes_at_end))]
     #[inline(never)]
-    fn meant_rare(
+    pub fn meant_rare(
         &self,
         symbol: &[u8],
         production: Production,
@@ -119,7 +120,6 @@ impl Linked {
             Production::Discriminator => Meant::Given(self.given(symbol, parts, 0)),
             Production::ItemIsType => Meant::Given(self.given(symbol, parts, 0)),
             Production::LiteralWithD => Meant::Given(self.given(symbol, parts, 0)),
-            Production::Substitution => Meant::Given(Part::Nothing),
             Production::RefEnd => Meant::Given(Part::Nothing),
             Production::NonVirtualOffset => Meant::Given(Part::Adjusted(Adjustment::NonVirtual(
                 self.signed(symbol, parts, 0),
@@ -415,6 +415,7 @@ impl Linked {
             Production::TypeWithS => unreachable!(),
             Production::AbbreviatedType => unreachable!(),
             Production::Special => unreachable!(),
+            Production::Substitution => unreachable!(),
             Production::StdType => unreachable!(),
             Production::SourcePiece => unreachable!(),
             Production::Mark => unreachable!(),
@@ -425,12 +426,8 @@ impl Linked {
         })
     }
 
-    /// What a production stands for, that begins at a place with this byte, given its parts.
-    ///
-    /// # Errors
-    ///
-    /// `Memory` where a number is past 64 bits or a suffix isn't behind its byte, which no parts of a symbol come to.
-    #[tactic(auto, unfolding(cpp_term::specs::Meaning::meaning, cpp_term::specs::Meaning::qualified_by, cpp_term::specs::Meaning::listed_value, cpp_term::specs::Meaning::function_of, cpp_term::specs::Meaning::with_item, cpp_term::specs::Values::tree_of, cpp_term::specs::Values::is_there, crate::specs::Parts::around_of, crate::specs::Parts::meant_value, crate::specs::Parts::value_of, cpp_tree::specs::Nodes::tree_of, cpp_tree::specs::Nodes::piece_of, cpp_tree::specs::Nodes::thunk_of, cpp_tree::specs::Nodes::adjustment_of, crate::specs::Owed::made_at_end, crate::specs::Closes::ends_of, crate::specs::Making::nodes_of_meant, crate::specs::NodeCount::makes_at_end, crate::specs::Owed::made_at_end))]
+    /// What a production that is common stands for, that begins at a place, given its parts.
+    #[tactic(auto, unfolding(cpp_term::specs::Meaning::meaning, cpp_term::specs::Meaning::qualified_by, cpp_term::specs::Meaning::listed_value, cpp_term::specs::Meaning::function_of, cpp_term::specs::Meaning::with_item, cpp_term::specs::Values::tree_of, cpp_term::specs::Values::is_there, crate::specs::Parts::around_of, crate::specs::Parts::meant_value, crate::specs::Parts::value_of, cpp_tree::specs::Nodes::tree_of, cpp_tree::specs::Nodes::piece_of, cpp_tree::specs::Nodes::thunk_of, cpp_tree::specs::Nodes::adjustment_of, crate::specs::Owed::made_at_end, crate::specs::Closes::ends_of, crate::specs::Making::nodes_of_meant, crate::specs::NodeCount::makes_at_end))]
     #[inline(always)]
     pub fn meant(
         &self,
@@ -439,20 +436,20 @@ impl Linked {
         place: u32,
         kept: Kept,
         parts: &[Part],
-    ) -> Result<Meant, Refusal>
+    ) -> Meant
+        requires common { IsCommon production }
         requires fits { FitsSymbol symbol.now }
         requires place { place < length symbol.now }
         requires table { IsTable (over symbol.now self.now.nodes) }
         requires there { AreThere symbol.now (length self.now.nodes.nodes) parts.now }
         requires prefix { IsPrefixThere (length self.now.nodes.nodes) (name_of kept) }
-        ensures is { IfOk result (λ meant. meant_value symbol.now self.now.nodes meant ≡ meaning production (slice_index symbol.now place) (around_of (trees_in symbol.now self.now.nodes) kept) (values_in symbol.now self.now.nodes parts.now)) }
-        ensures there { IfOk result (λ meant. IsMeantThere symbol.now (length self.now.nodes.thunks) (length self.now.nodes.nodes) meant) }
-        ensures nodes { IfOk result (λ meant. nodes_of_meant meant ≤ ends_of production parts.now) }
-        ensures makes { IfOk result (λ meant. nodes_of_meant meant ≡ makes_at_end production (values_in symbol.now self.now.nodes parts.now)) }
-        ensures memory { IfErr result (λ e. e ≡ refusals.Memory) }
+        ensures is { meant_value symbol.now self.now.nodes result ≡ meaning production (slice_index symbol.now place) (around_of (trees_in symbol.now self.now.nodes) kept) (values_in symbol.now self.now.nodes parts.now) }
+        ensures there { IsMeantThere symbol.now (length self.now.nodes.thunks) (length self.now.nodes.nodes) result }
+        ensures nodes { nodes_of_meant result ≤ ends_of production parts.now }
+        ensures makes { nodes_of_meant result ≡ makes_at_end production (values_in symbol.now self.now.nodes parts.now) }
     {
         let byte = symbol[place as usize];
-        Ok(match production {
+        match production {
             Production::NestWithS => Meant::Given(self.given(symbol, parts, 0)),
             Production::NestSource => Meant::Given(self.given(symbol, parts, 1)),
             Production::NestAbbreviated => Meant::Given(self.given(symbol, parts, 1)),
@@ -507,7 +504,8 @@ impl Linked {
             }),
             Production::StdType => made(Node::InStd(self.piece(symbol, parts, 0)), false),
             Production::Special => Meant::Given(self.given(symbol, parts, 0)),
-            _ => return self.meant_rare(symbol, production, place, kept, parts),
-        })
+            Production::Substitution => Meant::Given(Part::Nothing),
+            _ => unreachable!(),
+        }
     }
 }

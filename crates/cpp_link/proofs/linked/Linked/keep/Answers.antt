@@ -5,7 +5,7 @@ use Rattle.cpp_link.specs.declared.linked.Linked.{Linked}
 use Rattle.cpp_link.specs.Parts.{trees_in, values_in, around_of, AreCandidatesThere}
 use Rattle.cpp_link.specs.Staying.{around_stays, values_stay, candidates_more}
 use Rattle.cpp_link.proofs.Making.{parts_more, state_behind}
-use Rattle.cpp_link.proofs.linked.Linked.make.Goals as goal
+use Rattle.cpp_link.proofs.linked.Linked.keep.Goals as goal
 
 pub behind-behind-requires-clause-there : goal.behind-behind-requires-clause-there
 behind-behind-requires-clause-there c = parts_more c.args.symbol.now _ _ c.args.parts.now c.in_ok-made.ensures.grows.least c.requires.there
@@ -16,7 +16,7 @@ behind-behind-requires-clause-value c =
     let old = c.args.self.now.nodes in
     let new = c.settle.new.self.nodes in
     let byte = slice_index s c.args.place in
-    c.in_ok-made.ensures.value ∙ c.in_ok-meant.ensures.is
+    c.in_ok-made.ensures.value ∙ c.requires.value
     ∙ ap (λ a. meaning c.args.production byte a (values_in s old c.args.parts.now)) (sym (around_stays s old new c.in_ok-made.ensures.grows.stays c.args.kept c.requires.kept))
     ∙ ap (λ vs. meaning c.args.production byte (around_of (trees_in s new) c.args.kept) vs) (sym (values_stay s old new c.in_ok-made.ensures.grows.stays c.args.parts.now c.requires.there))
 
