@@ -1,6 +1,6 @@
 // What is done before the next part of a rule.
 
-ghost use Rattle.std.specs.Prelude.{◌≡◌, ℕ, ◌+◌, ◌<◌, ◌≤◌, ◌∷◌, ◌++◌, [], List, length, take, drop, true, false, Some, None, IfOk, IfErr, OnOk, vec_capacity};
+ghost use Rattle.std.specs.Prelude.{◌≡◌, ℕ, ◌+◌, ◌<◌, ◌≤◌, ◌∷◌, ◌++◌, [], List, length, take, drop, true, false, Some, None, IfOk, IfErr, OnOk, vec_capacity, OnErr};
 ghost use Rattle.sym_core.specs.declared.refusal.Refusal.TheVariants as refusals;
 ghost use Rattle.sym_link.specs.Linking.{HasRoom, Adds, Pays, owed_behind, owed_next};
 ghost use Rattle.sym_link.specs.Threads.{IsOpenAt, GoesOn, AddsBefore};
@@ -16,6 +16,7 @@ ghost use Rattle.cpp_link.specs.Parts.{trees_in, values_in, tree_of_node, around
 ghost use Rattle.cpp_link.specs.Reads.{with_candidate, named_if, appended_if};
 ghost use Rattle.cpp_link.specs.Stepping.{IsStepOf, Takes, CountsStep, nodes_of_step, quiet_parts};
 ghost use Rattle.cpp_link.specs.View.{Surrounds, cpp_view};
+ghost use Rattle.cpp_link.specs.Room.{KeepsRoom, LacksRoom};
 
 use crate::dispatch::production_of;
 use crate::linked::Linked;
@@ -85,6 +86,8 @@ impl Linked {
         ensures is { OnOk result (with_candidate (around_of (trees_in symbol.now self.old.nodes) kept) (trees_in symbol.now self.old.nodes) candidate
             (record { candidates = candidates_of (trees_in symbol.now self.old.nodes) self.old.candidates.items; packs = packs }) ≡ state_of symbol.now self.new) }
         ensures memory { IfErr result (λ e. e ≡ refusals.Memory) }
+        ensures keeps { KeepsRoom self.old self.new }
+        ensures full { OnErr result (LacksRoom self.old self.new) }
     {
         self.append(symbol, kept, candidate)?;
         self.packs = packs;
@@ -118,6 +121,8 @@ impl Linked {
         ensures is { OnOk result (appended_if is_candidate (around_of (trees_in symbol.now self.old.nodes) kept) (tree_of_node symbol.now self.old.nodes node)
             (record { candidates = candidates_of (trees_in symbol.now self.old.nodes) self.old.candidates.items; packs = packs }) ≡ state_of symbol.now self.new) }
         ensures memory { IfErr result (λ e. e ≡ refusals.Memory) }
+        ensures keeps { KeepsRoom self.old self.new }
+        ensures full { OnErr result (LacksRoom self.old self.new) }
     {
         let number = self.add(symbol, node)?;
         self.note(symbol, kept, candidate_if(is_candidate, number), packs)?;
@@ -166,6 +171,8 @@ impl Linked {
             → CountsStep production self.old self.new (drop base parts.old.items) (drop base parts.new.items) result }
         ensures capacity { vec_capacity parts.old ≤ vec_capacity parts.new }
         ensures memory { IfErr result (λ e. e ≡ refusals.Memory) }
+        ensures keeps { KeepsRoom self.old self.new }
+        ensures full { OnErr result (LacksRoom self.old self.new) }
     {
         match step {
             Step::Go {

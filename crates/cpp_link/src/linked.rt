@@ -1,6 +1,6 @@
 // What is linked of a symbol so far.
 
-ghost use Rattle.std.specs.Prelude.{◌≡◌, ℕ, ◌<◌, ◌≤◌, [], List, length, Option, Ok, IfOk, IfErr, OnOk};
+ghost use Rattle.std.specs.Prelude.{◌≡◌, ℕ, ◌<◌, ◌≤◌, [], List, length, Option, Ok, IfOk, IfErr, OnOk, OnErr};
 ghost use Rattle.sym_core.specs.declared.refusal.Refusal.TheVariants as refusals;
 ghost use Rattle.sym_link.specs.Threads.{IsTaken};
 ghost use Rattle.cpp_term.specs.Unfolding.{first_state};
@@ -8,6 +8,7 @@ ghost use Rattle.cpp_tree.specs.Nodes.{IsArgumentsBelow};
 ghost use Rattle.cpp_link.specs.Parts.{trees_in, around_of, candidates_of, AreCandidatesThere};
 ghost use Rattle.cpp_link.specs.Reads.{with_candidate};
 ghost use Rattle.cpp_link.specs.View.{Holds, IsPaid, cpp_view};
+ghost use Rattle.cpp_link.specs.Room.{KeepsRoom, LacksRoom};
 
 use crate::part::{Candidate, Kept, Part};
 use cpp_tree::Nodes;
@@ -44,6 +45,7 @@ impl Linked {
         ensures size { OnOk result (length self.new.nodes.nodes ≡ 3) }
         ensures paid { OnOk result (IsPaid self.new) }
         ensures memory { IfErr result (λ e. e ≡ refusals.Memory) }
+        ensures full { OnErr result (self.old.nodes.node_room < 3) }
     {
         self.candidates.clear();
         self.packs = None;
@@ -72,6 +74,8 @@ impl Linked {
             (record { candidates = candidates_of (trees_in symbol.now self.old.nodes) self.old.candidates.items; packs = packs })
             ≡ record { candidates = candidates_of (trees_in symbol.now self.old.nodes) self.new.candidates.items; packs = packs }) }
         ensures memory { IfErr result (λ e. e ≡ refusals.Memory) }
+        ensures keeps { KeepsRoom self.old self.new }
+        ensures full { OnErr result (LacksRoom self.old self.new) }
     {
         match candidate {
             None => Ok(()),
