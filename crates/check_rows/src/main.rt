@@ -24,38 +24,58 @@ const FAILED: u8 = 1;
 /// The status where memory ran out, or reading or writing failed.
 const FAULT: u8 = 3;
 
+/// What became of the rows: whether there were some, whether one doesn't hold, and whether memory ran out for one.
+#[derive(Clone, Copy)]
+struct Outcome {
+    some: bool,
+    failed: bool,
+    lacked: bool,
+}
+
+/// Names the rows that don't hold, by their lines.
+fn check_each<R: Print + AllocGlobal>(
+    rt: &R,
+    lists: &mut Lists,
+    rows: &[u8],
+) -> io::Result<Outcome> {
+    let mut outcome = Outcome {
+        some: false,
+        failed: false,
+        lacked: false,
+    };
+    for (line, row) in rows.split(|byte| *byte == b'\n').enumerate() {
+        if row.is_empty() || row.starts_with(b"#") {
+            continue;
+        }
+        outcome.some = true;
+        match holds(rt.alloc(), lists, row) {
+            Ok(true) => {}
+            Err(Refusal::Memory) => {
+                outcome.lacked = true;
+                println!(rt; "row {}: out of memory", line.saturating_add(1))?;
+            }
+            _ => {
+                outcome.failed = true;
+                println!(rt; "row {} doesn't hold", line.saturating_add(1))?;
+            }
+        }
+    }
+    Ok(outcome)
+}
+
 /// Names the rows that don't hold, by their lines, and says whether all do.
 fn check<R: Input + Print + AllocGlobal>(rt: &R) -> io::Result<u8> {
     let alloc = rt.alloc();
     let mut input = Vec::new(alloc);
     rt.reader().read_to_end(&mut input)?;
     let mut lists = Lists::new(alloc);
+    let outcome = check_each(rt, &mut lists, &input)?;
     let mut status = FAILED;
-    let mut some = false;
-    let mut failed = false;
-    let mut lacked = false;
-    for (line, row) in input.split(|byte| *byte == b'\n').enumerate() {
-        if row.is_empty() || row.starts_with(b"#") {
-            continue;
-        }
-        some = true;
-        match holds(alloc, &mut lists, row) {
-            Ok(true) => {}
-            Err(Refusal::Memory) => {
-                lacked = true;
-                println!(rt; "row {}: out of memory", line.saturating_add(1))?;
-            }
-            _ => {
-                failed = true;
-                println!(rt; "row {} doesn't hold", line.saturating_add(1))?;
-            }
-        }
-    }
-    if some && !failed {
+    if outcome.some && !outcome.failed {
         status = HELD;
         println!(rt; "each row holds")?;
     }
-    if lacked {
+    if outcome.lacked {
         status = FAULT;
     }
     Ok(status)

@@ -1,6 +1,5 @@
 // The calls of a mangling's crate, by names that both crates' calls have.
 
-ghost use Rattle.std.specs.Prelude.{◌≡◌, true, IfOk, IfSome};
 ghost use Rattle.sym_core.specs.Number.{FitsSymbol};
 
 use crate::feeding::fed;
