@@ -26,3 +26,4 @@ pub mod ReadingWays
 pub mod ReadingQualified
 pub mod ReadingParameters
 pub mod ReadingPrefixes
+pub mod Fit
