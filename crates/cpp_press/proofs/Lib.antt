@@ -6,6 +6,9 @@ pub mod Growing
 pub mod ApartTrees
 pub mod Covering
 pub mod CoveredTrees
+pub mod Parts
+pub mod Keeping
+pub mod KnownTrees
 pub mod Tokens
 pub mod Reading
 pub mod ReadingReferences
