@@ -9,6 +9,7 @@ pub mod CoveredTrees
 pub mod Parts
 pub mod Keeping
 pub mod KnownTrees
+pub mod Complete
 pub mod Tokens
 pub mod Reading
 pub mod ReadingReferences

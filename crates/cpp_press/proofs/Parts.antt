@@ -41,21 +41,31 @@ abbrev pub UnqualifiedOr : Term → (inside : Type 0) → (x : Term) → Type 0
 UnqualifiedOr (function_type c_linkage noexcept ref returned parameters) inside x = inside
 UnqualifiedOr t inside x = ItselfOr t inside x
 
+-- the scope of an encoding is no component as a prefix
+abbrev pub PrefixOr : Term → (inside : Type 0) → (x : Term) → Type 0
+PrefixOr (function name q ref returned parameters) inside x = ⊥
+PrefixOr (object name q ref) inside x = ⊥
+PrefixOr (special l type) inside x = ⊥
+PrefixOr (thunk kind e) inside x = ⊥
+PrefixOr (guard name q ref) inside x = ⊥
+PrefixOr t inside x = ItselfOr t inside x
+
 -- of what is in an encoding, what has no free parameters
 abbrev pub Shut : (inside : Type 0) → (x : Term) → Type 0
 Shut inside x = (is_open x ≡ false) × inside
 
--- the components that a tree is spelled from, without itself
+-- the components that a tree is spelled from, without itself: of an encoding those that may be referred to outside
 abbrev pub Inside : Term → (x : Term) → Type 0
 Inside (symbol e suffix) x = Shut (Inside e x) x
-Inside (function name q ref returned parameters) x = Inside name x ⊎ (ItselfOr returned (Inside returned x) x ⊎ Inside parameters x)
-Inside (object name q ref) x = Inside name x
-Inside (special l type) x = ItselfOr type (Inside type x) x
+Inside (function name q ref returned parameters) x =
+    Shut (Inside name x ⊎ (ItselfOr returned (Inside returned x) x ⊎ Inside parameters x)) x
+Inside (object name q ref) x = Shut (Inside name x) x
+Inside (special l type) x = Shut (ItselfOr type (Inside type x) x) x
 Inside (thunk kind e) x = Shut (Inside e x) x
-Inside (guard name q ref) x = Inside name x
+Inside (guard name q ref) x = Shut (Inside name x) x
 Inside (alone p) x = Inside p x
 Inside (in_std p) x = Inside p x
-Inside (within prefix p) x = ItselfOr prefix (Inside prefix x) x ⊎ Inside p x
+Inside (within prefix p) x = PrefixOr prefix (Inside prefix x) x ⊎ Inside p x
 Inside (instance template arguments) x = ItselfOr template (Inside template x) x ⊎ Inside arguments x
 Inside (local e entity discriminator) x = Shut (Inside e x) x ⊎ Inside entity x
 Inside (lambda parameters k) x = Inside parameters x
@@ -80,8 +90,20 @@ Inside _ x = ⊥
 abbrev pub Whole : Term → (x : Term) → Type 0
 Whole t x = ItselfOr t (Inside t x) x
 
+abbrev pub Prefixing : Term → (x : Term) → Type 0
+Prefixing t x = PrefixOr t (Inside t x) x
+
 abbrev pub Unqualified : Term → (x : Term) → Type 0
 Unqualified t x = UnqualifiedOr t (Inside t x) x
+
+pub prefix-whole : (t x : Term) (inside : Type 0) → PrefixOr t inside x → ItselfOr t inside x
+prefix-whole (function name q ref returned parameters) x inside none = absurd none
+prefix-whole (object name q ref) x inside none = absurd none
+prefix-whole (special l type) x inside none = absurd none
+prefix-whole (thunk kind e) x inside none = absurd none
+prefix-whole (guard name q ref) x inside none = absurd none
+prefix-whole (symbol e suffix) x inside w = w
+prefix-whole t x inside w = w
 
 -- ## What stands among components
 
