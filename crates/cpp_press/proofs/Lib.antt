@@ -10,6 +10,7 @@ pub mod Parts
 pub mod Keeping
 pub mod KnownTrees
 pub mod Complete
+pub mod Adding
 pub mod Tokens
 pub mod Reading
 pub mod ReadingReferences
