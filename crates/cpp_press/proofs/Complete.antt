@@ -8,7 +8,7 @@ use Rattle.cpp_grammar.specs.Scope.{is_open}
 use Rattle.cpp_grammar.specs.Values.{Candidate}
 use Rattle.cpp_press.specs.Components.{Spelling}
 use Rattle.cpp_press.proofs.Parts.{IsComponent, ItselfOr, PrefixOr, UnqualifiedOr, Shut, Inside, Whole, Has, has-before, has-behind, has-either, has-itself, same-means, has-closed}
-use Rattle.cpp_press.proofs.Keeping.{Stands, AddsKnown, KeepsTo, known-has}
+use Rattle.cpp_press.proofs.Known.{Stands, AddsKnown, KeepsTo, known-has}
 
 -- ## What is in a closed tree is closed
 

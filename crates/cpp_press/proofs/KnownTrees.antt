@@ -9,7 +9,7 @@ use Rattle.cpp_press.specs.Texts.{ordinal, signed_text, qualifier_letters, mark_
 use Rattle.cpp_press.specs.Components.{Spelling, ended, component}
 use Rattle.cpp_press.specs.Pressing.{Ways, no_ways, type_ways, function_text, in_N_and_E, with_letters, name_ways, template_before, is_operator, is_one_piece, entity_text, local_text, begun, encoding_ways, piece_ways, argument_ways, ways_of}
 use Rattle.cpp_press.proofs.Parts.{IsComponent, ItselfOr, Shut, Inside, Whole, Prefixing, Unqualified, prefix-whole}
-use Rattle.cpp_press.proofs.Keeping.{KeepsTo, KeepsBehind, OrOpen, text-keeps, and-keeps, behind-and-keeps, behind-bytes-keeps, keeps-behind, ended-keeps, component-keeps, in-N-and-E-keeps, before-keeps, begun-keeps}
+use Rattle.cpp_press.proofs.Known.{KeepsTo, KeepsBehind, OrOpen, text-keeps, and-keeps, behind-and-keeps, behind-bytes-keeps, keeps-behind, ended-keeps, component-keeps, in-N-and-E-keeps, before-keeps, begun-keeps}
 
 abbrev pub In : (P R : Term → Type 0) → Type 0
 In P R = (x : Term) → P x → R x

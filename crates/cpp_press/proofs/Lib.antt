@@ -7,7 +7,7 @@ pub mod ApartTrees
 pub mod Covering
 pub mod CoveredTrees
 pub mod Parts
-pub mod Keeping
+pub mod Known
 pub mod KnownTrees
 pub mod Complete
 pub mod Adding
