@@ -238,8 +238,7 @@ type_fits own spelled = record fits_nowhere {
   as_type = λ slot. as_component own (spelled slot);
   as_prefix = as_reference own;
   as_prefix_template = as_reference own;
-  before = λ typed arguments around allowed place cs.
-      as_reference own around allowed place cs × Behind (ways_of around.encoding own).as_type (arguments around allowed) place cs;
+  before = λ typed arguments. as_template own nowhere (λ n. text []) arguments;
   as_argument = λ in_pack. as_component own (spelled item_type);
 }
 

@@ -32,3 +32,8 @@ pub mod ReadingQualified
 pub mod ReadingParameters
 pub mod ReadingPrefixes
 pub mod Fit
+pub mod Keeping
+pub mod ReadingSlots
+pub mod ReadingNamed
+pub mod ReadingBetween
+pub mod ReadingTemplates
