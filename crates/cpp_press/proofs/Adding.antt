@@ -1,14 +1,13 @@
 -- What fits adds the components in it, or finds them.
-use Rattle.std.proofs.Common.{◌≡◌, ℕ, suc, ◌+◌, ◌<◌, ◌≤◌, ◌⊎◌, inl, inr, length, List, [], ◌∷◌, ◌++◌, Option, Some, None, Bool, true, false, refl, ap, arith, sym, subst, ◌∙◌, append-nil, length-append}
+use Rattle.std.proofs.Common.{◌≡◌, ℕ, ◌+◌, ◌⊎◌, inl, inr, length, List, [], ◌∷◌, ◌++◌, Option, Some, None, true, false, refl, arith, sym, subst, length-append}
 use Rattle.std.specs.Prelude.{codes}
 use Rattle.sym_spell.specs.Pressing as spell
-use Rattle.sym_spell.specs.Pressing.{◌and◌, text, nothing}
+use Rattle.sym_spell.specs.Pressing.{◌and◌, text}
 use Rattle.cpp_grammar.specs.Term.{Term}
-use Rattle.cpp_grammar.specs.Scope.{is_open}
 use Rattle.cpp_grammar.specs.Values.{Candidate, Around}
 use Rattle.cpp_press.specs.Components.{Spelling, first_equal, reference, ended, spelled_out, referred, component}
 use Rattle.cpp_press.specs.Pressing.{in_N_and_E, with_letters, template_before}
-use Rattle.cpp_press.proofs.Parts.{IsComponent, Shut, Inside, Whole, Has, has-before, has-itself, has-closed, found-stands}
+use Rattle.cpp_press.proofs.Parts.{Shut, Inside, Whole, Has, has-before, has-itself, has-closed, found-stands}
 use Rattle.cpp_press.proofs.KnownTrees.{In}
 use Rattle.cpp_press.proofs.Complete.{Complete, complete-ended, complete-has}
 use Rattle.cpp_press.proofs.Fit.{Standing, Fitting, Behind, IsWithoutLetters, by_letters}
@@ -111,7 +110,7 @@ component-adds n own F spelling one place cs fits complete = go (first_equal n o
     go None is = tree-ended n own cs (spelling place cs).components (one place cs (fits is) complete)
 
 -- a template name and its arguments, without an N
-whole-adds : (n : ℕ) (own : Term) (Q : Term → Type 0) (F G : Standing) (between arguments : Spelling) → Adds n (Inside own) F between
+pub whole-adds : (n : ℕ) (own : Term) (Q : Term → Type 0) (F G : Standing) (between arguments : Spelling) → Adds n (Inside own) F between
     → Adds n Q G arguments → (place : ℕ) (cs : List Candidate) → F place cs → Behind between (Behind (ended n own) G) place cs → Complete cs
     → AddsParts n (Either (Whole own) Q) cs ((between and ended n own and arguments) place cs).components
 unfolding ended

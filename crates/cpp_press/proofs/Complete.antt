@@ -1,14 +1,13 @@
 -- Lists of components in which each stands with the components in it, and the candidates of a reader that stand in such a list.
-use Rattle.std.proofs.Common.{◌≡◌, ℕ, suc, ◌+◌, ◌<◌, ◌≤◌, ◌⊎◌, inl, inr, length, List, [], ◌∷◌, ◌++◌, Option, Some, None, Bool, true, false, refl, ap, arith, sym, subst, ◌∙◌, append_assoc, append-nil}
+use Rattle.std.proofs.Common.{◌≡◌, ℕ, ◌<◌, ◌≤◌, ◌⊎◌, inl, inr, List, [], ◌∷◌, ◌++◌, Bool, true, false, refl, ap, arith, sym, subst, ◌∙◌}
 use Rattle.std.specs.Prelude.{◌||◌}
 use Rattle.std.proofs.lemmas.Bool.{true≢false}
-use Rattle.sym_spell.specs.Pressing as spell
-use Rattle.cpp_grammar.specs.Term.{Term, symbol, function, object, special, thunk, guard, alone, in_std, within, instance, local, abbreviation, parameter, source, operator, literal_operator, constructor, destructor, lambda, unnamed, string_literal, builtin, vendor, pointer, lvalue, rvalue, array, member_pointer, function_type, qualified, vector, complex, expansion, integer, boolean, null_pointer, encoding_literal, address_of, pack, nil, list, absent}
+use Rattle.cpp_grammar.specs.Term.{Term, symbol, function, object, special, thunk, guard, alone, in_std, within, instance, local, lambda, pointer, lvalue, rvalue, array, member_pointer, function_type, qualified, vector, complex, expansion, integer, encoding_literal, address_of, pack, list}
 use Rattle.cpp_grammar.specs.Scope.{is_open}
 use Rattle.cpp_grammar.specs.Values.{Candidate}
 use Rattle.cpp_press.specs.Components.{Spelling}
-use Rattle.cpp_press.proofs.Parts.{IsComponent, ItselfOr, PrefixOr, UnqualifiedOr, Shut, Inside, Whole, Has, has-before, has-behind, has-either, has-itself, same-means, has-closed}
-use Rattle.cpp_press.proofs.Known.{Stands, AddsKnown, KeepsTo, known-has}
+use Rattle.cpp_press.proofs.Parts.{IsComponent, ItselfOr, PrefixOr, UnqualifiedOr, Inside, Whole, Has, has-before, has-either, has-itself, same-means, has-closed}
+use Rattle.cpp_press.proofs.Known.{KeepsTo, known-has}
 
 -- ## What is in a closed tree is closed
 
@@ -187,9 +186,12 @@ pub among-inner : (read pressed inner own : ℕ) (cs components : List Candidate
     → StandAmong inner own cs components
 among-inner read pressed inner own [] components before among = tt
 among-inner read pressed inner own (c ∷ cs) components before among = (
-  (among.0.0, λ may. elim may [
-    | inl closed ↦ has-closed pressed own c.tree components closed (among.0.1 (inl closed))
-    | inr here ↦ absurd (omega (arith, here, before.0))
-  ]),
+  (
+    among.0.0,
+    λ may. elim may [
+      | inl closed ↦ has-closed pressed own c.tree components closed (among.0.1 (inl closed))
+      | inr here ↦ absurd (omega (arith, here, before.0))
+    ],
+  ),
   among-inner read pressed inner own cs components before.1 among.1,
 )

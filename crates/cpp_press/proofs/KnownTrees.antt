@@ -1,14 +1,14 @@
 -- Pressing a tree again adds nothing: where the components that it is spelled from stand among the components, what is added stands
 -- among them too, but for what is open in an encoding of its own.
-use Rattle.std.proofs.Common.{◌≡◌, ℕ, ◌+◌, ◌-◌, ◌<◌, ◌≤◌, ◌⊎◌, inl, inr, length, List, [], ◌∷◌, ◌++◌, Option, Bool, true, false, refl, arith}
+use Rattle.std.proofs.Common.{◌≡◌, ℕ, ◌-◌, ◌<◌, ◌⊎◌, inl, inr, length, List, [], ◌∷◌, ◌++◌, Option, Bool, true, false, refl, arith}
 use Rattle.std.specs.Prelude.{◌&&◌, codes, cond}
 use Rattle.sym_spell.specs.Pressing.{◌and◌, text, nothing}
-use Rattle.cpp_grammar.specs.Term.{RefQualifier, Term, symbol, function, object, special, thunk, guard, alone, in_std, within, instance, local, abbreviation, parameter, source, operator, literal_operator, constructor, destructor, lambda, unnamed, string_literal, builtin, vendor, pointer, lvalue, rvalue, array, member_pointer, function_type, qualified, vector, complex, expansion, integer, boolean, null_pointer, encoding_literal, address_of, pack, nil, list, absent, adjusting, covariant, Thunk}
+use Rattle.cpp_grammar.specs.Term.{Term, symbol, function, object, special, thunk, guard, alone, in_std, within, instance, local, abbreviation, parameter, source, operator, literal_operator, constructor, destructor, lambda, unnamed, string_literal, builtin, vendor, pointer, lvalue, rvalue, array, member_pointer, function_type, qualified, vector, complex, expansion, integer, boolean, null_pointer, encoding_literal, address_of, pack, nil, list, absent, adjusting, covariant, Thunk}
 use Rattle.cpp_grammar.specs.Scope.{is_open}
 use Rattle.cpp_press.specs.Texts.{ordinal, signed_text, qualifier_letters, mark_letter, name_letters, thunk_text, discriminator_text}
 use Rattle.cpp_press.specs.Components.{Spelling, ended, component}
-use Rattle.cpp_press.specs.Pressing.{Ways, no_ways, type_ways, function_text, in_N_and_E, with_letters, name_ways, template_before, is_operator, is_one_piece, entity_text, local_text, begun, encoding_ways, piece_ways, argument_ways, ways_of}
-use Rattle.cpp_press.proofs.Parts.{IsComponent, ItselfOr, Shut, Inside, Whole, Prefixing, Unqualified, prefix-whole}
+use Rattle.cpp_press.specs.Pressing.{Ways, no_ways, type_ways, function_text, in_N_and_E, with_letters, name_ways, template_before, is_operator, is_one_piece, entity_text, local_text, encoding_ways, piece_ways, argument_ways, ways_of}
+use Rattle.cpp_press.proofs.Parts.{IsComponent, Shut, Inside, Whole, Prefixing, Unqualified, prefix-whole}
 use Rattle.cpp_press.proofs.Known.{KeepsTo, KeepsBehind, OrOpen, text-keeps, and-keeps, behind-and-keeps, behind-bytes-keeps, keeps-behind, ended-keeps, component-keeps, in-N-and-E-keeps, before-keeps, begun-keeps}
 
 abbrev pub In : (P R : Term → Type 0) → Type 0

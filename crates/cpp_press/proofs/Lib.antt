@@ -10,7 +10,11 @@ pub mod Parts
 pub mod Known
 pub mod KnownTrees
 pub mod Complete
+pub mod Steps
 pub mod Adding
+pub mod AddedWays
+pub mod AddedNames
+pub mod AddedTrees
 pub mod Tokens
 pub mod Reading
 pub mod ReadingReferences
