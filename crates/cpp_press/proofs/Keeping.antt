@@ -49,32 +49,32 @@ keeps-referred n own behind other one two = record { kept = λ place cs. go plac
     go place cs (Some number) = (keeps-and (reference number) behind (keeps-text _) one).kept place cs
     go place cs None = two.kept place cs
 
-keeps-N-and-E : (letters : List ℕ) (name : Spelling) → Keeps name → Keeps (in_N_and_E letters name)
+pub keeps-N-and-E : (letters : List ℕ) (name : Spelling) → Keeps name → Keeps (in_N_and_E letters name)
 unfolding in_N_and_E
 keeps-N-and-E letters name one =
     keeps-and (text (codes "N" ++ letters)) (name and text (codes "E")) (keeps-text _) (keeps-and name (text (codes "E")) one (keeps-text _))
 
-keeps-letters : (letters : List ℕ) (own between : Spelling) → Keeps own → Keeps between → Keeps (with_letters letters own between)
+pub keeps-letters : (letters : List ℕ) (own between : Spelling) → Keeps own → Keeps between → Keeps (with_letters letters own between)
 unfolding with_letters
 keeps-letters [] own between one two = one
 keeps-letters (l ∷ ls) own between one two = keeps-N-and-E (l ∷ ls) between two
 
 -- bytes in front, and bytes behind
-keeps-front : (bytes : List ℕ) (spelling : Spelling) → Keeps spelling → Keeps (text bytes and spelling)
+pub keeps-front : (bytes : List ℕ) (spelling : Spelling) → Keeps spelling → Keeps (text bytes and spelling)
 keeps-front bytes spelling one = keeps-and (text bytes) spelling (keeps-text bytes) one
 
-keeps-behind : (spelling : Spelling) (bytes : List ℕ) → Keeps spelling → Keeps (spelling and text bytes)
+pub keeps-behind : (spelling : Spelling) (bytes : List ℕ) → Keeps spelling → Keeps (spelling and text bytes)
 keeps-behind spelling bytes one = keeps-and spelling (text bytes) one (keeps-text bytes)
 
 -- one of two spellings
-abbrev choice : Bool → (f g : Spelling) → Spelling
+abbrev pub choice : Bool → (f g : Spelling) → Spelling
 choice b f g = elim b as (λ _. Spelling) [ true ↦ f | false ↦ g ]
 
-keeps-choice : (b : Bool) (f g : Spelling) → Keeps f → Keeps g → Keeps (choice b f g)
+pub keeps-choice : (b : Bool) (f g : Spelling) → Keeps f → Keeps g → Keeps (choice b f g)
 keeps-choice true f g one two = one
 keeps-choice false f g one two = two
 
-keeps-template : (n : ℕ) (t : Term) (needs_N : Bool) (between arguments : Spelling) → Keeps between → Keeps arguments
+pub keeps-template : (n : ℕ) (t : Term) (needs_N : Bool) (between arguments : Spelling) → Keeps between → Keeps arguments
     → Keeps (template_before n t needs_N between arguments)
 unfolding template_before
 keeps-template n t needs_N between arguments one two =
@@ -83,7 +83,7 @@ keeps-template n t needs_N between arguments one two =
     keeps-referred n t arguments (choice needs_N (in_N_and_E [] whole) whole) two
     (keeps-choice needs_N (in_N_and_E [] whole) whole (keeps-N-and-E [] whole kept) kept)
 
-keeps-local : (around : Spelling) (entity : Term) (between : Spelling) (discriminator : Option (List ℕ)) (letters : List ℕ)
+pub keeps-local : (around : Spelling) (entity : Term) (between : Spelling) (discriminator : Option (List ℕ)) (letters : List ℕ)
     → Keeps around → Keeps between → Keeps (local_text around entity between discriminator letters)
 unfolding local_text entity_text
 keeps-local around entity between discriminator letters one two =

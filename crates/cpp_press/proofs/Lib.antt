@@ -41,3 +41,13 @@ pub mod ReadingSlots
 pub mod ReadingNamed
 pub mod ReadingBetween
 pub mod ReadingTemplates
+pub mod Readings
+pub mod ReadingsOfTypes
+pub mod ReadingsOfNames
+pub mod ReadingsOfStd
+pub mod ReadingsOfWithin
+pub mod ReadingsOfInstances
+pub mod ReadingsOfParts
+pub mod ReadingsOfLists
+pub mod ReadingsOfEncodings
+pub mod FittingLaw

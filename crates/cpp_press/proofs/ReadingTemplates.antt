@@ -164,15 +164,15 @@ elements-room first elements place cs room =
 -- A template name that fits before arguments: they stand behind a reference, or behind its spelling.
 pub template-reads : (typed : Bool) (k : ℕ) (around : Around) (allowed : Option ℕ) (t : Term) → TemplateKind typed k → (place : ℕ)
     (cs : List Candidate) (spelled : Fitting) (front : ℕ → Spelling) (arguments : Fitting) (elements other : Spelling) (items : Term) (last : Value)
+    (R : Written → Type 0)
+    → ((w : Written) → ReadsAt around allowed (OfKind k) (Is (tree (instance t items) false)) place cs w → R w)
     → no_items last ≡ items → ReadElements around allowed last arguments elements → Keeps (of_elements elements) → Keeps other
     → HasRoom (referred around.encoding t (of_elements elements) other place cs)
     → as_template t spelled front arguments around allowed place cs
-    → (IsFirst around t cs → HasRoom (other place cs)
-    → ReadsAt around allowed (OfKind k) (Is (tree (instance t items) false)) place cs (other place cs))
-    → ReadsAt around allowed (OfKind k) (Is (tree (instance t items) false)) place cs
-    (referred around.encoding t (of_elements elements) other place cs)
+    → (IsFirst around t cs → HasRoom (other place cs) → R (other place cs))
+    → R (referred around.encoding t (of_elements elements) other place cs)
 unfolding referred reference
-template-reads typed k around allowed t kind place cs spelled front arguments elements other items last are reads keeps kept room fits out =
+template-reads typed k around allowed t kind place cs spelled front arguments elements other items last R from are reads keeps kept room fits out =
     go (first_equal around.encoding t 0 cs) refl room
     (few-before (referred around.encoding t (of_elements elements) other) place cs (keeps-referred around.encoding t _ other keeps kept) room)
   where
@@ -181,7 +181,7 @@ template-reads typed k around allowed t kind place cs spelled front arguments el
       | None ↦ other place cs
     ])
         → length cs ≤ greatest
-        → ReadsAt around allowed (OfKind k) (Is (tree (instance t items) false)) place cs (elim o as (λ _. Written) [
+        → R (elim o as (λ _. Written) [
           | Some number ↦ (reference number and of_elements elements) place cs
           | None ↦ other place cs
         ])
@@ -189,10 +189,10 @@ template-reads typed k around allowed t kind place cs spelled front arguments el
         let f = found-first around.encoding t 0 number cs is in
         let named : f.0 ≡ number = omega (arith, f.1) in
         let args : Written = elements (place + length (reference number place cs).bytes + 1) cs in
-        subst (λ n. InstancedAt around allowed k t place cs (reference n place cs)) named
+        from _ (subst (λ n. InstancedAt around allowed k t place cs (reference n place cs)) named
         (instanced-behind-s typed k around allowed t kind place cs (written (seq_id f.0 ++ 95 ∷ []) cs)
         (number-refers around allowed t f.0 (place + 1) cs few fits.0 f.2))
         items last args are
         (reads (place + length (reference number place cs).bytes) cs (fits.1 number is)
-        (elements-room (reference number) elements place cs enough))
+        (elements-room (reference number) elements place cs enough)))
     go None is enough few = out is enough

@@ -150,7 +150,7 @@ pub record HasTypes (around : Around) (allowed : Option ℕ) (k : ℕ) (t : Term
   pub with_d : Wraps around allowed k 33 (68 ∷ []) t
 
 -- by a production with one part, which makes a component
-wraps : (p : Production) (around : Around) (allowed : Option ℕ) (k inner : ℕ) (taken : List ℕ) (t : Term)
+pub wraps : (p : Production) (around : Around) (allowed : Option ℕ) (k inner : ℕ) (taken : List ℕ) (t : Term)
     → TakesRule abi k (rule_of p) taken → parts_of p ≡ OfKind inner ∷ []
     → ((place : ℕ) (s : State) → ◌≡◌ {A = Going} (between p around place [] s) (Ok (record { context = around; values = []; state = s })))
     → ((place : ℕ) (f : Forest) (s : State) → opening p f place s ≡ Ok s)
