@@ -15,6 +15,8 @@ pub mod Adding
 pub mod AddedWays
 pub mod AddedNames
 pub mod AddedTrees
+pub mod Again
+pub mod ReadFits
 pub mod Tokens
 pub mod Reading
 pub mod ReadingReferences
