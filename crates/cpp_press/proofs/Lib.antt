@@ -11,6 +11,7 @@ pub mod Known
 pub mod KnownTrees
 pub mod Complete
 pub mod Steps
+pub mod Packs
 pub mod Adding
 pub mod AddedWays
 pub mod AddedNames
