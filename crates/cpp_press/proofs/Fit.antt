@@ -1,18 +1,18 @@
 -- Where a tree can be spelled so that it is read again: each component stands before or has a spelling where it stands, whose parts
 -- have theirs behind the components that are spelled before them. This is `ways_of` once more, way for way.
-use Rattle.std.proofs.Common.{◌≡◌, ℕ, suc, ◌+◌, ◌<◌, ◌⊎◌, length, List, [], ◌∷◌, ◌++◌, Option, Some, None, Bool, true, false}
+use Rattle.std.proofs.Common.{◌≡◌, ℕ, ◌+◌, ◌<◌, ◌⊎◌, length, List, [], ◌∷◌, ◌++◌, Option, Some, None, Bool, true, false}
 use Rattle.std.specs.Prelude.{cond, not, ◌&&◌, ◌||◌, ◌^◌, nat_lt, codes}
 use Rattle.sym_core.specs.declared.NumberKind.TheVariants.{Decimal, Digits}
 use Rattle.sym_spell.specs.Pressing.{◌and◌, text}
 use Rattle.cpp_grammar.specs.declared.kind.Kind.{Kind}
 use Rattle.cpp_grammar.specs.declared.production.Production.{Production}
 use Rattle.cpp_grammar.specs.Grammar.{choose}
-use Rattle.cpp_grammar.specs.Term.{Qualifiers, RefQualifier, any_value, Signed, Adjustment, non_virtual, by_table, Thunk, adjusting, covariant, Term, symbol, function, object, special, thunk, guard, alone, in_std, within, instance, local, abbreviation, parameter, source, operator, literal_operator, constructor, destructor, lambda, unnamed, string_literal, builtin, vendor, pointer, lvalue, rvalue, array, member_pointer, function_type, qualified, vector, complex, expansion, integer, boolean, null_pointer, encoding_literal, address_of, pack, nil, list, absent}
+use Rattle.cpp_grammar.specs.Term.{Qualifiers, RefQualifier, Adjustment, non_virtual, by_table, Thunk, adjusting, covariant, Term, symbol, function, object, special, thunk, guard, alone, in_std, within, instance, local, abbreviation, parameter, source, operator, literal_operator, constructor, destructor, lambda, unnamed, string_literal, builtin, vendor, pointer, lvalue, rvalue, array, member_pointer, function_type, qualified, vector, complex, expansion, integer, boolean, null_pointer, encoding_literal, address_of, pack, nil, list, absent}
 use Rattle.cpp_grammar.specs.Scope.{count, element, length_if_pack, has_return_type}
 use Rattle.cpp_grammar.specs.Values.{Candidate, Prefix, outermost, behind, Around}
 use Rattle.cpp_grammar.specs.Between.{in_name, in_types, in_signature, under_expansion, after, inside}
 use Rattle.cpp_grammar.specs.Meaning.{is_void, is_nil}
-use Rattle.cpp_press.specs.Texts.{qualifier_letters, mark_letter, name_letters, thunk_text}
+use Rattle.cpp_press.specs.Texts.{qualifier_letters, name_letters, thunk_text}
 use Rattle.cpp_press.specs.Components.{Spelling, ended, reference, first_equal}
 use Rattle.cpp_press.specs.Pressing.{ways_of, is_operator, is_encoding}
 use Rattle.cpp_press.proofs.Tokens.{IsSpellableName}
@@ -42,7 +42,8 @@ IsFirst around own cs = first_equal around.encoding own 0 cs ≡ None
 
 -- a component: it may be referred to, and where no equal one stands before, it can be spelled out
 abbrev pub as_component : Term → Fitting → Fitting
-as_component own spelled around allowed place cs = MayBeReferred around allowed own × (IsFirst around own cs → spelled around allowed place cs)
+as_component own spelled around allowed place cs = MayBeReferred around allowed own × (IsFirst around own cs
+    → spelled around allowed place cs)
 
 -- a component that has no spelling: an equal one stands before
 abbrev pub as_reference : Term → Fitting
@@ -286,7 +287,8 @@ fits_of (alone p) = record fits_nowhere {
   as_prefix_template = as_component (alone p) (one_piece outermost (begins_name p) (fits_of p).as_piece);
   as_name = λ q ref around allowed place cs.
       IsWithoutLetters (name_letters q ref) × one_piece outermost (names_function p) (fits_of p).as_piece around allowed place cs;
-  before = λ typed. as_template (alone p) (one_piece outermost (elim typed [ true ↦ names_type p | false ↦ names_function p ]) (fits_of p).as_piece)
+  before = λ typed. as_template (alone p) (one_piece outermost (elim typed [ true ↦ names_type p | false ↦ names_function p ])
+      (fits_of p).as_piece)
       (λ n. (ways_of n p).as_piece);
   as_argument = λ in_pack. as_component (alone p) (one_piece outermost (names_type p) (fits_of p).as_piece);
 }
@@ -326,7 +328,8 @@ fits_of (within prefix p) =
           ⊎ behind_bytes (codes "N" ++ letters_of role) joined around allowed place cs;
       as_entity_template = local_piece (begins_name p);
       as_name = λ q ref. behind_bytes (codes "N" ++ name_letters q ref) joined;
-      before = λ typed. as_template (within prefix p) (behind_bytes (codes "N") joined) (λ n. text (codes "N") and (ways_of n (within prefix p)).between_N_and_E);
+      before = λ typed. as_template (within prefix p) (behind_bytes (codes "N") joined) (λ n. text (codes "N") and (ways_of n
+          (within prefix p)).between_N_and_E);
       as_argument = λ in_pack. as_component (within prefix p) (behind_bytes (codes "N") joined);
     }
 fits_of (instance template arguments) =
@@ -381,10 +384,13 @@ fits_of (parameter k) =
 fits_of (source internal name) = piece_fits (λ around allowed place cs. IsSpellableName name)
 fits_of (operator a b) = piece_fits (λ around allowed place cs. (a < 256) × (b < 256) × IsOperator a b)
 fits_of (literal_operator name) = piece_fits (λ around allowed place cs. IsSpellableName name)
-fits_of (constructor digit) = piece_fits (λ around allowed place cs. (digit < 256) × (choose Kind.ConstructorDigit digit ≡ Some Production.Mark))
-fits_of (destructor digit) = piece_fits (λ around allowed place cs. (digit < 256) × (choose Kind.DestructorDigit digit ≡ Some Production.Mark))
+fits_of (constructor digit) = piece_fits (λ around allowed place cs. (digit < 256)
+    × (choose Kind.ConstructorDigit digit ≡ Some Production.Mark))
+fits_of (destructor digit) = piece_fits (λ around allowed place cs. (digit < 256)
+    × (choose Kind.DestructorDigit digit ≡ Some Production.Mark))
 fits_of (lambda parameters k) =
-    piece_fits (λ around allowed place cs. (fits_of parameters).as_parameters item_type (in_signature around) allowed (place + 2) cs × IsLocalNumber k)
+    piece_fits (λ around allowed place cs. (fits_of parameters).as_parameters item_type (in_signature around) allowed (place + 2) cs
+    × IsLocalNumber k)
 fits_of (unnamed k) = piece_fits (λ around allowed place cs. IsLocalNumber k)
 fits_of string_literal = piece_fits anywhere
 -- types that are no components
@@ -396,9 +402,11 @@ fits_of (builtin code) = record fits_nowhere {
 fits_of (vendor name) = type_fits (vendor name) (λ slot around allowed place cs. (takes_all slot ≡ true) × IsSpellableName name)
 fits_of (pointer type) = type_fits (pointer type) (λ slot. behind_bytes (codes "P") ((fits_of type).as_type any_type))
 fits_of (lvalue type) =
-    type_fits (lvalue type) (λ slot around allowed place cs. (takes_all slot ≡ true) × (fits_of type).as_type any_type around allowed (place + 1) cs)
+    type_fits (lvalue type) (λ slot around allowed place cs. (takes_all slot ≡ true)
+    × (fits_of type).as_type any_type around allowed (place + 1) cs)
 fits_of (rvalue type) =
-    type_fits (rvalue type) (λ slot around allowed place cs. (takes_all slot ≡ true) × (fits_of type).as_type any_type around allowed (place + 1) cs)
+    type_fits (rvalue type) (λ slot around allowed place cs. (takes_all slot ≡ true)
+    × (fits_of type).as_type any_type around allowed (place + 1) cs)
 fits_of (array digits type) =
     type_fits (array digits type) (λ slot around allowed place cs.
     (takes_all slot ≡ true)
@@ -413,7 +421,8 @@ fits_of (function_type c_linkage noexcept ref returned parameters) =
     let marks : List ℕ = cond noexcept (codes "Do") [] ++ codes "F" ++ cond c_linkage (codes "Y") [] in
     let spelled : Fitting = λ around allowed place cs.
     (fits_of returned).as_type any_type around allowed (place + length marks) cs
-    × Behind (text marks and (ways_of around.encoding returned).as_type) ((fits_of parameters).as_parameters parameter_type around allowed) place cs in
+    × Behind (text marks and (ways_of around.encoding returned).as_type)
+    ((fits_of parameters).as_parameters parameter_type around allowed) place cs in
     let own : Term = function_type c_linkage noexcept ref returned parameters in
     let all_slots : Slot → Fitting = λ slot around allowed place cs. (takes_all slot ≡ true) × spelled around allowed place cs in
     record (type_fits own all_slots) {
@@ -436,7 +445,8 @@ fits_of (vector digits type) =
     × AreSpellableDigits Digits digits
     × behind_bytes (codes "Dv" ++ digits ++ codes "_") ((fits_of type).as_type any_type) around allowed place cs)
 fits_of (complex type) =
-    type_fits (complex type) (λ slot around allowed place cs. (takes_all slot ≡ true) × (fits_of type).as_type any_type around allowed (place + 1) cs)
+    type_fits (complex type) (λ slot around allowed place cs. (takes_all slot ≡ true)
+    × (fits_of type).as_type any_type around allowed (place + 1) cs)
 -- packs under an expansion have a length of their own
 fits_of (expansion pattern) =
     type_fits (expansion pattern) (λ slot around allowed place cs.
@@ -444,7 +454,8 @@ fits_of (expansion pattern) =
     × ((inner : Option ℕ) × (fits_of pattern).as_type any_type (under_expansion around) inner (place + 2) cs))
 -- arguments
 fits_of (integer type value) =
-    argument_fits (λ in_pack around allowed place cs. (fits_of type).as_type literal_type around allowed (place + 1) cs × IsSpellableNumber value)
+    argument_fits (λ in_pack around allowed place cs. (fits_of type).as_type literal_type around allowed (place + 1) cs
+    × IsSpellableNumber value)
 fits_of (boolean truth) = argument_fits (λ in_pack. anywhere)
 fits_of null_pointer = argument_fits (λ in_pack. anywhere)
 fits_of (encoding_literal e) = argument_fits (λ in_pack around allowed place cs. (fits_of e).as_encoding allowed (place + 3) cs)

@@ -1,8 +1,7 @@
 -- Each tree that fits is read as what was pressed, and so is each symbol.
-use Rattle.std.proofs.Common.{◌≡◌, ℕ, ◌+◌, ◌≤◌, inl, length, List, [], ◌∷◌, ◌++◌, Option, Some, None, true, false, Ok, refl, ap, sym, subst, ◌∙◌, arith, length-append}
+use Rattle.std.proofs.Common.{◌≡◌, ℕ, ◌+◌, inl, length, List, [], ◌∷◌, ◌++◌, Option, Some, None, true, false, Ok, refl, ap, sym, subst, ◌∙◌, arith, length-append}
 use Rattle.sym_shape.specs.declared.rule.Sym.TheVariants.{Kind as OfKind}
 use Rattle.sym_link.specs.Reading.{◌>>=◌}
-use Rattle.sym_link.specs.Unfold.{found}
 use Rattle.sym_spell.specs.Pressing.{◌and◌, text}
 use Rattle.std.specs.Prelude.{codes}
 use Rattle.cpp_grammar.specs.Term.{Term, symbol, function, object, special, thunk, guard, alone, in_std, within, instance, local, abbreviation, parameter, source, operator, literal_operator, constructor, destructor, lambda, unnamed, string_literal, builtin, vendor, pointer, lvalue, rvalue, array, member_pointer, function_type, qualified, vector, complex, expansion, integer, boolean, null_pointer, encoding_literal, address_of, pack, nil, list, absent}
@@ -10,13 +9,11 @@ use Rattle.cpp_grammar.specs.Values as value
 use Rattle.cpp_grammar.specs.Values.{Candidate, Around, Value, nothing_there, tree, tree_of, text_of}
 use Rattle.cpp_grammar.specs.Unfolding.{first_around, first_state, first_tree, unfold_cpp}
 use Rattle.cpp_press.specs.Pressing.{ways_of, no_ways, piece_ways, pressed}
-use Rattle.cpp_press.specs.PressLaws.{IsReadFrom, AreReadAs}
-use Rattle.cpp_press.proofs.Tokens.{greatest}
+use Rattle.cpp_press.specs.PressLaws.{AreReadAs}
 use Rattle.cpp_press.proofs.Reading.{Written, written, ReadsAt}
 use Rattle.cpp_press.proofs.ReadingTypes.{Is}
 use Rattle.cpp_press.proofs.ReadingSymbols.{symbol-reads, no-suffix, suffix-reads}
-use Rattle.cpp_press.proofs.ReadingSlots.{HasRoom, IsSmall, room-first}
-use Rattle.cpp_press.proofs.Keeping.{keeps-text, keeps}
+use Rattle.cpp_press.proofs.ReadingSlots.{HasRoom, IsSmall}
 use Rattle.cpp_press.proofs.ReadingNamed.{PieceReads}
 use Rattle.cpp_press.proofs.Readings.{reads-nowhere, reads-piece}
 use Rattle.cpp_press.proofs.ReadingsOfTypes.{Reading, reads-vendor, reads-pointer, reads-lvalue, reads-rvalue, reads-complex, reads-array, reads-vector, reads-expansion, reads-member-pointer, reads-qualified}
@@ -28,7 +25,7 @@ use Rattle.cpp_press.proofs.ReadingsOfParts.{reads-source, reads-operator, reads
 use Rattle.cpp_press.proofs.ReadingsOfLists.{reads-nil, reads-list, reads-function-type}
 use Rattle.cpp_press.proofs.ReadingsOfEncodings.{CountsArguments, reads-local, reads-function, reads-object, reads-guard, reads-special, reads-thunk}
 use Rattle.cpp_press.proofs.PressLaw.{read-by-one}
-use Rattle.cpp_press.proofs.Fit.{begins_name, SymbolFits, IsSpellableSuffix, fits_of, fits_nowhere}
+use Rattle.cpp_press.proofs.Fit.{begins_name, SymbolFits, fits_of}
 
 string-piece : (around : Around) (allowed : Option ℕ) (place : ℕ) (cs : List Candidate)
     → PieceReads around allowed string_literal place cs (written (codes "s") cs)

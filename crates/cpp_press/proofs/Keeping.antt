@@ -4,7 +4,7 @@ use Rattle.std.specs.Prelude.{cond, ◌&&◌, codes}
 use Rattle.sym_spell.specs.Pressing.{◌and◌, text, nothing}
 use Rattle.cpp_grammar.specs.Term.{Term, symbol, function, object, special, thunk, guard, alone, in_std, within, instance, local, abbreviation, parameter, source, operator, literal_operator, constructor, destructor, lambda, unnamed, string_literal, builtin, vendor, pointer, lvalue, rvalue, array, member_pointer, function_type, qualified, vector, complex, expansion, integer, boolean, null_pointer, encoding_literal, address_of, pack, nil, list, absent}
 use Rattle.cpp_grammar.specs.Values.{Candidate}
-use Rattle.cpp_press.specs.Texts.{ordinal, counted, signed_text, qualifier_letters, mark_letter, name_letters, thunk_text, discriminator_text}
+use Rattle.cpp_press.specs.Texts.{ordinal, signed_text, qualifier_letters, mark_letter, name_letters, thunk_text, discriminator_text}
 use Rattle.cpp_press.specs.Components.{Spelling, reference, first_equal, ended, spelled_out, referred, component}
 use Rattle.cpp_press.specs.Pressing.{Ways, no_ways, type_ways, function_text, in_N_and_E, with_letters, name_ways, template_before, is_operator, is_one_piece, entity_text, local_text, begun, encoding_ways, piece_ways, argument_ways, ways_of}
 use Rattle.cpp_press.proofs.Reading.{Written}
@@ -36,7 +36,12 @@ keeps-component n own spelling one = record { kept = λ place cs. go place cs (f
       | None ↦ spelled_out n own spelling place cs
     ]).components
     go place cs (Some number) = omega arith
-    go place cs None = omega (arith, one.kept place cs, length-append (spelling place cs).components (record { tree = own; encoding = n } ∷ []))
+    go place cs None = omega (
+      arith,
+      one.kept place cs,
+      length-append (spelling place cs).components
+          (record { tree = own; encoding = n } ∷ []),
+    )
 
 pub keeps-referred : (n : ℕ) (own : Term) (behind other : Spelling) → Keeps behind → Keeps other → Keeps (referred n own behind other)
 unfolding referred reference
@@ -220,38 +225,38 @@ keeps-function-type : (n : ℕ) (t : Term) (spelling : Spelling) → Keeps spell
 unfolding type_ways no_ways
 keeps-function-type n t spelling one =
     let c : Keeps (component n t spelling) = keeps-component n t spelling one in record {
-  as_type = c;
-  under_qualifiers = one;
-  as_prefix = c;
-  between_N_and_E = keeps-text [];
-  as_piece = keeps-text [];
-  as_encoding = keeps-text [];
-  as_name = λ letters. keeps-text [];
-  before = λ in_type arguments more. keeps-and (component n t spelling) arguments c more;
-  as_argument = c;
-  as_parameters = keeps-text [];
-  as_more_parameters = keeps-text [];
-  as_elements = keeps-text [];
-}
+      as_type = c;
+      under_qualifiers = one;
+      as_prefix = c;
+      between_N_and_E = keeps-text [];
+      as_piece = keeps-text [];
+      as_encoding = keeps-text [];
+      as_name = λ letters. keeps-text [];
+      before = λ in_type arguments more. keeps-and (component n t spelling) arguments c more;
+      as_argument = c;
+      as_parameters = keeps-text [];
+      as_more_parameters = keeps-text [];
+      as_elements = keeps-text [];
+    }
 
 keeps-local-ways : (n : ℕ) (t : Term) (spelling : (letters : List ℕ) → Spelling) → ((letters : List ℕ) → Keeps (spelling letters))
     → KeepsAll (record (type_ways (component n t (spelling []))) { as_name = spelling })
 unfolding type_ways no_ways
 keeps-local-ways n t spelling one =
     let c : Keeps (component n t (spelling [])) = keeps-component n t (spelling []) (one []) in record {
-  as_type = c;
-  under_qualifiers = c;
-  as_prefix = c;
-  between_N_and_E = keeps-text [];
-  as_piece = keeps-text [];
-  as_encoding = keeps-text [];
-  as_name = one;
-  before = λ in_type arguments more. keeps-and (component n t (spelling [])) arguments c more;
-  as_argument = c;
-  as_parameters = keeps-text [];
-  as_more_parameters = keeps-text [];
-  as_elements = keeps-text [];
-}
+      as_type = c;
+      under_qualifiers = c;
+      as_prefix = c;
+      between_N_and_E = keeps-text [];
+      as_piece = keeps-text [];
+      as_encoding = keeps-text [];
+      as_name = one;
+      before = λ in_type arguments more. keeps-and (component n t (spelling [])) arguments c more;
+      as_argument = c;
+      as_parameters = keeps-text [];
+      as_more_parameters = keeps-text [];
+      as_elements = keeps-text [];
+    }
 
 keeps-symbol : (spelling : Spelling) → Keeps spelling → KeepsAll (record no_ways { as_encoding = spelling })
 unfolding no_ways
@@ -295,16 +300,19 @@ keeps-typed n t spelling one = keeps-type (component n t spelling) (keeps-compon
 pub keeps : (t : Term) (n : ℕ) → KeepsAll (ways_of n t)
 unfolding ways_of no_ways function_text
 keeps (symbol e suffix) n =
-    keeps-symbol _ (keeps-front (codes "_Z") ((ways_of n e).as_encoding and text suffix) (keeps-behind (ways_of n e).as_encoding suffix (keeps e n).as_encoding))
+    keeps-symbol _ (keeps-front (codes "_Z") ((ways_of n e).as_encoding and text suffix) (keeps-behind
+    (ways_of n e).as_encoding suffix (keeps e n).as_encoding))
 keeps (function name q ref returned parameters) n =
     keeps-encoding _ (λ here. keeps-and ((ways_of here name).as_name (name_letters q ref))
     ((ways_of here returned).as_type and (ways_of here parameters).as_parameters) ((keeps name here).as_name (name_letters q ref))
-    (keeps-and (ways_of here returned).as_type (ways_of here parameters).as_parameters (keeps returned here).as_type (keeps parameters here).as_parameters))
+    (keeps-and (ways_of here returned).as_type (ways_of here parameters).as_parameters (keeps returned here).as_type
+    (keeps parameters here).as_parameters))
 keeps (object name q ref) n = keeps-encoding _ (λ here. (keeps name here).as_name (name_letters q ref))
 keeps (special l type) n = keeps-encoding _ (λ here. keeps-front (codes "T" ++ l ∷ []) (ways_of here type).as_type (keeps type here).as_type)
 keeps (thunk kind e) n = keeps-encoding _ (λ here. keeps-front (thunk_text kind) (ways_of here e).as_encoding (keeps e here).as_encoding)
 keeps (guard name q ref) n =
-    keeps-encoding _ (λ here. keeps-front (codes "GV") ((ways_of here name).as_name (name_letters q ref)) ((keeps name here).as_name (name_letters q ref)))
+    keeps-encoding _ (λ here. keeps-front (codes "GV") ((ways_of here name).as_name (name_letters q ref)) ((keeps name here).as_name
+    (name_letters q ref)))
 keeps (alone p) n =
     let spelling : Spelling = (ways_of n p).as_piece in
     let one : Keeps spelling = (keeps p n).as_piece in
@@ -325,7 +333,7 @@ keeps (within prefix p) n =
 keeps (instance template arguments) n =
     let behind : Spelling = text (codes "I") and (ways_of n arguments).as_elements and text (codes "E") in
     let one : Keeps behind = keeps-front (codes "I") ((ways_of n arguments).as_elements and text (codes "E"))
-        (keeps-behind (ways_of n arguments).as_elements (codes "E") (keeps arguments n).as_elements) in
+    (keeps-behind (ways_of n arguments).as_elements (codes "E") (keeps arguments n).as_elements) in
     let t : KeepsAll (ways_of n template) = keeps template n in
     keeps-name n (instance template arguments) ((ways_of n template).before true behind) ((ways_of n template).before false behind)
     ((ways_of n template).as_prefix and behind) ((ways_of n template).between_N_and_E and ended n template and behind) _
@@ -335,7 +343,8 @@ keeps (instance template arguments) n =
     (λ in_type more kept. keeps-and (component n (instance template arguments) nothing) more
     (keeps-component n (instance template arguments) nothing (keeps-text [])) kept)
 keeps (local e entity discriminator) n =
-    keeps-local-ways n (local e entity discriminator) (local_text (ways_of n e).as_encoding entity (ways_of n entity).between_N_and_E discriminator)
+    keeps-local-ways n (local e entity discriminator) (local_text (ways_of n e).as_encoding entity
+    (ways_of n entity).between_N_and_E discriminator)
     (λ letters. keeps-local (ways_of n e).as_encoding entity (ways_of n entity).between_N_and_E discriminator letters (keeps e n).as_encoding
     (keeps entity n).between_N_and_E)
 keeps (abbreviation l) n = keeps-type _ (keeps-text _)
@@ -372,7 +381,8 @@ keeps (qualified q type) n =
 keeps (vector digits type) n =
     keeps-typed n (vector digits type) _ (keeps-front (codes "Dv" ++ digits ++ codes "_") (ways_of n type).as_type (keeps type n).as_type)
 keeps (complex type) n = keeps-typed n (complex type) _ (keeps-front (codes "C") (ways_of n type).as_type (keeps type n).as_type)
-keeps (expansion pattern) n = keeps-typed n (expansion pattern) _ (keeps-front (codes "Dp") (ways_of n pattern).as_type (keeps pattern n).as_type)
+keeps (expansion pattern) n = keeps-typed n (expansion pattern) _ (keeps-front (codes "Dp") (ways_of n pattern).as_type
+    (keeps pattern n).as_type)
 keeps (integer type value) n =
     keeps-argument _ (keeps-front (codes "L") ((ways_of n type).as_type and text (signed_text value ++ codes "E"))
     (keeps-behind (ways_of n type).as_type (signed_text value ++ codes "E") (keeps type n).as_type))
@@ -392,6 +402,6 @@ keeps (list first rest) n =
     let f : KeepsAll (ways_of n first) = keeps first n in
     let r : KeepsAll (ways_of n rest) = keeps rest n in
     let more : Keeps ((ways_of n first).as_type and (ways_of n rest).as_more_parameters) =
-        keeps-and (ways_of n first).as_type (ways_of n rest).as_more_parameters f.as_type r.as_more_parameters in
+    keeps-and (ways_of n first).as_type (ways_of n rest).as_more_parameters f.as_type r.as_more_parameters in
     keeps-list _ _ _ more more (keeps-and (ways_of n first).as_argument (ways_of n rest).as_elements f.as_argument r.as_elements)
 keeps absent n = keeps-none

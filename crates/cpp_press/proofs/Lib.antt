@@ -34,8 +34,6 @@ pub mod ReadingEncodings
 pub mod ReadingSymbols
 pub mod ReadingPieces
 pub mod ReadingLocals
-pub mod ReadingWays
-pub mod ReadingQualified
 pub mod ReadingParameters
 pub mod ReadingPrefixes
 pub mod Fit
@@ -54,3 +52,6 @@ pub mod ReadingsOfParts
 pub mod ReadingsOfLists
 pub mod ReadingsOfEncodings
 pub mod FittingLaw
+pub mod Counting
+pub mod ReadLaw
+mod FitRows

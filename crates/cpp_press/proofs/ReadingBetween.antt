@@ -1,12 +1,11 @@
 -- Names are read from their pieces: alone and behind St, as prefixes and between N and E, with arguments and without.
-use Rattle.std.proofs.Common.{◌≡◌, ℕ, ◌+◌, length, List, [], ◌∷◌, ◌++◌, Option, Bool, true, false, refl, ap, arith, sym, subst, ◌∙◌, append-nil, append_assoc, length-append}
+use Rattle.std.proofs.Common.{◌≡◌, ℕ, ◌+◌, length, List, [], ◌∷◌, ◌++◌, Option, true, false, ap, arith, sym, subst, append-nil, append_assoc, length-append}
 use Rattle.sym_shape.specs.declared.rule.Sym.TheVariants.{Kind as OfKind}
 use Rattle.sym_shape.specs.Tree.{TakesRule}
-use Rattle.cpp_grammar.specs.declared.kind.Kind.{Kind}
 use Rattle.cpp_grammar.specs.declared.production.Production.{Production}
 use Rattle.cpp_grammar.specs.Table.{abi, rule_of}
 use Rattle.cpp_grammar.specs.Term.{Term, in_std, within, instance, parameter}
-use Rattle.cpp_grammar.specs.Values.{Candidate, Prefix, Around, Value, nothing_there, tree, piece, tree_of, is_there}
+use Rattle.cpp_grammar.specs.Values.{Candidate, Around, Value, nothing_there, tree, piece, tree_of, is_there}
 use Rattle.cpp_grammar.specs.Between.{after, inside, extended, applied, no_items}
 use Rattle.cpp_press.specs.Texts.{ordinal}
 use Rattle.cpp_press.proofs.Reading.{Written, written, ReadsAt}
@@ -16,7 +15,7 @@ use Rattle.cpp_press.proofs.ReadingNames.{SoFar, Extends, no-arguments, some-arg
 use Rattle.cpp_press.proofs.ReadingNests.{nest-parameter, nest-behind-s, nest-std, nest-arguments}
 use Rattle.cpp_press.proofs.ReadingEncodings.{std-name, nested-type, std-type, type-with-arguments}
 use Rattle.cpp_press.proofs.ReadingPrefixes.{next-17, next-18, extends-behind-s}
-use Rattle.cpp_press.proofs.ReadingNamed.{NameRule, NamesAt, PieceReads}
+use Rattle.cpp_press.proofs.ReadingNamed.{NameRule, PieceReads}
 
 -- ## Arguments
 
@@ -34,7 +33,8 @@ pub record Named (around : Around) (allowed : Option ℕ) (k : ℕ) (t : Term) (
   pub bare : ReadsAt around allowed (OfKind k) (Is (tree t false)) place cs w
   pub instanced : (items : Term) (last : Value) (args : Written) → no_items last ≡ items
       → ElementsRead around allowed last (place + length w.bytes) (more around w.components t) args
-      → ReadsAt around allowed (OfKind k) (Is (tree (instance t items) false)) place cs (written (w.bytes ++ in_I_and_E args.bytes) args.components)
+      → ReadsAt around allowed (OfKind k) (Is (tree (instance t items) false)) place cs (written
+      (w.bytes ++ in_I_and_E args.bytes) args.components)
 
 pub named-piece : (around : Around) (allowed : Option ℕ) (k : ℕ) (p t : Term) (place : ℕ) (cs : List Candidate) (w : Written)
     → PieceReads around allowed p place cs w → NameRule k p → extended around.prefix p ≡ t → Named around allowed k t place cs w
@@ -60,7 +60,7 @@ pub named-std : (around : Around) (allowed : Option ℕ) (p : Term) (place : ℕ
 unfolding applied is_there tree_of
 named-std around allowed p place cs w one =
     let first : ReadsAt around allowed (OfKind 14) (Is (piece p)) (place + 1 + 1) cs w =
-        subst (λ q. ReadsAt around allowed (OfKind 14) (Is (piece p)) q cs w) (omega arith) one in
+    subst (λ q. ReadsAt around allowed (OfKind 14) (Is (piece p)) q cs w) (omega arith) one in
     record {
       bare = same-written around allowed (OfKind 8) (Is (tree (in_std p) false)) place cs w.components (83 ∷ 116 ∷ (w.bytes ++ []))
           (83 ∷ 116 ∷ w.bytes) (ap (λ l. 83 ∷ 116 ∷ l) (append-nil w.bytes))
@@ -69,7 +69,8 @@ named-std around allowed p place cs w one =
       instanced = λ items last args are two.
           std-name around allowed p (tree items true) place cs w (written (in_I_and_E args.bytes) args.components) first
           (some-arguments around allowed (in_std p) items last (place + 1 + 1 + length w.bytes) w.components args are
-          (subst (λ q. ReadsAt (inside around) allowed (OfKind 44) (Is last) q (more around w.components (in_std p)) args) (omega arith) two));
+          (subst (λ q. ReadsAt (inside around) allowed (OfKind 44) (Is last) q (more around w.components (in_std p)) args)
+          (omega arith) two));
     }
 
 -- and as a type
@@ -79,15 +80,16 @@ pub named-std-type : (k : ℕ) (around : Around) (allowed : Option ℕ) (p : Ter
     → Named around allowed k (in_std p) place cs (written (83 ∷ 116 ∷ w.bytes) w.components)
 named-std-type k around allowed p place cs w takes one =
     let first : ReadsAt around allowed (OfKind 36) (Is (tree (in_std p) false)) (place + 1) cs (written (116 ∷ w.bytes) w.components) =
-        std-type around allowed p (place + 1) cs w
-            (subst (λ q. ReadsAt around allowed (OfKind 37) (Is (piece p)) q cs w) (omega arith) one) in
+    std-type around allowed p (place + 1) cs w
+    (subst (λ q. ReadsAt around allowed (OfKind 37) (Is (piece p)) q cs w) (omega arith) one) in
     record {
       bare = solid-with-s k around allowed place (in_std p) false cs (written (116 ∷ w.bytes) w.components) takes first;
       instanced = λ items last args are two.
           type-with-arguments k around allowed (in_std p) items false place cs (written (116 ∷ w.bytes) w.components)
           (written (in_I_and_E args.bytes) args.components) takes first
           (some-arguments around allowed (in_std p) items last (place + 1 + length (116 ∷ w.bytes)) w.components args are
-          (subst (λ q. ReadsAt (inside around) allowed (OfKind 44) (Is last) q (more around w.components (in_std p)) args) (omega arith) two));
+          (subst (λ q. ReadsAt (inside around) allowed (OfKind 44) (Is last) q (more around w.components (in_std p)) args)
+          (omega arith) two));
     }
 
 -- ## Between N and E
@@ -110,7 +112,7 @@ pub nested-std : (around : Around) (allowed : Option ℕ) (p : Term) (place : �
 unfolding applied is_there tree_of
 nested-std around allowed p place cs w one =
     let first : ReadsAt around allowed (OfKind 14) (Is (piece p)) (place + 1 + 1) cs w =
-        subst (λ q. ReadsAt around allowed (OfKind 14) (Is (piece p)) q cs w) (omega arith) one in
+    subst (λ q. ReadsAt around allowed (OfKind 14) (Is (piece p)) q cs w) (omega arith) one in
     record {
       bare = subst (λ l. SoFar around allowed (in_std p) false 18 place cs (written (83 ∷ 116 ∷ l) w.components)) (append-nil w.bytes)
           (nest-std around allowed p nothing_there place cs w (written [] w.components) first
@@ -118,7 +120,8 @@ nested-std around allowed p place cs w one =
       instanced = λ items last args are two.
           nest-std around allowed p (tree items true) place cs w (written (in_I_and_E args.bytes) args.components) first
           (some-arguments around allowed (in_std p) items last (place + 1 + 1 + length w.bytes) w.components args are
-          (subst (λ q. ReadsAt (inside around) allowed (OfKind 44) (Is last) q (more around w.components (in_std p)) args) (omega arith) two));
+          (subst (λ q. ReadsAt (inside around) allowed (OfKind 44) (Is last) q (more around w.components (in_std p)) args)
+          (omega arith) two));
     }
 
 -- a piece behind a prefix

@@ -1,15 +1,15 @@
 -- Pieces of names are read wherever names stand: as a name with arguments or without, behind St, and as the first of a name between N and E.
-use Rattle.std.proofs.Common.{◌≡◌, ℕ, ◌+◌, ◌-◌, ◌<◌, ◌≤◌, length, List, [], ◌∷◌, ◌++◌, Option, Some, Bool, true, false, refl, ap, arith, sym, subst, ◌∙◌, append_assoc, length-append}
+use Rattle.std.proofs.Common.{◌≡◌, ℕ, ◌+◌, ◌-◌, ◌<◌, length, List, [], ◌∷◌, ◌++◌, Option, Some, Bool, true, false, refl, ap, arith, sym, subst, ◌∙◌, append_assoc}
 use Rattle.std.proofs.lemmas.Bool.{ltb-true}
-use Rattle.std.specs.Prelude.{not, cond, codes, nat_lt, ◌^◌}
+use Rattle.std.specs.Prelude.{cond, codes, nat_lt, ◌^◌}
 use Rattle.sym_shape.specs.declared.rule.Sym.TheVariants.{Kind as OfKind}
 use Rattle.sym_shape.specs.Tree.{TakesRule}
 use Rattle.cpp_grammar.specs.declared.kind.Kind.{Kind}
 use Rattle.cpp_grammar.specs.declared.production.Production.{Production}
-use Rattle.cpp_grammar.specs.Grammar.{in_ranges, among, is_in, pick, number_of_kind, alternatives, choose, kinds, parts_of, is_chain}
+use Rattle.cpp_grammar.specs.Grammar.{in_ranges, among, is_in, pick, alternatives, choose, kinds, is_chain}
 use Rattle.cpp_grammar.specs.Table.{abi, rule_of}
 use Rattle.cpp_grammar.specs.Term.{Term, source, operator, literal_operator, constructor, destructor, lambda, unnamed, list}
-use Rattle.cpp_grammar.specs.Values.{Candidate, Around, Value, letter, tree, piece}
+use Rattle.cpp_grammar.specs.Values.{Candidate, Around, Value, tree, piece}
 use Rattle.cpp_grammar.specs.Between.{in_signature, after, extended, applied, no_items}
 use Rattle.cpp_grammar.specs.Meaning.{parameters}
 use Rattle.cpp_press.specs.Texts.{counted, ordinal}
@@ -164,7 +164,8 @@ operators-read : (around : Around) (allowed : Option ℕ) (p : Term) (place : �
     → ReadsAt around allowed (OfKind 52) (Is (piece p)) (place + 0) cs w → PieceReads around allowed p place cs w
 operators-read around allowed p place cs w rule fourteen none one = record {
   names = λ k takes last rest two. operator-name k around allowed p last place cs w rest (rule k takes) one
-      (subst (λ q. ReadsAt (after (extended around.prefix p) false around) allowed (OfKind 42) (Is last) q w.components rest) (omega arith) two);
+      (subst (λ q. ReadsAt (after (extended around.prefix p) false around) allowed (OfKind 42) (Is last) q w.components rest)
+      (omega arith) two);
   pieces = λ k is. subst (λ j. ReadsAt around allowed (OfKind j) (Is (piece p)) place cs w) (sym (fourteen k is))
       (operator-piece around allowed p place cs w one);
   begins = λ h. absurd (let e : false ≡ true = sym none ∙ h in cc);
@@ -226,7 +227,8 @@ local-type-reads : (around : Around) (allowed : Option ℕ) (p : Term) (place : 
     → PieceReads around allowed p place cs (written (85 ∷ w.bytes) w.components)
 local-type-reads around allowed p place cs w rule also one = record {
   names = λ k takes last rest two. local-type-name k around allowed p last place cs w rest (rule k takes) one
-      (subst (λ q. ReadsAt (after (extended around.prefix p) false around) allowed (OfKind 42) (Is last) q w.components rest) (omega arith) two);
+      (subst (λ q. ReadsAt (after (extended around.prefix p) false around) allowed (OfKind 42) (Is last) q w.components rest)
+      (omega arith) two);
   pieces = λ k takes. local-type-piece k around allowed p place cs w (also k takes) one;
   begins = λ h. nest-local-type around allowed p place cs w one;
 }
@@ -262,7 +264,8 @@ pub record ItemsRead (around : Around) (allowed : Option ℕ) (t : Term) (place 
   pub reads_one : ReadsAt around allowed (OfKind 30) (Is (tree first true)) place cs one
   pub reads_rest : ReadsAt around allowed (OfKind 41) (Is last) (place + length one.bytes) one.components rest
 
-pub lambda-piece-reads : (around : Around) (allowed : Option ℕ) (ps : Term) (k place : ℕ) (cs : List Candidate) (w : Written) → IsLocalNumber k
+pub lambda-piece-reads : (around : Around) (allowed : Option ℕ) (ps : Term) (k place : ℕ) (cs : List Candidate) (w : Written)
+    → IsLocalNumber k
     → ItemsRead (in_signature around) allowed ps (place + 2) cs w
     → PieceReads around allowed (lambda ps k) place cs (written (codes "Ul" ++ (w.bytes ++ (codes "E" ++ ordinal (k - 1)))) w.components)
 lambda-piece-reads around allowed ps k place cs w is i =

@@ -1,5 +1,5 @@
 -- Prefixes in the way in which pressing spells them extend to longer names, as references and spelled out.
-use Rattle.std.proofs.Common.{◌≡◌, ℕ, ◌+◌, ◌≤◌, length, List, [], ◌∷◌, ◌++◌, Option, Some, None, true, refl, arith, sym, subst, append-nil}
+use Rattle.std.proofs.Common.{ℕ, ◌+◌, List, [], ◌∷◌, Option, true, refl, arith}
 use Rattle.sym_shape.specs.declared.rule.Sym.TheVariants.{Kind as OfKind}
 use Rattle.sym_shape.specs.Tree.{TakesRule}
 use Rattle.cpp_grammar.specs.declared.kind.Kind.{Kind}
@@ -8,11 +8,8 @@ use Rattle.cpp_grammar.specs.Grammar.{in_ranges, among, is_in, pick, alternative
 use Rattle.cpp_grammar.specs.Table.{abi, rule_of}
 use Rattle.cpp_grammar.specs.Term.{Term}
 use Rattle.cpp_grammar.specs.Values.{Candidate, Around, tree}
-use Rattle.cpp_press.specs.Components.{Spelling, first_equal, seq_id, reference, ended, spelled_out, component}
-use Rattle.cpp_press.proofs.Tokens.{greatest}
 use Rattle.cpp_press.proofs.Reading.{Written, written, ReadsAt, takes-none}
-use Rattle.cpp_press.proofs.ReadingReferences.{MayBeReferred, found-first, number-refers}
-use Rattle.cpp_press.proofs.ReadingTypes.{Is, more}
+use Rattle.cpp_press.proofs.ReadingTypes.{Is}
 use Rattle.cpp_press.proofs.ReadingNames.{Extends, extends-same}
 use Rattle.cpp_press.proofs.ReadingNests.{nest-behind-s}
 
@@ -32,28 +29,3 @@ pub extends-behind-s : (around : Around) (allowed : Option ℕ) (t : Term) (plac
 extends-behind-s around allowed t place cs first one =
     extends-same 17 around allowed t place cs (written (83 ∷ first.bytes) first.components) next-17
     (nest-behind-s around allowed t place cs first one)
-
--- a component as a prefix: a reference where an equal one stands before, or else its own spelling
-pub component-extends : (around : Around) (allowed : Option ℕ) (own : Term) (place : ℕ) (cs : List Candidate) (spelling : Spelling)
-    → length cs ≤ greatest → MayBeReferred around allowed own
-    → (first_equal around.encoding own 0 cs ≡ None → Extends around allowed own place cs
-    (written (spelling place cs).bytes (more around (spelling place cs).components own)))
-    → Extends around allowed own place cs (component around.encoding own spelling place cs)
-unfolding component reference spelled_out ended
-component-extends around allowed own place cs spelling few may out = go (first_equal around.encoding own 0 cs) refl
-  where
-    go : (o : Option ℕ) → first_equal around.encoding own 0 cs ≡ o
-        → Extends around allowed own place cs (elim o as (λ _. Written) [
-          | Some number ↦ reference number place cs
-          | None ↦ spelled_out
-              around.encoding own spelling place cs
-        ])
-    go (Some number) is =
-        let f = found-first around.encoding own 0 number cs is in
-        let named : f.0 ≡ number = omega (arith, f.1) in
-        subst (λ n. Extends around allowed own place cs (reference n place cs)) named
-        (extends-behind-s around allowed own place cs (written (seq_id f.0 ++ 95 ∷ []) cs)
-        (number-refers around allowed own f.0 (place + 1 + 0) cs few may f.2))
-    go None is =
-        subst (λ l. Extends around allowed own place cs (written l (more around (spelling place cs).components own)))
-        (sym (append-nil (spelling place cs).bytes)) (out is)

@@ -151,7 +151,8 @@ pub behind-s : (around : Around) (allowed : Option ℕ) (t : Term) (place : ℕ)
 unfolding choose alternatives pick is_in in_ranges among kinds is_chain parts_of number_of_kind between opening close unfolding_.behind meaning part
 behind-s around allowed t place cs w one =
     one-part Production.AbbreviatedType 36 [] around allowed place (OfKind 22) (tree t true) (tree t true) cs w
-    (takes-none 36 Kind.TypeAfterS Production.AbbreviatedType 95 refl refl (omega arith) refl) refl (λ s. refl) (λ f s. refl) (λ began s. refl)
+    (takes-none 36 Kind.TypeAfterS Production.AbbreviatedType 95 refl refl (omega arith) refl) refl (λ s. refl) (λ f s. refl)
+    (λ began s. refl)
     (subst (λ q. ReadsAt around allowed (OfKind 22) (Is (tree t true)) q cs w) (omega arith) one)
 
 pub takes-S : (slot : Slot) → TakesRule abi (solid_kind slot) (rule_of Production.TypeWithS) (83 ∷ [])
@@ -214,7 +215,8 @@ component-in around allowed own reads place cs spelling behind few may out = go 
         subst (λ n. reads place cs (reference n place cs)) named
         (behind place cs (written (seq_id f.0 ++ 95 ∷ []) cs) (number-refers around allowed own f.0 (place + 1) cs few may f.2))
     go None is =
-        subst (λ l. reads place cs (written l (more around (spelling place cs).components own))) (sym (append-nil (spelling place cs).bytes)) (out is)
+        subst (λ l. reads place cs (written l (more around (spelling place cs).components own))) (sym (append-nil
+        (spelling place cs).bytes)) (out is)
 
 -- a component that fits
 pub fitting-in : (around : Around) (allowed : Option ℕ) (own : Term) (reads : ℕ → List Candidate → Written → Type 0) (place : ℕ)

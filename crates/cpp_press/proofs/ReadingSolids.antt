@@ -13,7 +13,7 @@ use Rattle.cpp_grammar.specs.declared.kind.Kind.{Kind}
 use Rattle.cpp_grammar.specs.declared.production.Production.{Production}
 use Rattle.cpp_grammar.specs.Grammar.{in_ranges, among, is_in, pick, number_of_kind, alternatives, choose, kinds, parts_of, is_chain}
 use Rattle.cpp_grammar.specs.Table.{abi, rule_of}
-use Rattle.cpp_grammar.specs.Term.{Term, builtin, vendor, pointer, lvalue, rvalue, array, member_pointer, complex}
+use Rattle.cpp_grammar.specs.Term.{Term, abbreviation, builtin, vendor, pointer, lvalue, rvalue, array, member_pointer, complex}
 use Rattle.cpp_grammar.specs.Values as value
 use Rattle.cpp_grammar.specs.Values.{Candidate, State, Around, Value, nothing_there, tree, tree_of, text_of, normal, part}
 use Rattle.cpp_grammar.specs.Between.{Going, between}
@@ -43,6 +43,15 @@ builtin-behind-d around allowed byte place cs small chosen =
     no-part Production.BuiltinWithD 33 (byte ∷ []) around allowed place (tree (builtin (68 ∷ byte ∷ [])) true) cs
     (takes-byte 33 Kind.AfterD Production.BuiltinWithD byte refl chosen small refl) refl
     (λ f s. refl) (λ began s. refl)
+
+-- behind an S
+pub abbreviation-behind-s : (around : Around) (allowed : Option ℕ) (letter place : ℕ) (cs : List Candidate) → letter < 256
+    → choose Kind.Abbreviation letter ≡ Some Production.Abbreviation
+    → ReadsAt around allowed (OfKind 22) (Is (tree (abbreviation letter) true)) place cs (written (letter ∷ []) cs)
+unfolding kinds is_chain parts_of opening close unfolding_.behind meaning byte_of
+abbreviation-behind-s around allowed letter place cs small chosen =
+    no-part Production.Abbreviation 22 (letter ∷ []) around allowed place (tree (abbreviation letter) true) cs
+    (takes-byte 22 Kind.Abbreviation Production.Abbreviation letter refl chosen small refl) refl (λ f s. refl) (λ began s. refl)
 
 pub vendor-solid : (around : Around) (allowed : Option ℕ) (name : List ℕ) (place : ℕ) (cs : List Candidate) → IsSpellableName name
     → ReadsAt around allowed (OfKind 34) (Is (tree (vendor name) false)) place cs (written (117 ∷ counted name) cs)

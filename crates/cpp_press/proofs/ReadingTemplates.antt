@@ -4,7 +4,7 @@ use Rattle.sym_core.specs.declared.NumberKind.TheVariants.{Decimal}
 use Rattle.sym_shape.specs.declared.rule.Sym.TheVariants.{Kind as OfKind, Number}
 use Rattle.sym_shape.specs.Tree.{TakesRule}
 use Rattle.sym_spell.specs.Pressing.{◌and◌, text}
-use Rattle.std.specs.Prelude.{not, codes}
+use Rattle.std.specs.Prelude.{codes}
 use Rattle.cpp_grammar.specs.declared.kind.Kind.{Kind}
 use Rattle.cpp_grammar.specs.declared.production.Production.{Production}
 use Rattle.cpp_grammar.specs.Grammar.{in_ranges, among, is_in, pick, number_of_kind, alternatives, choose, kinds, parts_of, is_chain}
@@ -19,8 +19,8 @@ use Rattle.cpp_grammar.specs.Unfolding.{opening, close}
 use Rattle.cpp_press.specs.Texts.{ordinal}
 use Rattle.cpp_press.specs.Components.{Spelling, first_equal, seq_id, reference, referred}
 use Rattle.cpp_press.proofs.Tokens.{greatest, ordinal_digits, ordinal_token, ordinal-spelled, ordinal-is-token}
-use Rattle.cpp_press.proofs.Reading.{Written, written, ReadsAt, row-last, takes-none, takes-byte, number-reads}
-use Rattle.cpp_press.proofs.ReadingReferences.{MayBeReferred, found-first, number-refers}
+use Rattle.cpp_press.proofs.Reading.{Written, written, ReadsAt, row-last, takes-byte, number-reads}
+use Rattle.cpp_press.proofs.ReadingReferences.{found-first, number-refers}
 use Rattle.cpp_press.proofs.ReadingTypes.{Is, AreOnly, same-written, more, then-part, whole-same}
 use Rattle.cpp_press.proofs.ReadingFunctions.{IsInScope, parameter-passes}
 use Rattle.cpp_press.proofs.ReadingEncodings.{listed-arguments, abbreviated-name, type-with-arguments}
@@ -28,8 +28,8 @@ use Rattle.cpp_press.proofs.Keeping.{Keeps, keeps-referred}
 use Rattle.cpp_press.proofs.ReadingSlots.{HasRoom, room-rest, few-before, behind-s}
 use Rattle.cpp_press.proofs.ReadingNamed.{NameRule, type-rule, literal-type-rule}
 use Rattle.cpp_press.proofs.ReadingBetween.{in_I_and_E, ElementsRead}
-use Rattle.cpp_press.proofs.Fit.{Slot, any_type, bare_type, item_type, parameter_type, literal_type, names_type, IsFirst, Fitting, Behind, as_template}
-use Rattle.cpp_press.proofs.ReadingSlots.{solid_kind, takes-S}
+use Rattle.cpp_press.proofs.Fit.{Slot, any_type, bare_type, item_type, parameter_type, literal_type, names_type, IsFirst, Fitting, as_template}
+use Rattle.cpp_press.proofs.ReadingSlots.{solid_kind}
 
 -- ## Kinds of template names
 
@@ -86,7 +86,8 @@ abbrev pub InstancedAt : Around → Option ℕ → (k : ℕ) → (t : Term) → 
 InstancedAt around allowed k t place cs w =
     (items : Term) (last : Value) (args : Written) → no_items last ≡ items
     → ElementsRead around allowed last (place + length w.bytes) w.components args
-    → ReadsAt around allowed (OfKind k) (Is (tree (instance t items) false)) place cs (written (w.bytes ++ in_I_and_E args.bytes) args.components)
+    → ReadsAt around allowed (OfKind k) (Is (tree (instance t items) false)) place cs (written
+    (w.bytes ++ in_I_and_E args.bytes) args.components)
 
 takes-42 : TakesRule abi 42 (rule_of Production.Arguments) (73 ∷ [])
 unfolding choose alternatives pick is_in in_ranges among kinds is_chain
@@ -155,7 +156,8 @@ pub elements-room : (first elements : Spelling) (place : ℕ) (cs : List Candida
 elements-room first elements place cs room =
     let w : Written = first place cs in
     let at : ℕ = place + length w.bytes in
-    let behind = room-rest (text (codes "I")) (elements and text (codes "E")) at w.components (room-rest first (of_elements elements) place cs room) in
+    let behind = room-rest (text (codes "I")) (elements and text (codes "E")) at w.components (room-rest first
+    (of_elements elements) place cs room) in
     record {
       short = omega (arith, behind.short, length-append (elements (at + 1) w.components).bytes (69 ∷ []));
       few = behind.few;
@@ -163,7 +165,8 @@ elements-room first elements place cs room =
 
 -- A template name that fits before arguments: they stand behind a reference, or behind its spelling.
 pub template-reads : (typed : Bool) (k : ℕ) (around : Around) (allowed : Option ℕ) (t : Term) → TemplateKind typed k → (place : ℕ)
-    (cs : List Candidate) (spelled : Fitting) (front : ℕ → Spelling) (arguments : Fitting) (elements other : Spelling) (items : Term) (last : Value)
+    (cs : List Candidate) (spelled : Fitting) (front : ℕ → Spelling) (arguments : Fitting) (elements other : Spelling) (items : Term)
+    (last : Value)
     (R : Written → Type 0)
     → ((w : Written) → ReadsAt around allowed (OfKind k) (Is (tree (instance t items) false)) place cs w → R w)
     → no_items last ≡ items → ReadElements around allowed last arguments elements → Keeps (of_elements elements) → Keeps other
@@ -172,7 +175,8 @@ pub template-reads : (typed : Bool) (k : ℕ) (around : Around) (allowed : Optio
     → (IsFirst around t cs → HasRoom (other place cs) → R (other place cs))
     → R (referred around.encoding t (of_elements elements) other place cs)
 unfolding referred reference
-template-reads typed k around allowed t kind place cs spelled front arguments elements other items last R from are reads keeps kept room fits out =
+template-reads typed k around allowed t kind place cs spelled front arguments elements other items last R from are reads keeps kept
+    room fits out =
     go (first_equal around.encoding t 0 cs) refl room
     (few-before (referred around.encoding t (of_elements elements) other) place cs (keeps-referred around.encoding t _ other keeps kept) room)
   where

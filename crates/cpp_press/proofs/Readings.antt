@@ -1,16 +1,16 @@
 -- What each way in which a tree is spelled is read as, where it fits.
-use Rattle.std.proofs.Common.{◌≡◌, ℕ, ◌+◌, ◌≤◌, length, List, [], ◌∷◌, ◌++◌, Option, Some, None, Bool, true, false, refl, ap, arith, sym, subst, ◌∙◌, append_assoc, append-nil}
+use Rattle.std.proofs.Common.{◌≡◌, ℕ, ◌+◌, ◌≤◌, length, List, [], ◌∷◌, ◌++◌, Option, Some, None, Bool, true, false, refl, ap, arith, subst}
 use Rattle.std.specs.Prelude.{codes, ◌&&◌}
 use Rattle.sym_shape.specs.declared.rule.Sym.TheVariants.{Kind as OfKind}
-use Rattle.sym_spell.specs.Pressing.{◌and◌, text, nothing}
+use Rattle.sym_spell.specs.Pressing.{◌and◌, text}
 use Rattle.cpp_grammar.specs.Term.{Qualifiers, RefQualifier, any_value, Term, instance, list}
 use Rattle.cpp_grammar.specs.Values.{Candidate, Around, Value, tree, tree_of, qualifiers_of, ref_of, unqualified}
 use Rattle.cpp_grammar.specs.References.{is_function_type}
 use Rattle.cpp_grammar.specs.Between.{no_items}
 use Rattle.cpp_grammar.specs.Meaning.{parameters}
 use Rattle.cpp_press.specs.Texts.{name_letters, mark_letter}
-use Rattle.cpp_press.specs.Components.{Spelling, first_equal, seq_id, reference, ended, spelled_out, component}
-use Rattle.cpp_press.specs.Pressing.{Ways, ways_of, no_ways, type_ways, piece_ways, argument_ways, begun, encoding_ways, is_one_piece, entity_text}
+use Rattle.cpp_press.specs.Components.{Spelling, first_equal, seq_id, reference, spelled_out, component}
+use Rattle.cpp_press.specs.Pressing.{Ways, no_ways, type_ways, is_one_piece, entity_text}
 use Rattle.cpp_press.proofs.Tokens.{greatest}
 use Rattle.cpp_press.proofs.Reading.{Written, written, ReadsAt}
 use Rattle.cpp_press.proofs.ReadingReferences.{found-first, number-refers}
@@ -19,11 +19,11 @@ use Rattle.cpp_press.proofs.ReadingArguments.{items_value, type-argument, type-e
 use Rattle.cpp_press.proofs.ReadingNames.{SoFar, Extends}
 use Rattle.cpp_press.proofs.ReadingParameters.{RestReads}
 use Rattle.cpp_press.proofs.Keeping.{Keeps, keeps-component, keeps-and}
-use Rattle.cpp_press.proofs.ReadingSlots.{HasRoom, IsSmall, room-first, few-before, ReadsAs, is_bare, InSlot, in-slot, component-in, fitting-in}
+use Rattle.cpp_press.proofs.ReadingSlots.{HasRoom, IsSmall, few-before, ReadsAs, is_bare, in-slot, fitting-in}
 use Rattle.cpp_press.proofs.ReadingNamed.{PieceReads, ItemsRead}
-use Rattle.cpp_press.proofs.ReadingBetween.{in_I_and_E, ElementsRead, Named, SoFarWith, ExtendsWith, extends-with-behind-s, prefix-behind-s}
+use Rattle.cpp_press.proofs.ReadingBetween.{Named, SoFarWith, ExtendsWith, extends-with-behind-s, prefix-behind-s}
 use Rattle.cpp_press.proofs.ReadingTemplates.{TemplateKind, InstancedAt, instanced-behind-s, of_elements, ReadElements, elements-room}
-use Rattle.cpp_press.proofs.Fit.{Slot, any_type, bare_type, item_type, parameter_type, literal_type, Standing, Fitting, IsFirst, as_component, as_reference, as_template, Role, in_type, in_name_with, letters_of, Fits, nowhere, fits_nowhere, type_fits, piece_fits, argument_fits, encoding_fits, fits_of}
+use Rattle.cpp_press.proofs.Fit.{Slot, any_type, bare_type, item_type, parameter_type, literal_type, Standing, Fitting, as_component, as_template, Role, in_type, in_name_with, letters_of, Fits, nowhere, fits_nowhere, type_fits, piece_fits, argument_fits, encoding_fits}
 
 -- ## What is read
 
@@ -123,7 +123,8 @@ pub record ReadsAll (t : Term) (ways : ℕ → Ways) (fits : Fits) : Type 1 wher
   pub as_argument : (in_pack : Bool) → Leads (λ n. (ways n).as_argument) (fits.as_argument in_pack)
       (λ around allowed. ArgumentReads in_pack around allowed t)
   pub as_items : Leads (λ n. (ways n).as_parameters) (fits.as_parameters item_type) (λ around allowed. ItemsRead around allowed t)
-  pub as_more_items : Leads (λ n. (ways n).as_more_parameters) (fits.as_more_parameters item_type) (λ around allowed. ListReads 41 around allowed t)
+  pub as_more_items : Leads (λ n. (ways n).as_more_parameters) (fits.as_more_parameters item_type)
+      (λ around allowed. ListReads 41 around allowed t)
   pub as_parameters : (ref : RefQualifier) → Leads (λ n. (ways n).as_parameters) (fits.as_parameters parameter_type)
       (λ around allowed. ParametersRead ref around allowed t)
   pub as_more_parameters : (ref : RefQualifier) → Leads (λ n. (ways n).as_more_parameters) (fits.as_more_parameters parameter_type)
@@ -242,7 +243,8 @@ typed-argument false around allowed t place cs w one items last rest are two =
 
 -- a component before its arguments, of which only a reference stands there
 pub referred-before : (typed : Bool) (k : ℕ) (around : Around) (allowed : Option ℕ) (t : Term) → TemplateKind typed k → (place : ℕ)
-    (cs : List Candidate) (spelling : Spelling) (arguments : Fitting) (elements : Spelling) (items : Term) (last : Value) → no_items last ≡ items
+    (cs : List Candidate) (spelling : Spelling) (arguments : Fitting) (elements : Spelling) (items : Term) (last : Value)
+    → no_items last ≡ items
     → ReadElements around allowed last arguments elements → Keeps spelling → Keeps (of_elements elements)
     → HasRoom ((component around.encoding t spelling and of_elements elements) place cs)
     → as_template t nowhere (λ n. text []) arguments around allowed place cs
@@ -255,7 +257,11 @@ referred-before typed k around allowed t kind place cs spelling arguments elemen
     (keeps-and (component around.encoding t spelling) (of_elements elements) (keeps-component around.encoding t spelling keeps) kept) room)
   where
     go : (o : Option ℕ) → first_equal around.encoding t 0 cs ≡ o
-        → (let w = elim o as (λ _. Written) [ Some number ↦ reference number place cs | None ↦ spelled_out around.encoding t spelling place cs ] in
+        → (let w = elim o as (λ _. Written) [
+          | Some number ↦ reference number place cs
+          | None ↦ spelled_out around.encoding t spelling
+              place cs
+        ] in
         let rest = of_elements elements (place + length w.bytes) w.components in HasRoom (written (w.bytes ++ rest.bytes) rest.components)
         → length cs ≤ greatest
         → ReadsAt around allowed (OfKind k) (Is (tree (instance t items) false)) place cs (written (w.bytes ++ rest.bytes) rest.components))
@@ -310,7 +316,8 @@ reads-type t spelling spelled other keeps out = record {
     bare : (slot : Slot) → is_function_type t && is_bare slot ≡ false
     bare slot = ap (λ b. b && is_bare slot) other
 
-    whole : (slot : Slot) → Leads (λ n. component n t (spelling n)) (as_component t (spelled slot)) (λ around allowed. ReadsAs slot around allowed t)
+    whole : (slot : Slot) → Leads (λ n. component n t (spelling n)) (as_component t (spelled slot))
+        (λ around allowed. ReadsAs slot around allowed t)
     whole slot around allowed place cs small room h =
         let s = in-slot slot around allowed t (bare slot) in
         fitting-in around allowed t (ReadsAs slot around allowed t) place cs (spelling around.encoding) (spelled slot) s.behind_s

@@ -1,51 +1,39 @@
 -- Local names and encodings are read in each of their ways.
-use Rattle.std.proofs.Common.{◌≡◌, ℕ, ◌+◌, ◌-◌, ◌<◌, ◌≤◌, length, List, [], ◌∷◌, ◌++◌, Option, Some, None, Bool, true, false, refl, ap, arith, sym, subst, ◌∙◌, append-nil, append_assoc, length-append}
-use Rattle.std.proofs.lemmas.Bool.{ltb-true}
-use Rattle.std.specs.Prelude.{slice_get, cond, codes, nat_lt, ◌&&◌}
-use Rattle.sym_core.specs.declared.NumberKind.TheVariants.{Digits}
+use Rattle.std.proofs.Common.{◌≡◌, ℕ, ◌+◌, ◌≤◌, length, List, [], ◌∷◌, ◌++◌, Option, Some, None, Bool, true, false, refl, ap, arith, sym, subst, ◌∙◌, append-nil, append_assoc, length-append}
+use Rattle.std.specs.Prelude.{codes}
 use Rattle.sym_shape.specs.declared.rule.Sym.TheVariants.{Kind as OfKind}
-use Rattle.sym_shape.specs.Tree.{TakesRule}
 use Rattle.sym_spell.specs.Pressing.{◌and◌, text, nothing}
 use Rattle.cpp_grammar.specs.declared.kind.Kind.{Kind}
-use Rattle.cpp_grammar.specs.declared.production.Production.{Production}
-use Rattle.cpp_grammar.specs.Grammar.{in_ranges, among, is_in, pick, alternatives, choose, kinds, is_chain, may_be_empty}
-use Rattle.cpp_grammar.specs.Table.{abi, rule_of}
-use Rattle.cpp_grammar.specs.Term.{Adjustment, non_virtual, by_table, Thunk, adjusting, covariant, symbol, function, object, special, thunk, guard, absent, Qualifiers, RefQualifier, lvalue_only, rvalue_only, local, any_value, Signed, Term, abbreviation, parameter, source, operator, literal_operator, constructor, destructor, lambda, unnamed, string_literal, builtin, function_type, integer, boolean, null_pointer, encoding_literal, address_of, pack, nil, list, instance}
+use Rattle.cpp_grammar.specs.Grammar.{kinds, may_be_empty}
+use Rattle.cpp_grammar.specs.Term.{Adjustment, non_virtual, by_table, Thunk, adjusting, covariant, function, object, special, thunk, guard, absent, Qualifiers, RefQualifier, local, Term, nil, list, instance}
 use Rattle.cpp_grammar.specs.Scope.{count, arguments_of, has_return_type}
-use Rattle.cpp_grammar.specs.Values.{Candidate, Around, Value, nothing_there, tree, tree_of, signature}
+use Rattle.cpp_grammar.specs.Values.{Candidate, Around, Value, nothing_there, tree, tree_of}
 use Rattle.cpp_grammar.specs.References.{is_function_type}
-use Rattle.cpp_grammar.specs.Between.{in_name, in_types, after, in_signature, inside, no_items}
-use Rattle.cpp_grammar.specs.Meaning.{encoding_of, is_void, is_nil, parameters}
-use Rattle.cpp_press.specs.Texts.{offset_text, thunk_text, name_letters, discriminator_text, counted, ordinal, signed_text, mark_letter}
+use Rattle.cpp_grammar.specs.Between.{in_name, in_types, after, no_items}
+use Rattle.cpp_grammar.specs.Meaning.{encoding_of, parameters}
+use Rattle.cpp_press.specs.Texts.{offset_text, thunk_text, name_letters, discriminator_text, signed_text}
 use Rattle.cpp_press.specs.Components.{Spelling, component}
-use Rattle.cpp_press.specs.Pressing.{begun, encoding_ways, in_N_and_E, is_one_piece, entity_text, local_text, ways_of, no_ways, type_ways, piece_ways, argument_ways, function_text}
-use Rattle.cpp_press.proofs.Tokens.{greatest}
-use Rattle.cpp_press.proofs.Reading.{Written, written, ReadsAt, takes-byte, empty-reads}
-use Rattle.cpp_press.proofs.ReadingTypes.{Is, same-written, more, function-under-qualifiers, noexcept-under-qualifiers}
-use Rattle.cpp_press.proofs.ReadingSolids.{builtin-solid, builtin-behind-d}
-use Rattle.cpp_press.proofs.ReadingFunctions.{IsInScope, parameter-solid, mark_bytes, function-solid, noexcept-behind-d}
-use Rattle.cpp_press.proofs.ReadingArguments.{items_value, items-more, IsSpellableNumber, integer-reads}
-use Rattle.cpp_press.proofs.ReadingLiterals.{boolean-literal, null-literal, char-literal, encoding-literal, literal-argument, literal-element, pack-argument, address-reads, address-argument, address-element}
-use Rattle.cpp_press.proofs.ReadingNames.{SoFar, Extends}
-use Rattle.cpp_press.proofs.ReadingParameters.{RestReads, end-reads, none-read}
-use Rattle.cpp_press.proofs.ReadingQualified.{abbreviation-behind-s}
-use Rattle.cpp_press.proofs.Keeping.{Keeps, keeps-text, keeps-and, keeps-front, keeps-behind, keeps-component, keeps}
-use Rattle.cpp_press.proofs.ReadingSlots.{HasRoom, IsSmall, room-first, room-rest, few-before, ReadsAs, solid_kind, is_bare, room-component, in-slot, InSlot, component-in, fitting-in}
-use Rattle.cpp_press.proofs.ReadingNamed.{PieceReads, ItemsRead, source-reads, operator-piece-reads, literal-operator-piece-reads, constructor-piece-reads, destructor-piece-reads, lambda-piece-reads, unnamed-piece-reads}
-use Rattle.cpp_press.proofs.ReadingBetween.{in_I_and_E, ElementsRead, ExtendsWith, extends-with-behind-s, prefix-behind-s, prefix-parameter, prefix-with-parameter}
-use Rattle.cpp_press.proofs.ReadingTemplates.{TypeRules, slot-rules, TemplateKind, InstancedAt, instanced-behind-s, parameter-instanced, of_elements, ReadElements, elements-room}
-use Rattle.cpp_press.proofs.Readings.{NameReads, EntityReads, TemplateReads, template-value, ListReads, list_kind, ArgumentReads, ParametersRead, with_end, Leads, slot_way, ReadsAll, typed-argument, reads-nowhere, reads-piece, reads-argument, reads-encoding, referred-before}
-use Rattle.cpp_press.proofs.ReadingsOfTypes.{Reading, solid-in-all, with-d-in-all, with-d-kept}
-use Rattle.cpp_press.proofs.ReadingsOfInstances.{items-kept}
-use Rattle.cpp_press.proofs.Fit.{IsSpellableOffset, IsSpellableThunk, either, encoding_fits, takes_all, behind_bytes, Role, in_type, in_name_with, letters_of, IsSpellableDiscriminator, Slot, any_type, bare_type, item_type, parameter_type, literal_type, takes_all, IsBuiltin, IsAbbreviation, NamesArgument, Fitting, IsFirst, as_component, as_reference, as_template, nowhere, Behind, type_fits, piece_fits, argument_fits, fits_nowhere, fits_of}
-use Rattle.cpp_press.proofs.ReadingSolids.{AreSpellableDigits}
+use Rattle.cpp_press.specs.Pressing.{begun, encoding_ways, in_N_and_E, is_one_piece, entity_text, local_text, ways_of, no_ways, type_ways}
+use Rattle.cpp_press.proofs.Reading.{Written, written, ReadsAt, empty-reads}
+use Rattle.cpp_press.proofs.ReadingTypes.{Is, same-written}
+use Rattle.cpp_press.proofs.ReadingArguments.{items-more, integer-reads}
+use Rattle.cpp_press.proofs.ReadingNames.{Extends}
+use Rattle.cpp_press.proofs.Keeping.{Keeps, keeps-text, keeps-and, keeps-front, keeps-behind, keeps}
+use Rattle.cpp_press.proofs.ReadingSlots.{HasRoom, IsSmall, room-first, room-rest, ReadsAs, solid_kind, in-slot, fitting-in}
+use Rattle.cpp_press.proofs.ReadingNamed.{ItemsRead}
+use Rattle.cpp_press.proofs.ReadingBetween.{ExtendsWith, extends-with-behind-s, prefix-behind-s}
+use Rattle.cpp_press.proofs.ReadingTemplates.{TypeRules, slot-rules}
+use Rattle.cpp_press.proofs.Readings.{NameReads, EntityReads, template-value, Leads, slot_way, typed-argument, reads-encoding, referred-before}
+use Rattle.cpp_press.proofs.ReadingsOfTypes.{Reading}
+use Rattle.cpp_press.proofs.Fit.{IsSpellableOffset, IsSpellableThunk, either, Role, in_type, in_name_with, letters_of, IsSpellableDiscriminator, Slot, any_type, bare_type, item_type, parameter_type, literal_type, Fitting, as_component, nowhere, Behind, type_fits, fits_nowhere, fits_of}
 use Rattle.cpp_press.proofs.ReadingSymbols.{discriminator_value, no-discriminator, one-digit, many-digits, local-type, local-name, encoding-reads, guard-reads, special-reads, special-type, non-virtual-thunk, virtual-thunk, covariant-thunk, non-virtual-offset, virtual-offset}
 use Rattle.cpp_grammar.specs.Values.{qualifiers_of, ref_of, named, adjusted}
-use Rattle.cpp_press.proofs.Keeping.{keeps-local, keeps-N-and-E, keeps-choice, choice}
+use Rattle.cpp_press.proofs.Keeping.{keeps-local, keeps-N-and-E, keeps-choice}
 
 -- ## Local names
 
-discriminator-reads : (around : Around) (allowed : Option ℕ) (d : Option (List ℕ)) (place : ℕ) (cs : List Candidate) → IsSpellableDiscriminator d
+discriminator-reads : (around : Around) (allowed : Option ℕ) (d : Option (List ℕ)) (place : ℕ) (cs : List Candidate)
+    → IsSpellableDiscriminator d
     → ReadsAt around allowed (OfKind 25) (Is (discriminator_value d)) place cs (written (discriminator_text d) cs)
 unfolding discriminator_text
 discriminator-reads around allowed None place cs h = no-discriminator around allowed place cs
@@ -77,11 +65,13 @@ keeps-entity n entity letters =
     (keeps entity n).between_N_and_E (keeps-N-and-E letters (ways_of n entity).between_N_and_E (keeps entity n).between_N_and_E)
 
 -- the encoding, the entity and the discriminator
-record LocalParts (role : Role) (around : Around) (allowed : Option ℕ) (e entity : Term) (d : Option (List ℕ)) (place : ℕ) (cs : List Candidate)
+record LocalParts (role : Role) (around : Around) (allowed : Option ℕ) (e entity : Term) (d : Option (List ℕ)) (place : ℕ)
+    (cs : List Candidate)
     (first second : Written) : Type 0 where
   one : ReadsAt around allowed (OfKind 4) (Is (tree e true)) (place + 1) cs first
   two : EntityReads role (after e true around) allowed entity (place + 1 + length first.bytes + 1) first.components second
-  three : ReadsAt (after e true around) allowed (OfKind 25) (Is (discriminator_value d)) (place + 1 + length first.bytes + 1 + length second.bytes)
+  three : ReadsAt (after e true around) allowed (OfKind 25) (Is (discriminator_value d))
+      (place + 1 + length first.bytes + 1 + length second.bytes)
       second.components (written (discriminator_text d) second.components)
 
 local-parts : (e entity : Term) (d : Option (List ℕ)) → Reading e → Reading entity → (role : Role) (around : Around) (allowed : Option ℕ)
@@ -104,12 +94,14 @@ local-parts e entity d re rn role around allowed place cs small room h =
     record {
       one = re.as_encoding around allowed (place + 1) cs small
           (room-first spelled (text (codes "E") and name and end) (place + 1) cs
-          (keeps-front (codes "E") (name and end) (keeps-behind name (discriminator_text d) (keeps-entity n entity (letters_of role)))) inner) h.0;
+          (keeps-front (codes "E") (name and end) (keeps-behind name (discriminator_text d) (keeps-entity n entity
+          (letters_of role)))) inner) h.0;
       two = rn.as_entity role (after e true around) allowed at first.components small
           (room-first name end at first.components (keeps-text _) named_room)
           (subst (λ q. (fits_of entity).as_entity role (after e true around) allowed q first.components)
           (omega (arith, length-append first.bytes (69 ∷ []))) h.1);
-      three = discriminator-reads (after e true around) allowed d (at + length (name at first.components).bytes) (name at first.components).components h.2;
+      three = discriminator-reads (after e true around) allowed d (at + length (name at first.components).bytes)
+          (name at first.components).components h.2;
     }
 
 local-typed : (e entity : Term) (d : Option (List ℕ)) → Reading e → Reading entity → (k : ℕ) → TypeRules k → (around : Around)
@@ -122,7 +114,8 @@ local-typed e entity d re rn k rules around allowed place cs small room h =
     let first : Written = (ways_of n e).as_encoding (place + 1) cs in
     let second : Written = entity_spelling n entity [] (place + 1 + length first.bytes + 1) first.components in
     let p = local-parts e entity d re rn in_type around allowed place cs small room h in
-    local-type k around allowed e entity false d place cs first second (written (discriminator_text d) second.components) rules.locals p.one p.two
+    local-type k around allowed e entity false d place cs first second (written
+    (discriminator_text d) second.components) rules.locals p.one p.two
     p.three
 
 local-as-name : (e entity : Term) (d : Option (List ℕ)) → Reading e → Reading entity → (q : Qualifiers) (ref : RefQualifier) (around : Around)
@@ -141,13 +134,15 @@ local-as-name e entity d re rn q ref around allowed place cs small room h =
       tree_is = ap (λ x. local e x d) p.two.tree_is;
       qualifiers_are = p.two.qualifiers_are;
       ref_is = p.two.ref_is;
-      reads = local-name around allowed e p.two.value d place cs first second (written (discriminator_text d) second.components) p.one p.two.reads
+      reads = local-name around allowed e p.two.value d place cs first second (written
+          (discriminator_text d) second.components) p.one p.two.reads
           p.three;
     }
 
-keeps-local_ : (n : ℕ) (e entity : Term) (d : Option (List ℕ)) (letters : List ℕ) → Keeps (local_spelling n e entity d letters)
-keeps-local_ n e entity d letters =
-    keeps-local (ways_of n e).as_encoding entity (ways_of n entity).between_N_and_E d letters (keeps e n).as_encoding (keeps entity n).between_N_and_E
+keeps-local-spelling : (n : ℕ) (e entity : Term) (d : Option (List ℕ)) (letters : List ℕ) → Keeps (local_spelling n e entity d letters)
+keeps-local-spelling n e entity d letters =
+    keeps-local (ways_of n e).as_encoding entity (ways_of n entity).between_N_and_E d letters (keeps e n).as_encoding
+    (keeps entity n).between_N_and_E
 
 pub reads-local : (e entity : Term) (d : Option (List ℕ)) → Reading e → Reading entity → Reading (local e entity d)
 unfolding ways_of fits_of fits_nowhere type_fits type_ways no_ways is_function_type
@@ -156,11 +151,13 @@ reads-local e entity d re rn = record {
   as_prefix = λ around allowed place cs small room h.
       fitting-in around allowed (local e entity d) (Extends around allowed (local e entity d)) place cs
       (local_spelling around.encoding e entity d []) nowhere
-      (prefix-behind-s around allowed (local e entity d)) (keeps-local_ around.encoding e entity d []) room h (λ fits enough. absurd fits);
+      (prefix-behind-s around allowed (local e entity d)) (keeps-local-spelling around.encoding e entity d []) room h
+      (λ fits enough. absurd fits);
   as_prefix_template = λ around allowed place cs small room h.
       fitting-in around allowed (local e entity d) (ExtendsWith around allowed (local e entity d)) place cs
       (local_spelling around.encoding e entity d []) nowhere
-      (extends-with-behind-s around allowed (local e entity d)) (keeps-local_ around.encoding e entity d []) room h (λ fits enough. absurd fits);
+      (extends-with-behind-s around allowed (local e entity d)) (keeps-local-spelling around.encoding e entity d []) room h
+      (λ fits enough. absurd fits);
   between = λ around allowed place cs small room h. absurd h;
   between_template = λ around allowed place cs small room h. absurd h;
   as_entity = λ role around allowed place cs small room h. absurd h;
@@ -170,8 +167,9 @@ reads-local e entity d re rn = record {
   as_name = λ q ref around allowed place cs small room h. local-as-name e entity d re rn q ref around allowed place cs small room h;
   before = λ typed k kind around allowed place cs arguments elements items last are read kept small room h.
       template-value typed around allowed k (instance (local e entity d) items) place cs _
-      (referred-before typed k around allowed (local e entity d) kind place cs (local_spelling around.encoding e entity d []) arguments elements
-      items last are read (keeps-local_ around.encoding e entity d []) kept room h);
+      (referred-before typed k around allowed (local e entity d) kind place cs
+      (local_spelling around.encoding e entity d []) arguments elements
+      items last are read (keeps-local-spelling around.encoding e entity d []) kept room h);
   as_argument = λ in_pack around allowed place cs small room h.
       typed-argument in_pack around allowed (local e entity d) place cs _ (whole item_type around allowed place cs small room h);
   as_items = λ around allowed place cs small room h. absurd h;
@@ -187,7 +185,7 @@ reads-local e entity d re rn = record {
         let s = in-slot slot around allowed (local e entity d) refl in
         fitting-in around allowed (local e entity d) (ReadsAs slot around allowed (local e entity d)) place cs
         (local_spelling around.encoding e entity d [])
-        (local_fits e entity d in_type) s.behind_s (keeps-local_ around.encoding e entity d []) room h
+        (local_fits e entity d in_type) s.behind_s (keeps-local-spelling around.encoding e entity d []) room h
         (λ fits enough. s.adds place cs (local_spelling around.encoding e entity d [] place cs)
         (local-typed e entity d re rn (solid_kind slot) (slot-rules slot) around allowed place cs small enough fits))
 
@@ -216,7 +214,8 @@ CountsArguments =
     → count arguments ≤ length ((ways_of around.encoding t).as_name (name_letters q ref) place cs).bytes
 
 -- items behind a function's name, as they are read
-record FunctionItems (around : Around) (allowed : Option ℕ) (v : Value) (t : Term) (place : ℕ) (cs : List Candidate) (w : Written) : Type 0 where
+record FunctionItems (around : Around) (allowed : Option ℕ) (v : Value) (t : Term) (place : ℕ) (cs : List Candidate)
+    (w : Written) : Type 0 where
   last : Value
   means : encoding_of v (no_items last) ≡ t
   reads : ReadsAt around allowed (OfKind 41) (Is last) place cs w
@@ -235,7 +234,8 @@ encoding-returned v name first rest ps q ref a b c d e =
     ∙ ap (λ x. function name q ref first x) e
 
 encoding-plain : (v : Value) (name first rest ps : Term) (q : Qualifiers) (ref : RefQualifier) → tree_of v ≡ name → qualifiers_of v ≡ q
-    → ref_of v ≡ ref → has_return_type name ≡ false → parameters (list first rest) ≡ ps → encoding_of v (list first rest) ≡ function name q ref absent ps
+    → ref_of v ≡ ref → has_return_type name ≡ false → parameters (list first rest) ≡ ps
+    → encoding_of v (list first rest) ≡ function name q ref absent ps
 unfolding encoding_of
 encoding-plain v name first rest ps q ref a b c d e =
     ap (λ x. elim x as (λ _. Term) [
@@ -258,7 +258,8 @@ items-whole : (around : Around) (allowed : Option ℕ) (ps : Term) (place : ℕ)
     → ReadsAt around allowed (OfKind 41) (Is (tree (list i.first i.items) true)) place cs w
 items-whole around allowed ps place cs w i =
     subst (λ l. ReadsAt around allowed (OfKind 41) (Is (tree (list i.first i.items) true)) place cs (written l w.components)) i.split
-    (subst (λ ds. ReadsAt around allowed (OfKind 41) (Is (tree (list i.first i.items) true)) place cs (written (i.one.bytes ++ i.rest.bytes) ds))
+    (subst (λ ds. ReadsAt around allowed (OfKind 41) (Is (tree (list i.first i.items) true)) place cs (written
+    (i.one.bytes ++ i.rest.bytes) ds))
     i.components
     (items-more around allowed i.first i.items i.last place cs i.one i.rest i.are
     (subst (λ q. ReadsAt around allowed (OfKind 30) (Is (tree i.first true)) q cs i.one) (omega arith) i.reads_one)
@@ -279,7 +280,7 @@ returned-items name r ps q ref rr rp around allowed v place cs small room a b c 
     let w : Written = (ways_of n r).as_type place cs in
     let x : Written = (ways_of n ps).as_parameters (place + length w.bytes) w.components in
     let i = rp.as_items around allowed (place + length w.bytes) w.components small
-        (room-rest (ways_of n r).as_type (ways_of n ps).as_parameters place cs room) two in
+    (room-rest (ways_of n r).as_type (ways_of n ps).as_parameters place cs room) two in
     record {
       last = tree (list r (list i.first i.items)) true;
       means = encoding-returned v name r (list i.first i.items) ps q ref a b c has i.means;
@@ -347,19 +348,21 @@ reads-function counts name r ps q ref rn rr rp =
     let c : Spelling = (ways_of here ps).as_parameters in
     let first : Written = a here cs in
     let at : ℕ = here + length first.bytes in
-    let named_room : HasRoom first = room-first a (b and c) here cs (keeps-and b c (keeps r here).as_type (keeps ps here).as_parameters) room in
+    let named_room : HasRoom first = room-first a (b and c) here cs (keeps-and b c (keeps r here).as_type
+    (keeps ps here).as_parameters) room in
     let v = rn.as_name q ref (in_name here) allowed here cs (name-small here) named_room h.0 in
     let i = function-items name r ps q ref rr rp (in_types here name) allowed v.value at first.components
-        (types-small counts name q ref allowed here cs h.0 named_room) (room-rest a (b and c) here cs room) v.tree_is v.qualifiers_are v.ref_is
-        (has_return_type name) refl h.1
-        (subst (λ p. (fits_of ps).as_parameters item_type (in_types here name) allowed p (b at first.components).components)
-        (omega (arith, length-append first.bytes (b at first.components).bytes)) h.2) in
+    (types-small counts name q ref allowed here cs h.0 named_room) (room-rest a (b and c) here cs room) v.tree_is v.qualifiers_are v.ref_is
+    (has_return_type name) refl h.1
+    (subst (λ p. (fits_of ps).as_parameters item_type (in_types here name) allowed p (b at first.components).components)
+    (omega (arith, length-append first.bytes (b at first.components).bytes)) h.2) in
     subst (λ x. ReadsAt around allowed (OfKind 4) (Is (tree x true)) here cs ((a and b and c) here cs)) i.means
     (encoding-reads around allowed v.value i.last here cs first ((b and c) at first.components)
     (subst (λ p. ReadsAt (in_name here) allowed (OfKind 8) (Is v.value) p cs first) (omega arith) v.reads)
     (subst (λ x. ReadsAt (in_types here x) allowed (OfKind 41) (Is i.last) (here + 0 + length first.bytes) first.components
     ((b and c) at first.components)) (sym v.tree_is)
-    (subst (λ p. ReadsAt (in_types here name) allowed (OfKind 41) (Is i.last) p first.components ((b and c) at first.components)) (omega arith)
+    (subst (λ p. ReadsAt (in_types here name) allowed (OfKind 41) (Is i.last) p first.components ((b and c) at first.components))
+    (omega arith)
     i.reads))))
 
 pub reads-object : (name : Term) (q : Qualifiers) (ref : RefQualifier) → Reading name → Reading (object name q ref)
@@ -370,7 +373,8 @@ reads-object name q ref rn =
     let v = rn.as_name q ref (in_name here) allowed here cs (name-small here) room h in
     subst (λ x. ReadsAt around allowed (OfKind 4) (Is (tree x true)) here cs first)
     (encoding-object v.value name q ref v.tree_is v.qualifiers_are v.ref_is)
-    (same-written around allowed (OfKind 4) (Is (tree (encoding_of v.value nil) true)) here cs first.components (first.bytes ++ []) first.bytes
+    (same-written around allowed (OfKind 4) (Is (tree (encoding_of v.value nil) true)) here cs first.components
+    (first.bytes ++ []) first.bytes
     (append-nil first.bytes)
     (encoding-reads around allowed v.value nothing_there here cs first (written [] first.components)
     (subst (λ p. ReadsAt (in_name here) allowed (OfKind 8) (Is v.value) p cs first) (omega arith) v.reads)
@@ -433,7 +437,11 @@ thunk-reads (adjusting (non_virtual n)) around allowed e place cs w h one =
     (written (104 ∷ (signed_text n ++ (95 ∷ w.bytes))) w.components)
     (non-virtual-thunk (in_name place) allowed n e (place + 1) cs (written (signed_text n) cs) w
     (integer-reads (in_name place) allowed n (place + 1 + 1) cs h)
-    (subst (λ p. ReadsAt (in_name place) allowed (OfKind 4) (Is (tree e true)) p cs w) (omega (arith, length-append (signed_text n) (95 ∷ []))) one)))
+    (subst (λ p. ReadsAt (in_name place) allowed (OfKind 4) (Is (tree e true)) p cs w) (omega (
+      arith,
+      length-append (signed_text n)
+          (95 ∷ []),
+    )) one)))
 thunk-reads (adjusting (by_table n m)) around allowed e place cs w h one =
     same-written around allowed (OfKind 4) (Is (tree (thunk (adjusting (by_table n m)) e) true)) place cs w.components
     (84 ∷ 118 ∷ (signed_text n ++ (95 ∷ (signed_text m ++ (95 ∷ w.bytes)))))
@@ -446,8 +454,12 @@ thunk-reads (adjusting (by_table n m)) around allowed e place cs w h one =
     (integer-reads (in_name place) allowed n (place + 1 + 1) cs h.0)
     (integer-reads (in_name place) allowed m (place + 1 + 1 + length (signed_text n) + 1) cs h.1)
     (subst (λ p. ReadsAt (in_name place) allowed (OfKind 4) (Is (tree e true)) p cs w)
-    (omega (arith, length-append ((signed_text n ++ (95 ∷ [])) ++ signed_text m) (95 ∷ []), length-append (signed_text n ++ (95 ∷ [])) (signed_text m),
-    length-append (signed_text n) (95 ∷ []))) one)))
+    (omega (
+      arith,
+      length-append ((signed_text n ++ (95 ∷ [])) ++ signed_text m) (95 ∷ []),
+      length-append (signed_text n ++ (95 ∷ [])) (signed_text m),
+      length-append (signed_text n) (95 ∷ []),
+    )) one)))
 thunk-reads (covariant a b) around allowed e place cs w h one =
     same-written around allowed (OfKind 4) (Is (tree (thunk (covariant a b) e) true)) place cs w.components
     (84 ∷ 99 ∷ (offset_text a ++ (offset_text b ++ w.bytes))) (84 ∷ 99 ∷ ((offset_text a ++ offset_text b) ++ w.bytes))
@@ -457,7 +469,11 @@ thunk-reads (covariant a b) around allowed e place cs w h one =
     (covariant-thunk (in_name place) allowed a b e (place + 1) cs (written (offset_text a) cs) (written (offset_text b) cs) w
     (offset-reads (in_name place) allowed a (place + 1 + 1) cs h.0)
     (offset-reads (in_name place) allowed b (place + 1 + 1 + length (offset_text a)) cs h.1)
-    (subst (λ p. ReadsAt (in_name place) allowed (OfKind 4) (Is (tree e true)) p cs w) (omega (arith, length-append (offset_text a) (offset_text b)))
+    (subst (λ p. ReadsAt (in_name place) allowed (OfKind 4) (Is (tree e true)) p cs w) (omega (
+      arith,
+      length-append (offset_text a)
+          (offset_text b),
+    ))
     one)))
 
 pub reads-thunk : (kind : Thunk) (e : Term) → Reading e → Reading (thunk kind e)
@@ -466,4 +482,5 @@ reads-thunk kind e r =
     reads-encoding (thunk kind e) _ _ (λ around allowed here cs small room h.
     let at : ℕ = here + length (thunk_text kind) in
     thunk-reads kind around allowed e here cs ((ways_of here e).as_encoding at cs) h.0
-    (r.as_encoding (in_name here) allowed at cs (name-small here) (room-rest (text (thunk_text kind)) (ways_of here e).as_encoding here cs room) h.1))
+    (r.as_encoding (in_name here) allowed at cs (name-small here) (room-rest (text (thunk_text kind))
+    (ways_of here e).as_encoding here cs room) h.1))

@@ -1,47 +1,33 @@
 -- Lists, function types and local names are read in each of their ways.
-use Rattle.std.proofs.Common.{◌≡◌, ℕ, ◌+◌, ◌-◌, ◌<◌, ◌≤◌, length, List, [], ◌∷◌, ◌++◌, Option, Some, None, Bool, true, false, refl, ap, arith, sym, subst, ◌∙◌, append-nil, append_assoc, length-append}
-use Rattle.std.proofs.lemmas.Bool.{ltb-true}
-use Rattle.std.specs.Prelude.{slice_get, cond, codes, nat_lt, ◌&&◌}
-use Rattle.sym_core.specs.declared.NumberKind.TheVariants.{Digits}
+use Rattle.std.proofs.Common.{◌≡◌, ℕ, ◌+◌, length, List, [], ◌∷◌, ◌++◌, Option, Some, Bool, true, false, refl, ap, arith, sym, subst, append_assoc, length-append}
+use Rattle.std.specs.Prelude.{slice_get, cond, codes, ◌&&◌}
 use Rattle.sym_shape.specs.declared.rule.Sym.TheVariants.{Kind as OfKind}
-use Rattle.sym_shape.specs.Tree.{TakesRule}
-use Rattle.sym_spell.specs.Pressing.{◌and◌, text, nothing}
+use Rattle.sym_spell.specs.Pressing.{◌and◌, text}
 use Rattle.cpp_grammar.specs.declared.kind.Kind.{Kind}
 use Rattle.cpp_grammar.specs.declared.production.Production.{Production}
 use Rattle.cpp_grammar.specs.Grammar.{in_ranges, among, is_in, pick, alternatives, choose, kinds, is_chain, may_be_empty}
-use Rattle.cpp_grammar.specs.Table.{abi, rule_of}
-use Rattle.cpp_grammar.specs.Term.{Qualifiers, RefQualifier, lvalue_only, rvalue_only, local, any_value, Signed, Term, abbreviation, parameter, source, operator, literal_operator, constructor, destructor, lambda, unnamed, string_literal, builtin, function_type, integer, boolean, null_pointer, encoding_literal, address_of, pack, nil, list, instance}
-use Rattle.cpp_grammar.specs.Scope.{count}
-use Rattle.cpp_grammar.specs.Values.{Candidate, Around, Value, nothing_there, tree, tree_of, signature}
+use Rattle.cpp_grammar.specs.Term.{RefQualifier, Term, builtin, function_type, nil, list, instance}
+use Rattle.cpp_grammar.specs.Values.{Candidate, Around, nothing_there, tree}
 use Rattle.cpp_grammar.specs.References.{is_function_type}
-use Rattle.cpp_grammar.specs.Between.{after, in_signature, inside, no_items}
+use Rattle.cpp_grammar.specs.Between.{no_items}
 use Rattle.cpp_grammar.specs.Meaning.{is_void, is_nil, parameters}
-use Rattle.cpp_press.specs.Texts.{name_letters, discriminator_text, counted, ordinal, signed_text, mark_letter}
+use Rattle.cpp_press.specs.Texts.{mark_letter}
 use Rattle.cpp_press.specs.Components.{Spelling, component}
-use Rattle.cpp_press.specs.Pressing.{in_N_and_E, is_one_piece, entity_text, local_text, ways_of, no_ways, type_ways, piece_ways, argument_ways, function_text}
-use Rattle.cpp_press.proofs.Tokens.{greatest}
+use Rattle.cpp_press.specs.Pressing.{ways_of, no_ways, type_ways, function_text}
 use Rattle.cpp_press.proofs.Reading.{Written, written, ReadsAt, takes-byte, empty-reads}
-use Rattle.cpp_press.proofs.ReadingTypes.{Is, same-written, more, function-under-qualifiers, noexcept-under-qualifiers}
-use Rattle.cpp_press.proofs.ReadingSolids.{builtin-solid, builtin-behind-d}
-use Rattle.cpp_press.proofs.ReadingFunctions.{IsInScope, parameter-solid, mark_bytes, function-solid, noexcept-behind-d}
-use Rattle.cpp_press.proofs.ReadingArguments.{items_value, items-more, IsSpellableNumber, integer-reads}
-use Rattle.cpp_press.proofs.ReadingLiterals.{boolean-literal, null-literal, char-literal, encoding-literal, literal-argument, literal-element, pack-argument, address-reads, address-argument, address-element}
-use Rattle.cpp_press.proofs.ReadingNames.{SoFar, Extends}
+use Rattle.cpp_press.proofs.ReadingTypes.{Is, more, function-under-qualifiers, noexcept-under-qualifiers}
+use Rattle.cpp_press.proofs.ReadingSolids.{builtin-solid}
+use Rattle.cpp_press.proofs.ReadingFunctions.{function-solid, noexcept-behind-d}
+use Rattle.cpp_press.proofs.ReadingArguments.{items_value, items-more}
+use Rattle.cpp_press.proofs.ReadingNames.{Extends}
 use Rattle.cpp_press.proofs.ReadingParameters.{RestReads, end-reads, none-read}
-use Rattle.cpp_press.proofs.ReadingQualified.{abbreviation-behind-s}
-use Rattle.cpp_press.proofs.Keeping.{Keeps, keeps-text, keeps-and, keeps-front, keeps-behind, keeps-component, keeps}
-use Rattle.cpp_press.proofs.ReadingSlots.{HasRoom, IsSmall, room-first, room-rest, few-before, ReadsAs, solid_kind, is_bare, room-component, in-slot, InSlot, component-in, fitting-in}
-use Rattle.cpp_press.proofs.ReadingNamed.{PieceReads, ItemsRead, source-reads, operator-piece-reads, literal-operator-piece-reads, constructor-piece-reads, destructor-piece-reads, lambda-piece-reads, unnamed-piece-reads}
-use Rattle.cpp_press.proofs.ReadingBetween.{in_I_and_E, ElementsRead, ExtendsWith, extends-with-behind-s, prefix-behind-s, prefix-parameter, prefix-with-parameter}
-use Rattle.cpp_press.proofs.ReadingTemplates.{TypeRules, slot-rules, TemplateKind, InstancedAt, instanced-behind-s, parameter-instanced, of_elements, ReadElements, elements-room}
-use Rattle.cpp_press.proofs.Readings.{NameReads, EntityReads, TemplateReads, template-value, ListReads, list_kind, ArgumentReads, ParametersRead, with_end, Leads, slot_way, ReadsAll, typed-argument, reads-nowhere, reads-piece, reads-argument, referred-before}
-use Rattle.cpp_press.proofs.ReadingsOfTypes.{Reading, solid-in-all, with-d-in-all, with-d-kept}
+use Rattle.cpp_press.proofs.Keeping.{Keeps, keeps-text, keeps-and, keeps-front, keeps-behind, keeps}
+use Rattle.cpp_press.proofs.ReadingSlots.{HasRoom, IsSmall, room-first, room-rest, ReadsAs, is_bare, in-slot, fitting-in}
+use Rattle.cpp_press.proofs.ReadingBetween.{ExtendsWith, extends-with-behind-s, prefix-behind-s}
+use Rattle.cpp_press.proofs.Readings.{template-value, ListReads, list_kind, with_end, Leads, slot_way, typed-argument, referred-before}
+use Rattle.cpp_press.proofs.ReadingsOfTypes.{Reading, solid-in-all, with-d-in-all}
 use Rattle.cpp_press.proofs.ReadingsOfInstances.{items-kept}
-use Rattle.cpp_press.proofs.Fit.{takes_all, behind_bytes, Role, in_type, in_name_with, letters_of, IsSpellableDiscriminator, Slot, any_type, bare_type, item_type, parameter_type, literal_type, takes_all, IsBuiltin, IsAbbreviation, NamesArgument, Fitting, IsFirst, as_component, as_reference, as_template, nowhere, Behind, type_fits, piece_fits, argument_fits, fits_nowhere, fits_of}
-use Rattle.cpp_press.proofs.ReadingSolids.{AreSpellableDigits}
-use Rattle.cpp_press.proofs.ReadingSymbols.{discriminator_value, no-discriminator, one-digit, many-digits, local-type, local-name}
-use Rattle.cpp_grammar.specs.Values.{qualifiers_of, ref_of, named}
-use Rattle.cpp_press.proofs.Keeping.{keeps-N-and-E, keeps-choice, choice}
+use Rattle.cpp_press.proofs.Fit.{takes_all, Slot, any_type, bare_type, item_type, parameter_type, literal_type, takes_all, Fitting, as_component, nowhere, Behind, type_fits, fits_nowhere, fits_of}
 
 -- ## Lists
 
@@ -73,18 +59,18 @@ reads-nil = record {
   before = λ typed k kind around allowed place cs arguments elements items last are read kept small room h. absurd h;
   as_argument = λ in_pack around allowed place cs small room h. absurd h;
   as_items = λ around allowed place cs small room h. record {
-        first = builtin (118 ∷ []);
-        items = nil;
-        last = nothing_there;
-        one = written (118 ∷ []) cs;
-        rest = written [] cs;
-        are = refl;
-        means = refl;
-        split = refl;
-        components = refl;
-        reads_one = void-item around allowed place cs;
-        reads_rest = empty-reads around allowed 41 Kind.Items (place + 1) cs refl refl;
-      };
+    first = builtin (118 ∷ []);
+    items = nil;
+    last = nothing_there;
+    one = written (118 ∷ []) cs;
+    rest = written [] cs;
+    are = refl;
+    means = refl;
+    split = refl;
+    components = refl;
+    reads_one = void-item around allowed place cs;
+    reads_rest = empty-reads around allowed 41 Kind.Items (place + 1) cs refl refl;
+  };
   as_more_items = λ around allowed place cs small room h. empty-list 41 Kind.Items around allowed place cs refl refl;
   as_parameters = λ ref around allowed place cs small room h.
       (list (builtin (118 ∷ [])) nil, refl, none-read around allowed ref place cs);
@@ -129,7 +115,7 @@ reads-list f r rf rr = record {
       let n : ℕ = around.encoding in
       let one : Written = (ways_of n f).as_type place cs in
       let m = rr.as_more_items around allowed (place + length one.bytes) one.components small
-          (room-rest (ways_of n f).as_type (ways_of n r).as_more_parameters place cs room) h.1.1 in
+      (room-rest (ways_of n f).as_type (ways_of n r).as_more_parameters place cs room) h.1.1 in
       record {
         first = f;
         items = r;
@@ -149,7 +135,7 @@ reads-list f r rf rr = record {
       let one : Written = (ways_of n f).as_type place cs in
       let rest : Written = (ways_of n r).as_more_parameters (place + length one.bytes) one.components in
       let m = rr.as_more_items around allowed (place + length one.bytes) one.components small
-          (room-rest (ways_of n f).as_type (ways_of n r).as_more_parameters place cs room) h.1 in (
+      (room-rest (ways_of n f).as_type (ways_of n r).as_more_parameters place cs room) h.1 in (
         items-kept (list f r),
         items-more around allowed f r (items_value r) place cs one rest m.0
             (subst (λ q. ReadsAt around allowed (OfKind 30) (Is (tree f true)) q cs one) (omega arith)
@@ -165,10 +151,11 @@ reads-list f r rf rr = record {
       let one : Written = (ways_of n f).as_argument place cs in
       let rest : Written = (ways_of n r).as_elements (place + length one.bytes) one.components in
       let m = rr.as_elements in_pack around allowed (place + length one.bytes) one.components small
-          (room-rest (ways_of n f).as_argument (ways_of n r).as_elements place cs room) h.1 in (
+      (room-rest (ways_of n f).as_argument (ways_of n r).as_elements place cs room) h.1 in (
         items-kept (list f r),
         rf.as_argument in_pack around allowed place cs small
-            (room-first (ways_of n f).as_argument (ways_of n r).as_elements place cs (keeps r n).as_elements room) h.0 r (items_value r) rest m.0 m.1,
+            (room-first (ways_of n f).as_argument (ways_of n r).as_elements place cs (keeps r n).as_elements room) h.0 r
+            (items_value r) rest m.0 m.1,
       );
 }
   where
@@ -182,7 +169,8 @@ reads-list f r rf rr = record {
         let rest : Written = (ways_of n r).as_more_parameters (place + length one.bytes) one.components in
         subst (RestReads around allowed (list f r) ref place cs) (sym (more-with-end ref one rest))
         (rf.as_type parameter_type around allowed place cs small
-        (room-first (ways_of n f).as_type (ways_of n r).as_more_parameters place cs (keeps r n).as_more_parameters room) h.0 r ref (with_end ref rest)
+        (room-first (ways_of n f).as_type (ways_of n r).as_more_parameters place cs (keeps r n).as_more_parameters room) h.0 r ref
+        (with_end ref rest)
         (rr.as_more_parameters ref around allowed (place + length one.bytes) one.components small
         (room-rest (ways_of n f).as_type (ways_of n r).as_more_parameters place cs room) h.1))
 
@@ -198,22 +186,26 @@ function_spelling n c_linkage noexcept ref a ps =
 abbrev function_fits : (c_linkage noexcept : Bool) → (a ps : Term) → Fitting
 function_fits c_linkage noexcept a ps around allowed place cs =
     (fits_of a).as_type any_type around allowed (place + length (marks_of c_linkage noexcept)) cs
-    × Behind (text (marks_of c_linkage noexcept) and (ways_of around.encoding a).as_type) ((fits_of ps).as_parameters parameter_type around allowed) place cs
+    × Behind (text (marks_of c_linkage noexcept) and (ways_of around.encoding a).as_type)
+    ((fits_of ps).as_parameters parameter_type around allowed) place cs
 
-keeps-function : (n : ℕ) (c_linkage noexcept : Bool) (ref : RefQualifier) (a ps : Term) → Keeps (function_spelling n c_linkage noexcept ref a ps)
+keeps-function : (n : ℕ) (c_linkage noexcept : Bool) (ref : RefQualifier) (a ps : Term)
+    → Keeps (function_spelling n c_linkage noexcept ref a ps)
 keeps-function n c_linkage noexcept ref a ps =
     keeps-front (marks_of c_linkage noexcept) ((ways_of n a).as_type and (ways_of n ps).as_parameters and text (mark_letter ref ++ codes "E"))
     (keeps-and (ways_of n a).as_type ((ways_of n ps).as_parameters and text (mark_letter ref ++ codes "E")) (keeps a n).as_type
     (keeps-behind (ways_of n ps).as_parameters (mark_letter ref ++ codes "E") (keeps ps n).as_parameters))
 
 -- the return type, and the parameters with the end
-record FunctionParts (around : Around) (allowed : Option ℕ) (ref : RefQualifier) (a ps : Term) (at : ℕ) (cs : List Candidate) (one rest : Written) : Type 0 where
+record FunctionParts (around : Around) (allowed : Option ℕ) (ref : RefQualifier) (a ps : Term) (at : ℕ) (cs : List Candidate)
+    (one rest : Written) : Type 0 where
   items : Term
   means : parameters items ≡ ps
   reads_one : ReadsAt around allowed (OfKind 28) (Is (tree a true)) at cs one
   reads_rest : RestReads around allowed items ref (at + length one.bytes) one.components (with_end ref rest)
 
-function-parts : (c_linkage noexcept : Bool) (ref : RefQualifier) (a ps : Term) → Reading a → Reading ps → (around : Around) (allowed : Option ℕ)
+function-parts : (c_linkage noexcept : Bool) (ref : RefQualifier) (a ps : Term) → Reading a → Reading ps
+    → (around : Around) (allowed : Option ℕ)
     (place : ℕ) (cs : List Candidate) → IsSmall around → HasRoom (function_spelling around.encoding c_linkage noexcept ref a ps place cs)
     → function_fits c_linkage noexcept a ps around allowed place cs
     → (let at = place + length (marks_of c_linkage noexcept) in
@@ -227,10 +219,10 @@ function-parts c_linkage noexcept ref a ps ra rp around allowed place cs small r
     let one : Written = (ways_of n a).as_type at cs in
     let inner = room-rest (text front) ((ways_of n a).as_type and (ways_of n ps).as_parameters and end) place cs room in
     let p = rp.as_parameters ref around allowed (at + length one.bytes) one.components small
-        (room-first (ways_of n ps).as_parameters end (at + length one.bytes) one.components (keeps-text _)
-        (room-rest (ways_of n a).as_type ((ways_of n ps).as_parameters and end) at cs inner))
-        (subst (λ q. (fits_of ps).as_parameters parameter_type around allowed q one.components)
-        (omega (arith, length-append front one.bytes)) h.1) in
+    (room-first (ways_of n ps).as_parameters end (at + length one.bytes) one.components (keeps-text _)
+    (room-rest (ways_of n a).as_type ((ways_of n ps).as_parameters and end) at cs inner))
+    (subst (λ q. (fits_of ps).as_parameters parameter_type around allowed q one.components)
+    (omega (arith, length-append front one.bytes)) h.1) in
     record {
       items = p.0;
       means = p.1;
@@ -244,9 +236,11 @@ function-parts c_linkage noexcept ref a ps ra rp around allowed place cs small r
 abbrev FunctionReads : (noexcept : Bool) → Around → Option ℕ → Term → ℕ → List Candidate → Written → Type 0
 FunctionReads false around allowed t place cs w = ReadsAt around allowed (OfKind 34) (Is (tree t false)) place cs w
 FunctionReads true around allowed t place cs w =
-    (inner : Written) × (w ≡ written (68 ∷ inner.bytes) inner.components) × ReadsAt around allowed (OfKind 33) (Is (tree t false)) (place + 1) cs inner
+    (inner : Written) × (w ≡ written (68 ∷ inner.bytes) inner.components)
+    × ReadsAt around allowed (OfKind 33) (Is (tree t false)) (place + 1) cs inner
 
-function-reads : (c_linkage noexcept : Bool) (ref : RefQualifier) (a ps : Term) → Reading a → Reading ps → (around : Around) (allowed : Option ℕ)
+function-reads : (c_linkage noexcept : Bool) (ref : RefQualifier) (a ps : Term) → Reading a → Reading ps
+    → (around : Around) (allowed : Option ℕ)
     (place : ℕ) (cs : List Candidate) → IsSmall around → HasRoom (function_spelling around.encoding c_linkage noexcept ref a ps place cs)
     → function_fits c_linkage noexcept a ps around allowed place cs
     → FunctionReads noexcept around allowed (function_type c_linkage noexcept ref a ps) place cs
@@ -295,7 +289,8 @@ function-reads false true ref a ps ra rp around allowed place cs small room h =
     )
 
 -- a function type as a component
-function-in : (noexcept : Bool) (slot : Slot) (around : Around) (allowed : Option ℕ) (t : Term) (place : ℕ) (cs : List Candidate) (w : Written)
+function-in : (noexcept : Bool) (slot : Slot) (around : Around) (allowed : Option ℕ) (t : Term) (place : ℕ) (cs : List Candidate)
+    (w : Written)
     → takes_all slot ≡ true → is_function_type t && is_bare slot ≡ false → FunctionReads noexcept around allowed t place cs w
     → ReadsAs slot around allowed t place cs (written w.bytes (more around w.components t))
 function-in false slot around allowed t place cs w all bare one = solid-in-all slot around allowed t place cs w all bare one
@@ -325,8 +320,10 @@ reads-function-type c_linkage noexcept ref a ps ra rp = record {
       (prefix-behind-s around allowed t) (keeps-function around.encoding c_linkage noexcept ref a ps) room h (λ fits enough. absurd fits);
   as_prefix_template = λ around allowed place cs small room h.
       let t : Term = function_type c_linkage noexcept ref a ps in
-      fitting-in around allowed t (ExtendsWith around allowed t) place cs (function_spelling around.encoding c_linkage noexcept ref a ps) nowhere
-      (extends-with-behind-s around allowed t) (keeps-function around.encoding c_linkage noexcept ref a ps) room h (λ fits enough. absurd fits);
+      fitting-in around allowed t (ExtendsWith around allowed t) place cs
+      (function_spelling around.encoding c_linkage noexcept ref a ps) nowhere
+      (extends-with-behind-s around allowed t) (keeps-function around.encoding c_linkage noexcept ref a ps) room h
+      (λ fits enough. absurd fits);
   between = λ around allowed place cs small room h. absurd h;
   between_template = λ around allowed place cs small room h. absurd h;
   as_entity = λ role around allowed place cs small room h. absurd h;
@@ -337,7 +334,8 @@ reads-function-type c_linkage noexcept ref a ps ra rp = record {
   before = λ typed k kind around allowed place cs arguments elements items last are read kept small room h.
       let t : Term = function_type c_linkage noexcept ref a ps in
       template-value typed around allowed k (instance t items) place cs _
-      (referred-before typed k around allowed t kind place cs (function_spelling around.encoding c_linkage noexcept ref a ps) arguments elements
+      (referred-before typed k around allowed t kind place cs
+      (function_spelling around.encoding c_linkage noexcept ref a ps) arguments elements
       items last are read (keeps-function around.encoding c_linkage noexcept ref a ps) kept room h);
   as_argument = λ in_pack around allowed place cs small room h.
       typed-argument in_pack around allowed (function_type c_linkage noexcept ref a ps) place cs _
@@ -359,7 +357,8 @@ reads-function-type c_linkage noexcept ref a ps ra rp = record {
         let s = in-slot slot around allowed t bare in
         fitting-in around allowed t (ReadsAs slot around allowed t) place cs (function_spelling n c_linkage noexcept ref a ps)
         (function_fits c_linkage noexcept a ps) s.behind_s (keeps-function n c_linkage noexcept ref a ps) room h
-        (λ fits enough. function-in noexcept slot around allowed t place cs (function_spelling n c_linkage noexcept ref a ps place cs) all bare
+        (λ fits enough. function-in noexcept slot around allowed t place cs
+        (function_spelling n c_linkage noexcept ref a ps place cs) all bare
         (function-reads c_linkage noexcept ref a ps ra rp around allowed place cs small enough fits))
 
     as_types : (slot : Slot) → Leads (λ n. slot_way slot (ways_of n (function_type c_linkage noexcept ref a ps)))
@@ -375,5 +374,6 @@ reads-function-type c_linkage noexcept ref a ps ra rp = record {
     as_types literal_type = λ around allowed place cs small room h.
         let t : Term = function_type c_linkage noexcept ref a ps in
         let s = in-slot literal_type around allowed t refl in
-        fitting-in around allowed t (ReadsAs literal_type around allowed t) place cs (function_spelling around.encoding c_linkage noexcept ref a ps)
+        fitting-in around allowed t (ReadsAs literal_type around allowed t) place cs
+        (function_spelling around.encoding c_linkage noexcept ref a ps)
         nowhere s.behind_s (keeps-function around.encoding c_linkage noexcept ref a ps) room h (λ fits enough. absurd fits)

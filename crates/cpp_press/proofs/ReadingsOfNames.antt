@@ -1,6 +1,6 @@
 -- Names of a piece, alone and behind St, are read in each of their ways.
-use Rattle.std.proofs.Common.{◌≡◌, ℕ, ◌+◌, length, List, [], ◌∷◌, ◌++◌, Option, Some, None, Bool, true, false, refl, ap, arith, sym, subst, ◌∙◌, append-nil, append_assoc, length-append}
-use Rattle.std.specs.Prelude.{cond, codes, ◌&&◌}
+use Rattle.std.proofs.Common.{◌≡◌, ℕ, ◌+◌, length, List, [], ◌∷◌, ◌++◌, Option, Bool, true, false, refl, ap, arith, sym, subst, ◌∙◌, append-nil, append_assoc, length-append}
+use Rattle.std.specs.Prelude.{cond, codes}
 use Rattle.sym_shape.specs.declared.rule.Sym.TheVariants.{Kind as OfKind}
 use Rattle.sym_shape.specs.Tree.{TakesRule}
 use Rattle.sym_spell.specs.Pressing.{◌and◌, text}
@@ -8,26 +8,26 @@ use Rattle.cpp_grammar.specs.declared.kind.Kind.{Kind}
 use Rattle.cpp_grammar.specs.declared.production.Production.{Production}
 use Rattle.cpp_grammar.specs.Grammar.{in_ranges, among, is_in, pick, alternatives, choose, kinds, is_chain}
 use Rattle.cpp_grammar.specs.Table.{abi, rule_of}
-use Rattle.cpp_grammar.specs.Term.{Qualifiers, RefQualifier, any_value, lvalue_only, rvalue_only, Term, alone, in_std, instance, operator, literal_operator, source, lambda, unnamed}
-use Rattle.cpp_grammar.specs.Values.{Candidate, Prefix, outermost, Around, Value, tree, piece, named, tree_of, qualifiers_of, ref_of, unqualified}
+use Rattle.cpp_grammar.specs.Term.{Qualifiers, RefQualifier, any_value, lvalue_only, rvalue_only, Term, alone, instance}
+use Rattle.cpp_grammar.specs.Values.{Candidate, outermost, Around, Value, tree, named, tree_of, qualifiers_of, ref_of, unqualified}
 use Rattle.cpp_grammar.specs.References.{is_function_type}
 use Rattle.cpp_grammar.specs.Between.{extended, inside}
 use Rattle.cpp_press.specs.Texts.{qualifier_letters, mark_letter, name_letters}
 use Rattle.cpp_press.specs.Components.{Spelling, ended, component}
-use Rattle.cpp_press.specs.Pressing.{ways_of, no_ways, name_ways, with_letters, in_N_and_E, template_before, is_operator, is_one_piece, entity_text}
+use Rattle.cpp_press.specs.Pressing.{ways_of, no_ways, name_ways, with_letters, in_N_and_E, template_before}
 use Rattle.cpp_press.proofs.Reading.{Written, written, ReadsAt, takes-byte}
 use Rattle.cpp_press.proofs.ReadingTypes.{Is, more}
 use Rattle.cpp_press.proofs.ReadingFunctions.{mark_bytes}
 use Rattle.cpp_press.proofs.ReadingNames.{SoFar, Extends, nest-whole}
 use Rattle.cpp_press.proofs.ReadingEncodings.{ref_bytes, nested-name}
-use Rattle.cpp_press.proofs.Keeping.{Keeps, keeps-text, keeps-and, keeps-front, keeps-behind, keeps-ended, keeps-choice, keeps-N-and-E, choice, keeps}
-use Rattle.cpp_press.proofs.ReadingSlots.{HasRoom, IsSmall, room-first, room-rest, ReadsAs, solid_kind, in-slot, component-in, fitting-in}
-use Rattle.cpp_press.proofs.ReadingNamed.{NameRule, own-rule, std-rule, std-type-rule, PieceReads}
-use Rattle.cpp_press.proofs.ReadingBetween.{in_I_and_E, ElementsRead, Named, named-piece, named-std, named-std-type, SoFarWith, Nested, nested-std, whole-nested, ExtendsWith, extends-with-behind-s, prefix-behind-s, prefix-piece, prefix-with-piece, prefix-nested, prefix-with-nested}
-use Rattle.cpp_press.proofs.ReadingTemplates.{TypeRules, slot-rules, TemplateKind, of_elements, ReadElements, elements-room, template-reads}
-use Rattle.cpp_press.proofs.Readings.{NameReads, TemplateReads, template-value, EntityReads, Leads, slot_way, ReadsAll, typed-argument}
+use Rattle.cpp_press.proofs.Keeping.{keeps-text, keeps-and, keeps-ended, keeps}
+use Rattle.cpp_press.proofs.ReadingSlots.{HasRoom, room-first, room-rest, ReadsAs, solid_kind, in-slot, fitting-in}
+use Rattle.cpp_press.proofs.ReadingNamed.{NameRule, own-rule}
+use Rattle.cpp_press.proofs.ReadingBetween.{ElementsRead, named-piece, ExtendsWith, extends-with-behind-s, prefix-behind-s, prefix-piece, prefix-with-piece}
+use Rattle.cpp_press.proofs.ReadingTemplates.{slot-rules, TemplateKind, of_elements, ReadElements, elements-room, template-reads}
+use Rattle.cpp_press.proofs.Readings.{NameReads, TemplateReads, template-value, Leads, slot_way, typed-argument}
 use Rattle.cpp_press.proofs.ReadingsOfTypes.{Reading}
-use Rattle.cpp_press.proofs.Fit.{Slot, any_type, bare_type, item_type, parameter_type, literal_type, Fitting, IsFirst, as_component, as_template, behind_bytes, one_piece, Behind, names_type, names_function, begins_name, Role, in_type, in_name_with, letters_of, IsWithoutLetters, by_letters, fits_nowhere, fits_of}
+use Rattle.cpp_press.proofs.Fit.{Slot, any_type, bare_type, item_type, parameter_type, literal_type, Fitting, as_component, one_piece, names_type, names_function, begins_name, IsWithoutLetters, by_letters, fits_nowhere, fits_of}
 
 -- ## Letters
 
@@ -109,7 +109,8 @@ no-letters [] h = refl
 no-letters (l ∷ ls) h = absurd h
 
 -- a tree as a name without letters
-pub plain-name : (k : ℕ) (around : Around) (allowed : Option ℕ) (t : Term) (q : Qualifiers) (ref : RefQualifier) (place : ℕ) (cs : List Candidate)
+pub plain-name : (k : ℕ) (around : Around) (allowed : Option ℕ) (t : Term) (q : Qualifiers) (ref : RefQualifier) (place : ℕ)
+    (cs : List Candidate)
     (w : Written) → name_letters q ref ≡ [] → ReadsAt around allowed (OfKind k) (Is (tree t false)) place cs w
     → NameReads around allowed k t q ref place cs w
 unfolding tree_of qualifiers_of ref_of
@@ -118,7 +119,8 @@ plain-name k around allowed t q ref place cs w none one =
     record { value = tree t false; tree_is = refl; qualifiers_are = same.0; ref_is = same.1; reads = one }
 
 -- one without qualifiers is a name with none
-pub no-qualifiers : (k : ℕ) (around : Around) (allowed : Option ℕ) (t : Term) (q : Qualifiers) (ref : RefQualifier) (place : ℕ) (cs : List Candidate)
+pub no-qualifiers : (k : ℕ) (around : Around) (allowed : Option ℕ) (t : Term) (q : Qualifiers) (ref : RefQualifier) (place : ℕ)
+    (cs : List Candidate)
     (w : Written) → name_letters q ref ≡ [] → NameReads around allowed k t unqualified any_value place cs w
     → NameReads around allowed k t q ref place cs w
 no-qualifiers k around allowed t q ref place cs w none one =
@@ -144,7 +146,8 @@ nested-room letters name place cs room =
     (room-rest (text (codes "N" ++ letters)) (name and text (codes "E")) place cs room)
 
 -- an encoding's own name: without letters it is spelled out, and behind letters between N and E
-pub name-by-letters : (around : Around) (allowed : Option ℕ) (t : Term) (q : Qualifiers) (ref : RefQualifier) (place : ℕ) (cs : List Candidate)
+pub name-by-letters : (around : Around) (allowed : Option ℕ) (t : Term) (q : Qualifiers) (ref : RefQualifier) (place : ℕ)
+    (cs : List Candidate)
     (own between : Spelling) (fit_own fit_between : Fitting) → HasRoom (with_letters (name_letters q ref) own between place cs)
     → by_letters (name_letters q ref) fit_own fit_between around allowed place cs
     → (fit_own around allowed place cs → HasRoom (own place cs) → NameReads around allowed 8 t unqualified any_value place cs (own place cs))
@@ -154,7 +157,8 @@ unfolding with_letters by_letters in_N_and_E
 name-by-letters around allowed t q ref place cs own between fit_own fit_between room fits bare nested = go (name_letters q ref) refl room fits
   where
     go : (ls : List ℕ) → name_letters q ref ≡ ls → HasRoom (with_letters ls own between place cs)
-        → by_letters ls fit_own fit_between around allowed place cs → NameReads around allowed 8 t q ref place cs (with_letters ls own between place cs)
+        → by_letters ls fit_own fit_between around allowed place cs
+        → NameReads around allowed 8 t q ref place cs (with_letters ls own between place cs)
     go [] none enough h = no-qualifiers 8 around allowed t q ref place cs (own place cs) none (bare h enough)
     go (l ∷ ls) are enough h =
         let at : ℕ = place + length (78 ∷ l ∷ ls) in
@@ -170,13 +174,15 @@ outermost-alone : (around : Around) (p : Term) → around.prefix ≡ outermost �
 unfolding extended
 outermost-alone around p is = ap (λ x. extended x p) is
 
-alone-rule : (typed : Bool) (k : ℕ) (p : Term) → TemplateKind typed k → elim typed as (λ _. Bool) [ true ↦ names_type p | false ↦ names_function p ] ≡ true
+alone-rule : (typed : Bool) (k : ℕ) (p : Term) → TemplateKind typed k
+    → elim typed as (λ _. Bool) [ true ↦ names_type p | false ↦ names_function p ] ≡ true
     → NameRule k p
 alone-rule true k p rules h = rules.names p h
 alone-rule false k p eight h = subst (λ j. NameRule j p) (sym eight) (own-rule p h)
 
 -- arguments behind a name of which a component is made, at the place where they are spelled
-pub elements-behind : (around : Around) (allowed : Option ℕ) (last : Value) (arguments : Fitting) (elements : Spelling) (own : Term) (w : Written)
+pub elements-behind : (around : Around) (allowed : Option ℕ) (last : Value) (arguments : Fitting) (elements : Spelling) (own : Term)
+    (w : Written)
     (place at : ℕ) → ReadElements around allowed last arguments elements
     → HasRoom ((ended around.encoding own and of_elements elements) (place + length w.bytes) w.components)
     → at ≡ place + length w.bytes → arguments around allowed at (more around w.components own)
@@ -252,7 +258,8 @@ reads-alone p r = record {
 }
   where
     whole : (slot : Slot) → Leads (λ n. component n (alone p) (ways_of n p).as_piece)
-        (as_component (alone p) (one_piece outermost (names_type p) (fits_of p).as_piece)) (λ around allowed. ReadsAs slot around allowed (alone p))
+        (as_component (alone p) (one_piece outermost (names_type p) (fits_of p).as_piece))
+        (λ around allowed. ReadsAs slot around allowed (alone p))
     whole slot around allowed place cs small room h =
         let s = in-slot slot around allowed (alone p) refl in
         fitting-in around allowed (alone p) (ReadsAs slot around allowed (alone p)) place cs (ways_of around.encoding p).as_piece

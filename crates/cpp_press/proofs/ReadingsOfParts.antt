@@ -1,43 +1,36 @@
 -- Letters, parameters, function types, arguments and lists are read in each of their ways.
-use Rattle.std.proofs.Common.{◌≡◌, ℕ, ◌+◌, ◌-◌, ◌<◌, ◌≤◌, length, List, [], ◌∷◌, ◌++◌, Option, Some, None, Bool, true, false, refl, ap, arith, sym, subst, ◌∙◌, append-nil, append_assoc, length-append}
+use Rattle.std.proofs.Common.{◌≡◌, ℕ, ◌+◌, ◌-◌, ◌<◌, length, List, [], ◌∷◌, ◌++◌, Option, Some, None, Bool, true, false, refl, ap, arith, sym, subst, append_assoc, length-append}
 use Rattle.std.proofs.lemmas.Bool.{ltb-true}
-use Rattle.std.specs.Prelude.{cond, codes, nat_lt, ◌&&◌}
-use Rattle.sym_core.specs.declared.NumberKind.TheVariants.{Digits}
+use Rattle.std.specs.Prelude.{codes}
 use Rattle.sym_shape.specs.declared.rule.Sym.TheVariants.{Kind as OfKind}
-use Rattle.sym_shape.specs.Tree.{TakesRule}
-use Rattle.sym_spell.specs.Pressing.{◌and◌, text, nothing}
+use Rattle.sym_spell.specs.Pressing.{◌and◌, text}
 use Rattle.cpp_grammar.specs.declared.kind.Kind.{Kind}
 use Rattle.cpp_grammar.specs.declared.production.Production.{Production}
-use Rattle.cpp_grammar.specs.Grammar.{in_ranges, among, is_in, pick, alternatives, choose, kinds, is_chain}
-use Rattle.cpp_grammar.specs.Table.{abi, rule_of}
-use Rattle.cpp_grammar.specs.Term.{RefQualifier, any_value, Signed, Term, abbreviation, parameter, source, operator, literal_operator, constructor, destructor, lambda, unnamed, string_literal, builtin, function_type, integer, boolean, null_pointer, encoding_literal, address_of, pack, nil, list, instance}
+use Rattle.cpp_grammar.specs.Grammar.{choose, kinds, is_chain}
+use Rattle.cpp_grammar.specs.Term.{Signed, Term, abbreviation, parameter, source, operator, literal_operator, constructor, destructor, lambda, unnamed, builtin, integer, boolean, null_pointer, encoding_literal, address_of, pack, list, instance}
 use Rattle.cpp_grammar.specs.Scope.{count}
-use Rattle.cpp_grammar.specs.Values.{Candidate, Around, Value, nothing_there, tree, tree_of, signature}
+use Rattle.cpp_grammar.specs.Values.{Candidate, Around, tree}
 use Rattle.cpp_grammar.specs.References.{is_function_type}
-use Rattle.cpp_grammar.specs.Between.{in_signature, inside, no_items}
-use Rattle.cpp_grammar.specs.Meaning.{is_void, is_nil, parameters}
-use Rattle.cpp_press.specs.Texts.{counted, ordinal, signed_text, mark_letter}
+use Rattle.cpp_grammar.specs.Between.{in_signature}
+use Rattle.cpp_press.specs.Texts.{ordinal, signed_text}
 use Rattle.cpp_press.specs.Components.{Spelling, component}
-use Rattle.cpp_press.specs.Pressing.{ways_of, no_ways, type_ways, piece_ways, argument_ways, function_text}
-use Rattle.cpp_press.proofs.Tokens.{greatest}
+use Rattle.cpp_press.specs.Pressing.{ways_of, no_ways, type_ways, piece_ways, argument_ways}
 use Rattle.cpp_press.proofs.Reading.{Written, written, ReadsAt, takes-byte}
-use Rattle.cpp_press.proofs.ReadingTypes.{Is, same-written, more, function-under-qualifiers, noexcept-under-qualifiers}
+use Rattle.cpp_press.proofs.ReadingTypes.{Is, same-written, more}
 use Rattle.cpp_press.proofs.ReadingSolids.{builtin-solid, builtin-behind-d}
-use Rattle.cpp_press.proofs.ReadingFunctions.{IsInScope, parameter-solid, mark_bytes, function-solid, noexcept-behind-d}
-use Rattle.cpp_press.proofs.ReadingArguments.{items_value, items-more, IsSpellableNumber, integer-reads}
+use Rattle.cpp_press.proofs.ReadingFunctions.{IsInScope, parameter-solid}
+use Rattle.cpp_press.proofs.ReadingArguments.{items_value, integer-reads}
 use Rattle.cpp_press.proofs.ReadingLiterals.{boolean-literal, null-literal, char-literal, encoding-literal, literal-argument, literal-element, pack-argument, address-reads, address-argument, address-element}
-use Rattle.cpp_press.proofs.ReadingNames.{SoFar, Extends}
-use Rattle.cpp_press.proofs.ReadingParameters.{RestReads, end-reads, none-read}
-use Rattle.cpp_press.proofs.ReadingQualified.{abbreviation-behind-s}
-use Rattle.cpp_press.proofs.Keeping.{Keeps, keeps-text, keeps-and, keeps-front, keeps-behind, keeps-component, keeps}
-use Rattle.cpp_press.proofs.ReadingSlots.{HasRoom, IsSmall, room-first, room-rest, few-before, ReadsAs, solid_kind, is_bare, in-slot, InSlot, component-in, fitting-in}
-use Rattle.cpp_press.proofs.ReadingNamed.{PieceReads, ItemsRead, source-reads, operator-piece-reads, literal-operator-piece-reads, constructor-piece-reads, destructor-piece-reads, lambda-piece-reads, unnamed-piece-reads}
-use Rattle.cpp_press.proofs.ReadingBetween.{in_I_and_E, ElementsRead, ExtendsWith, extends-with-behind-s, prefix-behind-s, prefix-parameter, prefix-with-parameter}
-use Rattle.cpp_press.proofs.ReadingTemplates.{TypeRules, slot-rules, TemplateKind, InstancedAt, instanced-behind-s, parameter-instanced, of_elements, ReadElements, elements-room}
-use Rattle.cpp_press.proofs.Readings.{TemplateReads, template-value, ListReads, list_kind, ArgumentReads, ParametersRead, with_end, Leads, slot_way, ReadsAll, typed-argument, reads-nowhere, reads-piece, reads-argument, referred-before}
-use Rattle.cpp_press.proofs.ReadingsOfTypes.{Reading, solid-in-all, with-d-in-all, with-d-kept}
-use Rattle.cpp_press.proofs.ReadingsOfInstances.{items-kept}
-use Rattle.cpp_press.proofs.Fit.{Slot, any_type, bare_type, item_type, parameter_type, literal_type, takes_all, IsBuiltin, IsAbbreviation, NamesArgument, Fitting, IsFirst, as_component, as_reference, as_template, nowhere, Behind, type_fits, piece_fits, argument_fits, fits_nowhere, fits_of}
+use Rattle.cpp_press.proofs.ReadingNames.{Extends}
+use Rattle.cpp_press.proofs.ReadingSolids.{abbreviation-behind-s}
+use Rattle.cpp_press.proofs.Keeping.{keeps-text}
+use Rattle.cpp_press.proofs.ReadingSlots.{HasRoom, IsSmall, room-first, room-rest, ReadsAs, solid_kind, in-slot, fitting-in}
+use Rattle.cpp_press.proofs.ReadingNamed.{source-reads, operator-piece-reads, literal-operator-piece-reads, constructor-piece-reads, destructor-piece-reads, lambda-piece-reads, unnamed-piece-reads}
+use Rattle.cpp_press.proofs.ReadingBetween.{ExtendsWith, extends-with-behind-s, prefix-behind-s, prefix-parameter, prefix-with-parameter}
+use Rattle.cpp_press.proofs.ReadingTemplates.{slot-rules, TemplateKind, InstancedAt, instanced-behind-s, parameter-instanced, of_elements, elements-room}
+use Rattle.cpp_press.proofs.Readings.{template-value, ArgumentReads, Leads, slot_way, typed-argument, reads-piece, reads-argument}
+use Rattle.cpp_press.proofs.ReadingsOfTypes.{Reading, with-d-kept}
+use Rattle.cpp_press.proofs.Fit.{Slot, any_type, bare_type, item_type, parameter_type, literal_type, takes_all, IsBuiltin, IsAbbreviation, NamesArgument, Fitting, as_component, nowhere, type_fits, fits_nowhere, fits_of}
 
 -- ## Pieces
 
@@ -54,12 +47,14 @@ reads-operator a b =
 pub reads-literal-operator : (name : List ℕ) → Reading (literal_operator name)
 unfolding ways_of fits_of piece_ways no_ways
 reads-literal-operator name =
-    reads-piece (literal_operator name) _ _ (λ around allowed place cs small room h. literal-operator-piece-reads around allowed name place cs h)
+    reads-piece (literal_operator name) _ _ (λ around allowed place cs small room h. literal-operator-piece-reads around allowed name
+    place cs h)
 
 pub reads-constructor : (digit : ℕ) → Reading (constructor digit)
 unfolding ways_of fits_of piece_ways no_ways
 reads-constructor digit =
-    reads-piece (constructor digit) _ _ (λ around allowed place cs small room h. constructor-piece-reads around allowed digit place cs h.0 h.1)
+    reads-piece (constructor digit) _ _ (λ around allowed place cs small room h. constructor-piece-reads around allowed digit place cs
+    h.0 h.1)
 
 pub reads-destructor : (digit : ℕ) → Reading (destructor digit)
 unfolding ways_of fits_of piece_ways no_ways
@@ -231,7 +226,8 @@ abbrev parameter_fits : ℕ → Fitting
 parameter_fits k around allowed place cs = NamesArgument around allowed k
 
 -- a parameter before its arguments, in a type
-parameter-before : (typed : Bool) (k : ℕ) (around : Around) (allowed : Option ℕ) (j : ℕ) → TemplateKind typed k → (place : ℕ) (cs : List Candidate)
+parameter-before : (typed : Bool) (k : ℕ) (around : Around) (allowed : Option ℕ) (j : ℕ) → TemplateKind typed k
+    → (place : ℕ) (cs : List Candidate)
     → IsSmall around → HasRoom (component around.encoding (parameter j) (parameter_spelling j) place cs)
     → as_component (parameter j) (elim typed as (λ _. Fitting) [ true ↦ parameter_fits j | false ↦ nowhere ]) around allowed place cs
     → InstancedAt around allowed k (parameter j) place cs (component around.encoding (parameter j) (parameter_spelling j) place cs)
@@ -330,10 +326,12 @@ pub reads-boolean : (truth : Bool) → Reading (boolean truth)
 unfolding ways_of fits_of argument_ways no_ways
 reads-boolean true =
     reads-argument (boolean true) _ _ (λ in_pack around allowed place cs small room h.
-    literal-in in_pack around allowed (boolean true) place cs (written (98 ∷ 49 ∷ []) cs) (boolean-literal around allowed true (place + 1) cs))
+    literal-in in_pack around allowed (boolean true) place cs (written (98 ∷ 49 ∷ []) cs) (boolean-literal around allowed true
+    (place + 1) cs))
 reads-boolean false =
     reads-argument (boolean false) _ _ (λ in_pack around allowed place cs small room h.
-    literal-in in_pack around allowed (boolean false) place cs (written (98 ∷ 48 ∷ []) cs) (boolean-literal around allowed false (place + 1) cs))
+    literal-in in_pack around allowed (boolean false) place cs (written (98 ∷ 48 ∷ []) cs) (boolean-literal around allowed false
+    (place + 1) cs))
 
 pub reads-null-pointer : Reading null_pointer
 unfolding ways_of fits_of argument_ways no_ways

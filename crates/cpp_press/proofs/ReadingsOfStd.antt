@@ -1,40 +1,37 @@
 -- Names of a piece behind St are read in each of their ways.
-use Rattle.std.proofs.Common.{◌≡◌, ℕ, ◌+◌, length, List, [], ◌∷◌, ◌++◌, Option, Some, None, Bool, true, false, refl, ap, arith, sym, subst, ◌∙◌, append-nil, append_assoc, length-append}
-use Rattle.std.specs.Prelude.{cond, codes, ◌&&◌}
+use Rattle.std.proofs.Common.{◌≡◌, ℕ, ◌+◌, length, List, [], ◌∷◌, ◌++◌, Option, Bool, true, false, refl, arith, sym, subst, length-append}
+use Rattle.std.specs.Prelude.{codes, ◌&&◌}
 use Rattle.sym_shape.specs.declared.rule.Sym.TheVariants.{Kind as OfKind}
-use Rattle.sym_shape.specs.Tree.{TakesRule}
 use Rattle.sym_spell.specs.Pressing.{◌and◌, text}
 use Rattle.cpp_grammar.specs.declared.kind.Kind.{Kind}
 use Rattle.cpp_grammar.specs.declared.production.Production.{Production}
 use Rattle.cpp_grammar.specs.Grammar.{in_ranges, among, is_in, pick, alternatives, choose, kinds, is_chain}
-use Rattle.cpp_grammar.specs.Table.{abi, rule_of}
-use Rattle.cpp_grammar.specs.Term.{Qualifiers, RefQualifier, any_value, lvalue_only, rvalue_only, Term, alone, in_std, instance, operator, literal_operator, source, lambda, unnamed}
-use Rattle.cpp_grammar.specs.Values.{Candidate, Prefix, outermost, Around, Value, tree, piece, named, tree_of, qualifiers_of, ref_of, unqualified}
+use Rattle.cpp_grammar.specs.Term.{any_value, Term, in_std, instance, operator, literal_operator, source, lambda, unnamed}
+use Rattle.cpp_grammar.specs.Values.{Candidate, Around, Value, tree, unqualified}
 use Rattle.cpp_grammar.specs.References.{is_function_type}
-use Rattle.cpp_grammar.specs.Between.{extended, inside, no_items}
+use Rattle.cpp_grammar.specs.Between.{no_items}
 use Rattle.cpp_press.specs.Texts.{qualifier_letters, mark_letter, name_letters}
 use Rattle.cpp_press.specs.Components.{Spelling, ended, component}
-use Rattle.cpp_press.specs.Pressing.{ways_of, no_ways, name_ways, with_letters, in_N_and_E, template_before, is_operator, is_one_piece, entity_text}
+use Rattle.cpp_press.specs.Pressing.{ways_of, no_ways, name_ways, in_N_and_E, template_before, is_operator, is_one_piece, entity_text}
 use Rattle.cpp_press.proofs.Reading.{Written, written, ReadsAt, takes-byte}
 use Rattle.cpp_press.proofs.ReadingTypes.{Is, more}
-use Rattle.cpp_press.proofs.ReadingFunctions.{mark_bytes}
-use Rattle.cpp_press.proofs.ReadingNames.{SoFar, Extends, nest-whole}
-use Rattle.cpp_press.proofs.ReadingEncodings.{ref_bytes, nested-name}
-use Rattle.cpp_press.proofs.Keeping.{Keeps, keeps-text, keeps-and, keeps-front, keeps-behind, keeps-ended, keeps-choice, keeps-N-and-E, choice, keeps}
-use Rattle.cpp_press.proofs.ReadingSlots.{HasRoom, IsSmall, room-first, room-rest, ReadsAs, solid_kind, in-slot, component-in, fitting-in}
-use Rattle.cpp_press.proofs.ReadingNamed.{NameRule, own-rule, std-rule, std-type-rule, PieceReads}
-use Rattle.cpp_press.proofs.ReadingBetween.{in_I_and_E, ElementsRead, Named, named-piece, named-std, named-std-type, SoFarWith, Nested, nested-std, whole-nested, ExtendsWith, extends-with-behind-s, prefix-behind-s, prefix-piece, prefix-with-piece, prefix-nested, prefix-with-nested}
-use Rattle.cpp_press.proofs.ReadingTemplates.{TypeRules, slot-rules, TemplateKind, of_elements, ReadElements, elements-room, template-reads}
-use Rattle.cpp_press.proofs.Readings.{NameReads, TemplateReads, template-value, EntityReads, Leads, slot_way, ReadsAll, typed-argument}
+use Rattle.cpp_press.proofs.ReadingNames.{SoFar, Extends}
+use Rattle.cpp_press.proofs.Keeping.{Keeps, keeps-and, keeps-front, keeps-ended, keeps-choice, keeps-N-and-E, choice, keeps}
+use Rattle.cpp_press.proofs.ReadingSlots.{HasRoom, IsSmall, room-first, room-rest, ReadsAs, solid_kind, in-slot, fitting-in}
+use Rattle.cpp_press.proofs.ReadingNamed.{std-rule, std-type-rule, PieceReads}
+use Rattle.cpp_press.proofs.ReadingBetween.{in_I_and_E, Named, named-std, named-std-type, Nested, nested-std, whole-nested, ExtendsWith, extends-with-behind-s, prefix-behind-s, prefix-nested, prefix-with-nested}
+use Rattle.cpp_press.proofs.ReadingTemplates.{TypeRules, slot-rules, TemplateKind, of_elements, ReadElements, template-reads}
+use Rattle.cpp_press.proofs.Readings.{NameReads, TemplateReads, template-value, EntityReads, Leads, slot_way, typed-argument}
 use Rattle.cpp_press.proofs.ReadingsOfTypes.{Reading}
-use Rattle.cpp_press.proofs.ReadingsOfNames.{letters-nested, plain-name, no-letters, nested-room, name-by-letters, elements-behind}
-use Rattle.cpp_press.proofs.Fit.{Slot, any_type, bare_type, item_type, parameter_type, literal_type, Fitting, IsFirst, as_component, as_template, behind_bytes, one_piece, Behind, names_type, names_function, begins_name, Role, in_type, in_name_with, letters_of, IsWithoutLetters, by_letters, fits_nowhere, fits_of}
+use Rattle.cpp_press.proofs.ReadingsOfNames.{letters-nested, nested-room, name-by-letters, elements-behind}
+use Rattle.cpp_press.proofs.Fit.{Slot, any_type, bare_type, item_type, parameter_type, literal_type, Fitting, as_component, behind_bytes, Behind, names_function, begins_name, Role, in_type, in_name_with, letters_of, fits_nowhere, fits_of}
 
 -- ## Between N and E
 
 -- a whole name between N and E, as the entity of a local name
 pub entity-nested : (role : Role) (around : Around) (allowed : Option ℕ) (t : Term) (place : ℕ) (cs : List Candidate) (between : Spelling)
-    → SoFar around allowed t false 18 (place + length (codes "N" ++ letters_of role)) cs (between (place + length (codes "N" ++ letters_of role)) cs)
+    → SoFar around allowed t false 18 (place + length (codes "N" ++ letters_of role)) cs (between (place + length
+    (codes "N" ++ letters_of role)) cs)
     → EntityReads role around allowed t place cs (in_N_and_E (letters_of role) between place cs)
 unfolding letters_of in_N_and_E choose alternatives pick is_in in_ranges among kinds is_chain
 entity-nested in_type around allowed t place cs between so_far =
@@ -73,14 +70,14 @@ begins-unless (operator a b) h k = absurd (let e : true ≡ false = k in cc)
 begins-unless (literal_operator name) h k = absurd (let e : true ≡ false = k in cc)
 begins-unless _ h k = absurd (let e : false ≡ true = h in cc)
 
-abbrev std_spelling : ℕ → Term → Spelling
+abbrev pub std_spelling : ℕ → Term → Spelling
 std_spelling n p = text (codes "St") and (ways_of n p).as_piece
 
 abbrev std_fits : Term → Fitting
 std_fits p around allowed place cs = (names_function p ≡ true) × (fits_of p).as_piece around allowed (place + 2) cs
 
 -- a name that a type needs an N for, or not
-abbrev maybe_N : Bool → List ℕ
+abbrev pub maybe_N : Bool → List ℕ
 maybe_N b = elim b as (λ _. List ℕ) [ true ↦ codes "N" | false ↦ [] ]
 
 keeps-std : (n : ℕ) (p : Term) → Keeps (std_spelling n p)
@@ -129,14 +126,16 @@ std-type-reads p r false is k rules around allowed place cs small room h =
     (std-typed p r k rules around allowed place cs is small room (subst (λ q. std_fits p around allowed q cs) (omega arith) h)).bare
 
 -- what stands before arguments, with an N or without
-std-before : (typed b : Bool) (p : Term) → Reading p → is_operator p ≡ b → (k : ℕ) → TemplateKind typed k → (around : Around) (allowed : Option ℕ)
+std-before : (typed b : Bool) (p : Term) → Reading p → is_operator p ≡ b → (k : ℕ) → TemplateKind typed k
+    → (around : Around) (allowed : Option ℕ)
     (place : ℕ) (cs : List Candidate) (arguments : Fitting) (elements : Spelling) (items : Term) (last : Value) → no_items last ≡ items
     → ReadElements around allowed last arguments elements → Keeps (of_elements elements) → IsSmall around
     → (let whole = std_spelling around.encoding p and ended around.encoding (in_std p) and of_elements elements in
     let other = choice (typed && b) (in_N_and_E [] whole) whole in
     HasRoom (other place cs)
     → (elim typed as (λ _. Fitting) [ true ↦ behind_bytes (maybe_N b) (std_fits p) | false ↦ std_fits p ]) around allowed place cs
-    → Behind ((text (maybe_N (typed && b)) and std_spelling around.encoding p) and ended around.encoding (in_std p)) (arguments around allowed) place cs
+    → Behind ((text (maybe_N (typed && b)) and std_spelling around.encoding p) and ended around.encoding (in_std p))
+    (arguments around allowed) place cs
     → TemplateReads typed around allowed k (instance (in_std p) items) place cs (other place cs))
 unfolding in_N_and_E ended
 std-before true true p r is k rules around allowed place cs arguments elements items last are read kept small room h behind =
@@ -145,9 +144,11 @@ std-before true true p r is k rules around allowed place cs arguments elements i
     let rest : Spelling = ended n (in_std p) and of_elements elements in
     let args : Written = elements (place + 1 + length w.bytes + 0 + 1) (more around w.components (in_std p)) in
     let inner : HasRoom ((std_spelling n p and rest) (place + 1) cs) = nested-room [] (std_spelling n p and rest) place cs room in
-    template-nested true k around allowed (instance (in_std p) items) rules place cs (written (w.bytes ++ in_I_and_E args.bytes) args.components)
+    template-nested true k around allowed (instance (in_std p) items) rules place cs (written
+    (w.bytes ++ in_I_and_E args.bytes) args.components)
     ((std-nested p r around allowed (place + 1) cs small
-    (room-first (std_spelling n p) rest (place + 1) cs (keeps-and (ended n (in_std p)) (of_elements elements) (keeps-ended n (in_std p)) kept) inner)
+    (room-first (std_spelling n p) rest (place + 1) cs (keeps-and (ended n (in_std p)) (of_elements elements) (keeps-ended n
+    (in_std p)) kept) inner)
     h).instanced items last args are
     (elements-behind around allowed last arguments elements (in_std p) w (place + 1) (place + length ((78 ∷ w.bytes) ++ [])) read
     (room-rest (std_spelling n p) rest (place + 1) cs inner) (omega (arith, length-append w.bytes [])) behind))
@@ -202,15 +203,17 @@ reads-in-std p r = record {
   as_piece = λ around allowed place cs small room h. absurd h;
   as_encoding = λ around allowed place cs small room h. absurd h;
   as_name = λ q ref around allowed place cs small room h.
-      name-by-letters around allowed (in_std p) q ref place cs (std_spelling around.encoding p) (std_spelling around.encoding p) (std_fits p) (std_fits p)
+      name-by-letters around allowed (in_std p) q ref place cs (std_spelling around.encoding p) (std_spelling around.encoding p)
+      (std_fits p) (std_fits p)
       room h
-      (λ fits enough. template-value false around allowed 8 (in_std p) place cs _ (std-named p r around allowed place cs small enough fits).bare)
+      (λ fits enough. template-value false around allowed 8 (in_std p) place cs _
+      (std-named p r around allowed place cs small enough fits).bare)
       (λ at fits enough. (std-nested p r around allowed at cs small enough fits).bare);
   before = λ typed k kind around allowed place cs arguments elements items last are read kept small room h.
       let n : ℕ = around.encoding in
       let whole : Spelling = std_spelling n p and ended n (in_std p) and of_elements elements in
       let wholly : Keeps whole = keeps-and (std_spelling n p) (ended n (in_std p) and of_elements elements) (keeps-std n p)
-          (keeps-and (ended n (in_std p)) (of_elements elements) (keeps-ended n (in_std p)) kept) in
+      (keeps-and (ended n (in_std p)) (of_elements elements) (keeps-ended n (in_std p)) kept) in
       template-reads typed k around allowed (in_std p) kind place cs
       (elim typed as (λ _. Fitting) [ true ↦ behind_bytes (maybe_N (is_operator p)) (std_fits p) | false ↦ std_fits p ])
       (λ m. text (maybe_N (typed && is_operator p)) and std_spelling m p) arguments elements
@@ -218,7 +221,8 @@ reads-in-std p r = record {
       (TemplateReads typed around allowed k (instance (in_std p) items) place cs)
       (template-value typed around allowed k (instance (in_std p) items) place cs) are read kept
       (keeps-choice (typed && is_operator p) (in_N_and_E [] whole) whole (keeps-N-and-E [] whole wholly) wholly) room h
-      (λ none enough. std-before typed (is_operator p) p r refl k kind around allowed place cs arguments elements items last are read kept small
+      (λ none enough. std-before typed (is_operator p) p r refl k kind around allowed place cs arguments elements items last are read
+      kept small
       enough (h.2 none).0 (h.2 none).1);
   as_argument = λ in_pack around allowed place cs small room h.
       typed-argument in_pack around allowed (in_std p) place cs _ (whole item_type around allowed place cs small room h);
@@ -230,12 +234,14 @@ reads-in-std p r = record {
 }
   where
     whole : (slot : Slot) → Leads (λ n. component n (in_std p) (choice (is_operator p) (in_N_and_E [] (std_spelling n p)) (std_spelling n p)))
-        (as_component (in_std p) (behind_bytes (maybe_N (is_operator p)) (std_fits p))) (λ around allowed. ReadsAs slot around allowed (in_std p))
+        (as_component (in_std p) (behind_bytes (maybe_N (is_operator p)) (std_fits p))) (λ around allowed. ReadsAs slot around allowed
+        (in_std p))
     whole slot around allowed place cs small room h =
         let s = in-slot slot around allowed (in_std p) refl in
         let n : ℕ = around.encoding in
         let spelled : Spelling = choice (is_operator p) (in_N_and_E [] (std_spelling n p)) (std_spelling n p) in
-        fitting-in around allowed (in_std p) (ReadsAs slot around allowed (in_std p)) place cs spelled (behind_bytes (maybe_N (is_operator p)) (std_fits p))
+        fitting-in around allowed (in_std p) (ReadsAs slot around allowed (in_std p)) place cs spelled (behind_bytes (maybe_N
+        (is_operator p)) (std_fits p))
         s.behind_s
         (keeps-choice (is_operator p) (in_N_and_E [] (std_spelling n p)) (std_spelling n p)
         (keeps-N-and-E [] (std_spelling n p) (keeps-std n p)) (keeps-std n p)) room h

@@ -1,7 +1,6 @@
 -- Types are read in each of their ways.
 use Rattle.std.proofs.Common.{◌≡◌, ℕ, ◌+◌, length, List, [], ◌∷◌, ◌++◌, Option, Bool, true, false, refl, ap, arith, sym, subst, ◌∙◌, append-nil, append_assoc, length-append}
 use Rattle.std.specs.Prelude.{codes, ◌&&◌, ◌||◌}
-use Rattle.sym_core.specs.declared.NumberKind.TheVariants.{Decimal, Digits}
 use Rattle.sym_shape.specs.declared.rule.Sym.TheVariants.{Kind as OfKind}
 use Rattle.sym_shape.specs.Tree.{TakesRule}
 use Rattle.sym_spell.specs.Pressing.{◌and◌, text}
@@ -17,19 +16,18 @@ use Rattle.cpp_grammar.specs.Meaning.{meaning, listed_value}
 use Rattle.cpp_grammar.specs.Unfolding as unfolding_
 use Rattle.cpp_grammar.specs.Unfolding.{opening, close}
 use Rattle.cpp_press.specs.Texts.{counted, qualifier_letters}
-use Rattle.cpp_press.specs.Components.{Spelling}
 use Rattle.cpp_press.specs.Pressing.{ways_of}
 use Rattle.cpp_press.proofs.Reading.{Written, written, ReadsAt, takes-byte}
-use Rattle.cpp_press.proofs.ReadingTypes.{Is, same-written, more, HasTypes, wraps, types-28, types-29, types-30, types-31}
+use Rattle.cpp_press.proofs.ReadingTypes.{Is, more, wraps, types-28, types-29, types-30, types-31}
 use Rattle.cpp_press.proofs.ReadingSolids.{vendor-solid, pointer-solid, complex-solid, member-pointer-solid, array-solid, lvalue-reads, rvalue-reads}
-use Rattle.cpp_press.proofs.ReadingFunctions.{qualified_with, mark_bytes, const-reads, volatile-reads, restrict-reads, vector-behind-d, rest-lvalue, rest-rvalue}
+use Rattle.cpp_press.proofs.ReadingFunctions.{qualified_with, const-reads, volatile-reads, restrict-reads, vector-behind-d, rest-lvalue, rest-rvalue}
 use Rattle.cpp_press.proofs.ReadingArguments.{expansion-reads}
 use Rattle.cpp_press.proofs.ReadingParameters.{RestReads}
 use Rattle.cpp_press.proofs.Keeping.{keeps-text, keeps-and, keeps-front, keeps}
 use Rattle.cpp_press.proofs.ReadingSlots.{HasRoom, room-first, room-rest, ReadsAs, solid_kind, is_bare, in-rest, in-slot}
 use Rattle.cpp_press.proofs.ReadingTemplates.{slot-rules}
 use Rattle.cpp_press.proofs.Readings.{ReadsAll, reads-type}
-use Rattle.cpp_press.proofs.Fit.{Slot, any_type, bare_type, item_type, parameter_type, literal_type, takes_all, takes_qualified, takes_expansions, has_letters, Fits, behind_bytes, Behind, fits_of}
+use Rattle.cpp_press.proofs.Fit.{Slot, any_type, bare_type, item_type, parameter_type, literal_type, takes_all, takes_qualified, takes_expansions, has_letters, fits_of}
 
 -- ## What all slots but that of literals take
 
@@ -55,14 +53,16 @@ pub with-d-in-all : (slot : Slot) (around : Around) (allowed : Option ℕ) (t : 
     → ReadsAs slot around allowed t place cs (written (68 ∷ w.bytes) (more around w.components t))
 unfolding takes_all is_bare
 with-d-in-all any_type around allowed t place cs w all bare one = (types-28 around allowed t).with_d.adds place cs w one
-with-d-in-all bare_type around allowed t place cs w all bare one = (types-29 around allowed t (go (is_function_type t) bare)).with_d.adds place cs w one
+with-d-in-all bare_type around allowed t place cs w all bare one = (types-29 around allowed t (go
+    (is_function_type t) bare)).with_d.adds place cs w one
   where
     go : (b : Bool) → b && true ≡ false → b ≡ false
     go true k = k
     go false k = refl
 with-d-in-all item_type around allowed t place cs w all bare one = (types-30 around allowed t).with_d.adds place cs w one
 with-d-in-all parameter_type around allowed t place cs w all bare one =
-    in-rest around allowed t place cs (written (68 ∷ w.bytes) (more around w.components t)) ((types-31 around allowed t).with_d.adds place cs w one)
+    in-rest around allowed t place cs (written (68 ∷ w.bytes) (more around w.components t))
+    ((types-31 around allowed t).with_d.adds place cs w one)
 with-d-in-all literal_type around allowed t place cs w all bare one = absurd (no-slot all)
 
 -- and builtin types behind a D
@@ -85,11 +85,13 @@ expansion-in : (slot : Slot) (around : Around) (allowed : Option ℕ) (t : Term)
     → ReadsAs slot around allowed t place cs (written (68 ∷ w.bytes) (more around w.components t))
 unfolding takes_expansions choose alternatives pick is_in in_ranges among kinds is_chain parts_of number_of_kind between opening close unfolding_.behind meaning listed_value with_type tree_of is_listed part
 expansion-in item_type around allowed t place cs w all one =
-    (wraps Production.ItemWithD around allowed 30 32 (68 ∷ []) t (takes-byte 30 Kind.Item Production.ItemWithD 68 refl refl (omega arith) refl) refl
+    (wraps Production.ItemWithD around allowed 30 32 (68 ∷ []) t (takes-byte 30 Kind.Item Production.ItemWithD 68 refl refl
+    (omega arith) refl) refl
     (λ place s. refl) (λ place f s. refl) (λ place began s. refl) (λ place began s. refl)).adds place cs w one
 expansion-in parameter_type around allowed t place cs w all one =
     in-rest around allowed t place cs (written (68 ∷ w.bytes) (more around w.components t))
-    ((wraps Production.ItemWithD around allowed 31 32 (68 ∷ []) t (takes-byte 31 Kind.ItemButRef Production.ItemWithD 68 refl refl (omega arith)
+    ((wraps Production.ItemWithD around allowed 31 32 (68 ∷ []) t (takes-byte 31 Kind.ItemButRef Production.ItemWithD 68 refl refl
+    (omega arith)
     refl) refl
     (λ place s. refl) (λ place f s. refl) (λ place began s. refl) (λ place began s. refl)).adds place cs w one)
 expansion-in any_type around allowed t place cs w all one = absurd (no-slot all)
@@ -97,7 +99,8 @@ expansion-in bare_type around allowed t place cs w all one = absurd (no-slot all
 expansion-in literal_type around allowed t place cs w all one = absurd (no-slot all)
 
 -- references; as a parameter of a function type each becomes a component before those behind it
-lvalue-in : (slot : Slot) (around : Around) (allowed : Option ℕ) (t : Term) (place : ℕ) (cs : List Candidate) (w : Written) → takes_all slot ≡ true
+lvalue-in : (slot : Slot) (around : Around) (allowed : Option ℕ) (t : Term) (place : ℕ) (cs : List Candidate) (w : Written)
+    → takes_all slot ≡ true
     → ReadsAt around allowed (OfKind 28) (Is (tree t true)) (place + 1) cs w
     → ReadsAs slot around allowed (lvalue t) place cs (written (82 ∷ w.bytes) (more around w.components (lvalue t)))
 unfolding takes_all choose alternatives pick is_in in_ranges among kinds is_chain
@@ -113,7 +116,8 @@ lvalue-in parameter_type around allowed t place cs w all one = λ items ref rest
     (subst (λ q. RestReads around allowed items ref q (more around w.components (lvalue t)) rest) (omega arith) two)
 lvalue-in literal_type around allowed t place cs w all one = absurd (no-slot all)
 
-rvalue-in : (slot : Slot) (around : Around) (allowed : Option ℕ) (t : Term) (place : ℕ) (cs : List Candidate) (w : Written) → takes_all slot ≡ true
+rvalue-in : (slot : Slot) (around : Around) (allowed : Option ℕ) (t : Term) (place : ℕ) (cs : List Candidate) (w : Written)
+    → takes_all slot ≡ true
     → ReadsAt around allowed (OfKind 28) (Is (tree t true)) (place + 1) cs w
     → ReadsAs slot around allowed (rvalue t) place cs (written (79 ∷ w.bytes) (more around w.components (rvalue t)))
 unfolding takes_all choose alternatives pick is_in in_ranges among kinds is_chain
@@ -194,7 +198,8 @@ qualified-at k around allowed false false true t place cs w rules some one =
     (subst (λ q. ReadsAt around allowed (OfKind 29) (Is (tree t true)) q cs w) (omega arith) one)
 qualified-at k around allowed false false false t place cs w rules some one = absurd (no-slot some)
 
-qualified-in : (slot : Slot) (around : Around) (allowed : Option ℕ) (restrict volatile const : Bool) (t : Term) (place : ℕ) (cs : List Candidate)
+qualified-in : (slot : Slot) (around : Around) (allowed : Option ℕ) (restrict volatile const : Bool) (t : Term) (place : ℕ)
+    (cs : List Candidate)
     (w : Written) → takes_qualified slot ≡ true → restrict || volatile || const ≡ true
     → ReadsAt around allowed (OfKind 29) (Is (tree t true)) (place + length (letters_for restrict volatile const)) cs w
     → ReadsAs slot around allowed (qualified_with restrict volatile const t) place cs
@@ -219,7 +224,8 @@ unfolding ways_of fits_of is_function_type
 reads-vendor name =
     reads-type (vendor name) (λ n. text (codes "u" ++ counted name)) _ refl (λ n. keeps-text _)
     (λ slot around allowed place cs small room h.
-    solid-in-all slot around allowed (vendor name) place cs (written (117 ∷ counted name) cs) h.0 refl (vendor-solid around allowed name place cs h.1))
+    solid-in-all slot around allowed (vendor name) place cs (written (117 ∷ counted name) cs) h.0 refl
+    (vendor-solid around allowed name place cs h.1))
 
 pub reads-pointer : (t : Term) → Reading t → Reading (pointer t)
 unfolding ways_of fits_of is_function_type
@@ -230,7 +236,8 @@ reads-pointer t r =
     let x : Written = (ways_of around.encoding t).as_type (place + 1) cs in
     (in-slot slot around allowed (pointer t) refl).adds place cs (written (80 ∷ x.bytes) x.components)
     (pointer-solid (solid_kind slot) around allowed t place cs x (slot-rules slot).pointers
-    (r.as_type any_type around allowed (place + 1) cs small (room-rest (text (codes "P")) (ways_of around.encoding t).as_type place cs room) h)))
+    (r.as_type any_type around allowed (place + 1) cs small (room-rest (text (codes "P"))
+    (ways_of around.encoding t).as_type place cs room) h)))
 
 pub reads-lvalue : (t : Term) → Reading t → Reading (lvalue t)
 unfolding ways_of fits_of is_function_type
@@ -239,7 +246,8 @@ reads-lvalue t r =
     (λ n. keeps-front (codes "R") (ways_of n t).as_type (keeps t n).as_type)
     (λ slot around allowed place cs small room h.
     lvalue-in slot around allowed t place cs ((ways_of around.encoding t).as_type (place + 1) cs) h.0
-    (r.as_type any_type around allowed (place + 1) cs small (room-rest (text (codes "R")) (ways_of around.encoding t).as_type place cs room) h.1))
+    (r.as_type any_type around allowed (place + 1) cs small (room-rest (text (codes "R"))
+    (ways_of around.encoding t).as_type place cs room) h.1))
 
 pub reads-rvalue : (t : Term) → Reading t → Reading (rvalue t)
 unfolding ways_of fits_of is_function_type
@@ -248,7 +256,8 @@ reads-rvalue t r =
     (λ n. keeps-front (codes "O") (ways_of n t).as_type (keeps t n).as_type)
     (λ slot around allowed place cs small room h.
     rvalue-in slot around allowed t place cs ((ways_of around.encoding t).as_type (place + 1) cs) h.0
-    (r.as_type any_type around allowed (place + 1) cs small (room-rest (text (codes "O")) (ways_of around.encoding t).as_type place cs room) h.1))
+    (r.as_type any_type around allowed (place + 1) cs small (room-rest (text (codes "O"))
+    (ways_of around.encoding t).as_type place cs room) h.1))
 
 pub reads-complex : (t : Term) → Reading t → Reading (complex t)
 unfolding ways_of fits_of is_function_type
@@ -259,7 +268,8 @@ reads-complex t r =
     let x : Written = (ways_of around.encoding t).as_type (place + 1) cs in
     solid-in-all slot around allowed (complex t) place cs (written (67 ∷ x.bytes) x.components) h.0 refl
     (complex-solid around allowed t place cs x
-    (r.as_type any_type around allowed (place + 1) cs small (room-rest (text (codes "C")) (ways_of around.encoding t).as_type place cs room) h.1)))
+    (r.as_type any_type around allowed (place + 1) cs small (room-rest (text (codes "C"))
+    (ways_of around.encoding t).as_type place cs room) h.1)))
 
 pub reads-array : (digits : List ℕ) (t : Term) → Reading t → Reading (array digits t)
 unfolding ways_of fits_of is_function_type
@@ -272,7 +282,8 @@ reads-array digits t r =
     solid-in-all slot around allowed (array digits t) place cs (written (65 ∷ ((digits ++ 95 ∷ []) ++ x.bytes)) x.components) h.0 refl
     (array-solid around allowed digits t place cs x h.1
     (subst (λ q. ReadsAt around allowed (OfKind 28) (Is (tree t true)) q cs x) (omega arith)
-    (r.as_type any_type around allowed (place + length front) cs small (room-rest (text front) (ways_of around.encoding t).as_type place cs room)
+    (r.as_type any_type around allowed (place + length front) cs small (room-rest (text front)
+    (ways_of around.encoding t).as_type place cs room)
     h.2))))
 
 pub reads-vector : (digits : List ℕ) (t : Term) → Reading t → Reading (vector digits t)
@@ -289,7 +300,8 @@ reads-vector digits t r =
     (vector-behind-d around allowed digits t (place + 1) cs x h.1
     (subst (λ q. ReadsAt around allowed (OfKind 28) (Is (tree t true)) q cs x)
     (omega (arith, length-append digits (95 ∷ []), length-append digits []))
-    (r.as_type any_type around allowed (place + length front) cs small (room-rest (text front) (ways_of around.encoding t).as_type place cs room)
+    (r.as_type any_type around allowed (place + length front) cs small (room-rest (text front)
+    (ways_of around.encoding t).as_type place cs room)
     h.2)))))
 
 pub reads-expansion : (t : Term) → Reading t → Reading (expansion t)
@@ -316,7 +328,7 @@ reads-member-pointer class member a b =
     let x : Written = (ways_of n class).as_type (place + 1) cs in
     let y : Written = (ways_of n member).as_type (place + 1 + length x.bytes) x.components in
     let inner : HasRoom (((ways_of n class).as_type and (ways_of n member).as_type) (place + 1) cs) =
-        room-rest (text (codes "M")) ((ways_of n class).as_type and (ways_of n member).as_type) place cs room in
+    room-rest (text (codes "M")) ((ways_of n class).as_type and (ways_of n member).as_type) place cs room in
     (in-slot slot around allowed (member_pointer class member) refl).adds place cs (written (77 ∷ (x.bytes ++ y.bytes)) y.components)
     (member-pointer-solid (solid_kind slot) around allowed class member place cs x y (slot-rules slot).members
     (a.as_type any_type around allowed (place + 1) cs small

@@ -1,35 +1,30 @@
 -- Names of a prefix and a piece are read in each of their ways.
-use Rattle.std.proofs.Common.{◌≡◌, ℕ, ◌+◌, length, List, [], ◌∷◌, ◌++◌, Option, Some, None, Bool, true, false, refl, ap, arith, inl, inr, ◌⊎◌, sym, subst, ◌∙◌, append-nil, append_assoc, length-append}
-use Rattle.std.specs.Prelude.{cond, codes, ◌&&◌}
-use Rattle.sym_shape.specs.declared.rule.Sym.TheVariants.{Kind as OfKind}
-use Rattle.sym_shape.specs.Tree.{TakesRule}
+use Rattle.std.proofs.Common.{◌≡◌, ℕ, ◌+◌, length, List, [], ◌∷◌, ◌++◌, Option, Bool, true, false, refl, ap, arith, inl, inr, ◌⊎◌, sym, subst, ◌∙◌, length-append}
+use Rattle.std.specs.Prelude.{codes}
 use Rattle.sym_spell.specs.Pressing.{◌and◌, text, nothing}
 use Rattle.cpp_grammar.specs.declared.kind.Kind.{Kind}
 use Rattle.cpp_grammar.specs.declared.production.Production.{Production}
 use Rattle.cpp_grammar.specs.Grammar.{in_ranges, among, is_in, pick, alternatives, choose, kinds, is_chain}
-use Rattle.cpp_grammar.specs.Table.{abi, rule_of}
-use Rattle.cpp_grammar.specs.Term.{Qualifiers, function, object, special, thunk, guard, within, string_literal, RefQualifier, any_value, lvalue_only, rvalue_only, Term, alone, in_std, instance, operator, literal_operator, source, lambda, unnamed}
-use Rattle.cpp_grammar.specs.Values.{Candidate, Prefix, outermost, behind, Around, Value, tree, piece, named, tree_of, qualifiers_of, ref_of, unqualified}
+use Rattle.cpp_grammar.specs.Term.{Qualifiers, function, object, special, thunk, guard, within, string_literal, RefQualifier, any_value, Term, instance}
+use Rattle.cpp_grammar.specs.Values.{Candidate, behind, Around, tree, tree_of, qualifiers_of, ref_of, unqualified}
 use Rattle.cpp_grammar.specs.References.{is_function_type}
-use Rattle.cpp_grammar.specs.Between.{after, extended, inside, no_items}
-use Rattle.cpp_press.specs.Texts.{qualifier_letters, mark_letter, name_letters}
+use Rattle.cpp_grammar.specs.Between.{after, extended}
+use Rattle.cpp_press.specs.Texts.{name_letters}
 use Rattle.cpp_press.specs.Components.{Spelling, ended, component}
-use Rattle.cpp_press.specs.Pressing.{ways_of, no_ways, name_ways, with_letters, in_N_and_E, template_before, encoding_ways, piece_ways, is_encoding, is_operator, is_one_piece, entity_text}
-use Rattle.cpp_press.proofs.Reading.{Written, written, ReadsAt, takes-byte}
-use Rattle.cpp_press.proofs.ReadingTypes.{Is, more}
-use Rattle.cpp_press.proofs.ReadingFunctions.{mark_bytes}
-use Rattle.cpp_press.proofs.ReadingNames.{SoFar, Extends, nest-whole}
-use Rattle.cpp_press.proofs.ReadingEncodings.{ref_bytes, nested-name}
-use Rattle.cpp_press.proofs.Keeping.{Keeps, keeps-text, keeps-and, keeps-front, keeps-behind, keeps-ended, keeps-choice, keeps-N-and-E, choice, keeps}
-use Rattle.cpp_press.proofs.ReadingSlots.{HasRoom, IsSmall, room-first, room-rest, ReadsAs, solid_kind, in-slot, component-in, fitting-in}
-use Rattle.cpp_press.proofs.ReadingNamed.{member-rule, entity-rule, type-entity-rule, NameRule, own-rule, std-rule, std-type-rule, PieceReads}
-use Rattle.cpp_press.proofs.ReadingBetween.{in_I_and_E, ElementsRead, Named, named-piece, named-std, named-std-type, SoFarWith, Nested, nested-std, nested-within, whole-nested, ExtendsWith, extends-with-behind-s, prefix-behind-s, prefix-piece, prefix-with-piece, prefix-nested, prefix-with-nested}
-use Rattle.cpp_press.proofs.ReadingTemplates.{TypeRules, slot-rules, TemplateKind, of_elements, ReadElements, elements-room, template-reads}
-use Rattle.cpp_press.proofs.Readings.{OnePiece, NameReads, TemplateReads, template-value, EntityReads, Leads, slot_way, ReadsAll, typed-argument}
+use Rattle.cpp_press.specs.Pressing.{ways_of, no_ways, name_ways, with_letters, in_N_and_E, template_before, encoding_ways, piece_ways, is_encoding, is_one_piece, entity_text}
+use Rattle.cpp_press.proofs.Reading.{Written, written, takes-byte}
+use Rattle.cpp_press.proofs.ReadingTypes.{more}
+use Rattle.cpp_press.proofs.ReadingNames.{SoFar, Extends}
+use Rattle.cpp_press.proofs.Keeping.{Keeps, keeps-and, keeps-ended, keeps-N-and-E, choice, keeps}
+use Rattle.cpp_press.proofs.ReadingSlots.{HasRoom, IsSmall, room-first, room-rest, ReadsAs, solid_kind, in-slot, fitting-in}
+use Rattle.cpp_press.proofs.ReadingNamed.{member-rule, entity-rule, type-entity-rule, NameRule, PieceReads}
+use Rattle.cpp_press.proofs.ReadingBetween.{in_I_and_E, Named, named-piece, Nested, nested-within, whole-nested, ExtendsWith, extends-with-behind-s, prefix-behind-s, prefix-piece, prefix-with-piece, prefix-nested, prefix-with-nested}
+use Rattle.cpp_press.proofs.ReadingTemplates.{slot-rules, of_elements, template-reads}
+use Rattle.cpp_press.proofs.Readings.{NameReads, TemplateReads, template-value, EntityReads, Leads, slot_way, typed-argument}
 use Rattle.cpp_press.proofs.ReadingsOfTypes.{Reading}
 use Rattle.cpp_press.proofs.ReadingsOfStd.{entity-nested, template-nested}
-use Rattle.cpp_press.proofs.ReadingsOfNames.{letters-nested, plain-name, no-qualifiers, no-letters, nested-room, name-by-letters, elements-behind}
-use Rattle.cpp_press.proofs.Fit.{Fits, names_member, names_entity, names_in, Slot, any_type, bare_type, item_type, parameter_type, literal_type, Fitting, IsFirst, as_component, as_template, behind_bytes, one_piece, Behind, names_type, names_function, begins_name, Role, in_type, in_name_with, letters_of, IsWithoutLetters, by_letters, fits_nowhere, encoding_fits, fits_of}
+use Rattle.cpp_press.proofs.ReadingsOfNames.{letters-nested, no-qualifiers, no-letters, nested-room, elements-behind}
+use Rattle.cpp_press.proofs.Fit.{names_member, names_entity, names_in, Slot, any_type, bare_type, item_type, parameter_type, literal_type, Fitting, as_component, behind_bytes, one_piece, Behind, begins_name, Role, in_type, in_name_with, letters_of, IsWithoutLetters, fits_nowhere, encoding_fits, fits_of}
 use Rattle.cpp_press.proofs.ReadingSymbols.{string-literal-reads}
 
 -- ## Encodings as prefixes
@@ -77,7 +72,8 @@ joined_fits x p around allowed place cs =
 keeps-joined : (n : ℕ) (x p : Term) → Keeps (joined_spelling n x p)
 keeps-joined n x p = keeps-and (ways_of n x).as_prefix (ways_of n p).as_piece (keeps x n).as_prefix (keeps p n).as_piece
 
-joined-nested : (x p : Term) → Reading x → Reading p → (around : Around) (allowed : Option ℕ) (place : ℕ) (cs : List Candidate) → IsSmall around
+joined-nested : (x p : Term) → Reading x → Reading p → (around : Around) (allowed : Option ℕ) (place : ℕ) (cs : List Candidate)
+    → IsSmall around
     → HasRoom (joined_spelling around.encoding x p place cs) → joined_fits x p around allowed place cs
     → Nested around allowed (within x p) place cs (joined_spelling around.encoding x p place cs)
 unfolding extended after
@@ -86,7 +82,8 @@ joined-nested x p rx rp around allowed place cs small room h =
     let w : Written = (ways_of n x).as_prefix place cs in
     let one : Written = (ways_of n p).as_piece (place + length w.bytes) w.components in
     nested-within around allowed x p place cs w one
-    (rx.as_prefix around allowed place cs small (room-first (ways_of n x).as_prefix (ways_of n p).as_piece place cs (keeps p n).as_piece room) h.0)
+    (rx.as_prefix around allowed place cs small (room-first (ways_of n x).as_prefix (ways_of n p).as_piece place cs
+    (keeps p n).as_piece room) h.0)
     (named-piece (after x true around) allowed 19 p (within x p) (place + length w.bytes) w.components one
     (rp.as_piece (after x true around) allowed (place + length w.bytes) w.components small
     (room-rest (ways_of n x).as_prefix (ways_of n p).as_piece place cs room) h.2)
@@ -95,10 +92,12 @@ joined-nested x p rx rp around allowed place cs small room h =
 -- ## In the scope of an encoding
 
 abbrev local_fits : (x p : Term) → (may : Bool) → Fitting
-local_fits x p may around allowed place cs = (is_encoding x ≡ true) × one_piece (behind x true) may (fits_of p).as_piece around allowed place cs
+local_fits x p may around allowed place cs = (is_encoding x ≡ true)
+    × one_piece (behind x true) may (fits_of p).as_piece around allowed place cs
 
 -- the piece itself
-local-piece : (x p : Term) (may : Bool) → Reading p → (around : Around) (allowed : Option ℕ) (place : ℕ) (cs : List Candidate) → IsSmall around
+local-piece : (x p : Term) (may : Bool) → Reading p → (around : Around) (allowed : Option ℕ) (place : ℕ) (cs : List Candidate)
+    → IsSmall around
     → HasRoom (joined_spelling around.encoding x p place cs) → local_fits x p may around allowed place cs
     → PieceReads around allowed p place cs ((ways_of around.encoding p).as_piece place cs)
 local-piece x p may rp around allowed place cs small room h =
@@ -111,7 +110,8 @@ local-named : (x p : Term) (may : Bool) → Reading p → (k : ℕ) → NameRule
     → HasRoom (joined_spelling around.encoding x p place cs) → local_fits x p may around allowed place cs
     → Named around allowed k (within x p) place cs (joined_spelling around.encoding x p place cs)
 local-named x p may rp k rule around allowed place cs small room h =
-    subst (Named around allowed k (within x p) place cs) (sym (scope-first x around.encoding (ways_of around.encoding p).as_piece place cs h.0))
+    subst (Named around allowed k (within x p) place cs) (sym (scope-first x around.encoding
+    (ways_of around.encoding p).as_piece place cs h.0))
     (named-piece around allowed k p (within x p) place cs ((ways_of around.encoding p).as_piece place cs)
     (local-piece x p may rp around allowed place cs small room h) rule (within-scope around x p h.1.0))
 
@@ -147,13 +147,15 @@ local-in-name x p rp around allowed place cs small room h = go (entity-piece p h
         template-value false around allowed 23 (within x p) place cs _
         (local-named x p (names_entity p) rp 23 (entity-rule p begins) around allowed place cs small room h).bare
     go (inr is) =
-        subst (λ y. NameReads around allowed 23 (within x y) unqualified any_value place cs (joined_spelling around.encoding x y place cs)) (sym is)
+        subst (λ y. NameReads around allowed 23 (within x y) unqualified any_value place cs
+        (joined_spelling around.encoding x y place cs)) (sym is)
         (string-named x around allowed place cs h.0 h.1.0)
 
 abbrev begun_fits : (x p : Term) → Fitting
 begun_fits x p around allowed place cs = local_fits x p (begins_name p) around allowed place cs ⊎ joined_fits x p around allowed place cs
 
-begun-extends : (x p : Term) → Reading x → Reading p → (around : Around) (allowed : Option ℕ) (place : ℕ) (cs : List Candidate) → IsSmall around
+begun-extends : (x p : Term) → Reading x → Reading p → (around : Around) (allowed : Option ℕ) (place : ℕ) (cs : List Candidate)
+    → IsSmall around
     → HasRoom (joined_spelling around.encoding x p place cs) → begun_fits x p around allowed place cs
     → (let w = joined_spelling around.encoding x p place cs in
     Extends around allowed (within x p) place cs (written w.bytes (more around w.components (within x p)))
@@ -187,7 +189,8 @@ unfolding letters_of names_in
 within-entity x p rx rp in_type around allowed place cs small true is room (inl h) =
     (local-named x p (begins_name p) rp 24 (type-entity-rule p h.1.1.1) around allowed place cs small room h.1).bare
 within-entity x p rx rp (in_name_with q ref) around allowed place cs small true is room (inl h) =
-    no-qualifiers 23 around allowed (within x p) q ref place cs (joined_spelling around.encoding x p place cs) (no-letters (name_letters q ref) h.0)
+    no-qualifiers 23 around allowed (within x p) q ref place cs (joined_spelling around.encoding x p place cs) (no-letters
+    (name_letters q ref) h.0)
     (local-in-name x p rp around allowed place cs small room h.1)
 within-entity x p rx rp role around allowed place cs small false is room (inl h) = absurd (let e : false ≡ true = sym is ∙ h.1.0 in cc)
 within-entity x p rx rp role around allowed place cs small true is room (inr h) =
@@ -195,14 +198,16 @@ within-entity x p rx rp role around allowed place cs small true is room (inr h) 
 within-entity x p rx rp role around allowed place cs small false is room (inr h) =
     let at : ℕ = place + length (codes "N" ++ letters_of role) in
     entity-nested role around allowed (within x p) place cs (joined_spelling around.encoding x p)
-    (joined-nested x p rx rp around allowed at cs small (nested-room (letters_of role) (joined_spelling around.encoding x p) place cs room) h).bare
+    (joined-nested x p rx rp around allowed at cs small (nested-room (letters_of role)
+    (joined_spelling around.encoding x p) place cs room) h).bare
 
 -- ## As a name
 
 -- between N and E, with letters or without
 name-nested : (around : Around) (allowed : Option ℕ) (t : Term) (q : Qualifiers) (ref : RefQualifier) (place : ℕ) (cs : List Candidate)
     (between : Spelling)
-    → ((at : ℕ) → at ≡ place + length (78 ∷ name_letters q ref) → HasRoom (between at cs) → SoFar around allowed t false 18 at cs (between at cs))
+    → ((at : ℕ) → at ≡ place + length (78 ∷ name_letters q ref) → HasRoom (between at cs)
+    → SoFar around allowed t false 18 at cs (between at cs))
     → HasRoom (with_letters (name_letters q ref) (in_N_and_E [] between) between place cs)
     → NameReads around allowed 8 t q ref place cs (with_letters (name_letters q ref) (in_N_and_E [] between) between place cs)
 unfolding with_letters in_N_and_E choose alternatives pick is_in in_ranges among kinds is_chain
@@ -229,11 +234,13 @@ unfolding ways_of fits_of fits_nowhere name_ways no_ways template_before is_func
 reads-within x p rx rp = record {
   as_type = as_types;
   as_prefix = λ around allowed place cs small room h.
-      fitting-in around allowed (within x p) (Extends around allowed (within x p)) place cs (joined_spelling around.encoding x p) (begun_fits x p)
+      fitting-in around allowed (within x p) (Extends around allowed (within x p)) place cs (joined_spelling around.encoding x p)
+      (begun_fits x p)
       (prefix-behind-s around allowed (within x p)) (keeps-joined around.encoding x p) room h
       (λ fits enough. (begun-extends x p rx rp around allowed place cs small enough fits).0);
   as_prefix_template = λ around allowed place cs small room h.
-      fitting-in around allowed (within x p) (ExtendsWith around allowed (within x p)) place cs (joined_spelling around.encoding x p) (begun_fits x p)
+      fitting-in around allowed (within x p) (ExtendsWith around allowed (within x p)) place cs (joined_spelling around.encoding x p)
+      (begun_fits x p)
       (extends-with-behind-s around allowed (within x p)) (keeps-joined around.encoding x p) room h
       (λ fits enough. (begun-extends x p rx rp around allowed place cs small enough fits).1);
   between = λ around allowed place cs small room h. (joined-nested x p rx rp around allowed place cs small room h).bare;
@@ -241,10 +248,10 @@ reads-within x p rx rp = record {
   as_entity = λ role around allowed place cs small room h.
       within-entity x p rx rp role around allowed place cs small (is_encoding x) refl room h;
   as_entity_template = λ around allowed place cs small room h. record {
-        is = λ arguments. h.0;
-        in_name = local-named x p (begins_name p) rp 23 (entity-rule p h.1.1) around allowed place cs small room h;
-        in_a_type = local-named x p (begins_name p) rp 24 (type-entity-rule p h.1.1) around allowed place cs small room h;
-      };
+    is = λ arguments. h.0;
+    in_name = local-named x p (begins_name p) rp 23 (entity-rule p h.1.1) around allowed place cs small room h;
+    in_a_type = local-named x p (begins_name p) rp 24 (type-entity-rule p h.1.1) around allowed place cs small room h;
+  };
   as_piece = λ around allowed place cs small room h. absurd h;
   as_encoding = λ around allowed place cs small room h. absurd h;
   as_name = λ q ref around allowed place cs small room h.
