@@ -68,7 +68,8 @@ alone-add p a = record {
       (one_piece outermost (names_function p) (fits_of p).as_piece around allowed) (ways_of around.encoding p).as_piece
       (ways_of around.encoding p).as_piece (spelled around allowed (names_function p));
   before = λ typed around allowed G arguments Q more. in-template around allowed (alone p)
-      (one_piece outermost (elim typed [ true ↦ names_type p | false ↦ names_function p ]) (fits_of p).as_piece) (λ n. (ways_of n p).as_piece) G
+      (one_piece outermost (elim typed [ true ↦ names_type p | false ↦ names_function p ]) (fits_of p).as_piece) (λ n.
+      (ways_of n p).as_piece) G
       arguments Q (spelled around allowed (elim typed [ true ↦ names_type p | false ↦ names_function p ])) more;
   as_argument = λ in_pack around allowed. whole around allowed (names_type p);
   as_parameters = λ slot other around allowed place cs fits complete. absurd fits;
@@ -103,7 +104,8 @@ in-std-add p a = record {
   as_prefix_template = λ around allowed. in-component around allowed (in_std p) std (spelling around.encoding) (spelled around allowed);
   between = spelled;
   between_template = spelled;
-  as_entity = λ role around allowed place cs fits complete. spelled around allowed (place + length (codes "N" ++ letters_of role)) cs fits complete;
+  as_entity = λ role around allowed place cs fits complete. spelled around allowed (place + length
+      (codes "N" ++ letters_of role)) cs fits complete;
   as_entity_template = λ around allowed place cs fits complete. absurd fits;
   as_piece = λ around allowed place cs fits complete. absurd fits;
   as_encoding = λ allowed n m place cs fits complete. absurd fits;
@@ -143,7 +145,8 @@ in-std-add p a = record {
     bare : (spelled_at : Fitting) (around : Around) (allowed : Option ℕ) (G : Fitting) (arguments : Spelling) (Q : Term → Type 0)
         → Adds around.encoding (Inside p) (spelled_at around allowed) (spelling around.encoding)
         → Adds around.encoding Q (G around allowed) arguments
-        → Adds around.encoding (Either (Whole (in_std p)) Q) (as_template (in_std p) spelled_at (λ n. text [] and spelling n) G around allowed)
+        → Adds around.encoding (Either (Whole (in_std p)) Q) (as_template (in_std p) spelled_at
+        (λ n. text [] and spelling n) G around allowed)
         (template_before around.encoding (in_std p) false (spelling around.encoding) arguments)
     bare spelled_at around allowed G arguments Q one more place cs fits complete =
         in-template around allowed (in_std p) spelled_at spelling G arguments Q one more place cs (
@@ -197,24 +200,29 @@ pub within-add : (prefix p : Term) → WaysAdd prefix (fits_of prefix) (λ n. wa
     → WaysAdd (within prefix p) (fits_of (within prefix p)) (λ n. ways_of n (within prefix p))
 unfolding fits_of fits_nowhere ways_of name_ways no_ways entity_text is_one_piece after in_N_and_E
 within-add prefix p a b = record {
-  as_type = λ slot around allowed. component-at slot around.encoding (within prefix p) (as_component (within prefix p) (behind_bytes (codes "N") joined)
+  as_type = λ slot around allowed. component-at slot around.encoding (within prefix p) (as_component (within prefix p) (behind_bytes
+      (codes "N") joined)
       around allowed) (ways_of around.encoding (within prefix p)) (λ x w. w) (whole around allowed) (whole around allowed);
   as_prefix = λ around allowed. in-component around allowed (within prefix p) begun_ (spelling around.encoding) (begins around allowed);
-  as_prefix_template = λ around allowed. in-component around allowed (within prefix p) begun_ (spelling around.encoding) (begins around allowed);
+  as_prefix_template = λ around allowed. in-component around allowed (within prefix p) begun_ (spelling around.encoding)
+      (begins around allowed);
   between = joins;
   between_template = joins;
-  as_entity = λ role around allowed place cs fits complete. entity-adds (is_encoding prefix) around.encoding (Inside (within prefix p)) (letters_of role)
+  as_entity = λ role around allowed place cs fits complete. entity-adds (is_encoding prefix) around.encoding (Inside (within prefix p))
+      (letters_of role)
       (spelling around.encoding) place cs (elim fits [
         | inl one ↦ inl (one.1.0, pieces (names_in role p) around allowed place cs one.1 complete)
         | inr other ↦ inr (
-          is-not (is_encoding prefix) (λ is. no-encoding-fits prefix around allowed (place + length (codes "N" ++ letters_of role)) cs is other.0),
+          is-not (is_encoding prefix) (λ is. no-encoding-fits prefix around allowed (place + length
+              (codes "N" ++ letters_of role)) cs is other.0),
           joins around allowed (place + length (codes "N" ++ letters_of role)) cs other complete,
         )
       ]);
   as_entity_template = pieces (begins_name p);
   as_piece = λ around allowed place cs fits complete. absurd fits;
   as_encoding = λ allowed n m place cs fits complete. absurd fits;
-  as_name = λ q ref around allowed. nested-letters-add (name_letters q ref) around.encoding (Inside (within prefix p)) (joined around allowed)
+  as_name = λ q ref around allowed. nested-letters-add (name_letters q ref) around.encoding (Inside (within prefix p))
+      (joined around allowed)
       (spelling around.encoding) (joins around allowed);
   before = λ typed around allowed G arguments Q more. in-nested-template around allowed (within prefix p) joined spelling G arguments Q
       (joins around allowed) more;
@@ -240,7 +248,8 @@ within-add prefix p a b = record {
     spelling : ℕ → Spelling
     spelling n = (ways_of n prefix).as_prefix and (ways_of n p).as_piece
 
-    joins : (around : Around) (allowed : Option ℕ) → Adds around.encoding (Inside (within prefix p)) (joined around allowed) (spelling around.encoding)
+    joins : (around : Around) (allowed : Option ℕ) → Adds around.encoding (Inside (within prefix p)) (joined around allowed)
+        (spelling around.encoding)
     joins around allowed place cs fits complete =
         let f : spell.Pressed Candidate = (ways_of around.encoding prefix).as_prefix place cs in
         let later : ℕ = place + length f.bytes in
@@ -259,14 +268,17 @@ within-add prefix p a b = record {
         let one = b.as_piece around allowed (place + 0) cs (at-none ((fits_of p).as_piece around allowed) place cs fits.1.2) complete in
         let more = fewer-added n (Inside p) (Inside (within prefix p)) cs (piece (place + 0) cs).components
         (λ x i. elim i [ inl w ↦ absurd (no-encoding-inside prefix x (Inside prefix x) fits.0 w) | inr j ↦ j ]) one in
-        subst (λ s. AddsParts n (Inside (within prefix p)) cs ((s and piece) place cs).components) (sym (encoding-prefix prefix n fits.0)) more
+        subst (λ s. AddsParts n (Inside (within prefix p)) cs ((s and piece) place cs).components) (sym
+        (encoding-prefix prefix n fits.0)) more
 
-    begins : (around : Around) (allowed : Option ℕ) → Adds around.encoding (Inside (within prefix p)) (begun_ around allowed) (spelling around.encoding)
+    begins : (around : Around) (allowed : Option ℕ) → Adds around.encoding (Inside (within prefix p)) (begun_ around allowed)
+        (spelling around.encoding)
     begins around allowed place cs (inl one) complete = pieces (begins_name p) around allowed place cs one complete
     begins around allowed place cs (inr other) complete = joins around allowed place cs other complete
 
     whole : (around : Around) (allowed : Option ℕ) → Adds around.encoding (Whole (within prefix p)) (as_component (within prefix p)
-        (behind_bytes (codes "N") joined) around allowed) (component around.encoding (within prefix p) (in_N_and_E [] (spelling around.encoding)))
+        (behind_bytes (codes "N") joined) around allowed) (component around.encoding (within prefix p) (in_N_and_E []
+        (spelling around.encoding)))
     whole around allowed =
         in-component around allowed (within prefix p) (behind_bytes (codes "N") joined) (in_N_and_E [] (spelling around.encoding))
         (λ place cs fits complete. joins around allowed (place + 1) cs fits complete)
@@ -291,11 +303,13 @@ pub instance-add : (template arguments : Term) → WaysAdd template (fits_of tem
     → WaysAdd (instance template arguments) (fits_of (instance template arguments)) (λ n. ways_of n (instance template arguments))
 unfolding fits_of fits_nowhere ways_of name_ways no_ways entity_text inside
 instance-add template arguments a b = record {
-  as_type = λ slot around allowed. component-at slot around.encoding own (as_component own ((fits_of template).before true elements) around allowed)
+  as_type = λ slot around allowed. component-at slot around.encoding own (as_component own
+      ((fits_of template).before true elements) around allowed)
       (ways_of around.encoding own) (λ x w. w) (whole around allowed) (whole around allowed);
   as_prefix = λ around allowed. in-component around allowed own prefixed
       ((ways_of around.encoding template).as_prefix and listed around.encoding) (prefixes around allowed);
-  as_prefix_template = λ around allowed. reference-adds around allowed own ((ways_of around.encoding template).as_prefix and listed around.encoding);
+  as_prefix_template = λ around allowed. reference-adds around allowed own
+      ((ways_of around.encoding template).as_prefix and listed around.encoding);
   between = joins;
   between_template = λ around allowed place cs fits complete. absurd fits;
   as_entity = λ role around allowed place cs fits complete. entity-adds (is_one_piece own) around.encoding (Inside own) (letters_of role)
@@ -331,7 +345,8 @@ instance-add template arguments a b = record {
     listed : ℕ → Spelling
     listed n = text (codes "I") and (ways_of n arguments).as_elements and text (codes "E")
 
-    elements-add : (around : Around) (allowed : Option ℕ) → Adds around.encoding (Inside arguments) (elements around allowed) (listed around.encoding)
+    elements-add : (around : Around) (allowed : Option ℕ)
+        → Adds around.encoding (Inside arguments) (elements around allowed) (listed around.encoding)
     elements-add around allowed place cs fits complete = b.as_elements false (inside around) allowed (place + 1) cs fits complete
 
     joined : Fitting
@@ -346,17 +361,20 @@ instance-add template arguments a b = record {
     joins around allowed place cs fits complete =
         let n : ℕ = around.encoding in
         let between : Spelling = (ways_of n template).between_N_and_E in
-        whole-adds n template (Inside arguments) ((fits_of template).between_template around allowed) (elements around allowed) between (listed n)
+        whole-adds n template (Inside arguments) ((fits_of template).between_template around allowed) (elements around allowed) between
+        (listed n)
         (a.between_template around allowed) (elements-add around allowed) place cs fits.0
         (behind-and between (ended n template) (elements around allowed) place cs fits.1) complete
 
-    pieces : (around : Around) (allowed : Option ℕ) (place : ℕ) (cs : List Candidate) → (fits_of template).as_entity_template around allowed place cs
+    pieces : (around : Around) (allowed : Option ℕ) (place : ℕ) (cs : List Candidate)
+        → (fits_of template).as_entity_template around allowed place cs
         → Behind ((ways_of around.encoding template).between_N_and_E and ended around.encoding template) (elements around allowed) place cs
         → Complete cs → AddsParts around.encoding (Inside own) cs (spelling around.encoding place cs).components
     pieces around allowed place cs fits more complete =
         let n : ℕ = around.encoding in
         let between : Spelling = (ways_of n template).between_N_and_E in
-        whole-adds n template (Inside arguments) ((fits_of template).as_entity_template around allowed) (elements around allowed) between (listed n)
+        whole-adds n template (Inside arguments) ((fits_of template).as_entity_template around allowed)
+        (elements around allowed) between (listed n)
         (a.as_entity_template around allowed) (elements-add around allowed) place cs fits
         (behind-and between (ended n template) (elements around allowed) place cs more) complete
 
@@ -378,7 +396,8 @@ instance-add template arguments a b = record {
         (elements around allowed) (ways_of around.encoding template).as_prefix (listed around.encoding)
         (a.as_prefix_template around allowed) (elements-add around allowed) place cs (fits.0, fits.1) complete
 
-    whole : (around : Around) (allowed : Option ℕ) → Adds around.encoding (Whole own) (as_component own ((fits_of template).before true elements)
+    whole : (around : Around) (allowed : Option ℕ) → Adds around.encoding (Whole own) (as_component own
+        ((fits_of template).before true elements)
         around allowed) (component around.encoding own ((ways_of around.encoding template).before true (listed around.encoding)))
     whole around allowed = in-component around allowed own ((fits_of template).before true elements)
         ((ways_of around.encoding template).before true (listed around.encoding)) (befores true around allowed)
@@ -398,7 +417,8 @@ local-add e entity discriminator a b = record {
   as_piece = λ around allowed place cs fits complete. absurd fits;
   as_encoding = λ allowed n m place cs fits complete. absurd fits;
   as_name = λ q ref around allowed. spelled-adds (in_name_with q ref) around allowed;
-  before = λ typed around allowed G arguments Q more. found-and-adds around allowed own (λ n. text []) G (spelling in_type around.encoding) arguments Q
+  before = λ typed around allowed G arguments Q more. found-and-adds around allowed own (λ n. text []) G
+      (spelling in_type around.encoding) arguments Q
       more;
   as_argument = λ in_pack around allowed. whole around allowed;
   as_parameters = λ slot other around allowed place cs fits complete. absurd fits;
@@ -438,7 +458,8 @@ local-add e entity discriminator a b = record {
 
     whole : (around : Around) (allowed : Option ℕ) → Adds around.encoding (Whole own) (as_component own (spelled in_type) around allowed)
         (component around.encoding own (spelling in_type around.encoding))
-    whole around allowed = in-component around allowed own (spelled in_type) (spelling in_type around.encoding) (spelled-adds in_type around allowed)
+    whole around allowed = in-component around allowed own (spelled in_type) (spelling in_type around.encoding)
+        (spelled-adds in_type around allowed)
 
     component-slots : (slot : Slot) (around : Around) (allowed : Option ℕ) → Adds around.encoding (AtSlot slot own)
         (as_component own (spelled in_type) around allowed) (way_at slot (ways_of around.encoding own))

@@ -64,7 +64,8 @@ abbreviation-add l = record {
   as_piece = λ around allowed place cs fits complete. absurd fits;
   as_encoding = λ allowed n m place cs fits complete. absurd fits;
   as_name = λ q ref around allowed place cs fits complete. absurd fits;
-  before = λ typed around allowed G arguments Q more place cs fits complete. fewer-added around.encoding Q (Either (Whole (abbreviation l)) Q) cs
+  before = λ typed around allowed G arguments Q more place cs fits complete. fewer-added around.encoding Q (Either (Whole
+      (abbreviation l)) Q) cs
       (arguments (place + 2) cs).components (λ x i. elim i [ inl w ↦ absurd (none x w) | inr q ↦ q ]) (more (place + 2) cs fits.1 complete);
   as_argument = λ in_pack around allowed. whole around.encoding;
   as_parameters = λ slot other around allowed place cs fits complete. absurd fits;
@@ -122,7 +123,8 @@ function-type-add c_linkage noexcept ref returned parameters a b = record {
   as_piece = λ around allowed place cs fits complete. absurd fits;
   as_encoding = λ allowed n m place cs fits complete. absurd fits;
   as_name = λ q ref around allowed place cs fits complete. absurd fits;
-  before = λ typed around allowed G arguments Q more. found-and-adds around allowed own (λ n. text []) G (spelling around.encoding) arguments Q more;
+  before = λ typed around allowed G arguments Q more. found-and-adds around allowed own (λ n. text []) G
+      (spelling around.encoding) arguments Q more;
   as_argument = λ in_pack around allowed. in-component around allowed own all_slots (spelling around.encoding)
       (λ place cs fits complete. spelled-adds around allowed place cs fits.1 complete);
   as_parameters = λ slot other around allowed place cs fits complete. absurd fits;
@@ -139,7 +141,8 @@ function-type-add c_linkage noexcept ref returned parameters a b = record {
     spelled : Fitting
     spelled around allowed place cs =
         (fits_of returned).as_type any_type around allowed (place + length marks) cs
-        × Behind (text marks and (ways_of around.encoding returned).as_type) ((fits_of parameters).as_parameters parameter_type around allowed) place cs
+        × Behind (text marks and (ways_of around.encoding returned).as_type)
+        ((fits_of parameters).as_parameters parameter_type around allowed) place cs
 
     all_slots : Fitting
     all_slots around allowed place cs = (takes_all item_type ≡ true) × spelled around allowed place cs
@@ -147,7 +150,8 @@ function-type-add c_linkage noexcept ref returned parameters a b = record {
     spelling : ℕ → Spelling
     spelling n = function_text c_linkage noexcept ref (ways_of n returned).as_type (ways_of n parameters).as_parameters
 
-    spelled-adds : (around : Around) (allowed : Option ℕ) → Adds around.encoding (Inside own) (spelled around allowed) (spelling around.encoding)
+    spelled-adds : (around : Around) (allowed : Option ℕ)
+        → Adds around.encoding (Inside own) (spelled around allowed) (spelling around.encoding)
     spelled-adds around allowed place cs fits complete =
         let n : ℕ = around.encoding in
         let G : Standing = (fits_of parameters).as_parameters parameter_type around allowed in
@@ -232,8 +236,10 @@ nil-add = record {
 
 -- ## Encodings
 
-returned-adds : (b : Bool) (returned : Term) (around : Around) (allowed : Option ℕ) → WaysAdd returned (fits_of returned) (λ n. ways_of n returned)
-    → Adds around.encoding (Whole returned) (λ place cs. either b ((fits_of returned).as_type item_type around allowed place cs) (returned ≡ absent))
+returned-adds : (b : Bool) (returned : Term) (around : Around) (allowed : Option ℕ)
+    → WaysAdd returned (fits_of returned) (λ n. ways_of n returned)
+    → Adds around.encoding (Whole returned) (λ place cs. either b ((fits_of returned).as_type item_type around allowed place cs)
+    (returned ≡ absent))
     (ways_of around.encoding returned).as_type
 unfolding either ways_of no_ways way_at
 returned-adds true returned around allowed a place cs fits complete = a.as_type item_type around allowed place cs fits complete
@@ -241,19 +247,22 @@ returned-adds false returned around allowed a place cs same complete =
     subst (λ t. AddsParts around.encoding (Whole t) cs ((ways_of around.encoding t).as_type place cs).components) (sym same)
     (fewer-added around.encoding No (Whole absent) cs cs (no-whole absent (λ h. h) (λ x i. i)) (none-added around.encoding cs complete))
 
-function-add : (name : Term) (q : Qualifiers) (ref : RefQualifier) (returned parameters : Term) → WaysAdd name (fits_of name) (λ n. ways_of n name)
+function-add : (name : Term) (q : Qualifiers) (ref : RefQualifier) (returned parameters : Term)
+    → WaysAdd name (fits_of name) (λ n. ways_of n name)
     → WaysAdd returned (fits_of returned) (λ n. ways_of n returned) → WaysAdd parameters (fits_of parameters) (λ n. ways_of n parameters)
     → WaysAdd (function name q ref returned parameters) (fits_of (function name q ref returned parameters))
     (λ n. ways_of n (function name q ref returned parameters))
 unfolding fits_of ways_of in_name in_types way_at
 function-add name q ref returned parameters a b c =
-    encoding-ways-add (function name q ref returned parameters) _ _ (Either (Inside name) (Either (Whole returned) (Inside parameters))) (λ x s. s)
+    encoding-ways-add (function name q ref returned parameters) _ _ (Either (Inside name) (Either (Whole returned) (Inside parameters)))
+    (λ x s. s)
     (λ allowed here cs fits complete.
     let types : Around = in_types here name in
     let one : Spelling = (ways_of here name).as_name (name_letters q ref) in
     let two : Spelling = (ways_of here returned).as_type in
     let three : Spelling = (ways_of here parameters).as_parameters in
-    let G : Standing = λ place ds. either (has_return_type name) ((fits_of returned).as_type item_type types allowed place ds) (returned ≡ absent) in
+    let G : Standing = λ place ds. either (has_return_type name) ((fits_of returned).as_type item_type types allowed place ds)
+    (returned ≡ absent) in
     let H : Standing = (fits_of parameters).as_parameters item_type types allowed in
     and-adds here (Inside name) (Either (Whole returned) (Inside parameters)) ((fits_of name).as_name q ref (in_name here) allowed)
     (λ place ds. G place ds × Behind two H place ds) one (two and three) (a.as_name q ref (in_name here) allowed)
@@ -267,7 +276,8 @@ no-pieces : (t : Term) → (IsComponent t → ⊥) → In (Whole t) (Inside t)
 no-pieces t never x (inl same) = absurd (never same.0)
 no-pieces t never x (inr i) = i
 
-leaf-piece-add : (p : Term) (fitting : Fitting) (bytes : List ℕ) → In (Inside p) No → WaysAdd p (piece_fits fitting) (λ n. piece_ways (text bytes))
+leaf-piece-add : (p : Term) (fitting : Fitting) (bytes : List ℕ) → In (Inside p) No
+    → WaysAdd p (piece_fits fitting) (λ n. piece_ways (text bytes))
 leaf-piece-add p fitting bytes none =
     piece-ways-add p fitting (λ n. text bytes) (λ around allowed. leaf-adds around.encoding (Inside p) (fitting around allowed) bytes none)
 
@@ -315,10 +325,12 @@ adds (rvalue type) = type-ways-add (rvalue type) _ _ (λ x w. w)
     (λ slot around allowed place cs fits complete. (adds type).as_type any_type around allowed (place + 1) cs fits.1 complete)
 adds (array digits type) = type-ways-add (array digits type) _ _ (λ x w. w) (λ slot around allowed place cs fits complete.
     (adds type).as_type any_type around allowed (place + length (codes "A" ++ digits ++ codes "_")) cs fits.2 complete)
-adds (member_pointer class member) = type-ways-add (member_pointer class member) _ _ (λ x w. w) (λ slot around allowed place cs fits complete.
+adds (member_pointer class member) = type-ways-add (member_pointer class member) _ _ (λ x w. w)
+    (λ slot around allowed place cs fits complete.
     let n : ℕ = around.encoding in
     let G : Standing = (fits_of member).as_type any_type around allowed in
-    and-adds n (Whole class) (Whole member) ((fits_of class).as_type any_type around allowed) G (ways_of n class).as_type (ways_of n member).as_type
+    and-adds n (Whole class) (Whole member) ((fits_of class).as_type any_type around allowed) G (ways_of n class).as_type
+    (ways_of n member).as_type
     ((adds class).as_type any_type around allowed) ((adds member).as_type any_type around allowed) (place + 1) cs
     (fits.0, behind-and (text (codes "M")) (ways_of n class).as_type G place cs fits.1) complete)
 adds (function_type c_linkage noexcept ref returned parameters) =

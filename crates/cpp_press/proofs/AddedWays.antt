@@ -32,17 +32,21 @@ IsNotBare _ = Unit {0}
 pub record WaysAdd (t : Term) (f : Fits) (w : ℕ → Ways) : Type 1 where
   pub as_type : (slot : Slot) (around : Around) (allowed : Option ℕ)
       → Adds around.encoding (AtSlot slot t) (f.as_type slot around allowed) (way_at slot (w around.encoding))
-  pub as_prefix : (around : Around) (allowed : Option ℕ) → Adds around.encoding (Whole t) (f.as_prefix around allowed) (w around.encoding).as_prefix
+  pub as_prefix : (around : Around) (allowed : Option ℕ)
+      → Adds around.encoding (Whole t) (f.as_prefix around allowed) (w around.encoding).as_prefix
   pub as_prefix_template : (around : Around) (allowed : Option ℕ)
       → Adds around.encoding (Whole t) (f.as_prefix_template around allowed) (w around.encoding).as_prefix
-  pub between : (around : Around) (allowed : Option ℕ) → Adds around.encoding (Inside t) (f.between around allowed) (w around.encoding).between_N_and_E
+  pub between : (around : Around) (allowed : Option ℕ)
+      → Adds around.encoding (Inside t) (f.between around allowed) (w around.encoding).between_N_and_E
   pub between_template : (around : Around) (allowed : Option ℕ)
       → Adds around.encoding (Inside t) (f.between_template around allowed) (w around.encoding).between_N_and_E
   pub as_entity : (role : Role) (around : Around) (allowed : Option ℕ)
-      → Adds around.encoding (Inside t) (f.as_entity role around allowed) (entity_text t (letters_of role) (w around.encoding).between_N_and_E)
+      → Adds around.encoding (Inside t) (f.as_entity role around allowed) (entity_text t (letters_of role)
+      (w around.encoding).between_N_and_E)
   pub as_entity_template : (around : Around) (allowed : Option ℕ)
       → Adds around.encoding (Inside t) (f.as_entity_template around allowed) (w around.encoding).between_N_and_E
-  pub as_piece : (around : Around) (allowed : Option ℕ) → Adds around.encoding (Inside t) (f.as_piece around allowed) (w around.encoding).as_piece
+  pub as_piece : (around : Around) (allowed : Option ℕ)
+      → Adds around.encoding (Inside t) (f.as_piece around allowed) (w around.encoding).as_piece
   pub as_encoding : (allowed : Option ℕ) (n m : ℕ) → Adds m (Inside t) (f.as_encoding allowed) (w n).as_encoding
   pub as_name : (q : Qualifiers) (ref : RefQualifier) (around : Around) (allowed : Option ℕ)
       → Adds around.encoding (Inside t) (f.as_name q ref around allowed) ((w around.encoding).as_name (name_letters q ref))
@@ -94,7 +98,8 @@ followed_by rest place w =
 -- a template name that stands before, and its arguments
 pub found-and-adds : (around : Around) (allowed : Option ℕ) (own : Term) (front : ℕ → Spelling) (G : Fitting) (s arguments : Spelling)
     (Q : Term → Type 0) → Adds around.encoding Q (G around allowed) arguments
-    → Adds around.encoding (Either (Whole own) Q) (as_template own nowhere front G around allowed) (component around.encoding own s and arguments)
+    → Adds around.encoding (Either (Whole own) Q) (as_template own nowhere front G around allowed)
+    (component around.encoding own s and arguments)
 unfolding component reference spelled_out ended
 found-and-adds around allowed own front G s arguments Q more place cs fits complete = go (first_equal around.encoding own 0 cs) refl
   where
@@ -120,10 +125,12 @@ in-template around allowed own spelled between G arguments Q one more place cs f
 pub in-nested-template : (around : Around) (allowed : Option ℕ) (own : Term) (spelled : Fitting) (between : ℕ → Spelling) (G : Fitting)
     (arguments : Spelling) (Q : Term → Type 0) → Adds around.encoding (Inside own) (spelled around allowed) (between around.encoding)
     → Adds around.encoding Q (G around allowed) arguments
-    → Adds around.encoding (Either (Whole own) Q) (as_template own (behind_bytes (codes "N") spelled) (λ n. text (codes "N") and between n) G around allowed)
+    → Adds around.encoding (Either (Whole own) Q) (as_template own (behind_bytes (codes "N") spelled) (λ n. text
+    (codes "N") and between n) G around allowed)
     (template_before around.encoding own true (between around.encoding) arguments)
 in-nested-template around allowed own spelled between G arguments Q one more place cs fits complete =
-    nested-template-adds around.encoding own Q (spelled around allowed) (G around allowed) (between around.encoding) arguments one more place cs
+    nested-template-adds around.encoding own Q (spelled around allowed) (G around allowed)
+    (between around.encoding) arguments one more place cs
     (fits.1, fits.2) complete
 
 -- ## The ways of each sort
@@ -138,7 +145,8 @@ component-at parameter_type n t F w same one other = one
 component-at literal_type n t F w same one other = one
 
 pub type-ways-add : (t : Term) (spelled : Slot → Fitting) (s : ℕ → Spelling) → In (Unqualified t) (Whole t)
-    → ((slot : Slot) (around : Around) (allowed : Option ℕ) → Adds around.encoding (Inside t) (spelled slot around allowed) (s around.encoding))
+    → ((slot : Slot) (around : Around) (allowed : Option ℕ)
+    → Adds around.encoding (Inside t) (spelled slot around allowed) (s around.encoding))
     → WaysAdd t (type_fits t spelled) (λ n. type_ways (component n t (s n)))
 unfolding type_fits fits_nowhere type_ways no_ways
 type-ways-add t spelled s same one = record {
@@ -156,7 +164,8 @@ type-ways-add t spelled s same one = record {
   as_encoding = λ allowed n m place cs fits complete. absurd fits;
   as_name = λ q ref around allowed place cs fits complete. absurd fits;
   before = λ typed around allowed G arguments Q more. found-and-adds around allowed t (λ n. text []) G (s around.encoding) arguments Q more;
-  as_argument = λ in_pack around allowed. in-component around allowed t (spelled item_type) (s around.encoding) (one item_type around allowed);
+  as_argument = λ in_pack around allowed. in-component around allowed t (spelled item_type) (s around.encoding)
+      (one item_type around allowed);
   as_parameters = λ slot other around allowed place cs fits complete. absurd fits;
   as_more_parameters = λ slot other around allowed place cs fits complete. absurd fits;
   as_elements = λ in_pack around allowed place cs fits complete. absurd fits;
@@ -185,7 +194,8 @@ piece-ways-add t fitting s one = record {
 }
 
 pub argument-ways-add : (t : Term) (fitting : Bool → Fitting) (s : ℕ → Spelling) → In (Whole t) (Inside t)
-    → ((in_pack : Bool) (around : Around) (allowed : Option ℕ) → Adds around.encoding (Inside t) (fitting in_pack around allowed) (s around.encoding))
+    → ((in_pack : Bool) (around : Around) (allowed : Option ℕ)
+    → Adds around.encoding (Inside t) (fitting in_pack around allowed) (s around.encoding))
     → WaysAdd t (argument_fits fitting) (λ n. argument_ways (s n))
 unfolding argument_fits fits_nowhere argument_ways no_ways
 argument-ways-add t fitting s same one = record {
@@ -200,7 +210,8 @@ argument-ways-add t fitting s same one = record {
   as_encoding = λ allowed n m place cs fits complete. absurd fits;
   as_name = λ q ref around allowed place cs fits complete. absurd fits;
   before = λ typed around allowed G arguments Q more place cs fits complete. absurd fits;
-  as_argument = λ in_pack around allowed. fewer-adds around.encoding (Inside t) (Whole t) (fitting in_pack around allowed) (s around.encoding) same
+  as_argument = λ in_pack around allowed. fewer-adds around.encoding (Inside t) (Whole t) (fitting in_pack around allowed)
+      (s around.encoding) same
       (one in_pack around allowed);
   as_parameters = λ slot other around allowed place cs fits complete. absurd fits;
   as_more_parameters = λ slot other around allowed place cs fits complete. absurd fits;

@@ -76,7 +76,8 @@ pub behind-and : (first rest : Spelling) (G : Standing) (place : ℕ) (cs : List
 behind-and first rest G place cs fits =
     let f : spell.Pressed Candidate = first place cs in
     let g : spell.Pressed Candidate = rest (place + length f.bytes) f.components in
-    let same : place + length (f.bytes ++ g.bytes) ≡ place + length f.bytes + length g.bytes = omega (arith, length-append f.bytes g.bytes) in
+    let same : place + length (f.bytes ++ g.bytes) ≡ place + length f.bytes + length g.bytes = omega
+    (arith, length-append f.bytes g.bytes) in
     subst (λ p. G p g.components) same fits
 
 pub at-once : (G : Standing) (place : ℕ) (cs : List Candidate) → G (place + 0) cs → G place cs
@@ -104,7 +105,8 @@ pub component-adds : (n : ℕ) (own : Term) (F : Standing) (spelling : Spelling)
 unfolding component reference spelled_out ended
 component-adds n own F spelling one place cs fits complete = go (first_equal n own 0 cs) refl
   where
-    go : (o : Option ℕ) → first_equal n own 0 cs ≡ o → AddsParts n (Whole own) cs (spell.Pressed.components (elim o as (λ _. spell.Pressed Candidate)
+    go : (o : Option ℕ) → first_equal n own 0 cs ≡ o → AddsParts n (Whole own) cs (spell.Pressed.components (elim o as
+        (λ _. spell.Pressed Candidate)
         [ Some number ↦ reference number place cs | None ↦ spelled_out n own spelling place cs ]))
     go (Some number) is = tree-found n number own cs is complete
     go None is = tree-ended n own cs (spelling place cs).components (one place cs (fits is) complete)
@@ -142,7 +144,8 @@ template-adds n own Q F G between arguments one more place cs (found, new) compl
         both-added n (Whole own) Q cs cs (arguments (place + length r.bytes) cs).components (tree-found n number own cs is complete)
         (more (place + length r.bytes) cs (found number is) complete)
     go None is =
-        whole-adds n own Q F G between arguments one more place cs (new is).0 (behind-and between (ended n own) G place cs (new is).1) complete
+        whole-adds n own Q F G between arguments one more place cs (new is).0 (behind-and between (ended n own) G place cs
+        (new is).1) complete
 
 -- the same between N and E where the name is spelled out
 pub nested-template-adds : (n : ℕ) (own : Term) (Q : Term → Type 0) (F G : Standing) (between arguments : Spelling)
@@ -167,7 +170,8 @@ nested-template-adds n own Q F G between arguments one more place cs (found, new
         (behind-and (text (codes "N") and between) (ended n own) G place cs (new is).1)) complete
 
 -- a name that stands without letters or with them
-pub letters-add : (letters : List ℕ) (n : ℕ) (P : Term → Type 0) (around : Around) (allowed : Option ℕ) (F G : Fitting) (own between : Spelling)
+pub letters-add : (letters : List ℕ) (n : ℕ) (P : Term
+    → Type 0) (around : Around) (allowed : Option ℕ) (F G : Fitting) (own between : Spelling)
     → Adds n P (F around allowed) own → Adds n P (G around allowed) between
     → Adds n P (by_letters letters F G around allowed) (with_letters letters own between)
 unfolding by_letters with_letters in_N_and_E

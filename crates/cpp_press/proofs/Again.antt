@@ -50,7 +50,8 @@ same-packs around allowed packs own fits (inl none) = inl none
 same-packs around allowed packs own fits (inr same) = subst (PacksFit around allowed) (sym same) fits
 
 -- a type that stands may be referred to
-pub item-again : (t : Term) (slot : Slot) → IsNotBare slot → (around : Around) (allowed packs : Option ℕ) → ItemStands slot around.scope packs t
+pub item-again : (t : Term) (slot : Slot) → IsNotBare slot → (around : Around) (allowed packs : Option ℕ)
+    → ItemStands slot around.scope packs t
     → PacksFit around allowed packs → is_open t && around.in_lambda ≡ false → (place : ℕ) (cs : List Candidate)
     → In (Whole t) (λ x. Has around.encoding x cs) → (fits_of t).as_type slot around allowed place cs
 unfolding fits_of type_fits piece_fits argument_fits encoding_fits fits_nowhere
@@ -115,7 +116,8 @@ unfolding fits_of fits_nowhere is_open way_at
 items-again nil around allowed packs items fits shut place cs complete has = tt
 items-again (list first rest) around allowed packs items fits shut place cs complete has =
     let n : ℕ = around.encoding in
-    let one = item-again first parameter_type tt around allowed packs items.0 fits (left-shut (is_open first) (is_open rest) around.in_lambda shut)
+    let one = item-again first parameter_type tt around allowed packs items.0 fits (left-shut (is_open first)
+    (is_open rest) around.in_lambda shut)
     place cs (λ x w. has x (inl w)) in
     let w : spell.Pressed Candidate = (ways_of n first).as_type place cs in
     let a : AddsParts n (Whole first) cs w.components = (adds first).as_type parameter_type around allowed place cs one complete in (
@@ -152,9 +154,11 @@ function-again c_linkage noexcept ref returned parameters around allowed stands 
     let one = item-again returned any_type tt around allowed packs stands.0 may.packs
     (left-shut (is_open returned) (is_open parameters) around.in_lambda may.lambda) (place + length marks) cs (λ x w. all x (inr (inl w))) in
     let w : spell.Pressed Candidate = (ways_of n returned).as_type (place + length marks) cs in
-    let a : AddsParts n (Whole returned) cs w.components = (adds returned).as_type any_type around allowed (place + length marks) cs one complete in (
+    let a : AddsParts n (Whole returned) cs w.components = (adds returned).as_type any_type around allowed
+    (place + length marks) cs one complete in (
       one,
       parameters-again parameters around allowed packs stands.1 stands.2 may.packs
-          (right-shut (is_open returned) (is_open parameters) around.in_lambda may.lambda) (place + length (marks ++ w.bytes)) w.components a.complete
+          (right-shut (is_open returned) (is_open parameters) around.in_lambda may.lambda) (place + length
+          (marks ++ w.bytes)) w.components a.complete
           (λ x i. a.keeps n x (all x (inr (inr i)))),
     )

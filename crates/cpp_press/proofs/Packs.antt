@@ -44,7 +44,8 @@ closed-packs scope (lvalue type) closed = closed-packs scope type closed
 closed-packs scope (rvalue type) closed = closed-packs scope type closed
 closed-packs scope (array digits type) closed = closed-packs scope type closed
 closed-packs scope (member_pointer class member) closed =
-    first-none (pack_length scope class) (pack_length scope member) (closed-packs scope class (left-shut (is_open class) (is_open member) closed))
+    first-none (pack_length scope class) (pack_length scope member) (closed-packs scope class (left-shut (is_open class)
+    (is_open member) closed))
     (closed-packs scope member (right-shut (is_open class) (is_open member) closed))
 closed-packs scope (function_type c_linkage noexcept ref returned parameters) closed =
     first-none (pack_length scope returned) (pack_length scope parameters)
@@ -56,7 +57,8 @@ closed-packs scope (complex type) closed = closed-packs scope type closed
 closed-packs scope (integer type value) closed = closed-packs scope type closed
 closed-packs scope (pack elements) closed = closed-packs scope elements closed
 closed-packs scope (list first rest) closed =
-    first-none (pack_length scope first) (pack_length scope rest) (closed-packs scope first (left-shut (is_open first) (is_open rest) closed))
+    first-none (pack_length scope first) (pack_length scope rest) (closed-packs scope first (left-shut (is_open first)
+    (is_open rest) closed))
     (closed-packs scope rest (right-shut (is_open first) (is_open rest) closed))
 closed-packs scope (symbol e suffix) closed = refl
 closed-packs scope _ closed = refl

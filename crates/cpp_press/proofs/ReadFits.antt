@@ -85,7 +85,8 @@ pressed_at n around = record {
 }
 
 -- a value that was read fits at a place behind components, and behind it the candidates stand among the components
-pub record ReadFits (way : Way) (v : Value) (around : Around) (n : ℕ) (allowed : Option ℕ) (place : ℕ) (cs : List Candidate) (state : State) :
+pub record ReadFits (way : Way) (v : Value) (around : Around) (n : ℕ) (allowed : Option ℕ) (place : ℕ) (cs : List Candidate)
+    (state : State) :
     Type 0 where
   pub fits : FitsIn way v (pressed_at n around) allowed place cs
   pub among : StandAmong around.encoding n state.candidates (spelled_in way v n place cs).components
@@ -94,7 +95,8 @@ pub record ReadFits (way : Way) (v : Value) (around : Around) (n : ℕ) (allowed
 pub record ValueFits (way : Way) (around : Around) (state : State) (r : Found (List Value) State) : Type 0 where
   pub value : Value
   pub is : r.value ≡ value ∷ []
-  pub fits : (n place : ℕ) (cs : List Candidate) (allowed : Option ℕ) → n ≤ place → Complete cs → StandAmong around.encoding n state.candidates cs
+  pub fits : (n place : ℕ) (cs : List Candidate) (allowed : Option ℕ) → n ≤ place → Complete cs
+      → StandAmong around.encoding n state.candidates cs
       → Allows allowed r.state.packs → ReadFits way value around n allowed place cs r.state
 
 abbrev pub TreeFits : Shape → Type 0
