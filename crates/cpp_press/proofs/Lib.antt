@@ -17,6 +17,7 @@ pub mod AddedWays
 pub mod AddedNames
 pub mod AddedTrees
 pub mod Again
+pub mod FunctionsStand
 pub mod ReadFits
 pub mod Tokens
 pub mod Reading
