@@ -18,7 +18,6 @@ pub mod AddedNames
 pub mod AddedTrees
 pub mod Again
 pub mod FunctionsStand
-pub mod ReadFits
 pub mod Tokens
 pub mod Reading
 pub mod ReadingReferences
