@@ -55,7 +55,8 @@ inside-shut (within prefix p) x closed (inr i) = inside-shut p x (right-shut (is
 inside-shut (instance template arguments) x closed (inl w) =
     itself-shut template x (Inside template x) (left-shut (is_open template) (is_open arguments) closed)
     (inside-shut template x (left-shut (is_open template) (is_open arguments) closed)) w
-inside-shut (instance template arguments) x closed (inr i) = inside-shut arguments x (right-shut (is_open template) (is_open arguments) closed) i
+inside-shut (instance template arguments) x closed (inr i) = inside-shut arguments x (right-shut (is_open template)
+    (is_open arguments) closed) i
 inside-shut (local e entity discriminator) x closed (inl s) = s.0
 inside-shut (local e entity discriminator) x closed (inr i) = inside-shut entity x closed i
 inside-shut (lambda parameters k) x closed i = inside-shut parameters x closed i
@@ -129,7 +130,8 @@ complete-has n t cs complete has x (inl same) = subst (λ u. Has n u cs) (sym sa
 complete-has n t cs complete has x (inr i) = all-has n t cs cs complete has x i
 
 -- Where a tree stands, its spelling adds nothing that may be referred to and doesn't stand there.
-pub nothing-new : (n : ℕ) (R : Term → Type 0) (spelling : Spelling) → KeepsTo Unit n R spelling → (place : ℕ) (cs : List Candidate) → n ≤ place
+pub nothing-new : (n : ℕ) (R : Term → Type 0) (spelling : Spelling) → KeepsTo Unit n R spelling → (place : ℕ) (cs : List Candidate)
+    → n ≤ place
     → ((x : Term) → R x → Has n x cs) → (x : Term) → IsComponent x → Has n x (spelling place cs).components → Has n x cs
 nothing-new n R spelling keeps place cs le stands x is has =
     let a = keeps place cs le (λ y r may. stands y r) in
@@ -144,7 +146,8 @@ nothing-new n R spelling keeps place cs le stands x is has =
 abbrev pub StandAmong : (read pressed : ℕ) → (candidates components : List Candidate) → Type 0
 StandAmong read pressed [] components = Unit {0}
 StandAmong read pressed (c ∷ cs) components =
-    (IsComponent c.tree × ((is_open c.tree ≡ false) ⊎ (c.encoding ≡ read) → Has pressed c.tree components)) × StandAmong read pressed cs components
+    (IsComponent c.tree × ((is_open c.tree ≡ false) ⊎ (c.encoding ≡ read)
+    → Has pressed c.tree components)) × StandAmong read pressed cs components
 
 pub among-append : (read pressed : ℕ) (cs ds components : List Candidate) → StandAmong read pressed cs components
     → StandAmong read pressed ds components → StandAmong read pressed (cs ++ ds) components

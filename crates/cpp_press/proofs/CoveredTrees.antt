@@ -121,7 +121,8 @@ encoding-ways-cover t spelling none one = record {
 letters-cover : (letters : List ℕ) (own between : Spelling) → Covers 0 own → Covers 0 between → Covers 0 (with_letters letters own between)
 unfolding with_letters
 letters-cover [] own between one two = one
-letters-cover (l ∷ ls) own between one two = less-covers 1 0 (in_N_and_E (l ∷ ls) between) (omega arith) (in-N-and-E-covers (l ∷ ls) between two)
+letters-cover (l ∷ ls) own between one two = less-covers 1 0 (in_N_and_E (l ∷ ls) between) (omega arith) (in-N-and-E-covers
+    (l ∷ ls) between two)
 
 name-ways-cover : (n : ℕ) (t : Term) (type own prefix between : Spelling) (before : Bool → Spelling → Spelling) → (IsPiece t → ⊥)
     → Covers 1 type → Covers 0 own → Covers 1 prefix → Covers 0 between
@@ -282,7 +283,8 @@ covers (symbol e suffix) has n =
     }
 covers (function name q ref returned parameters) has n =
     encoding-ways-cover (function name q ref returned parameters) _ (λ h. h) (λ here.
-    both-cover ((ways_of here name).as_name (name_letters q ref)) ((ways_of here returned).as_type and (ways_of here parameters).as_parameters)
+    both-cover ((ways_of here name).as_name (name_letters q ref)) ((ways_of here returned).as_type and
+    (ways_of here parameters).as_parameters)
     ((covers name has.0 here).as_name (name_letters q ref))
     (both-cover (ways_of here returned).as_type (ways_of here parameters).as_parameters (covers returned has.1 here).as_type
     (covers parameters has.2 here).as_parameters))
@@ -290,10 +292,12 @@ covers (object name q ref) has n =
     encoding-ways-cover (object name q ref) _ (λ h. h) (λ here. (covers name has here).as_name (name_letters q ref))
 covers (special l type) has n =
     encoding-ways-cover (special l type) _ (λ h. h) (λ here.
-    both-cover (text (codes "T" ++ l ∷ [])) (ways_of here type).as_type (text-covers 0 (codes "T" ++ l ∷ []) (omega arith)) (covers type has here).as_type)
+    both-cover (text (codes "T" ++ l ∷ [])) (ways_of here type).as_type (text-covers 0 (codes "T" ++ l ∷ []) (omega arith))
+    (covers type has here).as_type)
 covers (thunk kind e) has n =
     encoding-ways-cover (thunk kind e) _ (λ h. h) (λ here.
-    both-cover (text (thunk_text kind)) (ways_of here e).as_encoding (text-covers 0 (thunk_text kind) (omega arith)) (covers e has here).as_encoding)
+    both-cover (text (thunk_text kind)) (ways_of here e).as_encoding (text-covers 0 (thunk_text kind) (omega arith))
+    (covers e has here).as_encoding)
 covers (guard name q ref) has n =
     encoding-ways-cover (guard name q ref) _ (λ h. h) (λ here.
     both-cover (text (codes "GV")) ((ways_of here name).as_name (name_letters q ref)) (text-covers 0 (codes "GV") (omega arith))
@@ -302,7 +306,8 @@ covers (alone p) has n =
     let spelling : Spelling = (ways_of n p).as_piece in
     let one : Covers 1 spelling = (covers p has.1 n).as_piece has.0 in
     let none : Covers 0 spelling = less-covers 1 0 spelling (omega arith) one in
-    name-ways-cover n (alone p) spelling spelling spelling spelling (λ in_type arguments. template_before n (alone p) false spelling arguments)
+    name-ways-cover n (alone p) spelling spelling spelling spelling (λ in_type arguments. template_before n
+    (alone p) false spelling arguments)
     (λ h. h) one none one none
     (λ in_type arguments more. before-covers n (alone p) false spelling arguments none more)
 covers (in_std p) has n =
@@ -344,7 +349,8 @@ covers (instance template arguments) has n =
 covers (local e entity discriminator) has n =
     let spelling : List ℕ → Spelling = local_text (ways_of n e).as_encoding entity (ways_of n entity).between_N_and_E discriminator in
     let one : (letters : List ℕ) → Covers 1 (spelling letters) =
-    λ letters. local-cover (ways_of n e).as_encoding entity (ways_of n entity).between_N_and_E discriminator letters (covers e has.0 n).as_encoding
+    λ letters. local-cover (ways_of n e).as_encoding entity (ways_of n entity).between_N_and_E discriminator letters
+    (covers e has.0 n).as_encoding
     (covers entity has.1 n).between_N_and_E in
     local-ways-cover n (local e entity discriminator) (spelling []) spelling (λ h. h) (one [])
     (λ letters. less-covers 1 0 (spelling letters) (omega arith) (one letters))
@@ -365,11 +371,15 @@ covers (unnamed k) has n = piece-ways-cover (unnamed k) _ (text-covers 1 (codes 
 covers string_literal has n = piece-ways-cover string_literal _ (text-covers 1 (codes "s") (omega arith))
 covers (builtin code) has n = type-ways-cover (builtin code) _ (λ h. h) (text-covers 0 code (omega arith))
 covers (vendor name) has n = leaf-cover n (vendor name) (codes "u" ++ counted name) (λ h. h) (omega arith)
-covers (pointer type) has n = typed-cover n (pointer type) (codes "P") (ways_of n type).as_type (λ h. h) (omega arith) (covers type has n).as_type
-covers (lvalue type) has n = typed-cover n (lvalue type) (codes "R") (ways_of n type).as_type (λ h. h) (omega arith) (covers type has n).as_type
-covers (rvalue type) has n = typed-cover n (rvalue type) (codes "O") (ways_of n type).as_type (λ h. h) (omega arith) (covers type has n).as_type
+covers (pointer type) has n = typed-cover n (pointer type) (codes "P") (ways_of n type).as_type (λ h. h) (omega arith)
+    (covers type has n).as_type
+covers (lvalue type) has n = typed-cover n (lvalue type) (codes "R") (ways_of n type).as_type (λ h. h) (omega arith)
+    (covers type has n).as_type
+covers (rvalue type) has n = typed-cover n (rvalue type) (codes "O") (ways_of n type).as_type (λ h. h) (omega arith)
+    (covers type has n).as_type
 covers (array digits type) has n =
-    typed-cover n (array digits type) (codes "A" ++ digits ++ codes "_") (ways_of n type).as_type (λ h. h) (omega arith) (covers type has n).as_type
+    typed-cover n (array digits type) (codes "A" ++ digits ++ codes "_") (ways_of n type).as_type (λ h. h) (omega arith)
+    (covers type has n).as_type
 covers (member_pointer class member) has n =
     typed-cover n (member_pointer class member) (codes "M") ((ways_of n class).as_type and (ways_of n member).as_type) (λ h. h) (omega arith)
     (both-cover (ways_of n class).as_type (ways_of n member).as_type (covers class has.0 n).as_type (covers member has.1 n).as_type)
@@ -393,12 +403,14 @@ covers (qualified q type) has n =
 covers (vector digits type) has n =
     typed-cover n (vector digits type) (codes "Dv" ++ digits ++ codes "_") (ways_of n type).as_type (λ h. h) (omega arith)
     (covers type has n).as_type
-covers (complex type) has n = typed-cover n (complex type) (codes "C") (ways_of n type).as_type (λ h. h) (omega arith) (covers type has n).as_type
+covers (complex type) has n = typed-cover n (complex type) (codes "C") (ways_of n type).as_type (λ h. h) (omega arith)
+    (covers type has n).as_type
 covers (expansion pattern) has n =
     typed-cover n (expansion pattern) (codes "Dp") (ways_of n pattern).as_type (λ h. h) (omega arith) (covers pattern has n).as_type
 covers (integer type value) has n =
     argument-ways-cover (integer type value) _ (λ h. h)
-    (both-cover (text (codes "L")) ((ways_of n type).as_type and text (signed_text value ++ codes "E")) (text-covers 0 (codes "L") (omega arith))
+    (both-cover (text (codes "L")) ((ways_of n type).as_type and text (signed_text value ++ codes "E")) (text-covers 0 (codes "L")
+    (omega arith))
     (before-bytes (ways_of n type).as_type (signed_text value ++ codes "E") (covers type has n).as_type))
 covers (boolean truth) has n = argument-ways-cover (boolean truth) _ (λ h. h)
     (text-covers 0 (cond truth (codes "Lb1E") (codes "Lb0E")) (omega arith))

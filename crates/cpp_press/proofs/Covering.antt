@@ -79,7 +79,8 @@ and-covers one others spare first rest le a b place components =
 -- bytes in front, and behind
 pub text-and-covers : (others spare : ℕ) (bytes : List ℕ) (rest : Spelling) → spare ≤ length bytes + others → Covers others rest
     → Covers spare (text bytes and rest)
-text-and-covers others spare bytes rest le one = and-covers (length bytes) others spare (text bytes) rest le (text-covers (length bytes) bytes
+text-and-covers others spare bytes rest le one = and-covers (length bytes) others spare (text bytes) rest le (text-covers
+    (length bytes) bytes
     (omega arith)) one
 
 pub and-text-covers : (one spare : ℕ) (first : Spelling) (bytes : List ℕ) → spare ≤ one + length bytes → Covers one first
@@ -90,7 +91,8 @@ and-text-covers one spare first bytes le a = and-covers one (length bytes) spare
 pub in-N-and-E-covers : (letters : List ℕ) (name : Spelling) → Covers 0 name → Covers 1 (in_N_and_E letters name)
 unfolding in_N_and_E
 in-N-and-E-covers letters name one =
-    text-and-covers 0 1 (codes "N" ++ letters) (name and text (codes "E")) (omega arith) (and-text-covers 0 0 name (codes "E") (omega arith) one)
+    text-and-covers 0 1 (codes "N" ++ letters) (name and text (codes "E")) (omega arith) (and-text-covers 0 0 name (codes "E")
+    (omega arith) one)
 
 -- a tree becomes a component behind its spelling, before what follows
 pub ended-covers : (one others spare encoding : ℕ) (own : Term) (spelling rest : Spelling) → spare + 1 ≤ one + others → Covers one spelling
@@ -171,7 +173,8 @@ followed_by rest place w =
     let g = rest (place + length w.bytes) w.components in record { bytes = w.bytes ++ g.bytes; components = g.components }
 
 -- a tree that has no spelling of its own, and arguments that have two bytes
-pub bare-covers : (encoding : ℕ) (own : Term) (arguments : Spelling) → Covers 2 arguments → Covers 1 (component encoding own nothing and arguments)
+pub bare-covers : (encoding : ℕ) (own : Term) (arguments : Spelling) → Covers 2 arguments
+    → Covers 1 (component encoding own nothing and arguments)
 unfolding component reference spelled_out ended
 bare-covers encoding own arguments more place components = go (first_equal encoding own 0 components)
   where

@@ -32,11 +32,13 @@ pub record AddsKnown (open_ : Type 0) (n start : ℕ) (components : List Candida
 -- a spelling in an encoding, and one behind at least a byte of it
 abbrev pub KeepsTo : (open_ : Type 0) → (n : ℕ) → (R : Term → Type 0) → Spelling → Type 0
 KeepsTo open_ n R spelling =
-    (place : ℕ) (components : List Candidate) → n ≤ place → Stands open_ n R components → AddsKnown open_ n place components (spelling place components)
+    (place : ℕ) (components : List Candidate) → n ≤ place → Stands open_ n R components
+    → AddsKnown open_ n place components (spelling place components)
 
 abbrev pub KeepsBehind : (open_ : Type 0) → (n : ℕ) → (R : Term → Type 0) → Spelling → Type 0
 KeepsBehind open_ n R spelling =
-    (place : ℕ) (components : List Candidate) → n < place → Stands open_ n R components → AddsKnown open_ n place components (spelling place components)
+    (place : ℕ) (components : List Candidate) → n < place → Stands open_ n R components
+    → AddsKnown open_ n place components (spelling place components)
 
 -- ## What is known
 
@@ -129,10 +131,12 @@ pub behind-bytes-keeps : (open_ : Type 0) (n : ℕ) (R : Term → Type 0) (bytes
     → KeepsBehind open_ n R rest → KeepsTo open_ n R (text bytes and rest)
 behind-bytes-keeps open_ n R bytes rest some more place cs le stands =
     let later : ℕ = place + length bytes in
-    and-adds open_ n place later cs (record { bytes = bytes; components = cs }) (rest later cs) (omega arith) (text-adds open_ n place bytes cs)
+    and-adds open_ n place later cs (record { bytes = bytes; components = cs }) (rest later cs) (omega arith)
+    (text-adds open_ n place bytes cs)
     (more later cs (omega (arith, le, some)) stands)
 
-pub keeps-behind : (open_ : Type 0) (n : ℕ) (R : Term → Type 0) (spelling : Spelling) → KeepsTo open_ n R spelling → KeepsBehind open_ n R spelling
+pub keeps-behind : (open_ : Type 0) (n : ℕ) (R : Term → Type 0) (spelling : Spelling) → KeepsTo open_ n R spelling
+    → KeepsBehind open_ n R spelling
 keeps-behind open_ n R spelling one place cs le stands = one place cs (omega (arith, le)) stands
 
 -- a tree becomes a component
@@ -207,7 +211,8 @@ inner-stands open_ n place R cs stands x is (inr none) = absurd none
 inner-stands open_ n place R cs stands x (inr free) (inl closed) = absurd (true≢false (sym free ∙ closed))
 inner-stands open_ n place R cs stands x (inl is) (inl closed) = has-closed n place x cs closed (stands x is (inl closed))
 
-outer-known : (open_ : Type 0) (n place : ℕ) (cs ds : List Candidate) → n < place → AreKnown ⊥ place place cs ds → AreKnown open_ n place cs ds
+outer-known : (open_ : Type 0) (n place : ℕ) (cs ds : List Candidate) → n < place → AreKnown ⊥ place place cs ds
+    → AreKnown open_ n place cs ds
 outer-known open_ n place cs [] le each = tt
 outer-known open_ n place cs (d ∷ ds) le each = (
   record { known = λ is k. known is k; place = inr late },

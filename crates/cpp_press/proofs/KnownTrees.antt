@@ -65,7 +65,8 @@ no-ways-keep open_ n R t = record {
 
 -- ## The ways of each sort
 
-type-ways-keep : (open_ : Type 0) (n : ℕ) (R : Term → Type 0) (t : Term) (spelling : Spelling) → In (Whole t) (Unqualified t) → In (Whole t) (Prefixing t)
+type-ways-keep : (open_ : Type 0) (n : ℕ) (R : Term → Type 0) (t : Term) (spelling : Spelling) → In (Whole t) (Unqualified t)
+    → In (Whole t) (Prefixing t)
     → (In (Whole t) R → KeepsTo open_ n R spelling) → WaysKeep open_ n R t (type_ways spelling)
 unfolding type_ways no_ways
 type-ways-keep open_ n R t spelling same front one = record {
@@ -84,13 +85,15 @@ type-ways-keep open_ n R t spelling same front one = record {
 }
 
 -- a component that has one spelling
-typed-keep : (open_ : Type 0) (n : ℕ) (R : Term → Type 0) (t : Term) (spelling : Spelling) → In (Whole t) (Unqualified t) → In (Whole t) (Prefixing t)
+typed-keep : (open_ : Type 0) (n : ℕ) (R : Term → Type 0) (t : Term) (spelling : Spelling) → In (Whole t) (Unqualified t)
+    → In (Whole t) (Prefixing t)
     → (In (Inside t) R → KeepsTo open_ n R spelling) → WaysKeep open_ n R t (type_ways (component n t spelling))
 typed-keep open_ n R t spelling same front one =
     type-ways-keep open_ n R t (component n t spelling) same front
     (λ h. component-keeps open_ n R t spelling (its open_ n R t h) (one (insides R t h)))
 
-piece-ways-keep : (open_ : Type 0) (n : ℕ) (R : Term → Type 0) (t : Term) (spelling : Spelling) → (In (Inside t) R → KeepsTo open_ n R spelling)
+piece-ways-keep : (open_ : Type 0) (n : ℕ) (R : Term → Type 0) (t : Term) (spelling : Spelling) → (In (Inside t) R
+    → KeepsTo open_ n R spelling)
     → WaysKeep open_ n R t (piece_ways spelling)
 unfolding piece_ways no_ways
 piece-ways-keep open_ n R t spelling one = record {
@@ -108,7 +111,8 @@ piece-ways-keep open_ n R t spelling one = record {
   as_elements = λ h. nothing-keeps open_ n R;
 }
 
-argument-ways-keep : (open_ : Type 0) (n : ℕ) (R : Term → Type 0) (t : Term) (spelling : Spelling) → (In (Inside t) R → KeepsTo open_ n R spelling)
+argument-ways-keep : (open_ : Type 0) (n : ℕ) (R : Term → Type 0) (t : Term) (spelling : Spelling) → (In (Inside t) R
+    → KeepsTo open_ n R spelling)
     → WaysKeep open_ n R t (argument_ways spelling)
 unfolding argument_ways no_ways
 argument-ways-keep open_ n R t spelling one = record {
@@ -126,7 +130,8 @@ argument-ways-keep open_ n R t spelling one = record {
   as_elements = λ h. nothing-keeps open_ n R;
 }
 
-encoding-ways-keep : (open_ : Type 0) (n : ℕ) (R : Term → Type 0) (t : Term) (spelling : (encoding : ℕ) → Spelling) (raw : Term → Type 0) → In (λ x. Shut (raw x) x) (Inside t)
+encoding-ways-keep : (open_ : Type 0) (n : ℕ) (R : Term → Type 0) (t : Term) (spelling : (encoding : ℕ) → Spelling) (raw : Term
+    → Type 0) → In (λ x. Shut (raw x) x) (Inside t)
     → ((here : ℕ) → In raw (OrOpen R) → KeepsTo ⊥ here (OrOpen R) (spelling here)) → WaysKeep open_ n R t (encoding_ways spelling)
 unfolding encoding_ways no_ways
 encoding-ways-keep open_ n R t spelling raw shut one = record {
@@ -145,7 +150,8 @@ encoding-ways-keep open_ n R t spelling raw shut one = record {
 }
 
 -- a symbol
-whole-ways-keep : (open_ : Type 0) (n : ℕ) (R : Term → Type 0) (t : Term) (spelling : Spelling) → (In (λ x. Shut (Inside t x) x) R → KeepsTo open_ n R spelling)
+whole-ways-keep : (open_ : Type 0) (n : ℕ) (R : Term → Type 0) (t : Term) (spelling : Spelling) → (In (λ x. Shut (Inside t x) x) R
+    → KeepsTo open_ n R spelling)
     → WaysKeep open_ n R t (record no_ways { as_encoding = spelling })
 unfolding no_ways
 whole-ways-keep open_ n R t spelling one = record {
@@ -169,7 +175,8 @@ unfolding with_letters
 letters-keep open_ n R [] own between one two = one
 letters-keep open_ n R (l ∷ ls) own between one two = in-N-and-E-keeps open_ n R (l ∷ ls) between two
 
-name-ways-keep : (open_ : Type 0) (n : ℕ) (R : Term → Type 0) (t : Term) (type own prefix between : Spelling) (before : Bool → Spelling → Spelling)
+name-ways-keep : (open_ : Type 0) (n : ℕ) (R : Term → Type 0) (t : Term) (type own prefix between : Spelling) (before : Bool → Spelling
+    → Spelling)
     → In (Whole t) (Unqualified t) → In (Whole t) (Prefixing t)
     → (In (Inside t) R → KeepsTo open_ n R type) → (In (Inside t) R → KeepsTo open_ n R own) → (In (Inside t) R → KeepsTo open_ n R prefix)
     → (In (Inside t) R → KeepsTo open_ n R between)
@@ -182,7 +189,8 @@ name-ways-keep open_ n R t type own prefix between before same front typed owned
     record {
       as_type = c;
       under_qualifiers = λ h. c (λ x w. h x (same x w));
-      as_prefix = λ h. component-keeps open_ n R t prefix (its open_ n R t (λ x w. h x (front x w))) (prefixed (λ x i. h x (front x (inr i))));
+      as_prefix = λ h. component-keeps open_ n R t prefix (its open_ n R t (λ x w. h x (front x w))) (prefixed (λ x i. h x (front x
+          (inr i))));
       between_N_and_E = betweened;
       as_piece = λ h. nothing-keeps open_ n R;
       as_encoding = λ h. keeps-behind open_ n R nothing (nothing-keeps open_ n R);
@@ -194,7 +202,8 @@ name-ways-keep open_ n R t type own prefix between before same front typed owned
       as_elements = λ h. nothing-keeps open_ n R;
     }
 
-function-type-ways-keep : (open_ : Type 0) (n : ℕ) (R : Term → Type 0) (t : Term) (spelling : Spelling) → In (Inside t) (Unqualified t) → In (Whole t) (Prefixing t)
+function-type-ways-keep : (open_ : Type 0) (n : ℕ) (R : Term → Type 0) (t : Term) (spelling : Spelling) → In (Inside t) (Unqualified t)
+    → In (Whole t) (Prefixing t)
     → (In (Inside t) R → KeepsTo open_ n R spelling)
     → WaysKeep open_ n R t (record (type_ways (component n t spelling)) { under_qualifiers = spelling })
 unfolding type_ways no_ways
@@ -216,7 +225,8 @@ function-type-ways-keep open_ n R t spelling same front one =
       as_elements = λ h. nothing-keeps open_ n R;
     }
 
-local-ways-keep : (open_ : Type 0) (n : ℕ) (R : Term → Type 0) (t : Term) (spelling : (letters : List ℕ) → Spelling) → In (Whole t) (Unqualified t) → In (Whole t) (Prefixing t)
+local-ways-keep : (open_ : Type 0) (n : ℕ) (R : Term → Type 0) (t : Term) (spelling : (letters : List ℕ) → Spelling)
+    → In (Whole t) (Unqualified t) → In (Whole t) (Prefixing t)
     → (In (Inside t) R → (letters : List ℕ) → KeepsTo open_ n R (spelling letters))
     → WaysKeep open_ n R t (record (type_ways (component n t (spelling []))) { as_name = spelling })
 unfolding type_ways no_ways
@@ -295,7 +305,8 @@ local-keeps : (open_ : Type 0) (n : ℕ) (R : Term → Type 0) (around : Spellin
 unfolding local_text entity_text
 local-keeps open_ n R around entity between discriminator letters one two =
     let name : Spelling = elim (is_one_piece entity) as (λ _. Spelling) [ true ↦ between | false ↦ in_N_and_E letters between ] in
-    behind-bytes-keeps open_ n R (codes "Z") (around and (text (codes "E") and (name and text (discriminator_text discriminator)))) (omega arith)
+    behind-bytes-keeps open_ n R (codes "Z") (around and (text (codes "E") and (name and text (discriminator_text discriminator))))
+    (omega arith)
     (behind-and-keeps open_ n R around (text (codes "E") and (name and text (discriminator_text discriminator))) one
     (between-texts-keep open_ n R (codes "E") name (discriminator_text discriminator)
     (entity-keeps open_ n R letters between (is_one_piece entity) two)))
@@ -314,7 +325,8 @@ keeps (symbol e suffix) open_ n R =
     encoding-between-keeps open_ n R (codes "_Z") (ways_of n e).as_encoding suffix (omega arith)
     ((keeps e open_ n R).as_encoding (λ x s. h x (s.0, s))))
 keeps (function name q ref returned parameters) open_ n R =
-    encoding-ways-keep open_ n R (function name q ref returned parameters) _ (λ x. Inside name x ⊎ (Whole returned x ⊎ Inside parameters x)) (λ x s. s) (λ here h.
+    encoding-ways-keep open_ n R (function name q ref returned parameters) _ (λ x. Inside name x ⊎
+    (Whole returned x ⊎ Inside parameters x)) (λ x s. s) (λ here h.
     and-keeps ⊥ here (OrOpen R) ((ways_of here name).as_name (name_letters q ref))
     ((ways_of here returned).as_type and (ways_of here parameters).as_parameters)
     ((keeps name ⊥ here (OrOpen R)).as_name (λ x i. h x (inl i)) (name_letters q ref))
@@ -322,7 +334,8 @@ keeps (function name q ref returned parameters) open_ n R =
     ((keeps returned ⊥ here (OrOpen R)).as_type (λ x w. h x (inr (inl w))))
     ((keeps parameters ⊥ here (OrOpen R)).as_parameters (λ x i. h x (inr (inr i))))))
 keeps (object name q ref) open_ n R =
-    encoding-ways-keep open_ n R (object name q ref) _ (Inside name) (λ x s. s) (λ here h. (keeps name ⊥ here (OrOpen R)).as_name h (name_letters q ref))
+    encoding-ways-keep open_ n R (object name q ref) _ (Inside name) (λ x s. s) (λ here h. (keeps name ⊥ here (OrOpen R)).as_name h
+    (name_letters q ref))
 keeps (special l type) open_ n R =
     encoding-ways-keep open_ n R (special l type) _ (Whole type) (λ x s. s) (λ here h.
     behind-text-keeps ⊥ here (OrOpen R) (codes "T" ++ l ∷ []) (ways_of here type).as_type ((keeps type ⊥ here (OrOpen R)).as_type h))
@@ -388,8 +401,10 @@ keeps (local e entity discriminator) open_ n R =
     (local_text (ways_of n e).as_encoding entity (ways_of n entity).between_N_and_E discriminator) (λ x w. w) (λ x w. w)
     (λ h letters. local-keeps open_ n R (ways_of n e).as_encoding entity (ways_of n entity).between_N_and_E discriminator letters
     ((keeps e open_ n R).as_encoding (λ x s. h x (inl s))) ((keeps entity open_ n R).between_N_and_E (λ x i. h x (inr i))))
-keeps (abbreviation l) open_ n R = type-ways-keep open_ n R (abbreviation l) _ (λ x w. w) (λ x w. w) (λ h. text-keeps open_ n R (codes "S" ++ l ∷ []))
-keeps (parameter k) open_ n R = typed-keep open_ n R (parameter k) _ (λ x w. w) (λ x w. w) (λ h. text-keeps open_ n R (codes "T" ++ ordinal k))
+keeps (abbreviation l) open_ n R = type-ways-keep open_ n R (abbreviation l) _ (λ x w. w) (λ x w. w) (λ h. text-keeps open_ n R
+    (codes "S" ++ l ∷ []))
+keeps (parameter k) open_ n R = typed-keep open_ n R (parameter k) _ (λ x w. w) (λ x w. w) (λ h. text-keeps open_ n R
+    (codes "T" ++ ordinal k))
 keeps (source internal name) open_ n R = piece-ways-keep open_ n R (source internal name) _ (λ h. text-keeps open_ n R _)
 keeps (operator a b) open_ n R = piece-ways-keep open_ n R (operator a b) _ (λ h. text-keeps open_ n R _)
 keeps (literal_operator name) open_ n R = piece-ways-keep open_ n R (literal_operator name) _ (λ h. text-keeps open_ n R _)
@@ -450,7 +465,8 @@ keeps (boolean truth) open_ n R =
 keeps null_pointer open_ n R = argument-ways-keep open_ n R null_pointer _ (λ h. text-keeps open_ n R (codes "LDnE"))
 keeps (encoding_literal e) open_ n R =
     argument-ways-keep open_ n R (encoding_literal e) _
-    (λ h. encoding-between-keeps open_ n R (codes "L_Z") (ways_of n e).as_encoding (codes "E") (omega arith) ((keeps e open_ n R).as_encoding h))
+    (λ h. encoding-between-keeps open_ n R (codes "L_Z") (ways_of n e).as_encoding (codes "E") (omega arith)
+    ((keeps e open_ n R).as_encoding h))
 keeps (address_of e) open_ n R =
     argument-ways-keep open_ n R (address_of e) _
     (λ h. encoding-between-keeps open_ n R (codes "XadL_Z") (ways_of n e).as_encoding (codes "EE") (omega arith)

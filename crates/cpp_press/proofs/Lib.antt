@@ -12,6 +12,13 @@ pub mod Known
 pub mod KnownTrees
 pub mod Complete
 pub mod Steps
+pub mod Packs
+pub mod Adding
+pub mod AddedWays
+pub mod AddedNames
+pub mod AddedTrees
+pub mod Again
+pub mod FunctionsStand
 pub mod Tokens
 pub mod Reading
 pub mod ReadingReferences

@@ -171,7 +171,11 @@ unfolding first_equal
 found-stands n x from number [] is = cc
 found-stands n x from number (c ∷ cs) is = go (is_same n x c) refl is (λ h. found-stands n x (from + 1) number cs h)
   where
-    go : (b : Bool) → is_same n x c ≡ b → elim b as (λ _. Option ℕ) [ true ↦ Some from | false ↦ first_equal n x (from + 1) cs ] ≡ Some number
+    go : (b : Bool) → is_same n x c ≡ b → elim b as (λ _. Option ℕ) [
+      | true ↦ Some from
+      | false ↦ first_equal n x
+          (from + 1) cs
+    ] ≡ Some number
         → (first_equal n x (from + 1) cs ≡ Some number → Has n x cs) → (is_same n x c ≡ true) ⊎ Has n x cs
     go true same h later = inl same
     go false same h later = inr (later h)

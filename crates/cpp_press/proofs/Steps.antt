@@ -22,7 +22,8 @@ unfolding component reference spelled_out ended
 component-among read n t spelling is keeps place cs candidates le complete among = go (first_equal n t 0 cs) refl
   where
     go : (o : Option ℕ) → first_equal n t 0 cs ≡ o
-        → StandAmong read n (candidates ++ record { tree = t; encoding = read } ∷ []) (spell.Pressed.components (elim o as (λ _. spell.Pressed Candidate)
+        → StandAmong read n (candidates ++ record { tree = t; encoding = read } ∷ []) (spell.Pressed.components (elim o as
+        (λ _. spell.Pressed Candidate)
         [ Some number ↦ reference number place cs | None ↦ spelled_out n t spelling place cs ]))
     go (Some number) found =
         let has : Has n t cs = found-stands n t 0 number cs found in
