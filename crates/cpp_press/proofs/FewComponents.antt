@@ -1,17 +1,17 @@
 -- A symbol that fits has at most as many components as bytes.
-use Rattle.std.proofs.Common.{◌≡◌, ℕ, suc, ◌+◌, ◌-◌, ◌<◌, ◌≤◌, ◌⊎◌, inl, inr, length, List, [], ◌∷◌, ◌++◌, Option, Some, None, Bool, true, false, refl, ap, arith, sym, subst, ◌∙◌, length-append}
-use Rattle.std.specs.Prelude.{cond, codes, ◌&&◌, ◌||◌}
+use Rattle.std.proofs.Common.{◌≡◌, ℕ, ◌+◌, ◌≤◌, ◌⊎◌, inl, inr, length, List, [], ◌∷◌, ◌++◌, Option, None, Bool, true, false, refl, arith, sym, subst, ◌∙◌, length-append}
+use Rattle.std.specs.Prelude.{cond, codes, ◌&&◌}
 use Rattle.sym_spell.specs.Pressing.{◌and◌, text, nothing}
-use Rattle.cpp_grammar.specs.Term.{Thunk, Qualifiers, RefQualifier, Signed, Term, symbol, function, object, special, thunk, guard, alone, in_std, within, instance, local, abbreviation, parameter, source, operator, literal_operator, constructor, destructor, lambda, unnamed, string_literal, builtin, vendor, pointer, lvalue, rvalue, array, member_pointer, function_type, qualified, vector, complex, expansion, integer, boolean, null_pointer, encoding_literal, address_of, pack, nil, list, absent}
+use Rattle.cpp_grammar.specs.Term.{Thunk, Qualifiers, RefQualifier, Term, symbol, function, object, special, thunk, guard, alone, in_std, within, instance, local, abbreviation, parameter, source, operator, literal_operator, constructor, destructor, lambda, unnamed, string_literal, builtin, vendor, pointer, lvalue, rvalue, array, member_pointer, function_type, qualified, vector, complex, expansion, integer, boolean, null_pointer, encoding_literal, address_of, pack, nil, list, absent}
 use Rattle.cpp_grammar.specs.Scope.{has_return_type}
 use Rattle.cpp_grammar.specs.Values.{Candidate, outermost, Around}
-use Rattle.cpp_grammar.specs.Between.{in_name, in_types, in_signature, under_expansion, after, inside}
-use Rattle.cpp_press.specs.Texts.{counted, ordinal, signed_text, qualifier_letters, mark_letter, name_letters, thunk_text, discriminator_text}
-use Rattle.cpp_press.specs.Components.{Spelling, reference, first_equal, ended, spelled_out, referred, component}
-use Rattle.cpp_press.specs.Pressing.{Ways, no_ways, type_ways, piece_ways, argument_ways, pressed, encoding_ways, begun, function_text, name_ways, with_letters, in_N_and_E, template_before, is_operator, is_encoding, is_one_piece, entity_text, local_text, ways_of}
+use Rattle.cpp_grammar.specs.Between.{in_name, in_types, after, inside}
+use Rattle.cpp_press.specs.Texts.{ordinal, mark_letter, name_letters, thunk_text, discriminator_text}
+use Rattle.cpp_press.specs.Components.{Spelling, ended, component}
+use Rattle.cpp_press.specs.Pressing.{no_ways, type_ways, pressed, encoding_ways, begun, function_text, name_ways, with_letters, in_N_and_E, template_before, is_operator, is_encoding, is_one_piece, entity_text, local_text, ways_of}
 use Rattle.cpp_grammar.specs.Unfolding.{first_around}
 use Rattle.cpp_press.specs.Apart.{spelled_components}
-use Rattle.cpp_press.proofs.Reading.{Written, written}
+use Rattle.cpp_press.proofs.Reading.{Written}
 use Rattle.cpp_press.proofs.Keeping.{choice}
 use Rattle.cpp_press.proofs.ReadingTemplates.{of_elements}
 use Rattle.cpp_press.proofs.Readings.{slot_way}
@@ -19,9 +19,9 @@ use Rattle.cpp_press.proofs.ReadingsOfNames.{no-letters}
 use Rattle.cpp_press.proofs.ReadingsOfStd.{std_fits, std_spelling, maybe_N}
 use Rattle.cpp_press.proofs.ReadingsOfWithin.{scope-first, no-encoding, joined_spelling, joined_fits, local_fits, begun_fits}
 use Rattle.cpp_press.proofs.ReadingsOfInstances.{instance_joined, not-one-piece, one-piece-is, elements_of, instance_between}
-use Rattle.cpp_press.proofs.Counting.{counted-long, letters-long, marks-long}
-use Rattle.cpp_press.proofs.Fit.{SymbolFits, names_in, IsWithoutLetters, one_piece, names_type, Slot, any_type, bare_type, item_type, parameter_type, literal_type, IsBuiltin, Fits, Fitting, Standing, IsFirst, Role, in_type, in_name_with, letters_of, has_letters, by_letters, either, Behind, behind_bytes, as_component, as_reference, as_template, nowhere, fits_nowhere, type_fits, piece_fits, argument_fits, encoding_fits, fits_of}
-use Rattle.cpp_press.proofs.FewTrees.{few-and, few-component, few-behind, few-before, few-nested, ArgumentsFew, few-elements, few-made, few-referred, few-reference, LeadsFew, few-nowhere, few-piece, few-argument, few-encoding, few-type, Counts, few-pointer, few-lvalue, few-rvalue, few-complex, few-vendor, few-array, few-vector, few-expansion, few-qualified, few-member-pointer, few-source-piece, few-source, few-operator, few-literal-operator, few-constructor, few-destructor, few-unnamed, few-string-literal, few-lambda, few-builtin, few-integer, few-boolean, few-null-pointer, few-encoding-literal, few-address, few-pack, few-nil, few-list, FewBy, FewAll}
+use Rattle.cpp_press.proofs.Counting.{marks-long}
+use Rattle.cpp_press.proofs.Fit.{SymbolFits, names_in, IsWithoutLetters, one_piece, names_type, Slot, any_type, bare_type, item_type, parameter_type, literal_type, Fitting, Role, in_type, in_name_with, letters_of, by_letters, either, Behind, behind_bytes, as_component, fits_nowhere, type_fits, fits_of}
+use Rattle.cpp_press.proofs.FewTrees.{few-and, few-component, few-behind, few-before, few-nested, ArgumentsFew, few-elements, few-made, few-referred, few-reference, LeadsFew, few-nowhere, few-encoding, Counts, few-pointer, few-lvalue, few-rvalue, few-complex, few-vendor, few-array, few-vector, few-expansion, few-qualified, few-member-pointer, few-source, few-operator, few-literal-operator, few-constructor, few-destructor, few-unnamed, few-string-literal, few-lambda, few-builtin, few-integer, few-boolean, few-null-pointer, few-encoding-literal, few-address, few-pack, few-nil, few-list, FewBy}
 
 -- ## Names
 
@@ -40,7 +40,8 @@ unfolding with_letters
 few-own [] own place cs one two = omega (arith, one)
 few-own (l ∷ ls) own place cs one two = omega (arith, few-nested 1 (l ∷ ls) own place cs two)
 
-few-no-letters : (own : Spelling) (place : ℕ) (cs : List Candidate) → FewBy 1 cs (own place cs) → FewBy 0 cs (with_letters [] own own place cs)
+few-no-letters : (own : Spelling) (place : ℕ) (cs : List Candidate) → FewBy 1 cs (own place cs)
+    → FewBy 0 cs (with_letters [] own own place cs)
 unfolding with_letters
 few-no-letters own place cs one = omega (arith, one)
 
@@ -65,9 +66,12 @@ few-alone p r = record {
       let rest : Spelling = ended n (alone p) and of_elements elements in
       let w : Written = own place cs in
       few-referred around allowed (alone p) arguments elements (own and rest) place cs few h.1
-      (λ none. omega (arith, few-and 1 1 own rest place cs (r.as_piece around allowed place cs (h.2 none).0.2)
-      (few-made around allowed (alone p) arguments elements place (place + length (w.bytes ++ [])) w few
-      (omega (arith, length-append w.bytes [])) (h.2 none).1)));
+      (λ none. omega (
+        arith,
+        few-and 1 1 own rest place cs (r.as_piece around allowed place cs (h.2 none).0.2)
+            (few-made around allowed (alone p) arguments elements place (place + length (w.bytes ++ [])) w few
+            (omega (arith, length-append w.bytes [])) (h.2 none).1),
+      ));
   as_argument = λ in_pack. whole;
   as_items = λ around allowed place cs h. absurd h;
   as_more_items = λ around allowed place cs h. absurd h;
@@ -86,7 +90,8 @@ few-alone p r = record {
     whole : LeadsFew 0 (λ n. component n (alone p) (ways_of n p).as_piece)
         (as_component (alone p) (one_piece outermost (names_type p) (fits_of p).as_piece))
     whole around allowed place cs h =
-        few-component around.encoding (alone p) (ways_of around.encoding p).as_piece place cs (λ none. r.as_piece around allowed place cs (h.1 none).2)
+        few-component around.encoding (alone p) (ways_of around.encoding p).as_piece place cs
+        (λ none. r.as_piece around allowed place cs (h.1 none).2)
 
     as_types : (slot : Slot) → LeadsFew 0 (λ n. slot_way slot (ways_of n (alone p))) ((fits_of (alone p)).as_type slot)
     as_types any_type = whole
@@ -109,8 +114,11 @@ few-abbreviation l = record {
   as_encoding = λ around allowed place cs h. absurd h;
   as_name = λ q ref around allowed place cs h. absurd h;
   before = λ typed around allowed place cs arguments elements few h.
-      omega (arith, few-behind 2 2 (codes "S" ++ l ∷ []) (of_elements elements) place cs (omega arith)
-      (few-elements elements (place + 2) cs (few (place + 2) cs h.1)));
+      omega (
+        arith,
+        few-behind 2 2 (codes "S" ++ l ∷ []) (of_elements elements) place cs (omega arith)
+            (few-elements elements (place + 2) cs (few (place + 2) cs h.1)),
+      );
   as_argument = λ in_pack around allowed place cs h. omega arith;
   as_items = λ around allowed place cs h. absurd h;
   as_more_items = λ around allowed place cs h. absurd h;
@@ -142,8 +150,11 @@ few-parameter k = record {
   before = λ typed around allowed place cs arguments elements few h.
       let own : Spelling = component around.encoding (parameter k) (text (codes "T" ++ ordinal k)) in
       let w : Written = own place cs in
-      omega (arith, few-and 0 2 own (of_elements elements) place cs (whole around place cs)
-      (few-elements elements (place + length w.bytes) w.components (few (place + length w.bytes) w.components h.1)));
+      omega (
+        arith,
+        few-and 0 2 own (of_elements elements) place cs (whole around place cs)
+            (few-elements elements (place + length w.bytes) w.components (few (place + length w.bytes) w.components h.1)),
+      );
   as_argument = λ in_pack around allowed place cs h. whole around place cs;
   as_items = λ around allowed place cs h. absurd h;
   as_more_items = λ around allowed place cs h. absurd h;
@@ -167,7 +178,11 @@ few-parameter k = record {
 few-std : (p : Term) → Counts p → (around : Around) (allowed : Option ℕ) (place : ℕ) (cs : List Candidate)
     → (fits_of p).as_piece around allowed (place + 2) cs → FewBy 1 cs (std_spelling around.encoding p place cs)
 few-std p r around allowed place cs h =
-    omega (arith, few-behind 1 2 (codes "St") (ways_of around.encoding p).as_piece place cs (omega arith) (r.as_piece around allowed (place + 2) cs h))
+    omega (
+      arith,
+      few-behind 1 2 (codes "St") (ways_of around.encoding p).as_piece place cs (omega arith) (r.as_piece around allowed
+          (place + 2) cs h),
+    )
 
 few-std-typed : (b : Bool) (p : Term) → Counts p → (around : Around) (allowed : Option ℕ) (place : ℕ) (cs : List Candidate)
     → (fits_of p).as_piece around allowed (place + length (maybe_N b) + 2) cs
@@ -177,7 +192,8 @@ few-std-typed true p r around allowed place cs h =
 few-std-typed false p r around allowed place cs h =
     few-std p r around allowed place cs (subst (λ q. (fits_of p).as_piece around allowed (q + 2) cs) (omega arith) h)
 
-few-std-before : (b : Bool) (p : Term) → Counts p → (around : Around) (allowed : Option ℕ) (arguments : Fitting) (elements : Spelling) (place : ℕ)
+few-std-before : (b : Bool) (p : Term) → Counts p → (around : Around) (allowed : Option ℕ) (arguments : Fitting) (elements : Spelling)
+    (place : ℕ)
     (cs : List Candidate) → ArgumentsFew around allowed arguments elements
     → (fits_of p).as_piece around allowed (place + length (maybe_N b) + 2) cs
     → Behind ((text (maybe_N b) and std_spelling around.encoding p) and ended around.encoding (in_std p)) (arguments around allowed) place cs
@@ -188,23 +204,33 @@ few-std-before true p r around allowed arguments elements place cs few h fits =
     let n : ℕ = around.encoding in
     let w : Written = std_spelling n p (place + 1) cs in
     let rest : Spelling = ended n (in_std p) and of_elements elements in
-    omega (arith, few-nested 2 [] (std_spelling n p and rest) place cs
-    (few-and 1 1 (std_spelling n p) rest (place + 1) cs (few-std p r around allowed (place + 1) cs h)
-    (few-made around allowed (in_std p) arguments elements (place + 1) (place + length ((78 ∷ w.bytes) ++ [])) w few
-    (omega (arith, length-append w.bytes [])) fits)))
+    omega (
+      arith,
+      few-nested 2 [] (std_spelling n p and rest) place cs
+          (few-and 1 1 (std_spelling n p) rest (place + 1) cs (few-std p r around allowed (place + 1) cs h)
+          (few-made around allowed (in_std p) arguments elements (place + 1) (place + length ((78 ∷ w.bytes) ++ [])) w few
+          (omega (arith, length-append w.bytes [])) fits)),
+    )
 few-std-before false p r around allowed arguments elements place cs few h fits =
     let n : ℕ = around.encoding in
     let w : Written = std_spelling n p place cs in
     let rest : Spelling = ended n (in_std p) and of_elements elements in
-    omega (arith, few-and 1 1 (std_spelling n p) rest place cs
-    (few-std p r around allowed place cs (subst (λ q. (fits_of p).as_piece around allowed (q + 2) cs) (omega arith) h))
-    (few-made around allowed (in_std p) arguments elements place (place + length (w.bytes ++ [])) w few
-    (omega (arith, length-append w.bytes []))
-    (subst (λ q. arguments around allowed (place + length ((std_spelling n p q cs).bytes ++ []))
-    ((std_spelling n p q cs).components ++ record { tree = in_std p; encoding = n } ∷ [])) (omega arith) fits)))
+    omega (
+      arith,
+      few-and 1 1 (std_spelling n p) rest place cs
+          (few-std p r around allowed place cs (subst (λ q. (fits_of p).as_piece around allowed (q + 2) cs) (omega arith) h))
+          (few-made around allowed (in_std p) arguments elements place (place + length (w.bytes ++ [])) w few
+          (omega (arith, length-append w.bytes []))
+          (subst (λ q. arguments around allowed (place + length ((std_spelling n p q cs).bytes ++ []))
+          ((std_spelling n p q cs).components ++ record { tree = in_std p; encoding = n } ∷ [])) (omega arith) fits)),
+    )
 
 std-placed : (typed : Bool) (p : Term) (around : Around) (allowed : Option ℕ) (place : ℕ) (cs : List Candidate)
-    → (elim typed as (λ _. Fitting) [ true ↦ behind_bytes (maybe_N (is_operator p)) (std_fits p) | false ↦ std_fits p ]) around allowed place cs
+    → (elim typed as (λ _. Fitting) [
+      | true ↦ behind_bytes (maybe_N (is_operator p))
+          (std_fits p)
+      | false ↦ std_fits p
+    ]) around allowed place cs
     → (fits_of p).as_piece around allowed (place + length (maybe_N (typed && is_operator p)) + 2) cs
 std-placed true p around allowed place cs h = h.1
 std-placed false p around allowed place cs h = subst (λ q. (fits_of p).as_piece around allowed (q + 2) cs) (omega arith) h.1
@@ -220,13 +246,17 @@ few-in-std p r = record {
   between = λ around allowed place cs h. few-std p r around allowed place cs h.1;
   between_template = λ around allowed place cs h. few-std p r around allowed place cs h.1;
   as_entity = λ role around allowed place cs h.
-      omega (arith, few-nested 1 (letters_of role) (std_spelling around.encoding p) place cs
-      (few-std p r around allowed (place + length (codes "N" ++ letters_of role)) cs h.1));
+      omega (
+        arith,
+        few-nested 1 (letters_of role) (std_spelling around.encoding p) place cs
+            (few-std p r around allowed (place + length (codes "N" ++ letters_of role)) cs h.1),
+      );
   as_entity_template = λ around allowed place cs h. absurd h;
   as_piece = λ around allowed place cs h. absurd h;
   as_encoding = λ around allowed place cs h. absurd h;
   as_name = λ q ref around allowed place cs h.
-      few-letters (name_letters q ref) around allowed place cs (std_spelling around.encoding p) (std_spelling around.encoding p) (std_fits p) (std_fits p)
+      few-letters (name_letters q ref) around allowed place cs (std_spelling around.encoding p) (std_spelling around.encoding p)
+      (std_fits p) (std_fits p)
       h (λ k. omega (arith, few-std p r around allowed place cs k.1)) (λ at k. omega (arith, few-std p r around allowed at cs k.1));
   before = λ typed around allowed place cs arguments elements few h.
       let whole : Spelling = std_spelling around.encoding p and ended around.encoding (in_std p) and of_elements elements in
@@ -259,8 +289,10 @@ few-function-type : (c x : Bool) (ref : RefQualifier) (a ps : Term) → Counts a
 unfolding ways_of fits_of fits_nowhere type_fits type_ways no_ways function_text
 few-function-type c x ref a ps ra rp = record {
   as_type = as_types;
-  as_prefix = λ around allowed place cs h. few-component around.encoding (function_type c x ref a ps) (whole_text around.encoding) place cs (λ none. absurd (h.1 none));
-  as_prefix_template = λ around allowed place cs h. few-component around.encoding (function_type c x ref a ps) (whole_text around.encoding) place cs (λ none. absurd (h.1 none));
+  as_prefix = λ around allowed place cs h. few-component around.encoding (function_type c x ref a ps)
+      (whole_text around.encoding) place cs (λ none. absurd (h.1 none));
+  as_prefix_template = λ around allowed place cs h. few-component around.encoding (function_type c x ref a ps)
+      (whole_text around.encoding) place cs (λ none. absurd (h.1 none));
   between = λ around allowed place cs h. absurd h;
   between_template = λ around allowed place cs h. absurd h;
   as_entity = λ role around allowed place cs h. absurd h;
@@ -299,7 +331,8 @@ few-function-type c x ref a ps ra rp = record {
         (few-and 0 0 (ways_of n a).as_type ((ways_of n ps).as_parameters and text end) at cs (ra.as_type any_type around allowed at cs h.0)
         (few-before 0 (ways_of n ps).as_parameters end (at + length w.bytes) w.components
         (rp.as_parameters around allowed (at + length w.bytes) w.components
-        (subst (λ q. (fits_of ps).as_parameters parameter_type around allowed q w.components) (omega (arith, length-append front w.bytes)) h.1))))
+        (subst (λ q. (fits_of ps).as_parameters parameter_type around allowed q w.components) (omega
+        (arith, length-append front w.bytes)) h.1))))
 
     whole : LeadsFew 0 (λ n. component n (function_type c x ref a ps) (whole_text n)) (as_component (function_type c x ref a ps) spelled)
     whole around allowed place cs h =
@@ -328,28 +361,39 @@ few-joined x p rx rp around allowed place cs h =
 few-local : (x p : Term) (may : Bool) → Counts p → (around : Around) (allowed : Option ℕ) (place : ℕ) (cs : List Candidate)
     → local_fits x p may around allowed place cs → FewBy 1 cs (joined_spelling around.encoding x p place cs)
 few-local x p may rp around allowed place cs h =
-    subst (FewBy 1 cs) (sym (scope-first x around.encoding (ways_of around.encoding p).as_piece place cs h.0)) (rp.as_piece around allowed place cs h.1.2)
+    subst (FewBy 1 cs) (sym (scope-first x around.encoding (ways_of around.encoding p).as_piece place cs h.0))
+    (rp.as_piece around allowed place cs h.1.2)
 
 few-begun : (x p : Term) → Counts x → Counts p → (around : Around) (allowed : Option ℕ) (place : ℕ) (cs : List Candidate)
     → begun_fits x p around allowed place cs → FewBy 1 cs (joined_spelling around.encoding x p place cs)
 few-begun x p rx rp around allowed place cs (inl h) = few-local x p _ rp around allowed place cs h
 few-begun x p rx rp around allowed place cs (inr h) = few-joined x p rx rp around allowed place cs h
 
-few-within-entity : (x p : Term) → Counts x → Counts p → (role : Role) (around : Around) (allowed : Option ℕ) (place : ℕ) (cs : List Candidate)
+few-within-entity : (x p : Term) → Counts x → Counts p → (role : Role) (around : Around) (allowed : Option ℕ) (place : ℕ)
+    (cs : List Candidate)
     (b : Bool) → is_encoding x ≡ b
     → (IsWithoutLetters (letters_of role) × local_fits x p (names_in role p) around allowed place cs)
     ⊎ behind_bytes (codes "N" ++ letters_of role) (joined_fits x p) around allowed place cs
-    → FewBy 0 cs (choice b (joined_spelling around.encoding x p) (in_N_and_E (letters_of role) (joined_spelling around.encoding x p)) place cs)
-few-within-entity x p rx rp role around allowed place cs true is (inl h) = omega (arith, few-local x p (names_in role p) rp around allowed place cs h.1)
+    → FewBy 0 cs (choice b (joined_spelling around.encoding x p) (in_N_and_E (letters_of role)
+    (joined_spelling around.encoding x p)) place cs)
+few-within-entity x p rx rp role around allowed place cs true is (inl h) = omega (
+  arith,
+  few-local x p
+      (names_in role p) rp around allowed place cs h.1,
+)
 few-within-entity x p rx rp role around allowed place cs false is (inl h) = absurd (let e : false ≡ true = sym is ∙ h.1.0 in cc)
 few-within-entity x p rx rp role around allowed place cs true is (inr h) =
     absurd (let e : true ≡ false = sym is ∙ no-encoding x around allowed (place + length (codes "N" ++ letters_of role)) cs h.0 in cc)
 few-within-entity x p rx rp role around allowed place cs false is (inr h) =
-    omega (arith, few-nested 1 (letters_of role) (joined_spelling around.encoding x p) place cs
-    (few-joined x p rx rp around allowed (place + length (codes "N" ++ letters_of role)) cs h))
+    omega (
+      arith,
+      few-nested 1 (letters_of role) (joined_spelling around.encoding x p) place cs
+          (few-joined x p rx rp around allowed (place + length (codes "N" ++ letters_of role)) cs h),
+    )
 
 few-nested-name : (letters : List ℕ) (between : Spelling) (place : ℕ) (cs : List Candidate)
-    → FewBy 1 cs (between (place + length (codes "N" ++ letters)) cs) → FewBy 0 cs (with_letters letters (in_N_and_E [] between) between place cs)
+    → FewBy 1 cs (between (place + length (codes "N" ++ letters)) cs)
+    → FewBy 0 cs (with_letters letters (in_N_and_E [] between) between place cs)
 unfolding with_letters
 few-nested-name [] between place cs one = omega (arith, few-nested 1 [] between place cs one)
 few-nested-name (l ∷ ls) between place cs one = omega (arith, few-nested 1 (l ∷ ls) between place cs one)
@@ -376,10 +420,13 @@ few-within x p rx rp = record {
       let rest : Spelling = ended n (within x p) and of_elements elements in
       let w : Written = joined_spelling n x p (place + 1) cs in
       few-referred around allowed (within x p) arguments elements (in_N_and_E [] (joined_spelling n x p and rest)) place cs few h.1
-      (λ none. omega (arith, few-nested 2 [] (joined_spelling n x p and rest) place cs
-      (few-and 1 1 (joined_spelling n x p) rest (place + 1) cs (few-joined x p rx rp around allowed (place + 1) cs (h.2 none).0)
-      (few-made around allowed (within x p) arguments elements (place + 1) (place + length ((78 ∷ w.bytes) ++ [])) w few
-      (omega (arith, length-append w.bytes [])) (h.2 none).1))));
+      (λ none. omega (
+        arith,
+        few-nested 2 [] (joined_spelling n x p and rest) place cs
+            (few-and 1 1 (joined_spelling n x p) rest (place + 1) cs (few-joined x p rx rp around allowed (place + 1) cs (h.2 none).0)
+            (few-made around allowed (within x p) arguments elements (place + 1) (place + length ((78 ∷ w.bytes) ++ [])) w few
+            (omega (arith, length-append w.bytes [])) (h.2 none).1)),
+      ));
   as_argument = λ in_pack. whole;
   as_items = λ around allowed place cs h. absurd h;
   as_more_items = λ around allowed place cs h. absurd h;
@@ -392,7 +439,8 @@ few-within x p rx rp = record {
         (as_component (within x p) (behind_bytes (codes "N") (joined_fits x p)))
     whole around allowed place cs h =
         few-component around.encoding (within x p) (in_N_and_E [] (joined_spelling around.encoding x p)) place cs
-        (λ none. few-nested 1 [] (joined_spelling around.encoding x p) place cs (few-joined x p rx rp around allowed (place + 1) cs (h.1 none)))
+        (λ none. few-nested 1 [] (joined_spelling around.encoding x p) place cs (few-joined x p rx rp around allowed (place + 1) cs
+        (h.1 none)))
 
     as_types : (slot : Slot) → LeadsFew 0 (λ n. slot_way slot (ways_of n (within x p))) ((fits_of (within x p)).as_type slot)
     as_types any_type = whole
@@ -416,17 +464,23 @@ unfolding ended
 few-instance-between t a ra around allowed place cs one h =
     let n : ℕ = around.encoding in
     let w : Written = (ways_of n t).between_N_and_E place cs in
-    omega (arith, few-and 1 1 (ways_of n t).between_N_and_E (ended n t and of_elements (ways_of n a).as_elements) place cs one
-    (few-made around allowed t (elements_of a) (ways_of n a).as_elements place (place + length (w.bytes ++ [])) w (few-arguments a ra around allowed)
-    (omega (arith, length-append w.bytes [])) h))
+    omega (
+      arith,
+      few-and 1 1 (ways_of n t).between_N_and_E (ended n t and of_elements (ways_of n a).as_elements) place cs one
+          (few-made around allowed t (elements_of a) (ways_of n a).as_elements place (place + length (w.bytes ++ [])) w
+          (few-arguments a ra around allowed)
+          (omega (arith, length-append w.bytes [])) h),
+    )
 
-few-instance-entity : (t a : Term) → Counts t → Counts a → (role : Role) (around : Around) (allowed : Option ℕ) (place : ℕ) (cs : List Candidate)
+few-instance-entity : (t a : Term) → Counts t → Counts a → (role : Role) (around : Around) (allowed : Option ℕ) (place : ℕ)
+    (cs : List Candidate)
     (b : Bool) → is_one_piece (instance t a) ≡ b
     → (IsWithoutLetters (letters_of role)
     × (fits_of t).as_entity_template around allowed place cs
     × Behind ((ways_of around.encoding t).between_N_and_E and ended around.encoding t) (elements_of a around allowed) place cs)
     ⊎ behind_bytes (codes "N" ++ letters_of role) (instance_joined t a) around allowed place cs
-    → FewBy 0 cs (choice b (instance_between around.encoding t a) (in_N_and_E (letters_of role) (instance_between around.encoding t a)) place cs)
+    → FewBy 0 cs (choice b (instance_between around.encoding t a) (in_N_and_E (letters_of role)
+    (instance_between around.encoding t a)) place cs)
 few-instance-entity t a rt ra role around allowed place cs true is (inl h) =
     omega (arith, few-instance-between t a ra around allowed place cs (rt.as_entity_template around allowed place cs h.1) h.2)
 few-instance-entity t a rt ra role around allowed place cs false is (inl h) = absurd (one-piece-is t a around allowed place cs h.1 is)
@@ -434,8 +488,11 @@ few-instance-entity t a rt ra role around allowed place cs true is (inr h) =
     absurd (let e : true ≡ false = sym is ∙ not-one-piece t a around allowed (place + length (codes "N" ++ letters_of role)) cs h.0 in cc)
 few-instance-entity t a rt ra role around allowed place cs false is (inr h) =
     let at : ℕ = place + length (codes "N" ++ letters_of role) in
-    omega (arith, few-nested 1 (letters_of role) (instance_between around.encoding t a) place cs
-    (few-instance-between t a ra around allowed at cs (rt.between_template around allowed at cs h.0) h.1))
+    omega (
+      arith,
+      few-nested 1 (letters_of role) (instance_between around.encoding t a) place cs
+          (few-instance-between t a ra around allowed at cs (rt.between_template around allowed at cs h.0) h.1),
+    )
 
 few-instance : (t a : Term) → Counts t → Counts a → Counts (instance t a)
 unfolding ways_of fits_of fits_nowhere name_ways no_ways entity_text
@@ -447,22 +504,32 @@ few-instance t a rt ra = record {
       let w : Written = prefix place cs in
       let arguments : Spelling = of_elements (ways_of n a).as_elements in
       few-component n (instance t a) (prefix and arguments) place cs
-      (λ none. omega (arith, few-and 0 2 prefix arguments place cs (rt.as_prefix_template around allowed place cs (h.1 none).0)
-      (few-elements (ways_of n a).as_elements (place + length w.bytes) w.components
-      (few-arguments a ra around allowed (place + length w.bytes) w.components (h.1 none).1))));
+      (λ none. omega (
+        arith,
+        few-and 0 2 prefix arguments place cs (rt.as_prefix_template around allowed place cs (h.1 none).0)
+            (few-elements (ways_of n a).as_elements (place + length w.bytes) w.components
+            (few-arguments a ra around allowed (place + length w.bytes) w.components (h.1 none).1)),
+      ));
   as_prefix_template = λ around allowed place cs h. few-component around.encoding (instance t a)
       ((ways_of around.encoding t).as_prefix and of_elements (ways_of around.encoding a).as_elements) place cs (λ none. absurd (h.1 none));
-  between = λ around allowed place cs h. few-instance-between t a ra around allowed place cs (rt.between_template around allowed place cs h.0) h.1;
+  between = λ around allowed place cs h. few-instance-between t a ra around allowed place cs
+      (rt.between_template around allowed place cs h.0) h.1;
   between_template = λ around allowed place cs h. absurd h;
-  as_entity = λ role around allowed place cs h. few-instance-entity t a rt ra role around allowed place cs (is_one_piece (instance t a)) refl h;
+  as_entity = λ role around allowed place cs h. few-instance-entity t a rt ra role around allowed place cs (is_one_piece
+      (instance t a)) refl h;
   as_entity_template = λ around allowed place cs h. absurd h;
   as_piece = λ around allowed place cs h. absurd h;
   as_encoding = λ around allowed place cs h. absurd h;
   as_name = λ q ref around allowed place cs h.
       let n : ℕ = around.encoding in
-      few-letters (name_letters q ref) around allowed place cs ((ways_of n t).before false (of_elements (ways_of n a).as_elements)) (instance_between n t a)
+      few-letters (name_letters q ref) around allowed place cs ((ways_of n t).before false (of_elements (ways_of n a).as_elements))
+      (instance_between n t a)
       ((fits_of t).before false (elements_of a)) (instance_joined t a) h
-      (λ k. omega (arith, rt.before false around allowed place cs (elements_of a) (ways_of n a).as_elements (few-arguments a ra around allowed) k))
+      (λ k. omega (
+        arith,
+        rt.before false around allowed place cs (elements_of a) (ways_of n a).as_elements
+            (few-arguments a ra around allowed) k,
+      ))
       (λ at k. omega (arith, few-instance-between t a ra around allowed at cs (rt.between_template around allowed at cs k.0) k.1));
   before = λ typed around allowed place cs arguments elements few h.
       few-reference around allowed (instance t a) nothing arguments elements place cs few h;
@@ -479,7 +546,8 @@ few-instance t a rt ra = record {
     whole around allowed place cs h =
         let n : ℕ = around.encoding in
         few-component n (instance t a) ((ways_of n t).before true (of_elements (ways_of n a).as_elements)) place cs
-        (λ none. rt.before true around allowed place cs (elements_of a) (ways_of n a).as_elements (few-arguments a ra around allowed) (h.1 none))
+        (λ none. rt.before true around allowed place cs (elements_of a) (ways_of n a).as_elements (few-arguments a ra around allowed)
+        (h.1 none))
 
     as_types : (slot : Slot) → LeadsFew 0 (λ n. slot_way slot (ways_of n (instance t a))) ((fits_of (instance t a)).as_type slot)
     as_types any_type = whole
@@ -494,7 +562,8 @@ few-local-text : (e entity : Term) (d : Option (List ℕ)) → Counts e → Coun
     (place : ℕ) (cs : List Candidate) → (fits_of e).as_encoding allowed (place + 1) cs
     → Behind (text (codes "Z") and (ways_of around.encoding e).as_encoding and text (codes "E"))
     ((fits_of entity).as_entity role (after e true around) allowed) place cs
-    → FewBy 1 cs (local_text (ways_of around.encoding e).as_encoding entity (ways_of around.encoding entity).between_N_and_E d (letters_of role) place cs)
+    → FewBy 1 cs (local_text (ways_of around.encoding e).as_encoding entity (ways_of around.encoding entity).between_N_and_E d
+    (letters_of role) place cs)
 unfolding local_text after
 few-local-text e entity d re rn role around allowed place cs one two =
     let n : ℕ = around.encoding in
@@ -503,27 +572,36 @@ few-local-text e entity d re rn role around allowed place cs one two =
     let end : List ℕ = discriminator_text d in
     let first : Written = spelled (place + 1) cs in
     let at : ℕ = place + 1 + length first.bytes + 1 in
-    omega (arith, few-behind 1 1 (codes "Z") (spelled and text (codes "E") and name and text end) place cs (omega arith)
-    (few-and 0 1 spelled (text (codes "E") and name and text end) (place + 1) cs (re.as_encoding around allowed (place + 1) cs one)
-    (few-behind 0 1 (codes "E") (name and text end) (place + 1 + length first.bytes) first.components (omega arith)
-    (few-before 0 name end at first.components
-    (rn.as_entity role (after e true around) allowed at first.components
-    (subst (λ q. (fits_of entity).as_entity role (after e true around) allowed q first.components)
-    (omega (arith, length-append first.bytes (69 ∷ []))) two))))))
+    omega (
+      arith,
+      few-behind 1 1 (codes "Z") (spelled and text (codes "E") and name and text end) place cs (omega arith)
+          (few-and 0 1 spelled (text (codes "E") and name and text end) (place + 1) cs (re.as_encoding around allowed (place + 1) cs one)
+          (few-behind 0 1 (codes "E") (name and text end) (place + 1 + length first.bytes) first.components (omega arith)
+          (few-before 0 name end at first.components
+          (rn.as_entity role (after e true around) allowed at first.components
+          (subst (λ q. (fits_of entity).as_entity role (after e true around) allowed q first.components)
+          (omega (arith, length-append first.bytes (69 ∷ []))) two))))),
+    )
 
 few-local-name : (e entity : Term) (d : Option (List ℕ)) → Counts e → Counts entity → Counts (local e entity d)
 unfolding ways_of fits_of fits_nowhere type_fits type_ways no_ways letters_of
 few-local-name e entity d re rn = record {
   as_type = as_types;
-  as_prefix = λ around allowed place cs h. few-component around.encoding (local e entity d) (spelled around.encoding) place cs (λ none. absurd (h.1 none));
-  as_prefix_template = λ around allowed place cs h. few-component around.encoding (local e entity d) (spelled around.encoding) place cs (λ none. absurd (h.1 none));
+  as_prefix = λ around allowed place cs h. few-component around.encoding (local e entity d) (spelled around.encoding) place cs
+      (λ none. absurd (h.1 none));
+  as_prefix_template = λ around allowed place cs h. few-component around.encoding (local e entity d)
+      (spelled around.encoding) place cs (λ none. absurd (h.1 none));
   between = λ around allowed place cs h. absurd h;
   between_template = λ around allowed place cs h. absurd h;
   as_entity = λ role around allowed place cs h. absurd h;
   as_entity_template = λ around allowed place cs h. absurd h;
   as_piece = λ around allowed place cs h. absurd h;
   as_encoding = λ around allowed place cs h. absurd h;
-  as_name = λ q ref around allowed place cs h. omega (arith, few-local-text e entity d re rn (in_name_with q ref) around allowed place cs h.0 h.1);
+  as_name = λ q ref around allowed place cs h. omega (
+    arith,
+    few-local-text e entity d re rn
+        (in_name_with q ref) around allowed place cs h.0 h.1,
+  );
   before = λ typed around allowed place cs arguments elements few h.
       few-reference around allowed (local e entity d) (spelled around.encoding) arguments elements place cs few h;
   as_argument = λ in_pack. whole;
@@ -550,12 +628,15 @@ few-local-name e entity d re rn = record {
     as_types literal_type = whole
 
 few-returned : (b : Bool) (r : Term) → Counts r → (around : Around) (allowed : Option ℕ) (place : ℕ) (cs : List Candidate)
-    → either b ((fits_of r).as_type item_type around allowed place cs) (r ≡ absent) → FewBy 0 cs ((ways_of around.encoding r).as_type place cs)
+    → either b ((fits_of r).as_type item_type around allowed place cs) (r ≡ absent)
+    → FewBy 0 cs ((ways_of around.encoding r).as_type place cs)
 unfolding either ways_of no_ways
 few-returned true r c around allowed place cs h = c.as_type item_type around allowed place cs h
-few-returned false r c around allowed place cs h = subst (λ x. FewBy 0 cs ((ways_of around.encoding x).as_type place cs)) (sym h) (omega arith)
+few-returned false r c around allowed place cs h = subst (λ x. FewBy 0 cs ((ways_of around.encoding x).as_type place cs)) (sym h)
+    (omega arith)
 
-few-function : (name r ps : Term) (q : Qualifiers) (ref : RefQualifier) → Counts name → Counts r → Counts ps → Counts (function name q ref r ps)
+few-function : (name r ps : Term) (q : Qualifiers) (ref : RefQualifier) → Counts name → Counts r → Counts ps
+    → Counts (function name q ref r ps)
 unfolding ways_of fits_of encoding_ways begun no_ways in_name in_types
 few-function name r ps q ref rn rr rp = few-encoding (function name q ref r ps) _ _ (λ around allowed here cs h.
     let a : Spelling = (ways_of here name).as_name (name_letters q ref) in
@@ -597,7 +678,8 @@ few-thunk kind e r = few-encoding (thunk kind e) _ _ (λ around allowed here cs 
 counts : (t : Term) → Counts t
 unfolding fits_of
 counts (symbol e suffix) = few-nowhere (symbol e suffix) _
-counts (function name q ref returned parameters) = few-function name returned parameters q ref (counts name) (counts returned) (counts parameters)
+counts (function name q ref returned parameters) = few-function name returned parameters q ref (counts name) (counts returned)
+    (counts parameters)
 counts (object name q ref) = few-object name q ref (counts name)
 counts (special l type) = few-special l type (counts type)
 counts (thunk kind e) = few-thunk kind e (counts e)
@@ -644,6 +726,9 @@ counts absent = few-nowhere absent _
 pub fitting-few : (t : Term) → SymbolFits t → length (spelled_components t) ≤ length (pressed t)
 unfolding spelled_components pressed ways_of no_ways first_around
 fitting-few (symbol e suffix) fits =
-    omega (arith, few-behind 0 0 (codes "_Z") ((ways_of 0 e).as_encoding and text suffix) 0 [] (omega arith)
-    (few-before 0 (ways_of 0 e).as_encoding suffix 2 [] ((counts e).as_encoding first_around None 2 [] fits.0)))
+    omega (
+      arith,
+      few-behind 0 0 (codes "_Z") ((ways_of 0 e).as_encoding and text suffix) 0 [] (omega arith)
+          (few-before 0 (ways_of 0 e).as_encoding suffix 2 [] ((counts e).as_encoding first_around None 2 [] fits.0)),
+    )
 fitting-few _ fits = absurd fits

@@ -1,26 +1,18 @@
 -- What fits adds at most as many components as it has bytes.
-use Rattle.std.proofs.Common.{◌≡◌, ℕ, suc, ◌+◌, ◌-◌, ◌<◌, ◌≤◌, ◌⊎◌, inl, inr, length, List, [], ◌∷◌, ◌++◌, Option, Some, None, Bool, true, false, refl, ap, arith, sym, subst, ◌∙◌, length-append}
-use Rattle.std.specs.Prelude.{cond, codes, ◌&&◌, ◌||◌}
-use Rattle.sym_spell.specs.Pressing.{◌and◌, text, nothing}
-use Rattle.cpp_grammar.specs.Term.{Thunk, Qualifiers, RefQualifier, Signed, Term, symbol, function, object, special, thunk, guard, alone, in_std, within, instance, local, abbreviation, parameter, source, operator, literal_operator, constructor, destructor, lambda, unnamed, string_literal, builtin, vendor, pointer, lvalue, rvalue, array, member_pointer, function_type, qualified, vector, complex, expansion, integer, boolean, null_pointer, encoding_literal, address_of, pack, nil, list, absent}
-use Rattle.cpp_grammar.specs.Scope.{has_return_type}
-use Rattle.cpp_grammar.specs.Values.{Candidate, outermost, Around}
-use Rattle.cpp_grammar.specs.Between.{in_name, in_types, in_signature, under_expansion, after, inside}
-use Rattle.cpp_press.specs.Texts.{counted, ordinal, signed_text, qualifier_letters, mark_letter, name_letters, thunk_text, discriminator_text}
+use Rattle.std.proofs.Common.{◌≡◌, ℕ, ◌+◌, ◌-◌, ◌≤◌, length, List, [], ◌∷◌, ◌++◌, Option, Some, None, Bool, true, false, refl, arith, subst, length-append}
+use Rattle.std.specs.Prelude.{cond, codes}
+use Rattle.sym_spell.specs.Pressing.{◌and◌, text}
+use Rattle.cpp_grammar.specs.Term.{Qualifiers, RefQualifier, Signed, Term, source, operator, literal_operator, constructor, destructor, lambda, unnamed, string_literal, builtin, vendor, pointer, lvalue, rvalue, array, member_pointer, qualified, vector, complex, expansion, integer, boolean, null_pointer, encoding_literal, address_of, pack, nil, list}
+use Rattle.cpp_grammar.specs.Values.{Candidate, Around}
+use Rattle.cpp_grammar.specs.Between.{in_signature, under_expansion}
+use Rattle.cpp_press.specs.Texts.{counted, ordinal, signed_text, qualifier_letters, name_letters}
 use Rattle.cpp_press.specs.Components.{Spelling, reference, first_equal, ended, spelled_out, referred, component}
-use Rattle.cpp_press.specs.Pressing.{Ways, no_ways, type_ways, piece_ways, argument_ways, pressed, encoding_ways, begun, function_text, name_ways, with_letters, in_N_and_E, template_before, is_operator, is_encoding, is_one_piece, entity_text, local_text, ways_of}
-use Rattle.cpp_grammar.specs.Unfolding.{first_around}
-use Rattle.cpp_press.specs.Apart.{spelled_components}
+use Rattle.cpp_press.specs.Pressing.{Ways, no_ways, type_ways, piece_ways, argument_ways, in_N_and_E, entity_text, ways_of}
 use Rattle.cpp_press.proofs.Reading.{Written, written}
-use Rattle.cpp_press.proofs.Keeping.{choice}
 use Rattle.cpp_press.proofs.ReadingTemplates.{of_elements}
 use Rattle.cpp_press.proofs.Readings.{slot_way}
-use Rattle.cpp_press.proofs.ReadingsOfNames.{no-letters}
-use Rattle.cpp_press.proofs.ReadingsOfStd.{std_fits, std_spelling, maybe_N}
-use Rattle.cpp_press.proofs.ReadingsOfWithin.{scope-first, no-encoding, joined_spelling, joined_fits, local_fits, begun_fits}
-use Rattle.cpp_press.proofs.ReadingsOfInstances.{instance_joined, not-one-piece, one-piece-is, elements_of, instance_between}
-use Rattle.cpp_press.proofs.Counting.{counted-long, letters-long, marks-long}
-use Rattle.cpp_press.proofs.Fit.{SymbolFits, names_in, IsWithoutLetters, one_piece, names_type, Slot, any_type, bare_type, item_type, parameter_type, literal_type, IsBuiltin, Fits, Fitting, Standing, IsFirst, Role, in_type, in_name_with, letters_of, has_letters, by_letters, either, Behind, behind_bytes, as_component, as_reference, as_template, nowhere, fits_nowhere, type_fits, piece_fits, argument_fits, encoding_fits, fits_of}
+use Rattle.cpp_press.proofs.Counting.{counted-long, letters-long}
+use Rattle.cpp_press.proofs.Fit.{Slot, any_type, bare_type, item_type, parameter_type, literal_type, IsBuiltin, Fits, Fitting, Standing, IsFirst, Role, letters_of, Behind, as_component, as_template, nowhere, fits_nowhere, type_fits, piece_fits, argument_fits, encoding_fits, fits_of}
 
 -- ## Counts
 
@@ -29,7 +21,8 @@ abbrev pub FewBy : ℕ → List Candidate → Written → Type 0
 FewBy k cs w = length w.components + k ≤ length cs + length w.bytes
 
 pub few-and : (a b : ℕ) (first rest : Spelling) (place : ℕ) (cs : List Candidate) → FewBy a cs (first place cs)
-    → (let w = first place cs in FewBy b w.components (rest (place + length w.bytes) w.components)) → FewBy (a + b) cs ((first and rest) place cs)
+    → (let w = first place cs in FewBy b w.components (rest (place + length w.bytes) w.components))
+    → FewBy (a + b) cs ((first and rest) place cs)
 few-and a b first rest place cs one two =
     let w : Written = first place cs in
     omega (arith, one, two, length-append w.bytes (rest (place + length w.bytes) w.components).bytes)
@@ -59,8 +52,11 @@ pub few-nested : (k : ℕ) (letters : List ℕ) (name : Spelling) (place : ℕ) 
     → FewBy k cs (name (place + length (codes "N" ++ letters)) cs) → FewBy k cs (in_N_and_E letters name place cs)
 unfolding in_N_and_E
 few-nested k letters name place cs one =
-    omega (arith, few-behind k 0 (codes "N" ++ letters) (name and text (codes "E")) place cs (omega arith)
-    (few-before k name (codes "E") (place + length (codes "N" ++ letters)) cs one))
+    omega (
+      arith,
+      few-behind k 0 (codes "N" ++ letters) (name and text (codes "E")) place cs (omega arith)
+          (few-before k name (codes "E") (place + length (codes "N" ++ letters)) cs one),
+    )
 
 -- ## Arguments
 
@@ -68,7 +64,8 @@ abbrev pub ArgumentsFew : Around → Option ℕ → Fitting → Spelling → Typ
 ArgumentsFew around allowed arguments elements =
     (place : ℕ) (cs : List Candidate) → arguments around allowed place cs → FewBy 0 cs (elements (place + 1) cs)
 
-pub few-elements : (elements : Spelling) (place : ℕ) (cs : List Candidate) → FewBy 0 cs (elements (place + 1) cs) → FewBy 2 cs (of_elements elements place cs)
+pub few-elements : (elements : Spelling) (place : ℕ) (cs : List Candidate) → FewBy 0 cs (elements (place + 1) cs)
+    → FewBy 2 cs (of_elements elements place cs)
 few-elements elements place cs one = omega (arith, one, length-append (elements (place + 1) cs).bytes (69 ∷ []))
 
 -- behind a name that becomes a component
@@ -80,9 +77,12 @@ unfolding ended
 few-made around allowed own arguments elements place at w few there fits =
     let made : List Candidate = w.components ++ record { tree = own; encoding = around.encoding } ∷ [] in
     let from : ℕ = place + length w.bytes + 0 in
-    omega (arith, few-elements elements from made
-    (few from made (subst (λ q. arguments around allowed q made) (omega (arith, there)) fits)),
-    length-append w.components (record { tree = own; encoding = around.encoding } ∷ []))
+    omega (
+      arith,
+      few-elements elements from made
+          (few from made (subst (λ q. arguments around allowed q made) (omega (arith, there)) fits)),
+      length-append w.components (record { tree = own; encoding = around.encoding } ∷ []),
+    )
 
 pub few-referred : (around : Around) (allowed : Option ℕ) (own : Term) (arguments : Fitting) (elements other : Spelling) (place : ℕ)
     (cs : List Candidate) → ArgumentsFew around allowed arguments elements
@@ -97,8 +97,11 @@ few-referred around allowed own arguments elements other place cs few fits out =
     ])
     go (Some number) is =
         let at : ℕ = place + length (reference number place cs).bytes in
-        omega (arith, few-elements elements at cs (few at cs (fits number is)),
-        length-append (reference number place cs).bytes (of_elements elements at cs).bytes)
+        omega (
+          arith,
+          few-elements elements at cs (few at cs (fits number is)),
+          length-append (reference number place cs).bytes (of_elements elements at cs).bytes,
+        )
     go None is = out is
 
 pub few-reference : (around : Around) (allowed : Option ℕ) (own : Term) (spelling : Spelling) (arguments : Fitting)
@@ -116,8 +119,11 @@ few-reference around allowed own spelling arguments elements place cs few fits =
         let rest = of_elements elements (place + length w.bytes) w.components in FewBy 1 cs (written (w.bytes ++ rest.bytes) rest.components))
     go (Some number) is =
         let at : ℕ = place + length (reference number place cs).bytes in
-        omega (arith, few-elements elements at cs (few at cs (fits.1 number is)),
-        length-append (reference number place cs).bytes (of_elements elements at cs).bytes)
+        omega (
+          arith,
+          few-elements elements at cs (few at cs (fits.1 number is)),
+          length-append (reference number place cs).bytes (of_elements elements at cs).bytes,
+        )
     go None is = absurd (fits.2 is).0
 
 -- ## The ways of a tree
@@ -138,7 +144,8 @@ pub record FewAll (t : Term) (ways : ℕ → Ways) (fits : Fits) : Type 1 where
   pub as_piece : LeadsFew 1 (λ n. (ways n).as_piece) fits.as_piece
   pub as_encoding : LeadsFew 0 (λ n. (ways n).as_encoding) (λ around. fits.as_encoding)
   pub as_name : (q : Qualifiers) (ref : RefQualifier) → LeadsFew 0 (λ n. (ways n).as_name (name_letters q ref)) (fits.as_name q ref)
-  pub before : (typed : Bool) (around : Around) (allowed : Option ℕ) (place : ℕ) (cs : List Candidate) (arguments : Fitting) (elements : Spelling)
+  pub before : (typed : Bool) (around : Around) (allowed : Option ℕ) (place : ℕ) (cs : List Candidate) (arguments : Fitting)
+      (elements : Spelling)
       → ArgumentsFew around allowed arguments elements → fits.before typed arguments around allowed place cs
       → FewBy 1 cs ((ways around.encoding).before typed (of_elements elements) place cs)
   pub as_argument : (in_pack : Bool) → LeadsFew 0 (λ n. (ways n).as_argument) (fits.as_argument in_pack)
@@ -170,7 +177,8 @@ few-nowhere t ways = record {
   as_elements = λ in_pack around allowed place cs h. absurd h;
 }
 
-pub few-piece : (t : Term) (ways : ℕ → Ways) (fitting : Fitting) → LeadsFew 1 (λ n. (ways n).as_piece) fitting → FewAll t ways (piece_fits fitting)
+pub few-piece : (t : Term) (ways : ℕ → Ways) (fitting : Fitting) → LeadsFew 1 (λ n. (ways n).as_piece) fitting
+    → FewAll t ways (piece_fits fitting)
 unfolding piece_fits fits_nowhere
 few-piece t ways fitting one = record {
   as_type = λ slot around allowed place cs h. absurd h;
@@ -245,7 +253,8 @@ unfolding type_ways no_ways type_fits fits_nowhere
 few-type t spelling spelled one = record {
   as_type = as_types;
   as_prefix = λ around allowed place cs h. few-component around.encoding t (spelling around.encoding) place cs (λ none. absurd (h.1 none));
-  as_prefix_template = λ around allowed place cs h. few-component around.encoding t (spelling around.encoding) place cs (λ none. absurd (h.1 none));
+  as_prefix_template = λ around allowed place cs h. few-component around.encoding t (spelling around.encoding) place cs
+      (λ none. absurd (h.1 none));
   between = λ around allowed place cs h. absurd h;
   between_template = λ around allowed place cs h. absurd h;
   as_entity = λ role around allowed place cs h. absurd h;
@@ -282,68 +291,69 @@ Counts t = FewAll t (λ n. ways_of n t) (fits_of t)
 pub few-pointer : (t : Term) → Counts t → Counts (pointer t)
 unfolding ways_of fits_of
 few-pointer t r_t =
-    few-type (pointer t) (λ n. text (codes "P") and (ways_of n t).as_type) _ (λ slot around allowed place cs h. 
+    few-type (pointer t) (λ n. text (codes "P") and (ways_of n t).as_type) _ (λ slot around allowed place cs h.
     few-behind 0 1 (codes "P") (ways_of around.encoding t).as_type place cs (omega arith)
     (r_t.as_type any_type around allowed (place + 1) cs h))
 
 pub few-lvalue : (t : Term) → Counts t → Counts (lvalue t)
 unfolding ways_of fits_of
 few-lvalue t r_t =
-    few-type (lvalue t) (λ n. text (codes "R") and (ways_of n t).as_type) _ (λ slot around allowed place cs h. 
+    few-type (lvalue t) (λ n. text (codes "R") and (ways_of n t).as_type) _ (λ slot around allowed place cs h.
     few-behind 0 1 (codes "R") (ways_of around.encoding t).as_type place cs (omega arith)
     (r_t.as_type any_type around allowed (place + 1) cs h.1))
 
 pub few-rvalue : (t : Term) → Counts t → Counts (rvalue t)
 unfolding ways_of fits_of
 few-rvalue t r_t =
-    few-type (rvalue t) (λ n. text (codes "O") and (ways_of n t).as_type) _ (λ slot around allowed place cs h. 
+    few-type (rvalue t) (λ n. text (codes "O") and (ways_of n t).as_type) _ (λ slot around allowed place cs h.
     few-behind 0 1 (codes "O") (ways_of around.encoding t).as_type place cs (omega arith)
     (r_t.as_type any_type around allowed (place + 1) cs h.1))
 
 pub few-complex : (t : Term) → Counts t → Counts (complex t)
 unfolding ways_of fits_of
 few-complex t r_t =
-    few-type (complex t) (λ n. text (codes "C") and (ways_of n t).as_type) _ (λ slot around allowed place cs h. 
+    few-type (complex t) (λ n. text (codes "C") and (ways_of n t).as_type) _ (λ slot around allowed place cs h.
     few-behind 0 1 (codes "C") (ways_of around.encoding t).as_type place cs (omega arith)
     (r_t.as_type any_type around allowed (place + 1) cs h.1))
 
 pub few-vendor : (name : List ℕ) → Counts (vendor name)
 unfolding ways_of fits_of
-few-vendor name  =
+few-vendor name =
     few-type (vendor name) (λ n. text (codes "u" ++ counted name)) _ (λ slot around allowed place cs h. omega arith)
 
 pub few-array : (digits : List ℕ) (t : Term) → Counts t → Counts (array digits t)
 unfolding ways_of fits_of
 few-array digits t r_t =
-    few-type (array digits t) (λ n. text (codes "A" ++ digits ++ codes "_") and (ways_of n t).as_type) _ (λ slot around allowed place cs h. 
+    few-type (array digits t) (λ n. text (codes "A" ++ digits ++ codes "_") and (ways_of n t).as_type) _ (λ slot around allowed place cs h.
     few-behind 0 1 (codes "A" ++ digits ++ codes "_") (ways_of around.encoding t).as_type place cs (omega arith)
     (r_t.as_type any_type around allowed (place + length (codes "A" ++ digits ++ codes "_")) cs h.2))
 
 pub few-vector : (digits : List ℕ) (t : Term) → Counts t → Counts (vector digits t)
 unfolding ways_of fits_of
 few-vector digits t r_t =
-    few-type (vector digits t) (λ n. text (codes "Dv" ++ digits ++ codes "_") and (ways_of n t).as_type) _ (λ slot around allowed place cs h. 
+    few-type (vector digits t) (λ n. text (codes "Dv" ++ digits ++ codes "_") and (ways_of n t).as_type) _ (λ slot around allowed place cs h.
     few-behind 0 1 (codes "Dv" ++ digits ++ codes "_") (ways_of around.encoding t).as_type place cs (omega arith)
     (r_t.as_type any_type around allowed (place + length (codes "Dv" ++ digits ++ codes "_")) cs h.2))
 
 pub few-expansion : (t : Term) → Counts t → Counts (expansion t)
 unfolding ways_of fits_of under_expansion
 few-expansion t r_t =
-    few-type (expansion t) (λ n. text (codes "Dp") and (ways_of n t).as_type) _ (λ slot around allowed place cs h. 
+    few-type (expansion t) (λ n. text (codes "Dp") and (ways_of n t).as_type) _ (λ slot around allowed place cs h.
     few-behind 0 1 (codes "Dp") (ways_of around.encoding t).as_type place cs (omega arith)
     (r_t.as_type any_type (under_expansion around) h.1.0 (place + 2) cs h.1.1))
 
 pub few-qualified : (q : Qualifiers) (t : Term) → Counts t → Counts (qualified q t)
 unfolding ways_of fits_of
 few-qualified q t r_t =
-    few-type (qualified q t) (λ n. text (qualifier_letters q) and (ways_of n t).under_qualifiers) _ (λ slot around allowed place cs h. 
+    few-type (qualified q t) (λ n. text (qualifier_letters q) and (ways_of n t).under_qualifiers) _ (λ slot around allowed place cs h.
     few-behind 0 1 (qualifier_letters q) (ways_of around.encoding t).under_qualifiers place cs (letters-long q h.1)
     (r_t.as_type bare_type around allowed (place + length (qualifier_letters q)) cs h.2))
 
 pub few-member-pointer : (a : Term) (b : Term) → Counts a → Counts b → Counts (member_pointer a b)
 unfolding ways_of fits_of
 few-member-pointer a b r_a r_b =
-    few-type (member_pointer a b) (λ n. text (codes "M") and (ways_of n a).as_type and (ways_of n b).as_type) _ (λ slot around allowed place cs h. 
+    few-type (member_pointer a b) (λ n. text (codes "M") and (ways_of n a).as_type and (ways_of n b).as_type) _
+    (λ slot around allowed place cs h.
     let w : Written = (ways_of around.encoding a).as_type (place + 1) cs in
     few-behind 0 1 (codes "M") ((ways_of around.encoding a).as_type and (ways_of around.encoding b).as_type) place cs (omega arith)
     (few-and 0 0 (ways_of around.encoding a).as_type (ways_of around.encoding b).as_type (place + 1) cs
@@ -351,7 +361,8 @@ few-member-pointer a b r_a r_b =
     (r_b.as_type any_type around allowed (place + 1 + length w.bytes) w.components
     (subst (λ q. (fits_of b).as_type any_type around allowed q w.components) (omega arith) h.1))))
 
-pub few-source-piece : (internal : Bool) (name : List ℕ) (cs : List Candidate) → FewBy 1 cs (written (cond internal (codes "L") [] ++ counted name) cs)
+pub few-source-piece : (internal : Bool) (name : List ℕ) (cs : List Candidate)
+    → FewBy 1 cs (written (cond internal (codes "L") [] ++ counted name) cs)
 few-source-piece true name cs = omega arith
 few-source-piece false name cs = omega (arith, counted-long name)
 
@@ -426,9 +437,13 @@ few-builtin code = record {
 pub few-integer : (t : Term) (v : Signed) → Counts t → Counts (integer t v)
 unfolding ways_of fits_of argument_ways no_ways
 few-integer t v r = few-argument (integer t v) _ _ (λ in_pack around allowed place cs h.
-    omega (arith, few-behind 0 1 (codes "L") ((ways_of around.encoding t).as_type and text (signed_text v ++ codes "E")) place cs (omega arith)
-    (few-before 0 (ways_of around.encoding t).as_type (signed_text v ++ codes "E") (place + 1) cs
-    (r.as_type literal_type around allowed (place + 1) cs h.0))))
+    omega (
+      arith,
+      few-behind 0 1 (codes "L") ((ways_of around.encoding t).as_type and text (signed_text v ++ codes "E")) place cs
+          (omega arith)
+          (few-before 0 (ways_of around.encoding t).as_type (signed_text v ++ codes "E") (place + 1) cs
+          (r.as_type literal_type around allowed (place + 1) cs h.0)),
+    ))
 
 pub few-boolean : (truth : Bool) → Counts (boolean truth)
 unfolding ways_of fits_of argument_ways no_ways

@@ -2,7 +2,7 @@
 use Rattle.std.proofs.Common.{◌≤◌, length, arith}
 use Rattle.sym_shape.specs.Tree.{Tree as Shape}
 use Rattle.cpp_grammar.specs.Term.{Term}
-use Rattle.cpp_press.specs.Pressing.{ways_of, pressed}
+use Rattle.cpp_press.specs.Pressing.{pressed}
 use Rattle.cpp_press.specs.Apart.{spelled_components}
 use Rattle.cpp_press.specs.PressLaws.{IsReadFrom, PressedIsRead}
 use Rattle.cpp_press.proofs.Fit.{SymbolFits}
