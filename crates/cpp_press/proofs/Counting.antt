@@ -57,7 +57,7 @@ digits-long most n = go (nat_lt n 10)
     go true = omega arith
     go false = omega (arith, length-append (digits_in 10 decimal_digit most (n / 10)) (decimal_digit (n % 10) ∷ []))
 
-counted-long : (name : List ℕ) → 0 < length (counted name)
+pub counted-long : (name : List ℕ) → 0 < length (counted name)
 unfolding counted decimal
 counted-long name = omega (arith, length-append (digits_in 10 decimal_digit 40 (length name)) name, digits-long 39 (length name))
 
@@ -239,7 +239,7 @@ before-writes _ typed m around allowed arguments elements place cs write h = abs
 
 -- ## Arguments
 
-letters-long : (q : Qualifiers) → has_letters q ≡ true → 0 < length (qualifier_letters q)
+pub letters-long : (q : Qualifiers) → has_letters q ≡ true → 0 < length (qualifier_letters q)
 unfolding has_letters qualifier_letters
 letters-long q h = go q.restrict q.volatile q.const h
   where
@@ -257,7 +257,7 @@ builtin-long : (code : List ℕ) → IsBuiltin item_type code → 0 < length cod
 builtin-long [] h = absurd h
 builtin-long (b ∷ bs) h = omega arith
 
-marks-long : (c x : Bool) → 0 < length (cond x (codes "Do") [] ++ codes "F" ++ cond c (codes "Y") [])
+pub marks-long : (c x : Bool) → 0 < length (cond x (codes "Do") [] ++ codes "F" ++ cond c (codes "Y") [])
 marks-long true true = omega arith
 marks-long true false = omega arith
 marks-long false true = omega arith

@@ -54,5 +54,7 @@ pub mod ReadingsOfLists
 pub mod ReadingsOfEncodings
 pub mod FittingLaw
 pub mod Counting
+pub mod FewTrees
+pub mod FewComponents
 pub mod ReadLaw
 mod FitRows

@@ -52,7 +52,7 @@ elements-read a r around allowed small place cs fits room = (r.as_elements false
 abbrev pub instance_between : ℕ → (t a : Term) → Spelling
 instance_between n t a = (ways_of n t).between_N_and_E and ended n t and spelled_arguments n a
 
-abbrev instance_joined : (t a : Term) → Fitting
+abbrev pub instance_joined : (t a : Term) → Fitting
 instance_joined t a around allowed place cs =
     (fits_of t).between_template around allowed place cs
     × Behind ((ways_of around.encoding t).between_N_and_E and ended around.encoding t) (elements_of a around allowed) place cs

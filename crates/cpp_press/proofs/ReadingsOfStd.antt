@@ -73,7 +73,7 @@ begins-unless _ h k = absurd (let e : false ≡ true = h in cc)
 abbrev pub std_spelling : ℕ → Term → Spelling
 std_spelling n p = text (codes "St") and (ways_of n p).as_piece
 
-abbrev std_fits : Term → Fitting
+abbrev pub std_fits : Term → Fitting
 std_fits p around allowed place cs = (names_function p ≡ true) × (fits_of p).as_piece around allowed (place + 2) cs
 
 -- a name that a type needs an N for, or not

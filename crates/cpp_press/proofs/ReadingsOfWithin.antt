@@ -60,10 +60,10 @@ within-scope around x p is = ap (λ y. extended y p) is
 
 -- ## Behind a prefix
 
-abbrev joined_spelling : ℕ → (x p : Term) → Spelling
+abbrev pub joined_spelling : ℕ → (x p : Term) → Spelling
 joined_spelling n x p = (ways_of n x).as_prefix and (ways_of n p).as_piece
 
-abbrev joined_fits : (x p : Term) → Fitting
+abbrev pub joined_fits : (x p : Term) → Fitting
 joined_fits x p around allowed place cs =
     (fits_of x).as_prefix around allowed place cs
     × (names_member p ≡ true)
@@ -91,7 +91,7 @@ joined-nested x p rx rp around allowed place cs small room h =
 
 -- ## In the scope of an encoding
 
-abbrev local_fits : (x p : Term) → (may : Bool) → Fitting
+abbrev pub local_fits : (x p : Term) → (may : Bool) → Fitting
 local_fits x p may around allowed place cs = (is_encoding x ≡ true)
     × one_piece (behind x true) may (fits_of p).as_piece around allowed place cs
 
@@ -151,7 +151,7 @@ local-in-name x p rp around allowed place cs small room h = go (entity-piece p h
         (joined_spelling around.encoding x y place cs)) (sym is)
         (string-named x around allowed place cs h.0 h.1.0)
 
-abbrev begun_fits : (x p : Term) → Fitting
+abbrev pub begun_fits : (x p : Term) → Fitting
 begun_fits x p around allowed place cs = local_fits x p (begins_name p) around allowed place cs ⊎ joined_fits x p around allowed place cs
 
 begun-extends : (x p : Term) → Reading x → Reading p → (around : Around) (allowed : Option ℕ) (place : ℕ) (cs : List Candidate)
