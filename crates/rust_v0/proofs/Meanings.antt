@@ -31,7 +31,7 @@ use Rattle.rust_v0.specs.CodeOperands as operands
 use Rattle.rust_v0.specs.PartValues.{IsPart, IsNumber, Agree}
 use Rattle.rust_v0.proofs.OperandLemmas.{number_agrees}
 use Rattle.rust_v0.specs.Made.{ground, HasLists, MadeGives}
-use Rattle.rust_v0.specs.CodeSemantics.{is_reference}
+use Rattle.rust_v0.specs.Productions.{is_reference, makes_part}
 use Rattle.rust_v0.specs.CodeSemantics as semantics
 use Rattle.rust_v0.proofs.SemanticsLemmas.{abi_gives, array_gives, binder_gives, binding_gives, bool_constant_gives, char_constant_gives, const_pointer_gives, constant_argument_gives, crate_root_gives, disambiguated_gives, disambiguator_gives, dyn_type_gives, function_gives, generic_gives, inherent_impl_gives, lifetime_argument_gives, lifetime_gives, more_bounds_gives, more_types_gives, mut_pointer_gives, mutable_reference_gives, nested_gives, plain_name_gives, punycode_name_gives, shared_reference_gives, signed_constant_gives, slice_gives, symbol_gives, trait_definition_gives, trait_impl_gives, tuple_gives, type_argument_gives, unsigned_constant_gives}
 
@@ -104,7 +104,7 @@ made_gives table at rules.False ps vs other within fits lists are = (a_truth fal
 made_gives table at rules.True ps vs other within fits lists are = (a_truth true, refl, refl)
 
 -- a production that makes a part is no reference
-pub makes_no_reference : (production : Production) → semantics.makes_part production ≡ true → is_reference production ≡ false
+pub makes_no_reference : (production : Production) → makes_part production ≡ true → is_reference production ≡ false
 makes_no_reference rules.PathReference makes = absurd (false≢true makes)
 makes_no_reference rules.TypeReference makes = absurd (false≢true makes)
 makes_no_reference rules.ConstantReference makes = absurd (false≢true makes)

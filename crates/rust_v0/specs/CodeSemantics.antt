@@ -18,7 +18,7 @@ use Rattle.rust_tree.specs.declared.node.Constant.{Constant}
 use Rattle.rust_v0.specs.declared.production.Production.{Production}
 use Rattle.rust_v0.specs.declared.production.Production.TheVariants as rules
 use Rattle.rust_v0.specs.CodeOperands as operands
-use Rattle.rust_v0.specs.Productions.{production_of}
+use Rattle.rust_v0.specs.Productions.{production_of, is_reference, makes_part}
 use Rattle.rust_v0.specs.Unfold.{greatest_u64, is_scalar, no_such_parts}
 use Rattle.rust_v0.specs.declared.nodes.Target.{Target}
 use Rattle.rust_v0.specs.declared.operands.TheConstants.{EMPTY_BOUNDS}
@@ -333,33 +333,6 @@ part_of (Added.Symbol node) = Part.Symbol node
 abbrev pub as_part : Result Added Refusal → Result Part Refusal
 as_part (Ok added) = Ok (part_of added)
 as_part (Err e) = Err e
-
--- a reference
-abbrev pub is_reference : Production → Bool
-is_reference rules.PathReference = true
-is_reference rules.TypeReference = true
-is_reference rules.ConstantReference = true
-is_reference _ = false
-
--- the productions that make a part of their parts, and no node
-abbrev pub makes_part : Production → Bool
-makes_part rules.Suffix = true
-makes_part rules.SuffixByte = true
-makes_part rules.Namespace = true
-makes_part rules.Disambiguator = true
-makes_part rules.DisambiguatedIdentifier = true
-makes_part rules.PunycodeName = true
-makes_part rules.PlainName = true
-makes_part rules.Lifetime = true
-makes_part rules.Binder = true
-makes_part rules.Unsafe = true
-makes_part rules.Abi = true
-makes_part rules.AbiC = true
-makes_part rules.BoundsEnd = true
-makes_part rules.Minus = true
-makes_part rules.False = true
-makes_part rules.True = true
-makes_part _ = false
 
 -- the rule of this number has made this node of its parts, or is refused, wherever it stands
 pub record IsMadeBy (result : Result Node Refusal) (number : ℕ) (own : List Part) : Type 0 where

@@ -7,8 +7,7 @@ use Rattle.rust_v0.specs.declared.production.Production.{Production}
 use Rattle.rust_v0.specs.declared.nodes.BoundLifetimes.{BoundLifetimes}
 use Rattle.rust_v0.specs.declared.nodes.RustNodes.{RustNodes}
 use Rattle.rust_v0.specs.declared.part.Part.{Part}
-use Rattle.rust_v0.specs.Productions.{production_of}
-use Rattle.rust_v0.specs.CodeSemantics.{is_reference, makes_part}
+use Rattle.rust_v0.specs.Productions.{production_of, is_reference, makes_part}
 use Rattle.rust_v0.specs.Value.{Value, State}
 use Rattle.rust_v0.specs.RustNodes.{v0_view, first_nodes}
 

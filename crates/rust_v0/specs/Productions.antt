@@ -1,5 +1,5 @@
 -- The productions of the grammar by number.
-use Rattle.std.specs.Prelude.{ℕ, List, [], ◌∷◌, Option, slice_get}
+use Rattle.std.specs.Prelude.{ℕ, Bool, true, false, List, [], ◌∷◌, Option, slice_get}
 use Rattle.rust_v0.specs.declared.production.Production.{Production}
 use Rattle.rust_v0.specs.declared.production.Production.TheVariants.{Symbol, PathReference, Crate, InherentImpl, TraitImpl, TraitDefinition, Nested, Generic, Suffix, SuffixByte, Namespace, Disambiguator, DisambiguatedIdentifier, PunycodeName, PlainName, LifetimeArgument, ConstantArgument, TypeArgument, BasicType, TypeReference, Array, Slice, Tuple, SharedReference, MutableReference, ConstPointer, MutPointer, Function, Dyn, TypesEnd, TypesMore, Lifetime, Binder, Unsafe, Abi, AbiC, BoundsEnd, BoundsMore, Binding, SignedConstant, UnsignedConstant, BoolConstant, CharConstant, Placeholder, ConstantReference, Minus, False, True}
 
@@ -67,3 +67,30 @@ number_of ConstantReference = 44
 number_of Minus = 45
 number_of False = 46
 number_of True = 47
+
+-- a reference
+abbrev pub is_reference : Production → Bool
+is_reference PathReference = true
+is_reference TypeReference = true
+is_reference ConstantReference = true
+is_reference _ = false
+
+-- the productions that make a part of their parts, and no node
+abbrev pub makes_part : Production → Bool
+makes_part Suffix = true
+makes_part SuffixByte = true
+makes_part Namespace = true
+makes_part Disambiguator = true
+makes_part DisambiguatedIdentifier = true
+makes_part PunycodeName = true
+makes_part PlainName = true
+makes_part Lifetime = true
+makes_part Binder = true
+makes_part Unsafe = true
+makes_part Abi = true
+makes_part AbiC = true
+makes_part BoundsEnd = true
+makes_part Minus = true
+makes_part False = true
+makes_part True = true
+makes_part _ = false

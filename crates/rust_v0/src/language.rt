@@ -10,7 +10,7 @@ ghost use Rattle.rust_tree.specs.declared.node.Name.{Name};
 ghost use Rattle.rust_v0.specs.declared.part.Part.{Part};
 ghost use Rattle.rust_v0.specs.RustNodes.{v0_view};
 ghost use Rattle.rust_v0.specs.NodeCount.{made_by};
-ghost use Rattle.rust_v0.specs.Productions.{production_of};
+ghost use Rattle.rust_v0.specs.Productions.{production_of, is_reference, makes_part};
 ghost use Rattle.rust_v0.specs.CodeOperands as operands;
 ghost use Rattle.rust_v0.specs.Tokens as tokens;
 ghost use Rattle.rust_v0.specs.CodeSemantics as semantics;
@@ -91,7 +91,7 @@ fn site_of(symbol: &[u8], frame: Frame<BoundLifetimes>) -> Site
 
 /// Whether the production is that of a reference.
 fn is_reference(production: Production) -> bool
-    ensures { result ≡ semantics.is_reference production }
+    ensures { result ≡ is_reference production }
 {
     matches!(
         production,
@@ -200,7 +200,7 @@ impl RustNodes {
         parts: &mut Vec<Part>,
     ) -> Result<(), Refusal>
         requires production { production_of frame.rule ≡ Some production }
-        requires part { semantics.makes_part production ≡ true }
+        requires part { makes_part production ≡ true }
         requires room { HasRoom (v0_view symbol.now) symbol.now self.old (owed_behind (v0_view symbol.now) frame parts.old.items) }
         requires base { frame.base ≤ length parts.old.items }
         requires place { frame.place < length symbol.now }

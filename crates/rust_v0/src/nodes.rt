@@ -9,6 +9,7 @@ ghost use Rattle.rust_v0.specs.PartValues.{IsNumber, IsPart};
 ghost use Rattle.rust_v0.specs.Unfold.{At, Meaning, meaning, refers_to_path, refers_to_type, refers_to_constant, as_path, as_type, as_constant};
 ghost use Rattle.rust_v0.specs.Value.{Value};
 ghost use Rattle.rust_tree.specs.Tree.{Tree, need_of_tree};
+ghost use Rattle.rust_v0.specs.Productions.{is_reference, makes_part};
 ghost use Rattle.rust_v0.specs.CodeSemantics as semantics;
 ghost use Rattle.rust_v0.specs.CodeSemantics.{Outcome, of_node};
 ghost use Rattle.rust_v0.specs.Made.{MadeGives, ground};
@@ -263,7 +264,7 @@ impl RustNodes {
         bound: u64,
         found: Target,
     ) -> Result<Part, Refusal>
-        ensures gives { (at : At) (known : Option Value) → semantics.is_reference production ≡ true → at.place ≡ place → at.bound ≡ bound → place < length self.old.targets.items
+        ensures gives { (at : At) (known : Option Value) → is_reference production ≡ true → at.place ≡ place → at.bound ≡ bound → place < length self.old.targets.items
             → Keeps at.symbol self.old at.ended → IsNoted (trees at.symbol self.old.nodes.nodes) found known → Gives (v0_view at.symbol) self.new result (refers_by production at known) }
         ensures nodes { self.new.nodes ≡ self.old.nodes }
         ensures places { length self.new.targets.items ≡ length self.old.targets.items }
@@ -284,7 +285,7 @@ impl RustNodes {
         site: Site,
         parts: &[Part],
     ) -> Result<Part, Refusal>
-        ensures gives { (at : At) (known : List Value) → semantics.is_reference production ≡ true → at.place ≡ site.place → at.bound ≡ site.bound
+        ensures gives { (at : At) (known : List Value) → is_reference production ≡ true → at.place ≡ site.place → at.bound ≡ site.bound
             → site.place < length self.old.targets.items → Keeps at.symbol self.old at.ended
             → AreAll (IsPart (ground at.symbol self.old.nodes)) parts.now known
             → Gives (v0_view at.symbol) self.new result (meaning production at known) }
@@ -327,7 +328,7 @@ impl RustNodes {
         parts: &[Part],
     ) -> Result<Added, Refusal>
         requires room { length self.old.nodes.nodes + 1 < 2 ^ 32 }
-        ensures gives { (at : At) (read : Meaning) → semantics.is_reference production ≡ false → semantics.makes_part production ≡ false
+        ensures gives { (at : At) (read : Meaning) → is_reference production ≡ false → makes_part production ≡ false
             → at.place ≡ site.place → site.byte ≡ slice_index at.symbol at.place → site.place < length self.old.targets.items → Keeps at.symbol self.old at.ended
             → MadeGives at.symbol self.old.nodes at (semantics.made production at.symbol at.place at.bound parts.now) read → Gives (v0_view at.symbol) self.new (semantics.as_part result) read }
         ensures grows { GoesOn self.old self.new }

@@ -3,6 +3,7 @@
 
 ghost use Rattle.std.specs.Prelude.{◌≡◌, ◌≢◌, ℕ, List, length, slice_index, true, IfErr};
 ghost use Rattle.sym_core.specs.declared.refusal.Refusal.TheVariants as refusals;
+ghost use Rattle.rust_v0.specs.Productions.{makes_part};
 ghost use Rattle.rust_v0.specs.CodeSemantics as semantics;
 ghost use Rattle.rust_v0.specs.CodeSemantics.{of_part, of_node};
 ghost use Rattle.rust_v0.specs.Unfold.{is_scalar as scalar};
@@ -459,7 +460,7 @@ pub fn char_constant(place: u32, parts: &[Part]) -> Result<Node, Refusal>
 
 /// Whether the production makes a part of its parts, and no node.
 pub fn makes_part(production: Production) -> bool
-    ensures { result ≡ semantics.makes_part production }
+    ensures { result ≡ makes_part production }
 {
     matches!(
         production,
@@ -485,7 +486,7 @@ pub fn makes_part(production: Production) -> bool
 /// What a rule makes of its parts where it makes no node.
 #[inline(always)]
 pub fn part_by(production: Production, at: Site, parts: &[Part]) -> Result<Part, Refusal>
-    ensures is { (s : List ℕ) → semantics.makes_part production ≡ true → at.byte ≡ slice_index s at.place → at.end ≡ length s
+    ensures is { (s : List ℕ) → makes_part production ≡ true → at.byte ≡ slice_index s at.place → at.end ≡ length s
         → of_part result ≡ semantics.made production s at.place at.bound parts.now }
     ensures never { IfErr result (λ e. e ≢ refusals.Memory) }
 {
