@@ -1,6 +1,6 @@
 // The number of the next part of a rule that has a row.
 
-ghost use Rattle.std.specs.Prelude.{◌≡◌, ℕ, ◌<◌, List, length};
+ghost use Rattle.std.specs.Prelude.{◌≡◌, ◌<◌, length};
 ghost use Rattle.sym_link.specs.Threads.{IsAhead, IsAheadToken, IsCount};
 ghost use Rattle.cpp_grammar.specs.Grammar.{parts_of};
 ghost use Rattle.cpp_grammar.specs.Unfolding.{production_at};

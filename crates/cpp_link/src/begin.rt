@@ -1,6 +1,6 @@
 // A rule begins.
 
-ghost use Rattle.std.specs.Prelude.{◌≡◌, ℕ, ◌-◌, ◌^◌, ◌<◌, ◌≤◌, List, length, get_or, slice_range, nat_lt, OnOk, OnErr, IfOk, IfErr};
+ghost use Rattle.std.specs.Prelude.{◌≡◌, ℕ, ◌-◌, ◌^◌, ◌<◌, ◌≤◌, length, get_or, slice_range, nat_lt, OnOk, OnErr, IfOk, IfErr};
 ghost use Rattle.sym_core.specs.declared.refusal.Refusal.TheVariants as refusals;
 ghost use Rattle.sym_shape.specs.declared.rule.Row.{Row};
 ghost use Rattle.sym_link.specs.Linking.{Adds, Pays};

@@ -1,6 +1,6 @@
 // What comes behind a rule: types become candidates.
 
-ghost use Rattle.std.specs.Prelude.{◌≡◌, ℕ, ◌<◌, List, length};
+ghost use Rattle.std.specs.Prelude.{◌≡◌, ◌<◌, List, length};
 ghost use Rattle.cpp_term.specs.Values as values;
 ghost use Rattle.cpp_term.specs.Values.{State};
 ghost use Rattle.cpp_term.specs.Meaning.{meaning};

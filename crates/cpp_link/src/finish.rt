@@ -1,6 +1,6 @@
 // A rule closes over all its parts.
 
-ghost use Rattle.std.specs.Prelude.{◌≡◌, ℕ, ◌+◌, ◌-◌, ◌<◌, ◌≤◌, ◌^◌, MatchOption, length, drop, slice_get, slice_index, true, Ok, IfOk, IfErr, IfSome, OnOk, vec_capacity};
+ghost use Rattle.std.specs.Prelude.{◌≡◌, ℕ, ◌+◌, ◌-◌, ◌<◌, ◌≤◌, ◌^◌, MatchOption, length, drop, slice_get, slice_index, Ok, IfOk, IfErr, IfSome, OnOk, vec_capacity};
 ghost use Rattle.sym_core.specs.Number.{FitsSymbol};
 ghost use Rattle.sym_core.specs.Value.{counted_value};
 ghost use Rattle.sym_core.specs.declared.NumberKind.TheVariants as kinds;

@@ -19,13 +19,12 @@ pub mod signatures;
 pub mod steps;
 pub mod values;
 
-ghost use Rattle.std.specs.Prelude.{◌≤◌, ℕ, ◌*◌, length};
+ghost use Rattle.std.specs.Prelude.{◌≤◌, ◌*◌, length};
 ghost use Rattle.sym_shape.specs.Tree.{Tree, IsTree, spell};
 ghost use Rattle.sym_shape.specs.declared.rule.Sym.TheVariants.{Kind};
 ghost use Rattle.sym_link.specs.Owing.{cost};
 ghost use Rattle.cpp_grammar.specs.Table.{abi};
 ghost use Rattle.cpp_link.specs.Owed.{owes};
-ghost use Rattle.cpp_link.specs.Bound.{few_nodes};
 
 /// The productions of a symbol's tree make at most two nodes for each byte.
 pub fn nodes_are_few()

@@ -1,18 +1,16 @@
 // What productions stand for, given their parts: a part, or one whose node isn't there yet.
 
-ghost use Rattle.std.specs.Prelude.{◌≡◌, ℕ, ◌+◌, ◌<◌, ◌≤◌, ◌^◌, length, slice_index, true, IfOk, IfErr};
+ghost use Rattle.std.specs.Prelude.{◌≡◌, ◌<◌, ◌≤◌, length, slice_index, true, IfOk, IfErr};
 ghost use Rattle.sym_core.specs.declared.refusal.Refusal.TheVariants as refusals;
-ghost use Rattle.cpp_term.specs.Values as values;
-ghost use Rattle.cpp_term.specs.Values.{tree_of, is_there, part};
-ghost use Rattle.cpp_term.specs.Between.{applied};
-ghost use Rattle.cpp_term.specs.Meaning.{meaning, reference_to, listed_value, signature_or, operator_or_literal, discriminator_of};
+ghost use Rattle.cpp_term.specs.Values.{tree_of, is_there};
+ghost use Rattle.cpp_term.specs.Meaning.{meaning, listed_value};
 ghost use Rattle.cpp_tree.specs.Nodes as nodes;
-ghost use Rattle.cpp_tree.specs.Nodes.{over, IsTable, IsSpan};
+ghost use Rattle.cpp_tree.specs.Nodes.{over, IsTable};
 ghost use Rattle.sym_core.specs.Number.{FitsSymbol};
 ghost use Rattle.cpp_link.specs.declared.part.Meant.{Meant};
 ghost use Rattle.cpp_link.specs.declared.part.Part.{Part};
 ghost use Rattle.cpp_tree.specs.declared.node.Node.{Node};
-ghost use Rattle.cpp_link.specs.Parts.{trees_in, value_of, value_in, values_in, around_of, meant_value, AreThere, IsThere, IsMeantThere, IsPrefixThere, name_of};
+ghost use Rattle.cpp_link.specs.Parts.{trees_in, value_of, values_in, around_of, meant_value, AreThere, IsMeantThere, IsPrefixThere, name_of};
 ghost use Rattle.cpp_link.specs.Closes.{ends_of};
 ghost use Rattle.cpp_link.specs.Making.{IsCommon, IsRare, nodes_of_meant};
 ghost use Rattle.cpp_link.specs.NodeCount.{makes_at_end};

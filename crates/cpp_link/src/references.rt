@@ -1,8 +1,7 @@
 // What references name.
 
-ghost use Rattle.std.specs.Prelude.{◌≡◌, ℕ, ◌<◌, ◌≤◌, ◌^◌, MatchOption, ◌&&◌, ◌||◌, not, nat_eq, nat_lt, List, length, IfSome, IfOk, IfErr, Ok, ◌∷◌, [], Option, None, Some};
+ghost use Rattle.std.specs.Prelude.{◌≡◌, ℕ, ◌<◌, ◌≤◌, ◌^◌, MatchOption, ◌&&◌, ◌||◌, not, nat_eq, List, length, IfSome, IfOk, IfErr, ◌∷◌, []};
 ghost use Rattle.cpp_term.specs.Values as values;
-ghost use Rattle.cpp_term.specs.Values.{State};
 ghost use Rattle.sym_core.specs.Value.{counted_value};
 ghost use Rattle.sym_core.specs.declared.NumberKind.TheVariants as kinds;
 ghost use Rattle.sym_link.specs.Driving.{Fails};

@@ -1,6 +1,6 @@
 // What productions stand for whose parts are told apart.
 
-ghost use Rattle.std.specs.Prelude.{◌≡◌, ℕ, ◌<◌, ◌≤◌, ◌∷◌, List, length, not, ◌&&◌, IfOk, IfErr, Option};
+ghost use Rattle.std.specs.Prelude.{◌≡◌, ℕ, ◌≤◌, List, length, not, ◌&&◌, IfOk, IfErr};
 ghost use Rattle.sym_core.specs.declared.refusal.Refusal.TheVariants as refusals;
 ghost use Rattle.cpp_term.specs.Term as term;
 ghost use Rattle.cpp_term.specs.Term.{Term};
@@ -11,7 +11,7 @@ ghost use Rattle.cpp_term.specs.Meaning.{parameters, discriminator_of, reference
 ghost use Rattle.cpp_grammar.specs.Values.{local_number};
 ghost use Rattle.cpp_tree.specs.Nodes as nodes;
 ghost use Rattle.cpp_tree.specs.declared.node.Thunk as thunks;
-ghost use Rattle.cpp_tree.specs.Nodes.{over, tree_at, IsTable, IsSpan, IsPieceBelow, IsBelow};
+ghost use Rattle.cpp_tree.specs.Nodes.{over, IsTable, IsSpan, IsPieceBelow, IsBelow};
 ghost use Rattle.cpp_link.specs.Closes.{name_closes};
 ghost use Rattle.cpp_link.specs.Making.{nodes_of_meant};
 ghost use Rattle.cpp_link.specs.NodeCount.{name_at_end, lambda_at_end};

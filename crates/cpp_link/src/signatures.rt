@@ -1,13 +1,11 @@
 // Encodings and function types: what is read of lists.
 
-ghost use Rattle.std.specs.Prelude.{◌≡◌, ℕ, ◌<◌, ◌≤◌, ◌&&◌, length, Option, Some, None, IfSome, List, true};
-ghost use Rattle.cpp_term.specs.Term.{Term};
+ghost use Rattle.std.specs.Prelude.{◌≡◌, ◌<◌, ◌&&◌, length, IfSome, true};
 ghost use Rattle.cpp_term.specs.Values as values;
 ghost use Rattle.cpp_term.specs.Values.{part};
 ghost use Rattle.cpp_term.specs.Between.{no_items};
 ghost use Rattle.cpp_term.specs.Meaning.{parameters, encoding_of, is_void, is_nil};
 ghost use Rattle.cpp_tree.specs.Nodes.{over, tree_at, tree_of, IsTable};
-ghost use Rattle.cpp_tree.specs.declared.node.Node.{Node};
 ghost use Rattle.cpp_link.specs.Parts.{trees_in, values_in, meant_value, AreThere, IsMeantThere};
 ghost use Rattle.cpp_link.specs.Making.{nodes_of_meant};
 ghost use Rattle.cpp_link.specs.Reads.{void_node, nil_node, cell_of, parameters_by, encoding_by};

@@ -1,13 +1,13 @@
 // What is done before the next part of a rule.
 
-ghost use Rattle.std.specs.Prelude.{◌≡◌, ℕ, ◌<◌, List, length, true, false, not, ◌&&◌, Option, None, Some, Ok, ◌∷◌, [], IfOk, IfErr};
+ghost use Rattle.std.specs.Prelude.{◌≡◌, ℕ, ◌<◌, List, length, true, false, None, Ok, ◌∷◌, [], IfOk, IfErr};
 ghost use Rattle.sym_link.specs.Driving.{Fails};
 ghost use Rattle.cpp_term.specs.Term as term;
 ghost use Rattle.cpp_grammar.specs.declared.production.Production.TheVariants as productions;
 ghost use Rattle.cpp_term.specs.Values as values;
-ghost use Rattle.cpp_term.specs.Values.{State, tree_of, piece_of, text_of, is_listed, prefix_tree};
+ghost use Rattle.cpp_term.specs.Values.{State, tree_of, piece_of, text_of, prefix_tree};
 ghost use Rattle.cpp_term.specs.Between.{between, no_items, in_signature, under_expansion, after, inside};
-ghost use Rattle.cpp_term.specs.References.{with_prefix, with_type, with_unqualified};
+ghost use Rattle.cpp_term.specs.References.{with_prefix, with_type};
 ghost use Rattle.cpp_tree.specs.Nodes as nodes;
 ghost use Rattle.cpp_tree.specs.Nodes.{over, tree_at, bytes_at, IsWithin, IsPieceBelow, arguments_are, IsArgumentsBelow, IsTable};
 ghost use Rattle.cpp_link.specs.declared.part.Kept.{Kept};

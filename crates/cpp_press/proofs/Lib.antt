@@ -4,8 +4,6 @@ mod GeneratedRows
 pub mod Sameness
 pub mod Growing
 pub mod ApartTrees
-pub mod Covering
-pub mod CoveredTrees
 pub mod RepeatedReasons
 pub mod Parts
 pub mod Known

@@ -1,7 +1,7 @@
 // The bytes between the trees of a spelling: numbers, names, qualifiers, offsets.
 #![tactic(auto)]
 
-ghost use Rattle.std.specs.Prelude.{◌≡◌, ◌++◌, ◌∷◌, [], cond, codes, Some, OnOk, IfErr, length};
+ghost use Rattle.std.specs.Prelude.{◌≡◌, ◌++◌, ◌∷◌, [], cond, codes, Some, OnOk, IfErr};
 ghost use Rattle.sym_core.specs.declared.Refusal.TheVariants.{Memory};
 ghost use Rattle.cpp_press.specs.Texts.{ordinal, counted, signed_text, qualifier_letters, mark_letter, name_letters, offset_text, thunk_text, discriminator_text};
 ghost use Rattle.cpp_press.specs.Components.{seq_id};

@@ -6,7 +6,7 @@
 // letter and of two, a thunk by how each of its pointers is adjusted.
 #![tactic(auto)]
 
-ghost use Rattle.std.specs.Prelude.{◌≡◌, ℕ, [], ◌∷◌, length, map, Option, Some, None};
+ghost use Rattle.std.specs.Prelude.{◌≡◌, ℕ, [], ◌∷◌, length, map, Some, None};
 ghost use Rattle.cpp_tree.specs.Nodes.{bytes_at, qualifiers_of, mark_of, signed_of, thunk_of, discriminator_of, IsWithin, IsSpan, IsBelow, IsPieceBelow, IsTable};
 ghost use Rattle.cpp_layout.specs.Layout.{table_of};
 ghost use Rattle.cpp_spell.specs.Bytes.{IsKnownThunk};

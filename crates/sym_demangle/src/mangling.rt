@@ -4,7 +4,6 @@ ghost use Rattle.std.specs.Prelude.{◌≡◌, ℕ, List, OnOk, IfErr, Ok};
 ghost use Rattle.sym_core.specs.Number.{FitsSymbol};
 ghost use Rattle.sym_core.specs.declared.refusal.Refusal.{Refusal};
 ghost use Rattle.sym_core.specs.declared.refusal.Refusal.TheVariants as refusals;
-ghost use Rattle.sym_print.specs.declared.detail.Detail.{Detail};
 ghost use Rattle.sym_print.specs.declared.layout.Part.TheVariants as part;
 ghost use Rattle.sym_shape.specs.Tree.{Tree, IsTree, spell};
 ghost use Rattle.sym_shape.specs.declared.rule.Sym.TheVariants.{Kind};

@@ -33,7 +33,6 @@ impl Counted for Abi {
     ghost nodes_a_byte = { 2 };
 
     fn counts(symbol: &itanium::Symbol) -> Counts {
-        let _root = symbol.root_node();
         symbol.counts()
     }
 }

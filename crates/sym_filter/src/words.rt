@@ -1,5 +1,5 @@
 // Words found in a text that comes in any pieces.
-ghost use Rattle.std.specs.Prelude.{◌≡◌, ◌+◌, ◌-◌, ◌^◌, ◌<◌, ◌≤◌, ℕ, List, [], ◌++◌, length, take, slice_index, true, false, replicate, OnOk, IfOk, Some, is_some, OnErr};
+ghost use Rattle.std.specs.Prelude.{◌≡◌, ◌+◌, ◌^◌, ◌<◌, ◌≤◌, ℕ, List, [], ◌++◌, length, take, slice_index, true, false, replicate, OnOk, IfOk, Some, is_some, OnErr};
 ghost use Rattle.std.specs.List.{list_all};
 ghost use Rattle.sym_filter.specs.Runs.{is_run_byte, text_for, word_of, word_or_text, IsTally};
 ghost use Rattle.sym_filter.specs.Kinds.{kind_of};

@@ -26,7 +26,7 @@
 //
 // An impl writes the clauses of its methods out, with its own view in the place of `view`.
 
-ghost use Rattle.std.specs.Prelude.{◌≡◌, ℕ, ◌+◌, ◌<◌, ◌≤◌, List, length, OnOk, OnErr};
+ghost use Rattle.std.specs.Prelude.{◌≡◌, ℕ, ◌<◌, ◌≤◌, List, length, OnOk, OnErr};
 ghost use Rattle.sym_link.specs.Linking.{View, IsLinking, HasRoom, IsOpen, OpensRoot, Opens, TakesToken, ClosesRule, Adds, AddsFew, Pays, KeepsRoom, NeedsRoom, TokenNeedsRoom, owed_behind, owed_next};
 ghost use Rattle.sym_link.specs.Room.{KeepRoom, OnlyForRoom};
 

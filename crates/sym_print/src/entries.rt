@@ -1,7 +1,7 @@
 // The work stack: its entries are taken one at a time, and paid for.
 #![tactic(auto)]
 
-ghost use Rattle.std.specs.Prelude.{◌≡◌, ◌+◌, ◌*◌, ◌-◌, ◌<◌, ◌≤◌, ◌++◌, length, take, vec_len, vec_capacity, is_ok, if◌then◌else◌, Some, [], Err, IfErr, OnOk, OnErr, ◌⊎◌};
+ghost use Rattle.std.specs.Prelude.{◌≡◌, ◌+◌, ◌*◌, ◌-◌, ◌<◌, ◌≤◌, ◌++◌, length, take, vec_len, vec_capacity, is_ok, if◌then◌else◌, [], Err, IfErr, OnOk, OnErr, ◌⊎◌};
 ghost use Rattle.std.specs.List.{All};
 ghost use Rattle.sym_print.specs.Joined.{text_of_stack, cost_of_stack, steps_of_stack, IsText, IsNext};
 ghost use Rattle.sym_print.specs.declared.layout.Part.{Part};

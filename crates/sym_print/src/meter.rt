@@ -1,7 +1,7 @@
 // What printing has cost, and what it may cost.
 #![tactic(auto)]
 
-ghost use Rattle.std.specs.Prelude.{◌≡◌, ◌+◌, ◌-◌, ◌<◌, ◌≤◌, nat_le};
+ghost use Rattle.std.specs.Prelude.{◌≡◌, ◌+◌, ◌<◌, ◌≤◌, nat_le};
 
 /// What was spent of a limit, and in how many steps.
 #[derive(Clone, Copy)]

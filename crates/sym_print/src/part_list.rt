@@ -26,7 +26,7 @@ pub trait PartList<C: Copy> {
 }
 
 impl<C: Copy> PartList<C> for Vec<Part<C>> {
-    ghost use Rattle.sym_print.specs.Held.{Held, with_part};
+    ghost use Rattle.sym_print.specs.Held.{with_part};
 
     ghost held = { λ list. record { items = list.items; capacity = vec_capacity list } };
 
@@ -43,7 +43,7 @@ impl<C: Copy> PartList<C> for Vec<Part<C>> {
 }
 
 impl<C: Copy> PartList<C> for ArrayVec<Part<C>, 8> {
-    ghost use Rattle.sym_print.specs.Held.{Held, with_part};
+    ghost use Rattle.sym_print.specs.Held.{with_part};
 
     ghost held = { λ list. record { items = list.items; capacity = 8 } };
 

@@ -1,8 +1,8 @@
 // The moves of the reader.
-ghost use Rattle.std.specs.Prelude.{Some, Ok, ◌≡◌, ◌≢◌, ◌⊎◌, vec_capacity, ℕ, ◌+◌, ◌^◌, ◌∷◌, [], ◌++◌, ◌<◌, ◌≤◌, List, length, take, drop, false, ◌-◌, OnOk, IfOk, OnErr, IfSome, MatchOption};
+ghost use Rattle.std.specs.Prelude.{Some, Ok, ◌≡◌, ◌≢◌, ◌⊎◌, vec_capacity, ℕ, ◌+◌, ◌^◌, ◌∷◌, [], ◌++◌, ◌<◌, ◌≤◌, List, length, take, drop, false, ◌-◌, OnOk, OnErr, IfSome, MatchOption};
 ghost use Rattle.std.specs.Bool.{OnTrue, OnFalse};
 ghost use Rattle.sym_core.specs.Number.{FitsSymbol};
-ghost use Rattle.sym_shape.specs.Reading.{Entry, entries_of, closed, IsKnown, IsByteAt, TakesNone, place_behind, place_row, lone_rows};
+ghost use Rattle.sym_shape.specs.Reading.{entries_of, closed, IsKnown, IsByteAt, TakesNone, place_behind, place_row, lone_rows};
 ghost use Rattle.sym_shape.specs.Table.{symbols_of};
 ghost use Rattle.sym_shape.specs.Frame.{HasNext, HasLast, IsTaken};
 ghost use Rattle.sym_shape.specs.declared.rule.Sym.{Sym};

@@ -1,5 +1,5 @@
 // A reader that is fed in pieces.
-ghost use Rattle.std.specs.Prelude.{◌≡◌, ◌⊎◌, ◌+◌, ◌<◌, ◌≤◌, ◌&&◌, [], ◌++◌, length, vec_capacity, true, false, None, Some, Ok, Err, OnOk, OnErr, IfOk, IfErr, IfSome};
+ghost use Rattle.std.specs.Prelude.{◌≡◌, ◌+◌, ◌<◌, ◌≤◌, ◌&&◌, length, vec_capacity, true, false, None, Some, Ok, Err, OnOk, OnErr, IfOk, IfErr, IfSome};
 ghost use Rattle.sym_core.specs.declared.TheConstants.{MOST_BYTES};
 ghost use Rattle.sym_core.specs.Number.{FitsSymbol};
 ghost use Rattle.sym_shape.specs.Tree.{AreRowsOf, AreStepsOf, BeginsWellShaped};

@@ -1,6 +1,5 @@
 // The lines of a word: its answer, and what is said of one that has no text.
-ghost use Rattle.std.specs.Prelude.{◌≡◌, ◌≢◌, List, ℕ, [], ◌∷◌, ◌++◌, ◌&&◌, OnOk, OnErr, IfOk, Some, is_some, string_bytes, if◌then◌else◌};
-ghost use Rattle.sym_filter.specs.Kinds.{kind_of};
+ghost use Rattle.std.specs.Prelude.{◌≡◌, ◌≢◌, List, ℕ, [], ◌∷◌, ◌++◌, ◌&&◌, OnOk, OnErr, IfOk, is_some, string_bytes, if◌then◌else◌};
 ghost use Rattle.sym_filter.specs.Runs.{text_for};
 ghost use Rattle.sym_filter.specs.Streams.{BeginsWith};
 ghost use Rattle.symfilt.specs.Lines.{answer_for, is_read_word, line_of, counts_text, AreCountsFor, IsBehindLine, reason_of, complaint_with, complaint_of};

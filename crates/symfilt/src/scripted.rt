@@ -1,5 +1,5 @@
 // Sources and sinks over memory, whose cuts and failures are scripted.
-ghost use Rattle.std.specs.Prelude.{◌≡◌, ◌+◌, ◌-◌, ◌<◌, Some, []};
+ghost use Rattle.std.specs.Prelude.{◌≡◌, Some, []};
 
 use std::alloc::Global;
 use sym_filter::{Sink, Source};

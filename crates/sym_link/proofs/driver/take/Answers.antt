@@ -10,75 +10,135 @@ use Rattle.sym_link.proofs.driver.take.Goals as goal
 
 pub bounds-rows-next : goal.bounds-rows-next
 bounds-rows-next g c =
-    more_rows (g.L.Linking.view c.args.symbol.now) c.args.symbol.now c.args.rows.now (waiting (c.requires.0 + 1)) c.args.language.now c.args.next c.args.frames.now.items c.top-frame.result.now c.args.parts.now.items
-    (record { rule = 0; from = 0; to = 0; end = 0 }) (g.met.L.Linking.laws c.args.symbol.now) (c.requires.1 c.top-frame.result.now (c.top-frame.ensures.0, sym c.deref.ensures.value ∙ c.top-frame.ensures.1))
+    more_rows (g.L.Linking.view c.args.symbol.now) c.args.symbol.now c.args.rows.now (waiting (c.requires.0 + 1))
+    c.args.language.now c.args.next c.args.frames.now.items c.top-frame.result.now c.args.parts.now.items
+    (record { rule = 0; from = 0; to = 0; end = 0 }) (g.met.L.Linking.laws c.args.symbol.now)
+    (c.requires.1 c.top-frame.result.now (c.top-frame.ensures.0, sym c.deref.ensures.value ∙ c.top-frame.ensures.1))
 
 pub token-requires-clause-room : goal.token-requires-clause-room
 token-requires-clause-room g c =
-    (token_asks (g.L.Linking.view c.args.symbol.now) c.args.symbol.now c.args.rows.now (waiting (c.requires.0 + 1)) c.args.language.now c.args.next c.args.frames.now.items c.top-frame.result.now c.args.parts.now.items
-    (slice_index_or c.args.rows.now c.args.next (record { rule = 0; from = 0; to = 0; end = 0 })) (record { rule = 0; from = 0; to = 0; end = 0 }) (g.met.L.Linking.laws c.args.symbol.now) (c.requires.1 c.top-frame.result.now (c.top-frame.ensures.0, sym c.deref.ensures.value ∙ c.top-frame.ensures.1)) refl c.if-row.true).room
+    (token_asks (g.L.Linking.view c.args.symbol.now) c.args.symbol.now c.args.rows.now (waiting (c.requires.0 + 1))
+    c.args.language.now c.args.next c.args.frames.now.items c.top-frame.result.now c.args.parts.now.items
+    (slice_index_or c.args.rows.now c.args.next (record { rule = 0; from = 0; to = 0; end = 0 }))
+    (record { rule = 0; from = 0; to = 0; end = 0 }) (g.met.L.Linking.laws c.args.symbol.now)
+    (c.requires.1 c.top-frame.result.now (c.top-frame.ensures.0, sym c.deref.ensures.value ∙ c.top-frame.ensures.1)) refl
+    c.if-row.true).room
 
 pub token-requires-clause-open : goal.token-requires-clause-open
 token-requires-clause-open g c =
-    (token_asks (g.L.Linking.view c.args.symbol.now) c.args.symbol.now c.args.rows.now (waiting (c.requires.0 + 1)) c.args.language.now c.args.next c.args.frames.now.items c.top-frame.result.now c.args.parts.now.items
-    (slice_index_or c.args.rows.now c.args.next (record { rule = 0; from = 0; to = 0; end = 0 })) (record { rule = 0; from = 0; to = 0; end = 0 }) (g.met.L.Linking.laws c.args.symbol.now) (c.requires.1 c.top-frame.result.now (c.top-frame.ensures.0, sym c.deref.ensures.value ∙ c.top-frame.ensures.1)) refl c.if-row.true).stands
+    (token_asks (g.L.Linking.view c.args.symbol.now) c.args.symbol.now c.args.rows.now (waiting (c.requires.0 + 1))
+    c.args.language.now c.args.next c.args.frames.now.items c.top-frame.result.now c.args.parts.now.items
+    (slice_index_or c.args.rows.now c.args.next (record { rule = 0; from = 0; to = 0; end = 0 }))
+    (record { rule = 0; from = 0; to = 0; end = 0 }) (g.met.L.Linking.laws c.args.symbol.now)
+    (c.requires.1 c.top-frame.result.now (c.top-frame.ensures.0, sym c.deref.ensures.value ∙ c.top-frame.ensures.1)) refl
+    c.if-row.true).stands
 
 pub token-requires-clause-from : goal.token-requires-clause-from
 token-requires-clause-from g c =
-    (token_asks (g.L.Linking.view c.args.symbol.now) c.args.symbol.now c.args.rows.now (waiting (c.requires.0 + 1)) c.args.language.now c.args.next c.args.frames.now.items c.top-frame.result.now c.args.parts.now.items
-    (slice_index_or c.args.rows.now c.args.next (record { rule = 0; from = 0; to = 0; end = 0 })) (record { rule = 0; from = 0; to = 0; end = 0 }) (g.met.L.Linking.laws c.args.symbol.now) (c.requires.1 c.top-frame.result.now (c.top-frame.ensures.0, sym c.deref.ensures.value ∙ c.top-frame.ensures.1)) refl c.if-row.true).from
+    (token_asks (g.L.Linking.view c.args.symbol.now) c.args.symbol.now c.args.rows.now (waiting (c.requires.0 + 1))
+    c.args.language.now c.args.next c.args.frames.now.items c.top-frame.result.now c.args.parts.now.items
+    (slice_index_or c.args.rows.now c.args.next (record { rule = 0; from = 0; to = 0; end = 0 }))
+    (record { rule = 0; from = 0; to = 0; end = 0 }) (g.met.L.Linking.laws c.args.symbol.now)
+    (c.requires.1 c.top-frame.result.now (c.top-frame.ensures.0, sym c.deref.ensures.value ∙ c.top-frame.ensures.1)) refl
+    c.if-row.true).from
 
 pub token-requires-clause-to : goal.token-requires-clause-to
 token-requires-clause-to g c =
-    (token_asks (g.L.Linking.view c.args.symbol.now) c.args.symbol.now c.args.rows.now (waiting (c.requires.0 + 1)) c.args.language.now c.args.next c.args.frames.now.items c.top-frame.result.now c.args.parts.now.items
-    (slice_index_or c.args.rows.now c.args.next (record { rule = 0; from = 0; to = 0; end = 0 })) (record { rule = 0; from = 0; to = 0; end = 0 }) (g.met.L.Linking.laws c.args.symbol.now) (c.requires.1 c.top-frame.result.now (c.top-frame.ensures.0, sym c.deref.ensures.value ∙ c.top-frame.ensures.1)) refl c.if-row.true).to
+    (token_asks (g.L.Linking.view c.args.symbol.now) c.args.symbol.now c.args.rows.now (waiting (c.requires.0 + 1))
+    c.args.language.now c.args.next c.args.frames.now.items c.top-frame.result.now c.args.parts.now.items
+    (slice_index_or c.args.rows.now c.args.next (record { rule = 0; from = 0; to = 0; end = 0 }))
+    (record { rule = 0; from = 0; to = 0; end = 0 }) (g.met.L.Linking.laws c.args.symbol.now)
+    (c.requires.1 c.top-frame.result.now (c.top-frame.ensures.0, sym c.deref.ensures.value ∙ c.top-frame.ensures.1)) refl
+    c.if-row.true).to
 
 pub returns-in_err-token-clause-follows : goal.returns-in_err-token-clause-follows
 returns-in_err-token-clause-follows g c whole left follows =
     let p = err_from_is_err_and c.from_residual.result c.from_residual.ensures.1 in
     rw (p.1, p.2)
-    (token_taken (g.L.Linking.view c.args.symbol.now) c.args.symbol.now c.args.rows.now whole (waiting (left + 1)) c.args.language.now c.token.new.self c.args.next c.args.frames.now.items c.top-frame.result.now
-    c.args.parts.now.items c.token.new.parts.items (slice_index_or c.args.rows.now c.args.next (record { rule = 0; from = 0; to = 0; end = 0 })) (record { rule = 0; from = 0; to = 0; end = 0 }) (Err c.in_err-token.field-0.0) (g.met.L.Linking.laws c.args.symbol.now) (c.top-frame.ensures.0, sym c.deref.ensures.value ∙ c.top-frame.ensures.1)
-    follows (c.requires.1 c.top-frame.result.now (c.top-frame.ensures.0, sym c.deref.ensures.value ∙ c.top-frame.ensures.1)).open_still refl c.if-row.true c.in_err-token.ensures.takes c.in_err-token.ensures.adds c.in_err-token.ensures.pays left refl)
+    (token_taken (g.L.Linking.view c.args.symbol.now) c.args.symbol.now c.args.rows.now whole (waiting (left + 1))
+    c.args.language.now c.token.new.self c.args.next c.args.frames.now.items c.top-frame.result.now
+    c.args.parts.now.items c.token.new.parts.items (slice_index_or c.args.rows.now c.args.next
+    (record { rule = 0; from = 0; to = 0; end = 0 })) (record { rule = 0; from = 0; to = 0; end = 0 })
+    (Err c.in_err-token.field-0.0) (g.met.L.Linking.laws c.args.symbol.now)
+    (c.top-frame.ensures.0, sym c.deref.ensures.value ∙ c.top-frame.ensures.1)
+    follows (c.requires.1 c.top-frame.result.now (
+      c.top-frame.ensures.0,
+      sym c.deref.ensures.value ∙
+          c.top-frame.ensures.1,
+    )).open_still refl c.if-row.true c.in_err-token.ensures.takes c.in_err-token.ensures.adds
+    c.in_err-token.ensures.pays left refl)
 
 pub returns-then-row-clause-follows : goal.returns-then-row-clause-follows
 returns-then-row-clause-follows g c whole left follows =
-    token_taken (g.L.Linking.view c.args.symbol.now) c.args.symbol.now c.args.rows.now whole (waiting (left + 1)) c.args.language.now c.token.new.self c.args.next c.args.frames.now.items c.top-frame.result.now
-    c.args.parts.now.items c.token.new.parts.items (slice_index_or c.args.rows.now c.args.next (record { rule = 0; from = 0; to = 0; end = 0 })) (record { rule = 0; from = 0; to = 0; end = 0 }) (Ok tt) (g.met.L.Linking.laws c.args.symbol.now) (c.top-frame.ensures.0, sym c.deref.ensures.value ∙ c.top-frame.ensures.1)
-    follows (c.requires.1 c.top-frame.result.now (c.top-frame.ensures.0, sym c.deref.ensures.value ∙ c.top-frame.ensures.1)).open_still refl c.if-row.true c.in_ok-token.ensures.takes c.in_ok-token.ensures.adds c.in_ok-token.ensures.pays left refl
+    token_taken (g.L.Linking.view c.args.symbol.now) c.args.symbol.now c.args.rows.now whole (waiting (left + 1))
+    c.args.language.now c.token.new.self c.args.next c.args.frames.now.items c.top-frame.result.now
+    c.args.parts.now.items c.token.new.parts.items (slice_index_or c.args.rows.now c.args.next
+    (record { rule = 0; from = 0; to = 0; end = 0 })) (record { rule = 0; from = 0; to = 0; end = 0 }) (Ok tt)
+    (g.met.L.Linking.laws c.args.symbol.now) (c.top-frame.ensures.0, sym c.deref.ensures.value ∙ c.top-frame.ensures.1)
+    follows (c.requires.1 c.top-frame.result.now (
+      c.top-frame.ensures.0,
+      sym c.deref.ensures.value ∙
+          c.top-frame.ensures.1,
+    )).open_still refl c.if-row.true c.in_ok-token.ensures.takes c.in_ok-token.ensures.adds
+    c.in_ok-token.ensures.pays left refl
 
 pub enter-requires-clause-room : goal.enter-requires-clause-room
 enter-requires-clause-room g c =
-    (rule_asks (g.L.Linking.view c.args.symbol.now) c.args.symbol.now c.args.rows.now (waiting (c.requires.0 + 1)) c.args.language.now c.args.next c.args.frames.now.items c.top-frame.result.now c.args.parts.now.items
-    (slice_index_or c.args.rows.now c.args.next (record { rule = 0; from = 0; to = 0; end = 0 })) (record { rule = 0; from = 0; to = 0; end = 0 }) (g.met.L.Linking.laws c.args.symbol.now) (c.requires.1 c.top-frame.result.now (c.top-frame.ensures.0, sym c.deref.ensures.value ∙ c.top-frame.ensures.1)) refl c.if-row.false).room
+    (rule_asks (g.L.Linking.view c.args.symbol.now) c.args.symbol.now c.args.rows.now (waiting (c.requires.0 + 1))
+    c.args.language.now c.args.next c.args.frames.now.items c.top-frame.result.now c.args.parts.now.items
+    (slice_index_or c.args.rows.now c.args.next (record { rule = 0; from = 0; to = 0; end = 0 }))
+    (record { rule = 0; from = 0; to = 0; end = 0 }) (g.met.L.Linking.laws c.args.symbol.now)
+    (c.requires.1 c.top-frame.result.now (c.top-frame.ensures.0, sym c.deref.ensures.value ∙ c.top-frame.ensures.1)) refl
+    c.if-row.false).room
 
 pub enter-requires-clause-open : goal.enter-requires-clause-open
 enter-requires-clause-open g c =
-    (rule_asks (g.L.Linking.view c.args.symbol.now) c.args.symbol.now c.args.rows.now (waiting (c.requires.0 + 1)) c.args.language.now c.args.next c.args.frames.now.items c.top-frame.result.now c.args.parts.now.items
-    (slice_index_or c.args.rows.now c.args.next (record { rule = 0; from = 0; to = 0; end = 0 })) (record { rule = 0; from = 0; to = 0; end = 0 }) (g.met.L.Linking.laws c.args.symbol.now) (c.requires.1 c.top-frame.result.now (c.top-frame.ensures.0, sym c.deref.ensures.value ∙ c.top-frame.ensures.1)) refl c.if-row.false).stands
+    (rule_asks (g.L.Linking.view c.args.symbol.now) c.args.symbol.now c.args.rows.now (waiting (c.requires.0 + 1))
+    c.args.language.now c.args.next c.args.frames.now.items c.top-frame.result.now c.args.parts.now.items
+    (slice_index_or c.args.rows.now c.args.next (record { rule = 0; from = 0; to = 0; end = 0 }))
+    (record { rule = 0; from = 0; to = 0; end = 0 }) (g.met.L.Linking.laws c.args.symbol.now)
+    (c.requires.1 c.top-frame.result.now (c.top-frame.ensures.0, sym c.deref.ensures.value ∙ c.top-frame.ensures.1)) refl
+    c.if-row.false).stands
 
 pub enter-requires-clause-place : goal.enter-requires-clause-place
 enter-requires-clause-place g c =
-    (rule_asks (g.L.Linking.view c.args.symbol.now) c.args.symbol.now c.args.rows.now (waiting (c.requires.0 + 1)) c.args.language.now c.args.next c.args.frames.now.items c.top-frame.result.now c.args.parts.now.items
-    (slice_index_or c.args.rows.now c.args.next (record { rule = 0; from = 0; to = 0; end = 0 })) (record { rule = 0; from = 0; to = 0; end = 0 }) (g.met.L.Linking.laws c.args.symbol.now) (c.requires.1 c.top-frame.result.now (c.top-frame.ensures.0, sym c.deref.ensures.value ∙ c.top-frame.ensures.1)) refl c.if-row.false).place
+    (rule_asks (g.L.Linking.view c.args.symbol.now) c.args.symbol.now c.args.rows.now (waiting (c.requires.0 + 1))
+    c.args.language.now c.args.next c.args.frames.now.items c.top-frame.result.now c.args.parts.now.items
+    (slice_index_or c.args.rows.now c.args.next (record { rule = 0; from = 0; to = 0; end = 0 }))
+    (record { rule = 0; from = 0; to = 0; end = 0 }) (g.met.L.Linking.laws c.args.symbol.now)
+    (c.requires.1 c.top-frame.result.now (c.top-frame.ensures.0, sym c.deref.ensures.value ∙ c.top-frame.ensures.1)) refl
+    c.if-row.false).place
 
 pub enter-requires-clause-end : goal.enter-requires-clause-end
 enter-requires-clause-end g c =
-    (rule_asks (g.L.Linking.view c.args.symbol.now) c.args.symbol.now c.args.rows.now (waiting (c.requires.0 + 1)) c.args.language.now c.args.next c.args.frames.now.items c.top-frame.result.now c.args.parts.now.items
-    (slice_index_or c.args.rows.now c.args.next (record { rule = 0; from = 0; to = 0; end = 0 })) (record { rule = 0; from = 0; to = 0; end = 0 }) (g.met.L.Linking.laws c.args.symbol.now) (c.requires.1 c.top-frame.result.now (c.top-frame.ensures.0, sym c.deref.ensures.value ∙ c.top-frame.ensures.1)) refl c.if-row.false).end
+    (rule_asks (g.L.Linking.view c.args.symbol.now) c.args.symbol.now c.args.rows.now (waiting (c.requires.0 + 1))
+    c.args.language.now c.args.next c.args.frames.now.items c.top-frame.result.now c.args.parts.now.items
+    (slice_index_or c.args.rows.now c.args.next (record { rule = 0; from = 0; to = 0; end = 0 }))
+    (record { rule = 0; from = 0; to = 0; end = 0 }) (g.met.L.Linking.laws c.args.symbol.now)
+    (c.requires.1 c.top-frame.result.now (c.top-frame.ensures.0, sym c.deref.ensures.value ∙ c.top-frame.ensures.1)) refl
+    c.if-row.false).end
 
 pub returns-in_err-kept-clause-follows : goal.returns-in_err-kept-clause-follows
 returns-in_err-kept-clause-follows g c whole left follows =
     let p = err_from_is_err_and c.from_residual-in_err-kept.result c.from_residual-in_err-kept.ensures.1 in
     rw (p.1, p.2)
-    (rule_refused (g.L.Linking.view c.args.symbol.now) c.args.symbol.now c.args.rows.now whole (waiting (left + 1)) c.args.language.now c.enter.new.self c.args.next c.args.frames.now.items c.top-frame.result.now
-    c.args.parts.now.items c.enter.new.parts.items (slice_index_or c.args.rows.now c.args.next (record { rule = 0; from = 0; to = 0; end = 0 })) (record { rule = 0; from = 0; to = 0; end = 0 }) c.in_err-kept.field-0.0 (g.met.L.Linking.laws c.args.symbol.now) (c.top-frame.ensures.0, sym c.deref.ensures.value ∙ c.top-frame.ensures.1)
-    follows (c.requires.1 c.top-frame.result.now (c.top-frame.ensures.0, sym c.deref.ensures.value ∙ c.top-frame.ensures.1)).open_still refl c.if-row.false c.in_err-kept.ensures.opens)
+    (rule_refused (g.L.Linking.view c.args.symbol.now) c.args.symbol.now c.args.rows.now whole (waiting (left + 1))
+    c.args.language.now c.enter.new.self c.args.next c.args.frames.now.items c.top-frame.result.now
+    c.args.parts.now.items c.enter.new.parts.items (slice_index_or c.args.rows.now c.args.next
+    (record { rule = 0; from = 0; to = 0; end = 0 })) (record { rule = 0; from = 0; to = 0; end = 0 }) c.in_err-kept.field-0.0
+    (g.met.L.Linking.laws c.args.symbol.now) (c.top-frame.ensures.0, sym c.deref.ensures.value ∙ c.top-frame.ensures.1)
+    follows (c.requires.1 c.top-frame.result.now (
+      c.top-frame.ensures.0,
+      sym c.deref.ensures.value ∙
+          c.top-frame.ensures.1,
+    )).open_still refl c.if-row.false c.in_err-kept.ensures.opens)
 
 pub returns-in_err-kept-clause-more : goal.returns-in_err-kept-clause-more
 returns-in_err-kept-clause-more g c =
-    more_rows (g.L.Linking.view c.args.symbol.now) c.args.symbol.now c.args.rows.now (waiting (c.requires.0 + 1)) c.args.language.now c.args.next c.args.frames.now.items c.top-frame.result.now c.args.parts.now.items
-    (record { rule = 0; from = 0; to = 0; end = 0 }) (g.met.L.Linking.laws c.args.symbol.now) (c.requires.1 c.top-frame.result.now (c.top-frame.ensures.0, sym c.deref.ensures.value ∙ c.top-frame.ensures.1))
+    more_rows (g.L.Linking.view c.args.symbol.now) c.args.symbol.now c.args.rows.now (waiting (c.requires.0 + 1))
+    c.args.language.now c.args.next c.args.frames.now.items c.top-frame.result.now c.args.parts.now.items
+    (record { rule = 0; from = 0; to = 0; end = 0 }) (g.met.L.Linking.laws c.args.symbol.now)
+    (c.requires.1 c.top-frame.result.now (c.top-frame.ensures.0, sym c.deref.ensures.value ∙ c.top-frame.ensures.1))
 
 pub settle-requires : goal.settle-requires
 settle-requires g c =
@@ -86,10 +146,27 @@ settle-requires g c =
       whole = (c.requires.1 c.top-frame.result.now (c.top-frame.ensures.0, sym c.deref.ensures.value ∙ c.top-frame.ensures.1)).whole;
       steps = c.requires.0;
       most = _;
-      follows = rule_begun (g.L.Linking.view c.args.symbol.now) c.args.symbol.now c.args.rows.now (c.requires.1 c.top-frame.result.now (c.top-frame.ensures.0, sym c.deref.ensures.value ∙ c.top-frame.ensures.1)).whole c.requires.0 c.args.language.now c.enter.new.self c.args.next c.args.frames.now.items c.top-frame.result.now
-          (record { rule = (slice_index_or c.args.rows.now c.args.next (record { rule = 0; from = 0; to = 0; end = 0 })).rule; place = (slice_index_or c.args.rows.now c.args.next (record { rule = 0; from = 0; to = 0; end = 0 })).from; end = (slice_index_or c.args.rows.now c.args.next (record { rule = 0; from = 0; to = 0; end = 0 })).end; base = c.len.result; kept = c.in_ok-kept.kept })
-          c.args.parts.now.items c.enter.new.parts.items (slice_index_or c.args.rows.now c.args.next (record { rule = 0; from = 0; to = 0; end = 0 })) (record { rule = 0; from = 0; to = 0; end = 0 }) (g.met.L.Linking.laws c.args.symbol.now) (c.top-frame.ensures.0, sym c.deref.ensures.value ∙ c.top-frame.ensures.1)
-          (c.requires.1 c.top-frame.result.now (c.top-frame.ensures.0, sym c.deref.ensures.value ∙ c.top-frame.ensures.1)).follows (c.requires.1 c.top-frame.result.now (c.top-frame.ensures.0, sym c.deref.ensures.value ∙ c.top-frame.ensures.1)).open_still refl c.if-row.false c.in_ok-kept.ensures.opens c.in_ok-kept.ensures.adds c.in_ok-kept.ensures.pays
+      follows = rule_begun (g.L.Linking.view c.args.symbol.now) c.args.symbol.now c.args.rows.now
+          (c.requires.1 c.top-frame.result.now (c.top-frame.ensures.0, sym c.deref.ensures.value ∙ c.top-frame.ensures.1)).whole
+          c.requires.0 c.args.language.now c.enter.new.self c.args.next c.args.frames.now.items c.top-frame.result.now
+          (record {
+            rule = (slice_index_or c.args.rows.now c.args.next (record { rule = 0; from = 0; to = 0; end = 0 })).rule;
+            place = (slice_index_or c.args.rows.now c.args.next (record { rule = 0; from = 0; to = 0; end = 0 })).from;
+            end =
+                (slice_index_or c.args.rows.now c.args.next (record { rule = 0; from = 0; to = 0; end = 0 })).end;
+            base = c.len.result;
+            kept = c.in_ok-kept.kept;
+          })
+          c.args.parts.now.items c.enter.new.parts.items (slice_index_or c.args.rows.now c.args.next
+          (record { rule = 0; from = 0; to = 0; end = 0 })) (record { rule = 0; from = 0; to = 0; end = 0 })
+          (g.met.L.Linking.laws c.args.symbol.now) (c.top-frame.ensures.0, sym c.deref.ensures.value ∙ c.top-frame.ensures.1)
+          (c.requires.1 c.top-frame.result.now (c.top-frame.ensures.0, sym c.deref.ensures.value ∙ c.top-frame.ensures.1)).follows
+          (c.requires.1 c.top-frame.result.now (
+            c.top-frame.ensures.0,
+            sym c.deref.ensures.value ∙
+                c.top-frame.ensures.1,
+          )).open_still refl c.if-row.false c.in_ok-kept.ensures.opens c.in_ok-kept.ensures.adds
+          c.in_ok-kept.ensures.pays
           refl refl refl (omega (arith, c.len.ensures, c.enter.new.parts.ok.0));
       fits = (c.requires.1 c.top-frame.result.now (c.top-frame.ensures.0, sym c.deref.ensures.value ∙ c.top-frame.ensures.1)).fits;
     }
@@ -97,52 +174,114 @@ settle-requires g c =
 pub returns-clause-follows : goal.returns-clause-follows
 returns-clause-follows g c whole left follows =
     c.settle.ensures.follows whole left _
-    (rule_begun (g.L.Linking.view c.args.symbol.now) c.args.symbol.now c.args.rows.now whole left c.args.language.now c.enter.new.self c.args.next c.args.frames.now.items c.top-frame.result.now
-    (record { rule = (slice_index_or c.args.rows.now c.args.next (record { rule = 0; from = 0; to = 0; end = 0 })).rule; place = (slice_index_or c.args.rows.now c.args.next (record { rule = 0; from = 0; to = 0; end = 0 })).from; end = (slice_index_or c.args.rows.now c.args.next (record { rule = 0; from = 0; to = 0; end = 0 })).end; base = c.len.result; kept = c.in_ok-kept.kept })
-    c.args.parts.now.items c.enter.new.parts.items (slice_index_or c.args.rows.now c.args.next (record { rule = 0; from = 0; to = 0; end = 0 })) (record { rule = 0; from = 0; to = 0; end = 0 }) (g.met.L.Linking.laws c.args.symbol.now) (c.top-frame.ensures.0, sym c.deref.ensures.value ∙ c.top-frame.ensures.1)
-    follows (c.requires.1 c.top-frame.result.now (c.top-frame.ensures.0, sym c.deref.ensures.value ∙ c.top-frame.ensures.1)).open_still refl c.if-row.false c.in_ok-kept.ensures.opens c.in_ok-kept.ensures.adds c.in_ok-kept.ensures.pays
+    (rule_begun (g.L.Linking.view c.args.symbol.now) c.args.symbol.now c.args.rows.now whole left c.args.language.now
+    c.enter.new.self c.args.next c.args.frames.now.items c.top-frame.result.now
+    (record {
+      rule = (slice_index_or c.args.rows.now c.args.next (record { rule = 0; from = 0; to = 0; end = 0 })).rule;
+      place =
+          (slice_index_or c.args.rows.now c.args.next (record { rule = 0; from = 0; to = 0; end = 0 })).from;
+      end =
+          (slice_index_or c.args.rows.now c.args.next (record { rule = 0; from = 0; to = 0; end = 0 })).end;
+      base = c.len.result;
+      kept =
+          c.in_ok-kept.kept;
+    })
+    c.args.parts.now.items c.enter.new.parts.items (slice_index_or c.args.rows.now c.args.next
+    (record { rule = 0; from = 0; to = 0; end = 0 })) (record { rule = 0; from = 0; to = 0; end = 0 })
+    (g.met.L.Linking.laws c.args.symbol.now) (c.top-frame.ensures.0, sym c.deref.ensures.value ∙ c.top-frame.ensures.1)
+    follows (c.requires.1 c.top-frame.result.now (
+      c.top-frame.ensures.0,
+      sym c.deref.ensures.value ∙
+          c.top-frame.ensures.1,
+    )).open_still refl c.if-row.false c.in_ok-kept.ensures.opens c.in_ok-kept.ensures.adds
+    c.in_ok-kept.ensures.pays
     refl refl refl (omega (arith, c.len.ensures, c.enter.new.parts.ok.0)))
 
 pub returns-clause-more : goal.returns-clause-more
 returns-clause-more g c =
-    more_rows (g.L.Linking.view c.args.symbol.now) c.args.symbol.now c.args.rows.now (waiting (c.requires.0 + 1)) c.args.language.now c.args.next c.args.frames.now.items c.top-frame.result.now c.args.parts.now.items
-    (record { rule = 0; from = 0; to = 0; end = 0 }) (g.met.L.Linking.laws c.args.symbol.now) (c.requires.1 c.top-frame.result.now (c.top-frame.ensures.0, sym c.deref.ensures.value ∙ c.top-frame.ensures.1))
+    more_rows (g.L.Linking.view c.args.symbol.now) c.args.symbol.now c.args.rows.now (waiting (c.requires.0 + 1))
+    c.args.language.now c.args.next c.args.frames.now.items c.top-frame.result.now c.args.parts.now.items
+    (record { rule = 0; from = 0; to = 0; end = 0 }) (g.met.L.Linking.laws c.args.symbol.now)
+    (c.requires.1 c.top-frame.result.now (c.top-frame.ensures.0, sym c.deref.ensures.value ∙ c.top-frame.ensures.1))
 
 pub returns-in_err-token-clause-few : goal.returns-in_err-token-clause-few
-returns-in_err-token-clause-few g c = few_two (g.L.Linking.view c.args.symbol.now) c.args.language.now c.token.new.self c.top-frame.result.now c.args.parts.now.items (g.met.L.Linking.laws c.args.symbol.now) c.in_err-token.ensures.few
+returns-in_err-token-clause-few g c = few_two (g.L.Linking.view c.args.symbol.now) c.args.language.now c.token.new.self
+    c.top-frame.result.now c.args.parts.now.items (g.met.L.Linking.laws c.args.symbol.now) c.in_err-token.ensures.few
 
 pub returns-then-row-clause-few : goal.returns-then-row-clause-few
-returns-then-row-clause-few g c = added_two (g.L.Linking.view c.args.symbol.now) c.args.language.now c.token.new.self c.top-frame.result.now c.args.parts.now.items _ (g.met.L.Linking.laws c.args.symbol.now) c.in_ok-token.ensures.adds
+returns-then-row-clause-few g c = added_two (g.L.Linking.view c.args.symbol.now) c.args.language.now c.token.new.self
+    c.top-frame.result.now c.args.parts.now.items _ (g.met.L.Linking.laws c.args.symbol.now) c.in_ok-token.ensures.adds
 
 pub returns-in_err-kept-clause-few : goal.returns-in_err-kept-clause-few
-returns-in_err-kept-clause-few g c = few_two (g.L.Linking.view c.args.symbol.now) c.args.language.now c.enter.new.self c.top-frame.result.now c.args.parts.now.items (g.met.L.Linking.laws c.args.symbol.now) c.in_err-kept.ensures.few
+returns-in_err-kept-clause-few g c = few_two (g.L.Linking.view c.args.symbol.now) c.args.language.now c.enter.new.self
+    c.top-frame.result.now c.args.parts.now.items (g.met.L.Linking.laws c.args.symbol.now) c.in_err-kept.ensures.few
 
 pub returns-clause-few : goal.returns-clause-few
 returns-clause-few g c =
-    c.settle.ensures.few (c.requires.1 c.top-frame.result.now (c.top-frame.ensures.0, sym c.deref.ensures.value ∙ c.top-frame.ensures.1)).whole c.requires.0 _
-    (rule_begun (g.L.Linking.view c.args.symbol.now) c.args.symbol.now c.args.rows.now (c.requires.1 c.top-frame.result.now (c.top-frame.ensures.0, sym c.deref.ensures.value ∙ c.top-frame.ensures.1)).whole c.requires.0 c.args.language.now c.enter.new.self c.args.next c.args.frames.now.items c.top-frame.result.now
-    (record { rule = (slice_index_or c.args.rows.now c.args.next (record { rule = 0; from = 0; to = 0; end = 0 })).rule; place = (slice_index_or c.args.rows.now c.args.next (record { rule = 0; from = 0; to = 0; end = 0 })).from; end = (slice_index_or c.args.rows.now c.args.next (record { rule = 0; from = 0; to = 0; end = 0 })).end; base = c.len.result; kept = c.in_ok-kept.kept })
-    c.args.parts.now.items c.enter.new.parts.items (slice_index_or c.args.rows.now c.args.next (record { rule = 0; from = 0; to = 0; end = 0 })) (record { rule = 0; from = 0; to = 0; end = 0 }) (g.met.L.Linking.laws c.args.symbol.now) (c.top-frame.ensures.0, sym c.deref.ensures.value ∙ c.top-frame.ensures.1)
-    (c.requires.1 c.top-frame.result.now (c.top-frame.ensures.0, sym c.deref.ensures.value ∙ c.top-frame.ensures.1)).follows (c.requires.1 c.top-frame.result.now (c.top-frame.ensures.0, sym c.deref.ensures.value ∙ c.top-frame.ensures.1)).open_still refl c.if-row.false c.in_ok-kept.ensures.opens c.in_ok-kept.ensures.adds c.in_ok-kept.ensures.pays
+    c.settle.ensures.few (c.requires.1 c.top-frame.result.now
+    (c.top-frame.ensures.0, sym c.deref.ensures.value ∙ c.top-frame.ensures.1)).whole c.requires.0 _
+    (rule_begun (g.L.Linking.view c.args.symbol.now) c.args.symbol.now c.args.rows.now
+    (c.requires.1 c.top-frame.result.now (c.top-frame.ensures.0, sym c.deref.ensures.value ∙ c.top-frame.ensures.1)).whole
+    c.requires.0 c.args.language.now c.enter.new.self c.args.next c.args.frames.now.items c.top-frame.result.now
+    (record {
+      rule = (slice_index_or c.args.rows.now c.args.next (record { rule = 0; from = 0; to = 0; end = 0 })).rule;
+      place =
+          (slice_index_or c.args.rows.now c.args.next (record { rule = 0; from = 0; to = 0; end = 0 })).from;
+      end =
+          (slice_index_or c.args.rows.now c.args.next (record { rule = 0; from = 0; to = 0; end = 0 })).end;
+      base = c.len.result;
+      kept =
+          c.in_ok-kept.kept;
+    })
+    c.args.parts.now.items c.enter.new.parts.items (slice_index_or c.args.rows.now c.args.next
+    (record { rule = 0; from = 0; to = 0; end = 0 })) (record { rule = 0; from = 0; to = 0; end = 0 })
+    (g.met.L.Linking.laws c.args.symbol.now) (c.top-frame.ensures.0, sym c.deref.ensures.value ∙ c.top-frame.ensures.1)
+    (c.requires.1 c.top-frame.result.now (c.top-frame.ensures.0, sym c.deref.ensures.value ∙ c.top-frame.ensures.1)).follows
+    (c.requires.1 c.top-frame.result.now (c.top-frame.ensures.0, sym c.deref.ensures.value ∙ c.top-frame.ensures.1)).open_still
+    refl c.if-row.false c.in_ok-kept.ensures.opens c.in_ok-kept.ensures.adds c.in_ok-kept.ensures.pays
     refl refl refl (omega (arith, c.len.ensures, c.enter.new.parts.ok.0)))
 
 pub token-requires-clause-base : goal.token-requires-clause-base
 token-requires-clause-base g c =
-    (token_asks (g.L.Linking.view c.args.symbol.now) c.args.symbol.now c.args.rows.now (waiting (c.requires.0 + 1)) c.args.language.now c.args.next c.args.frames.now.items c.top-frame.result.now c.args.parts.now.items
-    (slice_index_or c.args.rows.now c.args.next (record { rule = 0; from = 0; to = 0; end = 0 })) (record { rule = 0; from = 0; to = 0; end = 0 }) (g.met.L.Linking.laws c.args.symbol.now) (c.requires.1 c.top-frame.result.now (c.top-frame.ensures.0, sym c.deref.ensures.value ∙ c.top-frame.ensures.1)) refl c.if-row.true).base
+    (token_asks (g.L.Linking.view c.args.symbol.now) c.args.symbol.now c.args.rows.now (waiting (c.requires.0 + 1))
+    c.args.language.now c.args.next c.args.frames.now.items c.top-frame.result.now c.args.parts.now.items
+    (slice_index_or c.args.rows.now c.args.next (record { rule = 0; from = 0; to = 0; end = 0 }))
+    (record { rule = 0; from = 0; to = 0; end = 0 }) (g.met.L.Linking.laws c.args.symbol.now)
+    (c.requires.1 c.top-frame.result.now (c.top-frame.ensures.0, sym c.deref.ensures.value ∙ c.top-frame.ensures.1)) refl
+    c.if-row.true).base
 
 pub enter-requires-clause-base : goal.enter-requires-clause-base
 enter-requires-clause-base g c =
-    (rule_asks (g.L.Linking.view c.args.symbol.now) c.args.symbol.now c.args.rows.now (waiting (c.requires.0 + 1)) c.args.language.now c.args.next c.args.frames.now.items c.top-frame.result.now c.args.parts.now.items
-    (slice_index_or c.args.rows.now c.args.next (record { rule = 0; from = 0; to = 0; end = 0 })) (record { rule = 0; from = 0; to = 0; end = 0 }) (g.met.L.Linking.laws c.args.symbol.now) (c.requires.1 c.top-frame.result.now (c.top-frame.ensures.0, sym c.deref.ensures.value ∙ c.top-frame.ensures.1)) refl c.if-row.false).base
+    (rule_asks (g.L.Linking.view c.args.symbol.now) c.args.symbol.now c.args.rows.now (waiting (c.requires.0 + 1))
+    c.args.language.now c.args.next c.args.frames.now.items c.top-frame.result.now c.args.parts.now.items
+    (slice_index_or c.args.rows.now c.args.next (record { rule = 0; from = 0; to = 0; end = 0 }))
+    (record { rule = 0; from = 0; to = 0; end = 0 }) (g.met.L.Linking.laws c.args.symbol.now)
+    (c.requires.1 c.top-frame.result.now (c.top-frame.ensures.0, sym c.deref.ensures.value ∙ c.top-frame.ensures.1)) refl
+    c.if-row.false).base
 
 pub overflow_add-result : goal.overflow_add-result
 overflow_add-result g c =
-    omega (arith, more_rows (g.L.Linking.view c.args.symbol.now) c.args.symbol.now c.args.rows.now (waiting (c.requires.0 + 1)) c.args.language.now c.args.next c.args.frames.now.items c.top-frame.result.now c.args.parts.now.items (record { rule = 0; from = 0; to = 0; end = 0 }) (g.met.L.Linking.laws c.args.symbol.now) (c.requires.1 c.top-frame.result.now (c.top-frame.ensures.0, sym c.deref.ensures.value ∙ c.top-frame.ensures.1)), (c.requires.1 c.top-frame.result.now (c.top-frame.ensures.0, sym c.deref.ensures.value ∙ c.top-frame.ensures.1)).fits.rows, (c.requires.1 c.top-frame.result.now (c.top-frame.ensures.0, sym c.deref.ensures.value ∙ c.top-frame.ensures.1)).fits.symbol)
+    omega (
+      arith,
+      more_rows (g.L.Linking.view c.args.symbol.now) c.args.symbol.now c.args.rows.now (waiting (c.requires.0 + 1))
+          c.args.language.now c.args.next c.args.frames.now.items c.top-frame.result.now c.args.parts.now.items
+          (record { rule = 0; from = 0; to = 0; end = 0 }) (g.met.L.Linking.laws c.args.symbol.now)
+          (c.requires.1 c.top-frame.result.now (c.top-frame.ensures.0, sym c.deref.ensures.value ∙ c.top-frame.ensures.1)),
+      (c.requires.1 c.top-frame.result.now (c.top-frame.ensures.0, sym c.deref.ensures.value ∙ c.top-frame.ensures.1)).fits.rows,
+      (c.requires.1 c.top-frame.result.now (c.top-frame.ensures.0, sym c.deref.ensures.value ∙ c.top-frame.ensures.1)).fits.symbol,
+    )
 
 pub overflow_add-next : goal.overflow_add-next
 overflow_add-next g c =
-    omega (arith, more_rows (g.L.Linking.view c.args.symbol.now) c.args.symbol.now c.args.rows.now (waiting (c.requires.0 + 1)) c.args.language.now c.args.next c.args.frames.now.items c.top-frame.result.now c.args.parts.now.items (record { rule = 0; from = 0; to = 0; end = 0 }) (g.met.L.Linking.laws c.args.symbol.now) (c.requires.1 c.top-frame.result.now (c.top-frame.ensures.0, sym c.deref.ensures.value ∙ c.top-frame.ensures.1)), (c.requires.1 c.top-frame.result.now (c.top-frame.ensures.0, sym c.deref.ensures.value ∙ c.top-frame.ensures.1)).fits.rows, (c.requires.1 c.top-frame.result.now (c.top-frame.ensures.0, sym c.deref.ensures.value ∙ c.top-frame.ensures.1)).fits.symbol)
+    omega (
+      arith,
+      more_rows (g.L.Linking.view c.args.symbol.now) c.args.symbol.now c.args.rows.now (waiting (c.requires.0 + 1))
+          c.args.language.now c.args.next c.args.frames.now.items c.top-frame.result.now c.args.parts.now.items
+          (record { rule = 0; from = 0; to = 0; end = 0 }) (g.met.L.Linking.laws c.args.symbol.now)
+          (c.requires.1 c.top-frame.result.now (c.top-frame.ensures.0, sym c.deref.ensures.value ∙ c.top-frame.ensures.1)),
+      (c.requires.1 c.top-frame.result.now (c.top-frame.ensures.0, sym c.deref.ensures.value ∙ c.top-frame.ensures.1)).fits.rows,
+      (c.requires.1 c.top-frame.result.now (c.top-frame.ensures.0, sym c.deref.ensures.value ∙ c.top-frame.ensures.1)).fits.symbol,
+    )
 
 pub returns-clause-keeps : goal.returns-clause-keeps
 returns-clause-keeps g c =
@@ -172,8 +311,10 @@ returns-in_err-token-clause-full g c =
     let p = err_from_is_err_and c.from_residual.result c.from_residual.ensures.1 in
     rw (p.1, p.2)
     (only_refused _ (TokenTakesMemory view c.args.symbol.now) before before after_token c.in_err-token.field-0.0
-    (token_there view c.args.symbol.now c.args.rows.now (waiting (c.requires.0 + 1)) c.args.language.now c.args.next c.args.frames.now.items c.top-frame.result.now c.args.parts.now.items
-    (slice_index_or c.args.rows.now c.args.next (record { rule = 0; from = 0; to = 0; end = 0 })) (record { rule = 0; from = 0; to = 0; end = 0 }) (g.met.L.Linking.laws c.args.symbol.now)
+    (token_there view c.args.symbol.now c.args.rows.now (waiting (c.requires.0 + 1)) c.args.language.now c.args.next
+    c.args.frames.now.items c.top-frame.result.now c.args.parts.now.items
+    (slice_index_or c.args.rows.now c.args.next (record { rule = 0; from = 0; to = 0; end = 0 }))
+    (record { rule = 0; from = 0; to = 0; end = 0 }) (g.met.L.Linking.laws c.args.symbol.now)
     (c.requires.1 c.top-frame.result.now (c.top-frame.ensures.0, sym c.deref.ensures.value ∙ c.top-frame.ensures.1)) refl c.if-row.true)
     (room_same before)
     (list_more _ (one_by_one c.args.frames.now) (one_by_one c.args.frames.now) own_before own_after_token
@@ -188,6 +329,7 @@ returns-in_err-kept-clause-full g c =
     let own_after_enter = lists_with view c.enter.new.self c.enter.new.parts in
     let p = err_from_is_err_and c.from_residual-in_err-kept.result c.from_residual-in_err-kept.ensures.1 in
     rw (p.1, p.2)
-    (only_refused ⊥ (TokenTakesMemory view c.args.symbol.now) before before after_enter c.in_err-kept.field-0.0 (λ none. absurd none) (room_same before)
+    (only_refused ⊥ (TokenTakesMemory view c.args.symbol.now) before before after_enter c.in_err-kept.field-0.0
+    (λ none. absurd none) (room_same before)
     (list_more ⊥ (one_by_one c.args.frames.now) (one_by_one c.args.frames.now) own_before own_after_enter
     (Err c.in_err-kept.field-0.0) c.in_err-kept.ensures.full))
