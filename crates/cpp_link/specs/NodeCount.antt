@@ -26,8 +26,8 @@ one_if_there v = if is_there v then 1 else 0
 
 -- A name in std is made behind its piece, and once more behind its arguments, if it has some.
 unfoldable pub std_before : List Value → ℕ
-std_before (piece ∷ []) = 1
-std_before (piece ∷ arguments ∷ []) = one_if_there arguments
+std_before (name ∷ []) = 1
+std_before (name ∷ arguments ∷ []) = one_if_there arguments
 std_before _ = 0
 
 -- A pack is made of elements. That of none is one that each table begins with.
