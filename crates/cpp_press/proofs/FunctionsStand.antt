@@ -111,7 +111,7 @@ first-is around allowed (Some m) b one other = (inr refl, go one other)
     go (inr named) (inl none) = inl none
     go (inr named) (inr same) = inr (same.1 ∙ sym named.1)
 
-first-fits : (around : Around) (allowed a b : Option ℕ) → PacksFit around allowed a → PacksFit around allowed b
+pub first-fits : (around : Around) (allowed a b : Option ℕ) → PacksFit around allowed a → PacksFit around allowed b
     → PacksFit around allowed (first_of a b)
 unfolding first_of
 first-fits around allowed None b one other = other

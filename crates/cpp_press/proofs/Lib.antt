@@ -17,6 +17,23 @@ pub mod AddedNames
 pub mod AddedTrees
 pub mod Again
 pub mod FunctionsStand
+pub mod ReadFits
+pub mod ReadFitsTypes
+pub mod ReadFitsLists
+pub mod ReadFitsReferences
+pub mod ReadFitsArguments
+pub mod ReadFitsSolids
+pub mod ReadFitsFound
+pub mod ReadFitsNames
+pub mod ReadFitsTemplates
+pub mod ReadFitsNests
+pub mod ReadFitsPieces
+pub mod ReadFitsEncodings
+pub mod ReadFitsSymbols
+pub mod ReadFitsLocals
+pub mod ReadFitsKinds
+pub mod ReadFitsTyped
+pub mod ReadFitsRests
 pub mod Tokens
 pub mod Reading
 pub mod ReadingReferences
@@ -54,5 +71,10 @@ pub mod FittingLaw
 pub mod Counting
 pub mod FewTrees
 pub mod FewComponents
+pub mod ReadRules
+pub mod ReadLeaves
+pub mod ReadFitsPlaces
+pub mod ReadPacks
+pub mod ReadSuffixes
 pub mod ReadLaw
 mod FitRows

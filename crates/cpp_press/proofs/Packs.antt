@@ -73,6 +73,7 @@ StayNamed old new = (m : ℕ) → old.packs ≡ Some m → new.packs ≡ Some m
 pub record PacksNamed (in_expansion : Bool) (packs : Option ℕ) (old new : State) : Type 0 where
   pub stay : StayNamed old new
   pub are : (packs ≡ None) ⊎ ((in_expansion ≡ true) × (packs ≡ new.packs))
+  pub candidates : new.candidates ≡ old.candidates
 
 none-some : {a : ℕ} → ◌≡◌ {A = Option ℕ} None (Some a) → ⊥
 none-some h = cc
@@ -81,7 +82,7 @@ pub packs-named : (place : ℕ) (in_expansion : Bool) (packs : Option ℕ) (old 
     → PacksNamed in_expansion packs old new
 unfolding with_packs
 packs-named place in_expansion None old new e =
-    record { stay = λ m is. ap (λ s. s.packs) (sym (ok_same old new e)) ∙ is; are = inl refl }
+    record { stay = λ m is. ap (λ s. s.packs) (sym (ok_same old new e)) ∙ is; are = inl refl; candidates = ap (λ s. s.candidates) (sym (ok_same old new e)) }
 packs-named place false (Some m) old new e = absurd cc
 packs-named place true (Some m) old new e = go old.packs refl e
   where
@@ -90,7 +91,7 @@ packs-named place true (Some m) old new e = go old.packs refl e
         → PacksNamed true (Some m) old new
     tested n is true same h =
         let kept : old.packs ≡ new.packs = ap (λ s. s.packs) (ok_same old new h) in
-        record { stay = λ k named. sym kept ∙ named; are = inr (refl, ap (λ k. Some k) (eqb-true m n same) ∙ sym is ∙ kept) }
+        record { stay = λ k named. sym kept ∙ named; are = inr (refl, ap (λ k. Some k) (eqb-true m n same) ∙ sym is ∙ kept); candidates = ap (λ s. s.candidates) (sym (ok_same old new h)) }
     tested n is false same h = absurd cc
 
     go : (o : Option ℕ) → old.packs ≡ o → ◌≡◌ {A = Result State Refusal} (elim o [
@@ -99,5 +100,5 @@ packs-named place true (Some m) old new e = go old.packs refl e
     ]) (Ok new) → PacksNamed true (Some m) old new
     go None is h =
         let now : Some m ≡ new.packs = ap (λ s. s.packs) (ok_same (record old { packs = Some m }) new h) in
-        record { stay = λ k named. absurd (none-some (sym is ∙ named)); are = inr (refl, now) }
+        record { stay = λ k named. absurd (none-some (sym is ∙ named)); are = inr (refl, now); candidates = ap (λ s. s.candidates) (sym (ok_same (record old { packs = Some m }) new h)) }
     go (Some n) is h = tested n is (nat_eq m n) refl h
