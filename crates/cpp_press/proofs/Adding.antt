@@ -88,10 +88,6 @@ at-once G place cs fits = let same : place + 0 ≡ place = omega arith in subst 
 pub text-adds : (n : ℕ) (F : Standing) (bytes : List ℕ) → Adds n No F (text bytes)
 text-adds n F bytes place cs fits complete = none-added n cs complete
 
-pub bytes-and-adds : (n : ℕ) (P : Term → Type 0) (F : Standing) (bytes : List ℕ) (rest : Spelling) → Adds n P F rest
-    → Adds n P (λ place cs. F (place + length bytes) cs) (text bytes and rest)
-bytes-and-adds n P F bytes rest one place cs fits complete = one (place + length bytes) cs fits complete
-
 pub and-adds : (n : ℕ) (P Q : Term → Type 0) (F G : Standing) (first rest : Spelling) → Adds n P F first → Adds n Q G rest
     → Adds n (Either P Q) (λ place cs. F place cs × Behind first G place cs) (first and rest)
 and-adds n P Q F G first rest one more place cs (fits, behind) complete =

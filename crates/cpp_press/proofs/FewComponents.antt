@@ -34,12 +34,6 @@ few-letters [] around allowed place cs own between fit_own fit_between h one two
 few-letters (l ∷ ls) around allowed place cs own between fit_own fit_between h one two =
     few-nested 0 (l ∷ ls) between place cs (two (place + length (codes "N" ++ l ∷ ls)) h)
 
-few-own : (letters : List ℕ) (own : Spelling) (place : ℕ) (cs : List Candidate) → FewBy 1 cs (own place cs)
-    → FewBy 1 cs (own (place + length (codes "N" ++ letters)) cs) → FewBy 0 cs (with_letters letters own own place cs)
-unfolding with_letters
-few-own [] own place cs one two = omega (arith, one)
-few-own (l ∷ ls) own place cs one two = omega (arith, few-nested 1 (l ∷ ls) own place cs two)
-
 few-no-letters : (own : Spelling) (place : ℕ) (cs : List Candidate) → FewBy 1 cs (own place cs)
     → FewBy 0 cs (with_letters [] own own place cs)
 unfolding with_letters

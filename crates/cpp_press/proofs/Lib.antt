@@ -34,6 +34,8 @@ pub mod ReadFitsLocals
 pub mod ReadFitsKinds
 pub mod ReadFitsTyped
 pub mod ReadFitsRests
+pub mod ReadFitsFirsts
+pub mod ReadFitsOwn
 pub mod Tokens
 pub mod Reading
 pub mod ReadingReferences
@@ -76,5 +78,21 @@ pub mod ReadLeaves
 pub mod ReadFitsPlaces
 pub mod ReadPacks
 pub mod ReadSuffixes
+pub mod ReadKindsLeaves
+pub mod ReadPieces
+pub mod ReadKindsPieces
+pub mod ReadKindsArguments
 pub mod ReadLaw
+pub mod ReadKinds
+pub mod ReadKindsPieced
+pub mod ReadKindsEncodings
+pub mod ReadKindsEntities
+pub mod ReadKindsTypes
+pub mod ReadKindsSolids
+pub mod ReadKindsReferences
+pub mod ReadKindsEmpty
+pub mod ReadKindsRoot
+pub mod ReadKindsNests
+pub mod ReadKindsNames
+pub mod ReadShapes
 mod FitRows

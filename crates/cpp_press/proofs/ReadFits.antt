@@ -54,6 +54,17 @@ pub record Fitted (around : Around) (F : Fitting) (spelled : ℕ → Spelling) (
   pub fits : (n place : ℕ) (cs : List Candidate) (allowed : Option ℕ) → Front around n place cs old → Allows allowed new.packs
       → PartFits around F spelled t n allowed place cs new
 
+-- what is so wherever components stand in front of what was read from this state
+abbrev pub Wherever : Around → State → Type 0 → Type 0
+Wherever around old So = (n place : ℕ) (cs : List Candidate) → Front around n place cs old → So
+
+pub fitted-wherever : (around : Around) (F : Fitting) (s : ℕ → Spelling) (t : Term) (old new : State) (So : Type 0) → StayNamed old new
+    → Wherever around old So → (So → Fitted around F s t old new) → Fitted around F s t old new
+fitted-wherever around F s t old new So stay so one = record {
+  stay = stay;
+  fits = λ n place cs allowed front allows. (one (so n place cs front)).fits n place cs allowed front allows;
+}
+
 -- ## Candidates
 
 pub functions-append : (scope : Option Term) (read : ℕ) (cs ds : List Candidate) → FunctionsStand scope read cs → FunctionsStand scope read ds

@@ -177,7 +177,7 @@ functions-typed scope at (c ∷ cs) shut stand = (
   functions-typed scope at cs shut.1 stand.1,
 )
 
-functions-bare : (scope : Option Term) (at : ℕ) (cs : List Candidate) → FunctionsStand scope at cs → FunctionsStand None at cs
+pub functions-bare : (scope : Option Term) (at : ℕ) (cs : List Candidate) → FunctionsStand scope at cs → FunctionsStand None at cs
 functions-bare scope at [] stand = tt
 functions-bare scope at (c ∷ cs) stand = (
   λ may. stands-moved scope None c.tree (inl refl) (stand.0 may),

@@ -141,10 +141,6 @@ unfolding is_open pack_length
 within-may around t p n allowed one other =
     may-as-two (pressed_at n around) allowed t p (within t p) refl (λ arguments. refl) one other
 
--- a prefix and a piece, as they stand between N and E
-abbrev pub JoinedFits : Around → (t p : Term) → Fitting → (old now : State) → Type 0
-JoinedFits around t p F old now = Fitted around F (λ n. (ways_of n t).as_prefix and (ways_of n p).as_piece) (within t p) old now
-
 -- a piece behind a prefix
 pub within-joined : (around : Around) (t p : Term) (old mid now : State) → names_member p ≡ true → PrefixFits around t old mid
     → PieceFits (after t true around) p mid now → BetweenFits around (within t p) old now

@@ -4,7 +4,7 @@ use Rattle.std.specs.Prelude.{codes}
 use Rattle.sym_spell.specs.Pressing.{◌and◌, text}
 use Rattle.cpp_grammar.specs.Term.{Qualifiers, RefQualifier, Term, in_std, within, instance}
 use Rattle.cpp_grammar.specs.Values.{Candidate, State, Around}
-use Rattle.cpp_grammar.specs.References.{appended}
+use Rattle.cpp_grammar.specs.References.{appended, is_function_type}
 use Rattle.cpp_press.specs.Texts.{name_letters}
 use Rattle.cpp_press.specs.Components.{Spelling}
 use Rattle.cpp_press.specs.Pressing.{no_ways, name_ways, in_N_and_E, with_letters, is_operator, is_encoding, is_one_piece, entity_text, ways_of}
@@ -12,7 +12,7 @@ use Rattle.cpp_press.proofs.Parts.{IsComponent, Whole}
 use Rattle.cpp_press.proofs.Known.{KeepsTo, in-N-and-E-keeps}
 use Rattle.cpp_press.proofs.KnownTrees.{keeps}
 use Rattle.cpp_press.proofs.Fit.{Fitting, Slot, Role, letters_of, by_letters, fits_of}
-use Rattle.cpp_press.proofs.ReadFits.{pressed_at, Fitted, refitted, bytes-fitted, fitted-bytes, component-fitted}
+use Rattle.cpp_press.proofs.ReadFits.{pressed_at, Fitted, Wherever, fitted-wherever, refitted, bytes-fitted, fitted-bytes, component-fitted}
 use Rattle.cpp_press.proofs.ReadFitsTypes.{TypeFits, typed-complete}
 use Rattle.cpp_press.proofs.ReadFitsNames.{respelled, PrefixFits, BetweenFits, ElementsFit, arguments_text, arguments-keep, within-prefix, std-prefix, instance-between, instance-prefix}
 use Rattle.cpp_press.proofs.ReadFitsTemplates.{TemplateFits}
@@ -31,6 +31,7 @@ EntityFits around t role old now =
 pub record NestFits (around : Around) (t : Term) (old now : State) : Type 0 where
   pub is : IsComponent t
   pub apart : is_encoding t ≡ false
+  pub plain : is_function_type t ≡ false
   pub alike : (n : ℕ) → (ways_of n t).under_qualifiers ≡ (ways_of n t).as_type
   pub between : BetweenFits around t old now
   pub prefix : PrefixFits around t old (appended around t now)
@@ -57,30 +58,36 @@ letters-fitted [] around F G own between t old now one other = one
 letters-fitted (l ∷ ls) around F G own between t old now one other = nested-fitted around (l ∷ ls) G between t old now other
 
 -- an entity of more than a piece
-nested-entity : (around : Around) (t : Term) (role : Role) (old now : State) → is_one_piece t ≡ false
+nested-entity : (around : Around) (t : Term) (role : Role) (old now : State) → Wherever around old (is_one_piece t ≡ false)
     → ((n : ℕ) (allowed : Option ℕ) (place : ℕ) (cs : List Candidate)
     → (fits_of t).between (pressed_at n around) allowed (place + length (codes "N" ++ letters_of role)) cs
     → (fits_of t).as_entity role (pressed_at n around) allowed place cs)
     → BetweenFits around t old now → EntityFits around t role old now
 unfolding entity_text
 nested-entity around t role old now apart more one =
-    let letters = letters_of role in
-    let s : ℕ → Spelling = λ n. (ways_of n t).between_N_and_E in
-    respelled around ((fits_of t).as_entity role) (λ n. in_N_and_E letters (s n)) (λ n. entity_text t letters (s n)) t old now
-    (λ n place cs. sym (ap (λ b. (elim b as (λ _. Spelling) [ true ↦ s n | false ↦ in_N_and_E letters (s n) ]) place cs) apart))
+    fitted-wherever around ((fits_of t).as_entity role) (λ n. entity_text t letters (s n)) t old now (is_one_piece t ≡ false) one.stay apart
+    (λ known. respelled around ((fits_of t).as_entity role) (λ n. in_N_and_E letters (s n)) (λ n. entity_text t letters (s n)) t old now
+    (λ n place cs. sym (ap (λ b. (elim b as (λ _. Spelling) [ true ↦ s n | false ↦ in_N_and_E letters (s n) ]) place cs) known))
     (refitted around (λ inner allowed place cs. (fits_of t).between inner allowed (place + length (codes "N" ++ letters)) cs)
     ((fits_of t).as_entity role) (λ n. in_N_and_E letters (s n)) t t old now more (λ n allowed may. may)
-    (nested-fitted around letters (fits_of t).between s t old now one))
+    (nested-fitted around letters (fits_of t).between s t old now one)))
+  where
+    letters : List ℕ
+    letters = letters_of role
+
+    s : ℕ → Spelling
+    s n = (ways_of n t).between_N_and_E
 
 -- ## Names
 
 -- a piece behind a prefix
-pub within-nest : (around : Around) (t p : Term) (old now : State) → is_encoding t ≡ false → BetweenFits around (within t p) old now
-    → NestFits around (within t p) old now
-unfolding fits_of ways_of name_ways no_ways is_encoding is_one_piece with_letters
+pub within-nest : (around : Around) (t p : Term) (old now : State) → Wherever around old (is_encoding t ≡ false)
+    → BetweenFits around (within t p) old now → NestFits around (within t p) old now
+unfolding fits_of ways_of name_ways no_ways is_encoding is_function_type is_one_piece with_letters
 within-nest around t p old now apart one = record {
   is = tt;
   apart = refl;
+  plain = refl;
   alike = λ n. refl;
   between = one;
   prefix = within-prefix around t p old now one;
@@ -108,10 +115,11 @@ within-nest around t p old now apart one = record {
 
 -- a piece behind St
 pub std-nest : (around : Around) (p : Term) (old now : State) → BetweenFits around (in_std p) old now → NestFits around (in_std p) old now
-unfolding fits_of ways_of name_ways no_ways is_encoding is_one_piece
+unfolding fits_of ways_of name_ways no_ways is_encoding is_function_type is_one_piece
 std-nest around p old now one = record {
   is = tt;
   apart = refl;
+  plain = refl;
   alike = λ n. refl;
   between = one;
   prefix = std-prefix around p old now one;
@@ -121,7 +129,7 @@ std-nest around p old now one = record {
       (λ n allowed place cs fits complete. typed-complete own (λ m. refl) slot (pressed_at n around) allowed place cs fits complete)
       (spelled (is_operator p));
   own = λ q ref. letters-fitted (name_letters q ref) around std std between between own old now one one;
-  entity = λ role. nested-entity around own role old now refl (λ n allowed place cs fits. fits) one;
+  entity = λ role. nested-entity around own role old now (λ n place cs front. refl) (λ n allowed place cs fits. fits) one;
 }
   where
     own : Term
@@ -150,12 +158,13 @@ std-nest around p old now one = record {
 -- a template name and its arguments
 pub instance-nest : (around : Around) (t a : Term) (old mid now : State) → TemplateFits around t old mid
     → ElementsFit around a (appended around t mid) now → NestFits around (instance t a) old now
-unfolding fits_of ways_of name_ways no_ways is_encoding
+unfolding fits_of ways_of name_ways no_ways is_encoding is_function_type
 instance-nest around t a old mid now one other =
     let between = instance-between around t a old mid now one.is one.stands one.between other in
     record {
       is = tt;
       apart = refl;
+      plain = refl;
       alike = λ n. refl;
       between = between;
       prefix = instance-prefix around t a old (appended around t mid) now one.prefix other;

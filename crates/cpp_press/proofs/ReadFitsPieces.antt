@@ -16,7 +16,7 @@ use Rattle.cpp_press.proofs.AddedWays.{in-component}
 use Rattle.cpp_press.proofs.AddedTrees.{adds}
 use Rattle.cpp_press.proofs.ReadFits.{pressed_at, Fitted, refitted, component-fitted}
 use Rattle.cpp_press.proofs.ReadFitsTypes.{TypeFits, typed-complete, may-as, may-as-two, may-closed}
-use Rattle.cpp_press.proofs.ReadFitsNames.{respelled, PrefixFits, TemplatePrefixFits, PieceFits, ElementsFit, arguments_standing, arguments_text, arguments-keep, prefix-component, prefix-of-encoding}
+use Rattle.cpp_press.proofs.ReadFitsNames.{respelled, PrefixFits, TemplatePrefixFits, PieceFits, ElementsFit, arguments_standing, arguments_text, prefix-component, prefix-of-encoding}
 use Rattle.cpp_press.proofs.ReadFitsTemplates.{template-fitted, spelled-before, nothing-and}
 use Rattle.cpp_press.proofs.ReadFitsNests.{OwnNameFits, EntityFits}
 
@@ -84,20 +84,6 @@ alone-before around p a typed old mid now outer names one other =
     (spelled-before around own a H s old mid now tt tt (λ n allowed place cs fits complete. (adds p).as_piece (pressed_at n around) allowed place
     cs fits.2 complete) spelled other)
     other
-
--- with arguments, in a type
-pub alone-instance-typed : (around : Around) (p a : Term) (slot : Slot) (old mid now : State) → around.prefix ≡ outermost → names_type p ≡ true
-    → PieceFits around p old mid → ElementsFit around a (appended around (alone p) mid) now
-    → TypeFits around slot (instance (alone p) a) old (appended around (instance (alone p) a) now)
-unfolding fits_of ways_of name_ways no_ways
-alone-instance-typed around p a slot old mid now outer names one other =
-    let own : Term = instance (alone p) a in
-    component-fitted around own _ _ old now tt
-    (λ n. (keeps (alone p) Unit n (Whole own)).before (λ x w. inr (inl w)) true (arguments_text a n)
-    (arguments-keep n (Whole own) a (λ x i. inr (inr i))))
-    (λ n allowed place cs fits. tt)
-    (λ n allowed place cs fits complete. typed-complete own (λ m. refl) slot (pressed_at n around) allowed place cs fits complete)
-    (alone-before around p a true old mid now outer names one other)
 
 -- with arguments, as an encoding's own name
 pub alone-instance-own : (around : Around) (p a : Term) (q : Qualifiers) (ref : RefQualifier) (old mid now : State) → around.prefix ≡ outermost

@@ -13,12 +13,12 @@ use Rattle.cpp_grammar.specs.Between.{in_name, in_types}
 use Rattle.cpp_grammar.specs.Meaning.{is_void, is_nil, parameters}
 use Rattle.cpp_press.specs.Texts.{name_letters, thunk_text}
 use Rattle.cpp_press.specs.Components.{Spelling}
-use Rattle.cpp_press.specs.Pressing.{no_ways, encoding_ways, begun, ways_of}
+use Rattle.cpp_press.specs.Pressing.{no_ways, type_ways, name_ways, encoding_ways, piece_ways, argument_ways, begun, ways_of}
 use Rattle.cpp_press.proofs.Complete.{AllBefore}
-use Rattle.cpp_press.proofs.Fit.{Standing, Fitting, Slot, any_type, item_type, Behind, either, encoding_fits, fits_nowhere, IsSpellableThunk, fits_of}
+use Rattle.cpp_press.proofs.Fit.{Standing, Fitting, Slot, any_type, item_type, Behind, either, type_fits, piece_fits, argument_fits, encoding_fits, fits_nowhere, IsSpellableThunk, fits_of}
 use Rattle.cpp_press.proofs.ReadFits.{pressed_at, Fitted, refitted, behind-both, and-fitted, bytes-fitted}
 use Rattle.cpp_press.proofs.ReadFitsTypes.{TypeFits, may-closed}
-use Rattle.cpp_press.proofs.ReadFitsLists.{ListFits, IsList, void-adds-none}
+use Rattle.cpp_press.proofs.ReadFitsLists.{ListFits, void-adds-none}
 use Rattle.cpp_press.proofs.ReadFitsNests.{OwnNameFits}
 use Rattle.cpp_press.proofs.ReadFitsEncodings.{AllAfter, AllShut, encoding-fitted, types-fitted}
 
@@ -35,17 +35,7 @@ abbrev pub WholeFits : Around → Term → (old new : State) → Type 0
 WholeFits around e old new =
     Fitted around (λ inner allowed place cs. (fits_of e).as_encoding allowed place cs) (λ n. (ways_of n e).as_encoding) e old new
 
--- ## Data
-
-pub object-fits : (around : Around) (at : ℕ) (name : Term) (q : Qualifiers) (ref : RefQualifier) (old new : State) → StaysBehind around at old new
-    → OwnNameFits (in_name at) name q ref old new → WholeFits around (object name q ref) old new
-unfolding fits_of encoding_fits fits_nowhere ways_of encoding_ways no_ways begun is_open in_name
-object-fits around at name q ref old new stays one =
-    encoding-fitted around at (object name q ref) ((fits_of name).as_name q ref) (λ n. (ways_of n name).as_name (name_letters q ref)) old new
-    stays.more refl stays.grows stays.before stays.later (λ allowed place cs fits. fits) (λ n place cs. refl)
-    (refitted (in_name at) ((fits_of name).as_name q ref) ((fits_of name).as_name q ref) (λ n. (ways_of n name).as_name (name_letters q ref)) name
-    (object name q ref) old new (λ n allowed place cs fits. fits)
-    (λ n allowed may. may-closed (pressed_at n (in_name at)) allowed (object name q ref) refl) one)
+-- ## Guards and special encodings
 
 pub guard-fits : (around : Around) (at : ℕ) (name : Term) (q : Qualifiers) (ref : RefQualifier) (old new : State) → StaysBehind around at old new
     → OwnNameFits (in_name at) name q ref old new → WholeFits around (guard name q ref) old new
@@ -99,30 +89,30 @@ at-end G place cs fits = subst (λ p. G p cs) (at-zero place) fits
 
 -- parameters, where a lone void is no parameters
 parameters-standing : (slot : Slot) (t : Term) (around : Around) (allowed : Option ℕ) (place : ℕ) (cs : List Candidate)
-    → (fits_of t).as_more_parameters slot around allowed place cs → IsList t → (fits_of (parameters t)).as_parameters slot around allowed place cs
-unfolding fits_of fits_nowhere parameters
-parameters-standing slot nil around allowed place cs fits is = tt
-parameters-standing slot (list a b) around allowed place cs fits is = go (is_void a && is_nil b) refl
+    → (fits_of t).as_more_parameters slot around allowed place cs → (fits_of (parameters t)).as_parameters slot around allowed place cs
+unfolding fits_of type_fits piece_fits argument_fits encoding_fits fits_nowhere parameters
+parameters-standing slot nil around allowed place cs fits = tt
+parameters-standing slot (list a b) around allowed place cs fits = go (is_void a && is_nil b) refl
   where
     go : (c : Bool) → is_void a && is_nil b ≡ c
         → (fits_of (elim c as (λ _. Term) [ true ↦ nil | false ↦ list a b ])).as_parameters slot around allowed place cs
     go true void = tt
     go false others = (others, fits)
-parameters-standing slot (symbol e suffix) around allowed place cs fits is = absurd is
-parameters-standing slot _ around allowed place cs fits is = absurd is
+parameters-standing slot (symbol e suffix) around allowed place cs fits = absurd fits
+parameters-standing slot _ around allowed place cs fits = absurd fits
 
-parameters-components : (t : Term) (n place : ℕ) (cs : List Candidate) → IsList t
+parameters-components : (t : Term) (n place : ℕ) (cs : List Candidate)
     → ((ways_of n t).as_more_parameters place cs).components ≡ ((ways_of n (parameters t)).as_parameters place cs).components
-unfolding ways_of no_ways parameters
-parameters-components nil n place cs is = refl
-parameters-components (list a b) n place cs is = go (is_void a && is_nil b) refl
+unfolding ways_of type_ways name_ways encoding_ways piece_ways argument_ways no_ways parameters
+parameters-components nil n place cs = refl
+parameters-components (list a b) n place cs = go (is_void a && is_nil b) refl
   where
     go : (c : Bool) → is_void a && is_nil b ≡ c → ((ways_of n (list a b)).as_more_parameters place cs).components
         ≡ ((ways_of n (elim c as (λ _. Term) [ true ↦ nil | false ↦ list a b ])).as_parameters place cs).components
     go true void = void-adds-none a b void n place cs
     go false others = refl
-parameters-components (symbol e suffix) n place cs is = absurd is
-parameters-components _ n place cs is = absurd is
+parameters-components (symbol e suffix) n place cs = refl
+parameters-components _ n place cs = refl
 
 -- the name of an encoding and its types
 items-behind : (at : ℕ) (e name items : Term) (q : Qualifiers) (ref : RefQualifier) (old mid new : State) → is_open e ≡ false
@@ -138,11 +128,11 @@ items-behind at e name items q ref old mid new shut all one other =
     mid new shut all other)
 
 -- a function whose return type is spelled
-pub returning-fits : (around : Around) (at : ℕ) (name first rest : Term) (q : Qualifiers) (ref : RefQualifier) (old mid new : State) → IsList rest
+pub returning-fits : (around : Around) (at : ℕ) (name first rest : Term) (q : Qualifiers) (ref : RefQualifier) (old mid new : State)
     → has_return_type name ≡ true → StaysBehind around at old new → AllShut at mid.candidates → OwnNameFits (in_name at) name q ref old mid
     → ListFits (in_types at name) item_type (list first rest) mid new → WholeFits around (function name q ref first (parameters rest)) old new
 unfolding fits_of encoding_fits fits_nowhere ways_of encoding_ways no_ways begun is_open in_name in_types either
-returning-fits around at name first rest q ref old mid new is returns stays all one other =
+returning-fits around at name first rest q ref old mid new returns stays all one other =
     let e : Term = function name q ref first (parameters rest) in
     encoding-fitted around at e _ _ old new stays.more refl stays.grows stays.before stays.later
     (λ allowed place cs fits. (
@@ -151,17 +141,17 @@ returning-fits around at name first rest q ref old mid new is returns stays all 
           ((fits_of first).as_type item_type (in_types place name) allowed p ds) (first ≡ absent)) place cs) (sym returns) fits.1.0,
       behind-both ((ways_of place name).as_name (name_letters q ref)) (ways_of place first).as_type
           ((fits_of (parameters rest)).as_parameters item_type (in_types place name) allowed) place cs
-          (parameters-standing item_type rest (in_types place name) allowed _ _ fits.1.1 is),
+          (parameters-standing item_type rest (in_types place name) allowed _ _ fits.1.1),
     ))
-    (λ n place cs. parameters-components rest place _ _ is)
+    (λ n place cs. parameters-components rest place _ _)
     (items-behind at e name (list first rest) q ref old mid new refl all one other)
 
 -- a function whose return type isn't
-pub plain-function-fits : (around : Around) (at : ℕ) (name items : Term) (q : Qualifiers) (ref : RefQualifier) (old mid new : State) → IsList items
+pub plain-function-fits : (around : Around) (at : ℕ) (name items : Term) (q : Qualifiers) (ref : RefQualifier) (old mid new : State)
     → has_return_type name ≡ false → StaysBehind around at old new → AllShut at mid.candidates → OwnNameFits (in_name at) name q ref old mid
     → ListFits (in_types at name) item_type items mid new → WholeFits around (function name q ref absent (parameters items)) old new
 unfolding fits_of encoding_fits fits_nowhere ways_of encoding_ways no_ways begun is_open in_name in_types either
-plain-function-fits around at name items q ref old mid new is plain stays all one other =
+plain-function-fits around at name items q ref old mid new plain stays all one other =
     let e : Term = function name q ref absent (parameters items) in
     encoding-fitted around at e _ _ old new stays.more refl stays.grows stays.before stays.later
     (λ allowed place cs fits. (
@@ -171,10 +161,20 @@ plain-function-fits around at name items q ref old mid new is plain stays all on
       behind-both ((ways_of place name).as_name (name_letters q ref)) (ways_of place absent).as_type
           ((fits_of (parameters items)).as_parameters item_type (in_types place name) allowed) place cs
           (at-end ((fits_of (parameters items)).as_parameters item_type (in_types place name) allowed) _ _
-          (parameters-standing item_type items (in_types place name) allowed _ _ fits.1 is)),
+          (parameters-standing item_type items (in_types place name) allowed _ _ fits.1)),
     ))
     (λ n place cs. (
     let w : spell.Pressed Candidate = (ways_of place name).as_name (name_letters q ref) place cs in
     ap (λ p. spell.Pressed.components ((ways_of place items).as_more_parameters p w.components)) (at-zero (place + length w.bytes))
-    ∙ parameters-components items place (place + length w.bytes + 0) w.components is))
+    ∙ parameters-components items place (place + length w.bytes + 0) w.components))
     (items-behind at e name items q ref old mid new refl all one other)
+
+-- data, which has no types
+pub object-fits : (around : Around) (at : ℕ) (name : Term) (q : Qualifiers) (ref : RefQualifier) (old mid new : State)
+    → StaysBehind around at old new → AllShut at mid.candidates → OwnNameFits (in_name at) name q ref old mid
+    → ListFits (in_types at name) item_type nil mid new → WholeFits around (object name q ref) old new
+unfolding fits_of encoding_fits fits_nowhere ways_of encoding_ways no_ways begun is_open in_name
+object-fits around at name q ref old mid new stays all one other =
+    encoding-fitted around at (object name q ref) _ _ old new stays.more refl stays.grows stays.before stays.later
+    (λ allowed place cs fits. fits.0) (λ n place cs. refl)
+    (items-behind at (object name q ref) name nil q ref old mid new refl all one other)

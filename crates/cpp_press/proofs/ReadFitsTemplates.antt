@@ -15,7 +15,7 @@ use Rattle.cpp_press.proofs.AddedTrees.{adds}
 use Rattle.cpp_press.proofs.Again.{FunctionStands}
 use Rattle.cpp_press.proofs.Complete.{Complete, StandAmong}
 use Rattle.cpp_press.proofs.Fit.{Standing, Fitting, Behind, as_component, as_template, fits_of}
-use Rattle.cpp_press.proofs.ReadFits.{pressed_at, Fitted, refitted, behind-both, and-fitted, bytes-fitted, fitted-bytes}
+use Rattle.cpp_press.proofs.ReadFits.{pressed_at, Fitted, Wherever, refitted, behind-both, and-fitted, bytes-fitted, fitted-bytes}
 use Rattle.cpp_press.proofs.ReadFitsNames.{respelled, ended-fitted, BetweenFits, TemplateBetweenFits, TemplatePrefixFits, within-prefix, within-prefix-template, std-prefix, ElementsFit, arguments_standing, arguments_text, arguments-fitted, instance-may}
 
 -- a component and what stands behind it, where an equal one stands before
@@ -149,7 +149,7 @@ nested-before around own a F between whole old now one =
 pub record TemplateFits (around : Around) (t : Term) (old mid : State) : Type 0 where
   pub is : IsComponent t
   pub stands : FunctionStands around.scope t
-  pub pieces : (a : Term) → is_one_piece (instance t a) ≡ false
+  pub pieces : (a : Term) → Wherever around old (is_one_piece (instance t a) ≡ false)
   pub between : TemplateBetweenFits around t old mid
   pub prefix : TemplatePrefixFits around t old (appended around t mid)
   pub before : (typed : Bool) (a : Term) (now : State) → ElementsFit around a (appended around t mid) now
@@ -157,8 +157,8 @@ pub record TemplateFits (around : Around) (t : Term) (old mid : State) : Type 0 
       now
 
 -- a piece behind a prefix that isn't an encoding
-pub within-template : (around : Around) (t p : Term) (old mid : State) → is_encoding t ≡ false → BetweenFits around (within t p) old mid
-    → TemplateFits around (within t p) old mid
+pub within-template : (around : Around) (t p : Term) (old mid : State) → Wherever around old (is_encoding t ≡ false)
+    → BetweenFits around (within t p) old mid → TemplateFits around (within t p) old mid
 unfolding fits_of ways_of name_ways no_ways is_one_piece
 within-template around t p old mid apart one = record {
   is = tt;
@@ -184,7 +184,7 @@ unfolding fits_of ways_of name_ways no_ways is_one_piece
 std-template around p old mid one = record {
   is = tt;
   stands = tt;
-  pieces = λ a. refl;
+  pieces = λ a n place cs front. refl;
   between = one;
   prefix = std-prefix around p old mid one;
   before = λ typed a now other. by typed (is_operator p) a now other;

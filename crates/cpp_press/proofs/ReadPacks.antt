@@ -1,5 +1,5 @@
 -- Outside of expansions nothing that was read has named packs.
-use Rattle.std.proofs.Common.{◌≡◌, ℕ, ◌+◌, ◌-◌, ◌⊎◌, inl, inr, length, List, [], ◌∷◌, ◌++◌, Bool, true, false, not, ◌||◌, ◌&&◌, nat_eq, nat_lt, slice_get, Option, Some, None, Result, Ok, Err, refl, ap, sym, subst, ◌∙◌}
+use Rattle.std.proofs.Common.{◌≡◌, ℕ, ◌+◌, ◌-◌, length, List, [], ◌∷◌, ◌++◌, Bool, true, false, not, ◌||◌, ◌&&◌, nat_eq, nat_lt, slice_get, Option, Some, None, Result, Ok, Err, refl, ap, sym, subst, ◌∙◌}
 use Rattle.sym_core.specs.declared.refusal.Refusal.{Refusal}
 use Rattle.sym_core.specs.declared.refusal.Refusal.TheVariants.{BadReference}
 use Rattle.sym_core.specs.declared.NumberKind.TheVariants.{Seq36}
@@ -170,11 +170,6 @@ between-outside Production.Expansion around place vs state next no_ outside e = 
 between-outside _ around place vs state next no_ outside e = goes state around vs state next outside refl e
 
 -- ## Shapes
-
-expansion-or : (p : Production) → (p ≡ Production.Expansion) ⊎ NoExpansion p
-expansion-or Production.Expansion = inl refl
-expansion-or Production.Mark = inr tt
-expansion-or _ = inr tt
 
 close-kept : (p : Production) (byte : ℕ) (around : Around) (place : ℕ) (began : State) (vs : List Value) (state : State) (r : Found Value State)
     → around.in_expansion ≡ false → (NoExpansion p → state.packs ≡ began.packs) → close p byte around place began vs state ≡ Ok r

@@ -21,7 +21,7 @@ use Rattle.cpp_grammar.proofs.ClosedTrees.{at_number, its_symbols, same_rule, op
 
 -- ## Kinds
 
-kind-at : (kind : Kind) → slice_get kinds (number_of_kind kind) ≡ Some kind
+pub kind-at : (kind : Kind) → slice_get kinds (number_of_kind kind) ≡ Some kind
 unfolding kinds number_of_kind
 kind-at Kind.Symbol = refl
 kind-at _ = refl
@@ -33,27 +33,29 @@ abbrev pub AllOf : (P : Shape → Type 0) → Forest → Type 0
 AllOf P nothing = Unit {0}
 AllOf P (grown t f) = P t × AllOf P f
 
--- a part that was unfolded in its surroundings, and what follows behind its value
-pub record PartGoes (P : Shape → Type 0) (x : Sym) (from : ℕ) (next : Next Value State Around) (rest : List Value → ℕ → State → Type 0) :
-    Type 0 where
+-- the first part of a forest, which was unfolded in its surroundings, and what follows behind its value
+pub record PartGoes (P : Shape → Type 0) (x : Sym) (f : Forest) (from : ℕ) (next : Next Value State Around)
+    (rest : Forest → List Value → ℕ → State → Type 0) : Type 0 where
   pub shape : Shape
+  pub others : Forest
+  pub splits : f ≡ grown shape others
   pub holds : P shape
   pub is : IsTree abi x shape
   pub value : Value
   pub after : State
   pub unfolds : unfold_tree cpp next.context from shape next.state ≡ Ok (found (value ∷ []) after)
-  pub onward : rest (next.values ++ value ∷ []) (from + length (spell shape)) after
+  pub onward : rest others (next.values ++ value ∷ []) (from + length (spell shape)) after
 
 abbrev pub OnGoing : Going → (Next Value State Around → Type 0) → Type 0
 OnGoing (Ok next) G = G next
 OnGoing (Err e) G = ⊥
 
 -- the parts of a production that begins at a place, behind parts with these values
-abbrev pub PartsGo : (P : Shape → Type 0) → Production → Around → (place : ℕ) → Found (List Value) State → List Sym → List Value → (from : ℕ)
-    → State → Type 0
-PartsGo P p around place inner [] vs from state = found vs state ≡ inner
-PartsGo P p around place inner (x ∷ xs) vs from state =
-    OnGoing (between p around place vs state) (λ next. PartGoes P x from next (PartsGo P p around place inner xs))
+abbrev pub PartsGo : (P : Shape → Type 0) → Production → Around → (place : ℕ) → Found (List Value) State → List Sym → Forest → List Value
+    → (from : ℕ) → State → Type 0
+PartsGo P p around place inner [] f vs from state = found vs state ≡ inner
+PartsGo P p around place inner (x ∷ xs) f vs from state =
+    OnGoing (between p around place vs state) (λ next. PartGoes P x f from next (PartsGo P p around place inner xs))
 
 -- a shape has one value
 pub record OneValue (r : Found (List Value) State) : Type 0 where
@@ -83,7 +85,7 @@ one-value (fixed byte) around at state r e = one-same _ state r (ok_same _ r e)
 parts-go : (P : Shape → Type 0) (p : Production) (rule : Rule) (taken : List ℕ) (around : Around) (place : ℕ) (before : State)
     → production_at rule.number ≡ p
     → (inner : Found (List Value) State) (f : Forest) (xs : List Sym) → AllOf P f → AreTrees abi xs f → (vs : List Value) (from : ℕ) (state : State)
-    → unfold_forest cpp (standing rule taken place around before) vs from f state ≡ Ok inner → PartsGo P p around place inner xs vs from state
+    → unfold_forest cpp (standing rule taken place around before) vs from f state ≡ Ok inner → PartsGo P p around place inner xs f vs from state
 unfolding cpp
 parts-go P p rule taken around place before number inner nothing [] all trees vs from state e = ok_same (found vs state) inner e
 parts-go P p rule taken around place before number inner nothing (x ∷ xs) all trees vs from state e = absurd trees
@@ -96,13 +98,13 @@ parts-go P p rule taken around place before number inner (grown t f) (x ∷ xs) 
     onward next = unfold_tree cpp next.context from t next.state >>= λ part.
         unfold_forest cpp (standing rule taken place around before) (next.values ++ part.value) (from + length (spell t)) f part.state
 
-    rest : List Value → ℕ → State → Type 0
+    rest : Forest → List Value → ℕ → State → Type 0
     rest = PartsGo P p around place inner xs
 
     go : (g : Going) → (g >>= onward) ≡ Ok inner
         → ((ws : List Value) (later : ℕ) (s : State) → unfold_forest cpp (standing rule taken place around before) ws later f s ≡ Ok inner
-        → PartsGo P p around place inner xs ws later s)
-        → OnGoing g (λ next. PartGoes P x from next (PartsGo P p around place inner xs))
+        → PartsGo P p around place inner xs f ws later s)
+        → OnGoing g (λ next. PartGoes P x (grown t f) from next (PartsGo P p around place inner xs))
     go (Err d) h more = absurd cc
     go (Ok next) h more =
         let b = behind_bind (unfold_tree cpp next.context from t next.state) (λ part.
@@ -110,6 +112,8 @@ parts-go P p rule taken around place before number inner (grown t f) (x ∷ xs) 
         let one = one-value t next.context from next.state b.value b.is in
         record {
           shape = t;
+          others = f;
+          splits = refl;
           holds = all.0;
           is = trees.0;
           value = one.value;
@@ -136,7 +140,7 @@ pub record Opened (P : Shape → Type 0) (kind : Kind) (around : Around) (at : �
   pub inner : Found (List Value) State
   pub taken : List ℕ
   pub takes : taken ≡ cond (is_chain production) [] (byte ∷ [])
-  pub goes : PartsGo P production around at inner (parts_of production) [] (at + length taken) state
+  pub goes : PartsGo P production around at inner (parts_of production) parts [] (at + length taken) state
   pub one : Found Value State
   pub closes : close production (byte_of taken) around at state inner.value inner.state ≡ Ok one
   pub comes : r ≡ found (one.value ∷ []) one.state

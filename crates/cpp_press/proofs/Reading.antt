@@ -335,20 +335,3 @@ number-reads around allowed kind t place components is s same packs = record {
 }
 
 -- ## What is read
-
--- as a value of another sort
-pub reads-as : (around : Around) (allowed : Option ℕ) (symbol : Sym) (Q R : Value → Type 0) (place : ℕ) (components : List Candidate) (w : Written)
-    → ((v : Value) → Q v → R v) → ReadsAt around allowed symbol Q place components w → ReadsAt around allowed symbol R place components w
-reads-as around allowed symbol Q R place components w more one s same packs =
-    let a = one s same packs in
-    record {
-      shape = a.shape;
-      spelled = a.spelled;
-      shaped = a.shaped;
-      value = a.value;
-      good = more a.value a.good;
-      state = a.state;
-      unfolds = a.unfolds;
-      candidates = a.candidates;
-      packs = a.packs;
-    }

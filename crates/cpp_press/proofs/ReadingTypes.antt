@@ -1,5 +1,5 @@
 -- Types are read as what was pressed.
-use Rattle.std.proofs.Common.{◌≡◌, ℕ, ◌+◌, ◌≤◌, length, List, [], ◌∷◌, ◌++◌, Option, Some, None, Bool, true, false, Ok, refl, ap, arith, sym, subst, append-nil}
+use Rattle.std.proofs.Common.{◌≡◌, ℕ, ◌+◌, length, List, [], ◌∷◌, ◌++◌, Option, Bool, true, false, Ok, refl, ap, arith, sym, subst, append-nil}
 use Rattle.std.specs.Prelude.{◌&&◌, Result}
 use Rattle.sym_shape.specs.declared.rule.Sym.{Sym}
 use Rattle.sym_shape.specs.declared.rule.Sym.TheVariants.{Kind as OfKind}
@@ -18,10 +18,7 @@ use Rattle.cpp_grammar.specs.Between.{Going, between, after, applied}
 use Rattle.cpp_grammar.specs.Meaning.{meaning, listed_value}
 use Rattle.cpp_grammar.specs.Unfolding as unfolding_
 use Rattle.cpp_grammar.specs.Unfolding.{opening, close, byte_of}
-use Rattle.cpp_press.specs.Components.{Spelling, first_equal, seq_id, reference, ended, spelled_out, component}
-use Rattle.cpp_press.proofs.Tokens.{greatest}
 use Rattle.cpp_press.proofs.Reading.{Written, written, ReadsAt, RowAt, passes-by, row-part, row-last, row-ends, takes-byte, takes-none, closes-same, closes-more, production-reads, empty-reads}
-use Rattle.cpp_press.proofs.ReadingReferences.{MayBeReferred, found-first, number-refers}
 
 -- the value of a part is one that is known
 abbrev pub Is : Value → Value → Type 0
@@ -306,39 +303,3 @@ type-behind-s k around allowed place t cs w has one =
     (solid-with-s 34 around allowed (place + 0) t true cs w (takes-byte 34 Kind.Solid Production.TypeWithS 83 refl refl (omega arith) refl)
     (one-part Production.AbbreviatedType 36 [] around allowed (place + 0 + 1) (OfKind 22) (tree t true) (tree t true) cs w
     (takes-none 36 Kind.TypeAfterS Production.AbbreviatedType 95 refl refl (omega arith) refl) refl (λ s. refl) (λ f s. refl) (λ began s. refl) one))
-
--- a component as a type: a reference where an equal one stands before, or else its own spelling
-pub component-reads : (k : ℕ) (around : Around) (allowed : Option ℕ) (place : ℕ) (own : Term) (cs : List Candidate) (spelling : Spelling)
-    → HasTypes around allowed k own → length cs ≤ greatest
-    → MayBeReferred around allowed own
-    → (first_equal around.encoding own 0 cs ≡ None → ReadsAt around allowed (OfKind k) (Is (tree own true)) place cs
-    (written (spelling place cs).bytes (more around (spelling place cs).components own)))
-    → ReadsAt around allowed (OfKind k) (Is (tree own true)) place cs (component around.encoding own spelling place cs)
-unfolding component reference spelled_out ended
-component-reads k around allowed place own cs spelling has few may out = go (first_equal around.encoding own 0 cs) refl
-  where
-    go : (o : Option ℕ) → first_equal around.encoding own 0 cs ≡ o
-        → ReadsAt around allowed (OfKind k) (Is (tree own true)) place cs (elim o [
-          | Some number ↦ reference number place cs
-          | None ↦ spelled_out
-              around.encoding own spelling place cs
-        ])
-    go (Some number) is =
-        let f = found-first around.encoding own 0 number cs is in
-        let named : f.0 ≡ number = omega (arith, f.1) in
-        subst (λ n. ReadsAt around allowed (OfKind k) (Is (tree own true)) place cs (reference n place cs)) named
-        (type-behind-s k around allowed place own cs (written (seq_id f.0 ++ 95 ∷ []) cs) has
-        (number-refers around allowed own f.0 (place + 0 + 1 + 0) cs few may f.2))
-    go None is =
-        same-written around allowed (OfKind k) (Is (tree own true)) place cs (more around (spelling place cs).components own)
-        (spelling place cs).bytes ((spelling place cs).bytes ++ []) (sym (append-nil (spelling place cs).bytes)) (out is)
-
--- a solid type that is a component
-pub solid-component : (k : ℕ) (around : Around) (allowed : Option ℕ) (place : ℕ) (own : Term) (cs : List Candidate) (spelling : Spelling)
-    → HasTypes around allowed k own → length cs ≤ greatest
-    → MayBeReferred around allowed own
-    → (first_equal around.encoding own 0 cs ≡ None → ReadsAt around allowed (OfKind 34) (Is (tree own false)) place cs (spelling place cs))
-    → ReadsAt around allowed (OfKind k) (Is (tree own true)) place cs (component around.encoding own spelling place cs)
-solid-component k around allowed place own cs spelling has few may out =
-    component-reads k around allowed place own cs spelling has few may (λ none. has.solid.adds place cs (spelling place cs)
-    (subst (λ q. ReadsAt around allowed (OfKind 34) (Is (tree own false)) q cs (spelling place cs)) (omega arith) (out none)))

@@ -1,14 +1,12 @@
 -- How a reader's candidates go on standing among the components, step by step, where what was read is pressed.
-use Rattle.std.proofs.Common.{◌≡◌, ℕ, zero, suc, ◌≤◌, ◌⊎◌, inl, inr, List, [], ◌∷◌, ◌++◌, Option, Some, None, true, false, refl, sym, subst}
+use Rattle.std.proofs.Common.{◌≡◌, ℕ, zero, suc, ◌≤◌, ◌⊎◌, List, [], ◌∷◌, ◌++◌, Option, Some, None, false, refl, subst}
 use Rattle.std.specs.Prelude.{slice_get}
 use Rattle.sym_spell.specs.Pressing as spell
 use Rattle.sym_spell.specs.Pressing.{◌and◌}
 use Rattle.cpp_grammar.specs.Term.{Term}
 use Rattle.cpp_grammar.specs.Scope.{is_open}
-use Rattle.cpp_grammar.specs.Values.{Candidate, State, Around}
-use Rattle.cpp_grammar.specs.References.{packs_in}
+use Rattle.cpp_grammar.specs.Values.{Candidate}
 use Rattle.cpp_press.specs.Components.{Spelling, first_equal, reference, ended, spelled_out, component}
-use Rattle.cpp_press.proofs.ReadingReferences.{PacksFit}
 use Rattle.cpp_press.proofs.Parts.{IsComponent, Whole, Has, found-stands}
 use Rattle.cpp_press.proofs.Known.{KeepsTo}
 use Rattle.cpp_press.proofs.Complete.{Complete, complete-has, nothing-new, StandAmong, among-others, among-ended, among-known}
@@ -44,19 +42,6 @@ named-stands read n (suc number) c (d ∷ ds) components among at may = named-st
 
 -- ## Packs
 
--- the packs of a tree are those that its expansion has named
-abbrev pub PacksAre : Around → State → Term → Type 0
-PacksAre around state t = (packs_in around.scope t ≡ None) ⊎ ((around.in_expansion ≡ true) × (packs_in around.scope t ≡ state.packs))
-
 -- a length is allowed at least if the expansion has named it
 abbrev pub Allows : (allowed packs : Option ℕ) → Type 0
 Allows allowed packs = (m : ℕ) → packs ≡ Some m → allowed ≡ Some m
-
-pub packs-allowed : (around : Around) (allowed : Option ℕ) (state : State) (t : Term) → PacksAre around state t → Allows allowed state.packs
-    → PacksFit around allowed (packs_in around.scope t)
-packs-allowed around allowed state t (inl none) allows = inl none
-packs-allowed around allowed state t (inr (under, same)) allows = go (packs_in around.scope t) same
-  where
-    go : (o : Option ℕ) → o ≡ state.packs → PacksFit around allowed o
-    go None is = inl refl
-    go (Some m) is = inr (under, sym (allows m (sym is)))

@@ -28,8 +28,7 @@ PressedOnce =
     (shape : Shape) (t : Term) → IsReadFrom shape t → length (pressed t) ≤ 18446744073709551615
     → (other : Shape) (again : Term) → IsReadFrom other again → spell other ≡ pressed t → pressed again ≡ pressed t
 
--- Where pressed bytes are read as what was pressed, they tell trees apart: of two that symbols are read as, one is the other where
--- their pressed bytes are equal.
+-- Pressed bytes tell trees apart: of two that symbols are read as, one is the other where their pressed bytes are equal.
 abbrev pub PressedTellsApart : Type 0
 PressedTellsApart =
     (shape other : Shape) (t u : Term) → IsReadFrom shape t → IsReadFrom other u → length (pressed t) ≤ 18446744073709551615

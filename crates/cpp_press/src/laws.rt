@@ -2,8 +2,25 @@
 ghost use Rattle.std.specs.Prelude.{◌≡◌, true};
 ghost use Rattle.cpp_grammar.specs.Term.{Term};
 ghost use Rattle.cpp_press.specs.Apart.{ComponentsAreApart};
+ghost use Rattle.cpp_press.specs.PressLaws.{PressedIsRead, PressedOnce, PressedTellsApart};
 ghost use Rattle.cpp_press.specs.Repeated.{RepeatedComponentsHaveReasons};
 ghost use Rattle.cpp_press.specs.Same.{same_tree};
+
+/// What some C++ symbol is read as, pressed, is well shaped, and every shape that spells it is read as the same: no qualifier, no
+/// discriminator and no suffix is lost. The pressed bytes are at most 2^64 - 1, as those of any list.
+pub fn pressed_is_read()
+    ensures { PressedIsRead }
+{}
+
+/// What a pressed spelling is read as is pressed to the same bytes.
+pub fn pressed_once()
+    ensures { PressedOnce }
+{}
+
+/// What symbols with the same pressed bytes are read as is the same.
+pub fn pressed_tells_apart()
+    ensures { PressedTellsApart }
+{}
 
 /// Pressing takes two trees for the same where they are equal, and nowhere else: no mark, number, name or discriminator is left
 /// out.
