@@ -1,5 +1,5 @@
 -- Lists of components in which each stands with the components in it, and the candidates of a reader that stand in such a list.
-use Rattle.std.proofs.Common.{◌≡◌, ℕ, ◌<◌, ◌≤◌, ◌⊎◌, inl, inr, List, [], ◌∷◌, ◌++◌, Bool, true, false, refl, ap, arith, sym, subst, ◌∙◌}
+use Rattle.std.proofs.Common.{◌≡◌, ℕ, ◌<◌, ◌≤◌, ◌⊎◌, inl, inr, length, List, [], ◌∷◌, ◌++◌, Bool, true, false, refl, ap, arith, sym, subst, ◌∙◌, length-append}
 use Rattle.std.specs.Prelude.{◌||◌}
 use Rattle.std.proofs.lemmas.Bool.{true≢false}
 use Rattle.cpp_grammar.specs.Term.{Term, symbol, function, object, special, thunk, guard, alone, in_std, within, instance, local, lambda, pointer, lvalue, rvalue, array, member_pointer, function_type, qualified, vector, complex, expansion, integer, encoding_literal, address_of, pack, list}
@@ -143,25 +143,29 @@ nothing-new n R spelling keeps place cs le stands x is has =
 -- ## A reader's candidates
 
 -- Each candidate without free parameters stands among the components, and each other one of the reader's encoding.
-abbrev pub StandAmong : (read pressed : ℕ) → (candidates components : List Candidate) → Type 0
-StandAmong read pressed [] components = Unit {0}
-StandAmong read pressed (c ∷ cs) components =
+abbrev pub EachStands : (read pressed : ℕ) → (candidates components : List Candidate) → Type 0
+EachStands read pressed [] components = Unit {0}
+EachStands read pressed (c ∷ cs) components =
     (IsComponent c.tree × ((is_open c.tree ≡ false) ⊎ (c.encoding ≡ read)
-    → Has pressed c.tree components)) × StandAmong read pressed cs components
+    → Has pressed c.tree components)) × EachStands read pressed cs components
 
-pub among-append : (read pressed : ℕ) (cs ds components : List Candidate) → StandAmong read pressed cs components
-    → StandAmong read pressed ds components → StandAmong read pressed (cs ++ ds) components
-among-append read pressed [] ds components one other = other
-among-append read pressed (c ∷ cs) ds components one other = (one.0, among-append read pressed cs ds components one.1 other)
+-- They do, and the components are no more than the candidates.
+abbrev pub StandAmong : (read pressed : ℕ) → (candidates components : List Candidate) → Type 0
+StandAmong read pressed candidates components = EachStands read pressed candidates components × (length components ≤ length candidates)
+
+pub each-append : (read pressed : ℕ) (cs ds components : List Candidate) → EachStands read pressed cs components
+    → EachStands read pressed ds components → EachStands read pressed (cs ++ ds) components
+each-append read pressed [] ds components one other = other
+each-append read pressed (c ∷ cs) ds components one other = (one.0, each-append read pressed cs ds components one.1 other)
 
 -- among others, where each component that may be referred to stands
-pub among-others : (read pressed : ℕ) (cs components others : List Candidate)
-    → ((x : Term) → IsComponent x → Has pressed x components → Has pressed x others) → StandAmong read pressed cs components
-    → StandAmong read pressed cs others
-among-others read pressed [] components others more among = tt
-among-others read pressed (c ∷ cs) components others more among = (
+pub each-others : (read pressed : ℕ) (cs components others : List Candidate)
+    → ((x : Term) → IsComponent x → Has pressed x components → Has pressed x others) → EachStands read pressed cs components
+    → EachStands read pressed cs others
+each-others read pressed [] components others more among = tt
+each-others read pressed (c ∷ cs) components others more among = (
   (among.0.0, λ may. more c.tree among.0.0 (among.0.1 may)),
-  among-others read pressed cs components others more among.1,
+  each-others read pressed cs components others more among.1,
 )
 
 -- one more on both sides
@@ -169,15 +173,19 @@ pub among-ended : (read pressed : ℕ) (t : Term) (cs components : List Candidat
     → StandAmong read pressed (cs ++ record { tree = t; encoding = read } ∷ []) (components ++ record { tree = t; encoding = pressed } ∷ [])
 among-ended read pressed t cs components is among =
     let own : List Candidate = record { tree = t; encoding = pressed } ∷ [] in
-    among-append read pressed cs (record { tree = t; encoding = read } ∷ []) (components ++ own)
-    (among-others read pressed cs components (components ++ own) (λ x c has. has-before pressed x components own has) among)
-    ((is, λ may. has-itself pressed t components), tt)
+    let named : List Candidate = record { tree = t; encoding = read } ∷ [] in (
+      each-append read pressed cs named (components ++ own)
+          (each-others read pressed cs components (components ++ own) (λ x c has. has-before pressed x components own has) among.0)
+          ((is, λ may. has-itself pressed t components), tt),
+      omega (arith, among.1, length-append cs named, length-append components own),
+    )
 
 -- one more candidate that stands already
 pub among-known : (read pressed : ℕ) (t : Term) (cs components : List Candidate) → IsComponent t → Has pressed t components
     → StandAmong read pressed cs components → StandAmong read pressed (cs ++ record { tree = t; encoding = read } ∷ []) components
 among-known read pressed t cs components is has among =
-    among-append read pressed cs (record { tree = t; encoding = read } ∷ []) components among ((is, λ may. has), tt)
+    let named : List Candidate = record { tree = t; encoding = read } ∷ [] in
+    (each-append read pressed cs named components among.0 ((is, λ may. has), tt), omega (arith, among.1, length-append cs named))
 
 -- these were made in encodings that begin before a place
 abbrev pub AllBefore : ℕ → List Candidate → Type 0
@@ -185,10 +193,10 @@ AllBefore place [] = Unit {0}
 AllBefore place (c ∷ cs) = (c.encoding < place) × AllBefore place cs
 
 -- in an encoding of its own, of which no candidate is: those without free parameters stand
-pub among-inner : (read pressed inner own : ℕ) (cs components : List Candidate) → AllBefore inner cs → StandAmong read pressed cs components
-    → StandAmong inner own cs components
-among-inner read pressed inner own [] components before among = tt
-among-inner read pressed inner own (c ∷ cs) components before among = (
+each-inner : (read pressed inner own : ℕ) (cs components : List Candidate) → AllBefore inner cs → EachStands read pressed cs components
+    → EachStands inner own cs components
+each-inner read pressed inner own [] components before among = tt
+each-inner read pressed inner own (c ∷ cs) components before among = (
   (
     among.0.0,
     λ may. elim may [
@@ -196,5 +204,9 @@ among-inner read pressed inner own (c ∷ cs) components before among = (
       | inr here ↦ absurd (omega (arith, here, before.0))
     ],
   ),
-  among-inner read pressed inner own cs components before.1 among.1,
+  each-inner read pressed inner own cs components before.1 among.1,
 )
+
+pub among-inner : (read pressed inner own : ℕ) (cs components : List Candidate) → AllBefore inner cs → StandAmong read pressed cs components
+    → StandAmong inner own cs components
+among-inner read pressed inner own cs components before among = (each-inner read pressed inner own cs components before among.0, among.1)

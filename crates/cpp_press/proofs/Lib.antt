@@ -11,6 +11,7 @@ pub mod KnownTrees
 pub mod Complete
 pub mod Steps
 pub mod Packs
+pub mod NoneAdded
 pub mod Adding
 pub mod AddedWays
 pub mod AddedNames
@@ -95,4 +96,5 @@ pub mod ReadKindsRoot
 pub mod ReadKindsNests
 pub mod ReadKindsNames
 pub mod ReadShapes
+pub mod FewPressed
 mod FitRows

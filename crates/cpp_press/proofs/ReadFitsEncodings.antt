@@ -10,7 +10,7 @@ use Rattle.cpp_grammar.specs.Between.{in_name, in_types}
 use Rattle.cpp_press.specs.Components.{Spelling}
 use Rattle.cpp_press.specs.Pressing.{ways_of}
 use Rattle.cpp_press.proofs.Parts.{Has, has-closed}
-use Rattle.cpp_press.proofs.Complete.{StandAmong, AllBefore, among-append, among-others, among-inner}
+use Rattle.cpp_press.proofs.Complete.{EachStands, StandAmong, AllBefore, each-append, each-others, among-inner}
 use Rattle.cpp_press.proofs.Packs.{closed-packs}
 use Rattle.cpp_press.proofs.Again.{ItemStands, ItemsStand, FunctionStands}
 use Rattle.cpp_press.proofs.Fit.{Fitting, Slot, any_type, parameter_type, fits_of}
@@ -102,7 +102,7 @@ front-inner around n place at cs old before front = record {
   functions = functions-inner around.scope around.encoding at old.candidates before front.functions;
 }
 
-among-new : (read n at place : ℕ) (more ds : List Candidate) → AllAfter read more → StandAmong at place more ds → StandAmong read n more ds
+among-new : (read n at place : ℕ) (more ds : List Candidate) → AllAfter read more → EachStands at place more ds → EachStands read n more ds
 among-new read n at place [] ds later among = tt
 among-new read n at place (c ∷ cs) ds later among = (
   (
@@ -115,16 +115,18 @@ among-new read n at place (c ∷ cs) ds later among = (
   among-new read n at place cs ds later.1 among.1,
 )
 
-among-last : (read n : ℕ) (olds more ds : List Candidate) → StandAmong read n (olds ++ more) ds → StandAmong read n more ds
+among-last : (read n : ℕ) (olds more ds : List Candidate) → EachStands read n (olds ++ more) ds → EachStands read n more ds
 among-last read n [] more ds among = among
 among-last read n (c ∷ cs) more ds among = among-last read n cs more ds among.1
 
 -- behind an encoding the candidates from before stand as they did, and of those from within the closed ones
 among-outer : (read n at place : ℕ) (olds more cs ds : List Candidate) → ((m : ℕ) (x : Term) → Has m x cs → Has m x ds) → AllAfter read more
     → StandAmong read n olds cs → StandAmong at place (olds ++ more) ds → StandAmong read n (olds ++ more) ds
-among-outer read n at place olds more cs ds keeps later before inner =
-    among-append read n olds more ds (among-others read n olds cs ds (λ x is has. keeps n x has) before)
-    (among-new read n at place more ds later (among-last at place olds more ds inner))
+among-outer read n at place olds more cs ds keeps later before inner = (
+  each-append read n olds more ds (each-others read n olds cs ds (λ x is has. keeps n x has) before.0)
+      (among-new read n at place more ds later (among-last at place olds more ds inner.0)),
+  inner.1,
+)
 
 functions-outer : (scope : Option Term) (read at : ℕ) (olds more : List Candidate) → AllAfter read more → FunctionsStand scope read olds
     → FunctionsStand None at (olds ++ more) → FunctionsStand scope read (olds ++ more)

@@ -9,6 +9,7 @@ use Rattle.cpp_press.specs.Pressing.{no_ways, type_ways, is_encoding, ways_of}
 use Rattle.cpp_press.proofs.ReadingReferences.{MayBeReferred}
 use Rattle.cpp_press.proofs.Parts.{IsComponent, Whole, Has, stands-found}
 use Rattle.cpp_press.proofs.Steps.{named-stands}
+use Rattle.cpp_press.proofs.NoneAdded.{prefix-none}
 use Rattle.cpp_press.proofs.Fit.{any_type, begins_name, IsAbbreviation, type_fits, fits_nowhere, fits_of}
 use Rattle.cpp_press.proofs.AddedTrees.{adds}
 use Rattle.cpp_press.proofs.ReadFits.{pressed_at}
@@ -74,10 +75,12 @@ referred-so-far outer old new c r = record {
       (named-stands outer.encoding n r.number c old.candidates cs front.among r.there r.named).0;
   prefix = referred-fitted outer (fits_of c.tree).as_prefix (λ n. (ways_of n c.tree).as_prefix) old new c (Whole c.tree) r
       (λ n allowed. (adds c.tree).as_prefix (pressed_at n outer) allowed)
-      (λ n allowed place cs may stands is complete has. (prefix-again c.tree is (pressed_at n outer) allowed may place cs has).0);
+      (λ n allowed place cs may stands is complete has. (prefix-again c.tree is (pressed_at n outer) allowed may place cs has).0)
+      (λ n place cs is complete has. prefix-none c.tree n place cs is has);
   template = referred-fitted outer (fits_of c.tree).as_prefix_template (λ n. (ways_of n c.tree).as_prefix) old new c (Whole c.tree) r
       (λ n allowed. (adds c.tree).as_prefix_template (pressed_at n outer) allowed)
-      (λ n allowed place cs may stands is complete has. (prefix-again c.tree is (pressed_at n outer) allowed may place cs has).1);
+      (λ n allowed place cs may stands is complete has. (prefix-again c.tree is (pressed_at n outer) allowed may place cs has).1)
+      (λ n place cs is complete has. prefix-none c.tree n place cs is has);
 }
 
 -- ## First parts

@@ -15,7 +15,7 @@ use Rattle.cpp_press.specs.Components.{Spelling}
 use Rattle.cpp_press.specs.Pressing.{ways_of}
 use Rattle.cpp_press.proofs.ReadingReferences.{PacksFit, MayBeReferred}
 use Rattle.cpp_press.proofs.Parts.{IsComponent, Whole, Unqualified, Has, stands-found}
-use Rattle.cpp_press.proofs.Complete.{Complete, StandAmong, among-others, complete-has}
+use Rattle.cpp_press.proofs.Complete.{Complete, StandAmong, complete-has}
 use Rattle.cpp_press.proofs.Steps.{Allows, named-stands}
 use Rattle.cpp_press.proofs.Packs.{PacksNamed, packs-named}
 use Rattle.cpp_press.proofs.Again.{ItemStands, FunctionStands, item-again, function-again}
@@ -24,6 +24,7 @@ use Rattle.cpp_press.proofs.AddedWays.{way_at, IsNotBare}
 use Rattle.cpp_press.proofs.AddedTrees.{adds}
 use Rattle.cpp_press.proofs.Adding.{Adds, AddsParts}
 use Rattle.cpp_press.proofs.ReadFits.{pressed_at, FunctionsStand, Fitted}
+use Rattle.cpp_press.proofs.NoneAdded.{type-none, bare-none}
 use Rattle.cpp_press.proofs.ReadFitsTypes.{BareFits, SolidFits}
 
 -- ## What a substitution stands for
@@ -116,14 +117,15 @@ bare-again t is around allowed stands may place cs complete has =
 
 -- ## References
 
--- What was named is spelled where it stands: nothing is added that may be referred to.
+-- What was named is spelled where it stands: nothing is added.
 pub referred-fitted : (around : Around) (F : Fitting) (s : ℕ → Spelling) (old new : State) (c : Candidate) (P : Term → Type 0)
     → Referred around old new c
     → ((n : ℕ) (allowed : Option ℕ) → Adds n P (F (pressed_at n around) allowed) (s n))
     → ((n : ℕ) (allowed : Option ℕ) (place : ℕ) (cs : List Candidate) → MayBeReferred (pressed_at n around) allowed c.tree
     → FunctionStands around.scope c.tree → IsComponent c.tree → Complete cs → Has n c.tree cs → F (pressed_at n around) allowed place cs)
+    → ((n place : ℕ) (cs : List Candidate) → IsComponent c.tree → Complete cs → Has n c.tree cs → (s n place cs).components ≡ cs)
     → Fitted around F s c.tree old new
-referred-fitted around F s old new c P r adding again = record {
+referred-fitted around F s old new c P r adding again none = record {
   stay = r.packs.stay;
   fits = λ n place cs allowed front allows. (
       let named = named-stands around.encoding n r.number c old.candidates cs front.among r.there r.named in
@@ -136,7 +138,7 @@ referred-fitted around F s old new c P r adding again = record {
         may = may;
         complete = a.complete;
         among = subst (λ l. StandAmong around.encoding n l (s n place cs).components) (sym r.candidates)
-            (among-others around.encoding n old.candidates cs (s n place cs).components (λ x is has. a.keeps n x has) front.among);
+            (subst (StandAmong around.encoding n old.candidates) (sym (none n place cs named.0 front.complete named.1)) front.among);
         functions = subst (FunctionsStand around.scope around.encoding) (sym r.candidates) front.functions;
       });
 }
@@ -157,12 +159,14 @@ referred-solid takes around old new c r = record {
   types = λ slot other take. referred-fitted around ((fits_of c.tree).as_type slot) (λ n. (ways_of n c.tree).as_type) old new c (Whole c.tree) r
       (λ n allowed. typed slot other n allowed)
       (λ n allowed place cs may stands is complete has.
-      type-again c.tree slot other is (pressed_at n around) allowed may place cs complete has);
+      type-again c.tree slot other is (pressed_at n around) allowed may place cs complete has)
+      (λ n place cs is complete has. type-none c.tree n place cs (λ _. has));
   bare = λ take. subst (λ s. BareFits around c.tree old s) (sym (unlisted around c.tree new))
       (referred-fitted around ((fits_of c.tree).as_type bare_type) (λ n. (ways_of n c.tree).under_qualifiers) old new c (Unqualified c.tree) r
       (λ n allowed. (adds c.tree).as_type bare_type (pressed_at n around) allowed)
       (λ n allowed place cs may stands is complete has.
-      bare-again c.tree is (pressed_at n around) allowed stands may place cs complete has));
+      bare-again c.tree is (pressed_at n around) allowed stands may place cs complete has)
+      (λ n place cs is complete has. bare-none c.tree n place cs is complete has));
 }
   where
     typed : (slot : Slot) → IsNotBare slot → (n : ℕ) (allowed : Option ℕ)

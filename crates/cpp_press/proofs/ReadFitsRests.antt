@@ -82,5 +82,5 @@ pub symbol-fits : (e : Term) (suffix : List ℕ) (new : State) → WholeFits fir
     → IsSpellableSuffix suffix → SymbolFits (symbol e suffix)
 unfolding first_around first_state
 symbol-fits e suffix new one bare good =
-    let p = one.fits 0 2 [] None (record { later = omega arith; complete = tt; among = tt; functions = tt }) (λ m is. sym bare ∙ is) in
+    let p = one.fits 0 2 [] None (record { later = omega arith; complete = tt; among = (tt, omega arith); functions = tt }) (λ m is. sym bare ∙ is) in
     (p.fits, good)

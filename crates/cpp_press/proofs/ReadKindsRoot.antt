@@ -26,7 +26,7 @@ use Rattle.cpp_press.proofs.ReadFitsSymbols.{WholeFits}
 use Rattle.cpp_press.proofs.ReadKinds.{InFront, ShapeRead, OpenedRead, opened-read, comes-as}
 
 -- in front of the first byte
-first-front : InFront (OfKind (number_of_kind Kind.Symbol)) first_around 0 first_state
+pub first-front : InFront (OfKind (number_of_kind Kind.Symbol)) first_around 0 first_state
 unfolding first_around first_state number_of_kind holds_encoding
 first-front = record {
   placed = record { lambda = λ is. absurd (false≢true is); encoding = omega arith; old = tt };

@@ -5,3 +5,4 @@ pub mod Pressing
 pub mod Apart
 pub mod Repeated
 pub mod PressLaws
+pub mod Few

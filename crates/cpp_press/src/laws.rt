@@ -2,6 +2,7 @@
 ghost use Rattle.std.specs.Prelude.{◌≡◌, true};
 ghost use Rattle.cpp_grammar.specs.Term.{Term};
 ghost use Rattle.cpp_press.specs.Apart.{ComponentsAreApart};
+ghost use Rattle.cpp_press.specs.Few.{ComponentsAreFew};
 ghost use Rattle.cpp_press.specs.PressLaws.{PressedIsRead, PressedOnce, PressedTellsApart};
 ghost use Rattle.cpp_press.specs.Repeated.{RepeatedComponentsHaveReasons};
 ghost use Rattle.cpp_press.specs.Same.{same_tree};
@@ -40,4 +41,10 @@ pub fn components_are_apart()
 /// somewhere in the symbol where no reference can.
 pub fn repeated_components_have_reasons()
     ensures { RepeatedComponentsHaveReasons }
+{}
+
+/// Of what a symbol is read as at most as many components are spelled out as the symbol has candidates: what it names by a reference
+/// is a reference again, and what it spells out is spelled out once at most.
+pub fn components_are_few()
+    ensures { ComponentsAreFew }
 {}

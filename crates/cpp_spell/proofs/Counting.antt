@@ -16,6 +16,7 @@ use Rattle.cpp_press.proofs.Sameness.{tree-itself}
 use Rattle.cpp_spell.specs.Tasks.{plain_at}
 use Rattle.cpp_spell.specs.Places.{AreOfNodes}
 use Rattle.cpp_spell.specs.OfRead.{HasFewComponents}
+use Rattle.cpp_spell.proofs.NodesOfRead.{components-below}
 
 true-false : true ≡ false → ⊥
 true-false bad = cc
@@ -107,4 +108,7 @@ pub few-components : (y : ReadSymbol) (cs : List Candidate) → AreOfNodes y cs 
 unfolding AreKnown IsDistinct
 few-components y cs own is =
     let few : length cs ≤ length y.table.nodes + length (repeated [] cs) = omega (arith, counted y [] cs [] own tt tt) in
-    subst (λ l. length l ≤ length y.table.nodes + length (repeated [] l)) is few
+    record {
+      apart = subst (λ l. length l ≤ length y.table.nodes + length (repeated [] l)) is few;
+      of_read = λ s reading nodes. components-below s (whole_of y) (length y.table.nodes) reading nodes;
+    }

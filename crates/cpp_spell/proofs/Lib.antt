@@ -7,6 +7,7 @@ mod Placing
 mod Standing
 mod Weighing
 mod Templates
+mod NodesOfRead
 mod Counting
 mod Going
 mod Numbered

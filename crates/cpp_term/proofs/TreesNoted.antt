@@ -1,5 +1,5 @@
 -- Unfolding with arguments is unfolding without, annotated.
-use Rattle.std.proofs.Common.{◌≡◌, refl, ap, sym, ◌∙◌, subst, ℕ, ◌+◌, ◌-◌, ◌<◌, ◌≤◌, ◌^◌, List, [], ◌∷◌, ◌++◌, length, Bool, true, false, not, ◌||◌, nat_eq, nat_lt, Option, None, Result, Ok, Err, inl, inr, arith, lit≤}
+use Rattle.std.proofs.Common.{◌≡◌, refl, ap, sym, ◌∙◌, subst, ℕ, suc, ◌+◌, ◌-◌, ◌<◌, ◌≤◌, ◌^◌, List, [], ◌∷◌, ◌++◌, length, Bool, true, false, not, ◌||◌, nat_eq, nat_lt, Option, None, Result, Ok, Err, inl, inr, arith, lit≤}
 use Rattle.std.proofs.lemmas.Bool.{true≢false, false≢true, cases_Bool}
 use Rattle.sym_core.specs.declared.refusal.Refusal.{Refusal}
 use Rattle.sym_core.specs.declared.refusal.Refusal.TheVariants.{BadValue}
@@ -441,3 +441,33 @@ unfold_noted shape is =
 -- So the answer may be read from either.
 pub same_answer : (d : Detail) (limit : ℕ) (shape : Tree) → IsTree abi (OfKind 0) shape → noted_answer d limit (unfolded_.unfold_cpp shape) ≡ answer_within d limit (unfolding_.unfold_cpp shape)
 same_answer d limit shape is = ap (noted_answer d limit) (unfold_noted shape is) ∙ answer_noted d limit (unfolding_.unfold_cpp shape)
+
+-- ## Candidates
+
+all_as_many : (around : Around) (cs : List Candidate) (ds : List value_.Candidate) → AllNoted around cs ds → length ds ≡ length cs
+all_as_many around [] [] all = refl
+all_as_many around (c ∷ cs) (d ∷ ds) all = ap suc (all_as_many around cs ds all.1)
+all_as_many around [] (d ∷ ds) all = absurd all
+all_as_many around (c ∷ cs) [] all = absurd all
+
+-- the reading of a symbol with arguments, beside the one without: as many trees become candidates
+pub record ReadWithArguments (shape : Tree) (read : Found (List Value) State) : Type 0 where
+  pub other : Found (List value_.Value) value_.State
+  pub is : unfold_tree unfolded_.cpp unfolded_.first_around 0 shape unfolded_.first_state ≡ Ok other
+  pub candidates : length other.state.candidates ≡ length read.state.candidates
+
+pub read_with_arguments : (shape : Tree) (read : Found (List Value) State) → IsTree abi (OfKind 0) shape
+    → unfold_tree cpp unfolding_.first_around 0 shape unfolding_.first_state ≡ Ok read → ReadWithArguments shape read
+unfolding unfolding_.first_around unfolding_.first_state unfolded_.first_around unfolded_.first_state is_encoding is_special noted_around noted_scope noted_prefix
+read_with_arguments shape read is e =
+    go (unfold_tree unfolded_.cpp unfolded_.first_around 0 shape unfolded_.first_state) refl
+    (subst (λ r. Alike (Many unfolding_.first_around unfolding_.first_state unfolded_.first_state) r (unfold_tree unfolded_.cpp unfolded_.first_around 0 shape unfolded_.first_state)) e
+    (tree_noted_ shape (OfKind 0) unfolding_.first_around 0 unfolding_.first_state unfolded_.first_state (trees_.known 0 (lit≤ tt)) is (omega arith) (λ opening. absurd (false≢true opening)) (λ special. absurd (false≢true special)) tt tt
+    (record { packs = refl; all = tt })))
+  where
+    go : (q : Result (Found (List value_.Value) value_.State) Refusal) → unfold_tree unfolded_.cpp unfolded_.first_around 0 shape unfolded_.first_state ≡ q
+        → Alike (Many unfolding_.first_around unfolding_.first_state unfolded_.first_state) (Ok read) q → ReadWithArguments shape read
+    go (Err d) same alike = absurd alike
+    go (Ok other) same alike =
+        let m = alike.moves in
+        record { other = other; is = same; candidates = ap length m.so ∙ all_as_many unfolding_.first_around m.more m.others m.each ∙ sym (ap length m.is) }
