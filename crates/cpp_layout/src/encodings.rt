@@ -239,7 +239,7 @@ impl Symbol {
         ensures shows { Shows self.now detail (S.held parts.old) (S.held parts.new) (function_full (tree_at (trees (table_of self.now)) name) (qualifiers_of qualifiers) (mark_of mark) (tree_at (trees (table_of self.now)) returned) (tree_at (trees (table_of self.now)) parameters)) }
         ensures few { S.room parts.old ≤ S.room parts.new + 8 }
     {
-        match self.node(returned) {
+        match self.stored(returned) {
             Node::Absent => self.push_bare(parts, name, qualifiers, mark, parameters, detail),
             _ => self.fill_returning(parts, name, qualifiers, mark, returned, parameters, detail),
         }
@@ -253,7 +253,7 @@ impl Symbol {
         ensures shows { Shows self.now detail (S.held parts.old) (S.held parts.new) (full_parts (tree_at (trees (table_of self.now)) node)) }
         ensures few { S.room parts.old ≤ S.room parts.new + 8 }
     {
-        match self.node(node) {
+        match self.stored(node) {
             Node::Function {
                 name,
                 qualifiers,
@@ -290,7 +290,7 @@ impl Symbol {
         ensures shows { Shows self.now detail (S.held parts.old) (S.held parts.new) (bare_parts (tree_at (trees (table_of self.now)) node)) }
         ensures few { S.room parts.old ≤ S.room parts.new + 8 }
     {
-        match self.node(node) {
+        match self.stored(node) {
             Node::Function {
                 name,
                 qualifiers,
@@ -348,7 +348,7 @@ impl Symbol {
         ensures shows { Shows self.now detail (S.held parts.old) (S.held parts.new) (root_parts (tree_at (trees (table_of self.now)) node)) }
         ensures few { S.room parts.old ≤ S.room parts.new + 8 }
     {
-        match self.node(node) {
+        match self.stored(node) {
             Node::Whole { encoding, suffix } => self.fill_whole(parts, encoding, suffix, detail),
             _ => {}
         }

@@ -42,7 +42,7 @@ impl Symbol {
         ensures shows { Shows self.now ctx.detail (S.held parts.old) (S.held parts.new) (piece_parts (context_of ctx) (own_piece (tree_at (trees (table_of self.now)) node))) }
         ensures few { S.room parts.old ≤ S.room parts.new + 8 }
     {
-        match self.node(node) {
+        match self.stored(node) {
             Node::Alone(piece) => self.fill_piece(parts, piece, ctx),
             Node::InStd(piece) => self.fill_piece(parts, piece, ctx),
             Node::Within { piece, .. } => self.fill_piece(parts, piece, ctx),
@@ -128,7 +128,7 @@ impl Symbol {
         ensures shows { Shows self.now ctx.detail (S.held parts.old) (S.held parts.new) (left_parts ctx.detail (context_of ctx) (tree_at (trees (table_of self.now)) node)) }
         ensures few { S.room parts.old ≤ S.room parts.new + 8 }
     {
-        let stored = self.node(node);
+        let stored = self.stored(node);
         match stored {
             Node::Alone(piece) => self.fill_piece(parts, piece, ctx),
             Node::InStd(_) => self.fill_in_std(parts, node, ctx),
@@ -165,7 +165,7 @@ impl Symbol {
         ensures shows { Shows self.now ctx.detail (S.held parts.old) (S.held parts.new) (low_parts ctx.detail (context_of ctx) (tree_at (trees (table_of self.now)) node)) }
         ensures few { S.room parts.old ≤ S.room parts.new + 8 }
     {
-        match self.node(node) {
+        match self.stored(node) {
             Node::Lvalue(ty) => self.fill_lvalue(parts, ty, ctx),
             Node::Rvalue(ty) => self.fill_lvalue(parts, ty, ctx),
             Node::Qualified { ty, .. } => self.push_item(parts, ty, form::LOW, 0, ctx),
@@ -184,7 +184,7 @@ impl Symbol {
         ensures shows { Shows self.now ctx.detail (S.held parts.old) (S.held parts.new) (base_parts ctx.detail (context_of ctx) (tree_at (trees (table_of self.now)) node)) }
         ensures few { S.room parts.old ≤ S.room parts.new + 8 }
     {
-        match self.node(node) {
+        match self.stored(node) {
             Node::Alone(piece) => self.fill_piece(parts, piece, ctx),
             Node::InStd(piece) => self.fill_piece(parts, piece, ctx),
             Node::Within { prefix, piece } => self.fill_base_within(parts, prefix, piece, ctx),

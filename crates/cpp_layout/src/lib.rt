@@ -18,5 +18,7 @@ mod texts;
 mod types;
 
 pub use context::Context;
+pub use cpp_tree::node::{Adjustment, Signed, Thunk};
+pub use cpp_views::{Node, equal_trees_have_equal_views, fields_make_the_tree, tree_production};
 pub use sym_print::Detail;
 pub use symbol::Symbol;

@@ -118,7 +118,7 @@ impl Symbol {
         ensures shows { Shows self.now ctx.detail (S.held parts.old) (S.held parts.new) (first_parts (context_of ctx) (tree_at (trees (table_of self.now)) node)) }
         ensures few { S.room parts.old ≤ S.room parts.new + 8 }
     {
-        match self.node(node) {
+        match self.stored(node) {
             Node::Cell { first, rest } => self.fill_first(parts, first, rest, ctx),
             _ => {}
         }
@@ -132,7 +132,7 @@ impl Symbol {
         ensures shows { Shows self.now ctx.detail (S.held parts.old) (S.held parts.new) (more_parts (context_of ctx) (tree_at (trees (table_of self.now)) node)) }
         ensures few { S.room parts.old ≤ S.room parts.new + 8 }
     {
-        match self.node(node) {
+        match self.stored(node) {
             Node::Cell { first, rest } => self.fill_more(parts, first, rest, ctx),
             _ => {}
         }

@@ -76,7 +76,7 @@ impl Symbol {
         ensures shows { Shows self.now ctx.detail (S.held parts.old) (S.held parts.new) (integer_parts (context_of ctx) (tree_at (trees (table_of self.now)) ty) (signed_of self.now.bytes value)) }
         ensures few { S.room parts.old ≤ S.room parts.new + 8 }
     {
-        match self.node(ty) {
+        match self.stored(ty) {
             Node::Builtin(letter) => {
                 if is_plain(letter) {
                     self.fill_plain_integer(parts, letter, value, ctx);

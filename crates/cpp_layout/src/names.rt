@@ -200,7 +200,7 @@ impl Symbol {
             → Shows self.now ctx.detail below (S.held parts.new) (prefix_item (context_of ctx) (tree_at (trees (table_of self.now)) prefix) ∷ others) }
         ensures room { S.room parts.new + 1 ≡ S.room parts.old }
     {
-        if is_encoding(self.node(prefix)) {
+        if is_encoding(self.stored(prefix)) {
             let closed = Context {
                 index: None,
                 detail: ctx.detail,
@@ -279,7 +279,7 @@ impl Symbol {
     {
         let mut name = template;
         'entities: loop {
-            match self.node(name) {
+            match self.stored(name) {
                 Node::Local { entity, .. } => name = entity,
                 Node::Alone(piece) => return is_angle(piece),
                 Node::InStd(piece) => return is_angle(piece),

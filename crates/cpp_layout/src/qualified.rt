@@ -86,7 +86,7 @@ impl Symbol {
         ensures shows { Shows self.now ctx.detail (S.held parts.old) (S.held parts.new) (qualified_left (context_of ctx) (qualifiers_of qualifiers) (tree_at (trees (table_of self.now)) ty)) }
         ensures few { S.room parts.old ≤ S.room parts.new + 8 }
     {
-        match self.node(ty) {
+        match self.stored(ty) {
             Node::FunctionType { .. } => self.push_item(parts, ty, form::LEFT, 0, ctx),
             _ => {
                 self.push_qualifiers(parts, qualifiers, ty, ctx);

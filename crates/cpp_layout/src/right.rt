@@ -53,7 +53,7 @@ impl Symbol {
         ensures shows { Shows self.now ctx.detail (S.held parts.old) (S.held parts.new) (qualified_right (context_of ctx) (qualifiers_of qualifiers) (tree_at (trees (table_of self.now)) ty)) }
         ensures few { S.room parts.old ≤ S.room parts.new + 8 }
     {
-        match self.node(ty) {
+        match self.stored(ty) {
             Node::FunctionType {
                 noexcept,
                 mark,
@@ -75,7 +75,7 @@ impl Symbol {
         ensures shows { Shows self.now ctx.detail (S.held parts.old) (S.held parts.new) (right_parts (context_of ctx) (tree_at (trees (table_of self.now)) node)) }
         ensures few { S.room parts.old ≤ S.room parts.new + 8 }
     {
-        match self.node(node) {
+        match self.stored(node) {
             Node::Pointer(ty) => self.fill_closing(parts, ty, ctx),
             Node::Lvalue(ty) => self.fill_closing(parts, ty, ctx),
             Node::Rvalue(ty) => self.fill_closing(parts, ty, ctx),

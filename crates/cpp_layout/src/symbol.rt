@@ -1,16 +1,21 @@
 // A symbol that was read.
 #![tactic(auto)]
 
-ghost use Rattle.std.specs.Prelude.{◌≡◌, ◌+◌, ◌<◌, ◌≤◌, ◌*◌, length, slice_get};
+ghost use Rattle.std.specs.Prelude.{◌≡◌, ◌+◌, ◌<◌, ◌≤◌, ◌*◌, length, slice_get, Some};
+ghost use Rattle.std.specs.List.{All};
 ghost use Rattle.cpp_grammar.specs.Items as heads;
 ghost use Rattle.cpp_term.specs.Items as items;
 ghost use Rattle.cpp_term.specs.Items.{indexed};
 ghost use Rattle.cpp_tree.specs.Nodes.{tree_at, trees, tree_of, bytes_at, IsBelow, IsTable, IsWithin, entry_at};
 ghost use Rattle.cpp_layout.specs.Layout.{table_of, context_of, IsRead};
+ghost use Rattle.cpp_views.specs.Fields.{offsets_of, tree_from};
+ghost use Rattle.cpp_views.specs.Views.{plain_tree, fields_at, seen_fields, offsets_in, IsView, AreBelow, AreWithin, IsKnownThunk};
 
 use crate::context::Context;
 use cpp_tree::Nodes;
 use cpp_tree::node::{Entry, Node, Thunk};
+use cpp_views::Node as View;
+use cpp_views::view::{NodeView, offsets_of, view_of};
 use std::alloc::Global;
 use std::marker::Model;
 use sym_core::{Counts, Span};
@@ -80,6 +85,7 @@ impl Symbol {
     /// The node of the whole symbol.
     pub fn root_node(&self) -> u32
         ensures root { result ≡ self.now.root }
+        ensures within { result < length self.now.table.nodes }
         ensures read { IsRead self.now }
     {
         self.root
@@ -94,15 +100,62 @@ impl Symbol {
         self.nodes.entry(node)
     }
 
-    /// A node, which is made of earlier ones.
+    /// A node as it is stored, which is made of earlier ones.
     #[inline(always)]
-    pub fn node(&self, node: u32) -> Node
+    pub fn stored(&self, node: u32) -> Node
         requires table { IsTable (table_of self.now) }
         requires node { node < length self.now.table.nodes }
         ensures tree { tree_at (trees (table_of self.now)) node ≡ tree_of self.now.bytes self.now.table.thunks (trees (table_of self.now)) result }
         ensures below { IsBelow self.now.bytes (length self.now.table.thunks) node result }
     {
         self.nodes.node(&self.bytes, node)
+    }
+
+    /// A node's view and parts.
+    fn view_at(&self, node: u32) -> NodeView
+        requires { node < length self.now.table.nodes }
+        ensures fields { seen_fields (table_of self.now) result ≡ fields_at (table_of self.now) node }
+        ensures texts { AreWithin self.now.bytes result.node.texts }
+        ensures parts { AreBelow node result }
+        ensures few { result.node.parts ≤ 3 }
+    {
+        view_of(&self.bytes, &self.nodes, self.nodes.node(&self.bytes, node))
+    }
+
+    /// The view of a node, which is below `counts().nodes`. It takes no memory.
+    ///
+    /// The node's tree, in which a parameter is its number alone, is its production over these numbers, the bytes of these
+    /// texts and the trees of its parts, and for `WIDE_THUNK` over its offsets. Two nodes have equal trees exactly where these
+    /// are equal.
+    pub fn node(&self, node: u32) -> View
+        requires { node < length self.now.table.nodes }
+        ensures fields { IsView self.now.bytes result (fields_at (table_of self.now) node) }
+        ensures tree { plain_tree (table_of self.now) node ≡ tree_from (fields_at (table_of self.now) node) (offsets_of (plain_tree (table_of self.now) node)) }
+        ensures within { All (λ text. IsWithin text self.now.bytes) result.texts }
+        ensures few { result.parts ≤ 3 }
+    {
+        self.view_at(node).node
+    }
+
+    /// A part of a node, counted from 0: an earlier node. The node is below `counts().nodes`, and the part below its
+    /// view's `parts`. It takes no memory.
+    pub fn part(&self, node: u32, k: u32) -> u32
+        requires node { node < length self.now.table.nodes }
+        requires part { k < length (fields_at (table_of self.now) node).parts }
+        ensures earlier { result < node }
+        ensures part { slice_get (fields_at (table_of self.now) node).parts k ≡ Some (plain_tree (table_of self.now) result) }
+    {
+        self.view_at(node).parts[k as usize]
+    }
+
+    /// The offsets by which a node adjusts pointers, where it is a thunk: all four that a thunk may have. The node is below
+    /// `counts().nodes`. It takes no memory.
+    pub fn call_offsets(&self, node: u32) -> Option<Thunk>
+        requires { node < length self.now.table.nodes }
+        ensures offsets { offsets_in self.now.bytes result ≡ offsets_of (plain_tree (table_of self.now) node) }
+        ensures within { IsKnownThunk self.now.bytes result }
+    {
+        offsets_of(&self.bytes, &self.nodes, self.nodes.node(&self.bytes, node))
     }
 
     /// What a thunk adjusts.
@@ -117,7 +170,7 @@ impl Symbol {
         *self.bytes.allocator()
     }
 
-    /// Bytes of the symbol.
+    /// The bytes of a span within the symbol, as each text of a node's view is. It takes no memory.
     pub fn bytes_of(&self, span: Span) -> &[u8]
         requires { IsWithin span self.now.bytes }
         ensures { result.now ≡ bytes_at self.now.bytes span }

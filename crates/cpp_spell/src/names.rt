@@ -54,8 +54,8 @@ fn is_piece_behind(symbol: &Symbol, name: u32) -> bool
     requires name { name < length symbol.now.table.nodes }
     ensures { result ≡ is_piece_behind (plain_at symbol.now name) }
 {
-    match symbol.node(name) {
-        Node::Within { prefix, .. } => is_encoding(symbol.node(prefix)),
+    match symbol.stored(name) {
+        Node::Within { prefix, .. } => is_encoding(symbol.stored(prefix)),
         _ => false,
     }
 }
@@ -67,7 +67,7 @@ fn is_one_piece(symbol: &Symbol, entity: u32) -> bool
     requires entity { entity < length symbol.now.table.nodes }
     ensures { result ≡ is_one_piece (plain_at symbol.now entity) }
 {
-    match symbol.node(entity) {
+    match symbol.stored(entity) {
         Node::Instance { template, .. } => is_piece_behind(symbol, template),
         _ => is_piece_behind(symbol, entity),
     }
@@ -393,7 +393,7 @@ pub fn then_name(
     ensures tasks { OnOk result (AreTasks symbol.now tasks.new.items) }
     ensures memory { IfErr result (λ e. e ≡ Memory) }
 {
-    let node = symbol.node(name);
+    let node = symbol.stored(name);
     if let Node::Local {
         encoding: around,
         entity,

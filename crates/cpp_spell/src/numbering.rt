@@ -66,7 +66,7 @@ fn key_of<'a>(symbol: &'a Symbol, numbers: &[u32], node: u32) -> Key<'a>
     requires below { AreBelow numbers.now }
     ensures { IsKeyOf symbol.now numbers.now (fields_of (plain_at symbol.now node)) result }
 {
-    let view = view_of(symbol, symbol.node(node));
+    let view = view_of(symbol, symbol.stored(node));
     let [first_text, second_text, third_text, fourth_text] = view.texts;
     let [first, second, third] = view.parts;
     Key {

@@ -56,7 +56,7 @@ fn standing_of(
     requires number { node < length numbering.now }
     ensures { result ≡ standing_of way (plain_at symbol.now node) (get like components.now.first (likeness_of symbol.now numbering.now node encoding)) }
 {
-    if is_compared(way, symbol.node(node)) {
+    if is_compared(way, symbol.stored(node)) {
         compared(components.first(likeness_of(symbol, numbering, node, encoding)))
     } else {
         Standing::Apart
@@ -76,7 +76,7 @@ fn template_standing_of(
     requires number { name < length numbering.now }
     ensures { result ≡ template_standing_of (plain_at symbol.now name) (get like components.now.first (likeness_of symbol.now numbering.now name encoding)) }
 {
-    if is_name(symbol.node(name)) {
+    if is_name(symbol.stored(name)) {
         compared(components.first(likeness_of(symbol, numbering, name, encoding)))
     } else {
         Standing::Apart

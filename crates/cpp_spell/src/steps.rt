@@ -102,7 +102,7 @@ fn then_template_out(
     ensures tasks { OnOk result (AreTasks symbol.now tasks.new.items) }
     ensures memory { IfErr result (λ e. e ≡ Memory) }
 {
-    if needs_n(symbol.node(name), in_type) {
+    if needs_n(symbol.stored(name), in_type) {
         then_fixed(symbol, b"E", tasks)?;
         then_between_arguments(symbol, name, arguments, encoding, tasks)?;
         then_fixed(symbol, b"N", tasks)?;
@@ -132,7 +132,7 @@ fn then_between_arguments(
 {
     then_arguments(symbol, arguments, encoding, tasks)?;
     then_ended(symbol, name, encoding, tasks)?;
-    if !is_instance(symbol.node(name)) {
+    if !is_instance(symbol.stored(name)) {
         then_tree(symbol, name, Way::Between, encoding, tasks)?;
     }
     Ok(())

@@ -446,7 +446,7 @@ pub fn then_spelled(
     ensures tasks { OnOk result (AreTasks symbol.now tasks.new.items) }
     ensures memory { IfErr result (λ e. e ≡ Memory) }
 {
-    let is = symbol.node(node);
+    let is = symbol.stored(node);
     match way {
         Way::Type => then_type(symbol, is, encoding, tasks)?,
         Way::UnderQualifiers => then_type(symbol, is, encoding, tasks)?,

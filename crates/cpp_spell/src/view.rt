@@ -1,5 +1,8 @@
 // What a node says beside its parts, in numbers and texts.
 //
+// The views that callers have (`cpp_views`) hold two numbers and two texts, and leave the offsets of some thunks to a call of
+// their own. A key of the map (`numbering`) holds all that a node says, in one form for each node, so it is made from these.
+//
 // A production has a number here, its place in the list `tree_of_fields` (`specs/Fields.antt`, which names them all): 0 is no
 // tree, 1 to 23 are lists, encodings, literals and types, 24 to 29 names, 30 to 34 types without parts, and 37 to 42 thunks.
 // What has two forms of fields has a number for each: a local name with a discriminator and without, a builtin type of one

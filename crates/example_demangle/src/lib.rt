@@ -10,6 +10,8 @@ use std::alloc::Global;
 use sym_core::{Refusal, fits};
 
 #[cfg(test)]
+mod cpp_tests;
+#[cfg(test)]
 mod tests;
 
 /// The text of a symbol.

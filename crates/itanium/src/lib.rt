@@ -5,7 +5,10 @@ mod demangling;
 mod grammar;
 mod mangling;
 
-pub use cpp_layout::{Detail, Symbol};
+pub use cpp_layout::{
+    Adjustment, Detail, Node, Signed, Symbol, Thunk, equal_trees_have_equal_views,
+    fields_make_the_tree, tree_production,
+};
 pub use demangling::{demangle, demangle_as, read, read_fed};
 pub use grammar::Abi;
 pub use sym_core::Counts;

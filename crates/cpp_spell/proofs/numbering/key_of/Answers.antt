@@ -11,21 +11,21 @@ part_number-requires-clause-part c =
     let parts = c.view_of-view.result.parts in
     let long : length parts ≡ 3 = search rules in
     subst (λ n. IsSlotBelow n (get_or parts 0 None)) (sym c.requires.before)
-    (below-at c.args.node None parts 0 (omega (arith, long)) (c.view_of-view.ensures.parts c.args.node c.node.ensures.below))
+    (below-at c.args.node None parts 0 (omega (arith, long)) (c.view_of-view.ensures.parts c.args.node c.stored.ensures.below))
 
 pub part_number-requires-2-clause-part : goal.part_number-requires-2-clause-part
 part_number-requires-2-clause-part c =
     let parts = c.view_of-view.result.parts in
     let long : length parts ≡ 3 = search rules in
     subst (λ n. IsSlotBelow n (get_or parts 1 None)) (sym c.requires.before)
-    (below-at c.args.node None parts 1 (omega (arith, long)) (c.view_of-view.ensures.parts c.args.node c.node.ensures.below))
+    (below-at c.args.node None parts 1 (omega (arith, long)) (c.view_of-view.ensures.parts c.args.node c.stored.ensures.below))
 
 pub part_number-requires-3-clause-part : goal.part_number-requires-3-clause-part
 part_number-requires-3-clause-part c =
     let parts = c.view_of-view.result.parts in
     let long : length parts ≡ 3 = search rules in
     subst (λ n. IsSlotBelow n (get_or parts 2 None)) (sym c.requires.before)
-    (below-at c.args.node None parts 2 (omega (arith, long)) (c.view_of-view.ensures.parts c.args.node c.node.ensures.below))
+    (below-at c.args.node None parts 2 (omega (arith, long)) (c.view_of-view.ensures.parts c.args.node c.stored.ensures.below))
 
 pub returns : goal.returns
 returns c =
@@ -35,8 +35,8 @@ returns c =
     let few : length view.parts ≡ 3 = search rules in
     let four : length view.texts ≡ 4 = search rules in
     let given = fields_of (plain_at y c.args.node) in
-    let said : fields_in y view ≡ given = c.view_of-view.ensures.fields ∙ ap (λ t. fields_of (erase t)) (sym c.node.ensures.tree) in
-    let slots = subst (λ n. AreSlotsBelow n view.parts) (sym c.requires.before) (c.view_of-view.ensures.parts c.args.node c.node.ensures.below) in
+    let said : fields_in y view ≡ given = c.view_of-view.ensures.fields ∙ ap (λ t. fields_of (erase t)) (sym c.stored.ensures.tree) in
+    let slots = subst (λ n. AreSlotsBelow n view.parts) (sym c.requires.before) (c.view_of-view.ensures.parts c.args.node c.stored.ensures.below) in
     record {
       production = ap (λ (f : Fields). f.production) said;
       own_numbers = ap (λ (f : Fields). f.numbers) said;

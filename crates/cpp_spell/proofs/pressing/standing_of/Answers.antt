@@ -14,11 +14,11 @@ returns-then-is_compared c =
     let t = plain_at y c.args.node in
     c.compared.ensures ∙ ap compared (c.first.ensures ∙ ap (get like c.args.components.now.first) c.likeness_of.ensures)
     ∙ compared-way c.args.way t (get like c.args.components.now.first (likeness_of y c.args.numbering.now c.args.node c.args.encoding))
-    (ap (λ u. is_compared c.args.way u) (ap erase c.node.ensures.tree) ∙ sym (c.is_compared.ensures y) ∙ c.if-is_compared.true)
+    (ap (λ u. is_compared c.args.way u) (ap erase c.stored.ensures.tree) ∙ sym (c.is_compared.ensures y) ∙ c.if-is_compared.true)
 
 pub returns-else-is_compared : goal.returns-else-is_compared
 returns-else-is_compared c =
     let y = c.args.symbol.now in
     let t = plain_at y c.args.node in
     uncompared-way c.args.way t (get like c.args.components.now.first (likeness_of y c.args.numbering.now c.args.node c.args.encoding))
-    (ap (λ u. is_compared c.args.way u) (ap erase c.node.ensures.tree) ∙ sym (c.is_compared.ensures y) ∙ c.if-is_compared.false)
+    (ap (λ u. is_compared c.args.way u) (ap erase c.stored.ensures.tree) ∙ sym (c.is_compared.ensures y) ∙ c.if-is_compared.false)

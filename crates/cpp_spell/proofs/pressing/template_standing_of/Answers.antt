@@ -14,11 +14,11 @@ returns-then-is_name c =
     let t = plain_at y c.args.name in
     c.compared.ensures ∙ ap compared (c.first.ensures ∙ ap (get like c.args.components.now.first) c.likeness_of.ensures)
     ∙ compared-name t (get like c.args.components.now.first (likeness_of y c.args.numbering.now c.args.name c.args.encoding))
-    (ap (λ u. is_name u) (ap erase c.node.ensures.tree) ∙ sym (c.is_name.ensures y) ∙ c.if-is_name.true)
+    (ap (λ u. is_name u) (ap erase c.stored.ensures.tree) ∙ sym (c.is_name.ensures y) ∙ c.if-is_name.true)
 
 pub returns-else-is_name : goal.returns-else-is_name
 returns-else-is_name c =
     let y = c.args.symbol.now in
     let t = plain_at y c.args.name in
     uncompared-name t (get like c.args.components.now.first (likeness_of y c.args.numbering.now c.args.name c.args.encoding))
-    (ap (λ u. is_name u) (ap erase c.node.ensures.tree) ∙ sym (c.is_name.ensures y) ∙ c.if-is_name.false)
+    (ap (λ u. is_name u) (ap erase c.stored.ensures.tree) ∙ sym (c.is_name.ensures y) ∙ c.if-is_name.false)

@@ -10,4 +10,4 @@ unfolding tree_of bare_parts
 returns-in-Function-clause-shows g c = fills c.args.self.now c.args.detail _ _ _ (c.push_bare.ensures.shows _ _ (starts c.args.self.now c.args.detail _)) (append-nil _ ∙ ap (λ t. bare_parts t) (sym c.in-Function.ensures.tree))
 
 pub returns-in_default-clause-shows : goal.returns-in_default-clause-shows
-returns-in_default-clause-shows g c = fills c.args.self.now c.args.detail _ _ _ c.fill_full.ensures.shows (bare-other _ _ _ c.node.result _ c.node.ensures.tree c.in_default.not-Function)
+returns-in_default-clause-shows g c = fills c.args.self.now c.args.detail _ _ _ c.fill_full.ensures.shows (bare-other _ _ _ c.stored.result _ c.stored.ensures.tree c.in_default.not-Function)

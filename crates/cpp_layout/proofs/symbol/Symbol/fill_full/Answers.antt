@@ -26,4 +26,4 @@ unfolding tree_of full_parts
 returns-in-Guard-clause-shows g c = fills c.args.self.now c.args.detail _ _ _ c.fill_object-in-Guard.ensures.shows (ap (λ t. full_parts t) (sym c.in-Guard.ensures.tree))
 
 pub returns-in_default-clause-shows : goal.returns-in_default-clause-shows
-returns-in_default-clause-shows g c = fills c.args.self.now c.args.detail _ _ _ (starts c.args.self.now c.args.detail _) (full-none _ _ _ c.node.result _ c.node.ensures.tree c.in_default.not-Function c.in_default.not-Object c.in_default.not-Special c.in_default.not-Thunk c.in_default.not-Guard)
+returns-in_default-clause-shows g c = fills c.args.self.now c.args.detail _ _ _ (starts c.args.self.now c.args.detail _) (full-none _ _ _ c.stored.result _ c.stored.ensures.tree c.in_default.not-Function c.in_default.not-Object c.in_default.not-Special c.in_default.not-Thunk c.in_default.not-Guard)

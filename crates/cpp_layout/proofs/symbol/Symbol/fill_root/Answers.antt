@@ -10,4 +10,4 @@ unfolding tree_of
 returns-in-Whole-clause-shows g c = fills c.args.self.now c.args.detail _ _ _ c.fill_whole.ensures.shows (ap (λ t. root_parts t) (sym c.in-Whole.ensures.tree))
 
 pub returns-in_default-clause-shows : goal.returns-in_default-clause-shows
-returns-in_default-clause-shows g c = fills c.args.self.now c.args.detail _ _ _ (starts c.args.self.now c.args.detail _) (root-none _ _ _ c.node.result _ c.node.ensures.tree c.in_default.not-Whole)
+returns-in_default-clause-shows g c = fills c.args.self.now c.args.detail _ _ _ (starts c.args.self.now c.args.detail _) (root-none _ _ _ c.stored.result _ c.stored.ensures.tree c.in_default.not-Whole)

@@ -1,0 +1,2 @@
+pub mod Rebuilding
+mod FieldRows

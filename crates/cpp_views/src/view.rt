@@ -1,0 +1,395 @@
+// The view of a node.
+#![tactic(auto)]
+
+ghost use Rattle.std.specs.Prelude.{◌≡◌, ℕ, ◌≤◌, [], ◌∷◌, length};
+ghost use Rattle.cpp_term.specs.Erased.{erase};
+ghost use Rattle.cpp_grammar.specs.Term.{Term};
+ghost use Rattle.cpp_tree.specs.Nodes.{over, trees, tree_of, piece_of, qualifiers_of, mark_of, thunk_of, discriminator_of, IsSpan, IsBelow, IsPieceBelow, IsTable};
+ghost use Rattle.cpp_views.specs.Fields.{bit, mark_number, qualifiers_number, linkage_number, name_fields, local_fields, thunk_fields, fields_of, offsets_of};
+ghost use Rattle.cpp_views.specs.Views.{plain_tree, prefix_trees, seen_of, seen_behind, seen_fields, no_text, offsets_in, AreBelow, IsSlotBelow, AreWithin, IsKnownThunk};
+
+use crate::tree_production::{
+    ABBREVIATION, ABSENT, ADDRESS_OF, ARRAY, BOOLEAN, BUILTIN, BUILTIN_WITH_D, COMPLEX,
+    CONSTRUCTOR, COVARIANT_THUNK, DESTRUCTOR, ENCODING_LITERAL, EXPANSION, FUNCTION, FUNCTION_TYPE,
+    GUARD, INSTANCE, INTEGER, LAMBDA, LIST, LITERAL_OPERATOR, LOCAL, LVALUE, MEMBER_POINTER,
+    NESTED_CONSTRUCTOR, NESTED_DESTRUCTOR, NESTED_LAMBDA, NESTED_LITERAL_OPERATOR, NESTED_NO_PIECE,
+    NESTED_OPERATOR, NESTED_SOURCE, NESTED_STRING_LITERAL, NESTED_UNNAMED, NIL, NO_PIECE,
+    NULL_POINTER, NUMBERED_LOCAL, OBJECT, OPERATOR, PACK, PARAMETER, POINTER, QUALIFIED, RVALUE,
+    SOURCE, SPECIAL, STD_CONSTRUCTOR, STD_DESTRUCTOR, STD_LAMBDA, STD_LITERAL_OPERATOR,
+    STD_NO_PIECE, STD_OPERATOR, STD_SOURCE, STD_STRING_LITERAL, STD_UNNAMED, STRING_LITERAL,
+    SYMBOL, TABLE_THUNK, THUNK, UNNAMED, VECTOR, VENDOR, WIDE_THUNK,
+};
+use cpp_tree::node::{Adjustment, Mark, Piece, Qualifiers, Signed, Thunk};
+use cpp_tree::{Nodes, node};
+use sym_core::Span;
+
+/// The view of a node. What its numbers, texts and parts are stands at its production in `tree_production`.
+#[derive(Clone, Copy)]
+pub struct Node {
+    pub production: u16,
+    pub numbers: [u64; 2],
+    pub texts: [Span; 2],
+    pub parts: u32,
+}
+
+/// A node's view, and the nodes that are its parts.
+#[derive(Clone, Copy)]
+pub struct NodeView {
+    pub node: Node,
+    pub parts: [u32; 3],
+}
+
+/// The productions of names in one sort of scope, by their pieces.
+#[derive(Clone, Copy)]
+struct Names {
+    source: u16,
+    operator: u16,
+    literal_operator: u16,
+    constructor: u16,
+    destructor: u16,
+    lambda: u16,
+    unnamed: u16,
+    string_literal: u16,
+    no_piece: u16,
+}
+
+/// Those of names in no scope.
+const ALONE: Names = Names {
+    source: SOURCE,
+    operator: OPERATOR,
+    literal_operator: LITERAL_OPERATOR,
+    constructor: CONSTRUCTOR,
+    destructor: DESTRUCTOR,
+    lambda: LAMBDA,
+    unnamed: UNNAMED,
+    string_literal: STRING_LITERAL,
+    no_piece: NO_PIECE,
+};
+
+/// Those of names in std.
+const IN_STD: Names = Names {
+    source: STD_SOURCE,
+    operator: STD_OPERATOR,
+    literal_operator: STD_LITERAL_OPERATOR,
+    constructor: STD_CONSTRUCTOR,
+    destructor: STD_DESTRUCTOR,
+    lambda: STD_LAMBDA,
+    unnamed: STD_UNNAMED,
+    string_literal: STD_STRING_LITERAL,
+    no_piece: STD_NO_PIECE,
+};
+
+/// Those of names in a prefix.
+const NESTED: Names = Names {
+    source: NESTED_SOURCE,
+    operator: NESTED_OPERATOR,
+    literal_operator: NESTED_LITERAL_OPERATOR,
+    constructor: NESTED_CONSTRUCTOR,
+    destructor: NESTED_DESTRUCTOR,
+    lambda: NESTED_LAMBDA,
+    unnamed: NESTED_UNNAMED,
+    string_literal: NESTED_STRING_LITERAL,
+    no_piece: NESTED_NO_PIECE,
+};
+
+const NO_TEXT: Span = Span { from: 0, to: 0 };
+
+/// A node of these numbers and texts, and of so many of these parts.
+fn seen(
+    production: u16,
+    numbers: [u64; 2],
+    texts: [Span; 2],
+    count: u32,
+    parts: [u32; 3],
+) -> NodeView
+    ensures { result ≡ seen_of production numbers texts count parts }
+{
+    NodeView {
+        node: Node {
+            production,
+            numbers,
+            texts,
+            parts: count,
+        },
+        parts,
+    }
+}
+
+/// A node of one number alone.
+fn leaf(production: u16, number: u64) -> NodeView
+    ensures { result ≡ seen_of production (number ∷ 0 ∷ []) (no_text ∷ no_text ∷ []) 0 (0 ∷ 0 ∷ 0 ∷ []) }
+{
+    seen(production, [number, 0], [NO_TEXT; 2], 0, [0; 3])
+}
+
+/// A node of one part.
+fn one(production: u16, numbers: [u64; 2], text: Span, part: u32) -> NodeView
+    ensures { result ≡ seen_of production numbers (text ∷ no_text ∷ []) 1 (part ∷ 0 ∷ 0 ∷ []) }
+{
+    seen(production, numbers, [text, NO_TEXT], 1, [part, 0, 0])
+}
+
+/// A node of two parts.
+fn two(production: u16, numbers: [u64; 2], text: Span, first: u32, second: u32) -> NodeView
+    ensures { result ≡ seen_of production numbers (text ∷ no_text ∷ []) 2 (first ∷ second ∷ 0 ∷ []) }
+{
+    seen(production, numbers, [text, NO_TEXT], 2, [first, second, 0])
+}
+
+/// A name of this text, behind a prefix if there is one.
+fn named(production: u16, numbers: [u64; 2], text: Span, prefix: Option<u32>) -> NodeView
+    ensures { result ≡ seen_behind production numbers text prefix }
+{
+    match prefix {
+        None => seen(production, numbers, [text, NO_TEXT], 0, [0; 3]),
+        Some(prefix) => one(production, numbers, text, prefix),
+    }
+}
+
+/// 1 for what is so.
+#[tactic(auto, unfolding(crate::specs::Fields::bit))]
+fn bit(test: bool) -> u64
+    ensures is { result ≡ bit test }
+    ensures small { result ≤ 1 }
+{
+    if test { 1 } else { 0 }
+}
+
+/// The number of a mark.
+#[tactic(auto, unfolding(crate::specs::Fields::mark_number))]
+fn mark_number(mark: Mark) -> u64
+    ensures { result ≡ mark_number (mark_of mark) }
+{
+    match mark {
+        Mark::Any => 0,
+        Mark::Lvalue => 1,
+        Mark::Rvalue => 2,
+    }
+}
+
+/// The number of qualifiers.
+fn qualifiers_number(qualifiers: Qualifiers) -> u64
+    ensures { result ≡ qualifiers_number (qualifiers_of qualifiers) }
+{
+    bit(qualifiers.restrict) + 2 * bit(qualifiers.volatile) + 4 * bit(qualifiers.const_)
+}
+
+/// The number of what a function's type says beside its mark.
+fn linkage_number(c_linkage: bool, noexcept: bool) -> u64
+    ensures { result ≡ linkage_number c_linkage noexcept }
+{
+    bit(c_linkage) + 2 * bit(noexcept)
+}
+
+/// The view of a name of a piece, behind a prefix if there is one.
+#[tactic(auto, unfolding(crate::specs::Fields::name_fields, cpp_term::specs::Erased::erase, cpp_tree::specs::Nodes::piece_of))]
+fn view_of_name(
+    symbol: &[u8],
+    nodes: &Nodes,
+    names: Names,
+    prefix: Option<u32>,
+    piece: Piece,
+) -> NodeView
+    requires piece { IsPieceBelow symbol.now (length nodes.now.nodes) piece }
+    ensures fields { (whole : Term) → seen_fields (over symbol.now nodes.now) result ≡ name_fields names (prefix_trees (over symbol.now nodes.now) prefix) whole (erase (piece_of symbol.now (trees (over symbol.now nodes.now)) piece)) }
+    ensures texts { AreWithin symbol.now result.node.texts }
+    ensures parts { (n : ℕ) → IsSlotBelow n prefix → IsPieceBelow symbol.now n piece → AreBelow n result }
+    ensures few { result.node.parts ≤ 3 }
+{
+    match piece {
+        Piece::Source { internal, bytes } => named(names.source, [bit(internal), 0], bytes, prefix),
+        Piece::Operator(first, second) => {
+            let letters = [first as u64, second as u64];
+            named(names.operator, letters, NO_TEXT, prefix)
+        }
+        Piece::LiteralOperator(bytes) => named(names.literal_operator, [0; 2], bytes, prefix),
+        Piece::Constructor(digit) => named(names.constructor, [digit as u64, 0], NO_TEXT, prefix),
+        Piece::Destructor(digit) => named(names.destructor, [digit as u64, 0], NO_TEXT, prefix),
+        Piece::Lambda { parameters, number } => match prefix {
+            None => one(names.lambda, [number, 0], NO_TEXT, parameters),
+            Some(prefix) => two(names.lambda, [number, 0], NO_TEXT, prefix, parameters),
+        },
+        Piece::Unnamed(number) => named(names.unnamed, [number, 0], NO_TEXT, prefix),
+        Piece::StringLiteral => named(names.string_literal, [0; 2], NO_TEXT, prefix),
+        Piece::Absent => named(names.no_piece, [0; 2], NO_TEXT, prefix),
+    }
+}
+
+/// The view of a name in a function.
+#[tactic(auto, unfolding(crate::specs::Fields::local_fields))]
+fn view_of_local(
+    symbol: &[u8],
+    nodes: &Nodes,
+    encoding: u32,
+    entity: u32,
+    discriminator: Option<Span>,
+) -> NodeView
+    requires discriminator { IsSpan symbol.now discriminator }
+    ensures fields { seen_fields (over symbol.now nodes.now) result ≡ local_fields (plain_tree (over symbol.now nodes.now) encoding) (plain_tree (over symbol.now nodes.now) entity) (discriminator_of symbol.now discriminator) }
+    ensures texts { AreWithin symbol.now result.node.texts }
+    ensures parts { result.parts ≡ encoding ∷ entity ∷ 0 ∷ [] }
+    ensures count { result.node.parts ≡ 2 }
+{
+    match discriminator {
+        None => two(LOCAL, [0; 2], NO_TEXT, encoding, entity),
+        Some(digits) => two(NUMBERED_LOCAL, [0; 2], digits, encoding, entity),
+    }
+}
+
+/// A thunk by an offset in each of two places.
+fn offsets(production: u16, first: Signed, second: Signed, encoding: u32) -> NodeView
+    ensures { result ≡ seen_of production (bit first.negative ∷ bit second.negative ∷ []) (first.digits ∷ second.digits ∷ []) 1 (encoding ∷ 0 ∷ 0 ∷ []) }
+{
+    seen(
+        production,
+        [bit(first.negative), bit(second.negative)],
+        [first.digits, second.digits],
+        1,
+        [encoding, 0, 0],
+    )
+}
+
+/// The view of a thunk.
+#[tactic(auto, unfolding(crate::specs::Fields::thunk_fields, crate::specs::Fields::bit, cpp_tree::specs::Nodes::thunk_of, cpp_tree::specs::Nodes::adjustment_of))]
+fn view_of_thunk(symbol: &[u8], nodes: &Nodes, thunk: Option<Thunk>, encoding: u32) -> NodeView
+    requires thunk { IsKnownThunk symbol.now thunk }
+    ensures fields { seen_fields (over symbol.now nodes.now) result ≡ thunk_fields (thunk_of symbol.now thunk) (plain_tree (over symbol.now nodes.now) encoding) }
+    ensures texts { AreWithin symbol.now result.node.texts }
+    ensures parts { result.parts ≡ encoding ∷ 0 ∷ 0 ∷ [] }
+    ensures count { result.node.parts ≡ 1 }
+{
+    match thunk {
+        None => one(THUNK, [0; 2], NO_TEXT, encoding),
+        Some(Thunk::Adjusting(this)) => match this {
+            Adjustment::NonVirtual(offset) => {
+                one(THUNK, [bit(offset.negative), 0], offset.digits, encoding)
+            }
+            Adjustment::ByTable(offset, place) => offsets(TABLE_THUNK, offset, place, encoding),
+        },
+        Some(Thunk::Covariant(this, returned)) => match this {
+            Adjustment::NonVirtual(first) => match returned {
+                Adjustment::NonVirtual(second) => {
+                    offsets(COVARIANT_THUNK, first, second, encoding)
+                }
+                Adjustment::ByTable(_, _) => one(WIDE_THUNK, [0; 2], NO_TEXT, encoding),
+            },
+            Adjustment::ByTable(_, _) => one(WIDE_THUNK, [0; 2], NO_TEXT, encoding),
+        },
+    }
+}
+
+/// The view of a node, and its parts.
+#[tactic(auto, unfolding(crate::specs::Fields::fields_of, cpp_term::specs::Erased::erase, cpp_tree::specs::Nodes::tree_of))]
+pub fn view_of(symbol: &[u8], nodes: &Nodes, node: node::Node) -> NodeView
+    requires table { IsTable (over symbol.now nodes.now) }
+    requires node { IsBelow symbol.now (length nodes.now.thunks) (length nodes.now.nodes) node }
+    ensures fields { seen_fields (over symbol.now nodes.now) result ≡ fields_of (erase (tree_of symbol.now nodes.now.thunks (trees (over symbol.now nodes.now)) node)) }
+    ensures texts { AreWithin symbol.now result.node.texts }
+    ensures parts { (n : ℕ) → IsBelow symbol.now (length nodes.now.thunks) n node → AreBelow n result }
+    ensures few { result.node.parts ≤ 3 }
+{
+    let none = [0; 2];
+    match node {
+        node::Node::Absent => leaf(ABSENT, 0),
+        node::Node::Nil => leaf(NIL, 0),
+        node::Node::Function {
+            name,
+            qualifiers,
+            mark,
+            returned,
+            parameters,
+        } => seen(
+            FUNCTION,
+            [qualifiers_number(qualifiers), mark_number(mark)],
+            [NO_TEXT; 2],
+            3,
+            [name, returned, parameters],
+        ),
+        node::Node::Object {
+            name,
+            qualifiers,
+            mark,
+        } => {
+            let numbers = [qualifiers_number(qualifiers), mark_number(mark)];
+            one(OBJECT, numbers, NO_TEXT, name)
+        }
+        node::Node::Special { letter, ty } => one(SPECIAL, [letter as u64, 0], NO_TEXT, ty),
+        node::Node::Thunk { thunk, encoding } => {
+            view_of_thunk(symbol, nodes, nodes.thunk(thunk), encoding)
+        }
+        node::Node::Guard {
+            name,
+            qualifiers,
+            mark,
+        } => {
+            let numbers = [qualifiers_number(qualifiers), mark_number(mark)];
+            one(GUARD, numbers, NO_TEXT, name)
+        }
+        node::Node::Alone(piece) => view_of_name(symbol, nodes, ALONE, None, piece),
+        node::Node::InStd(piece) => view_of_name(symbol, nodes, IN_STD, None, piece),
+        node::Node::Within { prefix, piece } => {
+            view_of_name(symbol, nodes, NESTED, Some(prefix), piece)
+        }
+        node::Node::Instance {
+            template,
+            arguments,
+        } => two(INSTANCE, none, NO_TEXT, template, arguments),
+        node::Node::Local {
+            encoding,
+            entity,
+            discriminator,
+        } => view_of_local(symbol, nodes, encoding, entity, discriminator),
+        node::Node::Abbreviation(letter) => leaf(ABBREVIATION, letter as u64),
+        node::Node::Parameter { number, .. } => leaf(PARAMETER, number as u64),
+        node::Node::Builtin(letter) => leaf(BUILTIN, letter as u64),
+        node::Node::BuiltinWithD(letter) => leaf(BUILTIN_WITH_D, letter as u64),
+        node::Node::Vendor(name) => seen(VENDOR, none, [name, NO_TEXT], 0, [0; 3]),
+        node::Node::Pointer(ty) => one(POINTER, none, NO_TEXT, ty),
+        node::Node::Lvalue(ty) => one(LVALUE, none, NO_TEXT, ty),
+        node::Node::Rvalue(ty) => one(RVALUE, none, NO_TEXT, ty),
+        node::Node::Array { digits, element } => one(ARRAY, none, digits, element),
+        node::Node::MemberPointer { class, member } => {
+            two(MEMBER_POINTER, none, NO_TEXT, class, member)
+        }
+        node::Node::FunctionType {
+            c_linkage,
+            noexcept,
+            mark,
+            returned,
+            parameters,
+        } => {
+            let numbers = [linkage_number(c_linkage, noexcept), mark_number(mark)];
+            two(FUNCTION_TYPE, numbers, NO_TEXT, returned, parameters)
+        }
+        node::Node::Qualified { qualifiers, ty } => {
+            one(QUALIFIED, [qualifiers_number(qualifiers), 0], NO_TEXT, ty)
+        }
+        node::Node::Vector { digits, element } => one(VECTOR, none, digits, element),
+        node::Node::Complex(ty) => one(COMPLEX, none, NO_TEXT, ty),
+        node::Node::Expansion(pattern) => one(EXPANSION, none, NO_TEXT, pattern),
+        node::Node::Integer { ty, value } => {
+            one(INTEGER, [bit(value.negative), 0], value.digits, ty)
+        }
+        node::Node::Boolean(truth) => leaf(BOOLEAN, bit(truth)),
+        node::Node::NullPointer => leaf(NULL_POINTER, 0),
+        node::Node::EncodingLiteral(encoding) => one(ENCODING_LITERAL, none, NO_TEXT, encoding),
+        node::Node::AddressOf(encoding) => one(ADDRESS_OF, none, NO_TEXT, encoding),
+        node::Node::Pack(elements) => one(PACK, none, NO_TEXT, elements),
+        node::Node::Cell { first, rest } => two(LIST, none, NO_TEXT, first, rest),
+        node::Node::Whole { encoding, suffix } => one(SYMBOL, none, suffix, encoding),
+    }
+}
+
+/// The offsets of a node that is a thunk.
+#[tactic(auto, unfolding(crate::specs::Fields::offsets_of, cpp_term::specs::Erased::erase, cpp_tree::specs::Nodes::tree_of))]
+pub fn offsets_of(symbol: &[u8], nodes: &Nodes, node: node::Node) -> Option<Thunk>
+    requires table { IsTable (over symbol.now nodes.now) }
+    requires node { IsBelow symbol.now (length nodes.now.thunks) (length nodes.now.nodes) node }
+    ensures offsets { offsets_in symbol.now result ≡ offsets_of (erase (tree_of symbol.now nodes.now.thunks (trees (over symbol.now nodes.now)) node)) }
+    ensures within { IsKnownThunk symbol.now result }
+{
+    match node {
+        node::Node::Thunk { thunk, .. } => nodes.thunk(thunk),
+        _ => None,
+    }
+}
