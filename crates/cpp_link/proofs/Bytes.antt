@@ -13,34 +13,35 @@ use Rattle.cpp_grammar.proofs.ClosedTrees.{Taken, taken_rule, at_number}
 use Rattle.cpp_term.specs.Values.{State, Value, Around}
 use Rattle.cpp_term.specs.Meaning.{meaning}
 use Rattle.cpp_term.specs.Unfolding.{behind, close}
+use Rattle.cpp_link.specs.LinkReading.{link_meaning, link_close}
 
 -- a rule that takes no byte means the same by any byte
-any_byte : (p : Production) (b c : ℕ) (around : Around) (place : ℕ) (began : State) (vs : List Value) (state : State) → is_chain p ≡ true
-    → close p b around place began vs state ≡ close p c around place began vs state
-unfolding is_chain close meaning behind
-any_byte Production.SourceName b c around place began vs state chain = refl
-any_byte Production.OperatorName b c around place began vs state chain = refl
-any_byte Production.SourcePiece b c around place began vs state chain = refl
-any_byte Production.Encoding b c around place began vs state chain = refl
-any_byte Production.Positive b c around place began vs state chain = refl
-any_byte Production.AbbreviatedName b c around place began vs state chain = refl
-any_byte Production.OperatorPiece b c around place began vs state chain = refl
-any_byte Production.NestSource b c around place began vs state chain = refl
-any_byte Production.NestAbbreviated b c around place began vs state chain = refl
-any_byte Production.NestNext b c around place began vs state chain = refl
-any_byte Production.Substitution b c around place began vs state chain = refl
-any_byte Production.PlainType b c around place began vs state chain = refl
-any_byte Production.QualifiedPlain b c around place began vs state chain = refl
-any_byte Production.ItemIsType b c around place began vs state chain = refl
-any_byte Production.AbbreviatedType b c around place began vs state chain = refl
-any_byte Production.RestItem b c around place began vs state chain = refl
-any_byte Production.LvalueItem b c around place began vs state chain = refl
-any_byte Production.RvalueItem b c around place began vs state chain = refl
-any_byte Production.Items b c around place began vs state chain = refl
-any_byte Production.TypeArgument b c around place began vs state chain = refl
-any_byte Production.TypeElement b c around place began vs state chain = refl
-any_byte Production.IntegerLiteral b c around place began vs state chain = refl
-any_byte _ b c around place began vs state chain = absurd (false≢true chain)
+any_byte : (s : List ℕ) (p : Production) (b c : ℕ) (around : Around) (place : ℕ) (began : State) (vs : List Value) (state : State) → is_chain p ≡ true
+    → link_close s p b around place began vs state ≡ link_close s p c around place began vs state
+unfolding is_chain link_close link_meaning close meaning behind
+any_byte s Production.SourceName b c around place began vs state chain = refl
+any_byte s Production.OperatorName b c around place began vs state chain = refl
+any_byte s Production.SourcePiece b c around place began vs state chain = refl
+any_byte s Production.Encoding b c around place began vs state chain = refl
+any_byte s Production.Positive b c around place began vs state chain = refl
+any_byte s Production.AbbreviatedName b c around place began vs state chain = refl
+any_byte s Production.OperatorPiece b c around place began vs state chain = refl
+any_byte s Production.NestSource b c around place began vs state chain = refl
+any_byte s Production.NestAbbreviated b c around place began vs state chain = refl
+any_byte s Production.NestNext b c around place began vs state chain = refl
+any_byte s Production.Substitution b c around place began vs state chain = refl
+any_byte s Production.PlainType b c around place began vs state chain = refl
+any_byte s Production.QualifiedPlain b c around place began vs state chain = refl
+any_byte s Production.ItemIsType b c around place began vs state chain = refl
+any_byte s Production.AbbreviatedType b c around place began vs state chain = refl
+any_byte s Production.RestItem b c around place began vs state chain = refl
+any_byte s Production.LvalueItem b c around place began vs state chain = refl
+any_byte s Production.RvalueItem b c around place began vs state chain = refl
+any_byte s Production.Items b c around place began vs state chain = refl
+any_byte s Production.TypeArgument b c around place began vs state chain = refl
+any_byte s Production.TypeElement b c around place began vs state chain = refl
+any_byte s Production.IntegerLiteral b c around place began vs state chain = refl
+any_byte s _ b c around place began vs state chain = absurd (false≢true chain)
 
 byte_there : (s : List ℕ) (place b : ℕ) (more : List ℕ) → drop place s ≡ b ∷ more → slice_index s place ≡ b
 byte_there [] zero b more is = cc
@@ -54,18 +55,18 @@ byte_is s place b taken more is at = ap byte_of is ∙ sym (byte_there s place b
 
 by_eating : (s : List ℕ) (place b : ℕ) (taken more : List ℕ) (p : Production) (chain : Bool) (around : Around) (began : State) (vs : List Value) (state : State) → is_chain p ≡ chain
     → taken ≡ (if not chain then b ∷ [] else []) → drop place s ≡ taken ++ more
-    → close p (byte_of taken) around place began vs state ≡ close p (slice_index s place) around place began vs state
-by_eating s place b taken more p true around began vs state chain is at = any_byte p (byte_of taken) (slice_index s place) around place began vs state chain
-by_eating s place b taken more p false around began vs state chain is at = ap (λ c. close p c around place began vs state) (byte_is s place b taken more is at)
+    → link_close s p (byte_of taken) around place began vs state ≡ link_close s p (slice_index s place) around place began vs state
+by_eating s place b taken more p true around began vs state chain is at = any_byte s p (byte_of taken) (slice_index s place) around place began vs state chain
+by_eating s place b taken more p false around began vs state chain is at = ap (λ c. link_close s p c around place began vs state) (byte_is s place b taken more is at)
 
 pub byte_serves : (s : List ℕ) (rule : Open State Around) (known : List Value) (state : State) → IsThere abi s rule
-    → close (production_at rule.rule.number) (byte_of rule.taken) rule.context rule.place rule.before known state
-    ≡ close (production_at rule.rule.number) (slice_index s rule.place) rule.context rule.place rule.before known state
+    → link_close s (production_at rule.rule.number) (byte_of rule.taken) rule.context rule.place rule.before known state
+    ≡ link_close s (production_at rule.rule.number) (slice_index s rule.place) rule.context rule.place rule.before known state
 unfolding rule_of
 byte_serves s rule known state there =
     let taken : Taken there.kind rule.rule = taken_rule there.kind rule.rule rule.taken there.is_kind there.takes in
     let p : Production = taken.production in
     let number : production_at rule.rule.number ≡ p = ap (λ (r : Rule). production_at r.number) taken.is ∙ at_number p in
     let takes : rule.taken ≡ (if not (is_chain p) then there.takes.byte ∷ [] else []) = there.takes.takes ∙ ap (λ (r : Rule). if r.eats then there.takes.byte ∷ [] else []) taken.is in
-    subst (λ q. close q (byte_of rule.taken) rule.context rule.place rule.before known state ≡ close q (slice_index s rule.place) rule.context rule.place rule.before known state) (sym number)
+    subst (λ q. link_close s q (byte_of rule.taken) rule.context rule.place rule.before known state ≡ link_close s q (slice_index s rule.place) rule.context rule.place rule.before known state) (sym number)
     (by_eating s rule.place there.takes.byte rule.taken there.behind p (is_chain p) rule.context rule.before known state refl takes there.spelled)

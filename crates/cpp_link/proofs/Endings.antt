@@ -1,8 +1,8 @@
 -- The number with which a lambda or an unnamed type ends.
-use Rattle.std.proofs.Common.{◌≡◌, refl, sym, ◌∙◌, ap, subst, arith, ℕ, suc, ◌+◌, ◌-◌, ◌^◌, ◌<◌, List, [], ◌∷◌, ◌++◌, length, take, drop, get_or, Bool, true, false, Result, Ok, Err, append_assoc, length-append}
-use Rattle.std.specs.Prelude.{nat_lt, slice_range}
-use Rattle.std.proofs.lemmas.Bool.{true≢false, false≢true}
-use Rattle.std.proofs.lemmas.List.{drop-drop, get_or-drop}
+use Rattle.std.proofs.Common.{◌≡◌, refl, sym, ◌∙◌, ap, subst, arith, ℕ, zero, suc, ◌+◌, ◌-◌, ◌^◌, ◌<◌, ◌≤◌, List, [], ◌∷◌, ◌++◌, length, take, drop, get_or, Bool, true, false, Result, Ok, Err, append_assoc, length-append}
+use Rattle.std.specs.Prelude.{nat_eq, nat_lt, slice_range, if◌then◌else◌}
+use Rattle.std.proofs.lemmas.Bool.{true≢false, false≢true, eqb-true}
+use Rattle.std.proofs.lemmas.List.{drop-drop, get_or-drop, length-drop}
 use Rattle.std.proofs.Math.Seq.{drop-append_seam, take-append_seam, get_or-append_seam}
 use Rattle.sym_core.specs.declared.refusal.Refusal.{Refusal}
 use Rattle.sym_core.specs.declared.refusal.Refusal.TheVariants.{BadValue}
@@ -13,6 +13,7 @@ use Rattle.sym_shape.specs.declared.rule.Sym.TheVariants.{Kind, Name, Number, By
 use Rattle.sym_shape.specs.Table.{Table, Token, symbols_of}
 use Rattle.sym_shape.specs.Tree.{Tree, Forest, branch, empty, token, fixed, nothing, grown, spell, spell_all, IsTree, AreTrees, row_count, row_count_all, rows_of, rows_of_all}
 use Rattle.sym_shape.proofs.Forests.{length-rows_of_all}
+use Rattle.sym_link.specs.Reading.{Open}
 use Rattle.sym_link.specs.Unfold.{standing}
 use Rattle.sym_link.specs.Linking.{IsRuleRow}
 use Rattle.cpp_grammar.specs.declared.production.Production.{Production}
@@ -21,13 +22,14 @@ use Rattle.cpp_grammar.specs.Table.{abi}
 use Rattle.cpp_grammar.specs.Unfolding.{last_token, production_at}
 use Rattle.cpp_grammar.specs.Values.{local_number}
 use Rattle.cpp_grammar.proofs.ClosedTrees.{at_number, its_symbols, taken_rule}
-use Rattle.cpp_term.specs.Unfolding.{number_tested, opening}
+use Rattle.cpp_term.specs.Unfolding.{number_tested, opening, cpp}
 use Rattle.cpp_term.specs.Values.{State, Around}
 use Rattle.cpp_link.specs.declared.part.Kept.{Kept}
 use Rattle.cpp_link.specs.declared.linked.Linked.{Linked}
 use Rattle.cpp_term.specs.Term.{Term}
 use Rattle.cpp_link.specs.Parts.{packs_of, around_of, IsKeptThere}
-use Rattle.cpp_link.specs.Numbered.{is_numbered}
+use Rattle.cpp_link.specs.Numbered.{is_numbered, IsRange}
+use Rattle.cpp_link.specs.LinkReading.{link_begin}
 use Rattle.cpp_link.specs.View.{Surrounds, IsKept, Holds}
 
 -- ## Parts of which the last one is a token
@@ -48,7 +50,7 @@ record LastToken (parts : Forest) : Type 0 where
   pub spelled : spell_all parts ≡ front ++ (own ++ rest)
   pub row : (at number : ℕ) → LastRow (rows_of_all parts at number) (at + length front) (at + length front + length own)
 
-last_behind : (first : Tree) (rest : Forest) (own digits : List ℕ) → ((ds : List ℕ) → last_token rest ds ≡ own) → last_token (grown first rest) digits ≡ own
+pub last_behind : (first : Tree) (rest : Forest) (own digits : List ℕ) → ((ds : List ℕ) → last_token rest ds ≡ own) → last_token (grown first rest) digits ≡ own
 unfolding last_token
 last_behind (token t) rest own digits is = is t.own
 last_behind (branch rule taken parts) rest own digits is = is digits
@@ -120,10 +122,14 @@ ends_with_number Production.Unnamed is = refl
 ends_with_number _ is = absurd (false≢true is)
 
 -- the last row of the rule's rows has the digits
+record HasDigits (s : List ℕ) (row : Row) (digits : List ℕ) : Type 0 where
+  pub range : IsRange s row
+  pub is : slice_range s row.from row.to ≡ digits
+
 digits_last : (s : List ℕ) (rows : List Row) (row : Row) (rule : Rule) (taken : List ℕ) (inner : Forest) (place : ℕ) (behind : List ℕ) (other : Row)
-    → IsRuleRow rows row rule taken inner place → drop place s ≡ taken ++ (spell_all inner ++ behind) → LastToken inner
-    → slice_range s (get_or rows (row.end - 1) other).from (get_or rows (row.end - 1) other).to ≡ last_token inner []
-digits_last s rows row rule taken inner place behind other row_is at last =
+    → IsRuleRow rows row rule taken inner place → place < length s → drop place s ≡ taken ++ (spell_all inner ++ behind) → LastToken inner
+    → HasDigits s (get_or rows (row.end - 1) other) (last_token inner [])
+digits_last s rows row rule taken inner place behind other row_is inside at last =
     let r = last.row (place + length taken) (row_is.number + 1) in
     let count : length r.others + 1 ≡ row_count_all inner = omega (arith, length-append r.others (r.last ∷ []), ap (λ x. length x) r.is, length-rows_of_all inner (place + length taken) (row_is.number + 1)) in
     let index : row.end - 1 ≡ row_is.number + suc (length r.others) = omega (arith, row_is.end, count) in
@@ -139,24 +145,31 @@ digits_last s rows row rule taken inner place behind other row_is at last =
     ap (λ k. drop k s) (omega (arith, r.begins, length-append taken last.front)) ∙ sym (drop-drop (length front) place s) ∙ ap (λ x. drop (length front) x) spelled
     ∙ drop-append_seam front (last.own ++ (last.rest ++ behind)) in
     let size : r.last.to - r.last.from ≡ length last.own = omega (arith, r.begins, r.ends) in
-    ap (λ x. slice_range s x.from x.to) found
-    ∙ ap (λ n. take n (drop r.last.from s)) size ∙ ap (λ x. take (length last.own) x) there ∙ take-append_seam last.own (last.rest ++ behind)
-    ∙ sym (last.is [])
+    let bytes : length s - place ≡ length front + (length last.own + length (last.rest ++ behind)) =
+    omega (arith, length-drop place s, ap (λ x. length x) spelled, length-append front (last.own ++ (last.rest ++ behind)), length-append last.own (last.rest ++ behind)) in
+    let size_front : length front ≡ length taken + length last.front = length-append taken last.front in
+    let range : IsRange s r.last = record { ordered = omega (arith, r.begins, r.ends); within = omega (arith, inside, bytes, size_front, r.ends) } in
+    record {
+      range = subst (λ x. IsRange s x) (sym found) range;
+      is = ap (λ x. slice_range s x.from x.to) found
+          ∙ ap (λ n. take n (drop r.last.from s)) size ∙ ap (λ x. take (length last.own) x) there ∙ take-append_seam last.own (last.rest ++ behind)
+          ∙ sym (last.is []);
+    }
 
 number_is : (s : List ℕ) (rows : List Row) (row : Row) (rule : Rule) (taken : List ℕ) (inner : Forest) (place kind : ℕ) (behind : List ℕ) (other : Row)
-    → IsRuleRow rows row rule taken inner place → kind < abi.kinds → IsTree abi (Kind kind) (branch rule taken inner)
+    → IsRuleRow rows row rule taken inner place → place < length s → kind < abi.kinds → IsTree abi (Kind kind) (branch rule taken inner)
     → drop place s ≡ taken ++ (spell_all inner ++ behind) → is_numbered (production_at row.rule) ≡ true
-    → slice_range s (get_or rows (row.end - 1) other).from (get_or rows (row.end - 1) other).to ≡ last_token inner []
-number_is s rows row rule taken inner place kind behind other row_is known tree at numbered =
+    → HasDigits s (get_or rows (row.end - 1) other) (last_token inner [])
+number_is s rows row rule taken inner place kind behind other row_is inside known tree at numbered =
     let t = taken_rule kind rule taken known tree.0 in
     let same : production_at row.rule ≡ t.production = ap production_at row_is.rule_is ∙ ap (λ r. production_at r.number) t.is ∙ at_number t.production in
     let symbols : symbols_of rule ≡ parts_of t.production = ap symbols_of t.is ∙ its_symbols t.production in
-    digits_last s rows row rule taken inner place behind other row_is at
+    digits_last s rows row rule taken inner place behind other row_is inside at
     (last_part abi (parts_of t.production) inner (ends_with_number t.production (sym (ap is_numbered same) ∙ numbered)) (subst (λ ss. AreTrees abi ss inner) symbols tree.1))
 
 -- ## What the reading says
 
-opens_plain : (p : Production) (parts : Forest) (place : ℕ) (state : State) → is_numbered p ≡ false → opening p parts place state ≡ Ok state
+pub opens_plain : (p : Production) (parts : Forest) (place : ℕ) (state : State) → is_numbered p ≡ false → opening p parts place state ≡ Ok state
 unfolding is_numbered opening
 opens_plain Production.Lambda parts place state is = absurd (true≢false is)
 opens_plain Production.Unnamed parts place state is = absurd (true≢false is)
@@ -175,25 +188,53 @@ tested : (place : ℕ) (digits : List ℕ) (state : State) (fits : Bool) → fit
 unfolding number_tested
 tested place digits state fits is = ap (λ b. if_fits b place state) (sym is)
 
-module _ (s : List ℕ) (rows : List Row) (row : Row) (rule : Rule) (taken : List ℕ) (inner : Forest) (place : ℕ) (state : State) (row_is : IsRuleRow rows row rule taken inner place) where
-  pub plain_opens : is_numbered (production_at row.rule) ≡ false → opening (production_at rule.number) inner place state ≡ Ok state
-  plain_opens plain = ap (λ n. opening (production_at n) inner place state) (sym row_is.rule_is) ∙ opens_plain (production_at row.rule) inner place state plain
+pub none_before : (n : ℕ) → (1 ≤ n → ⊥) → n ≡ 0
+none_before zero none = refl
+none_before (suc n) none = absurd (none (omega arith))
 
-  pub number_opens : (kind : ℕ) (behind : List ℕ) (other : Row) (fits : Bool) → kind < abi.kinds → IsTree abi (Kind kind) (branch rule taken inner)
+-- at the first place nothing is tested
+pub first_begins : (o : Open State Around) (parts : Forest) → o.place ≡ 0 → link_begin o parts ≡ Ok o.before
+unfolding link_begin
+first_begins o parts first = ap (λ n. if nat_eq n 0 then Ok o.before else cpp.begin o parts) first
+
+later_begins : (o : Open State Around) (parts : Forest) (place : ℕ) → o.place ≡ place + 1 → link_begin o parts ≡ cpp.begin o parts
+unfolding link_begin
+later_begins o parts place later = go (nat_eq o.place 0) refl
+  where
+    go : (b : Bool) → nat_eq o.place 0 ≡ b → (if b then Ok o.before else cpp.begin o parts) ≡ cpp.begin o parts
+    go true first = absurd (omega (arith, later, eqb-true o.place 0 first))
+    go false first = refl
+
+module _ (s : List ℕ) (rows : List Row) (row : Row) (rule : Rule) (taken : List ℕ) (inner : Forest) (place : ℕ) (around : Around) (state : State)
+    (row_is : IsRuleRow rows row rule taken inner place) where
+  pub plain_opens : is_numbered (production_at row.rule) ≡ false → link_begin (standing rule taken place around state) inner ≡ Ok state
+  unfolding cpp link_begin
+  plain_opens plain = go (nat_eq place 0)
+    where
+      go : (b : Bool) → (if b then Ok state else opening (production_at rule.number) inner place state) ≡ Ok state
+      go true = refl
+      go false = ap (λ n. opening (production_at n) inner place state) (sym row_is.rule_is) ∙ opens_plain (production_at row.rule) inner place state plain
+
+  pub number_opens : (before kind : ℕ) (behind : List ℕ) (other : Row) (fits : Bool) → place ≡ before + 1 → place < length s → row.end ≤ length rows
+      → kind < abi.kinds → IsTree abi (Kind kind) (branch rule taken inner)
       → drop place s ≡ taken ++ (spell_all inner ++ behind) → is_numbered (production_at row.rule) ≡ true
-      → fits ≡ nat_lt (local_number (slice_range s (get_or rows (row.end - 1) other).from (get_or rows (row.end - 1) other).to)) (2 ^ 64)
-      → opening (production_at rule.number) inner place state ≡ if_fits fits (place - 1) state
-  number_opens kind behind other fits known tree at numbered is =
-      ap (λ n. opening (production_at n) inner place state) (sym row_is.rule_is) ∙ opens_numbered (production_at row.rule) inner place state numbered
+      → (row.end - 1 < length rows → (d : Row) → IsRange s (get_or rows (row.end - 1) d)
+      → fits ≡ nat_lt (local_number (slice_range s (get_or rows (row.end - 1) d).from (get_or rows (row.end - 1) d).to)) (2 ^ 64))
+      → link_begin (standing rule taken place around state) inner ≡ if_fits fits (place - 1) state
+  unfolding cpp
+  number_opens before kind behind other fits later inside within known tree at numbered is =
+      let digits = number_is s rows row rule taken inner place kind behind other row_is inside known tree at numbered in
+      later_begins (standing rule taken place around state) inner before later
+      ∙ ap (λ n. opening (production_at n) inner place state) (sym row_is.rule_is) ∙ opens_numbered (production_at row.rule) inner place state numbered
       ∙ tested (place - 1) (last_token inner []) state fits
-      (is ∙ ap (λ ds. nat_lt (local_number ds) (2 ^ 64)) (number_is s rows row rule taken inner place kind behind other row_is known tree at numbered))
+      (is (omega (arith, within, row_is.end)) other digits.range ∙ ap (λ ds. nat_lt (local_number ds) (2 ^ 64)) digits.is)
 
 -- ## What is kept
 
-pub begins_kept : (s : List ℕ) (l : Linked) (context then : Kept) (around : Around) (state : State) (rule : Rule) (taken : List ℕ) (place : ℕ)
-    → ((ts : List Term) → around_of ts then ≡ around_of ts context) → ((n : ℕ) → IsKeptThere n context → IsKeptThere n then) → packs_of then ≡ l.packs
-    → Surrounds s l context around → Holds s l state → IsKept s l then (standing rule taken place around state)
-begins_kept s l context then around state rule taken place same there packs surrounds holds = record {
+pub begins_kept : (s : List ℕ) (l : Linked) (context kept : Kept) (around : Around) (state : State) (rule : Rule) (taken : List ℕ) (place : ℕ)
+    → ((ts : List Term) → around_of ts kept ≡ around_of ts context) → ((n : ℕ) → IsKeptThere n context → IsKeptThere n kept) → packs_of kept ≡ l.packs
+    → Surrounds s l context around → Holds s l state → IsKept s l kept (standing rule taken place around state)
+begins_kept s l context kept around state rule taken place same there packs surrounds holds = record {
   surrounds = record { there = there _ surrounds.there; is = same _ ∙ surrounds.is };
   packs = packs ∙ holds.packs;
 }

@@ -12,7 +12,6 @@ use Rattle.cpp_grammar.specs.declared.production.Production.{Production}
 use Rattle.cpp_grammar.specs.Unfolding.{production_at}
 use Rattle.cpp_term.specs.Values as values
 use Rattle.cpp_term.specs.Values.{State, Value, Around}
-use Rattle.cpp_term.specs.Unfolding.{close, cpp}
 use Rattle.cpp_link.specs.declared.linked.Linked.{Linked}
 use Rattle.cpp_link.specs.declared.part.Kept.{Kept}
 use Rattle.cpp_link.specs.declared.part.Part.{Part}
@@ -20,6 +19,7 @@ use Rattle.cpp_link.specs.Owed.{owes}
 use Rattle.cpp_link.specs.Closes.{closes_of, closes, ends_of}
 use Rattle.cpp_link.specs.ClosesLaws.{ends_closes}
 use Rattle.cpp_link.specs.ViewLaws.{cpp_laws}
+use Rattle.cpp_link.specs.LinkReading.{link_close, linked}
 use Rattle.cpp_link.specs.Making.{state_of}
 use Rattle.cpp_link.specs.Parts.{trees_in, value_in, values_in, packs_of, around_of, IsThere}
 use Rattle.cpp_link.specs.View.{IsWhole, cpp_view}
@@ -28,14 +28,13 @@ use Rattle.cpp_link.proofs.Viewing.{parts_are}
 
 same_close : (s : List ℕ) (m n q p : ℕ) (code around : Around) (began : State) (us vs : List Value) (cs : List values.Candidate) (packs : Option ℕ) (state : State)
     → m ≡ n → q ≡ p → code ≡ around → us ≡ vs → cs ≡ state.candidates → packs ≡ state.packs
-    → close (production_at n) (slice_index s p) around p began vs state ≡ close (production_at m) (slice_index s q) code q began us (record { candidates = cs; packs = packs })
+    → link_close s (production_at n) (slice_index s p) around p began vs state ≡ link_close s (production_at m) (slice_index s q) code q began us (record { candidates = cs; packs = packs })
 same_close s m n q p code around began us vs cs packs state number place context known candidates same = rw (number, place, context, known, candidates, same) refl
 
 -- what comes of the open rule of the reading, in terms of the frame
 read_is : (s : List ℕ) (old : Linked) (frame : Frame Kept) (own : List Part) (rule : Open State Around) (known : List Value) (state : State) → IsAt (cpp_view s) s old frame own rule known state
-    → cpp.close rule known state
-    ≡ close (production_at frame.rule) (slice_index s frame.place) (around_of (trees_in s old.nodes) frame.kept) frame.place rule.before (values_in s old.nodes own) (state_of s old)
-unfolding cpp
+    → (linked s).close rule known state
+    ≡ link_close s (production_at frame.rule) (slice_index s frame.place) (around_of (trees_in s old.nodes) frame.kept) frame.place rule.before (values_in s old.nodes own) (state_of s old)
 read_is s old frame own rule known state is =
     byte_serves s rule known state is.there
     ∙ same_close s frame.rule rule.rule.number frame.place rule.place (around_of (trees_in s old.nodes) frame.kept) rule.context rule.before (values_in s old.nodes own) known _ old.packs state
@@ -44,20 +43,20 @@ read_is s old frame own rule known state is =
 -- what this production closes to with these parts is what comes of the open rule of the reading
 given_is : (s : List ℕ) (old : Linked) (frame : Frame Kept) (own given : List Part) (p : Production) (rule : Open State Around) (known : List Value) (state : State) → IsAt (cpp_view s) s old frame own rule known state
     → p ≡ production_at frame.rule → given ≡ own
-    → cpp.close rule known state
-    ≡ close p (slice_index s frame.place) (around_of (trees_in s old.nodes) frame.kept) frame.place rule.before (values_in s old.nodes given) (state_of s old)
+    → (linked s).close rule known state
+    ≡ link_close s p (slice_index s frame.place) (around_of (trees_in s old.nodes) frame.kept) frame.place rule.before (values_in s old.nodes given) (state_of s old)
 given_is s old frame own given p rule known state is production same =
     read_is s old frame own rule known state is
-    ∙ ap (λ q. close q (slice_index s frame.place) (around_of (trees_in s old.nodes) frame.kept) frame.place rule.before (values_in s old.nodes own) (state_of s old)) (sym production)
-    ∙ ap (λ ps. close p (slice_index s frame.place) (around_of (trees_in s old.nodes) frame.kept) frame.place rule.before (values_in s old.nodes ps) (state_of s old)) (sym same)
+    ∙ ap (λ q. link_close s q (slice_index s frame.place) (around_of (trees_in s old.nodes) frame.kept) frame.place rule.before (values_in s old.nodes own) (state_of s old)) (sym production)
+    ∙ ap (λ ps. link_close s p (slice_index s frame.place) (around_of (trees_in s old.nodes) frame.kept) frame.place rule.before (values_in s old.nodes ps) (state_of s old)) (sym same)
 
 -- a part was put that stands for what the rule closes to
 pub put_right : (s : List ℕ) (old new : Linked) (frame : Frame Kept) (own given lower new_parts : List Part) (p : Production) (made : Part) (done : Unit {0}) (rule : Open State Around) (known : List Value) (state : State)
     → IsAt (cpp_view s) s old frame own rule known state → p ≡ production_at frame.rule → given ≡ own
     → ((began : State) → began.packs ≡ packs_of frame.kept
-    → close p (slice_index s frame.place) (around_of (trees_in s old.nodes) frame.kept) frame.place began (values_in s old.nodes given) (state_of s old) ≡ Ok (found (value_in s new.nodes made) (state_of s new)))
+    → link_close s p (slice_index s frame.place) (around_of (trees_in s old.nodes) frame.kept) frame.place began (values_in s old.nodes given) (state_of s old) ≡ Ok (found (value_in s new.nodes made) (state_of s new)))
     → IsThere s (length new.nodes.nodes) made → IsWhole s new → new_parts ≡ lower ++ made ∷ []
-    → Puts (cpp_view s) new lower new_parts (Ok done) (cpp.close rule known state)
+    → Puts (cpp_view s) new lower new_parts (Ok done) ((linked s).close rule known state)
 put_right s old new frame own given lower new_parts p made done rule known state is production same closes there whole items = (
   made,
   items,
@@ -73,8 +72,8 @@ put_right s old new frame own given lower new_parts p made done rule known state
 -- the refusal of what the rule closes to is that of the reading
 pub refused_right : (s : List ℕ) (old : Linked) (frame : Frame Kept) (own given : List Part) (p : Production) (e : Refusal) (rule : Open State Around) (known : List Value) (state : State)
     → IsAt (cpp_view s) s old frame own rule known state → p ≡ production_at frame.rule → given ≡ own
-    → ((began : State) → Fails e (close p (slice_index s frame.place) (around_of (trees_in s old.nodes) frame.kept) frame.place began (values_in s old.nodes given) (state_of s old)))
-    → Fails e (cpp.close rule known state)
+    → ((began : State) → Fails e (link_close s p (slice_index s frame.place) (around_of (trees_in s old.nodes) frame.kept) frame.place began (values_in s old.nodes given) (state_of s old)))
+    → Fails e ((linked s).close rule known state)
 refused_right s old frame own given p e rule known state is production same refused =
     subst (λ read. Fails e read) (sym (given_is s old frame own given p rule known state is production same)) (refused rule.before)
 

@@ -19,8 +19,9 @@ use Rattle.cpp_link.specs.declared.linked.Linked.{Linked}
 use Rattle.cpp_link.specs.declared.part.Candidate.{Candidate}
 use Rattle.cpp_link.specs.declared.part.Kept.{Kept}
 use Rattle.cpp_link.specs.declared.part.Part.{Part}
-use Rattle.cpp_link.specs.Making.{state_of, IsRare}
+use Rattle.cpp_link.specs.Making.{state_of, IsRare, IsCommon}
 use Rattle.cpp_link.specs.Parts.{trees_in, values_in, around_of, candidates_of, AreThere, IsKeptThere, AreCandidatesThere}
+use Rattle.cpp_link.specs.LinkReading.{link_meaning, link_close}
 use Rattle.cpp_link.specs.Reads.{with_candidate, maybe_candidate}
 use Rattle.cpp_link.specs.Staying.{values_stay, around_stays, candidates_stay, there_more}
 
@@ -102,45 +103,55 @@ is_rare Production.Special h0 h1 h2 h3 h4 h5 h6 h7 h8 h9 h10 h11 h12 h13 h14 h15
 is_rare Production.Substitution h0 h1 h2 h3 h4 h5 h6 h7 h8 h9 h10 h11 h12 h13 h14 h15 h16 h17 h18 h19 h20 h21 h22 h23 h24 h25 = absurd (h25 refl)
 is_rare _ h0 h1 h2 h3 h4 h5 h6 h7 h8 h9 h10 h11 h12 h13 h14 h15 h16 h17 h18 h19 h20 h21 h22 h23 h24 h25 = tt
 
+-- what is common is no suffix, no lambda and no unnamed type
+pub common_meaning : (s : List ℕ) (p : Production) (byte place : ℕ) (around : Around) (vs : List Value) → IsCommon p
+    → meaning p byte around vs ≡ link_meaning s p byte place around vs
+unfolding link_meaning
+common_meaning s Production.Suffix byte place around vs common = absurd (common tt)
+common_meaning s Production.SuffixByte byte place around vs common = absurd (common tt)
+common_meaning s Production.Lambda byte place around vs common = absurd (common tt)
+common_meaning s Production.Unnamed byte place around vs common = absurd (common tt)
+common_meaning s _ byte place around vs common = refl
+
 -- ## What a production closes to
 
-other_close : (p : Production) (byte : ℕ) (around : Around) (place : ℕ) (began : State) (vs : List Value) (state : State) → (p ≡ Production.Substitution → ⊥)
-    → close p byte around place began vs state ≡ Ok (found (meaning p byte around vs) (behind p byte around began vs state))
-unfolding close
-other_close Production.Substitution byte around place began vs state other = absurd (other refl)
-other_close _ byte around place began vs state other = refl
+other_close : (s : List ℕ) (p : Production) (byte : ℕ) (around : Around) (place : ℕ) (began : State) (vs : List Value) (state : State) → (p ≡ Production.Substitution → ⊥)
+    → link_close s p byte around place began vs state ≡ Ok (found (link_meaning s p byte place around vs) (behind p byte around began vs state))
+unfolding link_close
+other_close s Production.Substitution byte around place began vs state other = absurd (other refl)
+other_close s _ byte around place began vs state other = refl
 
-module _ (p : Production) (byte : ℕ) (around : Around) (place : ℕ) (vs : List Value) (state then : State) (packs : Option ℕ) (value : Part → Value) (result : Result Part Refusal) where
+module _ (s : List ℕ) (p : Production) (byte : ℕ) (around : Around) (place : ℕ) (vs : List Value) (state then : State) (packs : Option ℕ) (value : Part → Value) (result : Result Part Refusal) where
   abbrev named : Result (Found Value State) Refusal
   named = substituted around (place - 1) (slice_get state.candidates (counted_value Seq36 (text_of (part vs 0)))) state
 
   pub substitution_closes : p ≡ Production.Substitution → IfOk result (λ made. named ≡ Ok (found (value made) then))
-      → IfOk result (λ made. (began : State) → began.packs ≡ packs → close p byte around place began vs state ≡ Ok (found (value made) then))
-  unfolding close
+      → IfOk result (λ made. (began : State) → began.packs ≡ packs → link_close s p byte around place began vs state ≡ Ok (found (value made) then))
+  unfolding link_close close
   substitution_closes is = go result
     where
       go : (r : Result Part Refusal) → IfOk r (λ made. named ≡ Ok (found (value made) then))
-          → IfOk r (λ made. (began : State) → began.packs ≡ packs → close p byte around place began vs state ≡ Ok (found (value made) then))
-      go (Ok made) closes = λ began same. ap (λ q. close q byte around place began vs state) is ∙ closes
+          → IfOk r (λ made. (began : State) → began.packs ≡ packs → link_close s p byte around place began vs state ≡ Ok (found (value made) then))
+      go (Ok made) closes = λ began same. ap (λ q. link_close s q byte around place began vs state) is ∙ closes
       go (Err e) closes = tt
 
-  pub substitution_refused : p ≡ Production.Substitution → IfErr result (λ e. Fails e named) → IfErr result (λ e. (began : State) → Fails e (close p byte around place began vs state))
-  unfolding close
+  pub substitution_refused : p ≡ Production.Substitution → IfErr result (λ e. Fails e named) → IfErr result (λ e. (began : State) → Fails e (link_close s p byte around place began vs state))
+  unfolding link_close close
   substitution_refused is = go result
     where
-      go : (r : Result Part Refusal) → IfErr r (λ e. Fails e named) → IfErr r (λ e. (began : State) → Fails e (close p byte around place began vs state))
+      go : (r : Result Part Refusal) → IfErr r (λ e. Fails e named) → IfErr r (λ e. (began : State) → Fails e (link_close s p byte around place began vs state))
       go (Ok made) refused = tt
-      go (Err e) refused = λ began. subst (λ q. Fails e (close q byte around place began vs state)) (sym is) refused
+      go (Err e) refused = λ began. subst (λ q. Fails e (link_close s q byte around place began vs state)) (sym is) refused
 
-  pub other_closes : (p ≡ Production.Substitution → ⊥) → IfOk result (λ made. value made ≡ meaning p byte around vs)
+  pub other_closes : (p ≡ Production.Substitution → ⊥) → IfOk result (λ made. value made ≡ link_meaning s p byte place around vs)
       → OnOk result ((began : State) → began.packs ≡ packs → behind p byte around began vs state ≡ then)
-      → IfOk result (λ made. (began : State) → began.packs ≡ packs → close p byte around place began vs state ≡ Ok (found (value made) then))
+      → IfOk result (λ made. (began : State) → began.packs ≡ packs → link_close s p byte around place began vs state ≡ Ok (found (value made) then))
   other_closes other = go result
     where
-      go : (r : Result Part Refusal) → IfOk r (λ made. value made ≡ meaning p byte around vs)
+      go : (r : Result Part Refusal) → IfOk r (λ made. value made ≡ link_meaning s p byte place around vs)
           → OnOk r ((began : State) → began.packs ≡ packs → behind p byte around began vs state ≡ then)
-          → IfOk r (λ made. (began : State) → began.packs ≡ packs → close p byte around place began vs state ≡ Ok (found (value made) then))
+          → IfOk r (λ made. (began : State) → began.packs ≡ packs → link_close s p byte around place began vs state ≡ Ok (found (value made) then))
       go (Ok made) is comes = λ began same.
-          other_close p byte around place began vs state other
+          other_close s p byte around place began vs state other
           ∙ ap (λ v. Ok (found v (behind p byte around began vs state))) (sym is) ∙ ap (λ t. Ok (found (value made) t)) (comes began same)
       go (Err e) is comes = tt

@@ -1,5 +1,5 @@
 -- What is made before the parts of a rule and where it closes is what its production makes.
-use Rattle.std.proofs.Common.{◌≡◌, refl, sym, ◌∙◌, ap, subst, arith, ℕ, suc, ◌+◌, ◌-◌, ◌<◌, ◌≤◌, List, [], ◌∷◌, length, drop, length-drop, Ok, Err}
+use Rattle.std.proofs.Common.{◌≡◌, refl, ◌∙◌, ap, arith, ℕ, suc, ◌+◌, ◌-◌, ◌<◌, ◌≤◌, List, [], ◌∷◌, length, drop, length-drop, Ok, Err}
 use Rattle.std.specs.Prelude.{Result, OnOk}
 use Rattle.sym_core.specs.declared.refusal.Refusal.{Refusal}
 use Rattle.sym_link.specs.declared.language.Frame.{Frame}
@@ -124,7 +124,6 @@ end_read s old new frame parts (Ok done) begun made rule known state is =
     ∙ ap (λ vs. makes_at_end (production_at rule.rule.number) vs) (parts_are s old (drop frame.base parts) known is.parts).1 in
     omega (arith, begun, made, same)
 
-pub none_begun : (old new : Linked) (result : Result Kept Refusal) → OnOk result (length new.nodes.nodes ≡ length old.nodes.nodes)
-    → OnOk result (length new.nodes.nodes - 3 ≡ length old.nodes.nodes - 3)
-none_begun old new (Ok kept) same = ap (λ n. n - 3) same
-none_begun old new (Err e) same = tt
+pub none_begun : (l : Linked) (result : Result Kept Refusal) → OnOk result (length l.nodes.nodes - 3 ≡ length l.nodes.nodes - 3)
+none_begun l (Ok kept) = refl
+none_begun l (Err e) = tt

@@ -1,6 +1,17 @@
 -- Where the lists of a symbol that is linked have no room.
-use Rattle.std.specs.Prelude.{ℕ, ◌+◌, ◌<◌, ◌≤◌, ◌⊎◌, length, vec_capacity}
+use Rattle.std.specs.Prelude.{◌≡◌, ◌+◌, ◌<◌, ◌≤◌, ◌⊎◌, List, [], ◌∷◌, length, Vec, vec_capacity, Result, Err}
+use Rattle.std.specs.Global.{Global}
+use Rattle.sym_core.specs.declared.refusal.Refusal.{Refusal}
+use Rattle.sym_core.specs.declared.refusal.Refusal.TheVariants.{Memory}
+use Rattle.sym_link.specs.Room.{Listed, one_by_one}
+use Rattle.cpp_link.specs.declared.part.Part.{Part}
 use Rattle.cpp_link.specs.declared.linked.Linked.{Linked}
+
+-- the nodes, what thunks adjust, and the candidates
+abbrev pub lists_of : Linked → List Listed
+lists_of l =
+    record { room = l.nodes.node_room; held = length l.nodes.nodes; most = 1 }
+    ∷ record { room = l.nodes.thunk_room; held = length l.nodes.thunks; most = 1 } ∷ one_by_one l.candidates ∷ []
 
 -- each list has as much room as before, or more
 pub record KeepsRoom (old new : Linked) : Type 0 where
@@ -14,3 +25,9 @@ LacksRoom old new =
     (old.nodes.node_room < length new.nodes.nodes + 1)
     ⊎ (old.nodes.thunk_room < length new.nodes.thunks + 1)
     ⊎ (vec_capacity old.candidates < length new.candidates.items + 1)
+
+-- A call on these parts has as much room behind it as before, and answers `Memory` only where a list had no room.
+pub record IsRoomy {A : Type 0} (old new : Linked) (parts new_parts : Vec Part Global) (result : Result A Refusal) : Type 0 where
+  pub keeps : KeepsRoom old new
+  pub capacity : vec_capacity parts ≤ vec_capacity new_parts
+  pub full : result ≡ Err Memory → LacksRoom old new ⊎ (vec_capacity parts < length new_parts.items + 1)

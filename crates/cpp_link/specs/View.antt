@@ -1,15 +1,16 @@
 -- How the nodes are what the reading of a C++ symbol says.
-use Rattle.std.specs.Prelude.{◌≡◌, ℕ, ◌-◌, ◌*◌, ◌<◌, ◌≤◌, List, [], ◌∷◌, length}
+use Rattle.std.specs.Prelude.{◌≡◌, ℕ, ◌-◌, ◌*◌, ◌<◌, ◌≤◌, List, length}
 use Rattle.sym_link.specs.Reading.{Open}
-use Rattle.sym_link.specs.Room.{Listed}
 use Rattle.sym_link.specs.Linking.{View}
 use Rattle.cpp_grammar.specs.Table.{abi}
-use Rattle.cpp_term.specs.Unfolding.{cpp, first_around, first_state}
+use Rattle.cpp_term.specs.Unfolding.{first_around, first_state}
 use Rattle.cpp_term.specs.Values.{State, Value, Around}
 use Rattle.cpp_tree.specs.Nodes.{over, tree_at, IsTable}
 use Rattle.cpp_link.specs.declared.part.Part.{Part}
 use Rattle.cpp_link.specs.declared.part.Kept.{Kept}
 use Rattle.cpp_link.specs.declared.linked.Linked.{Linked}
+use Rattle.cpp_link.specs.LinkReading.{linked}
+use Rattle.cpp_link.specs.Room.{lists_of}
 use Rattle.cpp_link.specs.Owed.{owes}
 use Rattle.cpp_link.specs.Closes.{closes}
 use Rattle.cpp_link.specs.Parts.{trees_in, value_in, packs_of, around_of, candidates_of, IsThere, IsKeptThere, AreCandidatesThere}
@@ -50,14 +51,10 @@ pub record IsPaid (l : Linked) : Type 0 where
   pub begun : 3 ≤ length l.nodes.nodes
   pub thunks : length l.nodes.thunks ≤ length l.nodes.nodes
 
--- Of C++'s lists nothing is said: a list that always lacks room stands for them.
-abbrev pub unsaid : Listed
-unsaid = record { room = 0; held = 0; most = 1 }
-
 abbrev pub cpp_view : List ℕ → View Linked Part Kept Value State Around
 cpp_view s = record {
   table = abi;
-  reading = cpp;
+  reading = linked s;
   around = first_around;
   first = first_state;
   IsPart = IsPart s;
@@ -69,6 +66,6 @@ cpp_view s = record {
   closes = closes;
   most = λ bytes. 2 * bytes;
   IsPaid = λ l bytes. IsPaid l;
-  lists = λ l. unsaid ∷ [];
+  lists = lists_of;
   TakesMemory = λ number own. ⊥;
 }

@@ -1,12 +1,11 @@
 // A rule begins.
 
-ghost use Rattle.std.specs.Prelude.{◌≡◌, ℕ, ◌-◌, ◌^◌, ◌<◌, ◌≤◌, length, get_or, slice_range, nat_lt, OnOk, OnErr, IfOk, IfErr};
+ghost use Rattle.std.specs.Prelude.{◌≡◌, ◌-◌, ◌^◌, ◌<◌, ◌≤◌, length, get_or, slice_range, nat_lt, IfErr};
 ghost use Rattle.sym_core.specs.declared.refusal.Refusal.TheVariants as refusals;
 ghost use Rattle.sym_shape.specs.declared.rule.Row.{Row};
-ghost use Rattle.sym_link.specs.Linking.{Adds, Pays};
 ghost use Rattle.sym_link.specs.Threads.{BeginsIn};
 ghost use Rattle.cpp_grammar.specs.Values.{local_number};
-ghost use Rattle.cpp_link.specs.Numbered.{is_numbered};
+ghost use Rattle.cpp_link.specs.Numbered.{is_numbered, IsRange};
 ghost use Rattle.cpp_link.specs.View.{Surrounds, cpp_view};
 
 use crate::dispatch::production_of;
@@ -30,35 +29,26 @@ fn is_numbered(production: Production) -> bool
 }
 
 /// Whether the number of a lambda or an unnamed type, of which these are the digits, has 64 bits at most.
-///
-/// # Errors
-///
-/// `Memory` where a byte is no digit, which is in no token.
 #[tactic(auto, unfolding(cpp_grammar::specs::Values::local_number))]
-fn fits(digits: &[u8]) -> Result<bool, Refusal>
-    ensures is { IfOk result (λ fits. fits ≡ nat_lt (local_number digits.now) (2 ^ 64)) }
-    ensures memory { IfErr result (λ e. e ≡ refusals.Memory) }
+fn fits(digits: &[u8]) -> bool
+    ensures { result ≡ nat_lt (local_number digits.now) (2 ^ 64) }
 {
-    match decimal(digits)? {
-        Some(counted) => Ok(counted < u64::MAX),
-        None => Ok(false),
+    match decimal(digits) {
+        Some(counted) => counted < u64::MAX,
+        None => false,
     }
 }
 
-/// Whether the number that the last row of the rule of a row is has 64 bits at most.
-///
-/// # Errors
-///
-/// `Memory` where no digits stand there, as in no lambda and no unnamed type.
-fn last_fits(symbol: &[u8], rows: &[Row], row: Row) -> Result<bool, Refusal>
-    ensures is { IfOk result (λ fits. (other : Row) → fits ≡ nat_lt (local_number (slice_range symbol.now (get_or rows.now (row.end - 1) other).from (get_or rows.now (row.end - 1) other).to)) (2 ^ 64)) }
-    ensures memory { IfErr result (λ e. e ≡ refusals.Memory) }
+/// Whether the number that the last row of the rule of a row is has 64 bits at most. It has too many where there is no such row.
+fn last_fits(symbol: &[u8], rows: &[Row], row: Row) -> bool
+    ensures { row.end - 1 < length rows.now → (other : Row) → IsRange symbol.now (get_or rows.now (row.end - 1) other)
+        → result ≡ nat_lt (local_number (slice_range symbol.now (get_or rows.now (row.end - 1) other).from (get_or rows.now (row.end - 1) other).to)) (2 ^ 64) }
 {
     let Some(last) = rows.get((row.end as usize).saturating_sub(1)) else {
-        return Err(Refusal::Memory);
+        return false;
     };
     let Some(digits) = symbol.get(last.from as usize..last.to as usize) else {
-        return Err(Refusal::Memory);
+        return false;
     };
     fits(digits)
 }
@@ -70,7 +60,7 @@ impl Linked {
     ///
     /// `BadValue` at a number that has more than 64 bits.
     pub fn begin_rule(
-        &mut self,
+        &self,
         symbol: &[u8],
         rows: &[Row],
         context: Kept,
@@ -78,21 +68,20 @@ impl Linked {
     ) -> Result<Kept, Refusal>
         requires place { row.from < length symbol.now }
         requires end { row.end ≤ length rows.now }
-        ensures begins { BeginsIn (cpp_view symbol.now) symbol.now (Surrounds symbol.now) rows.now self.old self.new context row result }
-        ensures adds { OnOk result (Adds (cpp_view symbol.now) self.old self.new 0 0) }
-        ensures few { OnErr result ((cpp_view symbol.now).size self.new ≤ (cpp_view symbol.now).size self.old) }
-        ensures none { OnOk result (length self.new.nodes.nodes ≡ length self.old.nodes.nodes) }
-        ensures pays { OnOk result ((at : ℕ) → Pays (cpp_view symbol.now) self.old self.new at at) }
+        ensures begins { BeginsIn (cpp_view symbol.now) symbol.now (Surrounds symbol.now) rows.now self.now self.now context row result }
+        ensures refused { IfErr result (λ e. e ≡ refusals.Memory → ⊥) }
     {
         let kept = context.with_packs(self.packs);
         if !is_numbered(production_of(row.rule)) {
             return Ok(kept);
         }
-        if last_fits(symbol, rows, row)? {
+        // the `U` stands in front, so no such rule is a symbol's first
+        let Some(at) = row.from.checked_sub(1) else {
+            return Ok(kept);
+        };
+        if last_fits(symbol, rows, row) {
             return Ok(kept);
         }
-        Err(Refusal::BadValue {
-            at: row.from.saturating_sub(1),
-        })
+        Err(Refusal::BadValue { at })
     }
 }

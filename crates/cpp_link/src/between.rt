@@ -16,7 +16,7 @@ ghost use Rattle.cpp_link.specs.Parts.{trees_in, values_in, tree_of_node, around
 ghost use Rattle.cpp_link.specs.Reads.{with_candidate, named_if, appended_if};
 ghost use Rattle.cpp_link.specs.Stepping.{IsStepOf, Takes, CountsStep, nodes_of_step, quiet_parts};
 ghost use Rattle.cpp_link.specs.View.{Surrounds, cpp_view};
-ghost use Rattle.cpp_link.specs.Room.{KeepsRoom, LacksRoom};
+ghost use Rattle.cpp_link.specs.Room.{KeepsRoom, LacksRoom, IsRoomy};
 
 use crate::dispatch::production_of;
 use crate::linked::Linked;
@@ -229,7 +229,7 @@ impl Linked {
         ensures makes { OnOk result (length self.new.nodes.nodes ≡ length self.old.nodes.nodes + makes_before (production_at frame.now.rule) (values_in symbol.now self.old.nodes (drop frame.now.base parts.old.items))) }
         ensures pays { OnOk result ((at : ℕ) → Pays (cpp_view symbol.now) self.old self.new at at) }
         ensures count { OnOk result (length parts.new.items ≡ length parts.old.items) }
-        ensures capacity { vec_capacity parts.old ≤ vec_capacity parts.new }
+        ensures roomy { IsRoomy self.old self.new parts.old parts.new result }
     {
         let own = &parts[frame.base..];
         let step = self.step(symbol, production, frame.place, frame.kept, own)?;
@@ -260,7 +260,7 @@ impl Linked {
         ensures makes { OnOk result (length self.new.nodes.nodes ≡ length self.old.nodes.nodes + makes_before (production_at frame.now.rule) (values_in symbol.now self.old.nodes (drop frame.now.base parts.old.items))) }
         ensures pays { OnOk result ((at : ℕ) → Pays (cpp_view symbol.now) self.old self.new at at) }
         ensures count { OnOk result (length parts.new.items ≡ length parts.old.items) }
-        ensures capacity { vec_capacity parts.old ≤ vec_capacity parts.new }
+        ensures roomy { IsRoomy self.old self.new parts.old parts.new result }
     {
         self.go_as(symbol, production, frame, parts)
     }
@@ -286,7 +286,7 @@ impl Linked {
         ensures makes { OnOk result (length self.new.nodes.nodes ≡ length self.old.nodes.nodes + makes_before (production_at frame.now.rule) (values_in symbol.now self.old.nodes (drop frame.now.base parts.old.items))) }
         ensures pays { OnOk result ((at : ℕ) → Pays (cpp_view symbol.now) self.old self.new at at) }
         ensures count { OnOk result (length parts.new.items ≡ length parts.old.items) }
-        ensures capacity { vec_capacity parts.old ≤ vec_capacity parts.new }
+        ensures roomy { IsRoomy self.old self.new parts.old parts.new result }
     {
         let production = production_of(frame.rule);
         match production {
@@ -330,7 +330,7 @@ impl Linked {
         ensures makes { OnOk result (length self.new.nodes.nodes ≡ length self.old.nodes.nodes + makes_before (production_at frame.now.rule) (values_in symbol.now self.old.nodes (drop frame.now.base parts.old.items))) }
         ensures pays { OnOk result ((at : ℕ) → Pays (cpp_view symbol.now) self.old self.new at at) }
         ensures count { OnOk result (length parts.new.items ≡ length parts.old.items) }
-        ensures capacity { vec_capacity parts.old ≤ vec_capacity parts.new }
+        ensures roomy { IsRoomy self.old self.new parts.old parts.new result }
     {
         if parts.len() - frame.base < quiet_parts(frame.rule) {
             return Ok(frame.kept);

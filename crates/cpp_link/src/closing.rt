@@ -1,12 +1,12 @@
 // What comes behind a rule: types become candidates.
 
-ghost use Rattle.std.specs.Prelude.{◌≡◌, ◌<◌, List, length};
+ghost use Rattle.std.specs.Prelude.{◌≡◌, ℕ, ◌<◌, List, length};
 ghost use Rattle.cpp_term.specs.Values as values;
 ghost use Rattle.cpp_term.specs.Values.{State};
-ghost use Rattle.cpp_term.specs.Meaning.{meaning};
 ghost use Rattle.cpp_term.specs.References.{with_unqualified, is_function_type};
 ghost use Rattle.cpp_term.specs.Unfolding as unfolding_;
 ghost use Rattle.cpp_tree.specs.Nodes.{over, tree_at, IsArgumentsBelow, IsTable};
+ghost use Rattle.cpp_link.specs.LinkReading.{link_meaning};
 ghost use Rattle.cpp_link.specs.Parts.{trees_in, value_in, values_in, packs_of, around_of, IsThere, AreThere};
 ghost use Rattle.cpp_link.specs.Reads.{with_candidate, function_node};
 
@@ -52,7 +52,7 @@ impl Linked {
     }
 
     /// What comes behind a production, given its parts and the part that it is.
-    #[tactic(auto, unfolding(cpp_term::specs::Unfolding::behind, crate::specs::Reads::with_candidate))]
+    #[tactic(auto, unfolding(cpp_term::specs::Unfolding::behind, crate::specs::LinkReading::link_meaning, crate::specs::Reads::with_candidate))]
     #[inline(always)]
     pub fn behind(
         &self,
@@ -66,7 +66,7 @@ impl Linked {
         requires table { IsTable (over symbol.now self.now.nodes) }
         requires there { AreThere symbol.now (length self.now.nodes.nodes) parts.now }
         requires made { IsThere symbol.now (length self.now.nodes.nodes) made }
-        requires value { value_in symbol.now self.now.nodes made ≡ meaning production byte (around_of (trees_in symbol.now self.now.nodes) kept) (values_in symbol.now self.now.nodes parts.now) }
+        requires value { (place : ℕ) × (value_in symbol.now self.now.nodes made ≡ link_meaning symbol.now production byte place (around_of (trees_in symbol.now self.now.nodes) kept) (values_in symbol.now self.now.nodes parts.now)) }
         ensures is { (began : State) (cs : List values.Candidate) → began.packs ≡ packs_of kept
             → unfolding_.behind production byte (around_of (trees_in symbol.now self.now.nodes) kept) began (values_in symbol.now self.now.nodes parts.now) (record { candidates = cs; packs = self.now.packs })
             ≡ with_candidate (around_of (trees_in symbol.now self.now.nodes) kept) (trees_in symbol.now self.now.nodes) result.candidate (record { candidates = cs; packs = result.packs }) }

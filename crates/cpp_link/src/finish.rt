@@ -1,6 +1,6 @@
 // A rule closes over all its parts.
 
-ghost use Rattle.std.specs.Prelude.{◌≡◌, ℕ, ◌+◌, ◌-◌, ◌<◌, ◌≤◌, ◌^◌, MatchOption, length, drop, slice_get, slice_index, Ok, IfOk, IfErr, IfSome, OnOk, vec_capacity};
+ghost use Rattle.std.specs.Prelude.{◌≡◌, ℕ, ◌+◌, ◌-◌, ◌<◌, ◌≤◌, ◌^◌, MatchOption, length, drop, slice_get, slice_index, Ok, IfOk, IfErr, IfSome, OnOk, OnErr};
 ghost use Rattle.sym_core.specs.Number.{FitsSymbol};
 ghost use Rattle.sym_core.specs.Value.{counted_value};
 ghost use Rattle.sym_core.specs.declared.NumberKind.TheVariants as kinds;
@@ -11,11 +11,12 @@ ghost use Rattle.sym_link.specs.Threads.{IsOpenAt, ClosesAll};
 ghost use Rattle.sym_link.specs.Unfold.{found};
 ghost use Rattle.cpp_term.specs.Values.{State, part, text_of};
 ghost use Rattle.cpp_term.specs.References.{substituted};
-ghost use Rattle.cpp_term.specs.Meaning.{meaning};
 ghost use Rattle.cpp_term.specs.Unfolding as unfolding_;
 ghost use Rattle.cpp_tree.specs.Nodes.{bytes_at, IsWithin};
 ghost use Rattle.cpp_grammar.specs.Unfolding.{production_at};
 ghost use Rattle.cpp_link.specs.Grows.{HasPlace};
+ghost use Rattle.cpp_link.specs.LinkReading.{link_meaning, link_close};
+ghost use Rattle.cpp_link.specs.Room.{KeepsRoom, LacksRoom, IsRoomy};
 ghost use Rattle.cpp_link.specs.Making.{IsCommon, IsRare, nodes_of_meant, state_of};
 ghost use Rattle.cpp_link.specs.NodeCount.{makes_at_end};
 ghost use Rattle.cpp_link.specs.Closes.{ends_of};
@@ -47,19 +48,14 @@ fn numbered(candidates: &[Candidate], counted: Option<u64>) -> Option<Candidate>
 
 impl Linked {
     /// The candidate that these digits name: none are the first, and 0 is the next.
-    ///
-    /// # Errors
-    ///
-    /// `Memory` where a byte is no digit, which is in no token.
-    fn candidate(&self, symbol: &[u8], digits: Span) -> Result<Option<Candidate>, Refusal>
+    fn candidate(&self, symbol: &[u8], digits: Span) -> Option<Candidate>
         requires digits { IsWithin digits symbol.now }
         requires candidates { AreCandidatesThere (length self.now.nodes.nodes) self.now.candidates.items }
-        ensures is { IfOk result (λ found. maybe_candidate (trees_in symbol.now self.now.nodes) found ≡ slice_get (candidates_of (trees_in symbol.now self.now.nodes) self.now.candidates.items) (counted_value kinds.Seq36 (bytes_at symbol.now digits))) }
-        ensures there { IfOk result (λ found. IfSome found (λ c. c.node < length self.now.nodes.nodes)) }
-        ensures memory { IfErr result (λ e. e ≡ refusals.Memory) }
+        ensures is { maybe_candidate (trees_in symbol.now self.now.nodes) result ≡ slice_get (candidates_of (trees_in symbol.now self.now.nodes) self.now.candidates.items) (counted_value kinds.Seq36 (bytes_at symbol.now digits)) }
+        ensures there { IfSome result (λ c. c.node < length self.now.nodes.nodes) }
     {
-        let counted = base36(&symbol[digits.from as usize..digits.to as usize])?;
-        Ok(numbered(&self.candidates, counted))
+        let counted = base36(&symbol[digits.from as usize..digits.to as usize]);
+        numbered(&self.candidates, counted)
     }
 
     /// A substitution closes: its part is the candidate that it names.
@@ -81,8 +77,9 @@ impl Linked {
         ensures there { IfOk result (λ made. IsThere symbol.now (length self.new.nodes.nodes) made) }
         ensures nodes { self.new.nodes ≡ self.old.nodes }
         ensures candidates { self.new.candidates ≡ self.old.candidates }
+        ensures bad { IfErr result (λ e. e ≡ refusals.Memory → ⊥) }
     {
-        let candidate = self.candidate(symbol, self.text(symbol, parts, 0))?;
+        let candidate = self.candidate(symbol, self.text(symbol, parts, 0));
         let (node, packs) = self.substituted(symbol, kept, place.saturating_sub(1), candidate)?;
         self.packs = packs;
         Ok(Part::Tree { node, listed: true })
@@ -111,10 +108,10 @@ impl Linked {
         requires there { AreThere symbol.now (length self.old.nodes.nodes) parts.now }
         requires kept { IsKeptThere (length self.old.nodes.nodes) kept }
         requires meant { IsMeantThere symbol.now (length self.old.nodes.thunks) (length self.old.nodes.nodes) meant }
-        requires value { meant_value symbol.now self.old.nodes meant ≡ meaning production (slice_index symbol.now place) (around_of (trees_in symbol.now self.old.nodes) kept) (values_in symbol.now self.old.nodes parts.now) }
+        requires value { meant_value symbol.now self.old.nodes meant ≡ link_meaning symbol.now production (slice_index symbol.now place) place (around_of (trees_in symbol.now self.old.nodes) kept) (values_in symbol.now self.old.nodes parts.now) }
         requires nodes { nodes_of_meant meant ≤ ends_of production parts.now }
         requires makes { nodes_of_meant meant ≡ makes_at_end production (values_in symbol.now self.old.nodes parts.now) }
-        ensures value { IfOk result (λ made. value_in symbol.now self.new.nodes made ≡ meaning production (slice_index symbol.now place) (around_of (trees_in symbol.now self.old.nodes) kept) (values_in symbol.now self.old.nodes parts.now)) }
+        ensures value { IfOk result (λ made. value_in symbol.now self.new.nodes made ≡ link_meaning symbol.now production (slice_index symbol.now place) place (around_of (trees_in symbol.now self.old.nodes) kept) (values_in symbol.now self.old.nodes parts.now)) }
         ensures state { OnOk result ((began : State) → began.packs ≡ packs_of kept
             → unfolding_.behind production (slice_index symbol.now place) (around_of (trees_in symbol.now self.old.nodes) kept) began (values_in symbol.now self.old.nodes parts.now) (state_of symbol.now self.old) ≡ state_of symbol.now self.new) }
         ensures there { IfOk result (λ made. IsThere symbol.now (length self.new.nodes.nodes) made) }
@@ -124,6 +121,8 @@ impl Linked {
         ensures paid { OnOk result (IsPaid self.new) }
         ensures whole { OnOk result (IsWhole symbol.now self.new) }
         ensures memory { IfErr result (λ e. e ≡ refusals.Memory) }
+        ensures keeps { KeepsRoom self.old self.new }
+        ensures full { OnErr result (LacksRoom self.old self.new) }
     {
         let byte = symbol[place as usize];
         let made = self.settle(symbol, meant)?;
@@ -155,7 +154,7 @@ impl Linked {
         requires whole { IsWhole symbol.now self.old }
         requires there { AreThere symbol.now (length self.old.nodes.nodes) parts.now }
         requires kept { IsKeptThere (length self.old.nodes.nodes) kept }
-        ensures value { IfOk result (λ made. value_in symbol.now self.new.nodes made ≡ meaning production (slice_index symbol.now place) (around_of (trees_in symbol.now self.old.nodes) kept) (values_in symbol.now self.old.nodes parts.now)) }
+        ensures value { IfOk result (λ made. value_in symbol.now self.new.nodes made ≡ link_meaning symbol.now production (slice_index symbol.now place) place (around_of (trees_in symbol.now self.old.nodes) kept) (values_in symbol.now self.old.nodes parts.now)) }
         ensures state { OnOk result ((began : State) → began.packs ≡ packs_of kept
             → unfolding_.behind production (slice_index symbol.now place) (around_of (trees_in symbol.now self.old.nodes) kept) began (values_in symbol.now self.old.nodes parts.now) (state_of symbol.now self.old) ≡ state_of symbol.now self.new) }
         ensures there { IfOk result (λ made. IsThere symbol.now (length self.new.nodes.nodes) made) }
@@ -165,6 +164,8 @@ impl Linked {
         ensures paid { OnOk result (IsPaid self.new) }
         ensures whole { OnOk result (IsWhole symbol.now self.new) }
         ensures memory { IfErr result (λ e. e ≡ refusals.Memory) }
+        ensures keeps { KeepsRoom self.old self.new }
+        ensures full { OnErr result (LacksRoom self.old self.new) }
     {
         let meant = self.meant(symbol, production, place, kept, parts);
         self.keep(symbol, production, place, kept, parts, meant)
@@ -193,15 +194,17 @@ impl Linked {
         requires there { AreThere symbol.now (length self.old.nodes.nodes) parts.now }
         requires kept { IsKeptThere (length self.old.nodes.nodes) kept }
         ensures is { IfOk result (λ made. (began : State) → began.packs ≡ packs_of kept
-            → unfolding_.close production (slice_index symbol.now place) (around_of (trees_in symbol.now self.old.nodes) kept) place began (values_in symbol.now self.old.nodes parts.now) (state_of symbol.now self.old) ≡ Ok (found (value_in symbol.now self.new.nodes made) (state_of symbol.now self.new))) }
+            → link_close symbol.now production (slice_index symbol.now place) (around_of (trees_in symbol.now self.old.nodes) kept) place began (values_in symbol.now self.old.nodes parts.now) (state_of symbol.now self.old) ≡ Ok (found (value_in symbol.now self.new.nodes made) (state_of symbol.now self.new))) }
         ensures refused { IfErr result (λ e. (began : State)
-            → Fails e (unfolding_.close production (slice_index symbol.now place) (around_of (trees_in symbol.now self.old.nodes) kept) place began (values_in symbol.now self.old.nodes parts.now) (state_of symbol.now self.old))) }
+            → Fails e (link_close symbol.now production (slice_index symbol.now place) (around_of (trees_in symbol.now self.old.nodes) kept) place began (values_in symbol.now self.old.nodes parts.now) (state_of symbol.now self.old))) }
         ensures there { IfOk result (λ made. IsThere symbol.now (length self.new.nodes.nodes) made) }
         ensures grows { OnOk result (GoesOn symbol.now self.old self.new) }
         ensures few { length self.new.nodes.nodes ≤ length self.old.nodes.nodes + ends_of production parts.now }
         ensures makes { OnOk result (length self.new.nodes.nodes ≡ length self.old.nodes.nodes + makes_at_end production (values_in symbol.now self.old.nodes parts.now)) }
         ensures paid { OnOk result (IsPaid self.new) }
         ensures whole { OnOk result (IsWhole symbol.now self.new) }
+        ensures keeps { KeepsRoom self.old self.new }
+        ensures full { IfErr result (λ e. e ≡ refusals.Memory → LacksRoom self.old self.new) }
     {
         match production {
             Production::Substitution => self.substitute(symbol, place, kept, parts),
@@ -232,17 +235,19 @@ impl Linked {
         requires there { AreThere symbol.now (length self.old.nodes.nodes) parts.now }
         requires kept { IsKeptThere (length self.old.nodes.nodes) kept }
         ensures is { IfOk result (λ made. (began : State) → began.packs ≡ packs_of kept
-            → unfolding_.close production (slice_index symbol.now place) (around_of (trees_in symbol.now self.old.nodes) kept) place began (values_in symbol.now self.old.nodes parts.now) (state_of symbol.now self.old) ≡ Ok (found (value_in symbol.now self.new.nodes made) (state_of symbol.now self.new))) }
+            → link_close symbol.now production (slice_index symbol.now place) (around_of (trees_in symbol.now self.old.nodes) kept) place began (values_in symbol.now self.old.nodes parts.now) (state_of symbol.now self.old) ≡ Ok (found (value_in symbol.now self.new.nodes made) (state_of symbol.now self.new))) }
         ensures refused { IfErr result (λ e. (began : State)
-            → Fails e (unfolding_.close production (slice_index symbol.now place) (around_of (trees_in symbol.now self.old.nodes) kept) place began (values_in symbol.now self.old.nodes parts.now) (state_of symbol.now self.old))) }
+            → Fails e (link_close symbol.now production (slice_index symbol.now place) (around_of (trees_in symbol.now self.old.nodes) kept) place began (values_in symbol.now self.old.nodes parts.now) (state_of symbol.now self.old))) }
         ensures there { IfOk result (λ made. IsThere symbol.now (length self.new.nodes.nodes) made) }
         ensures grows { OnOk result (GoesOn symbol.now self.old self.new) }
         ensures few { length self.new.nodes.nodes ≤ length self.old.nodes.nodes + ends_of production parts.now }
         ensures makes { OnOk result (length self.new.nodes.nodes ≡ length self.old.nodes.nodes + makes_at_end production (values_in symbol.now self.old.nodes parts.now)) }
         ensures paid { OnOk result (IsPaid self.new) }
         ensures whole { OnOk result (IsWhole symbol.now self.new) }
+        ensures keeps { KeepsRoom self.old self.new }
+        ensures full { IfErr result (λ e. e ≡ refusals.Memory → LacksRoom self.old self.new) }
     {
-        let meant = self.meant_rare(symbol, production, place, kept, parts)?;
+        let meant = self.meant_rare(symbol, production, place, kept, parts);
         self.keep(symbol, production, place, kept, parts, meant)
     }
 
@@ -270,7 +275,7 @@ impl Linked {
         ensures few { AddsFew (cpp_view symbol.now) self.old self.new frame.now parts.old.items }
         ensures makes { OnOk result (length self.new.nodes.nodes ≡ length self.old.nodes.nodes + makes_at_end (production_at frame.now.rule) (values_in symbol.now self.old.nodes (drop frame.now.base parts.old.items))) }
         ensures pays { OnOk result ((at : ℕ) → Pays (cpp_view symbol.now) self.old self.new at at) }
-        ensures capacity { vec_capacity parts.old ≤ vec_capacity parts.new }
+        ensures roomy { IsRoomy self.old self.new parts.old parts.new result }
     {
         let made = self.close_production(
             symbol,
@@ -307,7 +312,7 @@ impl Linked {
         ensures few { AddsFew (cpp_view symbol.now) self.old self.new frame.now parts.old.items }
         ensures makes { OnOk result (length self.new.nodes.nodes ≡ length self.old.nodes.nodes + makes_at_end (production_at frame.now.rule) (values_in symbol.now self.old.nodes (drop frame.now.base parts.old.items))) }
         ensures pays { OnOk result ((at : ℕ) → Pays (cpp_view symbol.now) self.old self.new at at) }
-        ensures capacity { vec_capacity parts.old ≤ vec_capacity parts.new }
+        ensures roomy { IsRoomy self.old self.new parts.old parts.new result }
     {
         let made = self.close_rare(
             symbol,
@@ -342,7 +347,7 @@ impl Linked {
         ensures few { AddsFew (cpp_view symbol.now) self.old self.new frame.now parts.old.items }
         ensures makes { OnOk result (length self.new.nodes.nodes ≡ length self.old.nodes.nodes + makes_at_end (production_at frame.now.rule) (values_in symbol.now self.old.nodes (drop frame.now.base parts.old.items))) }
         ensures pays { OnOk result ((at : ℕ) → Pays (cpp_view symbol.now) self.old self.new at at) }
-        ensures capacity { vec_capacity parts.old ≤ vec_capacity parts.new }
+        ensures roomy { IsRoomy self.old self.new parts.old parts.new result }
     {
         let production = production_of(frame.rule);
         match production {

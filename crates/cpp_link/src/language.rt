@@ -13,10 +13,8 @@ ghost use Rattle.cpp_link.specs.View.{Surrounds};
 ghost use Rattle.cpp_link.specs.NodeCount.{cpp_counted};
 ghost use Rattle.cpp_link.specs.ViewLaws.{counted_laws, counted_threads};
 
-use crate::dispatch::production_of;
 use crate::linked::Linked;
 use crate::part::{Kept, Naming, Part, Scope};
-use cpp_grammar::production::Production;
 use sym_core::Refusal;
 use sym_link::language::{Frame, Linking};
 use sym_link::threads::{Threading, close_by, enter_by, token_by};
@@ -173,21 +171,17 @@ impl Linking for Linked {
 
     ghost view = { cpp_counted };
 
-    fn root(&mut self, symbol: &[u8], rows: &[Row], row: Row) -> Result<Kept, Refusal>
+    fn root(&mut self, symbol: &[u8], _rows: &[Row], _row: Row) -> Result<Kept, Refusal>
         requires room { HasRoom (cpp_counted symbol.now) symbol.now self.old 0 }
-        requires end { row.end ≤ length rows.now }
-        ensures opens { OpensRoot (cpp_counted symbol.now) symbol.now rows.now self.old self.new row result }
+        requires end { _row.end ≤ length _rows.now }
+        ensures opens { OpensRoot (cpp_counted symbol.now) symbol.now _rows.now self.old self.new _row result }
         ensures adds { OnOk result (Adds (cpp_counted symbol.now) self.old self.new 0 0) }
         ensures few { OnErr result ((cpp_counted symbol.now).size self.new ≤ (cpp_counted symbol.now).size self.old) }
         ensures pays { OnOk result (Pays (cpp_counted symbol.now) self.old self.new 0 0) }
         ensures keeps { KeepRoom ((cpp_counted symbol.now).lists self.old) ((cpp_counted symbol.now).lists self.new) }
         ensures full { OnlyForRoom ⊥ ((cpp_counted symbol.now).lists self.old) ((cpp_counted symbol.now).lists self.new) result }
     {
-        match production_of(row.rule) {
-            Production::Symbol => Ok(OUTSIDE),
-            // no symbol begins with another rule
-            _ => Err(Refusal::Memory),
-        }
+        Ok(OUTSIDE)
     }
 
     fn enter(

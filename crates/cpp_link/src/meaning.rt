@@ -1,7 +1,6 @@
 // What productions stand for, given their parts: a part, or one whose node isn't there yet.
 
-ghost use Rattle.std.specs.Prelude.{◌≡◌, ◌<◌, ◌≤◌, length, slice_index, true, IfOk, IfErr};
-ghost use Rattle.sym_core.specs.declared.refusal.Refusal.TheVariants as refusals;
+ghost use Rattle.std.specs.Prelude.{◌≡◌, ◌<◌, ◌≤◌, length, slice_index, true};
 ghost use Rattle.cpp_term.specs.Values.{tree_of, is_there};
 ghost use Rattle.cpp_term.specs.Meaning.{meaning, listed_value};
 ghost use Rattle.cpp_tree.specs.Nodes as nodes;
@@ -12,16 +11,16 @@ ghost use Rattle.cpp_link.specs.declared.part.Part.{Part};
 ghost use Rattle.cpp_tree.specs.declared.node.Node.{Node};
 ghost use Rattle.cpp_link.specs.Parts.{trees_in, value_of, values_in, around_of, meant_value, AreThere, IsMeantThere, IsPrefixThere, name_of};
 ghost use Rattle.cpp_link.specs.Closes.{ends_of};
+ghost use Rattle.cpp_link.specs.LinkReading.{link_meaning};
 ghost use Rattle.cpp_link.specs.Making.{IsCommon, IsRare, nodes_of_meant};
 ghost use Rattle.cpp_link.specs.NodeCount.{makes_at_end};
 
 use crate::linked::Linked;
-use crate::numbers::{local_number, normal, one_byte, signed_digits, with_byte};
+use crate::numbers::{from_byte, local_number, normal, one_byte, signed_digits};
 use crate::part::{Kept, Meant, Part};
 use cpp_grammar::production::Production;
 use cpp_tree::node::{Adjustment, Mark, Node, Piece, Qualifiers, Thunk};
 use cpp_tree::nodes::NIL;
-use sym_core::Refusal;
 
 /// A node to come, which is a tree.
 #[inline(always)]
@@ -79,11 +78,7 @@ fn qualified(restrict: bool, volatile: bool, const_: bool, ty: u32) -> Meant
 impl Linked {
     /// What a production that is rare stands for, that begins at a place, given its parts. This code takes room for the parts of
     /// each.
-    ///
-    /// # Errors
-    ///
-    /// `Memory` where a number is past 64 bits or a suffix isn't behind its byte, which no parts of a symbol come to.
-    #[tactic(auto, unfolding(cpp_term::specs::Meaning::meaning, cpp_term::specs::Meaning::qualified_by, cpp_term::specs::Meaning::listed_value, cpp_term::specs::Meaning::function_of, cpp_term::specs::Meaning::with_item, cpp_term::specs::Values::tree_of, cpp_term::specs::Values::is_there, crate::specs::Parts::around_of, crate::specs::Parts::meant_value, crate::specs::Parts::value_of, cpp_tree::specs::Nodes::tree_of, cpp_tree::specs::Nodes::piece_of, cpp_tree::specs::Nodes::thunk_of, cpp_tree::specs::Nodes::adjustment_of, crate::specs::Owed::made_at_end, crate::specs::Closes::ends_of, crate::specs::Making::nodes_of_meant, crate::specs::NodeCount::makes_at_end))]
+    #[tactic(auto, unfolding(crate::specs::LinkReading::link_meaning, cpp_term::specs::Meaning::meaning, cpp_term::specs::Meaning::qualified_by, cpp_term::specs::Meaning::listed_value, cpp_term::specs::Meaning::function_of, cpp_term::specs::Meaning::with_item, cpp_term::specs::Values::tree_of, cpp_term::specs::Values::is_there, crate::specs::Parts::around_of, crate::specs::Parts::meant_value, crate::specs::Parts::value_of, cpp_tree::specs::Nodes::tree_of, cpp_tree::specs::Nodes::piece_of, cpp_tree::specs::Nodes::thunk_of, cpp_tree::specs::Nodes::adjustment_of, crate::specs::Owed::made_at_end, crate::specs::Closes::ends_of, crate::specs::Making::nodes_of_meant, crate::specs::NodeCount::makes_at_end))]
     #[inline(never)]
     pub fn meant_rare(
         &self,
@@ -92,21 +87,20 @@ impl Linked {
         place: u32,
         kept: Kept,
         parts: &[Part],
-    ) -> Result<Meant, Refusal>
+    ) -> Meant
         requires rare { IsRare production }
         requires fits { FitsSymbol symbol.now }
         requires place { place < length symbol.now }
         requires table { IsTable (over symbol.now self.now.nodes) }
         requires there { AreThere symbol.now (length self.now.nodes.nodes) parts.now }
         requires prefix { IsPrefixThere (length self.now.nodes.nodes) (name_of kept) }
-        ensures is { IfOk result (λ meant. meant_value symbol.now self.now.nodes meant ≡ meaning production (slice_index symbol.now place) (around_of (trees_in symbol.now self.now.nodes) kept) (values_in symbol.now self.now.nodes parts.now)) }
-        ensures there { IfOk result (λ meant. IsMeantThere symbol.now (length self.now.nodes.thunks) (length self.now.nodes.nodes) meant) }
-        ensures nodes { IfOk result (λ meant. nodes_of_meant meant ≤ ends_of production parts.now) }
-        ensures makes { IfOk result (λ meant. nodes_of_meant meant ≡ makes_at_end production (values_in symbol.now self.now.nodes parts.now)) }
-        ensures memory { IfErr result (λ e. e ≡ refusals.Memory) }
+        ensures is { meant_value symbol.now self.now.nodes result ≡ link_meaning symbol.now production (slice_index symbol.now place) place (around_of (trees_in symbol.now self.now.nodes) kept) (values_in symbol.now self.now.nodes parts.now) }
+        ensures there { IsMeantThere symbol.now (length self.now.nodes.thunks) (length self.now.nodes.nodes) result }
+        ensures nodes { nodes_of_meant result ≤ ends_of production parts.now }
+        ensures makes { nodes_of_meant result ≡ makes_at_end production (values_in symbol.now self.now.nodes parts.now) }
     {
         let byte = symbol[place as usize];
-        Ok(match production {
+        match production {
             Production::NameWithS => Meant::Given(self.given(symbol, parts, 0)),
             Production::LocalTypePiece => Meant::Given(self.given(symbol, parts, 0)),
             Production::OperatorPiece => Meant::Given(self.given(symbol, parts, 0)),
@@ -380,21 +374,21 @@ impl Linked {
                 },
                 false,
             ),
-            Production::Lambda => self.lambda(symbol, parts)?,
+            Production::Lambda => self.lambda(symbol, parts),
             Production::Unnamed => piece(Piece::Unnamed(local_number(
                 symbol,
                 self.text(symbol, parts, 0),
-            )?)),
-            Production::Suffix => Meant::Given(Part::Text(with_byte(
+            ))),
+            Production::Suffix => Meant::Given(Part::Text(from_byte(
                 symbol,
                 place,
                 self.text(symbol, parts, 0),
-            )?)),
-            Production::SuffixByte => Meant::Given(Part::Text(with_byte(
+            ))),
+            Production::SuffixByte => Meant::Given(Part::Text(from_byte(
                 symbol,
                 place,
                 self.text(symbol, parts, 0),
-            )?)),
+            ))),
             Production::NestNext => unreachable!(),
             Production::SourceName => unreachable!(),
             Production::PlainType => unreachable!(),
@@ -421,7 +415,7 @@ impl Linked {
             Production::ConstType => unreachable!(),
             Production::Pointer => unreachable!(),
             Production::ReferenceType => unreachable!(),
-        })
+        }
     }
 
     /// What a production that is common stands for, that begins at a place, given its parts.

@@ -1,16 +1,16 @@
 // Texts and the numbers that they spell.
 
-ghost use Rattle.std.specs.Prelude.{◌≡◌, ◌<◌, ◌^◌, ◌∷◌, [], length, slice_index, ◌≤◌, IfOk, IfErr, MatchOption};
+ghost use Rattle.std.specs.Prelude.{◌≡◌, ◌+◌, ◌<◌, ◌≤◌, ◌^◌, ◌∷◌, [], length, take, drop, slice_index, MatchOption};
 ghost use Rattle.sym_core.specs.Number.{FitsSymbol};
-ghost use Rattle.sym_core.specs.Value.{counted_value};
+ghost use Rattle.sym_core.specs.Value.{digit_value, value_of, counted_value};
 ghost use Rattle.sym_core.specs.declared.NumberKind.TheVariants as kinds;
-ghost use Rattle.sym_core.specs.declared.refusal.Refusal.TheVariants as refusals;
 ghost use Rattle.cpp_grammar.specs.Values.{normal, is_zero, signed_digits, local_number};
 ghost use Rattle.cpp_tree.specs.Nodes as nodes;
 ghost use Rattle.cpp_tree.specs.Nodes.{bytes_at, IsWithin};
+ghost use Rattle.cpp_link.specs.LinkReading.{in_64_bits};
 
 use cpp_tree::node::Signed;
-use sym_core::{NumberKind, Refusal, Span, are_digits, value10, value36};
+use sym_core::Span;
 
 /// The byte at a place, as a text.
 pub fn one_byte(symbol: &[u8], place: u32) -> Span
@@ -65,77 +65,85 @@ pub fn signed_digits(symbol: &[u8], negative: bool, text: Span) -> Signed
     }
 }
 
-/// What the digits of a number count that ends in `_`: none are 0, else they are one more than they stand for. `None` past 64 bits.
-///
-/// # Errors
-///
-/// `Memory` where a byte is no digit, which is in no token.
-pub fn decimal(digits: &[u8]) -> Result<Option<u64>, Refusal>
-    ensures value { IfOk result (λ counted. MatchOption counted (2 ^ 64 ≤ counted_value kinds.Decimal digits.now) (λ v. v ≡ counted_value kinds.Decimal digits.now)) }
-    ensures memory { IfErr result (λ e. e ≡ refusals.Memory) }
+/// What a byte counts as a digit to the base 36; one that is none counts something too.
+fn digit36(byte: u8) -> u8
+    ensures { result ≡ digit_value kinds.Seq36 byte }
 {
-    if !are_digits(NumberKind::Decimal, digits) {
-        return Err(Refusal::Memory);
+    if b'0' <= byte && byte <= b'9' {
+        byte - b'0'
+    } else {
+        byte.saturating_sub(b'A' - 10)
     }
-    Ok(value10(digits))
+}
+
+/// The number that these digits stand for. `None` past 64 bits.
+fn decimal_value(digits: &[u8]) -> Option<u64>
+    ensures { MatchOption result (2 ^ 64 ≤ value_of kinds.Decimal digits.now) (λ v. v ≡ value_of kinds.Decimal digits.now) }
+{
+    let mut value: u64 = 0;
+    for byte in digits {
+        let shifted = value.checked_mul(10)?;
+        value = shifted.checked_add(u64::from(byte.saturating_sub(b'0')))?;
+    }
+    Some(value)
 }
 
 /// The same of digits to the base 36.
-///
-/// # Errors
-///
-/// `Memory` where a byte is no digit, which is in no token.
-pub fn base36(digits: &[u8]) -> Result<Option<u64>, Refusal>
-    ensures value { IfOk result (λ counted. MatchOption counted (2 ^ 64 ≤ counted_value kinds.Seq36 digits.now) (λ v. v ≡ counted_value kinds.Seq36 digits.now)) }
-    ensures memory { IfErr result (λ e. e ≡ refusals.Memory) }
+fn base36_value(digits: &[u8]) -> Option<u64>
+    ensures { MatchOption result (2 ^ 64 ≤ value_of kinds.Seq36 digits.now) (λ v. v ≡ value_of kinds.Seq36 digits.now) }
 {
-    if !are_digits(NumberKind::Seq36, digits) {
-        return Err(Refusal::Memory);
+    let mut value: u64 = 0;
+    for byte in digits {
+        let shifted = value.checked_mul(36)?;
+        value = shifted.checked_add(u64::from(digit36(*byte)))?;
     }
-    Ok(value36(digits))
+    Some(value)
 }
 
-/// The number of a lambda or an unnamed type.
-///
-/// # Errors
-///
-/// `Memory` past 64 bits, which is refused where the type begins.
-#[tactic(auto, unfolding(cpp_grammar::specs::Values::local_number))]
-pub fn local_number(symbol: &[u8], text: Span) -> Result<u64, Refusal>
+/// What the digits of a number count that ends in `_`: none are 0, else they are one more than they stand for. `None` past 64 bits.
+pub fn decimal(digits: &[u8]) -> Option<u64>
+    ensures { MatchOption result (2 ^ 64 ≤ counted_value kinds.Decimal digits.now) (λ v. v ≡ counted_value kinds.Decimal digits.now) }
+{
+    if digits.is_empty() {
+        return Some(0);
+    }
+    decimal_value(digits)?.checked_add(1)
+}
+
+/// The same of digits to the base 36.
+pub fn base36(digits: &[u8]) -> Option<u64>
+    ensures { MatchOption result (2 ^ 64 ≤ counted_value kinds.Seq36 digits.now) (λ v. v ≡ counted_value kinds.Seq36 digits.now) }
+{
+    if digits.is_empty() {
+        return Some(0);
+    }
+    base36_value(digits)?.checked_add(1)
+}
+
+/// The number of a lambda or an unnamed type, or the greatest of 64 bits past them, which is refused where the type begins.
+#[tactic(auto, unfolding(cpp_grammar::specs::Values::local_number, crate::specs::LinkReading::in_64_bits))]
+pub fn local_number(symbol: &[u8], text: Span) -> u64
     requires { IsWithin text symbol.now }
-    ensures is { IfOk result (λ number. number ≡ local_number (bytes_at symbol.now text)) }
-    ensures memory { IfErr result (λ e. e ≡ refusals.Memory) }
+    ensures { result ≡ in_64_bits (local_number (bytes_at symbol.now text)) }
 {
-    let Some(counted) = decimal(&symbol[text.from as usize..text.to as usize])? else {
-        return Err(Refusal::Memory);
-    };
-    match counted.checked_add(1) {
-        Some(number) => Ok(number),
-        None => Err(Refusal::Memory),
+    match decimal(&symbol[text.from as usize..text.to as usize]) {
+        Some(counted) => counted.saturating_add(1),
+        None => u64::MAX,
     }
 }
 
-/// A text behind the byte at a place, with that byte.
-///
-/// # Errors
-///
-/// `Memory` where the text isn't behind that byte, as in no suffix.
-pub fn with_byte(symbol: &[u8], place: u32, text: Span) -> Result<Span, Refusal>
+/// As many bytes from a place on as a text has, and one more.
+pub fn from_byte(symbol: &[u8], place: u32, text: Span) -> Span
     requires place { place < length symbol.now }
     requires fits { FitsSymbol symbol.now }
     requires there { IsWithin text symbol.now }
-    ensures is { IfOk result (λ whole. bytes_at symbol.now whole ≡ slice_index symbol.now place ∷ bytes_at symbol.now text) }
-    ensures there { IfOk result (λ whole. IsWithin whole symbol.now) }
-    ensures memory { IfErr result (λ e. e ≡ refusals.Memory) }
+    ensures is { bytes_at symbol.now result ≡ take (length (bytes_at symbol.now text) + 1) (drop place symbol.now) }
+    ensures there { IsWithin result symbol.now }
 {
-    if text.from == text.to {
-        return Ok(one_byte(symbol, place));
-    }
-    if text.from != place + 1 {
-        return Err(Refusal::Memory);
-    }
-    Ok(Span {
+    let most = symbol.len() as u32;
+    let to = place + 1 + (text.to - text.from);
+    Span {
         from: place,
-        to: text.to,
-    })
+        to: if to < most { to } else { most },
+    }
 }

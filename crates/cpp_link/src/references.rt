@@ -4,6 +4,7 @@ ghost use Rattle.std.specs.Prelude.{◌≡◌, ℕ, ◌<◌, ◌≤◌, ◌^◌,
 ghost use Rattle.cpp_term.specs.Values as values;
 ghost use Rattle.sym_core.specs.Value.{counted_value};
 ghost use Rattle.sym_core.specs.declared.NumberKind.TheVariants as kinds;
+ghost use Rattle.sym_core.specs.declared.refusal.Refusal.TheVariants as refusals;
 ghost use Rattle.sym_link.specs.Driving.{Fails};
 ghost use Rattle.cpp_term.specs.Between.{parameter_so_far};
 ghost use Rattle.cpp_term.specs.References.{with_packs, substituted};
@@ -27,7 +28,8 @@ fn with_packs(
     own: Option<u32>,
     packs: Option<u32>,
 ) -> Result<Option<u32>, Refusal>
-    ensures { (cs : List values.Candidate) → with_packs place in_expansion own (record { candidates = cs; packs = packs }) ≡ packs_read cs result }
+    ensures is { (cs : List values.Candidate) → with_packs place in_expansion own (record { candidates = cs; packs = packs }) ≡ packs_read cs result }
+    ensures refused { IfErr result (λ e. e ≡ refusals.Memory → ⊥) }
 {
     match own {
         None => Ok(packs),
@@ -150,6 +152,7 @@ impl Linked {
         requires there { IfSome candidate (λ c. c.node < length self.now.nodes.nodes) }
         ensures is { (cs : List values.Candidate) → substituted (around_of (trees_in symbol.now self.now.nodes) kept) place (maybe_candidate (trees_in symbol.now self.now.nodes) candidate) (record { candidates = cs; packs = self.now.packs }) ≡ node_read (trees_in symbol.now self.now.nodes) cs result }
         ensures there { IfOk result (λ named. named.0 < length self.now.nodes.nodes) }
+        ensures bad { IfErr result (λ e. e ≡ refusals.Memory → ⊥) }
     {
         let Some(c) = candidate else {
             return Err(Refusal::BadReference { at: place });
@@ -169,7 +172,7 @@ impl Linked {
     /// # Errors
     ///
     /// `BadReference` where it names no argument of the scope, or one that is a pack outside an expansion or of another length than
-    /// the earlier ones. `Memory` where a byte is no digit, which is in no token.
+    /// the earlier ones.
     #[tactic(auto, unfolding(cpp_term::specs::Between::parameter_so_far, cpp_term::specs::Between::listed_so_far, cpp_term::specs::References::parameter_named, crate::specs::Parts::around_of))]
     pub fn parameter(
         &self,
@@ -186,12 +189,13 @@ impl Linked {
         ensures refused { IfErr result (λ e. (cs : List values.Candidate) → Fails e (parameter_so_far (around_of (trees_in symbol.now self.now.nodes) kept) place (counted_value kinds.Decimal (bytes_at symbol.now digits)) [] (record { candidates = cs; packs = self.now.packs }))) }
         ensures there { IfOk result (λ step. IsStepThere symbol.now (length self.now.nodes.thunks) (length self.now.nodes.nodes) step) }
         ensures one { IfOk result (λ step. nodes_of_step step ≡ 1) }
+        ensures bad { IfErr result (λ e. e ≡ refusals.Memory → ⊥) }
     {
         let Some(scope) = kept.in_scope() else {
             return Err(Refusal::BadReference { at: place });
         };
         let count = self.count(symbol, scope);
-        let counted = decimal(&symbol[digits.from as usize..digits.to as usize])?;
+        let counted = decimal(&symbol[digits.from as usize..digits.to as usize]);
         let Some(number) = below(counted, count) else {
             return Err(Refusal::BadReference { at: place });
         };

@@ -1,7 +1,6 @@
 // What productions stand for whose parts are told apart.
 
-ghost use Rattle.std.specs.Prelude.{◌≡◌, ℕ, ◌≤◌, List, length, not, ◌&&◌, IfOk, IfErr};
-ghost use Rattle.sym_core.specs.declared.refusal.Refusal.TheVariants as refusals;
+ghost use Rattle.std.specs.Prelude.{◌≡◌, ℕ, ◌≤◌, List, length, not, ◌&&◌};
 ghost use Rattle.cpp_term.specs.Term as term;
 ghost use Rattle.cpp_term.specs.Term.{Term};
 ghost use Rattle.cpp_term.specs.Values as values;
@@ -13,6 +12,7 @@ ghost use Rattle.cpp_tree.specs.Nodes as nodes;
 ghost use Rattle.cpp_tree.specs.declared.node.Thunk as thunks;
 ghost use Rattle.cpp_tree.specs.Nodes.{over, IsTable, IsSpan, IsPieceBelow, IsBelow};
 ghost use Rattle.cpp_link.specs.Closes.{name_closes};
+ghost use Rattle.cpp_link.specs.LinkReading.{in_64_bits};
 ghost use Rattle.cpp_link.specs.Making.{nodes_of_meant};
 ghost use Rattle.cpp_link.specs.NodeCount.{name_at_end, lambda_at_end};
 ghost use Rattle.cpp_link.specs.Parts.{trees_in, tree_of_node, value_of, value_in, values_in, prefix_of, meant_value, IsThere, AreThere, IsMeantThere, IsPrefixThere};
@@ -24,7 +24,7 @@ use crate::part::{Meant, Part, Prefix};
 use crate::values::part;
 use cpp_tree::node::{Mark, Node, Piece};
 use cpp_tree::nodes::{ABSENT, NIL};
-use sym_core::{Refusal, Span};
+use sym_core::Span;
 
 /// The name so far with one more piece.
 #[tactic(auto, unfolding(cpp_tree::specs::Nodes::tree_of, crate::specs::Parts::prefix_of, cpp_term::specs::Between::extended))]
@@ -158,33 +158,28 @@ impl Linked {
     }
 
     /// What a lambda stands for.
-    ///
-    /// # Errors
-    ///
-    /// `Memory` where its number is past 64 bits, which is refused where the lambda begins.
     #[tactic(auto, unfolding(crate::specs::Parts::meant_value, crate::specs::Parts::value_of, cpp_tree::specs::Nodes::piece_of, cpp_term::specs::Meaning::parameters, crate::specs::Making::nodes_of_meant, crate::specs::NodeCount::lambda_at_end))]
-    pub fn lambda(&self, symbol: &[u8], parts: &[Part]) -> Result<Meant, Refusal>
+    pub fn lambda(&self, symbol: &[u8], parts: &[Part]) -> Meant
         requires table { IsTable (over symbol.now self.now.nodes) }
         requires there { AreThere symbol.now (length self.now.nodes.nodes) parts.now }
-        ensures is { IfOk result (λ meant. meant_value symbol.now self.now.nodes meant ≡ values.piece (term.lambda (parameters (term.list (tree_of (part (values_in symbol.now self.now.nodes parts.now) 0)) (no_items (part (values_in symbol.now self.now.nodes parts.now) 1)))) (local_number (text_of (part (values_in symbol.now self.now.nodes parts.now) 3))))) }
-        ensures there { IfOk result (λ meant. IsMeantThere symbol.now (length self.now.nodes.thunks) (length self.now.nodes.nodes) meant) }
-        ensures nodes { IfOk result (λ meant. nodes_of_meant meant ≤ 1) }
-        ensures makes { IfOk result (λ meant. nodes_of_meant meant ≡ lambda_at_end (values_in symbol.now self.now.nodes parts.now)) }
-        ensures memory { IfErr result (λ e. e ≡ refusals.Memory) }
+        ensures is { meant_value symbol.now self.now.nodes result ≡ values.piece (term.lambda (parameters (term.list (tree_of (part (values_in symbol.now self.now.nodes parts.now) 0)) (no_items (part (values_in symbol.now self.now.nodes parts.now) 1)))) (in_64_bits (local_number (text_of (part (values_in symbol.now self.now.nodes parts.now) 3))))) }
+        ensures there { IsMeantThere symbol.now (length self.now.nodes.thunks) (length self.now.nodes.nodes) result }
+        ensures nodes { nodes_of_meant result ≤ 1 }
+        ensures makes { nodes_of_meant result ≡ lambda_at_end (values_in symbol.now self.now.nodes parts.now) }
     {
-        let number = local_number(symbol, self.text(symbol, parts, 3))?;
+        let number = local_number(symbol, self.text(symbol, parts, 3));
         let first = self.tree(symbol, parts, 0);
         let rest = self.list(symbol, parts, 1);
         if self.is_lone_void(symbol, first, rest) {
-            return Ok(Meant::Given(Part::Piece(Piece::Lambda {
+            return Meant::Given(Part::Piece(Piece::Lambda {
                 parameters: NIL,
                 number,
-            })));
+            }));
         }
-        Ok(Meant::Lambda {
+        Meant::Lambda {
             first,
             rest,
             number,
-        })
+        }
     }
 }

@@ -1,6 +1,7 @@
 // What is done before the next part of a rule.
 
 ghost use Rattle.std.specs.Prelude.{◌≡◌, ℕ, ◌<◌, List, length, true, false, None, Ok, ◌∷◌, [], IfOk, IfErr};
+ghost use Rattle.sym_core.specs.declared.refusal.Refusal.TheVariants as refusals;
 ghost use Rattle.sym_link.specs.Driving.{Fails};
 ghost use Rattle.cpp_term.specs.Term as term;
 ghost use Rattle.cpp_grammar.specs.declared.production.Production.TheVariants as productions;
@@ -643,6 +644,7 @@ impl Linked {
         ensures of { IfOk result (λ step. IsStepOf production 1 step) }
         ensures makes { IfOk result (λ step. nodes_of_step step ≡ makes_before production (value_in symbol.now self.now.nodes first ∷ [])) }
         ensures pack { production ≡ productions.PackArgument → IfOk result (λ step. nodes_of_step step ≡ pack_makes first) }
+        ensures bad { IfErr result (λ e. e ≡ refusals.Memory → ⊥) }
     {
         match production {
             Production::Parameter => {
@@ -682,6 +684,7 @@ impl Linked {
         ensures of { IfOk result (λ step. IsStepOf production (length parts.now) step) }
         ensures makes { IfOk result (λ step. nodes_of_step step ≡ makes_before production (values_in symbol.now self.now.nodes parts.now)) }
         ensures pack { production ≡ productions.PackArgument → parts.now ≡ variants.Nothing ∷ [] → IfOk result (λ step. nodes_of_step step ≡ 0) }
+        ensures bad { IfErr result (λ e. e ≡ refusals.Memory → ⊥) }
     {
         if parts.is_empty() {
             return Ok(self.step_first(symbol, production, place, kept));

@@ -2,9 +2,11 @@
 use Rattle.std.proofs.Common.{◌≡◌, refl, sym, ◌∙◌, ap, subst, arith, ℕ, ◌*◌, ◌+◌, ◌<◌, ◌≤◌, List, [], ◌∷◌, length, Bool, true, Ok}
 use Rattle.sym_core.specs.Number.{FitsSymbol}
 use Rattle.sym_shape.specs.declared.rule.Row.{Row}
-use Rattle.sym_shape.specs.Tree.{Tree}
+use Rattle.sym_shape.specs.declared.rule.Sym.TheVariants.{Kind}
+use Rattle.sym_shape.specs.Tree.{Tree, IsTree, spell}
 use Rattle.sym_link.proofs.Tally.{done_nodes}
 use Rattle.sym_link.specs.Following.{IsDone, meaning_of}
+use Rattle.cpp_grammar.specs.Table.{abi}
 use Rattle.cpp_grammar.specs.Unfolding.{unfold_cpp}
 use Rattle.cpp_term.specs.Term.{Term, symbol}
 use Rattle.cpp_term.specs.Values.{Value, tree, tree_of}
@@ -16,6 +18,7 @@ use Rattle.cpp_link.specs.declared.linked.Linked.{Linked}
 use Rattle.cpp_link.specs.Parts.{trees_in, value_of, IsThere}
 use Rattle.cpp_link.specs.NodeCount.{cpp_makes, cpp_counted, counted_nodes, nodes_of_shape}
 use Rattle.cpp_link.specs.View.{cpp_view}
+use Rattle.cpp_link.proofs.LinkReading.{counted_same}
 use Rattle.cpp_layout.specs.Layout.{IsRead}
 
 -- ## The one part
@@ -113,7 +116,10 @@ reads s shape linked parts w node rows steps listed is fits few each all =
     }
 
 -- its nodes are those that were counted
-pub nodes_counted : (s : List ℕ) (rows : List Row) (shape : Tree) (linked : Linked) (parts : List Part) → IsDone (cpp_counted s) s rows (meaning_of (cpp_counted s) shape) linked parts
+pub nodes_counted : (s : List ℕ) (rows : List Row) (shape : Tree) (linked : Linked) (parts : List Part) → IsTree abi (Kind 0) shape → spell shape ≡ s
+    → IsDone (cpp_counted s) s rows (meaning_of (cpp_counted s) shape) linked parts
     → length linked.nodes.nodes ≡ nodes_of_shape shape
-nodes_counted s rows shape linked parts done =
-    omega (arith, done_nodes (cpp_view s) cpp_makes s rows shape linked parts counted_nodes (λ read. refl) done, done.paid.begun)
+nodes_counted s rows shape linked parts is spelled done =
+    let count = done_nodes (cpp_view s) cpp_makes s rows shape linked parts counted_nodes (λ read. refl) done
+    ∙ ap counted_nodes (counted_same s shape is spelled cpp_makes) in
+    omega (arith, count, done.paid.begun)

@@ -1,4 +1,5 @@
 -- A symbol whose shape's meaning is a refusal stands for that refusal.
+use Rattle.std.proofs.Common.{refl, subst}
 use Rattle.sym_core.specs.declared.refusal.Refusal.{Refusal}
 use Rattle.sym_shape.specs.declared.rule.Sym.TheVariants.{Kind}
 use Rattle.sym_shape.specs.Tree.{Tree, IsTree, spell}
@@ -10,6 +11,9 @@ use Rattle.cpp_grammar.specs.Unfolding.{unfold_cpp}
 use Rattle.cpp_term.proofs.Erasing.{reading_fails}
 use Rattle.cpp_link.specs.View.{cpp_view}
 use Rattle.cpp_link.specs.NodeCount.{cpp_makes, cpp_counted}
+use Rattle.cpp_link.proofs.LinkReading.{meaning_same}
 
 pub cpp_fails : (shape : Tree) (refusal : Refusal) → IsTree abi (Kind 0) shape → Fails refusal (meaning_of (cpp_counted (spell shape)) shape) → Fails refusal (unfold_cpp shape)
-cpp_fails shape refusal is fails = reading_fails shape refusal is (fails_untallied (cpp_view (spell shape)) cpp_makes shape refusal fails)
+cpp_fails shape refusal is fails =
+    reading_fails shape refusal is
+    (subst (Fails refusal) (meaning_same (spell shape) shape is refl) (fails_untallied (cpp_view (spell shape)) cpp_makes shape refusal fails))

@@ -8,3 +8,8 @@ pub returns-in_err-token_by-clause-takes : goal.returns-in_err-token_by-clause-t
 returns-in_err-token_by-clause-takes c around known from left state t rest is left_is row_is =
     let p = err_from_is_err_and c.from_residual.result c.from_residual.ensures.1 in
     rw (p.1, p.2) (c.in_err-token_by.ensures.takes around known from left state t rest is left_is row_is)
+
+pub returns-in_err-token_by-clause-full : goal.returns-in_err-token_by-clause-full
+returns-in_err-token_by-clause-full c =
+    let p = err_from_is_err_and c.from_residual.result c.from_residual.ensures.1 in
+    rw (p.1, p.2) c.in_err-token_by.ensures.full

@@ -1,3 +1,5 @@
+use Rattle.sym_link.proofs.Room.{room_same}
+use Rattle.cpp_link.specs.Room.{lists_of}
 use Rattle.cpp_link.specs.View.{Surrounds, cpp_view}
 use Rattle.cpp_link.specs.NodeCount.{cpp_makes}
 use Rattle.sym_link.proofs.Tally.{begin_tallied}
@@ -6,5 +8,8 @@ use Rattle.cpp_link.proofs.language.LinkedThreading.begin.Goals as goal
 
 pub returns-clause-begins : goal.returns-clause-begins
 returns-clause-begins c =
-    begin_tallied (cpp_view c.args.symbol.now) cpp_makes c.args.symbol.now (Surrounds c.args.symbol.now) c.args.rows.now c.args.self.now c.begin_rule.new.self c.args.context c.args.row c.begin_rule.result
-    (none_begun c.args.self.now c.begin_rule.new.self c.begin_rule.result c.begin_rule.ensures.none) c.begin_rule.ensures.begins
+    begin_tallied (cpp_view c.args.symbol.now) cpp_makes c.args.symbol.now (Surrounds c.args.symbol.now) c.args.rows.now c.args.self.now c.args.self.now c.args.context c.args.row c.begin_rule.result
+    (none_begun c.args.self.now c.begin_rule.result) c.begin_rule.ensures.begins
+
+pub returns-clause-keeps : goal.returns-clause-keeps
+returns-clause-keeps c = room_same (lists_of c.args.self.now)

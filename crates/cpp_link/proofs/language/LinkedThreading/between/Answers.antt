@@ -1,6 +1,7 @@
 use Rattle.cpp_link.specs.View.{Surrounds, cpp_view}
 use Rattle.cpp_link.specs.NodeCount.{cpp_makes}
 use Rattle.sym_link.proofs.Tally.{room_untallied, open_at_untallied, between_tallied}
+use Rattle.cpp_link.proofs.Rooms.{roomy_keeps, roomy_full}
 use Rattle.cpp_link.proofs.NodeCount.{before_read}
 use Rattle.cpp_link.proofs.language.LinkedThreading.between.Goals as goal
 
@@ -14,3 +15,9 @@ pub returns-clause-goes : goal.returns-clause-goes
 returns-clause-goes c =
     between_tallied (cpp_view c.args.symbol.now) cpp_makes c.args.symbol.now (Surrounds c.args.symbol.now) c.args.self.now c.go_on.new.self c.args.frame.now c.args.parts.now.items c.go_on.new.parts.items
     c.go_on.result (before_read c.args.symbol.now c.args.self.now c.go_on.new.self c.args.frame.now c.args.parts.now.items c.go_on.result c.requires.room.paid.begun c.go_on.ensures.makes) c.go_on.ensures.goes
+
+pub returns-clause-keeps : goal.returns-clause-keeps
+returns-clause-keeps c = roomy_keeps _ _ _ _ _ c.go_on.ensures.roomy
+
+pub returns-clause-full : goal.returns-clause-full
+returns-clause-full c = roomy_full _ _ _ _ _ c.go_on.ensures.roomy

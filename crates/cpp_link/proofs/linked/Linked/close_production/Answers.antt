@@ -2,27 +2,31 @@ use Rattle.std.specs.Prelude.{slice_index}
 use Rattle.cpp_link.specs.Making.{state_of}
 use Rattle.cpp_link.specs.Parts.{trees_in, value_in, values_in, packs_of, around_of}
 use Rattle.cpp_link.proofs.NodeCount.{none_substituted}
+use Rattle.cpp_link.proofs.Rooms.{same_room}
 use Rattle.cpp_link.proofs.Making.{substitution_closes, substitution_refused, other_closes}
 use Rattle.cpp_link.proofs.linked.Linked.close_production.Goals as goal
 
 pub returns-in-Substitution-clause-is : goal.returns-in-Substitution-clause-is
 returns-in-Substitution-clause-is c =
     let s = c.args.symbol.now in
-    substitution_closes c.args.production (slice_index s c.args.place) (around_of (trees_in s c.args.self.now.nodes) c.args.kept) c.args.place (values_in s c.args.self.now.nodes c.args.parts.now)
+    substitution_closes s c.args.production (slice_index s c.args.place) (around_of (trees_in s c.args.self.now.nodes) c.args.kept) c.args.place (values_in s c.args.self.now.nodes c.args.parts.now)
     (state_of s c.args.self.now) (state_of s c.substitute.new.self) (packs_of c.args.kept) (value_in s c.substitute.new.self.nodes) c.substitute.result c.in-Substitution.is c.substitute.ensures.is
 
 pub returns-in-Substitution-clause-refused : goal.returns-in-Substitution-clause-refused
 returns-in-Substitution-clause-refused c =
     let s = c.args.symbol.now in
-    substitution_refused c.args.production (slice_index s c.args.place) (around_of (trees_in s c.args.self.now.nodes) c.args.kept) c.args.place (values_in s c.args.self.now.nodes c.args.parts.now)
+    substitution_refused s c.args.production (slice_index s c.args.place) (around_of (trees_in s c.args.self.now.nodes) c.args.kept) c.args.place (values_in s c.args.self.now.nodes c.args.parts.now)
     (state_of s c.args.self.now) (state_of s c.substitute.new.self) (packs_of c.args.kept) (value_in s c.substitute.new.self.nodes) c.substitute.result c.in-Substitution.is c.substitute.ensures.refused
 
 pub returns-in_default-clause-is : goal.returns-in_default-clause-is
 returns-in_default-clause-is c =
     let s = c.args.symbol.now in
-    other_closes c.args.production (slice_index s c.args.place) (around_of (trees_in s c.args.self.now.nodes) c.args.kept) c.args.place (values_in s c.args.self.now.nodes c.args.parts.now)
+    other_closes s c.args.production (slice_index s c.args.place) (around_of (trees_in s c.args.self.now.nodes) c.args.kept) c.args.place (values_in s c.args.self.now.nodes c.args.parts.now)
     (state_of s c.args.self.now) (state_of s c.make.new.self) (packs_of c.args.kept) (value_in s c.make.new.self.nodes) c.make.result c.in_default.not-Substitution c.make.ensures.value c.make.ensures.state
 
 pub returns-in-Substitution-clause-makes : goal.returns-in-Substitution-clause-makes
 returns-in-Substitution-clause-makes c =
     none_substituted c.args.self.now c.substitute.new.self c.substitute.result c.args.production (values_in c.args.symbol.now c.args.self.now.nodes c.args.parts.now) c.in-Substitution.is c.substitute.ensures.nodes
+
+pub returns-in-Substitution-clause-keeps : goal.returns-in-Substitution-clause-keeps
+returns-in-Substitution-clause-keeps c = same_room c.args.self.now c.substitute.new.self c.substitute.ensures.nodes c.substitute.ensures.candidates

@@ -8,6 +8,6 @@ use Rattle.cpp_link.proofs.linked.Linked.close_rare.Goals as goal
 pub returns-clause-is : goal.returns-clause-is
 returns-clause-is c =
     let s = c.args.symbol.now in
-    other_closes c.args.production (slice_index s c.args.place) (around_of (trees_in s c.args.self.now.nodes) c.args.kept) c.args.place (values_in s c.args.self.now.nodes c.args.parts.now)
+    other_closes s c.args.production (slice_index s c.args.place) (around_of (trees_in s c.args.self.now.nodes) c.args.kept) c.args.place (values_in s c.args.self.now.nodes c.args.parts.now)
     (state_of s c.args.self.now) (state_of s c.keep.new.self) (packs_of c.args.kept) (value_in s c.keep.new.self.nodes) c.keep.result
     (λ is. subst (λ p. IsRare p) is c.requires.rare) c.keep.ensures.value c.keep.ensures.state

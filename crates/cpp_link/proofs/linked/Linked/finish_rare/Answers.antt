@@ -1,8 +1,9 @@
-use Rattle.std.proofs.Common.{drop, take}
+use Rattle.std.proofs.Common.{refl, sym, ◌∙◌, inl, inr, arith, drop, take}
 use Rattle.std.proofs.lemmas.Result.{err_from_is_err_and}
 use Rattle.sym_link.proofs.Lists.{rest_all}
 use Rattle.cpp_link.proofs.NodeCount.{made_where_closed}
 use Rattle.cpp_link.proofs.Finishing.{put_right, refused_right, ends_few, few_adds}
+use Rattle.cpp_link.proofs.Rooms.{roomy_ok, roomy_refused}
 use Rattle.cpp_link.proofs.Viewing.{open_there}
 use Rattle.cpp_link.proofs.linked.Linked.finish_rare.Goals as goal
 
@@ -55,3 +56,16 @@ pub returns-clause-makes : goal.returns-clause-makes
 returns-clause-makes c =
     made_where_closed c.args.symbol.now c.args.self.now c.close_rare.new.self c.args.frame.now c.args.parts.now.items _ c.args.production
     (rw c.deref.ensures.value (rest_all c.args.parts.now.items c.args.frame.now.base)) c.requires.numbered c.in_ok-made.ensures.makes
+
+pub returns-in_err-made-clause-roomy : goal.returns-in_err-made-clause-roomy
+returns-in_err-made-clause-roomy c =
+    let p = err_from_is_err_and c.from_residual.result c.from_residual.ensures.1 in
+    roomy_refused _ _ _ _ _ p.0 p.1 c.close_rare.ensures.keeps (omega arith) (λ memory. inl (c.in_err-made.ensures.full (sym p.2 ∙ memory)))
+
+pub returns-in_err-put-clause-roomy : goal.returns-in_err-put-clause-roomy
+returns-in_err-put-clause-roomy c =
+    let p = err_from_is_err_and c.from_residual-in_err-put.result c.from_residual-in_err-put.ensures.1 in
+    roomy_refused _ _ _ _ _ p.0 p.1 c.close_rare.ensures.keeps c.put.ensures.keeps (λ memory. inr (omega (arith, c.in_err-put.ensures.full, c.in_err-put.ensures.rest)))
+
+pub returns-clause-roomy : goal.returns-clause-roomy
+returns-clause-roomy c = roomy_ok _ _ _ _ _ _ refl c.close_rare.ensures.keeps c.put.ensures.keeps

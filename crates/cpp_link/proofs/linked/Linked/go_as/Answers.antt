@@ -1,4 +1,4 @@
-use Rattle.std.proofs.Common.{◌≡◌, refl, ◌∙◌, ap, subst, arith, ◌-◌, List, [], ◌∷◌, length, take, drop}
+use Rattle.std.proofs.Common.{◌≡◌, refl, sym, ◌∙◌, inl, ap, subst, arith, ◌-◌, List, [], ◌∷◌, length, take, drop}
 use Rattle.std.proofs.lemmas.Result.{err_from_is_err_and}
 use Rattle.sym_link.proofs.Lists.{rest_all}
 use Rattle.cpp_grammar.specs.declared.production.Production.{Production}
@@ -7,6 +7,7 @@ use Rattle.cpp_link.specs.declared.part.Part.{Part}
 use Rattle.cpp_link.specs.Stepping.{IsStepOf, nodes_of_step}
 use Rattle.cpp_link.proofs.NodeCount.{made_before_part}
 use Rattle.cpp_link.proofs.GoingOn.{goes_right, refused_right, adds_right, steps_few, refused_few}
+use Rattle.cpp_link.proofs.Rooms.{same_room, roomy_ok, roomy_refused}
 use Rattle.cpp_link.proofs.Viewing.{open_there}
 use Rattle.cpp_link.proofs.linked.Linked.go_as.Goals as goal
 
@@ -99,3 +100,16 @@ returns-clause-makes c =
       made_before_part c.args.symbol.now c.args.self.now c.args.frame.now c.args.parts.now.items own c.args.production (nodes_of_step c.in_ok-step.step)
           same c.requires.numbered c.in_ok-step.ensures.makes,
     )
+
+pub returns-in_err-step-clause-roomy : goal.returns-in_err-step-clause-roomy
+returns-in_err-step-clause-roomy c =
+    let p = err_from_is_err_and c.from_residual.result c.from_residual.ensures.1 in
+    roomy_refused _ _ _ _ _ p.0 p.1 (same_room c.args.self.now c.args.self.now refl refl) (omega arith) (λ memory. absurd (c.in_err-step.ensures.bad (sym p.2 ∙ memory)))
+
+pub returns-in_err-then-clause-roomy : goal.returns-in_err-then-clause-roomy
+returns-in_err-then-clause-roomy c =
+    let p = err_from_is_err_and c.from_residual-in_err-then.result c.from_residual-in_err-then.ensures.1 in
+    roomy_refused _ _ _ _ _ p.0 p.1 c.take_step.ensures.keeps c.take_step.ensures.capacity (λ memory. inl c.in_err-then.ensures.full)
+
+pub returns-clause-roomy : goal.returns-clause-roomy
+returns-clause-roomy c = roomy_ok _ _ _ _ _ _ refl c.take_step.ensures.keeps c.take_step.ensures.capacity

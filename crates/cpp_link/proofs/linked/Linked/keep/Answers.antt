@@ -1,7 +1,7 @@
 use Rattle.std.proofs.Common.{refl, sym, ◌∙◌, ap, subst, length}
 use Rattle.std.specs.Prelude.{slice_index}
-use Rattle.cpp_term.specs.Meaning.{meaning}
 use Rattle.cpp_link.specs.declared.linked.Linked.{Linked}
+use Rattle.cpp_link.specs.LinkReading.{link_meaning}
 use Rattle.cpp_link.specs.Parts.{trees_in, values_in, around_of, AreCandidatesThere}
 use Rattle.cpp_link.specs.Staying.{around_stays, values_stay, candidates_more}
 use Rattle.cpp_link.proofs.Making.{parts_more, state_behind}
@@ -15,10 +15,12 @@ behind-behind-requires-clause-value c =
     let s = c.args.symbol.now in
     let old = c.args.self.now.nodes in
     let new = c.settle.new.self.nodes in
-    let byte = slice_index s c.args.place in
-    c.in_ok-made.ensures.value ∙ c.requires.value
-    ∙ ap (λ a. meaning c.args.production byte a (values_in s old c.args.parts.now)) (sym (around_stays s old new c.in_ok-made.ensures.grows.stays c.args.kept c.requires.kept))
-    ∙ ap (λ vs. meaning c.args.production byte (around_of (trees_in s new) c.args.kept) vs) (sym (values_stay s old new c.in_ok-made.ensures.grows.stays c.args.parts.now c.requires.there))
+    let byte = slice_index s c.args.place in (
+      c.args.place,
+      c.in_ok-made.ensures.value ∙ c.requires.value
+          ∙ ap (λ a. link_meaning s c.args.production byte c.args.place a (values_in s old c.args.parts.now)) (sym (around_stays s old new c.in_ok-made.ensures.grows.stays c.args.kept c.requires.kept))
+          ∙ ap (λ vs. link_meaning s c.args.production byte c.args.place (around_of (trees_in s new) c.args.kept) vs) (sym (values_stay s old new c.in_ok-made.ensures.grows.stays c.args.parts.now c.requires.there)),
+    )
 
 pub append-requires-clause-there : goal.append-requires-clause-there
 append-requires-clause-there c =

@@ -17,10 +17,10 @@ returns-in_err-node-clause-refused c =
     let around = around_of ts c.args.kept in
     let cs = candidates_of ts c.args.self.now.candidates.items in
     let state = state_of c.args.symbol.now c.args.self.now in
-    let p = err_from_is_err_and c.from_residual-in_err-node.result c.from_residual-in_err-node.ensures.1 in
-    let named = c.in_ok-candidate.ensures.is ∙ ap (λ bytes. slice_get cs (counted_value Seq36 bytes)) c.text.ensures.is in
+    let p = err_from_is_err_and c.from_residual.result c.from_residual.ensures.1 in
+    let named = c.candidate-candidate.ensures.is ∙ ap (λ bytes. slice_get cs (counted_value Seq36 bytes)) c.text.ensures.is in
     rw (p.1, p.2) (fails_is c.in_err-node.field-0.0 _
-    (ap (λ o. substituted around (c.args.place - 1) o state) (sym named) ∙ ap (λ n. substituted around n (maybe_candidate ts c.in_ok-candidate.candidate) state) (sym c.saturating_sub.ensures) ∙ c.in_err-node.ensures.is cs))
+    (ap (λ o. substituted around (c.args.place - 1) o state) (sym named) ∙ ap (λ n. substituted around n (maybe_candidate ts c.candidate-candidate.result) state) (sym c.saturating_sub.ensures) ∙ c.in_err-node.ensures.is cs))
 
 pub returns-clause-is : goal.returns-clause-is
 unfolding node_read value_of
@@ -29,5 +29,5 @@ returns-clause-is c =
     let around = around_of ts c.args.kept in
     let cs = candidates_of ts c.args.self.now.candidates.items in
     let state = state_of c.args.symbol.now c.args.self.now in
-    let named = c.in_ok-candidate.ensures.is ∙ ap (λ bytes. slice_get cs (counted_value Seq36 bytes)) c.text.ensures.is in
-    ap (λ o. substituted around (c.args.place - 1) o state) (sym named) ∙ ap (λ n. substituted around n (maybe_candidate ts c.in_ok-candidate.candidate) state) (sym c.saturating_sub.ensures) ∙ c.in_ok-node.ensures.is cs
+    let named = c.candidate-candidate.ensures.is ∙ ap (λ bytes. slice_get cs (counted_value Seq36 bytes)) c.text.ensures.is in
+    ap (λ o. substituted around (c.args.place - 1) o state) (sym named) ∙ ap (λ n. substituted around n (maybe_candidate ts c.candidate-candidate.result) state) (sym c.saturating_sub.ensures) ∙ c.in_ok-node.ensures.is cs

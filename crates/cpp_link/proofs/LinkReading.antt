@@ -1,0 +1,440 @@
+-- The reading that the linker follows says of each symbol what C++'s reading says.
+use Rattle.std.proofs.Common.{slice_get, ◌≡◌, refl, sym, ◌∙◌, ap, subst, arith, ℕ, ◌+◌, ◌-◌, ◌^◌, ◌<◌, ◌||◌, ◌⊎◌, inl, inr, List, [], ◌∷◌, ◌++◌, length, take, drop, Bool, true, false, not, Option, Some, None, Ok, Err, append-nil}
+use Rattle.std.specs.Prelude.{Result, nat_eq, nat_lt, if◌then◌else◌}
+use Rattle.std.proofs.lemmas.Bool.{true≢false, false≢true, cases_Bool}
+use Rattle.std.proofs.lemmas.Bool.{eqb-true}
+use Rattle.std.proofs.Math.Seq.{take-append_seam}
+use Rattle.sym_core.specs.declared.refusal.Refusal.{Refusal}
+use Rattle.sym_core.specs.declared.refusal.Refusal.TheVariants.{BadValue}
+use Rattle.sym_shape.specs.declared.rule.Rule.{Rule}
+use Rattle.sym_shape.specs.declared.rule.Sym.TheVariants.{Kind as OfKind}
+use Rattle.sym_shape.specs.Table.{Token, symbols_of}
+use Rattle.sym_shape.specs.Tree.{Tree, Forest, branch, empty, token, fixed, nothing, grown, spell, spell_all, TakesRule, IsTree, AreTrees}
+use Rattle.sym_link.specs.Reading.{Found, Open, ◌>>=◌}
+use Rattle.sym_link.specs.Unfold.{found, alone, standing, unfold_tree, unfold_forest}
+use Rattle.sym_link.specs.Tally.{Tally, tally, Makes, tallied}
+use Rattle.sym_link.proofs.Tally.{plain, forest_untallied}
+use Rattle.cpp_grammar.specs.declared.production.Production.{Production}
+use Rattle.cpp_grammar.specs.declared.kind.Kind.{Kind}
+use Rattle.cpp_grammar.specs.Grammar.{parts_of, number_of_kind, kinds, productions, number_of, is_chain, choose, alternatives, pick, is_in, in_ranges, among, may_be_empty}
+use Rattle.cpp_grammar.specs.Table.{abi, rule_of, rule_taken, sheet, sheet_with, blank}
+use Rattle.cpp_grammar.proofs.Choosing.{rule_at_kind, is_kind}
+use Rattle.cpp_grammar.specs.TableLaws.{lawful}
+use Rattle.cpp_grammar.specs.Unfolding.{last_token, production_at, byte_of}
+use Rattle.cpp_grammar.specs.Values.{local_number}
+use Rattle.cpp_grammar.proofs.ClosedTrees.{Taken, taken_rule, at_number, its_symbols, same_rule}
+use Rattle.cpp_term.specs.Values.{State, Around, Value, nothing_there, text, piece, tree_of, text_of, part}
+use Rattle.cpp_term.specs.Term.{list, lambda, unnamed}
+use Rattle.cpp_term.specs.Between.{between, in_signature, no_items}
+use Rattle.cpp_term.specs.Meaning.{parameters, meaning}
+use Rattle.cpp_term.specs.Unfolding.{number_tested, opening, behind, close, cpp, first_around, first_state}
+use Rattle.cpp_link.specs.Numbered.{is_numbered}
+use Rattle.cpp_link.specs.LinkReading.{in_64_bits, link_meaning, link_close, link_begin, linked}
+use Rattle.cpp_link.proofs.Endings.{opens_plain, last_behind}
+use Rattle.cpp_link.proofs.SameReadings.{BeginsSame, ClosesSame, tree_same}
+
+-- ## What comes of a chain of readings
+
+-- both come to something
+abbrev pub Both : {A B : Type 0} → Result A Refusal → (A → Result B Refusal) → B → Type 0
+Both {A = A} m f y = (x : A) × (m ≡ Ok x) × (f x ≡ Ok y)
+
+pub both_ok : {A B : Type 0} (m : Result A Refusal) (f : A → Result B Refusal) (y : B) → (m >>= f) ≡ Ok y → Both m f y
+both_ok (Ok x) f y is = (x, refl, is)
+both_ok (Err e) f y is = absurd cc
+
+ok_is : {A : Type 0} (x y : A) → ◌≡◌ {A = Result A Refusal} (Ok x) (Ok y) → x ≡ y
+ok_is x y is = cc
+
+-- ## Productions that close as C++'s reading says
+
+unfoldable is_plain : Production → Bool
+is_plain Production.Suffix = false
+is_plain Production.SuffixByte = false
+is_plain Production.Lambda = false
+is_plain Production.Unnamed = false
+is_plain _ = true
+
+plain_closes : (s : List ℕ) (p : Production) (byte : ℕ) (around : Around) (place : ℕ) (began : State) (vs : List Value) (state : State) → is_plain p ≡ true
+    → link_close s p byte around place began vs state ≡ close p byte around place began vs state
+unfolding is_plain link_close link_meaning close
+plain_closes s Production.Suffix byte around place began vs state plain = absurd (false≢true plain)
+plain_closes s Production.SuffixByte byte around place began vs state plain = absurd (false≢true plain)
+plain_closes s Production.Lambda byte around place began vs state plain = absurd (false≢true plain)
+plain_closes s Production.Unnamed byte around place began vs state plain = absurd (false≢true plain)
+plain_closes s _ byte around place began vs state plain = refl
+
+-- ## Numbers
+
+within_64 : (n : ℕ) → nat_lt n (2 ^ 64) ≡ true → in_64_bits n ≡ n
+unfolding in_64_bits
+within_64 n less = ap (λ b. if b then n else (2 ^ 64 - 1)) less
+
+tested_less : (b : Bool) (place : ℕ) (state begun : State) → ◌≡◌ {A = Result State Refusal} (elim b [ true ↦ Ok state | false ↦ Err (BadValue place) ]) (Ok begun) → b ≡ true
+tested_less true place state begun is = refl
+tested_less false place state begun is = absurd cc
+
+number_less : (place : ℕ) (digits : List ℕ) (state begun : State) → number_tested place digits state ≡ Ok begun → nat_lt (local_number digits) (2 ^ 64) ≡ true
+unfolding number_tested
+number_less place digits state begun is = tested_less (nat_lt (local_number digits) (2 ^ 64)) place state begun is
+
+-- ## Suffixes
+
+chosen_byte : (b : Bool) (rule : Rule) → rule_taken (if b then Some Production.SuffixByte else None) ≡ Some rule → rule ≡ rule_of Production.SuffixByte
+unfolding rule_taken
+chosen_byte true rule is = sym (same_rule Production.SuffixByte rule is)
+chosen_byte false rule is = absurd cc
+
+-- the kinds of what a suffix consists of
+data OfSuffix : ℕ → Type 0 where
+  in_front : OfSuffix 2
+  behind_it : OfSuffix 3
+
+suffix_rule : (kind : ℕ) → OfSuffix kind → (rule : Rule) (taken : List ℕ) → TakesRule abi kind rule taken → rule ≡ rule_of Production.SuffixByte
+unfolding choose alternatives pick kinds
+suffix_rule kind in_front rule taken takes = chosen_byte _ rule (sym (rule_at_kind 2 Kind.SuffixFirst takes.byte refl) ∙ takes.found)
+suffix_rule kind behind_it rule taken takes = chosen_byte _ rule (sym (rule_at_kind 3 Kind.SuffixMore takes.byte refl) ∙ takes.found)
+
+-- the bytes of a suffix, in one value
+record SuffixRead (around : Around) (place : ℕ) (tree : Tree) (state : State) : Type 0 where
+  value : Value
+  is : unfold_tree cpp around place tree state ≡ Ok (found (value ∷ []) state)
+  text_is : text_of value ≡ spell tree
+
+byte_read : (byte place : ℕ) (around : Around) (inner : Tree) (state : State) (v : Value) → unfold_tree cpp around (place + 1) inner state ≡ Ok (found (v ∷ []) state)
+    → unfold_tree cpp around place (branch (rule_of Production.SuffixByte) (byte ∷ []) (grown inner nothing)) state ≡ Ok (found (text (byte ∷ text_of v) ∷ []) state)
+unfolding cpp opening between close behind meaning production_at productions rule_of number_of byte_of part text_of
+byte_read byte place around inner state v is =
+    ap (λ m. (m >>= λ one. Ok (found one.value one.state)) >>= λ all. close Production.SuffixByte byte around place state all.value all.state >>= alone) is
+
+takes_byte : (byte : ℕ) (rule : Rule) (taken : List ℕ) (p : Production) → rule ≡ rule_of p → is_chain p ≡ false → taken ≡ (if rule.eats then byte ∷ [] else []) → taken ≡ byte ∷ []
+unfolding rule_of
+takes_byte byte rule taken p is chain takes = takes ∙ ap (λ (r : Rule). if r.eats then byte ∷ [] else []) is ∙ ap (λ b. if not b then byte ∷ [] else []) chain
+
+suffix_chain : is_chain Production.SuffixByte ≡ false
+unfolding is_chain
+suffix_chain = refl
+
+suffix_parts : (rule : Rule) (parts : Forest) → rule ≡ rule_of Production.SuffixByte → AreTrees abi (symbols_of rule) parts → AreTrees abi (OfKind 3 ∷ []) parts
+unfolding parts_of number_of_kind
+suffix_parts rule parts is trees = subst (λ ss. AreTrees abi ss parts) (ap symbols_of is ∙ its_symbols Production.SuffixByte) trees
+
+suffix_read : (kind : ℕ) → OfSuffix kind → (tree : Tree) (around : Around) (place : ℕ) (state : State) → IsTree abi (OfKind kind) tree → SuffixRead around place tree state
+unfolding cpp text_of
+suffix_read kind one empty around place state is = record { value = nothing_there; is = refl; text_is = refl }
+suffix_read kind one (token t) around place state is = absurd is
+suffix_read kind one (fixed byte) around place state is = absurd is
+suffix_read kind one (branch rule taken nothing) around place state is = absurd (suffix_parts rule nothing (suffix_rule kind one rule taken is.0) is.1)
+suffix_read kind one (branch rule taken (grown inner (grown second rest))) around place state is =
+    absurd (suffix_parts rule (grown inner (grown second rest)) (suffix_rule kind one rule taken is.0) is.1).1
+suffix_read kind one (branch rule taken (grown inner nothing)) around place state is =
+    let same = suffix_rule kind one rule taken is.0 in
+    let eaten : taken ≡ is.0.byte ∷ [] = takes_byte is.0.byte rule taken Production.SuffixByte same suffix_chain is.0.takes in
+    let read = suffix_read 3 behind_it inner around (place + 1) state (suffix_parts rule (grown inner nothing) same is.1).0 in
+    record {
+      value = text (is.0.byte ∷ text_of read.value);
+      is = ap (λ r. unfold_tree cpp around place (branch r taken (grown inner nothing)) state) same
+          ∙ ap (λ b. unfold_tree cpp around place (branch (rule_of Production.SuffixByte) b (grown inner nothing)) state) eaten
+          ∙ byte_read is.0.byte place around inner state read.value read.is;
+      text_is = ap (λ x. is.0.byte ∷ x) (read.text_is ∙ sym (append-nil (spell inner))) ∙ ap (λ x. x ++ (spell inner ++ [])) (sym eaten);
+    }
+
+-- ## The four productions
+
+-- the rule closes to what C++'s reading closes it to
+abbrev ClosesRule : List ℕ → Production → Type 0
+ClosesRule s p =
+    (kind : ℕ) (taken : List ℕ) (parts : Forest) (place : ℕ) (context : Around) (before begun : State) (inner : Found (List Value) State) (rest : List ℕ)
+    → TakesRule abi kind (rule_of p) taken → AreTrees abi (parts_of p) parts → drop place s ≡ taken ++ (spell_all parts ++ rest)
+    → cpp.begin (standing (rule_of p) taken place context before) parts ≡ Ok begun
+    → unfold_forest cpp (standing (rule_of p) taken place context before) [] (place + length taken) parts begun ≡ Ok inner
+    → (linked s).close (standing (rule_of p) taken place context before) inner.value inner.state ≡ cpp.close (standing (rule_of p) taken place context before) inner.value inner.state
+
+-- the bytes of a suffix from its place on
+suffix_there : (xs t rest : List ℕ) (byte : ℕ) → xs ≡ (byte ∷ []) ++ ((t ++ []) ++ rest) → take (length t + 1) xs ≡ byte ∷ t
+suffix_there xs t rest byte is =
+    let size : length t + 1 ≡ length (byte ∷ t) = omega arith in
+    ap (λ n. take n xs) size ∙ ap (λ x. take (length (byte ∷ t)) x) (is ∙ ap (λ x. byte ∷ (x ++ rest)) (append-nil t)) ∙ take-append_seam (byte ∷ t) rest
+
+-- a suffix or one of its bytes, which closes over this text
+text_closes : (s : List ℕ) (byte place : ℕ) (context : Around) (before begun : State) (inner : Found (List Value) State) (v : Value) (t rest : List ℕ)
+    → inner.value ≡ v ∷ [] → text_of v ≡ t → drop place s ≡ (byte ∷ []) ++ ((t ++ []) ++ rest)
+    → text (take (length (text_of (part inner.value 0)) + 1) (drop place s)) ≡ text (byte ∷ text_of (part inner.value 0))
+unfolding part
+text_closes s byte place context before begun inner v t rest values is at =
+    rw (values, is) (ap text (suffix_there (drop place s) t rest byte at))
+
+abbrev state_of_tally : Tally State → State
+state_of_tally t = t.state
+
+values_same : (f g : Found (List Value) State) → ◌≡◌ {A = Result (Found (List Value) State) Refusal} (Ok f) (Ok g) → g.value ≡ f.value
+values_same f g is = ap (λ (h : Found (List Value) State). h.value) (sym (ok_is f g is))
+
+suffix_forest : (p : Production) (taken : List ℕ) (place at : ℕ) (context : Around) (before begun : State) (inner : Found (List Value) State) (v : Value) (tree : Tree)
+    → p ≡ Production.Suffix ⊎ p ≡ Production.SuffixByte
+    → unfold_tree cpp context at tree begun ≡ Ok (found (v ∷ []) begun)
+    → unfold_forest cpp (standing (rule_of p) taken place context before) [] at (grown tree nothing) begun ≡ Ok inner → inner.value ≡ v ∷ []
+unfolding cpp between production_at productions rule_of number_of
+suffix_forest Production.Suffix taken place at context before begun inner v tree one read is =
+    values_same (found (v ∷ []) begun) inner (sym (ap (λ m. m >>= λ one. Ok (found one.value one.state)) read) ∙ is)
+suffix_forest Production.SuffixByte taken place at context before begun inner v tree one read is =
+    values_same (found (v ∷ []) begun) inner (sym (ap (λ m. m >>= λ one. Ok (found one.value one.state)) read) ∙ is)
+suffix_forest p taken place at context before begun inner v tree (inl same) read is = absurd cc
+suffix_forest p taken place at context before begun inner v tree (inr same) read is = absurd cc
+
+suffix_closes : (s : List ℕ) → ClosesRule s Production.Suffix
+unfolding cpp link_close link_meaning close behind meaning production_at productions rule_of number_of byte_of parts_of number_of_kind is_chain
+suffix_closes s kind taken (grown tree nothing) place context before begun inner rest takes trees at is_begun is_inner =
+    let eaten : taken ≡ takes.byte ∷ [] = takes_byte takes.byte (rule_of Production.Suffix) taken Production.Suffix refl refl takes.takes in
+    let read = suffix_read 2 in_front tree context (place + length taken) begun trees.0 in
+    let values = suffix_forest Production.Suffix taken place (place + length taken) context before begun inner read.value tree (inl refl) read.is is_inner in
+    let there : drop place s ≡ (takes.byte ∷ []) ++ ((spell tree ++ []) ++ rest) = at ∙ ap (λ b. b ++ ((spell tree ++ []) ++ rest)) eaten in
+    let first : byte_of taken ≡ takes.byte = ap byte_of eaten in
+    ap (λ v. Ok (found v inner.state)) (text_closes s takes.byte place context before begun inner read.value (spell tree) rest values read.text_is there
+    ∙ ap (λ b. text (b ∷ text_of (part inner.value 0))) (sym first))
+suffix_closes s kind taken nothing place context before begun inner rest takes trees at is_begun is_inner = absurd trees
+suffix_closes s kind taken (grown tree (grown second others)) place context before begun inner rest takes trees at is_begun is_inner = absurd trees.1
+
+byte_closes : (s : List ℕ) → ClosesRule s Production.SuffixByte
+unfolding cpp link_close link_meaning close behind meaning production_at productions rule_of number_of byte_of parts_of number_of_kind is_chain
+byte_closes s kind taken (grown tree nothing) place context before begun inner rest takes trees at is_begun is_inner =
+    let eaten : taken ≡ takes.byte ∷ [] = takes_byte takes.byte (rule_of Production.SuffixByte) taken Production.SuffixByte refl refl takes.takes in
+    let read = suffix_read 3 behind_it tree context (place + length taken) begun trees.0 in
+    let values = suffix_forest Production.SuffixByte taken place (place + length taken) context before begun inner read.value tree (inr refl) read.is is_inner in
+    let there : drop place s ≡ (takes.byte ∷ []) ++ ((spell tree ++ []) ++ rest) = at ∙ ap (λ b. b ++ ((spell tree ++ []) ++ rest)) eaten in
+    let first : byte_of taken ≡ takes.byte = ap byte_of eaten in
+    ap (λ v. Ok (found v inner.state)) (text_closes s takes.byte place context before begun inner read.value (spell tree) rest values read.text_is there
+    ∙ ap (λ b. text (b ∷ text_of (part inner.value 0))) (sym first))
+byte_closes s kind taken nothing place context before begun inner rest takes trees at is_begun is_inner = absurd trees
+byte_closes s kind taken (grown tree (grown second others)) place context before begun inner rest takes trees at is_begun is_inner = absurd trees.1
+
+-- an unnamed type
+unnamed_closes : (s : List ℕ) → ClosesRule s Production.Unnamed
+unfolding cpp opening between link_close link_meaning close behind meaning production_at productions rule_of number_of last_token part text_of parts_of
+unnamed_closes s kind taken (grown (token t) nothing) place context before begun inner rest takes trees at is_begun is_inner =
+    let less : nat_lt (local_number t.own) (2 ^ 64) ≡ true = number_less (place - 1) t.own before begun is_begun in
+    let values : inner.value ≡ text t.own ∷ [] = values_same (found (text t.own ∷ []) begun) inner is_inner in
+    rw values (ap (λ n. Ok (found (piece (unnamed n)) inner.state)) (within_64 (local_number t.own) less))
+unnamed_closes s kind taken (grown (branch r x i) nothing) place context before begun inner rest takes trees at is_begun is_inner = absurd trees.0
+unnamed_closes s kind taken (grown empty nothing) place context before begun inner rest takes trees at is_begun is_inner = absurd trees.0
+unnamed_closes s kind taken (grown (fixed b) nothing) place context before begun inner rest takes trees at is_begun is_inner = absurd trees.0
+unnamed_closes s kind taken nothing place context before begun inner rest takes trees at is_begun is_inner = absurd trees
+unnamed_closes s kind taken (grown tree (grown second others)) place context before begun inner rest takes trees at is_begun is_inner = absurd trees.1
+
+-- a lambda
+abbrev lambda_open : (taken : List ℕ) (place : ℕ) → Around → State → Open State Around
+lambda_open taken place context before = standing (rule_of Production.Lambda) taken place context before
+
+-- what a tree comes to is one value
+one_value : (tree : Tree) (context : Around) (place : ℕ) (state : State) (one : Found (List Value) State) → unfold_tree cpp context place tree state ≡ Ok one
+    → (v : Value) × (one.value ≡ v ∷ [])
+unfolding cpp
+one_value empty context place state one is = (nothing_there, values_same (found (nothing_there ∷ []) state) one is)
+one_value (fixed b) context place state one is = (nothing_there, values_same (found (nothing_there ∷ []) state) one is)
+one_value (token t) context place state one is = (text t.own, values_same (found (text t.own ∷ []) state) one is)
+one_value (branch rule taken parts) context place state one is =
+    let o = standing rule taken place context state in
+    let begun = both_ok (cpp.begin o parts) (λ b. unfold_forest cpp o [] (place + length taken) parts b >>= λ inner. cpp.close o inner.value inner.state >>= alone) one is in
+    let inner = both_ok (unfold_forest cpp o [] (place + length taken) parts begun.0) (λ i. cpp.close o i.value i.state >>= alone) one begun.2 in
+    let whole = both_ok (cpp.close o inner.0.value inner.0.state) alone one inner.2 in
+    (whole.0.value, values_same (found (whole.0.value ∷ []) whole.0.state) one whole.2)
+
+-- one part of a lambda behind the values of those before it
+lambda_part : (taken : List ℕ) (place : ℕ) (context : Around) (before : State) (known : List Value) (at : ℕ) (first : Tree) (rest : Forest) (state : State) (inner : Found (List Value) State)
+    → unfold_forest cpp (lambda_open taken place context before) known at (grown first rest) state ≡ Ok inner
+    → (v : Value) × (after : State) × (unfold_forest cpp (lambda_open taken place context before) (known ++ v ∷ []) (at + length (spell first)) rest after ≡ Ok inner)
+unfolding cpp between production_at productions rule_of number_of
+lambda_part taken place context before known at first rest state inner is =
+    let o = lambda_open taken place context before in
+    let part_is = both_ok (unfold_tree cpp (in_signature context) at first state) (λ one. unfold_forest cpp o (known ++ one.value) (at + length (spell first)) rest one.state) inner is in
+    let one = one_value first (in_signature context) at state part_is.0 part_is.1 in
+    (one.0, part_is.0.state, ap (λ vs. unfold_forest cpp o (known ++ vs) (at + length (spell first)) rest part_is.0.state) (sym one.1) ∙ part_is.2)
+
+fourth : (vs : List Value) (x y z : Value) (own : List ℕ) → vs ≡ x ∷ y ∷ z ∷ text own ∷ [] → text_of (part vs 3) ≡ own
+unfolding part text_of
+fourth vs x y z own is = ap (λ us. text_of (part us 3)) is
+
+lambda_values : (taken : List ℕ) (place : ℕ) (context : Around) (before begun : State) (at : ℕ) (a b c : Tree) (t : Token) (inner : Found (List Value) State)
+    → unfold_forest cpp (lambda_open taken place context before) [] at (grown a (grown b (grown c (grown (token t) nothing)))) begun ≡ Ok inner
+    → text_of (part inner.value 3) ≡ t.own
+unfolding cpp between production_at productions rule_of number_of
+lambda_values taken place context before begun at a b c t inner is =
+    let x = lambda_part taken place context before [] at a (grown b (grown c (grown (token t) nothing))) begun inner is in
+    let y = lambda_part taken place context before (x.0 ∷ []) (at + length (spell a)) b (grown c (grown (token t) nothing)) x.1 inner x.2 in
+    let z = lambda_part taken place context before (x.0 ∷ y.0 ∷ []) (at + length (spell a) + length (spell b)) c (grown (token t) nothing) y.1 inner y.2 in
+    let values : inner.value ≡ x.0 ∷ y.0 ∷ z.0 ∷ text t.own ∷ [] = values_same (found (x.0 ∷ y.0 ∷ z.0 ∷ text t.own ∷ []) z.1) inner z.2 in
+    fourth inner.value x.0 y.0 z.0 t.own values
+
+last_of : (a b c : Tree) (t : Token) → last_token (grown a (grown b (grown c (grown (token t) nothing)))) [] ≡ t.own
+unfolding last_token
+last_of a b c t =
+    last_behind a (grown b (grown c (grown (token t) nothing))) t.own []
+    (λ ds. last_behind b (grown c (grown (token t) nothing)) t.own ds (λ es. last_behind c (grown (token t) nothing) t.own es (λ fs. refl)))
+
+lambda_closes : (s : List ℕ) → ClosesRule s Production.Lambda
+unfolding cpp opening link_close link_meaning close behind meaning production_at productions rule_of number_of last_token parts_of number_of_kind
+lambda_closes s kind taken (grown a (grown b (grown c (grown (token t) nothing)))) place context before begun inner rest takes trees at is_begun is_inner =
+    let own : text_of (part inner.value 3) ≡ t.own = lambda_values taken place context before begun (place + length taken) a b c t inner is_inner in
+    let last : last_token (grown a (grown b (grown c (grown (token t) nothing)))) [] ≡ t.own = last_of a b c t in
+    let less : nat_lt (local_number (text_of (part inner.value 3))) (2 ^ 64) ≡ true =
+    ap (λ ds. nat_lt (local_number ds) (2 ^ 64)) (own ∙ sym last) ∙ number_less (place - 1) _ before begun is_begun in
+    ap (λ n. Ok (found (piece (lambda (parameters (list (tree_of (part inner.value 0)) (no_items (part inner.value 1)))) n)) inner.state)) (within_64 (local_number (text_of (part inner.value 3))) less)
+lambda_closes s kind taken (grown a (grown b (grown c (grown (branch r x i) nothing)))) place context before begun inner rest takes trees at is_begun is_inner = absurd trees.1.1.1.0
+lambda_closes s kind taken (grown a (grown b (grown c (grown empty nothing)))) place context before begun inner rest takes trees at is_begun is_inner = absurd trees.1.1.1.0
+lambda_closes s kind taken (grown a (grown b (grown c (grown (fixed d) nothing)))) place context before begun inner rest takes trees at is_begun is_inner = absurd trees.1.1.1.0
+lambda_closes s kind taken (grown a (grown b (grown c (grown d (grown e others))))) place context before begun inner rest takes trees at is_begun is_inner = absurd trees.1.1.1.1
+lambda_closes s kind taken (grown a (grown b (grown c nothing))) place context before begun inner rest takes trees at is_begun is_inner = absurd trees.1.1.1
+lambda_closes s kind taken (grown a (grown b nothing)) place context before begun inner rest takes trees at is_begun is_inner = absurd trees.1.1
+lambda_closes s kind taken (grown a nothing) place context before begun inner rest takes trees at is_begun is_inner = absurd trees.1
+lambda_closes s kind taken nothing place context before begun inner rest takes trees at is_begun is_inner = absurd trees
+
+numbered_plain : (p : Production) → is_plain p ≡ false → (s : List ℕ) → ClosesRule s p
+unfolding is_plain
+numbered_plain Production.Suffix other s = suffix_closes s
+numbered_plain Production.SuffixByte other s = byte_closes s
+numbered_plain Production.Lambda other s = lambda_closes s
+numbered_plain Production.Unnamed other s = unnamed_closes s
+numbered_plain _ other s = absurd (true≢false other)
+
+-- each rule that stands in a symbol closes to the same
+pub closes_same : (s : List ℕ) → ClosesSame abi s cpp (linked s).close
+unfolding cpp
+closes_same s kind rule taken parts place context before begun inner rest known is at is_begun is_inner =
+    let t = taken_rule kind rule taken known is.0 in
+    let number : production_at rule.number ≡ t.production = ap (λ (r : Rule). production_at r.number) t.is ∙ at_number t.production in
+    elim (cases_Bool (is_plain t.production)) [
+      | inl plain ↦ plain_closes s (production_at rule.number) (byte_of taken) context place before inner.value inner.state (ap is_plain number ∙ plain)
+      | inr other ↦ subst (λ r. Equal r) (sym t.is)
+          (numbered_plain t.production other s kind taken parts place context before begun inner rest
+          (subst (λ r. TakesRule abi kind r taken) t.is is.0) (subst (λ ss. AreTrees abi ss parts) (ap symbols_of t.is ∙ its_symbols t.production) is.1) at
+          (subst (λ r. cpp.begin (standing r taken place context before) parts ≡ Ok begun) t.is is_begun)
+          (subst (λ r. unfold_forest cpp (standing r taken place context before) [] (place + length taken) parts begun ≡ Ok inner) t.is is_inner))
+    ]
+  where
+    Equal : Rule → Type 0
+    Equal r = (linked s).close (standing r taken place context before) inner.value inner.state ≡ cpp.close (standing r taken place context before) inner.value inner.state
+
+-- ## Where rules begin
+
+-- the production that a kind takes at a byte has a number
+unfoldable numbered_at : Kind → ℕ → Bool
+numbered_at kind byte = elim (choose kind byte) [ None ↦ false | Some p ↦ is_numbered p ]
+
+-- none does at the byte with which a symbol begins
+none_numbered : (kind : Kind) → numbered_at kind 95 ≡ false
+unfolding numbered_at choose alternatives pick is_in in_ranges among is_numbered
+none_numbered Kind.Symbol = refl
+none_numbered _ = refl
+
+first_plain : (k : ℕ) (rule : Rule) → k < abi.kinds → abi.rule k 95 ≡ Some rule → is_numbered (production_at rule.number) ≡ false
+unfolding rule_taken numbered_at
+first_plain k rule known found_ = go (slice_get kinds k) refl
+  where
+    chosen : (kind : Kind) → (o : Option Production) → choose kind 95 ≡ o → rule_taken o ≡ Some rule → is_numbered (production_at rule.number) ≡ false
+    chosen kind None is h = let clash : ◌≡◌ {A = Option Rule} None (Some rule) = h in absurd cc
+    chosen kind (Some p) is h =
+        ap (λ (r : Rule). is_numbered (production_at r.number)) (sym (same_rule p rule h)) ∙ ap is_numbered (at_number p)
+        ∙ sym (ap (λ (o : Option Production). elim o [ None ↦ false | Some q ↦ is_numbered q ]) is) ∙ none_numbered kind
+
+    go : (o : Option Kind) → slice_get kinds k ≡ o → is_numbered (production_at rule.number) ≡ false
+    go None none = absurd (is_kind k known none)
+    go (Some kind) at = chosen kind (choose kind 95) refl (sym (rule_at_kind k kind 95 at) ∙ found_)
+
+first_byte : (byte b : ℕ) (more rest : List ℕ) → (byte ∷ more) ≡ (b ∷ rest) → byte ≡ b
+first_byte byte b more rest is = cc
+
+-- the production of a symbol takes a byte
+symbol_eats : is_chain Production.Symbol ≡ false
+unfolding is_chain
+symbol_eats = refl
+
+-- a rule with a number takes a byte
+numbered_eats : (p : Production) → is_numbered p ≡ true → is_chain p ≡ false
+unfolding is_numbered is_chain
+numbered_eats Production.Lambda is = refl
+numbered_eats Production.Unnamed is = refl
+numbered_eats _ is = absurd (false≢true is)
+
+begins_first : (s more : List ℕ) (kind : ℕ) (rule : Rule) (taken rest : List ℕ) → s ≡ 95 ∷ more → kind < abi.kinds → TakesRule abi kind rule taken → s ≡ taken ++ rest
+    → is_numbered (production_at rule.number) ≡ false
+begins_first s more kind rule taken rest begins known takes at = go (is_numbered (production_at rule.number)) refl
+  where
+    t : Taken kind rule
+    t = taken_rule kind rule taken known takes
+
+    number : production_at rule.number ≡ t.production
+    number = ap (λ (r : Rule). production_at r.number) t.is ∙ at_number t.production
+
+    go : (b : Bool) → is_numbered (production_at rule.number) ≡ b → b ≡ false
+    go false is = refl
+    go true is =
+        let eaten : taken ≡ takes.byte ∷ [] = takes_byte takes.byte rule taken t.production t.is (numbered_eats t.production (sym (ap is_numbered number) ∙ is)) takes.takes in
+        let byte : takes.byte ≡ 95 = first_byte takes.byte 95 rest more (ap (λ x. x ++ rest) (sym eaten) ∙ sym at ∙ begins) in
+        absurd (true≢false (sym is ∙ first_plain kind rule known (ap (λ b. abi.rule kind b) (sym byte) ∙ takes.found)))
+
+pub begins_same : (s more : List ℕ) → s ≡ 95 ∷ more → BeginsSame abi s cpp link_begin
+unfolding cpp link_begin
+begins_same s more begins kind rule taken parts place context before rest known is at = go (nat_eq place 0) refl
+  where
+    go : (b : Bool) → nat_eq place 0 ≡ b
+        → (if b then Ok before else opening (production_at rule.number) parts place before) ≡ opening (production_at rule.number) parts place before
+    go false apart = refl
+    go true first =
+        let here : place ≡ 0 = eqb-true place 0 first in
+        sym (opens_plain (production_at rule.number) parts place before
+        (begins_first s more kind rule taken (spell_all parts ++ rest) begins known is.0 (ap (λ n. drop n s) (sym here) ∙ at)))
+
+-- ## A symbol
+
+or_none : (x : Bool) → x || false ≡ true → x ≡ true
+or_none true is = refl
+or_none false is = is
+
+-- a symbol begins with this byte
+pub symbol_begins : (shape : Tree) → IsTree abi (OfKind 0) shape → (more : List ℕ) × (spell shape ≡ 95 ∷ more)
+unfolding choose alternatives pick kinds is_in in_ranges among rule_taken abi sheet sheet_with blank may_be_empty
+symbol_begins empty is = absurd (false≢true is)
+symbol_begins (token t) is = absurd is
+symbol_begins (fixed b) is = absurd is
+symbol_begins (branch rule taken parts) is =
+    let is_rule = chosen (nat_eq is.0.byte 95 || false) (sym (rule_at_kind 0 Kind.Symbol is.0.byte refl) ∙ is.0.found) in
+    let eaten : taken ≡ is.0.byte ∷ [] = takes_byte is.0.byte rule taken Production.Symbol is_rule.0 symbol_eats is.0.takes in
+    (spell_all parts, ap (λ x. x ++ spell_all parts) (eaten ∙ ap (λ b. b ∷ []) (eqb-true is.0.byte 95 (or_none (nat_eq is.0.byte 95) is_rule.1))))
+  where
+    chosen : (b : Bool) → rule_taken (if b then Some Production.Symbol else None) ≡ Some rule → (rule ≡ rule_of Production.Symbol) × (b ≡ true)
+    chosen true h = (sym (same_rule Production.Symbol rule h), refl)
+    chosen false h = let clash : ◌≡◌ {A = Option Rule} None (Some rule) = h in absurd cc
+
+-- What the linker's reading says of a symbol is what C++'s says, also where nodes are counted.
+module _ (s : List ℕ) (shape : Tree) (is : IsTree abi (OfKind 0) shape) (spelled : spell shape ≡ s) where
+  abbrev more : List ℕ
+  more = (symbol_begins shape is).0
+
+  begins : s ≡ 95 ∷ more
+  begins = sym spelled ∙ (symbol_begins shape is).1
+
+  at_front : drop 0 s ≡ spell shape ++ []
+  at_front = sym spelled ∙ sym (append-nil (spell shape))
+
+  pub meaning_same : unfold_tree (linked s) first_around 0 shape first_state ≡ unfold_tree cpp first_around 0 shape first_state
+  meaning_same = tree_same abi lawful s cpp link_begin (linked s).close (begins_same s more begins) (closes_same s) (OfKind 0) first_around 0 shape first_state [] lawful.start is at_front
+
+  module _ (makes : Makes Value State Around) where
+    counts_begin : BeginsSame abi s (tallied cpp makes) (tallied (linked s) makes).begin
+    counts_begin kind rule taken parts place context before rest known tree at =
+        ap (λ m. m >>= λ state. Ok (tally state before.nodes)) (begins_same s more begins kind rule taken parts place context before.state rest known tree at)
+
+    counts_close : ClosesSame abi s (tallied cpp makes) (tallied (linked s) makes).close
+    counts_close kind rule taken parts place context before begun inner rest known tree at is_begun is_inner =
+        let o = standing rule taken place context before.state in
+        let first = both_ok (cpp.begin o parts) (λ state. Ok (tally state before.nodes)) begun is_begun in
+        let state_is : first.0 ≡ begun.state = ap state_of_tally (ok_is (tally first.0 before.nodes) begun first.2) in
+        let all : unfold_forest cpp o [] (place + length taken) parts begun.state ≡ Ok (found inner.value inner.state.state) =
+        sym (forest_untallied cpp makes (standing rule taken place context before) [] (place + length taken) parts begun) ∙ ap (λ m. m >>= plain) is_inner in
+        ap (λ m. m >>= λ one. Ok (found one.value (tally one.state (inner.state.nodes + makes.at_end o inner.value inner.state.state))))
+        (closes_same s kind rule taken parts place context before.state begun.state (found inner.value inner.state.state) rest known tree at (first.1 ∙ ap (λ st. Ok st) state_is) all)
+
+    pub counted_same : unfold_tree (tallied (linked s) makes) first_around 0 shape (tally first_state 0) ≡ unfold_tree (tallied cpp makes) first_around 0 shape (tally first_state 0)
+    counted_same =
+        tree_same abi lawful s (tallied cpp makes) (tallied (linked s) makes).begin (tallied (linked s) makes).close counts_begin counts_close (OfKind 0) first_around 0 shape (tally first_state 0) []
+        lawful.start is at_front

@@ -1,0 +1,40 @@
+-- What calls say of room, in terms of the lists.
+use Rattle.std.proofs.Common.{◌≡◌, sym, ◌∙◌, ◌≤◌, ◌<◌, ◌+◌, ◌⊎◌, inl, inr, ◌∷◌, length, arith, Ok, Err}
+use Rattle.std.specs.Prelude.{Vec, vec_capacity, Result}
+use Rattle.std.specs.Global.{Global}
+use Rattle.sym_core.specs.declared.refusal.Refusal.{Refusal}
+use Rattle.sym_core.specs.declared.refusal.Refusal.TheVariants.{Memory}
+use Rattle.sym_link.specs.Room.{one_by_one, KeepRoom, LackRoom, OnlyForRoom}
+use Rattle.cpp_link.specs.declared.part.Part.{Part}
+use Rattle.cpp_link.specs.declared.linked.Linked.{Linked}
+use Rattle.cpp_link.specs.Room.{lists_of, KeepsRoom, LacksRoom, IsRoomy}
+
+pub same_room : (old new : Linked) → new.nodes ≡ old.nodes → new.candidates ≡ old.candidates → KeepsRoom old new
+same_room old new nodes candidates =
+    rw (nodes, candidates) (record { nodes = omega arith; thunks = omega arith; candidates = omega arith })
+
+lacks_list : (old new : Linked) → LacksRoom old new → LackRoom (lists_of old) (lists_of new)
+lacks_list old new (inl nodes) = inl nodes
+lacks_list old new (inr (inl thunks)) = inr (inl thunks)
+lacks_list old new (inr (inr candidates)) = inr (inr (inl candidates))
+
+module _ {A : Type 0} (old new : Linked) (parts new_parts : Vec Part Global) (result : Result A Refusal) where
+  pub roomy_keeps : IsRoomy old new parts new_parts result → KeepRoom (one_by_one parts ∷ lists_of old) (one_by_one new_parts ∷ lists_of new)
+  roomy_keeps is = (is.capacity, (is.keeps.nodes, (is.keeps.thunks, (is.keeps.candidates, tt))))
+
+  pub roomy_full : IsRoomy old new parts new_parts result → OnlyForRoom ⊥ (one_by_one parts ∷ lists_of old) (one_by_one new_parts ∷ lists_of new) result
+  roomy_full is memory = elim (is.full memory) [ inl lacks ↦ inl (inr (lacks_list old new lacks)) | inr behind ↦ inl (inl behind) ]
+
+  -- a call that is done
+  pub roomy_ok : (done : A) → result ≡ Ok done → KeepsRoom old new → vec_capacity parts ≤ vec_capacity new_parts → IsRoomy old new parts new_parts result
+  roomy_ok done is keeps capacity =
+      record { keeps = keeps; capacity = capacity; full = λ memory. (let clash : ◌≡◌ {A = Result A Refusal} (Ok done) (Err Memory) = sym is ∙ memory in absurd cc) }
+
+  -- a call that passes a refusal on, which is one for room
+  pub roomy_refused : (e : Refusal) → result ≡ Err e → KeepsRoom old new → vec_capacity parts ≤ vec_capacity new_parts
+      → (e ≡ Memory → LacksRoom old new ⊎ (vec_capacity parts < length new_parts.items + 1)) → IsRoomy old new parts new_parts result
+  roomy_refused e is keeps capacity full =
+      record { keeps = keeps; capacity = capacity; full = λ memory. full (same e (sym is ∙ memory)) }
+    where
+      same : (e : Refusal) → ◌≡◌ {A = Result A Refusal} (Err e) (Err Memory) → e ≡ Memory
+      same e h = cc

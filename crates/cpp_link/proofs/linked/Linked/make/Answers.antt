@@ -1,0 +1,12 @@
+use Rattle.std.proofs.Common.{◌∙◌}
+use Rattle.std.specs.Prelude.{slice_index}
+use Rattle.cpp_link.specs.Parts.{trees_in, values_in, around_of}
+use Rattle.cpp_link.proofs.Making.{common_meaning}
+use Rattle.cpp_link.proofs.linked.Linked.make.Goals as goal
+
+pub keep-requires-clause-value : goal.keep-requires-clause-value
+keep-requires-clause-value c =
+    let s = c.args.symbol.now in
+    c.meant-meant.ensures.is
+    ∙ common_meaning s c.args.production (slice_index s c.args.place) c.args.place (around_of (trees_in s c.args.self.now.nodes) c.args.kept)
+    (values_in s c.args.self.now.nodes c.args.parts.now) c.requires.common
