@@ -210,7 +210,8 @@ forest-few : (f : Forest) → AllFew f → (p : Production) (rule : Open (Tally 
     → (r : Found (List Value) (Tally State)) → unfold_forest counted rule vs from f (tally state m) ≡ Ok r
     → Ends p rule.context rule.place state m now r
 unfolding cpp
-forest-few nothing all p rule number [] symbols trees vs from state m now flow r e = ends-same p rule.context rule.place state m now vs r flow e
+forest-few nothing all p rule number [] symbols trees vs from state m now flow r e =
+    ends-same p rule.context rule.place state m now vs r flow e
 forest-few nothing all p rule number (x ∷ xs) symbols trees vs from state m now flow r e = absurd trees
 forest-few (grown t f) all p rule number [] symbols trees vs from state m now flow r e = absurd trees
 forest-few (grown t f) all p rule number (x ∷ xs) symbols trees vs from state m now flow r e =

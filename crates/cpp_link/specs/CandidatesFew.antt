@@ -12,5 +12,6 @@ use Rattle.cpp_link.specs.NodeCount.{nodes_of_shape}
 -- Each candidate of a symbol that is read was made as a node, beside the three with which a table begins.
 abbrev pub CandidatesAreFew : Type 0
 CandidatesAreFew =
-    (shape : Tree) → IsTree abi (Kind 0) shape → (read : Found (List Value) State) → unfold_tree cpp first_around 0 shape first_state ≡ Ok read
+    (shape : Tree) → IsTree abi (Kind 0) shape → (read : Found (List Value) State)
+    → unfold_tree cpp first_around 0 shape first_state ≡ Ok read
     → 3 + length read.state.candidates ≤ nodes_of_shape shape

@@ -10,10 +10,9 @@ ghost use Rattle.cpp_link.specs.View.{Surrounds, cpp_view};
 
 use crate::dispatch::production_of;
 use crate::linked::Linked;
-use crate::numbers::decimal;
 use crate::part::Kept;
 use cpp_grammar::production::Production;
-use sym_core::Refusal;
+use sym_core::{Refusal, value10};
 use sym_shape::rule::Row;
 
 /// Whether a production ends with a number that counts as one more than its digits do.
@@ -33,7 +32,7 @@ fn is_numbered(production: Production) -> bool
 fn fits(digits: &[u8]) -> bool
     ensures { result ≡ nat_lt (local_number digits.now) (2 ^ 64) }
 {
-    match decimal(digits) {
+    match value10(digits) {
         Some(counted) => counted < u64::MAX,
         None => false,
     }

@@ -26,10 +26,9 @@ ghost use Rattle.cpp_link.specs.View.{GoesOn, IsPaid, IsWhole, cpp_view};
 
 use crate::dispatch::production_of;
 use crate::linked::Linked;
-use crate::numbers::base36;
 use crate::part::{Candidate, Kept, Meant, Part};
 use cpp_grammar::production::Production;
-use sym_core::{Refusal, Span};
+use sym_core::{Refusal, Span, value36};
 use sym_link::language::Frame;
 use sym_link::parts::put;
 
@@ -54,7 +53,7 @@ impl Linked {
         ensures is { maybe_candidate (trees_in symbol.now self.now.nodes) result ≡ slice_get (candidates_of (trees_in symbol.now self.now.nodes) self.now.candidates.items) (counted_value kinds.Seq36 (bytes_at symbol.now digits)) }
         ensures there { IfSome result (λ c. c.node < length self.now.nodes.nodes) }
     {
-        let counted = base36(&symbol[digits.from as usize..digits.to as usize]);
+        let counted = value36(&symbol[digits.from as usize..digits.to as usize]);
         numbered(&self.candidates, counted)
     }
 

@@ -15,10 +15,9 @@ ghost use Rattle.cpp_link.specs.Stepping.{nodes_of_step};
 ghost use Rattle.cpp_link.specs.Reads.{packs_read, maybe_candidate, node_read, elements_of, goes_on};
 
 use crate::linked::Linked;
-use crate::numbers::decimal;
 use crate::part::{Candidate, Kept, Step};
 use cpp_tree::node::Node;
-use sym_core::{Refusal, Span};
+use sym_core::{Refusal, Span, value10};
 
 /// The length of the packs under an expansion, behind a tree that holds packs of this length.
 #[tactic(auto, unfolding(cpp_term::specs::References::with_packs, crate::specs::Reads::packs_read))]
@@ -195,7 +194,7 @@ impl Linked {
             return Err(Refusal::BadReference { at: place });
         };
         let count = self.count(symbol, scope);
-        let counted = decimal(&symbol[digits.from as usize..digits.to as usize]);
+        let counted = value10(&symbol[digits.from as usize..digits.to as usize]);
         let Some(number) = below(counted, count) else {
             return Err(Refusal::BadReference { at: place });
         };

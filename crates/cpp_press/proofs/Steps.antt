@@ -28,7 +28,8 @@ component-among read n t spelling is keeps place cs candidates le complete among
         let stands : (x : Term) → Whole t x → Has n x cs = complete-has n t cs complete has in
         let added = keeps place cs le (λ x whole may. stands x whole) in
         among-known read n t candidates cs is has (
-          each-others read n candidates (spelling place cs).components cs (nothing-new n (Whole t) spelling keeps place cs le stands) among.0,
+          each-others read n candidates (spelling place cs).components cs
+              (nothing-new n (Whole t) spelling keeps place cs le stands) among.0,
           omega (arith, among.1, ap length added.split, length-append cs added.added),
         )
     go None new = among-ended read n t candidates (spelling place cs).components is among

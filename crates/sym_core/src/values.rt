@@ -94,22 +94,61 @@ fn counted(kind: NumberKind, digits: &[u8]) -> Option<u64>
     value(kind, digits)?.checked_add(1)
 }
 
+/// What a byte counts as a digit of a Seq36 number; one that is no digit counts something too.
+fn digit36(byte: u8) -> u8
+    ensures { result ≡ digit_value NumberKind.Seq36 byte }
+{
+    if b'0' <= byte && byte <= b'9' {
+        byte - b'0'
+    } else {
+        byte.saturating_sub(b'A' - 10)
+    }
+}
+
+/// The number that the digits stand for in base 10, or None past 64 bits.
+fn decimal_value(digits: &[u8]) -> Option<u64>
+    ensures { MatchOption result (2 ^ 64 ≤ value_of NumberKind.Decimal digits.now) (λ v. v ≡ value_of NumberKind.Decimal digits.now) }
+{
+    let mut value: u64 = 0;
+    for byte in digits {
+        let shifted = value.checked_mul(10)?;
+        value = shifted.checked_add(u64::from(byte.saturating_sub(b'0')))?;
+    }
+    Some(value)
+}
+
+/// The number that the digits stand for in base 36, or None past 64 bits.
+fn base36_value(digits: &[u8]) -> Option<u64>
+    ensures { MatchOption result (2 ^ 64 ≤ value_of NumberKind.Seq36 digits.now) (λ v. v ≡ value_of NumberKind.Seq36 digits.now) }
+{
+    let mut value: u64 = 0;
+    for byte in digits {
+        let shifted = value.checked_mul(36)?;
+        value = shifted.checked_add(u64::from(digit36(*byte)))?;
+    }
+    Some(value)
+}
+
 /// The value of a Decimal number by its digits: 0 where there are none, else one more than they stand for.
-/// None past 64 bits.
+/// None past 64 bits. A byte that is no digit counts something too.
 pub fn value10(digits: &[u8]) -> Option<u64>
-    requires { AreDigitsOf NumberKind.Decimal digits.now }
     ensures { MatchOption result (2 ^ 64 ≤ counted_value NumberKind.Decimal digits.now) (λ v. v ≡ counted_value NumberKind.Decimal digits.now) }
 {
-    counted(NumberKind::Decimal, digits)
+    if digits.is_empty() {
+        return Some(0);
+    }
+    decimal_value(digits)?.checked_add(1)
 }
 
 /// The value of a Seq36 number by its digits: 0 where there are none, else one more than they stand for.
-/// None past 64 bits.
+/// None past 64 bits. A byte that is no digit counts something too.
 pub fn value36(digits: &[u8]) -> Option<u64>
-    requires { AreDigitsOf NumberKind.Seq36 digits.now }
     ensures { MatchOption result (2 ^ 64 ≤ counted_value NumberKind.Seq36 digits.now) (λ v. v ≡ counted_value NumberKind.Seq36 digits.now) }
 {
-    counted(NumberKind::Seq36, digits)
+    if digits.is_empty() {
+        return Some(0);
+    }
+    base36_value(digits)?.checked_add(1)
 }
 
 /// The value of a Base62 number by its digits: 0 where there are none, else one more than they stand for.

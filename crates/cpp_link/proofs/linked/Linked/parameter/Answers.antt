@@ -26,7 +26,7 @@ unfolding around_of arguments_are
 returns-in_default-below-clause-refused c cs =
     let ts = trees_in c.args.symbol.now c.args.self.now.nodes in
     let k : ℕ = counted_value Decimal (bytes_at c.args.symbol.now c.args.digits) in
-    let past : c.count-count.result ≤ k = subst (λ o. MatchOption o (c.count-count.result ≤ k) (λ n. (n ≡ k) × (n < c.count-count.result))) c.in_default-below.is (c.below.ensures k c.decimal-counted.ensures) in
+    let past : c.count-count.result ≤ k = subst (λ o. MatchOption o (c.count-count.result ≤ k) (λ n. (n ≡ k) × (n < c.count-count.result))) c.in_default-below.is (c.below.ensures k c.value10-counted.ensures) in
     past_scope (around_of ts c.args.kept) c.args.place k [] _ (tree_at ts c.in-Some.scope) (ap (λ o. arguments_are ts o) (sym c.in_scope.ensures ∙ c.in-Some.is))
     (le-ltb k (count (tree_at ts c.in-Some.scope)) (omega (arith, past, c.count-count.ensures)))
 
@@ -38,7 +38,7 @@ returns-in-Ok-clause-is c v cs =
     let k : ℕ = counted_value Decimal (bytes_at c.args.symbol.now c.args.digits) in
     let around : Around = around_of ts c.args.kept in
     let found : (c.in-Some-below.number ≡ k) × (c.in-Some-below.number < c.count-count.result) =
-    subst (λ o. MatchOption o (c.count-count.result ≤ k) (λ n. (n ≡ k) × (n < c.count-count.result))) c.in-Some-below.is (c.below.ensures k c.decimal-counted.ensures) in
+    subst (λ o. MatchOption o (c.count-count.result ≤ k) (λ n. (n ≡ k) × (n < c.count-count.result))) c.in-Some-below.is (c.below.ensures k c.value10-counted.ensures) in
     let argument : tree_at ts c.element-argument.result ≡ element a k = c.element-argument.ensures.tree ∙ ap (λ n. element a n) found.0 in
     let own : c.length_if_pack-own.result ≡ length_if_pack (element a k) = c.length_if_pack-own.ensures ∙ ap length_if_pack argument in
     let before : State = record { candidates = cs; packs = c.args.self.now.packs } in
@@ -57,7 +57,7 @@ returns-in-Err-clause-refused c cs =
     let k : ℕ = counted_value Decimal (bytes_at c.args.symbol.now c.args.digits) in
     let around : Around = around_of ts c.args.kept in
     let found : (c.in-Some-below.number ≡ k) × (c.in-Some-below.number < c.count-count.result) =
-    subst (λ o. MatchOption o (c.count-count.result ≤ k) (λ n. (n ≡ k) × (n < c.count-count.result))) c.in-Some-below.is (c.below.ensures k c.decimal-counted.ensures) in
+    subst (λ o. MatchOption o (c.count-count.result ≤ k) (λ n. (n ≡ k) × (n < c.count-count.result))) c.in-Some-below.is (c.below.ensures k c.value10-counted.ensures) in
     let argument : tree_at ts c.element-argument.result ≡ element a k = c.element-argument.ensures.tree ∙ ap (λ n. element a n) found.0 in
     let own : c.length_if_pack-own.result ≡ length_if_pack (element a k) = c.length_if_pack-own.ensures ∙ ap length_if_pack argument in
     let before : State = record { candidates = cs; packs = c.args.self.now.packs } in

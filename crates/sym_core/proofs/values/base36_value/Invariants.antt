@@ -1,7 +1,7 @@
 use Rattle.std.proofs.Common.{◌≡◌, drop}
 use Rattle.sym_core.specs.Value.{value_onto, value_of}
 use Rattle.sym_core.specs.declared.NumberKind.TheVariants.{Seq36}
-use Rattle.cpp_link.proofs.numbers.base36_value.Given as goal
+use Rattle.sym_core.proofs.values.base36_value.Given as goal
 
 abbrev pub invariant-loop-byte : goal.invariant-loop-byte
 invariant-loop-byte l = value_onto Seq36 l.value (drop l.byte-index l.digits) ≡ value_of Seq36 l.digits

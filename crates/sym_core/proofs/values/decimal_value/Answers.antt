@@ -1,7 +1,7 @@
 use Rattle.std.proofs.Common.{◌^◌, arith}
 use Rattle.sym_core.proofs.Horner.{too_large}
 use Rattle.sym_core.specs.declared.NumberKind.TheVariants.{Decimal}
-use Rattle.cpp_link.proofs.numbers.decimal_value.Goals as goal
+use Rattle.sym_core.proofs.values.decimal_value.Goals as goal
 
 pub returns-in_err-shifted : goal.returns-in_err-shifted
 returns-in_err-shifted c =
