@@ -54,7 +54,8 @@ pub fn sort_of(rule: u16) -> TokenSort
 /// The most digits of a number in base 62.
 const MOST_DIGITS: usize = 11;
 
-/// A number in base 62, none past 64 bits.
+/// A number in base 62, none past 64 bits. It stays a call: where it stands in `Workspace::link`, that loop takes more instructions.
+#[inline(never)]
 fn counted_number(digits: &[u8]) -> Option<u64>
     ensures { AreDigitsOf Base62 digits.now → IsNumber result (value_of_base62 digits.now) }
 {
