@@ -125,7 +125,7 @@ pub(crate) fn ending(letter: u8) -> u16
 
 /// Whether the literals of a builtin type need no cast.
 #[tactic(auto, unfolding(cpp_term::specs::Parts::is_plain_integer))]
-pub(crate) fn is_plain(letter: u8) -> bool
+pub fn is_plain(letter: u8) -> bool
     ensures { result ≡ is_plain_integer (builtin (letter ∷ [])) }
 {
     match letter {
@@ -227,4 +227,36 @@ pub(crate) fn operator(first: u8, second: u8) -> u16
         }
         number += 1;
     }
+}
+
+/// The text of a builtin type with a code of one letter, or none.
+#[inline(always)]
+pub fn builtin_text(letter: u8) -> &'static [u8]
+    ensures { result.now ≡ look_up (letter ∷ []) builtin_texts }
+{
+    texts::fixed_text(builtin(letter))
+}
+
+/// The text of an abbreviation, by the letter behind its S, or none.
+#[inline(always)]
+pub fn abbreviation_text(letter: u8) -> &'static [u8]
+    ensures { result.now ≡ look_up (letter ∷ []) abbreviation_texts }
+{
+    texts::fixed_text(abbreviation(letter))
+}
+
+/// The text before the type of a special name, by the letter behind its T, or none.
+#[inline(always)]
+pub fn special_text(letter: u8) -> &'static [u8]
+    ensures { result.now ≡ look_up (letter ∷ []) special_texts }
+{
+    texts::fixed_text(special(letter))
+}
+
+/// What stands behind the digits of an integer of a builtin type, or nothing.
+#[inline(always)]
+pub fn ending_text(letter: u8) -> &'static [u8]
+    ensures { result.now ≡ look_up (letter ∷ []) literal_endings }
+{
+    texts::fixed_text(ending(letter))
 }

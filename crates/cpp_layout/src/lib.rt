@@ -17,8 +17,12 @@ mod symbol;
 mod texts;
 mod types;
 
+pub use codes::{
+    abbreviation_text, builtin_text, ending_text, is_plain as is_plain_letter, special_text,
+};
 pub use context::Context;
 pub use cpp_tree::node::{Adjustment, Signed, Thunk};
 pub use cpp_views::{Node, equal_trees_have_equal_views, fields_make_the_tree, tree_production};
+pub use names::name_text;
 pub use sym_print::Detail;
 pub use symbol::Symbol;

@@ -30,6 +30,18 @@ fn is_anonymous(name: &[u8]) -> bool
     name.starts_with(b"_GLOBAL__N")
 }
 
+/// What a source name is shown as: its own bytes, but for an unnamed namespace.
+#[tactic(auto, unfolding(crate::specs::Texts::fixed_text, cpp_grammar::specs::Parts::source_text))]
+#[inline(always)]
+pub fn name_text(name: &[u8]) -> &[u8]
+    ensures { result.now ≡ source_text name.now }
+{
+    if is_anonymous(name) {
+        return texts::fixed_text(texts::ANONYMOUS);
+    }
+    name
+}
+
 /// A part with bytes of its own.
 fn own(text: &[u8]) -> Part<Context>
     requires { length text.now ≤ 24 }

@@ -1,0 +1,165 @@
+-- What a writer keeps while its text and its lists grow.
+use Rattle.std.proofs.Common.{◌≡◌, ℕ, zero, suc, ◌+◌, ◌-◌, ◌≤◌, length, List, [], ◌∷◌, ◌++◌, take, drop, reverse, slice_get, Bool, true, false, Option, Some, None, is_some, refl, ap, sym, ◌∙◌, subst, arith, append_assoc, append-nil}
+use Rattle.std.proofs.lemmas.Bool.{false≢true}
+use Rattle.std.proofs.lemmas.List.{length-append, reverse-append, reverse-reverse}
+use Rattle.std.proofs.Math.Seq.{drop-append_seam, take-append_seam}
+use Rattle.cpp_grammar.specs.Term.{Term}
+use Rattle.cpp_grammar.specs.Values as values
+use Rattle.cpp_grammar.specs.Values.{State}
+use Rattle.cpp_direct.specs.declared.open.Candidate.{Candidate}
+use Rattle.cpp_direct.specs.declared.open.Nest.{Nest}
+use Rattle.cpp_direct.specs.declared.open.Open.{Open}
+use Rattle.cpp_direct.specs.declared.open.Open.TheVariants as opens
+use Rattle.cpp_direct.specs.declared.direct.Direct.{Direct}
+use Rattle.cpp_direct.specs.Holes.{with_candidate, unless_listed}
+use Rattle.cpp_direct.specs.Prints.{Prints}
+use Rattle.cpp_direct.specs.Stands.{IsCandidate, AreCandidates, IsNest, IsTemplate}
+use Rattle.cpp_direct.specs.Written.{Writes, Reads, added, added_unless}
+
+-- ## Pieces of a text
+
+-- a piece is in its place still where more is written
+piece-stays : (text front bytes back more : List ℕ) → text ≡ front ++ bytes ++ back → text ++ more ≡ front ++ bytes ++ (back ++ more)
+piece-stays text front bytes back more e = ap (λ l. l ++ more) e ∙ append_assoc (front ++ bytes) back more
+
+-- a piece by its place
+pub piece-found : (text front bytes back : List ℕ) (from to : ℕ) → text ≡ front ++ bytes ++ back → from ≡ length front → to ≡ length front + length bytes
+    → (from ≤ to) × (to ≤ length text) × (take (to - from) (drop from text) ≡ bytes)
+piece-found text front bytes back from to e from_is to_is = (omega (arith, from_is, to_is), inside, found)
+  where
+    inside : to ≤ length text
+    inside = omega (arith, to_is, ap length e, length-append (front ++ bytes) back, length-append front bytes)
+
+    size : to - from ≡ length bytes
+    size = omega (arith, from_is, to_is)
+
+    found : take (to - from) (drop from text) ≡ bytes
+    found = ap (λ n. take n (drop from text)) size ∙ ap (λ n. take (length bytes) (drop n text)) from_is
+        ∙ ap (λ l. take (length bytes) (drop (length front) l)) (e ∙ append_assoc front bytes back) ∙ ap (λ l. take (length bytes) l) (drop-append_seam front (bytes ++ back))
+        ∙ take-append_seam bytes back
+
+-- ## Candidates
+
+-- a candidate stays one where more is written
+pub candidate-stays : (text more : List ℕ) (k : Candidate) (c : values.Candidate) → IsCandidate text k c → IsCandidate (text ++ more) k c
+candidate-stays text more k c p = record {
+  front = p.front;
+  bytes = p.bytes;
+  back = p.back ++ more;
+  written = piece-stays text p.front p.bytes p.back more p.written;
+  from_is = p.from_is;
+  to_is = p.to_is;
+  prints = p.prints;
+}
+
+-- candidates stay so where more is written
+pub candidates-stay : (text more : List ℕ) (ks : List Candidate) (cs : List values.Candidate) → AreCandidates text ks cs → AreCandidates (text ++ more) ks cs
+candidates-stay text more [] [] p = tt
+candidates-stay text more (k ∷ ks) (c ∷ cs) p = (candidate-stays text more k c p.0, candidates-stay text more ks cs p.1)
+candidates-stay text more [] (c ∷ cs) p = absurd p
+candidates-stay text more (k ∷ ks) [] p = absurd p
+
+-- one more
+candidates-more : (text : List ℕ) (ks : List Candidate) (cs : List values.Candidate) (k : Candidate) (c : values.Candidate)
+    → AreCandidates text ks cs → IsCandidate text k c → AreCandidates text (ks ++ k ∷ []) (cs ++ c ∷ [])
+candidates-more text [] [] k c p is = (is, tt)
+candidates-more text (x ∷ ks) (y ∷ cs) k c p is = (p.0, candidates-more text ks cs k c p.1 is)
+candidates-more text [] (y ∷ cs) k c p is = absurd p
+candidates-more text (x ∷ ks) [] k c p is = absurd p
+
+-- what is written from a place on becomes a candidate
+pub candidates-added : (text : List ℕ) (ks : List Candidate) (cs : List values.Candidate) (front bytes : List ℕ) (from : ℕ) (t : Term) (e : ℕ) (r : Bool)
+    → AreCandidates text ks cs → text ≡ front ++ bytes → from ≡ length front → Prints t bytes r
+    → AreCandidates text (ks ++ record { from = from; to = length text; is_reference = r } ∷ []) (cs ++ record { tree = t; encoding = e } ∷ [])
+candidates-added text ks cs front bytes from t e r p written from_is prints =
+    candidates-more text ks cs (record { from = from; to = length text; is_reference = r }) (record { tree = t; encoding = e }) p (record {
+      front = front;
+      bytes = bytes;
+      back = [];
+      written = written ∙ sym (append-nil (front ++ bytes));
+      from_is = from_is;
+      to_is = ap length written ∙ length-append front bytes;
+      prints = prints;
+    })
+
+-- the same of a writer and a state
+pub candidates-with : (w : Direct) (st : State) (front bytes : List ℕ) (from : ℕ) (t : Term) (e : ℕ) (r : Bool)
+    → AreCandidates w.text.items w.candidates.items st.candidates → w.text.items ≡ front ++ bytes → from ≡ length front → Prints t bytes r
+    → AreCandidates w.text.items (added w from r) (with_candidate e t st).candidates
+candidates-with w st front bytes from t e r p written from_is prints =
+    candidates-added w.text.items w.candidates.items st.candidates front bytes from t e r p written from_is prints
+
+-- the same unless it is one already
+pub candidates-unless : (w : Direct) (st : State) (listed : Bool) (front bytes : List ℕ) (from : ℕ) (t : Term) (e : ℕ)
+    → AreCandidates w.text.items w.candidates.items st.candidates → w.text.items ≡ front ++ bytes → from ≡ length front → Prints t bytes false
+    → AreCandidates w.text.items (added_unless w listed from) (unless_listed listed e t st).candidates
+candidates-unless w st true front bytes from t e p written from_is prints = p
+candidates-unless w st false front bytes from t e p written from_is prints = candidates-with w st front bytes from t e false p written from_is prints
+
+-- a text was written
+pub candidates-written : (old new : Direct) (bytes : List ℕ) (cs : List values.Candidate) → Writes old new bytes
+    → AreCandidates old.text.items old.candidates.items cs → AreCandidates new.text.items new.candidates.items cs
+candidates-written old new bytes cs writes p =
+    subst (λ l. AreCandidates l new.candidates.items cs) (sym writes.text)
+    (subst (λ v. AreCandidates (old.text.items ++ bytes) v.items cs) (sym writes.candidates)
+    (candidates-stay old.text.items bytes old.candidates.items cs p))
+
+-- the same where something was read
+pub candidates-read : (old new : Direct) (bytes : List ℕ) (cs : List values.Candidate) → Reads old new bytes
+    → AreCandidates old.text.items old.candidates.items cs → AreCandidates new.text.items new.candidates.items cs
+candidates-read old new bytes cs reads p =
+    subst (λ l. AreCandidates l new.candidates.items cs) (sym reads.text)
+    (subst (λ v. AreCandidates (old.text.items ++ bytes) v.items cs) (sym reads.candidates)
+    (candidates-stay old.text.items bytes old.candidates.items cs p))
+
+-- what a substitution names
+pub candidate-found : (text : List ℕ) (ks : List Candidate) (cs : List values.Candidate) (n : ℕ) (k : Candidate)
+    → AreCandidates text ks cs → slice_get ks n ≡ Some k → (c : values.Candidate) × (slice_get cs n ≡ Some c) × IsCandidate text k c
+candidate-found text [] cs n k p found = absurd (false≢true (ap is_some found))
+candidate-found text (x ∷ ks) [] n k p found = absurd p
+candidate-found text (x ∷ ks) (y ∷ cs) zero k p found = (y, refl, subst (λ o. Named o) found p.0)
+  where
+    Named : Option Candidate → Type 0
+    Named (Some z) = IsCandidate text z y
+    Named None = ⊥
+candidate-found text (x ∷ ks) (y ∷ cs) (suc n) k p found = candidate-found text ks cs n k p.1 found
+
+-- ## What is open
+
+-- the last of a list is the first of it turned
+pub reverse-last : {X : Type 0} (xs : List X) (x : X) → reverse (xs ++ x ∷ []) ≡ x ∷ reverse xs
+reverse-last xs x = reverse-append xs (x ∷ [])
+
+-- and the other way
+pub last-reversed : {X : Type 0} (xs rest : List X) (x : X) → reverse xs ≡ x ∷ rest → xs ≡ reverse rest ++ x ∷ []
+last-reversed xs rest x e = sym (reverse-reverse xs) ∙ ap reverse e ∙ reverse-append (x ∷ []) rest
+
+-- without its last, a list turned is what stood behind the first
+pub without-last : {X : Type 0} (xs ys rest : List X) (x : X) → reverse xs ≡ x ∷ rest → xs ≡ ys ++ x ∷ [] → reverse ys ≡ rest
+without-last xs ys rest x e is = cc (sym (reverse-last ys x) ∙ ap reverse (sym is) ∙ e)
+
+-- ## Nested names
+
+-- a nested name stays one where more is written
+pub nest-stays : (front bytes text more : List ℕ) (nest : Nest) (t : Term) → IsNest front bytes text nest t → IsNest front bytes (text ++ more) nest t
+nest-stays front bytes text more nest t p = record {
+  back = p.back ++ more;
+  written = piece-stays text front bytes p.back more p.written;
+  from_is = p.from_is;
+  prints = p.prints;
+  class_front = p.class_front;
+  class = p.class;
+  class_back = p.class_back ++ more;
+  class_written = piece-stays text p.class_front p.class p.class_back more p.class_written;
+  class_from = p.class_from;
+  class_to = p.class_to;
+  names_class = p.names_class;
+}
+
+-- and a template before its arguments
+pub template-stays : (owner : Open) (front : List ℕ) (t : Term) (name text more : List ℕ) → IsTemplate owner front t name text → IsTemplate owner front t name (text ++ more)
+template-stays (opens.TypeArguments from) front t name text more p = p
+template-stays (opens.NestArguments nest) front t name text more p = (nest-stays front name text more nest t p.0, p.1)
+template-stays (opens.FirstArguments nest) front t name text more p = nest-stays front name text more nest t p
+template-stays opens.NameArguments front t name text more p = p
+template-stays _ front t name text more p = p

@@ -1,0 +1,180 @@
+-- The components of a nested name are read one behind another.
+use Rattle.std.proofs.Common.{◌≡◌, ℕ, ◌+◌, ◌≤◌, List, [], ◌∷◌, Some, Bool, true, false, Ok, refl, arith}
+use Rattle.std.proofs.lemmas.Bool.{le-leb}
+use Rattle.sym_shape.specs.declared.rule.Sym.TheVariants.{Kind as OfKind, Name, Byte}
+use Rattle.sym_link.specs.Unfold.{found, standing}
+use Rattle.cpp_grammar.specs.declared.kind.Kind.{Kind}
+use Rattle.cpp_grammar.specs.declared.production.Production.{Production}
+use Rattle.cpp_grammar.specs.Grammar.{in_ranges, among, is_in, pick, alternatives, number_of_kind, choose, parts_of, is_chain}
+use Rattle.cpp_grammar.specs.Table.{rule_of}
+use Rattle.cpp_grammar.specs.Term.{Term, within, instance, source, constructor, destructor}
+use Rattle.cpp_grammar.specs.Values.{State, Around, prefix_tree, prefix_listed, Value, nothing_there, text, letter, tree}
+use Rattle.cpp_grammar.specs.Values.{tree_of, text_of, letter_of, is_there, part}
+use Rattle.cpp_grammar.specs.References.{appended, with_prefix}
+use Rattle.cpp_grammar.specs.Between.{between, after, inside, extended, applied, no_items, named_so_far, listed_so_far, piece_so_far}
+use Rattle.cpp_grammar.specs.Meaning.{meaning}
+use Rattle.cpp_grammar.specs.Unfolding as unfolding_
+use Rattle.cpp_grammar.specs.Unfolding.{opening, close, byte_of}
+use Rattle.cpp_direct.specs.Holes.{Opened, opened, StandsAt, Comes, Expects, with_candidate, unless_listed, IsNameAt, Named, AwaitsComponent}
+use Rattle.cpp_direct.specs.HolesOfNests.{IsRest, AwaitsArguments}
+use Rattle.cpp_direct.proofs.Moves.{stands-split, comes-moved, first-of, first-of-chain, next-of, last-of, expects-byte, expects-name, letter-comes}
+use Rattle.cpp_direct.proofs.MovesOfNests.{last-passes}
+
+-- ## Behind the name so far
+
+rest-chooses : (kind : Kind) → IsRest kind → choose kind 48 ≡ Some Production.NestNext
+unfolding choose alternatives pick is_in in_ranges among
+rest-chooses Kind.NestRest is = refl
+rest-chooses Kind.NestTail is = refl
+rest-chooses _ is = absurd is
+
+prefix-appended : (around : Around) (t : Term) (listed : Bool) (st : State)
+    → with_prefix (after t listed around) st ≡ unless_listed listed around.encoding t st
+unfolding with_prefix appended after prefix_tree prefix_listed
+prefix-appended around t true st = refl
+prefix-appended around t false st = refl
+
+-- a component follows, in front of which the name so far is a candidate
+pub component-awaits : (s : List ℕ) (kind : Kind) (os : List Opened) (around : Around) (t : Term) (listed : Bool) (at : ℕ) (st : State)
+    → IsRest kind → Expects s kind (after t listed around) os at st
+    → AwaitsComponent s os around t at (unless_listed listed around.encoding t st)
+unfolding choose alternatives pick is_in in_ranges among is_chain parts_of number_of_kind between opening close unfolding_.behind meaning after prefix_tree prefix_listed tree_of part
+component-awaits s kind os around t listed at st is expects =
+    let p : Production = Production.NestNext in
+    let here : Around = after t listed around in
+    record {
+      inner = opened (standing (rule_of p) [] at here st) [] (OfKind 18 ∷ []) ∷ os;
+      awaits = first-of-chain s kind p 48 here os at st (OfKind 19) (OfKind 18 ∷ []) (after t true around) []
+          (unless_listed listed around.encoding t st) (rest-chooses kind is) (omega arith) refl (λ f. refl) refl
+          (rw (prefix-appended around t listed st) refl) expects;
+      onward = λ u to later comes. record {
+        inner = opened (standing (rule_of p) [] at here st) (tree u false ∷ []) [] ∷ os;
+        awaits = next-of s p [] at here st [] (tree u false) (OfKind 18) [] os to later (after u false around) (tree u false ∷ []) later refl comes;
+        passes = last-passes s p [] at here st (tree u false ∷ []) os (λ v x. refl);
+      };
+    }
+
+-- arguments of the name so far
+pub first-arguments : (s : List ℕ) (os : List Opened) (around : Around) (t : Term) (listed : Bool) (at : ℕ) (st : State)
+    → Expects s Kind.NestRest (after t listed around) os at st → StandsAt s at (73 ∷ [])
+    → AwaitsArguments s os around t listed at st
+unfolding choose alternatives pick is_in in_ranges among is_chain parts_of number_of_kind between opening close unfolding_.behind meaning appended after inside listed_so_far prefix_tree prefix_listed tree_of part
+first-arguments s os around t listed at st expects stands =
+    let p : Production = Production.NestArguments in
+    let here : Around = after t listed around in
+    record {
+      inner = opened (standing (rule_of p) (73 ∷ []) at here st) [] (Byte 69 ∷ OfKind 19 ∷ OfKind 18 ∷ []) ∷ os;
+      awaits = first-of s Kind.NestRest p 73 here os at st (OfKind 44) (Byte 69 ∷ OfKind 19 ∷ OfKind 18 ∷ []) (inside around) []
+          (unless_listed listed around.encoding t st) refl (omega arith) refl (λ f. refl) refl
+          (rw (prefix-appended around t listed st) refl) expects stands;
+      onward = λ l to later comes ended.
+          let u : Term = instance t (no_items l) in
+          record {
+            inner = opened (standing (rule_of p) (73 ∷ []) at here st) (tree u true ∷ nothing_there ∷ []) (OfKind 18 ∷ []) ∷ os;
+            awaits = next-of s p (73 ∷ []) at here st (l ∷ []) nothing_there (OfKind 19) (OfKind 18 ∷ []) os (to + 1) later (after u true around)
+                (tree u true ∷ nothing_there ∷ []) (with_candidate around.encoding u later) refl
+                (expects-byte s 69 here (opened (standing (rule_of p) (73 ∷ []) at here st) (l ∷ []) (OfKind 19 ∷ OfKind 18 ∷ []) ∷ os) to later
+                (next-of s p (73 ∷ []) at here st [] l (Byte 69) (OfKind 19 ∷ OfKind 18 ∷ []) os to later here (l ∷ []) later refl comes)
+                ended);
+            onward = λ w onto newer came. record {
+              inner = opened (standing (rule_of p) (73 ∷ []) at here st) (tree u true ∷ nothing_there ∷ tree w false ∷ []) [] ∷ os;
+              awaits = next-of s p (73 ∷ []) at here st (tree u true ∷ nothing_there ∷ []) (tree w false) (OfKind 18) [] os onto newer
+                  (after w false around) (tree u true ∷ nothing_there ∷ tree w false ∷ []) newer refl came;
+              passes = last-passes s p (73 ∷ []) at here st (tree u true ∷ nothing_there ∷ tree w false ∷ []) os (λ v x. refl);
+            };
+          };
+    }
+
+-- the name ends
+pub nest-end : (s : List ℕ) (os : List Opened) (around : Around) (t : Term) (listed : Bool) (at : ℕ) (st : State)
+    → Expects s Kind.NestTail (after t listed around) os at st → StandsAt s at (69 ∷ []) → Comes s os (tree t listed) (at + 1) st
+unfolding choose alternatives pick is_in in_ranges among is_chain parts_of opening close unfolding_.behind meaning after prefix_tree prefix_listed
+nest-end s os around t listed at st expects stands =
+    letter-comes s Kind.NestTail Production.NestEnd 69 (after t listed around) os at st (tree t listed) st refl (omega arith) refl (λ f. refl) refl
+    refl expects stands
+
+-- ## Components
+
+-- what a component is named by was read
+named-by : (s : List ℕ) (os : List Opened) (p : Production) (taken : List ℕ) (at0 : ℕ) (around : Around) (before : State) (u : Term) (at : ℕ)
+    (st : State)
+    → ((byte : ℕ) (here : Around) (began later : State) (v : Value)
+    → close p byte here at0 began (tree u false ∷ v ∷ []) later ≡ Ok (found (tree (applied u v) false) later))
+    → (outer : Around)
+    → Expects s Kind.MaybeArguments (after u false outer) (opened (standing (rule_of p) taken at0 around before) (tree u false ∷ []) [] ∷ os) at st
+    → Named s os outer u at st
+unfolding applied is_there tree_of
+named-by s os p taken at0 around before u at st closes outer expects = record {
+  inner = opened (standing (rule_of p) taken at0 around before) (tree u false ∷ []) [] ∷ os;
+  awaits = expects;
+  bare = λ to later comes. last-of s p taken at0 around before (tree u false ∷ []) nothing_there os to later (tree u false) later
+      (closes (byte_of taken) around before later nothing_there) comes;
+  argued = λ a to later comes. last-of s p taken at0 around before (tree u false ∷ []) (tree a true) os to later (tree (instance u a) false) later
+      (closes (byte_of taken) around before later (tree a true)) comes;
+}
+
+-- a name
+pub component-source : (s : List ℕ) (os : List Opened) (around : Around) (t : Term) (at : ℕ) (st : State) (name : List ℕ) (end : ℕ)
+    → Expects s Kind.Component (after t true around) os at st → IsNameAt s at name end
+    → Named s os around (within t (source false name)) end st
+unfolding choose alternatives pick is_in in_ranges among is_chain parts_of number_of_kind between opening close unfolding_.behind meaning piece_so_far named_so_far extended after text_of tree_of part
+component-source s os around t at st name end expects is =
+    let p : Production = Production.SourceName in
+    let here : Around = after t true around in
+    let u : Term = within t (source false name) in
+    named-by s os p [] at here st u end st (λ byte now began later v. refl) around
+    (next-of s p [] at here st [] (text name) (OfKind 42) [] os end st (after u false around) (tree u false ∷ []) st refl
+    (expects-name s here (opened (standing (rule_of p) [] at here st) [] (OfKind 42 ∷ []) ∷ os) at st name end
+    (first-of-chain s Kind.Component p 48 here os at st Name (OfKind 42 ∷ []) here [] st refl (omega arith) refl (λ f. refl) refl refl expects) is))
+
+-- a name of internal linkage
+pub component-internal : (s : List ℕ) (os : List Opened) (around : Around) (t : Term) (at : ℕ) (st : State) (name : List ℕ) (end : ℕ)
+    → Expects s Kind.Component (after t true around) os at st → StandsAt s at (76 ∷ []) → IsNameAt s (at + 1) name end
+    → Named s os around (within t (source true name)) end st
+unfolding choose alternatives pick is_in in_ranges among is_chain parts_of number_of_kind between opening close unfolding_.behind meaning piece_so_far named_so_far extended after text_of tree_of part
+component-internal s os around t at st name end expects stands is =
+    let p : Production = Production.InternalName in
+    let here : Around = after t true around in
+    let u : Term = within t (source true name) in
+    named-by s os p (76 ∷ []) at here st u end st (λ byte now began later v. refl) around
+    (next-of s p (76 ∷ []) at here st [] (text name) (OfKind 42) [] os end st (after u false around) (tree u false ∷ []) st refl
+    (expects-name s here (opened (standing (rule_of p) (76 ∷ []) at here st) [] (OfKind 42 ∷ []) ∷ os) (at + 1) st name end
+    (first-of s Kind.Component p 76 here os at st Name (OfKind 42 ∷ []) here [] st refl (omega arith) refl (λ f. refl) refl refl expects stands) is))
+
+-- a constructor
+pub component-constructor : (s : List ℕ) (os : List Opened) (around : Around) (t : Term) (at : ℕ) (st : State) (digit : ℕ)
+    → Expects s Kind.Component (after t true around) os at st → StandsAt s at (67 ∷ digit ∷ []) → 49 ≤ digit → digit ≤ 51
+    → Named s os around (within t (constructor digit)) (at + 2) st
+unfolding choose alternatives pick is_in in_ranges among is_chain parts_of number_of_kind between opening close unfolding_.behind meaning piece_so_far named_so_far extended after letter_of tree_of part
+component-constructor s os around t at st digit expects stands low high =
+    let p : Production = Production.Constructor in
+    let here : Around = after t true around in
+    let u : Term = within t (constructor digit) in
+    let two = stands-split s at (67 ∷ []) (digit ∷ []) stands in
+    let os1 : List Opened = opened (standing (rule_of p) (67 ∷ []) at here st) [] (OfKind 42 ∷ []) ∷ os in
+    named-by s os p (67 ∷ []) at here st u (at + 2) st (λ byte now began later v. refl) around
+    (next-of s p (67 ∷ []) at here st [] (letter digit) (OfKind 42) [] os (at + 2) st (after u false around) (tree u false ∷ []) st refl
+    (comes-moved s os1 (letter digit) (at + 1 + 1) (at + 2) st (omega arith)
+    (letter-comes s Kind.ConstructorDigit Production.Mark digit here os1 (at + 1) st (letter digit) st
+    (rw (le-leb 49 digit low, le-leb digit 51 high) refl) (omega (arith, high)) refl (λ f. refl) refl refl
+    (first-of s Kind.Component p 67 here os at st (OfKind 20) (OfKind 42 ∷ []) here [] st refl (omega arith) refl (λ f. refl) refl refl expects two.0)
+    two.1)))
+
+-- a destructor
+pub component-destructor : (s : List ℕ) (os : List Opened) (around : Around) (t : Term) (at : ℕ) (st : State) (digit : ℕ)
+    → Expects s Kind.Component (after t true around) os at st → StandsAt s at (68 ∷ digit ∷ []) → 48 ≤ digit → digit ≤ 50
+    → Named s os around (within t (destructor digit)) (at + 2) st
+unfolding choose alternatives pick is_in in_ranges among is_chain parts_of number_of_kind between opening close unfolding_.behind meaning piece_so_far named_so_far extended after letter_of tree_of part
+component-destructor s os around t at st digit expects stands low high =
+    let p : Production = Production.Destructor in
+    let here : Around = after t true around in
+    let u : Term = within t (destructor digit) in
+    let two = stands-split s at (68 ∷ []) (digit ∷ []) stands in
+    let os1 : List Opened = opened (standing (rule_of p) (68 ∷ []) at here st) [] (OfKind 42 ∷ []) ∷ os in
+    named-by s os p (68 ∷ []) at here st u (at + 2) st (λ byte now began later v. refl) around
+    (next-of s p (68 ∷ []) at here st [] (letter digit) (OfKind 42) [] os (at + 2) st (after u false around) (tree u false ∷ []) st refl
+    (comes-moved s os1 (letter digit) (at + 1 + 1) (at + 2) st (omega arith)
+    (letter-comes s Kind.DestructorDigit Production.Mark digit here os1 (at + 1) st (letter digit) st
+    (rw (le-leb 48 digit low, le-leb digit 50 high) refl) (omega (arith, high)) refl (λ f. refl) refl refl
+    (first-of s Kind.Component p 68 here os at st (OfKind 21) (OfKind 42 ∷ []) here [] st refl (omega arith) refl (λ f. refl) refl refl expects two.0)
+    two.1)))

@@ -1,0 +1,313 @@
+-- The moves in encodings and in whole symbols: a symbol begins and ends, with a suffix or without, an encoding has a name and items,
+-- and names are nested or not.
+use Rattle.std.proofs.Common.{◌≡◌, ℕ, ◌+◌, ◌<◌, length, List, [], ◌∷◌, take, Bool, true, false, nat_lt, nat_le, ◌||◌, ◌&&◌, cond, None, Some, Ok, refl, ap, sym, subst, ◌∙◌, arith, codes}
+use Rattle.std.specs.List.{AllByRecursion}
+use Rattle.std.proofs.Math.Nat.{zero-add}
+use Rattle.std.proofs.Math.Seq.{take-append_seam}
+use Rattle.std.proofs.lemmas.Bool.{ltb-true}
+use Rattle.std.proofs.lemmas.Bool.Decides.{nat_tests}
+use Rattle.std.proofs.lemmas.List.{take_all}
+use Rattle.sym_shape.specs.declared.rule.Sym.{Sym}
+use Rattle.sym_shape.specs.declared.rule.Sym.TheVariants.{Kind as OfKind, Name, Byte}
+use Rattle.sym_link.specs.Reading.{Open}
+use Rattle.sym_link.specs.Unfold.{standing}
+use Rattle.sym_demangle.specs.Mangled.{StandsFor}
+use Rattle.cpp_grammar.specs.declared.kind.Kind.{Kind}
+use Rattle.cpp_grammar.specs.declared.production.Production.{Production}
+use Rattle.cpp_grammar.specs.Grammar.{in_ranges, among, is_in, pick, number_of_kind, alternatives, choose, parts_of, is_chain, may_be_empty}
+use Rattle.cpp_grammar.specs.Mangled.{cpp_mangled}
+use Rattle.cpp_grammar.specs.Table.{rule_of}
+use Rattle.cpp_grammar.specs.Term.{Term, symbol, special, alone, source}
+use Rattle.cpp_grammar.specs.Values.{State, outermost, Around, Value, nothing_there, letter, text, tree, tree_of, text_of, is_there, mark_of, part}
+use Rattle.cpp_grammar.specs.Between.{between, after, in_name, in_types, extended, applied, piece_so_far, named_so_far}
+use Rattle.cpp_grammar.specs.Meaning.{meaning}
+use Rattle.cpp_grammar.specs.Unfolding as unfolding_
+use Rattle.cpp_grammar.specs.Unfolding.{opening, close, byte_of, first_around, first_state, first_tree, unfold_cpp}
+use Rattle.cpp_direct.specs.Holes.{Opened, opened, Reads, StandsAt, Comes, Needs, Expects, IsNameAt, Named}
+use Rattle.cpp_direct.specs.ItemBytes.{one_of, is_special_letter, is_suffix_byte}
+use Rattle.cpp_direct.specs.HolesOfLists.{EncodingOpened, SpecialOpened, nest_marks, NestOpened, IsSuffix, SymbolOpened}
+use Rattle.cpp_direct.proofs.Moves.{stands-split, comes-moved, opens, opens-chain, needs-next, ends, expects-empty, expects-byte, expects-name}
+use Rattle.cpp_direct.proofs.MovesOfLists.{mark-comes, of-one}
+
+-- ## Encodings
+
+-- an encoding begins with its name, behind which its items are expected
+pub encoding-opens : (s : List ℕ) (os : List Opened) (around : Around) (at : ℕ) (st : State)
+    → Expects s Kind.Encoding around os at st → EncodingOpened s os at st
+unfolding choose alternatives pick is_in in_ranges among is_chain parts_of between opening close unfolding_.behind meaning part
+encoding-opens s os around at st expects =
+    let p = Production.Encoding in
+    let rule = standing (rule_of p) [] at around st in
+    let items = OfKind (number_of_kind Kind.Items) in
+    record {
+      inner = opened rule [] (items ∷ []) ∷ os;
+      awaits = needs-next s p [] at around st [] (OfKind (number_of_kind Kind.CompleteName)) (items ∷ []) os at st (in_name at) [] st refl
+          (opens-chain s Kind.Encoding p 48 around os at st refl (omega arith) refl (λ f. refl) expects);
+      onward = λ v here now comes. record {
+        inner = opened rule (v ∷ []) [] ∷ os;
+        awaits = needs-next s p [] at around st (v ∷ []) items [] os here now (in_types at (tree_of v)) (v ∷ []) now refl comes;
+        onward = λ l there then_ last. ends s p [] at around st (v ∷ l ∷ []) os there then_ _ then_ last refl;
+      };
+    }
+
+-- the letter of a special object
+special-letter : (b : ℕ) → is_special_letter b ≡ true → (choose Kind.Special b ≡ Some Production.SpecialType) × (b < 256)
+unfolding choose alternatives pick is_in in_ranges among is_special_letter
+special-letter b is =
+    let both = of-one (λ c. (choose Kind.Special c ≡ Some Production.SpecialType) × (nat_lt c 256 ≡ true)) (codes "VTIS") b is
+    ((refl, refl), ((refl, refl), ((refl, refl), ((refl, refl), tt)))) in
+    (both.0, ltb-true b 256 both.1)
+
+-- a special object begins with a T and its letter, and its type is expected
+pub special-opens : (s : List ℕ) (os : List Opened) (around : Around) (b at : ℕ) (st : State) → is_special_letter b ≡ true
+    → Expects s Kind.Encoding around os at st → StandsAt s at (84 ∷ b ∷ []) → SpecialOpened s os at b (at + 2) st
+unfolding choose alternatives pick is_in in_ranges among is_chain parts_of between opening close unfolding_.behind meaning part tree_of byte_of
+special-opens s os around b at st is expects stands =
+    let p = Production.Special in
+    let q = Production.SpecialType in
+    let outer = standing (rule_of p) (84 ∷ []) at around st in
+    let rule = standing (rule_of q) (b ∷ []) (at + 1) (in_name at) st in
+    let letter_is = special-letter b is in
+    let places = stands-split s at (84 ∷ []) (b ∷ []) stands in
+    let above = opened outer [] [] ∷ os in
+    let needs = opens s Kind.Special q b (b ∷ []) (in_name at) above (at + 1) st letter_is.0 letter_is.1 refl (λ f. refl)
+    (needs-next s p (84 ∷ []) at around st [] (OfKind (number_of_kind Kind.Special)) [] os (at + 1) st (in_name at) [] st refl
+    (opens s Kind.Encoding p 84 (84 ∷ []) around os at st refl (omega arith) refl (λ f. refl) expects places.0)) places.1 in
+    let awaited = needs-next s q (b ∷ []) (at + 1) (in_name at) st [] (OfKind (number_of_kind Kind.Type)) [] above (at + 1 + 1) st (in_name at) [] st
+    refl needs in
+    record {
+      inner = opened rule [] [] ∷ above;
+      awaits = subst (λ n. Expects s Kind.Type (in_name at) (opened rule [] [] ∷ above) n st) (omega arith) awaited;
+      onward = λ t here now comes.
+          ends s p (84 ∷ []) at around st (tree (special b t) true ∷ []) os here now _ now
+          (ends s q (b ∷ []) (at + 1) (in_name at) st (tree t true ∷ []) above here now _ now comes refl) refl;
+    }
+
+-- ## Names
+
+-- the parts of a nested name, const where its third part is there
+nest-goes : (s : List ℕ) (os : List Opened) (around : Around) (q : Value) (at : ℕ) (st : State) (here : ℕ) (now : State)
+    → Needs s os (standing (rule_of Production.NestedName) (78 ∷ []) at around st) (nothing_there ∷ nothing_there ∷ q ∷ [])
+    (OfKind (number_of_kind Kind.MaybeRef) ∷ OfKind (number_of_kind Kind.Nest) ∷ []) here now
+    → NestOpened s os around (is_there q) here now
+unfolding parts_of between opening close unfolding_.behind meaning part tree_of is_there mark_of may_be_empty
+nest-goes s os around q at st here now needs =
+    let p = Production.NestedName in
+    let rule = standing (rule_of p) (78 ∷ []) at around st in
+    let before = nothing_there ∷ nothing_there ∷ q ∷ [] in
+    let known = nothing_there ∷ nothing_there ∷ q ∷ nothing_there ∷ [] in
+    let nest = OfKind (number_of_kind Kind.Nest) in
+    record {
+      inner = opened rule known [] ∷ os;
+      awaits = needs-next s p (78 ∷ []) at around st known nest [] os here now around known now refl
+          (expects-empty s Kind.MaybeRef around (opened rule before (nest ∷ []) ∷ os) here now
+          (needs-next s p (78 ∷ []) at around st before (OfKind (number_of_kind Kind.MaybeRef)) (nest ∷ []) os here now around before now refl
+          needs) refl);
+      onward = λ t listed there then_ last.
+          ends s p (78 ∷ []) at around st (nothing_there ∷ nothing_there ∷ q ∷ nothing_there ∷ tree t listed ∷ []) os there then_ _ then_ last refl;
+    }
+
+-- a nested name begins with an N, and a K behind it if it is const
+pub name-nested : (s : List ℕ) (os : List Opened) (around : Around) (const : Bool) (at : ℕ) (st : State)
+    → Expects s Kind.CompleteName around os at st → StandsAt s at (nest_marks const)
+    → NestOpened s os around const (at + length (nest_marks const)) st
+unfolding choose alternatives pick is_in in_ranges among is_chain parts_of between opening close unfolding_.behind meaning part is_there may_be_empty
+name-nested s os around const at st expects stands = go const stands
+  where
+    p : Production
+    p = Production.NestedName
+
+    part_of : Kind → Sym
+    part_of k = OfKind (number_of_kind k)
+
+    rule : Open State Around
+    rule = standing (rule_of p) (78 ∷ []) at around st
+
+    unqualified : StandsAt s at (78 ∷ []) → Needs s os rule (nothing_there ∷ nothing_there ∷ [])
+        (part_of Kind.MaybeConst ∷ part_of Kind.MaybeRef ∷ part_of Kind.Nest ∷ []) (at + 1) st
+    unqualified first =
+        expects-empty s Kind.MaybeVolatile around
+        (opened rule (nothing_there ∷ []) (part_of Kind.MaybeConst ∷ part_of Kind.MaybeRef ∷ part_of Kind.Nest ∷ []) ∷ os) (at + 1) st
+        (needs-next s p (78 ∷ []) at around st (nothing_there ∷ []) (part_of Kind.MaybeVolatile)
+        (part_of Kind.MaybeConst ∷ part_of Kind.MaybeRef ∷ part_of Kind.Nest ∷ []) os (at + 1) st around (nothing_there ∷ []) st refl
+        (expects-empty s Kind.MaybeRestrict around
+        (opened rule [] (part_of Kind.MaybeVolatile ∷ part_of Kind.MaybeConst ∷ part_of Kind.MaybeRef ∷ part_of Kind.Nest ∷ []) ∷ os) (at + 1) st
+        (needs-next s p (78 ∷ []) at around st [] (part_of Kind.MaybeRestrict)
+        (part_of Kind.MaybeVolatile ∷ part_of Kind.MaybeConst ∷ part_of Kind.MaybeRef ∷ part_of Kind.Nest ∷ []) os (at + 1) st around [] st refl
+        (opens s Kind.CompleteName p 78 (78 ∷ []) around os at st refl (omega arith) refl (λ f. refl) expects first)) refl)) refl
+
+    awaits-const : StandsAt s at (78 ∷ []) → Expects s Kind.MaybeConst around
+        (opened rule (nothing_there ∷ nothing_there ∷ []) (part_of Kind.MaybeRef ∷ part_of Kind.Nest ∷ []) ∷ os) (at + 1) st
+    awaits-const first =
+        needs-next s p (78 ∷ []) at around st (nothing_there ∷ nothing_there ∷ []) (part_of Kind.MaybeConst)
+        (part_of Kind.MaybeRef ∷ part_of Kind.Nest ∷ []) os (at + 1) st around (nothing_there ∷ nothing_there ∷ []) st refl (unqualified first)
+
+    go : (c : Bool) → StandsAt s at (nest_marks c) → NestOpened s os around c (at + length (nest_marks c)) st
+    go true there =
+        let places = stands-split s at (78 ∷ []) (75 ∷ []) there in
+        subst (λ n. NestOpened s os around true n st) (omega arith)
+        (nest-goes s os around (letter 75) at st (at + 1 + 1) st
+        (mark-comes s (opened rule (nothing_there ∷ nothing_there ∷ []) (part_of Kind.MaybeRef ∷ part_of Kind.Nest ∷ []) ∷ os) Kind.MaybeConst 75
+        around (at + 1) st refl (omega arith) (awaits-const places.0) places.1))
+    go false there =
+        nest-goes s os around nothing_there at st (at + 1) st
+        (expects-empty s Kind.MaybeConst around
+        (opened rule (nothing_there ∷ nothing_there ∷ []) (part_of Kind.MaybeRef ∷ part_of Kind.Nest ∷ []) ∷ os) (at + 1) st
+        (awaits-const there) refl)
+
+-- a name of its own, with or without arguments behind it
+pub name-source : (s : List ℕ) (os : List Opened) (around : Around) (at : ℕ) (name : List ℕ) (end : ℕ) (st : State)
+    → Expects s Kind.CompleteName around os at st → around.prefix ≡ outermost → IsNameAt s at name end
+    → Named s os around (alone (source false name)) end st
+unfolding choose alternatives pick is_in in_ranges among is_chain parts_of between piece_so_far named_so_far extended applied opening close unfolding_.behind meaning part tree_of is_there text_of
+name-source s os around at name end st expects first is =
+    let p = Production.SourceName in
+    let rule = standing (rule_of p) [] at around st in
+    let t = alone (source false name) in
+    let arguments = OfKind (number_of_kind Kind.MaybeArguments) in
+    record {
+      inner = opened rule (tree t false ∷ []) [] ∷ os;
+      awaits = needs-next s p [] at around st (text name ∷ []) arguments [] os end st (after t false around) (tree t false ∷ []) st
+          (ap (λ x. named_so_far around (extended x (source false name)) [] st) first)
+          (expects-name s around (opened rule [] (arguments ∷ []) ∷ os) at st name end
+          (needs-next s p [] at around st [] Name (arguments ∷ []) os at st around [] st refl
+          (opens-chain s Kind.CompleteName p 48 around os at st refl (omega arith) refl (λ f. refl) expects)) is);
+      bare = λ here now comes. ends s p [] at around st (tree t false ∷ nothing_there ∷ []) os here now _ now comes refl;
+      argued = λ a here now comes. ends s p [] at around st (tree t false ∷ tree a true ∷ []) os here now _ now comes refl;
+    }
+
+-- one with internal linkage, behind an L
+pub name-internal : (s : List ℕ) (os : List Opened) (around : Around) (at : ℕ) (name : List ℕ) (end : ℕ) (st : State)
+    → Expects s Kind.CompleteName around os at st → around.prefix ≡ outermost → StandsAt s at (76 ∷ []) → IsNameAt s (at + 1) name end
+    → Named s os around (alone (source true name)) end st
+unfolding choose alternatives pick is_in in_ranges among is_chain parts_of between piece_so_far named_so_far extended applied opening close unfolding_.behind meaning part tree_of is_there text_of
+name-internal s os around at name end st expects first stands is =
+    let p = Production.InternalName in
+    let rule = standing (rule_of p) (76 ∷ []) at around st in
+    let t = alone (source true name) in
+    let arguments = OfKind (number_of_kind Kind.MaybeArguments) in
+    record {
+      inner = opened rule (tree t false ∷ []) [] ∷ os;
+      awaits = needs-next s p (76 ∷ []) at around st (text name ∷ []) arguments [] os end st (after t false around) (tree t false ∷ []) st
+          (ap (λ x. named_so_far around (extended x (source true name)) [] st) first)
+          (expects-name s around (opened rule [] (arguments ∷ []) ∷ os) (at + 1) st name end
+          (needs-next s p (76 ∷ []) at around st [] Name (arguments ∷ []) os (at + 1) st around [] st refl
+          (opens s Kind.CompleteName p 76 (76 ∷ []) around os at st refl (omega arith) refl (λ f. refl) expects stands)) is);
+      bare = λ here now comes. ends s p (76 ∷ []) at around st (tree t false ∷ nothing_there ∷ []) os here now _ now comes refl;
+      argued = λ a here now comes. ends s p (76 ∷ []) at around st (tree t false ∷ tree a true ∷ []) os here now _ now comes refl;
+    }
+
+-- ## Suffixes
+
+-- a byte of a suffix
+suffix-byte : (b : ℕ) → is_suffix_byte b ≡ true
+    → (choose Kind.SuffixMore b ≡ Some Production.SuffixByte) × (choose Kind.SuffixFirst b ≡ Some Production.SuffixByte) × (b < 256)
+unfolding choose alternatives pick is_in in_ranges among is_suffix_byte
+suffix-byte b is =
+    let same = in-class (nat_le 48 b && nat_le b 57) (nat_le 65 b && nat_le b 90) (nat_le 97 b && nat_le b 122) (one_of (codes "$._") b) is in
+    (ap (λ x. cond x (Some Production.SuffixByte) None) same, ap (λ x. cond x (Some Production.SuffixByte) None) same, grind (arith, nat_tests))
+  where
+    in-class : (i j k l : Bool) → (i || j || k || l) ≡ true → ((i || (j || (k || false))) || l) ≡ true
+    in-class true j k l h = refl
+    in-class false true k l h = refl
+    in-class false false true l h = refl
+    in-class false false false l h = h
+
+-- what stands for these bytes of a suffix, which may be none
+more-comes : (s : List ℕ) (bs : List ℕ) (os : List Opened) (around : Around) (at : ℕ) (st : State)
+    → AllByRecursion (λ c. is_suffix_byte c ≡ true) bs → Expects s Kind.SuffixMore around os at st → StandsAt s at bs
+    → (v : Value) × (text_of v ≡ bs) × Comes s os v (at + length bs) st
+unfolding is_chain parts_of between opening close unfolding_.behind meaning part text_of byte_of may_be_empty
+more-comes s [] os around at st each expects stands =
+    (nothing_there, refl, comes-moved s os nothing_there at (at + 0) st (omega arith) (expects-empty s Kind.SuffixMore around os at st expects refl))
+more-comes s (b ∷ bs) os around at st each expects stands =
+    let p = Production.SuffixByte in
+    let more = OfKind (number_of_kind Kind.SuffixMore) in
+    let is = suffix-byte b each.0 in
+    let places = stands-split s at (b ∷ []) bs stands in
+    let rule = standing (rule_of p) (b ∷ []) at around st in
+    let rest = more-comes s bs (opened rule [] [] ∷ os) around (at + 1) st each.1
+    (needs-next s p (b ∷ []) at around st [] more [] os (at + 1) st around [] st refl
+    (opens s Kind.SuffixMore p b (b ∷ []) around os at st is.0 is.2 refl (λ f. refl) expects places.0)) places.1 in (
+      text (b ∷ text_of rest.0),
+      ap (λ l. b ∷ l) rest.1,
+      comes-moved s os (text (b ∷ text_of rest.0)) (at + 1 + length bs) (at + length (b ∷ bs)) st (omega arith)
+          (ends s p (b ∷ []) at around st (rest.0 ∷ []) os (at + 1 + length bs) st _ st rest.2 refl),
+    )
+
+-- a suffix is read
+pub suffix-comes : (s : List ℕ) (suffix : List ℕ) (os : List Opened) (around : Around) (at : ℕ) (st : State)
+    → IsSuffix suffix → Expects s Kind.MaybeSuffix around os at st → StandsAt s at suffix → Comes s os (text suffix) (at + length suffix) st
+unfolding choose alternatives pick is_in in_ranges among is_chain parts_of between opening close unfolding_.behind meaning part text_of byte_of
+suffix-comes s [] os around at st is expects stands = absurd is
+suffix-comes s (d ∷ []) os around at st is expects stands = absurd is
+suffix-comes s (d ∷ b ∷ bs) os around at st is expects stands =
+    let p = Production.Suffix in
+    let q = Production.SuffixByte in
+    let dot = stands-split s at (d ∷ []) (b ∷ bs) stands in
+    let first = stands-split s (at + 1) (b ∷ []) bs dot.1 in
+    let small : d < 256 = omega (arith, is.0) in
+    let byte_is = suffix-byte b is.1.0 in
+    let outer = standing (rule_of p) (d ∷ []) at around st in
+    let rule = standing (rule_of q) (b ∷ []) (at + 1) around st in
+    let above = opened outer [] [] ∷ os in
+    let rest = more-comes s bs (opened rule [] [] ∷ above) around (at + 1 + 1) st is.1.1
+    (needs-next s q (b ∷ []) (at + 1) around st [] (OfKind (number_of_kind Kind.SuffixMore)) [] above (at + 1 + 1) st around [] st refl
+    (opens s Kind.SuffixFirst q b (b ∷ []) around above (at + 1) st byte_is.1 byte_is.2 refl (λ f. refl)
+    (needs-next s p (d ∷ []) at around st [] (OfKind (number_of_kind Kind.SuffixFirst)) [] os (at + 1) st around [] st refl
+    (opens s Kind.MaybeSuffix p d (d ∷ []) around os at st (ap (choose Kind.MaybeSuffix) is.0) small refl (λ f. refl) expects dot.0)) first.0))
+    first.1 in
+    let end = at + 1 + 1 + length bs in
+    let whole : Comes s os (text (d ∷ b ∷ text_of rest.0)) end st =
+    ends s p (d ∷ []) at around st (text (b ∷ text_of rest.0) ∷ []) os end st _ st
+    (ends s q (b ∷ []) (at + 1) around st (rest.0 ∷ []) above end st _ st rest.2 refl) refl in
+    comes-moved s os (text (d ∷ b ∷ bs)) end (at + length (d ∷ b ∷ bs)) st (omega arith)
+    (subst (λ l. Comes s os (text (d ∷ b ∷ l)) end st) rest.1 whole)
+
+-- ## Symbols
+
+-- a symbol is expected at the front
+symbol-expected : (s : List ℕ) → Expects s Kind.Symbol first_around [] 0 first_state
+symbol-expected s bytes v end reads stands =
+    let front : take (0 + length bytes) s ≡ bytes =
+    ap (λ n. take n s) (zero-add (length bytes)) ∙ ap (take (length bytes)) stands.1 ∙ take-append_seam bytes stands.0 in
+    subst (λ l. Reads (OfKind (number_of_kind Kind.Symbol)) first_around 0 l first_state v end) (sym front) reads
+
+-- what was read is the symbol
+symbol-read : (s : List ℕ) (t : Term) (end : State) → Comes s [] (tree t true) (length s) end → StandsFor cpp_mangled s (Ok t)
+unfolding unfold_cpp first_tree tree_of number_of_kind
+symbol-read s t end reads =
+    (reads.shape, reads.shaped, reads.spelled ∙ take_all (length s) s (omega arith), sym (rw reads.unfolds refl))
+
+-- a symbol begins with _Z and its encoding, and ends there or with a suffix
+pub symbol-starts : (s : List ℕ) → StandsAt s 0 (95 ∷ 90 ∷ []) → SymbolOpened s
+unfolding choose alternatives pick is_in in_ranges among is_chain parts_of between opening close unfolding_.behind meaning part tree_of text_of may_be_empty
+symbol-starts s stands =
+    let p = Production.Symbol in
+    let a = first_around in
+    let st = first_state in
+    let rule = standing (rule_of p) (95 ∷ []) 0 a st in
+    let places = stands-split s 0 (95 ∷ []) (90 ∷ []) stands in
+    let encoding = OfKind (number_of_kind Kind.Encoding) in
+    let suffix_ = OfKind (number_of_kind Kind.MaybeSuffix) in
+    let awaits-suffix : (e : Term) (at : ℕ) (now : State) → Comes s (opened rule (nothing_there ∷ []) (suffix_ ∷ []) ∷ []) (tree e true) at now
+    → Expects s Kind.MaybeSuffix a (opened rule (nothing_there ∷ tree e true ∷ []) [] ∷ []) at now =
+    λ e at now comes. needs-next s p (95 ∷ []) 0 a st (nothing_there ∷ tree e true ∷ []) suffix_ [] [] at now a (nothing_there ∷ tree e true ∷ []) now
+    refl comes in
+    record {
+      inner = opened rule (nothing_there ∷ []) (suffix_ ∷ []) ∷ [];
+      awaits = needs-next s p (95 ∷ []) 0 a st (nothing_there ∷ []) encoding (suffix_ ∷ []) [] 2 st a (nothing_there ∷ []) st refl
+          (expects-byte s 90 a (opened rule [] (encoding ∷ suffix_ ∷ []) ∷ []) 1 st
+          (needs-next s p (95 ∷ []) 0 a st [] (Byte 90) (encoding ∷ suffix_ ∷ []) [] 1 st a [] st refl
+          (opens s Kind.Symbol p 95 (95 ∷ []) a [] 0 st refl (omega arith) refl (λ f. refl) (symbol-expected s) places.0)) places.1);
+      ends = λ e now comes.
+          symbol-read s (symbol e []) now
+          (ends s p (95 ∷ []) 0 a st (nothing_there ∷ tree e true ∷ nothing_there ∷ []) [] (length s) now _ now
+          (expects-empty s Kind.MaybeSuffix a (opened rule (nothing_there ∷ tree e true ∷ []) [] ∷ []) (length s) now
+          (awaits-suffix e (length s) now comes) refl) refl);
+      ends_in = λ e at suffix now comes there whole is.
+          symbol-read s (symbol e suffix) now
+          (ends s p (95 ∷ []) 0 a st (nothing_there ∷ tree e true ∷ text suffix ∷ []) [] (length s) now _ now
+          (comes-moved s (opened rule (nothing_there ∷ tree e true ∷ []) [] ∷ []) (text suffix) (at + length suffix) (length s) now whole
+          (suffix-comes s suffix (opened rule (nothing_there ∷ tree e true ∷ []) [] ∷ []) a at now is (awaits-suffix e at now comes) there)) refl);
+    }

@@ -1,0 +1,274 @@
+-- The moves in lists of arguments and of items: arguments are opened and closed, and a list goes on behind each of its elements.
+use Rattle.std.proofs.Common.{◌≡◌, ℕ, ◌+◌, ◌<◌, ◌⊎◌, inl, inr, length, List, [], ◌∷◌, Bool, true, false, nat_eq, nat_lt, ◌||◌, Some, Ok, refl, ap, sym, subst, arith, codes}
+use Rattle.std.proofs.lemmas.Bool.{eqb-true, ltb-true, false≢true}
+use Rattle.sym_core.specs.declared.NumberKind.TheVariants.{Digits}
+use Rattle.sym_shape.specs.declared.rule.Sym.TheVariants.{Kind as OfKind, Number, Byte}
+use Rattle.sym_link.specs.Unfold.{standing}
+use Rattle.cpp_grammar.specs.declared.kind.Kind.{Kind}
+use Rattle.cpp_grammar.specs.declared.production.Production.{Production}
+use Rattle.cpp_grammar.specs.Grammar.{in_ranges, among, is_in, pick, number_of_kind, alternatives, choose, parts_of, is_chain}
+use Rattle.cpp_grammar.specs.Table.{rule_of}
+use Rattle.cpp_grammar.specs.Term.{Term, builtin, integer, boolean}
+use Rattle.cpp_grammar.specs.Values.{State, Around, nothing_there, letter, text, signed, tree, tree_of, is_listed, letter_of, text_of, signed_of, signed_digits, prefix_tree, prefix_listed, part}
+use Rattle.cpp_grammar.specs.References.{appended, with_type, with_prefix}
+use Rattle.cpp_grammar.specs.Between.{Going, between, after, inside}
+use Rattle.cpp_grammar.specs.Meaning.{meaning}
+use Rattle.cpp_grammar.specs.Unfolding as unfolding_
+use Rattle.cpp_grammar.specs.Unfolding.{opening, close, byte_of}
+use Rattle.cpp_direct.specs.Holes.{Opened, opened, StandsAt, Comes, Expects, ExpectsSym, unless_listed, IsListKind, ListGoesOn, AwaitsElement}
+use Rattle.cpp_direct.specs.ItemBytes.{one_of, is_integer_letter}
+use Rattle.cpp_direct.specs.HolesOfLists.{ArgumentsOpened, LiteralOpened, IsDigitsAt, minus_sign}
+use Rattle.cpp_direct.proofs.Moves.{stands-split, opens, opens-chain, needs-next, ends, expects-byte, expects-number}
+
+-- ## Marks
+
+-- a mark is read
+pub mark-comes : (s : List ℕ) (os : List Opened) (kind : Kind) (byte : ℕ) (around : Around) (at : ℕ) (st : State)
+    → choose kind byte ≡ Some Production.Mark → byte < 256
+    → Expects s kind around os at st → StandsAt s at (byte ∷ [])
+    → Comes s os (letter byte) (at + 1) st
+unfolding is_chain parts_of opening close unfolding_.behind meaning byte_of
+mark-comes s os kind byte around at st chosen small expects stands =
+    ends s Production.Mark (byte ∷ []) at around st [] os (at + 1) st (letter byte) st
+    (opens s kind Production.Mark byte (byte ∷ []) around os at st chosen small refl (λ f. refl) expects stands) refl
+
+-- ## Arguments
+
+prefix-listed : (t : Term) (listed : Bool) (around : Around) (at : ℕ) (st : State)
+    → ◌≡◌ {A = Going} (between Production.Arguments (after t listed around) at [] st)
+    (Ok (record { context = inside around; values = []; state = unless_listed listed around.encoding t st }))
+unfolding between after inside with_prefix appended prefix_tree prefix_listed
+prefix-listed t true around at st = refl
+prefix-listed t false around at st = refl
+
+-- arguments behind a name begin with an I, and end with an E
+pub arguments-open : (s : List ℕ) (os : List Opened) (around : Around) (t : Term) (listed : Bool) (at : ℕ) (st : State)
+    → Expects s Kind.MaybeArguments (after t listed around) os at st → StandsAt s at (73 ∷ [])
+    → ArgumentsOpened s os around (at + 1) (unless_listed listed around.encoding t st)
+unfolding choose alternatives pick is_in in_ranges among is_chain parts_of between opening close unfolding_.behind meaning part
+arguments-open s os around t listed at st expects stands =
+    let named_ = after t listed around in
+    let rule = standing (rule_of Production.Arguments) (73 ∷ []) at named_ st in
+    let state = unless_listed listed around.encoding t st in
+    let needs = opens s Kind.MaybeArguments Production.Arguments 73 (73 ∷ []) named_ os at st refl (omega arith) refl (λ f. refl) expects stands in
+    record {
+      inner = opened rule [] (Byte 69 ∷ []) ∷ os;
+      awaits = needs-next s Production.Arguments (73 ∷ []) at named_ st [] (OfKind (number_of_kind Kind.ArgumentList)) (Byte 69 ∷ []) os
+          (at + 1) st (inside around) [] state (prefix-listed t listed around at st) needs;
+      onward = λ l here now comes ended.
+          ends s Production.Arguments (73 ∷ []) at named_ st (l ∷ nothing_there ∷ []) os (here + 1) now _ now
+          (expects-byte s 69 named_ (opened rule (l ∷ []) [] ∷ os) here now
+          (needs-next s Production.Arguments (73 ∷ []) at named_ st (l ∷ []) (Byte 69) [] os here now named_ (l ∷ []) now refl comes)
+          ended) refl;
+    }
+
+-- ## Elements that are types
+
+-- an element of a list of arguments or items is expected, which is a type
+pub element-awaits : (s : List ℕ) (kind : Kind) (os : List Opened) (around : Around) (at : ℕ) (st : State)
+    → IsListKind kind → Expects s kind around os at st → AwaitsElement s kind os around at st
+unfolding choose alternatives pick is_in in_ranges among is_chain parts_of between opening close unfolding_.behind meaning part tree_of
+element-awaits s Kind.ArgumentList os around at st list_kind expects =
+    let rule = standing (rule_of Production.TypeArgument) [] at around st in
+    let needs = opens-chain s Kind.ArgumentList Production.TypeArgument 80 around os at st refl (omega arith) refl (λ f. refl) expects in
+    let rest = OfKind (number_of_kind Kind.ArgumentList) in
+    record {
+      inner = opened rule [] (rest ∷ []) ∷ os;
+      awaits = needs-next s Production.TypeArgument [] at around st [] (OfKind (number_of_kind Kind.Item)) (rest ∷ []) os at st around []
+          st refl needs;
+      onward = λ t here now comes. record {
+        inner = opened rule (tree t true ∷ []) [] ∷ os;
+        awaits = needs-next s Production.TypeArgument [] at around st (tree t true ∷ []) rest [] os here now around (tree t true ∷ []) now refl comes;
+        passes = λ l there then_ last. ends s Production.TypeArgument [] at around st (tree t true ∷ l ∷ []) os there then_ _ then_ last refl;
+      };
+    }
+element-awaits s Kind.Items os around at st list_kind expects =
+    let rule = standing (rule_of Production.Items) [] at around st in
+    let needs = opens-chain s Kind.Items Production.Items 80 around os at st refl (omega arith) refl (λ f. refl) expects in
+    let rest = OfKind (number_of_kind Kind.Items) in
+    record {
+      inner = opened rule [] (rest ∷ []) ∷ os;
+      awaits = needs-next s Production.Items [] at around st [] (OfKind (number_of_kind Kind.Item)) (rest ∷ []) os at st around []
+          st refl needs;
+      onward = λ t here now comes. record {
+        inner = opened rule (tree t true ∷ []) [] ∷ os;
+        awaits = needs-next s Production.Items [] at around st (tree t true ∷ []) rest [] os here now around (tree t true ∷ []) now refl comes;
+        passes = λ l there then_ last. ends s Production.Items [] at around st (tree t true ∷ l ∷ []) os there then_ _ then_ last refl;
+      };
+    }
+element-awaits s _ os around at st list_kind expects = absurd list_kind
+
+-- ## Elements that are literals
+
+-- an argument that is a literal begins with an L, and ends with an E
+pub literal-opens : (s : List ℕ) (os : List Opened) (around : Around) (at : ℕ) (st : State)
+    → Expects s Kind.ArgumentList around os at st → StandsAt s at (76 ∷ [])
+    → LiteralOpened s os around (at + 1) st
+unfolding choose alternatives pick is_in in_ranges among is_chain parts_of between opening close unfolding_.behind meaning part tree_of
+literal-opens s os around at st expects stands =
+    let p = Production.LiteralArgument in
+    let rule = standing (rule_of p) (76 ∷ []) at around st in
+    let rest = OfKind (number_of_kind Kind.ArgumentList) in
+    let needs = opens s Kind.ArgumentList p 76 (76 ∷ []) around os at st refl (omega arith) refl (λ f. refl) expects stands in
+    record {
+      inner = opened rule [] (Byte 69 ∷ rest ∷ []) ∷ os;
+      awaits = needs-next s p (76 ∷ []) at around st [] (OfKind (number_of_kind Kind.Literal)) (Byte 69 ∷ rest ∷ []) os (at + 1) st
+          around [] st refl needs;
+      onward = λ t here now comes ended. record {
+        inner = opened rule (tree t true ∷ nothing_there ∷ []) [] ∷ os;
+        awaits = needs-next s p (76 ∷ []) at around st (tree t true ∷ nothing_there ∷ []) rest [] os (here + 1) now around
+            (tree t true ∷ nothing_there ∷ []) now refl
+            (expects-byte s 69 around (opened rule (tree t true ∷ []) (rest ∷ []) ∷ os) here now
+            (needs-next s p (76 ∷ []) at around st (tree t true ∷ []) (Byte 69) (rest ∷ []) os here now around (tree t true ∷ []) now refl comes)
+            ended);
+        passes = λ l there then_ last.
+            ends s p (76 ∷ []) at around st (tree t true ∷ nothing_there ∷ l ∷ []) os there then_ _ then_ last refl;
+      };
+    }
+
+-- a bit of a boolean
+is-bit : (d : ℕ) → (d ≡ 48) ⊎ (d ≡ 49) → (choose Kind.Bit d ≡ Some Production.Mark) × (d < 256)
+unfolding choose alternatives pick is_in in_ranges among
+is-bit d (inl same) = (ap (choose Kind.Bit) same, omega (arith, same))
+is-bit d (inr same) = (ap (choose Kind.Bit) same, omega (arith, same))
+
+-- a boolean is read
+pub boolean-comes : (s : List ℕ) (os : List Opened) (around : Around) (d at : ℕ) (st : State) → (d ≡ 48) ⊎ (d ≡ 49)
+    → Expects s Kind.Literal around os at st → StandsAt s at (98 ∷ d ∷ [])
+    → Comes s os (tree (boolean (nat_eq d 49)) true) (at + 1 + 1) st
+unfolding choose alternatives pick is_in in_ranges among is_chain parts_of between opening close unfolding_.behind meaning part letter_of
+boolean-comes s os around d at st bit expects stands =
+    let p = Production.BoolLiteral in
+    let rule = standing (rule_of p) (98 ∷ []) at around st in
+    let places = stands-split s at (98 ∷ []) (d ∷ []) stands in
+    let is = is-bit d bit in
+    ends s p (98 ∷ []) at around st (letter d ∷ []) os (at + 1 + 1) st _ st
+    (mark-comes s (opened rule [] [] ∷ os) Kind.Bit d around (at + 1) st is.0 is.1
+    (needs-next s p (98 ∷ []) at around st [] (OfKind (number_of_kind Kind.Bit)) [] os (at + 1) st around [] st refl
+    (opens s Kind.Literal p 98 (98 ∷ []) around os at st refl (omega arith) refl (λ f. refl) expects places.0)) places.1) refl
+
+-- an argument that is a boolean
+pub bool-element : (s : List ℕ) (os : List Opened) (around : Around) (d at : ℕ) (st : State) → (d ≡ 48) ⊎ (d ≡ 49)
+    → Expects s Kind.ArgumentList around os at st → StandsAt s at (76 ∷ 98 ∷ d ∷ 69 ∷ [])
+    → ListGoesOn s Kind.ArgumentList os around (boolean (nat_eq d 49)) (at + 4) st
+bool-element s os around d at st bit expects stands =
+    let first = stands-split s at (76 ∷ []) (98 ∷ d ∷ 69 ∷ []) stands in
+    let second = stands-split s (at + 1) (98 ∷ d ∷ []) (69 ∷ []) first.1 in
+    let literal = literal-opens s os around at st expects first.0 in
+    let three : at + 1 + 2 ≡ at + 1 + 1 + 1 = omega arith in
+    subst (λ n. ListGoesOn s Kind.ArgumentList os around (boolean (nat_eq d 49)) n st) (omega arith)
+    (literal.onward (boolean (nat_eq d 49)) (at + 1 + 1 + 1) st
+    (boolean-comes s literal.inner around d (at + 1) st bit literal.awaits second.0)
+    (subst (λ n. StandsAt s n (69 ∷ [])) three second.1))
+
+-- ## Integers
+
+-- what holds of each of these bytes holds of one of them
+abbrev pub OfEach : (ℕ → Type 0) → List ℕ → Type 0
+OfEach P [] = Unit {0}
+OfEach P (c ∷ cs) = P c × OfEach P cs
+
+pub of-one : (P : ℕ → Type 0) (cs : List ℕ) (byte : ℕ) → one_of cs byte ≡ true → OfEach P cs → P byte
+of-one P [] byte is each = absurd (false≢true is)
+of-one P (c ∷ cs) byte is each = go (λ h. of-one P cs byte h each.1) (nat_eq byte c) refl is
+  where
+    go : (one_of cs byte ≡ true → P byte) → (b : Bool) → nat_eq byte c ≡ b → (b || one_of cs byte) ≡ true → P byte
+    go others true same h = subst P (sym (eqb-true byte c same)) each.0
+    go others false other h = others h
+
+-- a letter of a builtin type, where the type of a literal is expected
+integer-letter : (b : ℕ) → is_integer_letter b ≡ true → (choose Kind.LiteralType b ≡ Some Production.Builtin) × (b < 256)
+unfolding choose alternatives pick is_in in_ranges among is_integer_letter
+integer-letter b is =
+    let both = of-one (λ c. (choose Kind.LiteralType c ≡ Some Production.Builtin) × (nat_lt c 256 ≡ true)) (codes "hijlmnowxyacst") b is (
+      (refl, refl),
+      (
+        (refl, refl),
+        (
+          (refl, refl),
+          (
+            (refl, refl),
+            (
+              (refl, refl),
+              (
+                (refl, refl),
+                (
+                  (refl, refl),
+                  ((refl, refl), ((refl, refl), ((refl, refl), ((refl, refl), ((refl, refl), ((refl, refl), ((refl, refl), tt))))))),
+                ),
+              ),
+            ),
+          ),
+        ),
+      ),
+    ) in
+    (both.0, ltb-true b 256 both.1)
+
+-- a builtin type of one letter is read where the type of a literal is expected
+pub integer-type-comes : (s : List ℕ) (os : List Opened) (around : Around) (b at : ℕ) (st : State) → is_integer_letter b ≡ true
+    → Expects s Kind.LiteralType around os at st → StandsAt s at (b ∷ [])
+    → Comes s os (tree (builtin (b ∷ [])) true) (at + 1) st
+unfolding is_chain parts_of opening close unfolding_.behind meaning byte_of
+integer-type-comes s os around b at st is expects stands =
+    let letter_is = integer-letter b is in
+    ends s Production.Builtin (b ∷ []) at around st [] os (at + 1) st _ st
+    (opens s Kind.LiteralType Production.Builtin b (b ∷ []) around os at st letter_is.0 letter_is.1 refl (λ f. refl) expects stands) refl
+
+-- the digits of an integer are read
+pub digits-come : (s : List ℕ) (os : List Opened) (around : Around) (at : ℕ) (digits : List ℕ) (end : ℕ) (st : State)
+    → ExpectsSym s (Number Digits) around os at st → IsDigitsAt s at digits end → Comes s os (text digits) end st
+digits-come s os around at digits end st expects is =
+    subst (λ d. Comes s os (text d) end st) is.own
+    (subst (λ n. Comes s os (text is.token.own) n st) (sym is.ends) (expects-number s Digits around os at st is.token expects is.is_number is.stands))
+
+-- an integer is read
+pub integer-comes : (s : List ℕ) (os : List Opened) (around : Around) (negative : Bool) (digits : List ℕ) (at end : ℕ) (st : State)
+    → Expects s Kind.Integer around os at st → StandsAt s at (minus_sign negative) → IsDigitsAt s (at + length (minus_sign negative)) digits end
+    → Comes s os (signed (signed_digits negative digits)) end st
+unfolding choose alternatives pick is_in in_ranges among is_chain parts_of between opening close unfolding_.behind meaning part text_of
+integer-comes s os around true digits at end st expects stands is =
+    let p = Production.Negative in
+    let rule = standing (rule_of p) (110 ∷ []) at around st in
+    ends s p (110 ∷ []) at around st (text digits ∷ []) os end st _ st
+    (digits-come s (opened rule [] [] ∷ os) around (at + 1) digits end st
+    (needs-next s p (110 ∷ []) at around st [] (Number Digits) [] os (at + 1) st around [] st refl
+    (opens s Kind.Integer p 110 (110 ∷ []) around os at st refl (omega arith) refl (λ f. refl) expects stands)) is) refl
+integer-comes s os around false digits at end st expects stands is =
+    let p = Production.Positive in
+    let rule = standing (rule_of p) [] at around st in
+    ends s p [] at around st (text digits ∷ []) os end st _ st
+    (digits-come s (opened rule [] [] ∷ os) around (at + 0) digits end st
+    (needs-next s p [] at around st [] (Number Digits) [] os (at + 0) st around [] st refl
+    (opens s Kind.Integer p 48 [] around os at st refl (omega arith) refl (λ f. refl) expects stands)) is) refl
+
+-- an integer with its type is read
+pub integer-literal-comes : (s : List ℕ) (os : List Opened) (around : Around) (b : ℕ) (negative : Bool) (digits : List ℕ) (at end : ℕ) (st : State)
+    → is_integer_letter b ≡ true → Expects s Kind.Literal around os at st → StandsAt s at (b ∷ minus_sign negative)
+    → IsDigitsAt s (at + 1 + length (minus_sign negative)) digits end
+    → Comes s os (tree (integer (builtin (b ∷ [])) (signed_digits negative digits)) true) end st
+unfolding choose alternatives pick is_in in_ranges among is_chain parts_of between opening close unfolding_.behind meaning part tree_of signed_of with_type is_listed
+integer-literal-comes s os around b negative digits at end st letter_is expects stands is =
+    let p = Production.IntegerLiteral in
+    let rule = standing (rule_of p) [] at around st in
+    let kind = tree (builtin (b ∷ [])) true in
+    let number = OfKind (number_of_kind Kind.Integer) in
+    let places = stands-split s at (b ∷ []) (minus_sign negative) stands in
+    ends s p [] at around st (kind ∷ signed (signed_digits negative digits) ∷ []) os end st _ st
+    (integer-comes s (opened rule (kind ∷ []) [] ∷ os) around negative digits (at + 1) end st
+    (needs-next s p [] at around st (kind ∷ []) number [] os (at + 1) st around (kind ∷ []) st refl
+    (integer-type-comes s (opened rule [] (number ∷ []) ∷ os) around b at st letter_is
+    (needs-next s p [] at around st [] (OfKind (number_of_kind Kind.LiteralType)) (number ∷ []) os at st around [] st refl
+    (opens-chain s Kind.Literal p 80 around os at st refl (omega arith) refl (λ f. refl) expects)) places.0)) places.1 is) refl
+
+-- an argument that is an integer
+pub integer-element : (s : List ℕ) (os : List Opened) (around : Around) (b : ℕ) (negative : Bool) (digits : List ℕ) (at end : ℕ) (st : State)
+    → is_integer_letter b ≡ true → Expects s Kind.ArgumentList around os at st → StandsAt s at (76 ∷ b ∷ minus_sign negative)
+    → IsDigitsAt s (at + length (76 ∷ b ∷ minus_sign negative)) digits end → StandsAt s end (69 ∷ [])
+    → ListGoesOn s Kind.ArgumentList os around (integer (builtin (b ∷ [])) (signed_digits negative digits)) (end + 1) st
+integer-element s os around b negative digits at end st letter_is expects stands is ended =
+    let places = stands-split s at (76 ∷ []) (b ∷ minus_sign negative) stands in
+    let literal = literal-opens s os around at st expects places.0 in
+    let behind_type : at + length (76 ∷ b ∷ minus_sign negative) ≡ at + 1 + 1 + length (minus_sign negative) = omega arith in
+    literal.onward (integer (builtin (b ∷ [])) (signed_digits negative digits)) end st
+    (integer-literal-comes s literal.inner around b negative digits (at + 1) end st letter_is literal.awaits places.1
+    (subst (λ n. IsDigitsAt s n digits end) behind_type is)) ended

@@ -1,0 +1,435 @@
+-- Moves within types: a byte or a name is read, and a type opens, or one comes.
+use Rattle.std.proofs.Common.{◌≡◌, ℕ, ◌+◌, ◌-◌, ◌<◌, List, [], ◌∷◌, slice_get, ltb, Bool, true, false, ◌&&◌, ◌||◌, not, nat_eq, Option, Some, None, Result, Ok, Err, refl, ap, sym, subst, ◌∙◌, arith}
+use Rattle.std.specs.Prelude.{codes}
+use Rattle.std.specs.List.{AllByRecursion}
+use Rattle.std.proofs.lemmas.Bool.{eqb-true, ltb-true, and_parts, false≢true}
+use Rattle.sym_core.specs.declared.refusal.Refusal.{Refusal}
+use Rattle.sym_core.specs.declared.refusal.Refusal.TheVariants.{BadReference}
+use Rattle.sym_core.specs.declared.NumberKind.TheVariants.{Seq36}
+use Rattle.sym_core.specs.Value.{counted_value}
+use Rattle.sym_shape.specs.declared.rule.Sym.TheVariants.{Kind as OfKind, Name, Number}
+use Rattle.sym_link.specs.Reading.{Found, ◌>>=◌}
+use Rattle.sym_link.specs.Unfold.{found, standing}
+use Rattle.cpp_grammar.specs.declared.kind.Kind.{Kind}
+use Rattle.cpp_grammar.specs.declared.production.Production.{Production}
+use Rattle.cpp_grammar.specs.Grammar.{in_ranges, among, is_in, pick, number_of_kind, alternatives, choose, parts_of, is_chain}
+use Rattle.cpp_grammar.specs.Table.{rule_of}
+use Rattle.cpp_grammar.specs.Term.{Term, alone, in_std, abbreviation, source, builtin, pointer, lvalue, rvalue, instance}
+use Rattle.cpp_grammar.specs.Scope.{is_open, pack_length}
+use Rattle.cpp_grammar.specs.Values.{Candidate, State, outermost, Around, Value, nothing_there, text, tree, piece, tree_of, piece_of, is_listed, is_there, text_of, part}
+use Rattle.cpp_grammar.specs.References.{appended, is_function_type, with_type, with_unqualified, with_packs, packs_in, substituted}
+use Rattle.cpp_grammar.specs.Between.{between, after, extended, applied, named_so_far, piece_so_far}
+use Rattle.cpp_grammar.specs.Meaning.{meaning, listed_value, qualified_by, reference_to}
+use Rattle.cpp_grammar.specs.Unfolding as unfolding_
+use Rattle.cpp_grammar.specs.Unfolding.{opening, close, byte_of}
+use Rattle.cpp_direct.specs.Bytes.{is_builtin, is_abbreviated}
+use Rattle.cpp_direct.specs.Holes.{Opened, opened, StandsAt, Comes, Expects, IsNameAt, IsSeqAt, IsTyped, TypeNamed, with_candidate, unless_listed}
+use Rattle.cpp_direct.specs.HolesOfTypes.{as_const, IsQualifiable, TypeOpens, TreePasses, TreeOpens, NameOpens}
+use Rattle.cpp_direct.proofs.Moves.{stands-split, expects-name, expects-seq, first-of, first-of-chain, next-of, last-of, letter-comes}
+
+-- ## Solid types
+
+plain-closes : (around : Around) (at : ℕ) (before : State) (t : Term) (listed : Bool) (st : State)
+    → close Production.PlainType 0 around at before (tree t listed ∷ []) st
+    ≡ Ok (found (tree t true) (unless_listed listed around.encoding t st))
+unfolding close unfolding_.behind meaning listed_value with_type tree_of is_listed part appended
+plain-closes around at before t true st = refl
+plain-closes around at before t false st = refl
+
+qualified-closes : (around : Around) (at : ℕ) (before : State) (t : Term) (listed : Bool) (st : State) → is_function_type t ≡ false
+    → close Production.QualifiedPlain 0 around at before (tree t listed ∷ []) st
+    ≡ Ok (found (tree t true) (unless_listed listed around.encoding t st))
+unfolding close unfolding_.behind meaning listed_value with_type with_unqualified tree_of is_listed part appended is_function_type
+qualified-closes around at before t true st other = rw other refl
+qualified-closes around at before t false st other = rw other refl
+
+-- a solid type is expected where a type is
+pub solid-opens : (s : List ℕ) (kind : Kind) (around : Around) (os : List Opened) (at : ℕ) (st : State) → IsTyped kind
+    → Expects s kind around os at st → TreeOpens s Kind.Solid os around at st
+unfolding choose alternatives pick is_in in_ranges among is_chain parts_of number_of_kind between opening byte_of
+solid-opens s Kind.Type around os at st typed expects = record {
+  inner = opened (standing (rule_of Production.PlainType) [] at around st) [] [] ∷ os;
+  awaits = first-of-chain s Kind.Type Production.PlainType 80 around os at st (OfKind 34) [] around [] st refl (omega arith) refl (λ f. refl) refl
+      refl expects;
+  passes = λ t listed end now other comes. last-of s Production.PlainType [] at around st [] (tree t listed) os end now (tree t true)
+      (unless_listed listed around.encoding t now) (plain-closes around at st t listed now) comes;
+}
+solid-opens s Kind.Item around os at st typed expects = record {
+  inner = opened (standing (rule_of Production.PlainType) [] at around st) [] [] ∷ os;
+  awaits = first-of-chain s Kind.Item Production.PlainType 80 around os at st (OfKind 34) [] around [] st refl (omega arith) refl (λ f. refl) refl
+      refl expects;
+  passes = λ t listed end now other comes. last-of s Production.PlainType [] at around st [] (tree t listed) os end now (tree t true)
+      (unless_listed listed around.encoding t now) (plain-closes around at st t listed now) comes;
+}
+solid-opens s Kind.Plain around os at st typed expects = record {
+  inner = opened (standing (rule_of Production.QualifiedPlain) [] at around st) [] [] ∷ os;
+  awaits = first-of-chain s Kind.Plain Production.QualifiedPlain 80 around os at st (OfKind 34) [] around [] st refl (omega arith) refl (λ f. refl)
+      refl refl expects;
+  passes = λ t listed end now other comes. last-of s Production.QualifiedPlain [] at around st [] (tree t listed) os end now (tree t true)
+      (unless_listed listed around.encoding t now) (qualified-closes around at st t listed now other) comes;
+}
+solid-opens s _ around os at st typed expects = absurd typed
+
+-- ## Builtin types
+
+-- What holds at each of some bytes holds at a byte among them.
+pub at-each : (cs : List ℕ) (P : ℕ → Type 0) → AllByRecursion P cs → (byte : ℕ) → among cs byte ≡ true → P byte
+unfolding among
+at-each [] P all byte e = absurd (false≢true e)
+at-each (c ∷ cs) P all byte e = go (nat_eq byte c) refl e (at-each cs P all.1 byte)
+  where
+    go : (b : Bool) → nat_eq byte c ≡ b → b || among cs byte ≡ true → (among cs byte ≡ true → P byte) → P byte
+    go true same h later = subst P (sym (eqb-true byte c same)) all.0
+    go false other h later = later h
+
+-- bytes below 256
+unfoldable pub are_small : List ℕ → Bool
+are_small [] = true
+are_small (c ∷ cs) = ltb c 256 && are_small cs
+
+-- a byte among small ones is small
+pub among-small : (cs : List ℕ) (byte : ℕ) → are_small cs ≡ true → among cs byte ≡ true → byte < 256
+unfolding among are_small
+among-small [] byte small e = absurd (false≢true e)
+among-small (c ∷ cs) byte small e =
+    let both = and_parts (ltb c 256) (are_small cs) small in
+    go (nat_eq byte c) refl e (ltb-true c 256 both.0) (among-small cs byte both.1)
+  where
+    go : (b : Bool) → nat_eq byte c ≡ b → b || among cs byte ≡ true → c < 256 → (among cs byte ≡ true → byte < 256) → byte < 256
+    go true same h first later = omega (arith, eqb-true byte c same, first)
+    go false other h first later = later h
+
+builtin-taken : (byte : ℕ) → is_builtin byte ≡ true → choose Kind.Solid byte ≡ Some Production.Builtin
+unfolding choose alternatives pick is_in in_ranges among is_builtin
+builtin-taken byte e =
+    at-each (codes "abcdefghijlmnostvwxyz") (λ b. choose Kind.Solid b ≡ Some Production.Builtin) (
+      refl,
+      (
+        refl,
+        (
+          refl,
+          (
+            refl,
+            (
+              refl,
+              (
+                refl,
+                (
+                  refl,
+                  (
+                    refl,
+                    (
+                      refl,
+                      (
+                        refl,
+                        (
+                          refl,
+                          (
+                            refl,
+                            (
+                              refl,
+                              (
+                                refl,
+                                (
+                                  refl,
+                                  (
+                                    refl,
+                                    (
+                                      refl,
+                                      (
+                                        refl,
+                                        (
+                                          refl,
+                                          (
+                                            refl,
+                                            (refl, tt),
+                                          ),
+                                        ),
+                                      ),
+                                    ),
+                                  ),
+                                ),
+                              ),
+                            ),
+                          ),
+                        ),
+                      ),
+                    ),
+                  ),
+                ),
+              ),
+            ),
+          ),
+        ),
+      ),
+    ) byte e
+
+builtin-small : (byte : ℕ) → is_builtin byte ≡ true → byte < 256
+unfolding are_small is_builtin
+builtin-small byte e = among-small (codes "abcdefghijlmnostvwxyz") byte refl e
+
+-- a builtin type comes, which is no candidate
+pub builtin-comes : (s : List ℕ) (kind : Kind) (around : Around) (os : List Opened) (at : ℕ) (st : State) (b : ℕ) → IsTyped kind
+    → is_builtin b ≡ true → Expects s kind around os at st → StandsAt s at (b ∷ []) → Comes s os (tree (builtin (b ∷ [])) true) (at + 1) st
+unfolding is_chain parts_of opening close unfolding_.behind meaning byte_of is_function_type
+builtin-comes s kind around os at st b typed is expects stands =
+    let solid = solid-opens s kind around os at st typed expects in
+    solid.passes (builtin (b ∷ [])) true (at + 1) st refl
+    (letter-comes s Kind.Solid Production.Builtin b around solid.inner at st (tree (builtin (b ∷ [])) true) st (builtin-taken b is)
+    (builtin-small b is) refl (λ f. refl) refl refl solid.awaits stands)
+
+-- ## Types of types
+
+-- a type is expected behind a P
+pub pointer-opens : (s : List ℕ) (kind : Kind) (around : Around) (os : List Opened) (at : ℕ) (st : State) → IsTyped kind
+    → Expects s kind around os at st → StandsAt s at (80 ∷ []) → TypeOpens s Kind.Type os around pointer (at + 1) st
+unfolding choose alternatives pick is_in in_ranges among is_chain parts_of number_of_kind between opening close unfolding_.behind meaning byte_of tree_of part is_function_type
+pointer-opens s kind around os at st typed expects stands =
+    let solid = solid-opens s kind around os at st typed expects in
+    record {
+      inner = opened (standing (rule_of Production.Pointer) (80 ∷ []) at around st) [] [] ∷ solid.inner;
+      awaits = first-of s Kind.Solid Production.Pointer 80 around solid.inner at st (OfKind 28) [] around [] st refl (omega arith) refl (λ f. refl)
+          refl refl solid.awaits stands;
+      passes = λ t end now comes. solid.passes (pointer t) false end now refl
+          (last-of s Production.Pointer (80 ∷ []) at around st [] (tree t true) solid.inner end now (tree (pointer t) false) now refl comes);
+    }
+
+reference-opens : (s : List ℕ) (kind : Kind) (around : Around) (os : List Opened) (at : ℕ) (st : State) (byte : ℕ) (made : Term → Term)
+    → IsTyped kind → ((k : Kind) → IsTyped k → choose k byte ≡ Some Production.ReferenceType) → byte < 256
+    → ((t : Term) → reference_to byte (tree t true) ≡ tree (made t) false)
+    → Expects s kind around os at st → StandsAt s at (byte ∷ []) → TypeOpens s Kind.Type os around made (at + 1) st
+unfolding is_chain parts_of number_of_kind between opening close unfolding_.behind meaning listed_value byte_of tree_of part appended
+reference-opens s kind around os at st byte made typed chosen small makes expects stands = record {
+  inner = opened (standing (rule_of Production.ReferenceType) (byte ∷ []) at around st) [] [] ∷ os;
+  awaits = first-of s kind Production.ReferenceType byte around os at st (OfKind 28) [] around [] st (chosen kind typed) small refl (λ f. refl)
+      refl refl expects stands;
+  passes = λ t end now comes. last-of s Production.ReferenceType (byte ∷ []) at around st [] (tree t true) os end now (tree (made t) true)
+      (with_candidate around.encoding (made t) now) (rw (makes t) refl) comes;
+}
+
+lvalue-taken : (k : Kind) → IsTyped k → choose k 82 ≡ Some Production.ReferenceType
+unfolding choose alternatives pick is_in in_ranges among
+lvalue-taken Kind.Type typed = refl
+lvalue-taken Kind.Item typed = refl
+lvalue-taken Kind.Plain typed = refl
+lvalue-taken _ typed = absurd typed
+
+rvalue-taken : (k : Kind) → IsTyped k → choose k 79 ≡ Some Production.ReferenceType
+unfolding choose alternatives pick is_in in_ranges among
+rvalue-taken Kind.Type typed = refl
+rvalue-taken Kind.Item typed = refl
+rvalue-taken Kind.Plain typed = refl
+rvalue-taken _ typed = absurd typed
+
+-- a type is expected behind an R
+pub lvalue-opens : (s : List ℕ) (kind : Kind) (around : Around) (os : List Opened) (at : ℕ) (st : State) → IsTyped kind
+    → Expects s kind around os at st → StandsAt s at (82 ∷ []) → TypeOpens s Kind.Type os around lvalue (at + 1) st
+unfolding reference_to tree_of
+lvalue-opens s kind around os at st typed expects stands =
+    reference-opens s kind around os at st 82 lvalue typed lvalue-taken (omega arith) (λ t. refl) expects stands
+
+-- and behind an O
+pub rvalue-opens : (s : List ℕ) (kind : Kind) (around : Around) (os : List Opened) (at : ℕ) (st : State) → IsTyped kind
+    → Expects s kind around os at st → StandsAt s at (79 ∷ []) → TypeOpens s Kind.Type os around rvalue (at + 1) st
+unfolding reference_to tree_of
+rvalue-opens s kind around os at st typed expects stands =
+    reference-opens s kind around os at st 79 rvalue typed rvalue-taken (omega arith) (λ t. refl) expects stands
+
+-- a plain type is expected behind a K
+pub const-opens : (s : List ℕ) (kind : Kind) (around : Around) (os : List Opened) (at : ℕ) (st : State) → IsQualifiable kind
+    → Expects s kind around os at st → StandsAt s at (75 ∷ []) → TypeOpens s Kind.Plain os around as_const (at + 1) st
+unfolding choose alternatives pick is_in in_ranges among is_chain parts_of number_of_kind between opening close unfolding_.behind meaning listed_value qualified_by byte_of tree_of is_there part appended
+const-opens s Kind.Type around os at st typed expects stands = record {
+  inner = opened (standing (rule_of Production.ConstType) (75 ∷ []) at around st) [] [] ∷ os;
+  awaits = first-of s Kind.Type Production.ConstType 75 around os at st (OfKind 29) [] around [] st refl (omega arith) refl (λ f. refl) refl refl
+      expects stands;
+  passes = λ t end now comes. last-of s Production.ConstType (75 ∷ []) at around st [] (tree t true) os end now (tree (as_const t) true)
+      (with_candidate around.encoding (as_const t) now) refl comes;
+}
+const-opens s Kind.Item around os at st typed expects stands = record {
+  inner = opened (standing (rule_of Production.ConstType) (75 ∷ []) at around st) [] [] ∷ os;
+  awaits = first-of s Kind.Item Production.ConstType 75 around os at st (OfKind 29) [] around [] st refl (omega arith) refl (λ f. refl) refl refl
+      expects stands;
+  passes = λ t end now comes. last-of s Production.ConstType (75 ∷ []) at around st [] (tree t true) os end now (tree (as_const t) true)
+      (with_candidate around.encoding (as_const t) now) refl comes;
+}
+const-opens s _ around os at st typed expects stands = absurd typed
+
+-- ## Names of types
+
+-- a name of a type was read, by a production whose last part is its arguments
+named-so : (s : List ℕ) (around : Around) (os inner : List Opened) (t : Term) (listed : Bool) (at : ℕ) (st : State) (solid : List Opened)
+    → TreePasses s solid os around.encoding → Expects s Kind.MaybeArguments (after t listed around) inner at st
+    → ((end : ℕ) (now : State) → Comes s inner nothing_there end now → Comes s solid (tree t listed) end now)
+    → ((a : Term) (end : ℕ) (now : State) → Comes s inner (tree a true) end now → Comes s solid (tree (instance t a) false) end now)
+    → TypeNamed s os around t listed at st
+unfolding is_function_type
+named-so s around os inner t listed at st solid passes awaits bare argued = record {
+  inner = inner;
+  awaits = awaits;
+  bare = λ end now other comes. passes t listed end now other (bare end now comes);
+  argued = λ a end now comes. passes (instance t a) false end now refl (argued a end now comes);
+}
+
+-- a name with its length
+pub source-opens : (s : List ℕ) (kind : Kind) (around : Around) (os : List Opened) (at : ℕ) (st : State) (name : List ℕ) (end : ℕ) → IsTyped kind
+    → around.prefix ≡ outermost → Expects s kind around os at st → IsNameAt s at name end
+    → TypeNamed s os around (alone (source false name)) false end st
+unfolding choose alternatives pick is_in in_ranges among is_chain parts_of number_of_kind between opening close unfolding_.behind meaning byte_of tree_of is_there part text_of applied named_so_far piece_so_far extended after
+source-opens s kind around os at st name end typed first expects is =
+    let solid = solid-opens s kind around os at st typed expects in
+    let named = alone (source false name) in
+    let rest = opened (standing (rule_of Production.SourceName) [] at around st) (tree named false ∷ []) [] ∷ solid.inner in
+    named-so s around os rest named false end st solid.inner solid.passes
+    (next-of s Production.SourceName [] at around st [] (text name) (OfKind 42) [] solid.inner end st (after named false around)
+    (tree named false ∷ []) st (rw first refl)
+    (expects-name s around (opened (standing (rule_of Production.SourceName) [] at around st) [] (OfKind 42 ∷ []) ∷ solid.inner) at st name end
+    (first-of-chain s Kind.Solid Production.SourceName 48 around solid.inner at st Name (OfKind 42 ∷ []) around [] st refl (omega arith) refl
+    (λ f. refl) refl refl solid.awaits) is))
+    (λ later now comes. last-of s Production.SourceName [] at around st (tree named false ∷ []) nothing_there solid.inner later now
+    (tree named false) now refl comes)
+    (λ a later now comes. last-of s Production.SourceName [] at around st (tree named false ∷ []) (tree a true) solid.inner later now
+    (tree (instance named a) false) now refl comes)
+
+listed-kept : (t : Term) (listed : Bool) (st : State)
+    → ◌≡◌ {A = Result (Found Value State) Refusal} (Ok (found (tree t (listed && true)) st)) (Ok (found (tree t listed) st))
+listed-kept t true st = refl
+listed-kept t false st = refl
+
+listed-lost : (t : Term) (listed : Bool) (st : State)
+    → ◌≡◌ {A = Result (Found Value State) Refusal} (Ok (found (tree t (listed && false)) st)) (Ok (found (tree t false) st))
+listed-lost t true st = refl
+listed-lost t false st = refl
+
+-- a name behind an S
+pub name-with-s-opens : (s : List ℕ) (kind : Kind) (around : Around) (os : List Opened) (at : ℕ) (st : State) → IsTyped kind
+    → Expects s kind around os at st → StandsAt s at (83 ∷ []) → NameOpens s Kind.TypeAfterS os around (at + 1) st
+unfolding choose alternatives pick is_in in_ranges among is_chain parts_of number_of_kind between opening close unfolding_.behind meaning byte_of tree_of is_listed is_there part applied
+name-with-s-opens s kind around os at st typed expects stands =
+    let solid = solid-opens s kind around os at st typed expects in
+    let rule = standing (rule_of Production.TypeWithS) (83 ∷ []) at around st in
+    record {
+      inner = opened rule [] (OfKind 42 ∷ []) ∷ solid.inner;
+      awaits = first-of s Kind.Solid Production.TypeWithS 83 around solid.inner at st (OfKind 36) (OfKind 42 ∷ []) around [] st refl (omega arith)
+          refl (λ f. refl) refl refl solid.awaits stands;
+      named = λ t listed end now comes.
+          named-so s around os (opened rule (tree t listed ∷ []) [] ∷ solid.inner) t listed end now solid.inner solid.passes
+          (next-of s Production.TypeWithS (83 ∷ []) at around st [] (tree t listed) (OfKind 42) [] solid.inner end now (after t listed around)
+          (tree t listed ∷ []) now refl comes)
+          (λ later onward had. last-of s Production.TypeWithS (83 ∷ []) at around st (tree t listed ∷ []) nothing_there solid.inner later onward
+          (tree t listed) onward (listed-kept t listed onward) had)
+          (λ a later onward had. last-of s Production.TypeWithS (83 ∷ []) at around st (tree t listed ∷ []) (tree a true) solid.inner later onward
+          (tree (instance t a) false) onward (listed-lost (instance t a) listed onward) had);
+    }
+
+-- a name of std
+pub std-opens : (s : List ℕ) (kind : Kind) (around : Around) (os : List Opened) (at : ℕ) (st : State) (name : List ℕ) (end : ℕ) → IsTyped kind
+    → Expects s kind around os at st → StandsAt s at (83 ∷ 116 ∷ []) → IsNameAt s (at + 2) name end
+    → TypeNamed s os around (in_std (source false name)) false end st
+unfolding choose alternatives pick is_in in_ranges among is_chain parts_of number_of_kind between opening close unfolding_.behind meaning byte_of piece_of part text_of
+std-opens s kind around os at st name end typed expects stands is =
+    let both = stands-split s at (83 ∷ []) (116 ∷ []) stands in
+    let w = name-with-s-opens s kind around os at st typed expects both.0 in
+    let std = opened (standing (rule_of Production.StdType) (116 ∷ []) (at + 1) around st) [] [] ∷ w.inner in
+    let expects_piece = first-of s Kind.TypeAfterS Production.StdType 116 around w.inner (at + 1) st (OfKind 37) [] around [] st refl (omega arith)
+    refl (λ f. refl) refl refl w.awaits both.1 in
+    let expects_own = first-of-chain s Kind.SourceOrLocal Production.SourcePiece 48 around std (at + 1 + 1) st Name [] around [] st refl
+    (omega arith) refl (λ f. refl) refl refl expects_piece in
+    w.named (in_std (source false name)) false end st
+    (last-of s Production.StdType (116 ∷ []) (at + 1) around st [] (piece (source false name)) w.inner end st
+    (tree (in_std (source false name)) false) st refl
+    (last-of s Production.SourcePiece [] (at + 1 + 1) around st [] (text name) std end st (piece (source false name)) st refl
+    (expects-name s around (opened (standing (rule_of Production.SourcePiece) [] (at + 1 + 1) around st) [] [] ∷ std) (at + 1 + 1) st name end
+    expects_own (subst (λ k. IsNameAt s k name end) (omega arith) is))))
+
+abbreviation-taken : (byte : ℕ) → is_abbreviated byte ≡ true → choose Kind.Abbreviation byte ≡ Some Production.Abbreviation
+unfolding choose alternatives pick is_in in_ranges is_abbreviated among
+abbreviation-taken byte e =
+    at-each (codes "abdios") (λ b. choose Kind.Abbreviation b ≡ Some Production.Abbreviation)
+    (refl, (refl, (refl, (refl, (refl, (refl, tt)))))) byte e
+
+abbreviation-small : (byte : ℕ) → is_abbreviated byte ≡ true → byte < 256
+unfolding are_small is_abbreviated
+abbreviation-small byte e = among-small (codes "abdios") byte refl e
+
+-- an abbreviation or a substitution is expected behind an S
+reference-behind-s : (s : List ℕ) (around : Around) (os : List Opened) (at : ℕ) (st : State) → Expects s Kind.TypeAfterS around os at st
+    → Expects s Kind.Abbreviation around (opened (standing (rule_of Production.AbbreviatedType) [] at around st) [] [] ∷ os) at st
+unfolding choose alternatives pick is_in in_ranges among is_chain parts_of number_of_kind between opening
+reference-behind-s s around os at st expects =
+    first-of-chain s Kind.TypeAfterS Production.AbbreviatedType 95 around os at st (OfKind 22) [] around [] st refl (omega arith) refl (λ f. refl)
+    refl refl expects
+
+-- an abbreviation
+pub abbreviation-opens : (s : List ℕ) (kind : Kind) (around : Around) (os : List Opened) (at : ℕ) (st : State) (letter : ℕ) → IsTyped kind
+    → is_abbreviated letter ≡ true → Expects s kind around os at st → StandsAt s at (83 ∷ letter ∷ [])
+    → TypeNamed s os around (abbreviation letter) true (at + 2) st
+unfolding is_chain parts_of opening close unfolding_.behind meaning byte_of part
+abbreviation-opens s kind around os at st letter typed is expects stands =
+    let both = stands-split s at (83 ∷ []) (letter ∷ []) stands in
+    let w = name-with-s-opens s kind around os at st typed expects both.0 in
+    let rule = standing (rule_of Production.AbbreviatedType) [] (at + 1) around st in
+    let v = tree (abbreviation letter) true in
+    subst (λ k. TypeNamed s os around (abbreviation letter) true k st) (omega arith)
+    (w.named (abbreviation letter) true (at + 1 + 1) st
+    (last-of s Production.AbbreviatedType [] (at + 1) around st [] v w.inner (at + 1 + 1) st v st refl
+    (letter-comes s Kind.Abbreviation Production.Abbreviation letter around (opened rule [] [] ∷ w.inner) (at + 1) st v st
+    (abbreviation-taken letter is) (abbreviation-small letter is) refl (λ f. refl) refl refl
+    (reference-behind-s s around w.inner (at + 1) st w.awaits) both.1)))
+
+no-packs : (scope : Option Term) (t : Term) → ((inner : Term) → pack_length inner t ≡ None) → packs_in scope t ≡ None
+unfolding packs_in
+no-packs None t none = refl
+no-packs (Some scope) t none = none scope
+
+substituted-so : (around : Around) (place : ℕ) (c : Candidate) (st : State) → is_open c.tree ≡ false
+    → ((scope : Term) → pack_length scope c.tree ≡ None) → substituted around place (Some c) st ≡ Ok (found (tree c.tree true) st)
+unfolding substituted with_packs
+substituted-so around place c st closed none = ap (λ o. whole o (packs_in around.scope c.tree)) closed
+    ∙ ap (whole false) (no-packs around.scope c.tree none)
+  where
+    whole : Bool → Option ℕ → Result (Found Value State) Refusal
+    whole o packs = elim (o && (around.in_lambda || not (nat_eq c.encoding around.encoding))) [
+      | true ↦ Err (BadReference place)
+      | false ↦ with_packs place around.in_expansion packs st >>= λ s. Ok (found (tree c.tree true) s)
+    ]
+
+substitution-closes : (around : Around) (place : ℕ) (before : State) (digits : List ℕ) (c : Candidate) (st : State)
+    → slice_get st.candidates (counted_value Seq36 digits) ≡ Some c → is_open c.tree ≡ false → ((scope : Term) → pack_length scope c.tree ≡ None)
+    → close Production.Substitution 0 around place before (text digits ∷ []) st ≡ Ok (found (tree c.tree true) st)
+unfolding close part text_of
+substitution-closes around place before digits c st at closed none =
+    ap (λ o. substituted around (place - 1) o st) at ∙ substituted-so around (place - 1) c st closed none
+
+-- a substitution
+pub substitution-opens : (s : List ℕ) (kind : Kind) (around : Around) (os : List Opened) (at : ℕ) (st : State) (digits : List ℕ) (end : ℕ)
+    (c : Candidate) → IsTyped kind
+    → slice_get st.candidates (counted_value Seq36 digits) ≡ Some c → is_open c.tree ≡ false → ((scope : Term) → pack_length scope c.tree ≡ None)
+    → Expects s kind around os at st → StandsAt s at (83 ∷ []) → IsSeqAt s (at + 1) digits end
+    → TypeNamed s os around c.tree true end st
+unfolding choose alternatives pick is_in in_ranges among is_chain parts_of number_of_kind between opening close unfolding_.behind meaning byte_of part
+substitution-opens s kind around os at st digits end c typed names_it closed none expects stands is =
+    let w = name-with-s-opens s kind around os at st typed expects stands in
+    let type = opened (standing (rule_of Production.AbbreviatedType) [] (at + 1) around st) [] [] ∷ w.inner in
+    let v = tree c.tree true in
+    w.named c.tree true end st
+    (last-of s Production.AbbreviatedType [] (at + 1) around st [] v w.inner end st v st refl
+    (last-of s Production.Substitution [] (at + 1) around st [] (text digits) type end st v st
+    (substitution-closes around (at + 1) st digits c st names_it closed none)
+    (expects-seq s around (opened (standing (rule_of Production.Substitution) [] (at + 1) around st) [] [] ∷ type) (at + 1) st digits end
+    (first-of-chain s Kind.Abbreviation Production.Substitution 48 around type (at + 1) st (Number Seq36) [] around [] st refl (omega arith) refl
+    (λ f. refl) refl refl (reference-behind-s s around w.inner (at + 1) st w.awaits)) is)))
+
+-- a nested name is expected behind an N
+pub nested-type-opens : (s : List ℕ) (kind : Kind) (around : Around) (os : List Opened) (at : ℕ) (st : State) → IsTyped kind
+    → Expects s kind around os at st → StandsAt s at (78 ∷ []) → TreeOpens s Kind.Nest os around (at + 1) st
+unfolding choose alternatives pick is_in in_ranges among is_chain parts_of number_of_kind between opening close unfolding_.behind meaning byte_of part
+nested-type-opens s kind around os at st typed expects stands =
+    let solid = solid-opens s kind around os at st typed expects in
+    record {
+      inner = opened (standing (rule_of Production.NestedType) (78 ∷ []) at around st) [] [] ∷ solid.inner;
+      awaits = first-of s Kind.Solid Production.NestedType 78 around solid.inner at st (OfKind 15) [] around [] st refl (omega arith) refl
+          (λ f. refl) refl refl solid.awaits stands;
+      passes = λ t listed end now other comes. solid.passes t listed end now other
+          (last-of s Production.NestedType (78 ∷ []) at around st [] (tree t listed) solid.inner end now (tree t listed) now refl comes);
+    }

@@ -1,0 +1,288 @@
+-- A component of a nested name is written: where the writer is then.
+use Rattle.std.proofs.Common.{◌≡◌, ◌≢◌, ℕ, ◌+◌, ◌-◌, ◌≤◌, length, List, [], ◌∷◌, ◌++◌, take, drop, reverse, Bool, true, false, refl, ap, sym, ◌∙◌, subst, arith, codes, append_assoc, append-nil}
+use Rattle.std.proofs.lemmas.Bool.{false≢true}
+use Rattle.std.proofs.lemmas.List.{length-append}
+use Rattle.cpp_grammar.specs.Term.{Term, within, instance, source, constructor, destructor}
+use Rattle.cpp_grammar.specs.Parts.{source_text}
+use Rattle.cpp_grammar.specs.Scope.{arguments_of, has_return_type, is_structor}
+use Rattle.cpp_grammar.specs.Values as values
+use Rattle.cpp_grammar.specs.Values.{State, Around}
+use Rattle.cpp_direct.specs.declared.open.Open.{Open}
+use Rattle.cpp_direct.specs.declared.open.Purpose.{Purpose}
+use Rattle.cpp_direct.specs.declared.open.Step.TheVariants as steps
+use Rattle.cpp_direct.specs.declared.direct.Direct.{Direct}
+use Rattle.cpp_direct.specs.Holes.{Opened, StandsAt, IsNameAt, Named, NestNamed, AwaitsComponent}
+use Rattle.cpp_direct.specs.Prints.{Prints}
+use Rattle.cpp_direct.specs.Stands.{AreCandidates, IsNest, IsWriting, Serves, Stands}
+use Rattle.cpp_direct.specs.Ways.{AwaitsClass, IsNestNamed}
+use Rattle.cpp_direct.specs.Written.{Writes, Reads}
+use Rattle.cpp_direct.proofs.Kept.{piece-found, candidates-stay}
+use Rattle.cpp_direct.proofs.Moves.{stands-join}
+use Rattle.cpp_direct.proofs.MovesOfComponents.{component-source, component-internal, component-constructor, component-destructor}
+use Rattle.cpp_direct.proofs.PrintedNests.{within-prints, within-class, constructor-prints, destructor-prints}
+
+-- ## Pieces of a text
+
+-- a piece is in its place still where more is written
+piece-keeps : (text front bytes back more : List ℕ) → text ≡ front ++ bytes ++ back → text ++ more ≡ front ++ bytes ++ (back ++ more)
+piece-keeps text front bytes back more e = ap (λ l. l ++ more) e ∙ append_assoc (front ++ bytes) back more
+
+-- ## A text is written
+
+-- This was written behind what was, and the nested name begins and serves as before.
+pub record Goes (old new : Direct) (bytes : List ℕ) : Type 0 where
+  pub text : new.text.items ≡ old.text.items ++ bytes
+  pub candidates : new.candidates.items ≡ old.candidates.items
+  pub waiting : new.waiting.items ≡ old.waiting.items
+  pub from : new.nest.from ≡ old.nest.from
+  pub purpose : new.nest.purpose ≡ old.nest.purpose
+
+-- the place is another one, and nothing else
+pub record Moves (old new : Direct) (by : ℕ) : Type 0 where
+  pub text : new.text.items ≡ old.text.items
+  pub candidates : new.candidates.items ≡ old.candidates.items
+  pub waiting : new.waiting.items ≡ old.waiting.items
+  pub nest : new.nest ≡ old.nest
+  pub at : new.at ≡ old.at + by
+
+-- a mark was written behind a move
+goes-marked : (old between new : Direct) (by : ℕ) (bytes : List ℕ) → Moves old between by → Writes between new bytes → Goes old new bytes
+goes-marked old between new by bytes m w = record {
+  text = rw (w.text, m.text) refl;
+  candidates = rw (w.candidates, m.candidates) refl;
+  waiting = rw (w.waiting, m.waiting) refl;
+  from = rw (w.nest, m.nest) refl;
+  purpose = rw (w.nest, m.nest) refl;
+}
+
+candidates-go : (old new : Direct) (bytes : List ℕ) (cs : List values.Candidate) → Goes old new bytes
+    → AreCandidates old.text.items old.candidates.items cs → AreCandidates new.text.items new.candidates.items cs
+candidates-go old new bytes cs g p =
+    subst (λ l. AreCandidates l new.candidates.items cs) (sym g.text)
+    (subst (λ ks. AreCandidates (old.text.items ++ bytes) ks cs) (sym g.candidates) (candidates-stay old.text.items bytes old.candidates.items cs p))
+
+serves-go : (s : List ℕ) (old new : Direct) (bytes : List ℕ) (outer : List Opened) (front : List ℕ) → Goes old new bytes
+    → Serves s old.nest.purpose (Stands s (reverse old.waiting.items)) outer front
+    → Serves s new.nest.purpose (Stands s (reverse new.waiting.items)) outer front
+serves-go s old new bytes outer front g p =
+    subst (λ (o : List Open). Serves s new.nest.purpose (Stands s (reverse o)) outer front) (sym g.waiting)
+    (subst (λ (u : Purpose). Serves s u (Stands s (reverse old.waiting.items)) outer front) (sym g.purpose) p)
+
+-- ## The name of a class once more
+
+-- a constructor or a destructor stands behind a name, and was written but for the name of its class
+class-awaits : (s : List ℕ) (old new : Direct) (st : State) (t own : Term) (front bytes mark : List ℕ) (around : Around) (outer : List Opened)
+    → AreCandidates old.text.items old.candidates.items st.candidates → old.text.items ≡ front ++ bytes
+    → (is : IsNest front bytes old.text.items old.nest t)
+    → Serves s old.nest.purpose (Stands s (reverse old.waiting.items)) outer front
+    → Goes old new mark → new.nest ≡ old.nest → NestNamed s outer around own new.at st
+    → Prints own (bytes ++ mark ++ is.class) false → has_return_type own ≡ false → is_structor own ≡ true → AwaitsClass s new
+class-awaits s old new st t own front bytes mark around outer candidates written is serves g same named prints no_return structor = record {
+  state = st;
+  candidates = candidates-go old new mark st.candidates g candidates;
+  around = around;
+  outer = outer;
+  own = own;
+  named = named;
+  front = front;
+  bytes = bytes ++ mark;
+  written = g.text ∙ ap (λ l. l ++ mark) written ∙ append_assoc front bytes mark;
+  from_is = g.from ∙ is.from_is;
+  class_front = is.class_front;
+  class = is.class;
+  class_back = is.class_back ++ mark;
+  class_written = g.text ∙ piece-keeps old.text.items is.class_front is.class is.class_back mark is.class_written;
+  class_from = rw same is.class_from;
+  class_to = rw same is.class_to;
+  prints = prints;
+  no_return = no_return;
+  structor = structor;
+  serves = serves-go s old new mark outer front g serves;
+}
+
+-- what a component is read as
+component-named : (s : List ℕ) (outer : List Opened) (around : Around) (t u : Term) (at : ℕ) (st : State)
+    → (a : AwaitsComponent s outer around t at st) → (to end : ℕ) → end ≡ to → Named s a.inner around u to st → NestNamed s outer around u end st
+component-named s outer around t u at st a to end same n = subst (λ k. NestNamed s outer around u k st) (sym same) (record {
+  inner = n.inner;
+  awaits = n.awaits;
+  bare = λ k later comes. a.onward u k later (n.bare k later comes);
+  argued = λ v k later comes. a.onward (instance u v) k later (n.argued v k later comes);
+})
+
+-- a constructor was read, and was written but for its class
+pub constructor-awaits : (s : List ℕ) (old between new : Direct) (digit : ℕ) → Writes between new (codes "::") → Moves old between 2
+    → IsWriting s old steps.Component → StandsAt s old.at (67 ∷ []) → StandsAt s (old.at + 1) (digit ∷ []) → 49 ≤ digit → digit ≤ 51
+    → old.nest.has_class ≡ true → AwaitsClass s new
+unfolding has_return_type is_structor arguments_of
+constructor-awaits s old between new digit w m p letter next low high has =
+    let b = p.is_before in
+    class-awaits s old new p.state b.0 (within b.0 (constructor digit)) b.1 b.2 (codes "::") b.3 b.4 p.candidates b.5 b.6 b.8
+    (goes-marked old between new 2 (codes "::") m w) (rw (w.nest, m.nest) refl)
+    (component-named s b.4 b.3 b.0 (within b.0 (constructor digit)) old.at p.state b.7 (old.at + 2) new.at (w.at ∙ m.at)
+    (component-constructor s b.7.inner b.3 b.0 old.at p.state digit b.7.awaits (stands-join s old.at (67 ∷ []) (digit ∷ []) letter next) low high))
+    (constructor-prints b.0 b.2 b.6.class b.6.prints (b.6.names_class has) digit) refl refl
+
+-- the same of a destructor
+pub destructor-awaits : (s : List ℕ) (old between new : Direct) (digit : ℕ) → Writes between new (codes "::~") → Moves old between 2
+    → IsWriting s old steps.Component → StandsAt s old.at (68 ∷ []) → StandsAt s (old.at + 1) (digit ∷ []) → 48 ≤ digit → digit ≤ 50
+    → old.nest.has_class ≡ true → AwaitsClass s new
+unfolding has_return_type is_structor arguments_of
+destructor-awaits s old between new digit w m p letter next low high has =
+    let b = p.is_before in
+    class-awaits s old new p.state b.0 (within b.0 (destructor digit)) b.1 b.2 (codes "::~") b.3 b.4 p.candidates b.5 b.6 b.8
+    (goes-marked old between new 2 (codes "::~") m w) (rw (w.nest, m.nest) refl)
+    (component-named s b.4 b.3 b.0 (within b.0 (destructor digit)) old.at p.state b.7 (old.at + 2) new.at (w.at ∙ m.at)
+    (component-destructor s b.7.inner b.3 b.0 old.at p.state digit b.7.awaits (stands-join s old.at (68 ∷ []) (digit ∷ []) letter next) low high))
+    (destructor-prints b.0 b.2 b.6.class b.6.prints (b.6.names_class has) digit) refl refl
+
+-- The class is written: the component is named.
+named-again : (s : List ℕ) (old new : Direct) (p : AwaitsClass s old) → Goes old new p.class → new.at ≡ old.at
+    → new.nest.class_from ≡ old.nest.class_from → new.nest.class_to ≡ old.nest.class_to → new.nest.is_listed ≡ false
+    → new.nest.has_class ≡ false → new.nest.is_instance ≡ false → IsNestNamed s new
+named-again s old new p g at from to unlisted classless no_instance =
+    let written : new.text.items ≡ p.front ++ (p.bytes ++ p.class)
+    = g.text ∙ ap (λ l. l ++ p.class) p.written ∙ append_assoc p.front p.bytes p.class in
+    record {
+      state = p.state;
+      candidates = candidates-go old new p.class p.state.candidates g p.candidates;
+      around = p.around;
+      outer = p.outer;
+      own = p.own;
+      named = subst (λ k. NestNamed s p.outer p.around p.own k p.state) (sym at) p.named;
+      front = p.front;
+      bytes = p.bytes ++ p.class;
+      written = written;
+      is_nest = record {
+        back = [];
+        written = written ∙ sym (append-nil (p.front ++ (p.bytes ++ p.class)));
+        from_is = g.from ∙ p.from_is;
+        prints = p.prints;
+        class_front = p.class_front;
+        class = p.class;
+        class_back = p.class_back ++ p.class;
+        class_written = g.text ∙ piece-keeps old.text.items p.class_front p.class p.class_back p.class p.class_written;
+        class_from = from ∙ p.class_from;
+        class_to = to ∙ p.class_to;
+        names_class = λ e. absurd (false≢true (sym classless ∙ e));
+      };
+      unlisted = unlisted;
+      no_instance = no_instance;
+      no_return = p.no_return;
+      structor = λ e. p.structor;
+      serves = serves-go s old new p.class p.outer p.front g p.serves;
+    }
+
+-- the same by what stands at the place of the class
+pub class-named : (s : List ℕ) (old between new : Direct) (p : AwaitsClass s old)
+    → Writes old between (take (old.nest.class_to - old.nest.class_from) (drop old.nest.class_from old.text.items))
+    → new.text.items ≡ between.text.items → new.candidates.items ≡ between.candidates.items → new.waiting.items ≡ between.waiting.items
+    → new.at ≡ between.at → new.nest.from ≡ between.nest.from → new.nest.purpose ≡ between.nest.purpose
+    → new.nest.class_from ≡ between.nest.class_from → new.nest.class_to ≡ between.nest.class_to → new.nest.is_listed ≡ false
+    → new.nest.has_class ≡ false → new.nest.is_instance ≡ false → IsNestNamed s new
+class-named s old between new p w text candidates waiting at nest_from purpose from to unlisted classless no_instance =
+    let g : Goes old new (take (old.nest.class_to - old.nest.class_from) (drop old.nest.class_from old.text.items)) = record {
+      text = text ∙ w.text;
+      candidates = rw (candidates, w.candidates) refl;
+      waiting = rw (waiting, w.waiting) refl;
+      from = rw (nest_from, w.nest) refl;
+      purpose = rw (purpose, w.nest) refl;
+    } in
+    named-again s old new p
+    (subst (λ l. Goes old new l)
+    (piece-found old.text.items p.class_front p.class p.class_back old.nest.class_from old.nest.class_to p.class_written p.class_from p.class_to).2 g)
+    (rw (at, w.at) refl) (rw (from, w.nest) refl) (rw (to, w.nest) refl) unlisted classless no_instance
+
+-- ## A name
+
+-- A name is written behind the name so far.
+source-named : (s : List ℕ) (old new : Direct) (st : State) (t : Term) (internal : Bool) (name front bytes : List ℕ) (around : Around)
+    (outer : List Opened)
+    → AreCandidates old.text.items old.candidates.items st.candidates → old.text.items ≡ front ++ bytes
+    → IsNest front bytes old.text.items old.nest t → Serves s old.nest.purpose (Stands s (reverse old.waiting.items)) outer front
+    → Goes old new (codes "::" ++ source_text name) → NestNamed s outer around (within t (source internal name)) new.at st → name ≢ []
+    → new.nest.class_from ≡ length (old.text.items ++ codes "::") → new.nest.class_to ≡ length new.text.items → new.nest.is_listed ≡ false
+    → new.nest.has_class ≡ true → new.nest.is_instance ≡ false → IsNestNamed s new
+unfolding has_return_type arguments_of
+source-named s old new st t internal name front bytes around outer candidates before is serves g named filled from to unlisted has no_instance =
+    let m : List ℕ = codes "::" in
+    let x : List ℕ = source_text name in
+    let written : new.text.items ≡ front ++ (bytes ++ m ++ x)
+    = g.text ∙ ap (λ l. l ++ (m ++ x)) before ∙ append_assoc front bytes (m ++ x) ∙ ap (λ l. front ++ l) (sym (append_assoc bytes m x)) in
+    let class_written : new.text.items ≡ (old.text.items ++ m) ++ x = g.text ∙ sym (append_assoc old.text.items m x) in
+    record {
+      state = st;
+      candidates = candidates-go old new (m ++ x) st.candidates g candidates;
+      around = around;
+      outer = outer;
+      own = within t (source internal name);
+      named = named;
+      front = front;
+      bytes = bytes ++ m ++ x;
+      written = written;
+      is_nest = record {
+        back = [];
+        written = written ∙ sym (append-nil (front ++ (bytes ++ m ++ x)));
+        from_is = g.from ∙ is.from_is;
+        prints = within-prints t bytes is.prints internal name filled;
+        class_front = old.text.items ++ m;
+        class = x;
+        class_back = [];
+        class_written = class_written ∙ sym (append-nil (old.text.items ++ m ++ x));
+        class_from = from;
+        class_to = to ∙ ap length class_written ∙ length-append (old.text.items ++ m) x;
+        names_class = λ e. within-class t bytes is.prints internal name filled;
+      };
+      unlisted = unlisted;
+      no_instance = no_instance;
+      no_return = refl;
+      structor = λ e. absurd (false≢true (sym e ∙ has));
+      serves = serves-go s old new (m ++ x) outer front g serves;
+    }
+
+-- how far the letter of internal linkage takes a reader
+abbrev pub letters : (internal : Bool) → ℕ
+letters true = 1
+letters false = 0
+
+-- another place
+pub moves-to : (old new : Direct) (at by : ℕ) → new ≡ record old { at = at } → at ≡ old.at + by → Moves old new by
+moves-to old new at by same e =
+    subst (λ (d : Direct). Moves old d by) (sym same) (record { text = refl; candidates = refl; waiting = refl; nest = refl; at = e })
+
+-- what a name in a nested one is read as
+source-read : (s : List ℕ) (os : List Opened) (around : Around) (t : Term) (at : ℕ) (st : State) (a : AwaitsComponent s os around t at st)
+    → (internal : Bool) (name : List ℕ) (to from end : ℕ) → (internal ≡ true → StandsAt s at (76 ∷ [])) → IsNameAt s from name to
+    → from ≡ at + letters internal → end ≡ to → NestNamed s os around (within t (source internal name)) end st
+source-read s os around t at st a true name to from end letter is moved same =
+    component-named s os around t (within t (source true name)) at st a to end same
+    (component-internal s a.inner around t at st name to a.awaits (letter refl) (subst (λ k. IsNameAt s k name to) moved is))
+source-read s os around t at st a false name to from end letter is moved same =
+    component-named s os around t (within t (source false name)) at st a to end same
+    (component-source s a.inner around t at st name to a.awaits (subst (λ k. IsNameAt s k name to) (none moved) is))
+  where
+    none : from ≡ at + 0 → from ≡ at
+    none e = omega (arith, e)
+
+-- The same of a writer that goes on so.
+pub source-follows : (s : List ℕ) (old start marked read new : Direct) (internal : Bool) → IsWriting s old steps.Component
+    → (internal ≡ true → StandsAt s old.at (76 ∷ [])) → Moves old start (letters internal) → Writes start marked (codes "::")
+    → (name : List ℕ) → IsNameAt s marked.at name read.at → name ≢ [] → Reads marked read (source_text name)
+    → new.text.items ≡ read.text.items → new.candidates.items ≡ read.candidates.items → new.waiting.items ≡ read.waiting.items
+    → new.at ≡ read.at → new.nest.from ≡ read.nest.from → new.nest.purpose ≡ read.nest.purpose
+    → new.nest.class_from ≡ length marked.text.items → new.nest.class_to ≡ length read.text.items → new.nest.is_listed ≡ false
+    → new.nest.has_class ≡ true → new.nest.is_instance ≡ false → IsNestNamed s new
+source-follows s old start marked read new internal p letter m w name is filled r text candidates waiting at nest_from purpose from to unlisted has
+    no_instance =
+    let b = p.is_before in
+    let m1 : marked.text.items ≡ old.text.items ++ codes "::" = rw (w.text, m.text) refl in
+    let g : Goes old new (codes "::" ++ source_text name) = record {
+      text = text ∙ r.text ∙ ap (λ l. l ++ source_text name) m1 ∙ append_assoc old.text.items (codes "::") (source_text name);
+      candidates = rw (candidates, r.candidates, w.candidates, m.candidates) refl;
+      waiting = rw (waiting, r.waiting, w.waiting, m.waiting) refl;
+      from = rw (nest_from, r.nest, w.nest, m.nest) refl;
+      purpose = rw (purpose, r.nest, w.nest, m.nest) refl;
+    } in
+    source-named s old new p.state b.0 internal name b.1 b.2 b.3 b.4 p.candidates b.5 b.6 b.8 g
+    (source-read s b.4 b.3 b.0 old.at p.state b.7 internal name read.at marked.at new.at letter is (w.at ∙ m.at) at)
+    filled (from ∙ ap length m1) (to ∙ ap length (sym text)) unlisted has no_instance

@@ -1,0 +1,471 @@
+-- Nested names are read and written from left to right.
+use Rattle.std.proofs.Common.{◌≡◌, ◌≢◌, ℕ, ◌+◌, ◌-◌, ◌≤◌, List, [], ◌∷◌, ◌++◌, length, take, drop, reverse, slice_get, Bool, true, false, Option, Some, None, refl, ap, sym, ◌∙◌, subst, arith, codes, append-nil, append_assoc, nat_eq, ◌&&◌, length-append}
+use Rattle.std.specs.Option.{IfSome, OnSome}
+use Rattle.std.proofs.lemmas.Bool.{false≢true, eqb-true}
+use Rattle.sym_core.specs.declared.NumberKind.TheVariants.{Seq36}
+use Rattle.sym_core.specs.Value.{counted_value}
+use Rattle.cpp_grammar.specs.declared.kind.Kind.{Kind}
+use Rattle.cpp_grammar.specs.Grammar.{among, may_be_empty}
+use Rattle.cpp_grammar.specs.Term.{Term, alone, in_std, source, abbreviation, instance, any_value}
+use Rattle.cpp_grammar.specs.Texts.{Naming, look_up, abbreviation_texts, same_bytes}
+use Rattle.cpp_grammar.specs.Parts.{source_text}
+use Rattle.cpp_grammar.specs.Scope.{has_return_type, arguments_of}
+use Rattle.cpp_grammar.specs.Values.{State, Around, tree, named, tree_of, qualifiers_of, ref_of}
+use Rattle.cpp_grammar.specs.Between.{after, inside, no_items}
+use Rattle.cpp_direct.specs.declared.open.Candidate.{Candidate}
+use Rattle.cpp_direct.specs.declared.open.Nest.{Nest}
+use Rattle.cpp_direct.specs.declared.open.Purpose.{Purpose}
+use Rattle.cpp_direct.specs.declared.open.Purpose.TheVariants as purposes
+use Rattle.cpp_direct.specs.declared.open.Open.{Open}
+use Rattle.cpp_direct.specs.declared.open.Open.TheVariants as opens
+use Rattle.cpp_direct.specs.declared.open.Step.{Step}
+use Rattle.cpp_direct.specs.declared.open.Step.TheVariants as steps
+use Rattle.cpp_direct.specs.declared.direct.Direct.{Direct}
+use Rattle.cpp_direct.specs.Holes.{Opened, Comes, StandsAt, IsNameAt, IsSeqAt, SamePasses, NestGoesOn, AwaitsComponent, with_candidate, unless_listed}
+use Rattle.cpp_direct.specs.HolesOfNests.{IsRest}
+use Rattle.cpp_direct.specs.Prints.{Prints, NamesClass}
+use Rattle.cpp_direct.specs.Stands.{AreCandidates, IsNest, IsNesting, IsTemplate, ArgumentsGoOn, Serves, Stands, IsWriting, qualifiers}
+use Rattle.cpp_direct.specs.Ways.{AwaitsNest, IsNestNamed, IsNameEnded}
+use Rattle.cpp_direct.specs.Written.{Reads, added, added_unless}
+use Rattle.cpp_direct.proofs.Kept.{candidates-stay, candidates-with, candidates-unless, candidate-found, piece-found, nest-stays, reverse-last}
+use Rattle.cpp_direct.proofs.Moves.{expects-empty, stands-join, comes-moved}
+use Rattle.cpp_direct.proofs.MovesOfComponents.{component-awaits, first-arguments, nest-end}
+use Rattle.cpp_direct.proofs.MovesOfLists.{arguments-open}
+use Rattle.cpp_direct.proofs.MovesOfNests.{nest-source, nest-abbreviation, nest-substitution, nest-std}
+use Rattle.cpp_direct.proofs.PrintedNames.{source-prints, source-class, std-prints, std-class, abbreviation-prints}
+
+-- ## What small functions did
+
+-- the candidates are these, and nothing else changed
+pub record Keeps (old new : Direct) (ks : List Candidate) : Type 0 where
+  pub candidates : new.candidates.items ≡ ks
+  pub text : new.text ≡ old.text
+  pub waiting : new.waiting ≡ old.waiting
+  pub nest : new.nest ≡ old.nest
+  pub at : new.at ≡ old.at
+
+-- arguments were opened
+pub record OpensArguments (old new : Direct) (owner : Open) : Type 0 where
+  pub text : new.text.items ≡ old.text.items ++ codes "<"
+  pub waiting : new.waiting.items ≡ old.waiting.items ++ owner ∷ []
+  pub at : new.at ≡ old.at + 1
+  pub candidates : new.candidates ≡ old.candidates
+
+-- what a byte says of the symbol, where it isn't behind its end
+pub byte-there : (s : List ℕ) (at byte known : ℕ) → byte ≡ known → known ≢ 0 → (byte ≢ 0 → StandsAt s at (byte ∷ [])) → StandsAt s at (known ∷ [])
+byte-there s at byte known is some there = subst (λ b. StandsAt s at (b ∷ [])) is (there (λ e. some (sym is ∙ e)))
+
+-- arguments begin behind a name
+list-begins : (s : List ℕ) (old mid new : Direct) (ks : List Candidate) (st : State) (owner : Open) (front name : List ℕ) (t : Term)
+    → Keeps old mid ks → OpensArguments mid new owner → AreCandidates old.text.items ks st.candidates
+    → IsTemplate owner front t name (old.text.items ++ codes "<") → old.text.items ≡ front ++ name
+    → ArgumentsGoOn s owner (Stands s (reverse old.waiting.items)) front t [] (old.at + 1) st
+    → IsWriting s new (steps.List true)
+list-begins s old mid new ks st owner front name t keeps opening_ candidates template written goes =
+    let text_is : new.text.items ≡ old.text.items ++ codes "<" = cc (opening_.text, keeps.text) in
+    let candidates_are : new.candidates.items ≡ ks = cc (opening_.candidates, keeps.candidates) in
+    let waiting_is : new.waiting.items ≡ old.waiting.items ++ owner ∷ [] = cc (opening_.waiting, keeps.waiting) in
+    let at_is : new.at ≡ old.at + 1 = cc (opening_.at, keeps.at) in
+    record {
+      state = st;
+      candidates = subst (λ l. AreCandidates l new.candidates.items st.candidates) (sym text_is)
+          (subst (λ l. AreCandidates (old.text.items ++ codes "<") l st.candidates) (sym candidates_are)
+          (candidates-stay old.text.items (codes "<") ks st.candidates candidates));
+      is_before = (
+        owner,
+        reverse old.waiting.items,
+        ap reverse waiting_is ∙ reverse-last old.waiting.items owner,
+        front,
+        t,
+        name,
+        [],
+        [],
+        subst (λ l. IsTemplate owner front t name l) (sym text_is) template,
+        ([], tt, refl),
+        text_is ∙ ap (λ l. l ++ codes "<") written ∙ sym (append-nil (front ++ name ++ codes "<")),
+        (λ e. refl),
+        (λ e. absurd (false≢true (sym e))),
+        subst (λ n. ArgumentsGoOn s owner (Stands s (reverse old.waiting.items)) front t [] n st) (sym at_is) goes,
+      );
+    }
+
+-- ## A name with or without arguments
+
+-- no arguments stand behind a name
+pub named-goes-on : (s : List ℕ) (w : Direct) → IsNestNamed s w → IsWriting s w steps.Tail
+unfolding may_be_empty
+named-goes-on s w n = record {
+  state = n.state;
+  candidates = n.candidates;
+  is_before = (
+    n.own,
+    record {
+      front = n.front;
+      around = n.around;
+      outer = n.outer;
+      bytes = n.bytes;
+      written = n.written;
+      is_nest = n.is_nest;
+      goes = subst (λ b. NestGoesOn s Kind.NestTail n.outer n.around n.own b w.at n.state) (sym n.unlisted)
+          (n.named.bare w.at n.state (expects-empty s Kind.MaybeArguments (after n.own false n.around) n.named.inner w.at n.state n.named.awaits refl));
+      serves = n.serves;
+    },
+    (λ e. n.no_return),
+  );
+}
+
+-- arguments stand behind it
+pub named-opens : (s : List ℕ) (old mid new : Direct) → IsNestNamed s old → StandsAt s old.at (73 ∷ [])
+    → Keeps old mid (added old old.nest.from false) → OpensArguments mid new (opens.NestArguments mid.nest) → IsWriting s new (steps.List true)
+unfolding inside
+named-opens s old mid new n here keeps opening_ =
+    let e = n.around.encoding in
+    let begun = arguments-open s n.named.inner n.around n.own false old.at n.state n.named.awaits here in
+    list-begins s old mid new (added old old.nest.from false) (with_candidate e n.own n.state) (opens.NestArguments old.nest) n.front n.bytes n.own
+    keeps (subst (λ x. OpensArguments mid new (opens.NestArguments x)) keeps.nest opening_)
+    (candidates-with old n.state n.front n.bytes old.nest.from n.own e false n.candidates n.written n.is_nest.from_is n.is_nest.prints)
+    (nest-stays n.front n.bytes old.text.items (codes "<") old.nest n.own n.is_nest, n.structor) n.written (
+      inside n.around,
+      begun.inner,
+      refl,
+      begun.awaits,
+      (λ l at st comes ended. (n.around, n.outer, n.named.argued (no_items l) (at + 1) st (begun.onward l at st comes ended), n.serves)),
+    )
+
+-- ## Behind a name so far
+
+-- what is awaited within what comes is awaited of it
+component-outside : (s : List ℕ) (inner outer : List Opened) (around : Around) (t : Term) (at : ℕ) (st : State)
+    → SamePasses s inner outer → AwaitsComponent s inner around t at st → AwaitsComponent s outer around t at st
+component-outside s inner outer around t at st passes a = record {
+  inner = a.inner;
+  awaits = a.awaits;
+  onward = λ u to later comes.
+      let g = a.onward u to later comes in
+      record { inner = g.inner; awaits = g.awaits; passes = λ v onto newer came. passes v onto newer (g.passes v onto newer came) };
+}
+
+-- a component follows
+pub component-next : (s : List ℕ) (kind : Kind) (old new : Direct) (st : State) (t : Term) → IsRest kind
+    → AreCandidates old.text.items old.candidates.items st.candidates → IsNesting s kind old t st
+    → Keeps old new (added_unless old old.nest.is_listed old.nest.from) → IsWriting s new steps.Component
+component-next s kind old new st t rest candidates n keeps =
+    let e = n.around.encoding in
+    let listed = old.nest.is_listed in
+    let text_is : new.text.items ≡ old.text.items = cc (keeps.text) in
+    let waiting_is : new.waiting.items ≡ old.waiting.items = cc (keeps.waiting) in
+    let later = unless_listed listed e t st in
+    record {
+      state = later;
+      candidates = subst (λ l. AreCandidates l new.candidates.items later.candidates) (sym text_is)
+          (subst (λ l. AreCandidates old.text.items l later.candidates) (sym keeps.candidates)
+          (candidates-unless old st listed n.front n.bytes old.nest.from t e candidates n.written n.is_nest.from_is n.is_nest.prints));
+      is_before = (
+        t,
+        n.front,
+        n.bytes,
+        n.around,
+        n.outer,
+        text_is ∙ n.written,
+        subst (λ x. IsNest n.front n.bytes new.text.items x t) (sym keeps.nest)
+            (subst (λ l. IsNest n.front n.bytes l old.nest t) (sym text_is) n.is_nest),
+        subst (λ m. AwaitsComponent s n.outer n.around t m later) (sym keeps.at)
+            (component-outside s n.goes.inner n.outer n.around t old.at later n.goes.passes
+            (component-awaits s kind n.goes.inner n.around t listed old.at st rest n.goes.awaits)),
+        subst (λ x. Serves s x.purpose (Stands s (reverse new.waiting.items)) n.outer n.front) (sym keeps.nest)
+            (subst (λ l. Serves s old.nest.purpose (Stands s (reverse l)) n.outer n.front) (sym waiting_is) n.serves),
+      );
+    }
+
+-- arguments of the first piece follow
+pub first-opens : (s : List ℕ) (old mid new : Direct) (st : State) (t : Term)
+    → AreCandidates old.text.items old.candidates.items st.candidates → IsNesting s Kind.NestRest old t st → StandsAt s old.at (73 ∷ [])
+    → Keeps old mid (added_unless old old.nest.is_listed old.nest.from) → OpensArguments mid new (opens.FirstArguments mid.nest)
+    → IsWriting s new (steps.List true)
+unfolding inside
+first-opens s old mid new st t candidates n here keeps opening_ =
+    let e = n.around.encoding in
+    let listed = old.nest.is_listed in
+    let begun = first-arguments s n.goes.inner n.around t listed old.at st n.goes.awaits here in
+    list-begins s old mid new (added_unless old listed old.nest.from) (unless_listed listed e t st) (opens.FirstArguments old.nest) n.front n.bytes t
+    keeps (subst (λ x. OpensArguments mid new (opens.FirstArguments x)) keeps.nest opening_)
+    (candidates-unless old st listed n.front n.bytes old.nest.from t e candidates n.written n.is_nest.from_is n.is_nest.prints)
+    (nest-stays n.front n.bytes old.text.items (codes "<") old.nest t n.is_nest) n.written (
+      inside n.around,
+      begun.inner,
+      refl,
+      begun.awaits,
+      (λ l at later comes ended. (
+        n.around,
+        n.outer,
+        component-outside s n.goes.inner n.outer n.around (instance t (no_items l)) (at + 1)
+            (with_candidate e (instance t (no_items l)) later) n.goes.passes (begun.onward l at later comes ended),
+        n.serves,
+      )),
+    )
+
+-- ## The end of a nested name
+
+-- a name that ends comes outside
+nest-comes : (s : List ℕ) (old : Direct) (st : State) (t : Term) (n : IsNesting s Kind.NestTail old t st) → StandsAt s old.at (69 ∷ [])
+    → Comes s n.outer (tree t old.nest.is_listed) (old.at + 1) st
+nest-comes s old st t n here = n.goes.passes (tree t old.nest.is_listed) (old.at + 1) st
+    (nest-end s n.goes.inner n.around t old.nest.is_listed old.at st n.goes.awaits here)
+
+-- it is a type
+pub type-ended : (s : List ℕ) (old new : Direct) (st : State) (t : Term)
+    → AreCandidates old.text.items old.candidates.items st.candidates → IsNesting s Kind.NestTail old t st → StandsAt s old.at (69 ∷ [])
+    → old.nest.purpose ≡ purposes.Type → Keeps (record old { at = old.at + 1 }) new (added_unless old old.nest.is_listed old.nest.from)
+    → IsWriting s new (steps.Value false)
+type-ended s old new st t candidates n here is_type keeps =
+    let listed = old.nest.is_listed in
+    let serves = subst (λ p. Serves s p (Stands s (reverse old.waiting.items)) n.outer n.front) is_type n.serves in
+    let text_is : new.text.items ≡ old.text.items = cc (keeps.text) in
+    let waiting_is : new.waiting.items ≡ old.waiting.items = cc (keeps.waiting) in
+    let later = unless_listed listed serves.1 t st in
+    record {
+      state = later;
+      candidates = subst (λ l. AreCandidates l new.candidates.items later.candidates) (sym text_is)
+          (subst (λ l. AreCandidates old.text.items l later.candidates) (sym keeps.candidates)
+          (candidates-unless old st listed n.front n.bytes old.nest.from t serves.1 candidates n.written n.is_nest.from_is n.is_nest.prints));
+      is_before = (
+        serves.0,
+        t,
+        n.front,
+        n.bytes,
+        text_is ∙ n.written,
+        n.is_nest.prints,
+        comes-moved s serves.0 (tree t true) (old.at + 1) new.at later (sym keeps.at)
+            (serves.2 t listed (old.at + 1) st n.is_nest.prints.no_function (nest-comes s old st t n here)),
+        subst (λ l. Stands s (reverse l) serves.0 n.front) (sym waiting_is) serves.3,
+      );
+    }
+
+-- it is the name of the encoding
+pub name-comes : (s : List ℕ) (old : Direct) (st : State) (t : Term) (is_const : Bool)
+    → AreCandidates old.text.items old.candidates.items st.candidates → IsNesting s Kind.NestTail old t st
+    → (old.nest.is_instance ≡ false → has_return_type t ≡ false) → StandsAt s old.at (69 ∷ [])
+    → old.nest.purpose ≡ purposes.Name is_const → IsNameEnded s (record old { at = old.at + 1 }) is_const old.nest.is_instance
+unfolding tree_of qualifiers_of ref_of
+name-comes s old st t is_const candidates n no_return here is_name =
+    let serves = subst (λ p. Serves s p (Stands s (reverse old.waiting.items)) n.outer n.front) is_name n.serves in
+    record {
+      state = st;
+      candidates = candidates;
+      own = t;
+      v = named t (qualifiers is_const) any_value;
+      tree_is = refl;
+      qualifiers_are = refl;
+      mark_is = refl;
+      prints = subst (λ l. Prints t l false) (sym (n.written ∙ ap (λ l. l ++ n.bytes) serves.0)) n.is_nest.prints;
+      no_return = no_return;
+      awaits = serves.1 t old.nest.is_listed (old.at + 1) st (nest-comes s old st t n here);
+    }
+
+-- ## The first piece
+
+-- a name so far whose last piece names a class
+class-nest : (front before class : List ℕ) (nest : Nest) (t : Term) → nest.from ≡ length front → nest.class_from ≡ length (front ++ before)
+    → nest.class_to ≡ length (front ++ before) + length class → Prints t (before ++ class) false → NamesClass t class
+    → IsNest front (before ++ class) (front ++ (before ++ class)) nest t
+class-nest front before class nest t from_is class_from class_to prints names = record {
+  back = [];
+  written = sym (append-nil (front ++ (before ++ class)));
+  from_is = from_is;
+  prints = prints;
+  class_front = front ++ before;
+  class = class;
+  class_back = [];
+  class_written = sym (append_assoc front before class) ∙ sym (append-nil (front ++ before ++ class));
+  class_from = class_from;
+  class_to = class_to;
+  names_class = λ e. names;
+}
+
+-- one that a reference stands for, which names none
+classless-nest : (front bytes : List ℕ) (nest : Nest) (t : Term) → nest.from ≡ length front → nest.class_from ≡ length front
+    → nest.class_to ≡ length front → nest.has_class ≡ false → Prints t bytes false → IsNest front bytes (front ++ bytes) nest t
+classless-nest front bytes nest t from_is class_from class_to none prints = record {
+  back = [];
+  written = sym (append-nil (front ++ bytes));
+  from_is = from_is;
+  prints = prints;
+  class_front = front;
+  class = [];
+  class_back = bytes;
+  class_written = ap (λ l. l ++ bytes) (sym (append-nil front));
+  class_from = class_from;
+  class_to = omega (arith, class_to);
+  names_class = λ e. absurd (false≢true (sym none ∙ e));
+}
+
+-- the rest is expected behind a first piece
+nest-begins : (s : List ℕ) (old new : Direct) (purpose : Purpose) (a : AwaitsNest s old purpose) (t : Term) (bytes : List ℕ)
+    → new.text.items ≡ old.text.items ++ bytes → new.candidates ≡ old.candidates → new.waiting ≡ old.waiting → new.nest.purpose ≡ purpose
+    → IsNest old.text.items bytes (old.text.items ++ bytes) new.nest t
+    → NestGoesOn s Kind.NestRest a.outer a.around t new.nest.is_listed new.at a.state
+    → IsWriting s new steps.Rest
+nest-begins s old new purpose a t bytes text_is candidates_are waiting_is purpose_is is_nest goes = record {
+  state = a.state;
+  candidates = subst (λ l. AreCandidates l new.candidates.items a.state.candidates) (sym text_is)
+      (subst (λ k. AreCandidates (old.text.items ++ bytes) k.items a.state.candidates) (sym candidates_are)
+      (candidates-stay old.text.items bytes old.candidates.items a.state.candidates a.candidates));
+  is_before = (
+    t,
+    record {
+      front = old.text.items;
+      around = a.around;
+      outer = a.outer;
+      bytes = bytes;
+      written = text_is;
+      is_nest = subst (λ l. IsNest old.text.items bytes l new.nest t) (sym text_is) is_nest;
+      goes = goes;
+      serves = subst (λ p. Serves s p (Stands s (reverse new.waiting.items)) a.outer old.text.items) (sym purpose_is)
+          (subst (λ o. Serves s purpose (Stands s (reverse o.items)) a.outer old.text.items) (sym waiting_is) a.serves);
+    },
+  );
+}
+
+-- a nest whose class is written at these places
+abbrev pub nest_of : (from class_from class_to : ℕ) → Purpose → (is_listed has_class : Bool) → Nest
+nest_of from class_from class_to purpose is_listed has_class = record {
+  from = from;
+  class_from = class_from;
+  class_to = class_to;
+  purpose = purpose;
+  is_listed = is_listed;
+  has_class = has_class;
+  is_instance = false;
+}
+
+-- a name begins a nested one
+pub source-begins : (s : List ℕ) (old mid : Direct) (purpose : Purpose) (name : List ℕ) → AwaitsNest s old purpose
+    → IsNameAt s old.at name mid.at → name ≢ [] → Reads old mid (source_text name) → (from to : ℕ)
+    → from ≡ length old.text.items → to ≡ length mid.text.items
+    → IsWriting s (record mid { nest = nest_of from from to purpose false true }) steps.Rest
+source-begins s old mid purpose name a is filled reads from to from_is to_is =
+    let nest = nest_of from from to purpose false true in
+    let t : Term = alone (source false name) in
+    nest-begins s old (record mid { nest = nest }) purpose a t (source_text name) reads.text reads.candidates reads.waiting refl
+    (class-nest old.text.items [] (source_text name) nest t from_is (from_is ∙ ap length (sym (append-nil old.text.items)))
+    (omega (arith, to_is, ap length reads.text, length-append old.text.items (source_text name), ap length (append-nil old.text.items)))
+    (source-prints false name filled) (source-class false name filled))
+    (nest-source s a.outer a.around old.at a.state name mid.at a.outside a.awaits is)
+
+-- each code of a table is one of these letters
+abbrev Lists : List Naming → List ℕ → Type 0
+Lists [] cs = Unit {0}
+Lists (n ∷ ns) cs = (code : ℕ) × (n.code ≡ code ∷ []) × (among cs code ≡ true) × Lists ns cs
+
+both-left : (a : Bool) → (a && true) ≡ true → a ≡ true
+both-left true e = refl
+both-left false e = e
+
+-- a letter that has a text in a table is one of them
+listed-letter : (table : List Naming) (cs : List ℕ) (letter : ℕ) → Lists table cs → look_up (letter ∷ []) table ≢ [] → among cs letter ≡ true
+unfolding look_up same_bytes
+listed-letter [] cs letter all there = absurd (there refl)
+listed-letter (n ∷ ns) cs letter all there =
+    go all.0 all.1 all.2 (λ h. listed-letter ns cs letter all.3 h) (same_bytes (letter ∷ []) n.code) refl there
+  where
+    go : (code : ℕ) → n.code ≡ code ∷ [] → among cs code ≡ true → (look_up (letter ∷ []) ns ≢ [] → among cs letter ≡ true) → (b : Bool)
+        → same_bytes (letter ∷ []) n.code ≡ b → ◌≢◌ {A = List ℕ} (elim b [ true ↦ n.text | false ↦ look_up (letter ∷ []) ns ]) [] → among cs letter ≡ true
+    go code is one rest true same h = subst (λ l. among cs l ≡ true)
+        (sym (eqb-true letter code (both-left (nat_eq letter code) (subst (λ l. same_bytes (letter ∷ []) l ≡ true) is same)))) one
+    go code is one rest false same h = rest h
+
+-- a letter that has a text is one of the abbreviations
+abbreviation-letter : (letter : ℕ) → look_up (letter ∷ []) abbreviation_texts ≢ [] → among (codes "abdios") letter ≡ true
+unfolding among abbreviation_texts
+abbreviation-letter letter there =
+    listed-letter abbreviation_texts (codes "abdios") letter
+    (97, refl, refl, (98, refl, refl, (115, refl, refl, (105, refl, refl, (111, refl, refl, (100, refl, refl, tt)))))) there
+
+-- an abbreviation begins a nested name
+pub abbreviation-begins : (s : List ℕ) (old mid : Direct) (purpose : Purpose) (letter : ℕ) → AwaitsNest s old purpose → StandsAt s old.at (83 ∷ [])
+    → (letter ≢ 0 → StandsAt s (old.at + 1) (letter ∷ [])) → look_up (letter ∷ []) abbreviation_texts ≢ []
+    → mid.text.items ≡ old.text.items ++ look_up (letter ∷ []) abbreviation_texts → mid.candidates ≡ old.candidates → mid.waiting ≡ old.waiting
+    → mid.at ≡ old.at + 1 + 1 → (from : ℕ) → from ≡ length old.text.items
+    → IsWriting s (record mid { nest = nest_of from from from purpose true false }) steps.Rest
+unfolding look_up abbreviation_texts same_bytes
+abbreviation-begins s old mid purpose letter a here behind there text_is candidates_are waiting_is at_is from from_is =
+    let nest = nest_of from from from purpose true false in
+    let t : Term = abbreviation letter in
+    let bytes = look_up (letter ∷ []) abbreviation_texts in
+    let some : letter ≢ 0 = λ e. there (ap (λ l. look_up (l ∷ []) abbreviation_texts) e) in
+    nest-begins s old (record mid { nest = nest }) purpose a t bytes text_is candidates_are waiting_is refl
+    (classless-nest old.text.items bytes nest t from_is from_is from_is refl (abbreviation-prints letter there))
+    (subst (λ n. NestGoesOn s Kind.NestRest a.outer a.around t true n a.state) (omega (arith, at_is))
+    (nest-abbreviation s a.outer a.around old.at a.state letter a.awaits (stands-join s old.at (83 ∷ []) (letter ∷ []) here (behind some))
+    (abbreviation-letter letter there)))
+
+-- what a candidate says of the text
+pub candidate-text : (s : List ℕ) (w : Direct) (purpose : Purpose) (a : AwaitsNest s w purpose) (n : ℕ) (k : Candidate)
+    → slice_get w.candidates.items n ≡ Some k → (k.from ≤ k.to) × (k.to ≤ length w.text.items)
+candidate-text s w purpose a n k found =
+    let one = candidate-found w.text.items w.candidates.items a.state.candidates n k a.candidates found in
+    let is = one.2 in
+    let piece = piece-found w.text.items is.front is.bytes is.back k.from k.to is.written is.from_is is.to_is in
+    (piece.0, piece.1)
+
+-- a reference begins a nested name
+pub reference-begins : (s : List ℕ) (old mid : Direct) (purpose : Purpose) (digits : List ℕ) (k : Candidate) → AwaitsNest s old purpose
+    → StandsAt s old.at (83 ∷ []) → IsSeqAt s (old.at + 1) digits mid.at
+    → slice_get old.candidates.items (counted_value Seq36 digits) ≡ Some k → k.is_reference ≡ false
+    → mid.text.items ≡ old.text.items ++ take (k.to - k.from) (drop k.from old.text.items) → mid.candidates ≡ old.candidates
+    → mid.waiting ≡ old.waiting → (from : ℕ) → from ≡ length old.text.items
+    → IsWriting s (record mid { nest = nest_of from from from purpose true false }) steps.Rest
+reference-begins s old mid purpose digits k a here is found plain text_is candidates_are waiting_is from from_is =
+    let nest = nest_of from from from purpose true false in
+    let one = candidate-found old.text.items old.candidates.items a.state.candidates (counted_value Seq36 digits) k a.candidates found in
+    let c = one.0 in
+    let it = one.2 in
+    let piece = piece-found old.text.items it.front it.bytes it.back k.from k.to it.written it.from_is it.to_is in
+    let prints = subst (λ b. Prints c.tree it.bytes b) plain it.prints in
+    nest-begins s old (record mid { nest = nest }) purpose a c.tree it.bytes (text_is ∙ ap (λ l. old.text.items ++ l) piece.2) candidates_are
+    waiting_is refl (classless-nest old.text.items it.bytes nest c.tree from_is from_is from_is refl prints)
+    (nest-substitution s a.outer a.around old.at a.state digits mid.at c a.awaits here is one.1 prints.is_closed prints.packless)
+
+-- a name in std begins a nested one
+pub std-begins : (s : List ℕ) (old mid : Direct) (purpose : Purpose) (before : ℕ) (name : List ℕ)
+    → AwaitsNest s (record old { at = before }) purpose → StandsAt s before (83 ∷ 116 ∷ []) → IsNameAt s (before + 2) name mid.at → name ≢ []
+    → mid.text.items ≡ old.text.items ++ codes "std::" ++ source_text name → mid.candidates ≡ old.candidates → mid.waiting ≡ old.waiting
+    → (from class_from to : ℕ) → from ≡ length old.text.items → class_from ≡ length (old.text.items ++ codes "std::") → to ≡ length mid.text.items
+    → IsNestNamed s (record mid { nest = nest_of from class_from to purpose false true })
+unfolding has_return_type arguments_of
+std-begins s old mid purpose before name a here is filled text_is candidates_are waiting_is from class_from to from_is class_from_is to_is =
+    let nest = nest_of from class_from to purpose false true in
+    let t : Term = in_std (source false name) in
+    let bytes = codes "std::" ++ source_text name in
+    let written : mid.text.items ≡ old.text.items ++ bytes = text_is ∙ append_assoc old.text.items (codes "std::") (source_text name) in
+    record {
+      state = a.state;
+      candidates = subst (λ l. AreCandidates l mid.candidates.items a.state.candidates) (sym written)
+          (subst (λ k. AreCandidates (old.text.items ++ bytes) k.items a.state.candidates) (sym candidates_are)
+          (candidates-stay old.text.items bytes old.candidates.items a.state.candidates a.candidates));
+      around = a.around;
+      outer = a.outer;
+      own = t;
+      named = nest-std s a.outer a.around before a.state name mid.at a.awaits here is;
+      front = old.text.items;
+      bytes = bytes;
+      written = written;
+      is_nest = subst (λ l. IsNest old.text.items bytes l nest t) (sym written)
+          (class-nest old.text.items (codes "std::") (source_text name) nest t from_is class_from_is
+          (omega (arith, to_is, ap length text_is, length-append (old.text.items ++ codes "std::") (source_text name)))
+          (std-prints false name filled) (std-class false name filled));
+      unlisted = refl;
+      no_instance = refl;
+      no_return = refl;
+      structor = λ e. absurd (false≢true (sym e));
+      serves = subst (λ o. Serves s purpose (Stands s (reverse o.items)) a.outer old.text.items) (sym waiting_is) a.serves;
+    }
+
+-- what opening arguments says where there was memory
+pub opened-by : (s : List ℕ) (r : Option Step) (old new : Direct) (owner : Open) → IfSome r (λ next. next ≡ steps.List true)
+    → OnSome r (new.waiting.items ≡ old.waiting.items ++ owner ∷ []) → OnSome r (new.at ≡ old.at + 1)
+    → OnSome r (new.text.items ≡ old.text.items ++ codes "<") → OnSome r (new.candidates ≡ old.candidates)
+    → (OpensArguments old new owner → IsWriting s new (steps.List true)) → IfSome r (IsWriting s new)
+opened-by s None old new owner step waiting at text candidates goes = tt
+opened-by s (Some next) old new owner step waiting at text candidates goes =
+    subst (λ x. IsWriting s new x) (sym step) (goes (record { text = text; waiting = waiting; at = at; candidates = candidates }))

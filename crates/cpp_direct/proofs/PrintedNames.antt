@@ -1,0 +1,202 @@
+-- Names and types that are one text: source names, abbreviations and builtin types.
+use Rattle.std.proofs.Common.{◌≡◌, ◌≢◌, refl, ap, sym, ◌∙◌, ℕ, ◌+◌, ◌≤◌, List, [], ◌∷◌, ◌++◌, length, drop, Bool, true, false, arith, codes, length-append, append-nil, subst}
+use Rattle.std.proofs.lemmas.Bool.{eqb-true}
+use Rattle.sym_print.specs.Unfold.{text}
+use Rattle.sym_print.specs.Unshared.{text_of, cost_of}
+use Rattle.cpp_grammar.specs.Term.{alone, in_std, abbreviation, source, builtin}
+use Rattle.cpp_grammar.specs.Scope.{is_open, pack_length}
+use Rattle.cpp_grammar.specs.References.{is_function_type}
+use Rattle.cpp_grammar.specs.Texts.{look_up, abbreviation_texts, builtin_texts, same_bytes}
+use Rattle.cpp_grammar.specs.Items.{left, right, base, piece, Context, head_with, head, is_reference, is_funarr, is_empty}
+use Rattle.cpp_grammar.specs.Meaning.{is_void}
+use Rattle.cpp_grammar.specs.Parts.{as_item, says, source_text, prefix_item, last_piece, opening_text, piece_parts, left_parts, right_parts, base_parts, parts_in, not_empty}
+use Rattle.cpp_direct.specs.Prints.{in_form, Prints, NamesClass}
+use Rattle.cpp_direct.proofs.PrintedParts.{text_by, cost_by, text_alone, cost_first, length-filled}
+
+-- the text of a source name isn't empty
+pub source-filled : (name : List ℕ) → name ≢ [] → 1 ≤ length (source_text name)
+unfolding source_text
+source-filled name filled = go _
+  where
+    go : (anonymous : Bool) → 1 ≤ length {A = ℕ} (elim anonymous [ true ↦ codes "(anonymous namespace)" | false ↦ name ])
+    go true = omega arith
+    go false = length-filled name filled
+
+-- A source name prints itself.
+pub source-prints : (internal : Bool) (name : List ℕ) → name ≢ [] → Prints (alone (source internal name)) (source_text name) false
+unfolding parts_in left_parts right_parts piece_parts not_empty head head_with is_reference is_funarr is_empty is_open pack_length is_function_type
+    prefix_item last_piece opening_text is_void
+source-prints internal name filled = let t = alone (source internal name) in record {
+  left_text = λ c. text_by left c t (text (source_text name) ∷ []) refl ∙ text_alone (source_text name);
+  right_text = λ c. text_by right c t [] refl;
+  cost = λ c. omega (
+    arith,
+    source-filled name filled,
+    cost_first (source_text name) [],
+    cost_by left c t (text (source_text name) ∷ []) refl,
+    cost_by right c t [] refl,
+  );
+  is_reference_head = λ c. refl;
+  is_funarr_head = λ c. refl;
+  filled = λ c. refl;
+  is_closed = refl;
+  packless = λ scope. refl;
+  no_function = refl;
+  as_prefix = λ c. refl;
+  opening = refl;
+  void = λ e. cc e;
+}
+
+-- It names its class by itself.
+pub source-class : (internal : Bool) (name : List ℕ) → name ≢ [] → NamesClass (alone (source internal name)) (source_text name)
+unfolding parts_in left_parts right_parts base_parts piece_parts not_empty
+source-class internal name filled = let t = alone (source internal name) in record {
+  base_text = λ c. text_by base c t (text (source_text name) ∷ []) refl ∙ text_alone (source_text name);
+  base_cost = λ c. omega (
+    arith,
+    source-filled name filled,
+    cost_first (source_text name) [],
+    cost_by left c t (text (source_text name) ∷ []) refl,
+    cost_by right c t [] refl,
+    cost_by base c t (text (source_text name) ∷ []) refl,
+    ap length (text_by left c t (text (source_text name) ∷ []) refl ∙ text_alone (source_text name)),
+  );
+}
+
+-- a source name as a piece
+pub piece-text : (c : Context) (internal : Bool) (name : List ℕ) → text_of (in_form piece c (source internal name)) ≡ source_text name
+unfolding parts_in piece_parts
+piece-text c internal name = text_by piece c (source internal name) (text (source_text name) ∷ []) refl ∙ text_alone (source_text name)
+
+-- and what it costs
+pub piece-cost : (c : Context) (internal : Bool) (name : List ℕ) → cost_of (in_form piece c (source internal name)) ≡ 1 + length (source_text name)
+unfolding parts_in piece_parts not_empty
+piece-cost c internal name = omega (
+  arith,
+  cost_by piece c (source internal name) (text (source_text name) ∷ []) refl,
+  cost_first (source_text name) [],
+)
+
+std-left : (c : Context) (internal : Bool) (name : List ℕ)
+    → text_of (in_form left c (in_std (source internal name))) ≡ codes "std::" ++ source_text name
+unfolding parts_in left_parts not_empty
+std-left c internal name =
+    text_by left c (in_std (source internal name)) (says "std::" ∷ as_item piece c (source internal name) ∷ []) refl
+    ∙ ap (λ s. codes "std::" ++ (s ++ [])) (piece-text c internal name) ∙ ap (λ s. codes "std::" ++ s) (append-nil (source_text name))
+
+std-cost : (c : Context) (internal : Bool) (name : List ℕ) → cost_of (in_form left c (in_std (source internal name))) ≡ 7 + length (source_text name)
+unfolding parts_in left_parts not_empty
+std-cost c internal name =
+    omega (
+      arith,
+      cost_by left c (in_std (source internal name)) (says "std::" ∷ as_item piece c (source internal name) ∷ []) refl,
+      piece-cost c internal name,
+    )
+
+-- A source name in std prints so.
+pub std-prints : (internal : Bool) (name : List ℕ) → name ≢ [] → Prints (in_std (source internal name)) (codes "std::" ++ source_text name) false
+unfolding parts_in left_parts right_parts not_empty head head_with is_reference is_funarr is_empty is_open pack_length is_function_type prefix_item
+    last_piece opening_text is_void
+std-prints internal name filled = let t = in_std (source internal name) in record {
+  left_text = λ c. std-left c internal name;
+  right_text = λ c. text_by right c t [] refl;
+  cost = λ c. omega (
+    arith,
+    source-filled name filled,
+    std-cost c internal name,
+    cost_by right c t [] refl,
+    length-append (codes "std::") (source_text name),
+  );
+  is_reference_head = λ c. refl;
+  is_funarr_head = λ c. refl;
+  filled = λ c. refl;
+  is_closed = refl;
+  packless = λ scope. refl;
+  no_function = refl;
+  as_prefix = λ c. refl;
+  opening = refl;
+  void = λ e. cc e;
+}
+
+-- It names its class without std.
+pub std-class : (internal : Bool) (name : List ℕ) → name ≢ [] → NamesClass (in_std (source internal name)) (source_text name)
+unfolding parts_in right_parts base_parts piece_parts not_empty
+std-class internal name filled = let t = in_std (source internal name) in record {
+  base_text = λ c. text_by base c t (text (source_text name) ∷ []) refl ∙ text_alone (source_text name);
+  base_cost = λ c. omega (
+    arith,
+    source-filled name filled,
+    cost_first (source_text name) [],
+    std-cost c internal name,
+    cost_by right c t [] refl,
+    cost_by base c t (text (source_text name) ∷ []) refl,
+    ap length (std-left c internal name),
+    length-append (codes "std::") (source_text name),
+  );
+}
+
+-- An abbreviation prints its text.
+pub abbreviation-prints : (letter : ℕ) → look_up (letter ∷ []) abbreviation_texts ≢ []
+    → Prints (abbreviation letter) (look_up (letter ∷ []) abbreviation_texts) false
+unfolding parts_in left_parts right_parts not_empty head head_with is_reference is_funarr is_empty is_open pack_length is_function_type prefix_item
+    last_piece opening_text is_void
+abbreviation-prints letter filled = let t = abbreviation letter in let b = look_up (letter ∷ []) abbreviation_texts in record {
+  left_text = λ c. text_by left c t (text b ∷ []) refl ∙ text_alone b;
+  right_text = λ c. text_by right c t [] refl;
+  cost = λ c. omega (arith, length-filled b filled, cost_first b [], cost_by left c t (text b ∷ []) refl, cost_by right c t [] refl);
+  is_reference_head = λ c. refl;
+  is_funarr_head = λ c. refl;
+  filled = λ c. refl;
+  is_closed = refl;
+  packless = λ scope. refl;
+  no_function = refl;
+  as_prefix = λ c. refl;
+  opening = refl;
+  void = λ e. cc e;
+}
+
+-- It names its class without std.
+pub abbreviation-class : (letter : ℕ) → look_up (letter ∷ []) abbreviation_texts ≢ []
+    → NamesClass (abbreviation letter) (drop 5 (look_up (letter ∷ []) abbreviation_texts))
+unfolding parts_in left_parts right_parts base_parts not_empty
+abbreviation-class letter filled =
+    let t = abbreviation letter in
+    let b = look_up (letter ∷ []) abbreviation_texts in
+    let class = drop 5 b in
+    record {
+      base_text = λ c. text_by base c t (text class ∷ []) refl ∙ text_alone class;
+      base_cost = λ c. omega (
+        arith,
+        length-filled b filled,
+        cost_first b [],
+        cost_first class [],
+        cost_by left c t (text b ∷ []) refl,
+        cost_by right c t [] refl,
+        cost_by base c t (text class ∷ []) refl,
+        ap length (text_by left c t (text b ∷ []) refl ∙ text_alone b),
+      );
+    }
+
+void-text : (letter : ℕ) → letter ≡ 118 → look_up (letter ∷ []) builtin_texts ≡ codes "void"
+unfolding look_up builtin_texts same_bytes
+void-text letter same = subst (λ l. look_up (l ∷ []) builtin_texts ≡ codes "void") (sym same) refl
+
+-- A builtin type prints its text.
+pub builtin-prints : (letter : ℕ) → look_up (letter ∷ []) builtin_texts ≢ []
+    → Prints (builtin (letter ∷ [])) (look_up (letter ∷ []) builtin_texts) false
+unfolding parts_in left_parts right_parts not_empty head head_with is_reference is_funarr is_empty is_open pack_length is_function_type prefix_item
+    last_piece opening_text is_void
+builtin-prints letter filled = let t = builtin (letter ∷ []) in let b = look_up (letter ∷ []) builtin_texts in record {
+  left_text = λ c. text_by left c t (text b ∷ []) refl ∙ text_alone b;
+  right_text = λ c. text_by right c t [] refl;
+  cost = λ c. omega (arith, length-filled b filled, cost_first b [], cost_by left c t (text b ∷ []) refl, cost_by right c t [] refl);
+  is_reference_head = λ c. refl;
+  is_funarr_head = λ c. refl;
+  filled = λ c. refl;
+  is_closed = refl;
+  packless = λ scope. refl;
+  no_function = refl;
+  as_prefix = λ c. refl;
+  opening = refl;
+  void = λ e. void-text letter (eqb-true letter 118 e);
+}

@@ -1,0 +1,233 @@
+-- Names in other names, constructors and destructors, and names with arguments.
+use Rattle.std.proofs.Common.{◌≡◌, ◌≢◌, refl, ap, sym, ◌∙◌, ℕ, ◌+◌, ◌*◌, ◌≤◌, List, [], ◌∷◌, ◌++◌, length, Bool, false, arith, codes, length-append, append-nil, append_assoc}
+use Rattle.sym_print.specs.declared.detail.Detail.TheVariants.{Full}
+use Rattle.sym_print.specs.Unfold.{text}
+use Rattle.sym_print.specs.Unshared.{text_of, cost_of}
+use Rattle.cpp_grammar.specs.Term.{Term, within, instance, source, constructor, destructor}
+use Rattle.cpp_grammar.specs.Scope.{is_open, pack_length, first_of}
+use Rattle.cpp_grammar.specs.References.{is_function_type}
+use Rattle.cpp_grammar.specs.Items.{left, right, base, piece, first, Context, head_with, head, is_reference, is_funarr, is_empty}
+use Rattle.cpp_grammar.specs.Meaning.{is_void}
+use Rattle.cpp_grammar.specs.Parts.{as_item, says, list_part, source_text, prefix_item, last_piece, opening_text, piece_parts, within_parts, base_within, instance_parts, left_parts, right_parts, base_parts, parts_in, not_empty}
+use Rattle.cpp_direct.specs.Prints.{in_form, Prints, NamesClass, list_of, PrintAll}
+use Rattle.cpp_direct.proofs.PrintedParts.{printed_by, text_by, cost_by, text_alone, cost_first, text_append, cost_append}
+use Rattle.cpp_direct.proofs.PrintedNames.{source-filled, piece-text, piece-cost}
+use Rattle.cpp_direct.proofs.PrintedLists.{list-text, list-cost, list-closed, list-packless}
+
+-- a text, a mark and a text
+joins : (x m y b n : List ℕ) → x ≡ b → y ≡ n → x ++ (m ++ (y ++ [])) ≡ b ++ m ++ n
+joins x m y b n e f = rw (e, f, append-nil n) (sym (append_assoc b m n))
+
+-- ## A name in a name
+
+within-is : (c : Context) (t : Term) (internal : Bool) (name : List ℕ) → prefix_item c t ≡ as_item left c t
+    → within_parts c t (source internal name) ≡ as_item left c t ∷ says "::" ∷ as_item piece c (source internal name) ∷ []
+unfolding within_parts
+within-is c t internal name e = ap (λ i. i ∷ says "::" ∷ as_item piece c (source internal name) ∷ []) e
+
+within-text : (t : Term) (b : List ℕ) → Prints t b false → (internal : Bool) (name : List ℕ) (c : Context)
+    → text_of (in_form left c (within t (source internal name))) ≡ b ++ codes "::" ++ source_text name
+unfolding parts_in left_parts not_empty
+within-text t b p internal name c =
+    text_by left c (within t (source internal name)) (as_item left c t ∷ says "::" ∷ as_item piece c (source internal name) ∷ [])
+    (within-is c t internal name (p.as_prefix c))
+    ∙ joins (text_of (in_form left c t)) (codes "::") (text_of (in_form piece c (source internal name))) b (source_text name) (p.left_text c)
+    (piece-text c internal name)
+
+within-cost : (t : Term) (b : List ℕ) → Prints t b false → (internal : Bool) (name : List ℕ) (c : Context)
+    → cost_of (in_form left c (within t (source internal name))) ≡ cost_of (in_form left c t) + 4 + length (source_text name)
+unfolding parts_in left_parts not_empty
+within-cost t b p internal name c =
+    omega (
+      arith,
+      cost_by left c (within t (source internal name)) (as_item left c t ∷ says "::" ∷ as_item piece c (source internal name) ∷ [])
+          (within-is c t internal name (p.as_prefix c)),
+      piece-cost c internal name,
+    )
+
+-- A name in a class or a namespace prints both.
+pub within-prints : (t : Term) (b : List ℕ) → Prints t b false → (internal : Bool) (name : List ℕ) → name ≢ []
+    → Prints (within t (source internal name)) (b ++ codes "::" ++ source_text name) false
+unfolding parts_in left_parts right_parts not_empty head head_with is_reference is_funarr is_empty is_open pack_length first_of is_function_type
+    prefix_item last_piece opening_text is_void
+within-prints t b p internal name filled = let w = within t (source internal name) in record {
+  left_text = within-text t b p internal name;
+  right_text = λ c. text_by right c w [] refl;
+  cost = λ c. omega (
+    arith,
+    p.cost c,
+    within-cost t b p internal name c,
+    cost_by right c w [] refl,
+    source-filled name filled,
+    length-append (b ++ codes "::") (source_text name),
+    length-append b (codes "::"),
+  );
+  is_reference_head = λ c. refl;
+  is_funarr_head = λ c. refl;
+  filled = λ c. refl;
+  is_closed = rw p.is_closed refl;
+  packless = λ scope. rw (p.packless scope) refl;
+  no_function = refl;
+  as_prefix = λ c. refl;
+  opening = refl;
+  void = λ e. cc e;
+}
+
+-- It names its class without what it stands in.
+pub within-class : (t : Term) (b : List ℕ) → Prints t b false → (internal : Bool) (name : List ℕ) → name ≢ []
+    → NamesClass (within t (source internal name)) (source_text name)
+unfolding parts_in right_parts base_parts base_within piece_parts not_empty
+within-class t b p internal name filled = let w = within t (source internal name) in record {
+  base_text = λ c. text_by base c w (text (source_text name) ∷ []) refl ∙ text_alone (source_text name);
+  base_cost = λ c. omega (
+    arith,
+    p.cost c,
+    within-cost t b p internal name c,
+    cost_by right c w [] refl,
+    source-filled name filled,
+    cost_by base c w (text (source_text name) ∷ []) refl,
+    cost_first (source_text name) [],
+    ap length (within-text t b p internal name c),
+    length-append (b ++ codes "::") (source_text name),
+    length-append b (codes "::"),
+  );
+}
+
+-- ## Constructors and destructors
+
+-- A constructor prints the name of its class.
+pub constructor-prints : (t : Term) (b class : List ℕ) → Prints t b false → NamesClass t class → (digit : ℕ)
+    → Prints (within t (constructor digit)) (b ++ codes "::" ++ class) false
+unfolding parts_in left_parts right_parts within_parts not_empty head head_with is_reference is_funarr is_empty is_open pack_length first_of
+    is_function_type prefix_item last_piece opening_text is_void
+constructor-prints t b class p n digit = let w = within t (constructor digit) in record {
+  left_text = λ c. text_by left c w (as_item left c t ∷ says "::" ∷ as_item base c t ∷ []) refl
+      ∙ joins (text_of (in_form left c t)) (codes "::") (text_of (in_form base c t)) b class (p.left_text c) (n.base_text c);
+  right_text = λ c. text_by right c w [] refl;
+  cost = λ c. omega (
+    arith,
+    n.base_cost c,
+    ap length (p.left_text c),
+    cost_by right c w [] refl,
+    cost_by left c w (as_item left c t ∷ says "::" ∷ as_item base c t ∷ []) refl,
+    length-append (b ++ codes "::") class,
+    length-append b (codes "::"),
+  );
+  is_reference_head = λ c. refl;
+  is_funarr_head = λ c. refl;
+  filled = λ c. refl;
+  is_closed = rw p.is_closed refl;
+  packless = λ scope. rw (p.packless scope) refl;
+  no_function = refl;
+  as_prefix = λ c. refl;
+  opening = refl;
+  void = λ e. cc e;
+}
+
+-- A destructor prints it behind a tilde.
+pub destructor-prints : (t : Term) (b class : List ℕ) → Prints t b false → NamesClass t class → (digit : ℕ)
+    → Prints (within t (destructor digit)) (b ++ codes "::~" ++ class) false
+unfolding parts_in left_parts right_parts within_parts not_empty head head_with is_reference is_funarr is_empty is_open pack_length first_of
+    is_function_type prefix_item last_piece opening_text is_void
+destructor-prints t b class p n digit = let w = within t (destructor digit) in record {
+  left_text = λ c. text_by left c w (as_item left c t ∷ says "::~" ∷ as_item base c t ∷ []) refl
+      ∙ joins (text_of (in_form left c t)) (codes "::~") (text_of (in_form base c t)) b class (p.left_text c) (n.base_text c);
+  right_text = λ c. text_by right c w [] refl;
+  cost = λ c. omega (
+    arith,
+    n.base_cost c,
+    ap length (p.left_text c),
+    cost_by right c w [] refl,
+    cost_by left c w (as_item left c t ∷ says "::~" ∷ as_item base c t ∷ []) refl,
+    length-append (b ++ codes "::~") class,
+    length-append b (codes "::~"),
+  );
+  is_reference_head = λ c. refl;
+  is_funarr_head = λ c. refl;
+  filled = λ c. refl;
+  is_closed = rw p.is_closed refl;
+  packless = λ scope. rw (p.packless scope) refl;
+  no_function = refl;
+  as_prefix = λ c. refl;
+  opening = refl;
+  void = λ e. cc e;
+}
+
+-- ## Names with arguments
+
+instance-is : (c : Context) (t arguments : Term) → opening_text (last_piece t) ≡ codes "<"
+    → instance_parts Full c t arguments ≡ (as_item left c t ∷ says "<" ∷ list_part first c arguments) ++ (says ">" ∷ [])
+unfolding instance_parts
+instance-is c t arguments e = ap (λ o. (as_item left c t ∷ text o ∷ list_part first c arguments) ++ (says ">" ∷ [])) e
+
+bracketed : (x y b l : List ℕ) → x ≡ b → y ≡ l → (x ++ (codes "<" ++ y)) ++ codes ">" ≡ b ++ codes "<" ++ l ++ codes ">"
+bracketed x y b l e f = rw (e, f) (ap (λ s. s ++ codes ">") (sym (append_assoc b (codes "<") l)))
+
+instance-text : (t : Term) (b : List ℕ) → Prints t b false → (ts : List Term) (l : List ℕ) → PrintAll ts l → (c : Context)
+    → text_of (in_form left c (instance t (list_of ts))) ≡ b ++ codes "<" ++ l ++ codes ">"
+unfolding parts_in left_parts not_empty
+instance-text t b p ts l all c =
+    let ps = as_item left c t ∷ says "<" ∷ list_part first c (list_of ts) in
+    text_by left c (instance t (list_of ts)) (ps ++ (says ">" ∷ [])) (instance-is c t (list_of ts) p.opening)
+    ∙ text_append ps (says ">" ∷ [])
+    ∙ bracketed (text_of (in_form left c t)) (text_of (printed_by (list_part first c (list_of ts)))) b l (p.left_text c) (list-text c ts l all)
+
+instance-cost : (t : Term) (b : List ℕ) → Prints t b false → (ts : List Term) (l : List ℕ) → PrintAll ts l → (c : Context)
+    → cost_of (in_form left c (instance t (list_of ts))) ≤ cost_of (in_form left c t) + 3 + 4 * length l
+unfolding parts_in left_parts not_empty
+instance-cost t b p ts l all c =
+    let ps = as_item left c t ∷ says "<" ∷ list_part first c (list_of ts) in
+    omega (
+      arith,
+      cost_by left c (instance t (list_of ts)) (ps ++ (says ">" ∷ [])) (instance-is c t (list_of ts) p.opening),
+      cost_append ps (says ">" ∷ []),
+      list-cost c ts l all,
+    )
+
+-- A name with arguments prints them in brackets.
+pub instance-prints : (t : Term) (b : List ℕ) → Prints t b false → (ts : List Term) (l : List ℕ) → PrintAll ts l
+    → Prints (instance t (list_of ts)) (b ++ codes "<" ++ l ++ codes ">") false
+unfolding parts_in right_parts not_empty head head_with is_reference is_funarr is_empty is_open pack_length first_of is_function_type prefix_item
+    last_piece opening_text is_void
+instance-prints t b p ts l all = let i = instance t (list_of ts) in record {
+  left_text = instance-text t b p ts l all;
+  right_text = λ c. text_by right c i [] refl;
+  cost = λ c. omega (
+    arith,
+    p.cost c,
+    instance-cost t b p ts l all c,
+    cost_by right c i [] refl,
+    length-append (b ++ codes "<" ++ l) (codes ">"),
+    length-append (b ++ codes "<") l,
+    length-append b (codes "<"),
+  );
+  is_reference_head = λ c. refl;
+  is_funarr_head = λ c. refl;
+  filled = λ c. refl;
+  is_closed = rw (p.is_closed, list-closed ts l all) refl;
+  packless = λ scope. rw (p.packless scope, list-packless scope ts l all) refl;
+  no_function = refl;
+  as_prefix = λ c. refl;
+  opening = refl;
+  void = λ e. cc e;
+}
+
+-- Its class is named without them.
+pub instance-class : (t : Term) (b class : List ℕ) → Prints t b false → NamesClass t class → (ts : List Term) (l : List ℕ) → PrintAll ts l
+    → NamesClass (instance t (list_of ts)) class
+unfolding parts_in right_parts base_parts not_empty
+instance-class t b class p n ts l all = let i = instance t (list_of ts) in record {
+  base_text = λ c. text_by base c i (as_item base c t ∷ []) refl ∙ append-nil (text_of (in_form base c t)) ∙ n.base_text c;
+  base_cost = λ c. omega (
+    arith,
+    n.base_cost c,
+    ap length (p.left_text c),
+    instance-cost t b p ts l all c,
+    cost_by right c i [] refl,
+    cost_by base c i (as_item base c t ∷ []) refl,
+    ap length (instance-text t b p ts l all c),
+    length-append (b ++ codes "<" ++ l) (codes ">"),
+    length-append (b ++ codes "<") l,
+    length-append b (codes "<"),
+  );
+}

@@ -1,0 +1,300 @@
+-- Encodings of which the text is known, and the symbols that they are.
+use Rattle.std.proofs.Common.{◌≡◌, ◌≢◌, refl, ap, sym, ◌∙◌, ℕ, ◌*◌, ◌≤◌, List, [], ◌∷◌, ◌++◌, length, Bool, true, false, cond, ◌&&◌, arith, codes, length-append, append-nil, append_assoc, subst}
+use Rattle.std.proofs.lemmas.Bool.{false≢true}
+use Rattle.sym_print.specs.declared.detail.Detail.TheVariants.{Full}
+use Rattle.sym_print.specs.Unfold.{text}
+use Rattle.sym_print.specs.Unshared.{text_of, cost_of}
+use Rattle.cpp_grammar.specs.Term.{Qualifiers, RefQualifier, any_value, Term, symbol, function, object, special, builtin, nil, list, absent}
+use Rattle.cpp_grammar.specs.Scope.{has_return_type}
+use Rattle.cpp_grammar.specs.Texts.{look_up, special_texts}
+use Rattle.cpp_grammar.specs.Items.{root, full, left, right, first, closed}
+use Rattle.cpp_grammar.specs.Values.{Value, tree_of, qualifiers_of, ref_of}
+use Rattle.cpp_grammar.specs.Meaning.{is_void, is_nil, parameters, encoding_of}
+use Rattle.cpp_grammar.specs.Parts.{as_item, says, text_part, list_part, types_of, qualifier_text, ref_text, encoding_text, function_bare, function_full, full_parts, root_parts, left_parts, parts_in, not_empty}
+use Rattle.cpp_grammar.specs.Answer.{shown, root_item}
+use Rattle.cpp_direct.specs.Prints.{in_form, Prints, Shows, list_of, joined, PrintEach, PrintAll}
+use Rattle.cpp_direct.proofs.PrintedParts.{printed_by, prints_parts, text_by, cost_by, text_first, cost_first, text_append, cost_append, part-text, part-cost, length-filled}
+use Rattle.cpp_direct.proofs.PrintedLists.{list-text, list-cost, none-print}
+
+-- ## Functions
+
+signed_text : (x y z b l q : List ℕ) → x ≡ b → y ≡ l → z ≡ q → (x ++ (codes "(" ++ y)) ++ (codes ")" ++ z) ≡ b ++ codes "(" ++ l ++ codes ")" ++ q
+signed_text x y z b l q e f g =
+    rw (e, f, g) (ap (λ s. s ++ (codes ")" ++ q)) (sym (append_assoc b (codes "(") l)) ∙ sym (append_assoc (b ++ codes "(" ++ l) (codes ")") q))
+
+-- A function that has no return type prints its name, its parameters and its qualifiers.
+pub function-shows : (name : Term) (b : List ℕ) → Prints name b false → (ts : List Term) (l : List ℕ) → PrintAll ts l
+    → (q : Qualifiers) (ref : RefQualifier)
+    → Shows (function name q ref absent (list_of ts)) (b ++ codes "(" ++ l ++ codes ")" ++ encoding_text q ref)
+unfolding parts_in full_parts function_full function_bare not_empty
+function-shows name b p ts l all q ref =
+    let c = types_of name in
+    let f = function name q ref absent (list_of ts) in
+    let front = as_item left closed name ∷ says "(" ∷ list_part first c (list_of ts) in
+    let behind = says ")" ∷ text_part (encoding_text q ref) in
+    record {
+      shown_text = text_by full closed f (front ++ behind) refl ∙ text_append front behind
+          ∙ signed_text (text_of (in_form left closed name)) (text_of (printed_by (list_part first c (list_of ts))))
+          (text_of (printed_by (text_part (encoding_text q ref)))) b l (encoding_text q ref) (p.left_text closed)
+          (list-text c ts l all) (part-text (encoding_text q ref));
+      shown_cost = omega (
+        arith,
+        p.cost closed,
+        list-cost c ts l all,
+        cost_by full closed f (front ++ behind) refl,
+        cost_append front behind,
+        part-cost (encoding_text q ref),
+        length-append (b ++ codes "(" ++ l ++ codes ")") (encoding_text q ref),
+        length-append (b ++ codes "(" ++ l) (codes ")"),
+        length-append (b ++ codes "(") l,
+        length-append b (codes "("),
+      );
+    }
+
+absent-text : [] ≡ text_of (in_form left closed absent)
+unfolding parts_in left_parts not_empty
+absent-text = sym (text_by left closed absent [] refl)
+
+function_bare-shows : (name : Term) (q : Qualifiers) (ref : RefQualifier) (parameters : Term)
+    → in_form full closed (function name q ref absent parameters) ≡ printed_by (function_bare name q ref parameters)
+unfolding parts_in full_parts function_full
+function_bare-shows name q ref parameters = prints_parts full closed (function name q ref absent parameters)
+
+full-returned : (name : Term) (q : Qualifiers) (ref : RefQualifier) (returned parameters : Term) → returned ≢ absent
+    → function_full name q ref returned parameters
+    ≡ (as_item left (types_of name) returned ∷ says " " ∷ [])
+    ++ function_bare name q ref parameters ++ (as_item right (types_of name) returned ∷ [])
+unfolding function_full
+full-returned name q ref absent parameters there = absurd (there refl)
+full-returned name q ref _ parameters there = refl
+
+-- what prints isn't what stands where no return type is
+pub prints-there : (t : Term) (b : List ℕ) (r : Bool) → Prints t b r → t ≢ absent
+prints-there t b r p same = go (subst (λ u. Prints u b r) same p)
+  where
+    go : Prints absent b r → ⊥
+    go p = absurd (omega (arith, p.cost closed, ap length (absent-text ∙ p.left_text closed)))
+
+returned_text : (x y z v b l q : List ℕ) → x ≡ v → y ≡ b ++ codes "(" ++ l ++ codes ")" ++ q → z ≡ []
+    → ((x ++ codes " ") ++ y) ++ (z ++ []) ≡ v ++ codes " " ++ (b ++ codes "(" ++ l ++ codes ")" ++ q)
+returned_text x y z v b l q e f g = rw (e, f, g) (append-nil (v ++ codes " " ++ (b ++ codes "(" ++ l ++ codes ")" ++ q)))
+
+-- A function with a return type prints it in front.
+pub returning-shows : (returned : Term) (v : List ℕ) (r : Bool) → Prints returned v r → (name : Term) (b : List ℕ) → Prints name b false
+    → (ts : List Term) (l : List ℕ) → PrintAll ts l → (q : Qualifiers) (ref : RefQualifier)
+    → Shows (function name q ref returned (list_of ts)) (v ++ codes " " ++ (b ++ codes "(" ++ l ++ codes ")" ++ encoding_text q ref))
+unfolding parts_in full_parts function_bare not_empty
+returning-shows returned v r pr name b p ts l all q ref =
+    let c = types_of name in
+    let f = function name q ref returned (list_of ts) in
+    let plain = function-shows name b p ts l all q ref in
+    let front = as_item left c returned ∷ says " " ∷ [] in
+    let bare = function_bare name q ref (list_of ts) in
+    let behind = as_item right c returned ∷ [] in
+    let whole = full-returned name q ref returned (list_of ts) (prints-there returned v r pr) in
+    let without = function_bare-shows name q ref (list_of ts) in
+    record {
+      shown_text = text_by full closed f (front ++ bare ++ behind) whole ∙ text_append (front ++ bare) behind
+          ∙ ap (λ s. s ++ text_of (printed_by behind)) (text_append front bare)
+          ∙ returned_text (text_of (in_form left c returned)) (text_of (printed_by bare)) (text_of (in_form right c returned))
+          v b l (encoding_text q ref) (pr.left_text c) (ap text_of (sym without) ∙ plain.shown_text) (pr.right_text c);
+      shown_cost = omega (
+        arith,
+        pr.cost c,
+        plain.shown_cost,
+        ap cost_of without,
+        cost_by full closed f (front ++ bare ++ behind) whole,
+        cost_append (front ++ bare) behind,
+        cost_append front bare,
+        length-append (v ++ codes " ") (b ++ codes "(" ++ l ++ codes ")" ++ encoding_text q ref),
+        length-append v (codes " "),
+      );
+    }
+
+-- Data print their name.
+pub object-shows : (name : Term) (b : List ℕ) → Prints name b false → (q : Qualifiers) (ref : RefQualifier)
+    → Shows (object name q ref) (b ++ encoding_text q ref)
+unfolding parts_in full_parts not_empty
+object-shows name b p q ref =
+    let ps = as_item left closed name ∷ text_part (encoding_text q ref) in
+    record {
+      shown_text = text_by full closed (object name q ref) ps refl
+          ∙ ap (λ s. s ++ text_of (printed_by (text_part (encoding_text q ref)))) (p.left_text closed)
+          ∙ ap (λ s. b ++ s) (part-text (encoding_text q ref));
+      shown_cost = omega (
+        arith,
+        p.cost closed,
+        cost_by full closed (object name q ref) ps refl,
+        part-cost (encoding_text q ref),
+        length-append b (encoding_text q ref),
+      );
+    }
+
+front_text : (x r k b : List ℕ) → x ≡ b → r ≡ [] → k ++ (x ++ (r ++ [])) ≡ k ++ b
+front_text x r k b e f = rw (e, f, append-nil b) refl
+
+-- What the compiler makes for a type prints what it is, and the type.
+pub special-shows : (letter : ℕ) → look_up (letter ∷ []) special_texts ≢ [] → (t : Term) (b : List ℕ) (r : Bool) → Prints t b r
+    → Shows (special letter t) (look_up (letter ∷ []) special_texts ++ b)
+unfolding parts_in full_parts not_empty
+special-shows letter filled t b r p =
+    let k = look_up (letter ∷ []) special_texts in
+    let behind = as_item left closed t ∷ as_item right closed t ∷ [] in
+    record {
+      shown_text = text_by full closed (special letter t) (text k ∷ behind) refl ∙ text_first k behind
+          ∙ front_text (text_of (in_form left closed t)) (text_of (in_form right closed t)) k b (p.left_text closed) (p.right_text closed);
+      shown_cost = omega (
+        arith,
+        p.cost closed,
+        cost_by full closed (special letter t) (text k ∷ behind) refl,
+        cost_first k behind,
+        length-filled k filled,
+        length-append k b,
+      );
+    }
+
+-- ## Which encoding a name and its items make
+
+parameters-same : (element rest : Term) → (is_void element ≡ true → is_nil rest ≡ true → ⊥) → parameters (list element rest) ≡ list element rest
+unfolding parameters
+parameters-same element rest apart = go (is_void element) (is_nil rest) refl refl
+  where
+    go : (a b : Bool) → is_void element ≡ a → is_nil rest ≡ b → elim (a && b) [ true ↦ nil | false ↦ list element rest ] ≡ list element rest
+    go true true e f = absurd (apart e f)
+    go true false e f = refl
+    go false b e f = refl
+
+-- elements that don't print the word void alone are the parameters
+pub parameters-kept : (ts : List Term) (l : List ℕ) → PrintAll ts l → l ≢ codes "void" → parameters (list_of ts) ≡ list_of ts
+unfolding parameters is_nil
+parameters-kept [] l all apart = refl
+parameters-kept (t ∷ u ∷ ts) l all apart = parameters-same t (list_of (u ∷ ts)) (λ e f. cc f)
+parameters-kept (t ∷ []) l all apart = parameters-same t nil (λ e f. go all.0 all.1 all.2 e)
+  where
+    go : (texts : List (List ℕ)) → PrintEach (t ∷ []) texts → joined texts ≡ l → is_void t ≡ true → ⊥
+    go [] each is e = elim each [ ]
+    go (b ∷ []) each is e = apart (sym is ∙ each.0.1.void e)
+    go (b ∷ c ∷ bs) each is e = elim each.1 [ ]
+
+-- a first element that isn't void is one too
+pub parameters-filled : (t : Term) (ts : List Term) → is_void t ≡ false → parameters (list_of (t ∷ ts)) ≡ list_of (t ∷ ts)
+parameters-filled t ts apart = parameters-same t (list_of ts) (λ e f. false≢true (sym apart ∙ e))
+
+-- A name with items is a function.
+pub encoding-function : (v : Value) (ts : List Term) → has_return_type (tree_of v) ≡ false → ts ≢ [] → parameters (list_of ts) ≡ list_of ts
+    → encoding_of v (list_of ts) ≡ function (tree_of v) (qualifiers_of v) (ref_of v) absent (list_of ts)
+unfolding encoding_of
+encoding-function v [] e filled kept = absurd (filled refl)
+encoding-function v (t ∷ ts) e filled kept = rw (e, encoding_of) (ap (function (tree_of v) (qualifiers_of v) (ref_of v) absent) kept)
+
+-- A name with a lone void is a function without parameters.
+pub encoding-void : (v : Value) → has_return_type (tree_of v) ≡ false
+    → encoding_of v (list_of (builtin (118 ∷ []) ∷ [])) ≡ function (tree_of v) (qualifiers_of v) (ref_of v) absent nil
+unfolding encoding_of parameters is_void is_nil
+encoding-void v e = rw (e, encoding_of) refl
+
+-- A name whose first item is its return type is a function of the others.
+pub encoding-returning : (v : Value) (t : Term) (ts : List Term) → has_return_type (tree_of v) ≡ true → parameters (list_of ts) ≡ list_of ts
+    → encoding_of v (list_of (t ∷ ts)) ≡ function (tree_of v) (qualifiers_of v) (ref_of v) t (list_of ts)
+unfolding encoding_of
+encoding-returning v t ts e kept = rw (e, encoding_of) (ap (function (tree_of v) (qualifiers_of v) (ref_of v) t) kept)
+
+-- With a lone void behind its return type it has no parameters.
+pub encoding-returning-void : (v : Value) (t : Term) → has_return_type (tree_of v) ≡ true
+    → encoding_of v (list_of (t ∷ builtin (118 ∷ []) ∷ [])) ≡ function (tree_of v) (qualifiers_of v) (ref_of v) t nil
+unfolding encoding_of parameters is_void is_nil
+encoding-returning-void v t e = rw (e, encoding_of) refl
+
+-- A name without items is data.
+pub encoding-object : (v : Value) → encoding_of v nil ≡ object (tree_of v) (qualifiers_of v) (ref_of v)
+unfolding encoding_of
+encoding-object v = refl
+
+-- The encoding of a name with items shows the name, the items and the qualifiers.
+pub function-encoded : (v : Value) (b : List ℕ) → Prints (tree_of v) b false → has_return_type (tree_of v) ≡ false
+    → (ts : List Term) (l : List ℕ) → ts ≢ [] → PrintAll ts l → parameters (list_of ts) ≡ list_of ts
+    → Shows (encoding_of v (list_of ts)) (b ++ codes "(" ++ l ++ codes ")" ++ encoding_text (qualifiers_of v) (ref_of v))
+function-encoded v b p e ts l filled all kept =
+    subst (λ f. Shows f (b ++ codes "(" ++ l ++ codes ")" ++ encoding_text (qualifiers_of v) (ref_of v))) (sym (encoding-function v ts e filled kept))
+    (function-shows (tree_of v) b p ts l all (qualifiers_of v) (ref_of v))
+
+none_bracketed : (b q : List ℕ) → b ++ codes "(" ++ [] ++ codes ")" ++ q ≡ b ++ codes "()" ++ q
+none_bracketed b q = ap (λ s. s ++ codes ")" ++ q) (append-nil (b ++ codes "(")) ∙ ap (λ s. s ++ q) (append_assoc b (codes "(") (codes ")"))
+
+-- With a lone void it shows no items.
+pub void-encoded : (v : Value) (b : List ℕ) → Prints (tree_of v) b false → has_return_type (tree_of v) ≡ false
+    → Shows (encoding_of v (list_of (builtin (118 ∷ []) ∷ []))) (b ++ codes "()" ++ encoding_text (qualifiers_of v) (ref_of v))
+void-encoded v b p e =
+    let q = encoding_text (qualifiers_of v) (ref_of v) in
+    subst (λ f. Shows f (b ++ codes "()" ++ q)) (sym (encoding-void v e))
+    (subst (Shows (function (tree_of v) (qualifiers_of v) (ref_of v) absent nil))
+    (none_bracketed b q)
+    (function-shows (tree_of v) b p [] [] none-print (qualifiers_of v) (ref_of v)))
+
+-- Without items it shows the name.
+pub object-encoded : (v : Value) (b : List ℕ) → Prints (tree_of v) b false
+    → Shows (encoding_of v nil) (b ++ encoding_text (qualifiers_of v) (ref_of v))
+object-encoded v b p = subst (λ f. Shows f (b ++ encoding_text (qualifiers_of v) (ref_of v))) (sym (encoding-object v))
+    (object-shows (tree_of v) b p (qualifiers_of v) (ref_of v))
+
+-- With a return type it shows that in front.
+pub returning-encoded : (v : Value) (b : List ℕ) → Prints (tree_of v) b false → has_return_type (tree_of v) ≡ true
+    → (t : Term) (a : List ℕ) (r : Bool) → Prints t a r → (ts : List Term) (l : List ℕ) → PrintAll ts l → parameters (list_of ts) ≡ list_of ts
+    → Shows (encoding_of v (list_of (t ∷ ts))) (a ++ codes " " ++ (b ++ codes "(" ++ l ++ codes ")" ++ encoding_text (qualifiers_of v) (ref_of v)))
+returning-encoded v b p e t a r pt ts l all kept =
+    subst (λ f. Shows f (a ++ codes " " ++ (b ++ codes "(" ++ l ++ codes ")" ++ encoding_text (qualifiers_of v) (ref_of v))))
+    (sym (encoding-returning v t ts e kept)) (returning-shows t a r pt (tree_of v) b p ts l all (qualifiers_of v) (ref_of v))
+
+-- A lone void behind it shows no items.
+pub returning-void-encoded : (v : Value) (b : List ℕ) → Prints (tree_of v) b false → has_return_type (tree_of v) ≡ true
+    → (t : Term) (a : List ℕ) (r : Bool) → Prints t a r
+    → Shows (encoding_of v (list_of (t ∷ builtin (118 ∷ []) ∷ [])))
+    (a ++ codes " " ++ (b ++ codes "()" ++ encoding_text (qualifiers_of v) (ref_of v)))
+returning-void-encoded v b p e t a r pt =
+    let q = encoding_text (qualifiers_of v) (ref_of v) in
+    subst (λ f. Shows f (a ++ codes " " ++ (b ++ codes "()" ++ q))) (sym (encoding-returning-void v t e))
+    (subst (λ s. Shows (function (tree_of v) (qualifiers_of v) (ref_of v) t nil) (a ++ codes " " ++ s)) (none_bracketed b q)
+    (returning-shows t a r pt (tree_of v) b p [] [] none-print (qualifiers_of v) (ref_of v)))
+
+-- The qualifiers of a name: const, or none.
+pub const-text : (const : Bool) → encoding_text (record { restrict = false; volatile = false; const = const }) any_value ≡ cond const (codes " const") []
+unfolding encoding_text qualifier_text ref_text
+const-text true = refl
+const-text false = refl
+
+-- ## Symbols
+
+-- A symbol shows its encoding.
+pub symbol-text : (e : Term) (b : List ℕ) → Shows e b → text_of (shown Full (root_item (symbol e []))) ≡ b
+unfolding parts_in root_parts not_empty
+symbol-text e b s = text_by root closed (symbol e []) (as_item full closed e ∷ []) refl ∙ append-nil (text_of (in_form full closed e)) ∙ s.shown_text
+
+-- It costs at most four for each byte of the text.
+pub symbol-cost : (e : Term) (b : List ℕ) → Shows e b → cost_of (shown Full (root_item (symbol e []))) ≤ 4 * length b
+unfolding parts_in root_parts not_empty
+symbol-cost e b s = omega (arith, s.shown_cost, cost_by root closed (symbol e []) (as_item full closed e ∷ []) refl)
+
+suffixed : (x b s : List ℕ) → x ≡ b → x ++ (codes " (" ++ (s ++ (codes ")" ++ []))) ≡ b ++ codes " (" ++ s ++ codes ")"
+suffixed x b s e = rw e (sym (append_assoc b (codes " (") (s ++ codes ")")) ∙ sym (append_assoc (b ++ codes " (") s (codes ")")))
+
+-- With a suffix it shows that too.
+pub suffix-text : (e : Term) (b : List ℕ) → Shows e b → (d : ℕ) (rest : List ℕ)
+    → text_of (shown Full (root_item (symbol e (d ∷ rest)))) ≡ b ++ codes " (" ++ (d ∷ rest) ++ codes ")"
+unfolding parts_in root_parts not_empty
+suffix-text e b s d rest =
+    text_by root closed (symbol e (d ∷ rest)) (as_item full closed e ∷ says " (" ∷ text (d ∷ rest) ∷ says ")" ∷ []) refl
+    ∙ suffixed (text_of (in_form full closed e)) b (d ∷ rest) s.shown_text
+
+-- That costs at most four for each byte of the text as well.
+pub suffix-cost : (e : Term) (b : List ℕ) → Shows e b → (d : ℕ) (rest : List ℕ)
+    → cost_of (shown Full (root_item (symbol e (d ∷ rest)))) ≤ 4 * length (b ++ codes " (" ++ (d ∷ rest) ++ codes ")")
+unfolding parts_in root_parts not_empty
+suffix-cost e b s d rest =
+    omega (
+      arith,
+      s.shown_cost,
+      cost_by root closed (symbol e (d ∷ rest)) (as_item full closed e ∷ says " (" ∷ text (d ∷ rest) ∷ says ")" ∷ []) refl,
+      length-append (b ++ codes " (" ++ (d ∷ rest)) (codes ")"),
+      length-append (b ++ codes " (") (d ∷ rest),
+      length-append b (codes " ("),
+    )

@@ -1,0 +1,169 @@
+-- Arguments that are no types: booleans and integers.
+use Rattle.std.proofs.Common.{◌≡◌, ◌≢◌, refl, ap, sym, ◌∙◌, ℕ, ◌+◌, ◌≤◌, List, [], ◌∷◌, ◌++◌, length, Bool, true, false, cond, nat_eq, arith, codes, length-append, append_assoc}
+use Rattle.sym_print.specs.Unfold.{PartOf, text}
+use Rattle.sym_print.specs.Unshared.{text_of, cost_of}
+use Rattle.cpp_grammar.specs.Term.{Signed, Term, builtin, integer, boolean}
+use Rattle.cpp_grammar.specs.Scope.{is_open, pack_length}
+use Rattle.cpp_grammar.specs.References.{is_function_type}
+use Rattle.cpp_grammar.specs.Texts.{look_up, builtin_texts, literal_endings}
+use Rattle.cpp_grammar.specs.Items.{left, right, Context, Item, head_with, head, is_reference, is_funarr, is_empty}
+use Rattle.cpp_grammar.specs.Values.{normal}
+use Rattle.cpp_grammar.specs.Meaning.{is_void}
+use Rattle.cpp_grammar.specs.Parts.{as_item, says, text_part, sign_part, is_plain_integer, builtin_code, integer_parts, prefix_item, last_piece, opening_text, left_parts, right_parts, parts_in, not_empty}
+use Rattle.cpp_direct.specs.Prints.{in_form, Prints, sign_text}
+use Rattle.cpp_direct.proofs.PrintedParts.{printed_by, text_by, cost_by, text_alone, text_first, cost_first, text_append, cost_append, part-text, part-cost, length-filled}
+use Rattle.cpp_direct.proofs.PrintedNames.{builtin-prints}
+
+boolean-filled : (b : Bool) → 2 ≤ length {A = ℕ} (cond b (codes "true") (codes "false"))
+boolean-filled true = omega arith
+boolean-filled false = omega arith
+
+-- A boolean prints its word.
+pub boolean-prints : (b : Bool) → Prints (boolean b) (cond b (codes "true") (codes "false")) false
+unfolding parts_in left_parts right_parts not_empty head head_with is_reference is_funarr is_empty is_open pack_length is_function_type prefix_item
+    last_piece opening_text is_void
+boolean-prints b = let t = boolean b in let w : List ℕ = cond b (codes "true") (codes "false") in record {
+  left_text = λ c. text_by left c t (text w ∷ []) refl ∙ text_alone w;
+  right_text = λ c. text_by right c t [] refl;
+  cost = λ c. omega (arith, boolean-filled b, cost_first w [], cost_by left c t (text w ∷ []) refl, cost_by right c t [] refl);
+  is_reference_head = λ c. refl;
+  is_funarr_head = λ c. refl;
+  filled = λ c. refl;
+  is_closed = refl;
+  packless = λ scope. refl;
+  no_function = refl;
+  as_prefix = λ c. refl;
+  opening = refl;
+  void = λ e. cc e;
+}
+
+-- ## Signs and digits
+
+sign-text : (n : Signed) → text_of (printed_by (sign_part n)) ≡ sign_text n
+unfolding sign_part not_empty
+sign-text n = go n.negative
+  where
+    go : (b : Bool) → text_of (printed_by (cond b (says "-" ∷ []) [])) ≡ cond b (codes "-") []
+    go true = refl
+    go false = refl
+
+sign-cost : (n : Signed) → cost_of (printed_by (sign_part n)) ≡ 1 + length (sign_text n)
+unfolding sign_part not_empty
+sign-cost n = go n.negative
+  where
+    go : (b : Bool) → cost_of (printed_by (cond b (says "-" ∷ []) [])) ≡ 1 + length {A = ℕ} (cond b (codes "-") [])
+    go true = omega arith
+    go false = omega arith
+
+-- There are digits where there were.
+pub normal-filled : (digits : List ℕ) → digits ≢ [] → normal digits ≢ []
+unfolding normal
+normal-filled [] e = e
+normal-filled (d ∷ []) e = λ f. cc f
+normal-filled (d ∷ c ∷ ds) e = go (nat_eq d 48) (normal-filled (c ∷ ds) (λ f. cc f))
+  where
+    go : (zero_first : Bool) → normal (c ∷ ds) ≢ [] → ◌≢◌ {A = List ℕ} (elim zero_first [ true ↦ normal (c ∷ ds) | false ↦ d ∷ c ∷ ds ]) []
+    go true behind = behind
+    go false behind = λ f. cc f
+
+-- ## Integers
+
+plain-is : (c : Context) (t : Term) (n : Signed) → is_plain_integer t ≡ true
+    → integer_parts c t n ≡ sign_part n ++ (text n.digits ∷ text_part (look_up (builtin_code t) literal_endings))
+unfolding integer_parts
+plain-is c t n e = rw (e, integer_parts) refl
+
+cast-is : (c : Context) (t : Term) (n : Signed) → is_plain_integer t ≡ false
+    → integer_parts c t n ≡ (says "(" ∷ as_item left c t ∷ as_item right c t ∷ says ")" ∷ []) ++ sign_part n ++ (text n.digits ∷ [])
+unfolding integer_parts
+cast-is c t n e = rw (e, integer_parts) refl
+
+three : (x y z s d e : List ℕ) → x ≡ s → y ≡ d ++ z → z ≡ e → x ++ y ≡ s ++ d ++ e
+three x y z s d e f g h = rw (f, g, h) (sym (append_assoc s d e))
+
+-- An integer of a type that needs no cast prints its sign, its digits and the ending of its type.
+pub plain-integer-prints : (letter : ℕ) → is_plain_integer (builtin (letter ∷ [])) ≡ true → (n : Signed) → n.digits ≢ []
+    → Prints (integer (builtin (letter ∷ [])) n) (sign_text n ++ n.digits ++ look_up (letter ∷ []) literal_endings) false
+unfolding parts_in left_parts right_parts builtin_code not_empty head head_with is_reference is_funarr is_empty is_open pack_length
+    is_function_type prefix_item last_piece opening_text is_void
+plain-integer-prints letter plain n filled =
+    let t = builtin (letter ∷ []) in
+    let i = integer t n in
+    let ending = look_up (letter ∷ []) literal_endings in
+    let behind = text n.digits ∷ text_part ending in
+    record {
+      left_text = λ c. text_by left c i (sign_part n ++ behind) (plain-is c t n plain) ∙ text_append (sign_part n) behind
+          ∙ three (text_of (printed_by (sign_part n))) (text_of (printed_by behind)) (text_of (printed_by (text_part ending)))
+          (sign_text n) n.digits ending (sign-text n) (text_first n.digits (text_part ending)) (part-text ending);
+      right_text = λ c. text_by right c i [] refl;
+      cost = λ c. omega (
+        arith,
+        cost_by left c i (sign_part n ++ behind) (plain-is c t n plain),
+        cost_append (sign_part n) behind,
+        sign-cost n,
+        cost_first n.digits (text_part ending),
+        part-cost ending,
+        cost_by right c i [] refl,
+        length-filled n.digits filled,
+        length-append (sign_text n ++ n.digits) ending,
+        length-append (sign_text n) n.digits,
+      );
+      is_reference_head = λ c. refl;
+      is_funarr_head = λ c. refl;
+      filled = λ c. refl;
+      is_closed = refl;
+      packless = λ scope. refl;
+      no_function = refl;
+      as_prefix = λ c. refl;
+      opening = refl;
+      void = λ e. cc e;
+    }
+
+cast_text : (x r y z b s d : List ℕ) → x ≡ b → r ≡ [] → y ≡ s → z ≡ d
+    → ((codes "(" ++ (x ++ (r ++ codes ")"))) ++ y) ++ z ≡ codes "(" ++ b ++ codes ")" ++ s ++ d
+cast_text x r y z b s d e f g h = rw (e, f, g, h) (ap (λ u. u ++ s ++ d) (sym (append_assoc (codes "(") b (codes ")"))))
+
+-- An integer of another type prints its type in front.
+pub cast-integer-prints : (letter : ℕ) → is_plain_integer (builtin (letter ∷ [])) ≡ false → look_up (letter ∷ []) builtin_texts ≢ []
+    → (n : Signed) → n.digits ≢ []
+    → Prints (integer (builtin (letter ∷ [])) n) (codes "(" ++ look_up (letter ∷ []) builtin_texts ++ codes ")" ++ sign_text n ++ n.digits) false
+unfolding parts_in left_parts right_parts not_empty head head_with is_reference is_funarr is_empty is_open pack_length is_function_type prefix_item
+    last_piece opening_text is_void
+cast-integer-prints letter cast there n filled =
+    let t = builtin (letter ∷ []) in
+    let i = integer t n in
+    let b = look_up (letter ∷ []) builtin_texts in
+    let p = builtin-prints letter there in
+    let front : Context → List (PartOf Item) = λ c. says "(" ∷ as_item left c t ∷ as_item right c t ∷ says ")" ∷ [] in
+    record {
+      left_text = λ c. text_by left c i (front c ++ sign_part n ++ (text n.digits ∷ [])) (cast-is c t n cast)
+          ∙ text_append (front c ++ sign_part n) (text n.digits ∷ [])
+          ∙ ap (λ u. u ++ text_of (printed_by (text n.digits ∷ []))) (text_append (front c) (sign_part n))
+          ∙ cast_text (text_of (in_form left c t)) (text_of (in_form right c t)) (text_of (printed_by (sign_part n)))
+          (text_of (printed_by (text n.digits ∷ []))) b (sign_text n) n.digits (p.left_text c) (p.right_text c) (sign-text n) (text_alone n.digits);
+      right_text = λ c. text_by right c i [] refl;
+      cost = λ c. omega (
+        arith,
+        p.cost c,
+        cost_by left c i (front c ++ sign_part n ++ (text n.digits ∷ [])) (cast-is c t n cast),
+        cost_append (front c ++ sign_part n) (text n.digits ∷ []),
+        cost_append (front c) (sign_part n),
+        sign-cost n,
+        cost_first n.digits [],
+        cost_by right c i [] refl,
+        length-filled n.digits filled,
+        length-append (codes "(" ++ b ++ codes ")" ++ sign_text n) n.digits,
+        length-append (codes "(" ++ b ++ codes ")") (sign_text n),
+        length-append (codes "(" ++ b) (codes ")"),
+        length-append (codes "(") b,
+      );
+      is_reference_head = λ c. refl;
+      is_funarr_head = λ c. refl;
+      filled = λ c. refl;
+      is_closed = refl;
+      packless = λ scope. refl;
+      no_function = refl;
+      as_prefix = λ c. refl;
+      opening = refl;
+      void = λ e. cc e;
+    }

@@ -1,0 +1,543 @@
+-- A writer reads a type, or the first bytes of one.
+use Rattle.std.proofs.Common.{◌≡◌, ◌≢◌, ◌⊎◌, inl, inr, ℕ, ◌+◌, ◌-◌, ◌≤◌, List, [], ◌∷◌, ◌++◌, length, take, drop, reverse, slice_get, Bool, true, false, ◌&&◌, nat_eq, Option, Some, None, codes, refl, ap, sym, subst, ◌∙◌, arith, append_assoc, append-nil, if◌then◌else◌}
+use Rattle.std.proofs.lemmas.List.{length-append, reverse-reverse}
+use Rattle.std.proofs.Math.Seq.{take-append_seam}
+use Rattle.std.specs.Option.{OnSome, IfSome}
+use Rattle.std.specs.Bool.{◌==◌}
+use Rattle.std.proofs.lemmas.Bool.{false≢true, eqb-true, and_parts}
+use Rattle.sym_core.specs.declared.NumberKind.TheVariants.{Seq36}
+use Rattle.sym_core.specs.Value.{counted_value}
+use Rattle.cpp_grammar.specs.declared.kind.Kind.{Kind}
+use Rattle.cpp_grammar.specs.Grammar.{among, may_be_empty}
+use Rattle.cpp_grammar.specs.Term.{Term, alone, in_std, abbreviation, source, builtin, pointer, lvalue, rvalue}
+use Rattle.cpp_grammar.specs.Texts.{Naming, look_up, builtin_texts, abbreviation_texts, same_bytes}
+use Rattle.cpp_grammar.specs.Parts.{source_text}
+use Rattle.cpp_grammar.specs.Values.{State, tree}
+use Rattle.cpp_grammar.specs.Between.{after, inside, no_items}
+use Rattle.cpp_direct.specs.Bytes.{is_builtin, is_abbreviated}
+use Rattle.cpp_direct.specs.declared.open.Candidate.{Candidate}
+use Rattle.cpp_direct.specs.declared.open.Open.{Open}
+use Rattle.cpp_direct.specs.declared.open.Open.TheVariants as opens
+use Rattle.cpp_direct.specs.declared.open.Purpose.TheVariants as purposes
+use Rattle.cpp_direct.specs.declared.open.Step.{Step}
+use Rattle.cpp_direct.specs.declared.open.Step.TheVariants as steps
+use Rattle.cpp_direct.specs.declared.direct.Direct.{Direct}
+use Rattle.cpp_direct.specs.Holes.{StandsAt, Comes, Expects, IsNameAt, IsSeqAt, TypeNamed, with_candidate, unless_listed}
+use Rattle.cpp_direct.specs.HolesOfTypes.{IsQualifiable, TypeOpens}
+use Rattle.cpp_direct.specs.Prints.{Prints}
+use Rattle.cpp_direct.specs.Stands.{AreCandidates, Marks, Stands, IsWriting}
+use Rattle.cpp_direct.specs.Ways.{AwaitsType, AwaitsNest, IsTypeNamed, AwaitsMark}
+use Rattle.cpp_direct.specs.Written.{Reads, added, added_unless}
+use Rattle.cpp_direct.proofs.Kept.{piece-found, candidates-stay, candidates-added, candidates-read, candidate-found, reverse-last, last-reversed}
+use Rattle.cpp_direct.proofs.Moves.{expects-empty, stands-join}
+use Rattle.cpp_direct.proofs.MovesOfLists.{arguments-open}
+use Rattle.cpp_direct.proofs.MovesOfTypes.{builtin-comes, pointer-opens, lvalue-opens, rvalue-opens, const-opens, source-opens, std-opens, abbreviation-opens, substitution-opens, nested-type-opens}
+use Rattle.cpp_direct.proofs.PrintedLists.{none-print}
+use Rattle.cpp_direct.proofs.PrintedNames.{source-prints, std-prints, abbreviation-prints, builtin-prints}
+
+-- ## What calls give
+
+-- a byte that is this one stands there
+pub there : (s : List ℕ) (at b d : ℕ) → b ≡ d → 1 ≤ d → (b ≢ 0 → StandsAt s at (b ∷ [])) → StandsAt s at (d ∷ [])
+there s at b d is some stands = subst (λ k. StandsAt s at (k ∷ [])) is (stands (λ z. omega (arith, is, some, z)))
+
+-- a text that isn't empty
+pub some-text : (text same : List ℕ) → text ≡ same → false ≡ (length text == 0) → same ≢ []
+some-text text same is filled none = false≢true (filled ∙ ap (λ l. length l == 0) (is ∙ none))
+
+-- a step that is this one, if there is one
+pub by-step : (o : Option Step) (step : Step) (P : Step → Type 0) → IfSome o (λ next. next ≡ step) → (o ≡ Some step → P step) → IfSome o P
+by-step None step P is make = tt
+by-step (Some next) step P is make = subst P (sym is) (make (ap Some is))
+
+-- what holds if there is something
+pub given : (A : Type 0) (o : Option Step) (step : Step) → o ≡ Some step → OnSome o A → A
+given A o step is have = subst (λ x. OnSome x A) is have
+
+-- what is open without its last
+pub popped : (xs ys rest : List Open) (x : Open) (n : ℕ) → n ≡ length xs → reverse xs ≡ x ∷ rest → ys ≡ take (n - 1) xs → reverse ys ≡ rest
+popped xs ys rest x n size e is =
+    let whole : xs ≡ reverse rest ++ x ∷ [] = last-reversed xs rest x e in
+    let less : n - 1 ≡ length (reverse rest) = omega (arith, size, ap length whole, length-append (reverse rest) (x ∷ [])) in
+    ap reverse (is ∙ ap (λ m. take m xs) less ∙ ap (λ l. take (length (reverse rest)) l) whole ∙ take-append_seam (reverse rest) (x ∷ []))
+    ∙ reverse-reverse rest
+
+-- ## Marks
+
+-- a type ends with its mark
+pub mark-done : (s : List ℕ) (old new : Direct) (mark : List ℕ) (from : ℕ) (r : Bool) (a : AwaitsMark s old mark from r)
+    → reverse new.waiting.items ≡ a.rest → new.text.items ≡ old.text.items ++ mark
+    → new.candidates.items ≡ old.candidates.items ++ record { from = from; to = length new.text.items; is_reference = r } ∷ []
+    → new.at ≡ old.at → IsWriting s new (steps.Value r)
+mark-done s old new mark from r a waits text candidates at =
+    let written : new.text.items ≡ a.front ++ (a.bytes ++ mark)
+    = text ∙ ap (λ l. l ++ mark) a.written ∙ append_assoc a.front a.bytes mark in
+    let state : State = with_candidate a.encoding a.made a.state in
+    record {
+      state = state;
+      candidates = subst (λ l. AreCandidates new.text.items l state.candidates) (sym candidates)
+          (candidates-added new.text.items old.candidates.items a.state.candidates a.front (a.bytes ++ mark) from a.made a.encoding r
+          (subst (λ l. AreCandidates l old.candidates.items a.state.candidates) (sym text)
+          (candidates-stay old.text.items mark old.candidates.items a.state.candidates a.candidates)) written a.from_is a.prints);
+      is_before = (
+        a.outer,
+        a.made,
+        a.front,
+        a.bytes ++ mark,
+        written,
+        a.prints,
+        subst (λ k. Comes s a.outer (tree a.made true) k state) (sym at) a.comes,
+        subst (λ l. Stands s l a.outer a.front) (sym waits) a.stands,
+      );
+    }
+
+-- the same, by what the calls give
+pub mark-answer : (s : List ℕ) (old mid new : Direct) (mark : List ℕ) (from : ℕ) (r : Bool) (a : AwaitsMark s old mark from r)
+    → reverse mid.waiting.items ≡ a.rest → mid.text.items ≡ old.text.items ++ mark → mid.candidates ≡ old.candidates → mid.at ≡ old.at
+    → new.candidates.items ≡ added mid from r → new.text ≡ mid.text → new.waiting ≡ mid.waiting → new.at ≡ mid.at → IsWriting s new (steps.Value r)
+mark-answer s old mid new mark from r a waits text candidates at more same_text same_waits same_at =
+    mark-done s old new mark from r a (ap (λ v. reverse v.items) same_waits ∙ waits) (ap (λ v. v.items) same_text ∙ text)
+    (more ∙ ap (λ v. v.items ++ record { from = from; to = length mid.text.items; is_reference = r } ∷ []) candidates
+    ∙ ap (λ v. old.candidates.items ++ record { from = from; to = length v.items; is_reference = r } ∷ []) (sym same_text))
+    (same_at ∙ at)
+
+-- ## Names of types
+
+named-candidates : (s : List ℕ) (old new : Direct) (from : ℕ) (listed r : Bool) (a : IsTypeNamed s old from listed r)
+    → new.candidates.items ≡ added_unless old listed from
+    → AreCandidates old.text.items new.candidates.items (unless_listed listed a.around.encoding a.own a.state).candidates
+named-candidates s old new from true r a candidates =
+    subst (λ l. AreCandidates old.text.items l a.state.candidates) (sym candidates) a.candidates
+named-candidates s old new from false r a candidates =
+    let state : State = with_candidate a.around.encoding a.own a.state in
+    subst (λ l. AreCandidates old.text.items l state.candidates) (sym candidates)
+    (candidates-added old.text.items old.candidates.items a.state.candidates a.front a.bytes from a.own a.around.encoding false a.candidates a.written
+    a.from_is (subst (λ b. Prints a.own a.bytes b) (a.no_reference refl) a.prints))
+
+-- nothing stands behind the name of a type
+pub bare-done : (s : List ℕ) (old new : Direct) (from : ℕ) (listed r : Bool) → IsTypeNamed s old from listed r
+    → new.waiting.items ≡ old.waiting.items → new.text.items ≡ old.text.items → new.candidates.items ≡ added_unless old listed from
+    → new.at ≡ old.at → IsWriting s new (steps.Value r)
+unfolding may_be_empty
+bare-done s old new from listed r a waits text candidates at =
+    let state : State = unless_listed listed a.around.encoding a.own a.state in
+    record {
+      state = state;
+      candidates = subst (λ l. AreCandidates l new.candidates.items state.candidates) (sym text)
+          (named-candidates s old new from listed r a candidates);
+      is_before = (
+        a.outer,
+        a.own,
+        a.front,
+        a.bytes,
+        text ∙ a.written,
+        a.prints,
+        subst (λ k. Comes s a.outer (tree a.own true) k state) (sym at) (a.named.bare old.at a.state a.prints.no_function
+            (expects-empty s Kind.MaybeArguments (after a.own listed a.around) a.named.inner old.at a.state a.named.awaits refl)),
+        subst (λ l. Stands s (reverse l) a.outer a.front) (sym waits) a.stands,
+      );
+    }
+
+-- and arguments do
+pub argued-done : (s : List ℕ) (old new : Direct) (from : ℕ) (listed : Bool) → IsTypeNamed s old from listed false → StandsAt s old.at (73 ∷ [])
+    → new.waiting.items ≡ old.waiting.items ++ opens.TypeArguments from ∷ [] → new.text.items ≡ old.text.items ++ codes "<"
+    → new.candidates.items ≡ added_unless old listed from → new.at ≡ old.at + 1 → IsWriting s new (steps.List true)
+unfolding inside
+argued-done s old new from listed a stands waits text candidates at =
+    let state : State = unless_listed listed a.around.encoding a.own a.state in
+    let o = arguments-open s a.named.inner a.around a.own listed old.at a.state a.named.awaits stands in
+    record {
+      state = state;
+      candidates = subst (λ l. AreCandidates l new.candidates.items state.candidates) (sym text)
+          (candidates-stay old.text.items (codes "<") new.candidates.items state.candidates
+          (named-candidates s old new from listed false a candidates));
+      is_before = (
+        opens.TypeArguments from,
+        reverse old.waiting.items,
+        ap reverse waits ∙ reverse-last old.waiting.items (opens.TypeArguments from),
+        a.front,
+        a.own,
+        a.bytes,
+        [],
+        [],
+        (a.from_is, a.prints),
+        none-print,
+        text ∙ ap (λ l. l ++ codes "<") a.written ∙ sym (append-nil (a.front ++ a.bytes ++ codes "<")),
+        (λ e. refl),
+        (λ e. absurd (false≢true (sym e))),
+        (
+          inside a.around,
+          o.inner,
+          refl,
+          subst (λ k. Expects s Kind.ArgumentList (inside a.around) o.inner k state) (sym at) o.awaits,
+          λ l here now comes ended. (
+            a.outer,
+            a.around.encoding,
+            a.named.argued (no_items l) (here + 1) now (o.onward l here now comes ended),
+            a.stands,
+          ),
+        ),
+      );
+    }
+
+-- the same, by what the calls give
+pub argued-answer : (s : List ℕ) (old mid new : Direct) (from : ℕ) (listed r : Bool) (o : Option Step) → IsTypeNamed s old from listed r → r ≡ false
+    → mid.candidates.items ≡ added_unless old listed from → mid.text ≡ old.text → mid.waiting ≡ old.waiting → mid.at ≡ old.at
+    → StandsAt s mid.at (73 ∷ []) → IfSome o (λ next. next ≡ steps.List true)
+    → OnSome o (new.waiting.items ≡ mid.waiting.items ++ opens.TypeArguments from ∷ []) → OnSome o (new.at ≡ mid.at + 1)
+    → OnSome o (new.text.items ≡ mid.text.items ++ codes "<") → OnSome o (new.candidates ≡ mid.candidates) → IfSome o (IsWriting s new)
+argued-answer s old mid new from listed r o a none candidates text waits at stands is new_waits new_at new_text new_candidates =
+    by-step o (steps.List true) (IsWriting s new) is
+    (λ e. argued-done s old new from listed (subst (λ b. IsTypeNamed s old from listed b) none a) (subst (λ k. StandsAt s k (73 ∷ [])) at stands)
+    (given _ o (steps.List true) e new_waits ∙ ap (λ v. v.items ++ opens.TypeArguments from ∷ []) waits)
+    (given _ o (steps.List true) e new_text ∙ ap (λ v. v.items ++ codes "<") text)
+    (ap (λ v. v.items) (given _ o (steps.List true) e new_candidates) ∙ candidates)
+    (given _ o (steps.List true) e new_at ∙ ap (λ k. k + 1) at))
+
+-- ## Letters of tables
+
+code_in : List ℕ → List ℕ → Bool
+code_in (c ∷ []) cs = among cs c
+code_in _ cs = true
+
+codes_in : List Naming → List ℕ → Bool
+codes_in [] cs = true
+codes_in (n ∷ rest) cs = code_in n.code cs && codes_in rest cs
+
+letter-listed : (table : List Naming) (cs : List ℕ) (letter : ℕ) → codes_in table cs ≡ true → look_up (letter ∷ []) table ≢ []
+    → among cs letter ≡ true
+unfolding look_up same_bytes code_in codes_in
+letter-listed [] cs letter all has = absurd (has refl)
+letter-listed (n ∷ rest) cs letter all has =
+    let both = and_parts (code_in n.code cs) (codes_in rest cs) all in
+    go n.code both.0 (same_bytes (letter ∷ []) n.code) refl has (letter-listed rest cs letter both.1)
+  where
+    go : (code : List ℕ) → code_in code cs ≡ true → (b : Bool) → same_bytes (letter ∷ []) code ≡ b
+        → ◌≢◌ {A = List ℕ} (elim b [ true ↦ n.text | false ↦ look_up (letter ∷ []) rest ]) []
+        → (look_up (letter ∷ []) rest ≢ [] → among cs letter ≡ true)
+        → among cs letter ≡ true
+    go code has_code false same filled later = later filled
+    go [] has_code true same filled later = absurd (false≢true same)
+    go (c ∷ []) has_code true same filled later =
+        subst (λ l. among cs l ≡ true) (sym (eqb-true letter c ((and_parts (nat_eq letter c) true same).0))) has_code
+    go (c ∷ d ∷ ds) has_code true same filled later = absurd (false≢true ((and_parts (nat_eq letter c) false same).1))
+
+-- a letter with such a text is one of these
+pub builtin-listed : (letter : ℕ) → look_up (letter ∷ []) builtin_texts ≢ [] → is_builtin letter ≡ true
+unfolding is_builtin builtin_texts code_in codes_in among
+builtin-listed letter has = letter-listed builtin_texts (codes "abcdefghijlmnostvwxyz") letter refl has
+
+-- and so is one of an abbreviation
+pub abbreviation-listed : (letter : ℕ) → look_up (letter ∷ []) abbreviation_texts ≢ [] → is_abbreviated letter ≡ true
+unfolding is_abbreviated abbreviation_texts code_in codes_in among
+abbreviation-listed letter has = letter-listed abbreviation_texts (codes "abdios") letter refl has
+
+no-builtin : (letter : ℕ) → is_builtin letter ≡ true → letter ≢ 0
+unfolding is_builtin among
+no-builtin letter is none = absurd (false≢true (subst (λ l. is_builtin l ≡ true) none is))
+
+no-abbreviation : (letter : ℕ) → is_abbreviated letter ≡ true → letter ≢ 0
+unfolding is_abbreviated among
+no-abbreviation letter is none = absurd (false≢true (subst (λ l. is_abbreviated l ≡ true) none is))
+
+-- ## Types
+
+-- what is expected where a type is
+pub awaits-type : (s : List ℕ) (w : Direct) (is_plain : Bool) → IsWriting s w (if is_plain then steps.Plain else steps.Type) → AwaitsType s w
+awaits-type s w true p = record {
+  state = p.state;
+  candidates = p.candidates;
+  kind = Kind.Plain;
+  typed = tt;
+  around = p.is_before.1;
+  outside = p.is_before.2;
+  os = p.is_before.0;
+  awaits = p.is_before.3;
+  stands = p.is_before.4;
+}
+awaits-type s w false p = go p.is_before.3
+  where
+    go : Expects s Kind.Type p.is_before.1 p.is_before.0 w.at p.state ⊎ Expects s Kind.Item p.is_before.1 p.is_before.0 w.at p.state → AwaitsType s w
+    go (inl awaits) = record {
+      state = p.state;
+      candidates = p.candidates;
+      kind = Kind.Type;
+      typed = tt;
+      around = p.is_before.1;
+      outside = p.is_before.2;
+      os = p.is_before.0;
+      awaits = awaits;
+      stands = p.is_before.4;
+    }
+    go (inr awaits) = record {
+      state = p.state;
+      candidates = p.candidates;
+      kind = Kind.Item;
+      typed = tt;
+      around = p.is_before.1;
+      outside = p.is_before.2;
+      os = p.is_before.0;
+      awaits = awaits;
+      stands = p.is_before.4;
+    }
+
+-- a builtin type is read
+pub builtin-done : (s : List ℕ) (old new : Direct) (letter : ℕ) → AwaitsType s old → (letter ≢ 0 → StandsAt s old.at (letter ∷ []))
+    → look_up (letter ∷ []) builtin_texts ≢ [] → new.text.items ≡ old.text.items ++ look_up (letter ∷ []) builtin_texts
+    → new.candidates.items ≡ old.candidates.items → new.waiting.items ≡ old.waiting.items → new.at ≡ old.at + 1 → IsWriting s new (steps.Value false)
+builtin-done s old new letter a stands has text candidates waits at =
+    let is = builtin-listed letter has in
+    let bytes : List ℕ = look_up (letter ∷ []) builtin_texts in
+    record {
+      state = a.state;
+      candidates = subst (λ l. AreCandidates new.text.items l a.state.candidates) (sym candidates)
+          (subst (λ l. AreCandidates l old.candidates.items a.state.candidates) (sym text)
+          (candidates-stay old.text.items bytes old.candidates.items a.state.candidates a.candidates));
+      is_before = (
+        a.os,
+        builtin (letter ∷ []),
+        old.text.items,
+        bytes,
+        text,
+        builtin-prints letter has,
+        subst (λ k. Comes s a.os (tree (builtin (letter ∷ [])) true) k a.state) (sym at)
+            (builtin-comes s a.kind a.around a.os old.at a.state letter a.typed is a.awaits (stands (no-builtin letter is))),
+        subst (λ l. Stands s (reverse l) a.os old.text.items) (sym waits) a.stands,
+      );
+    }
+
+-- ## Names
+
+-- a name with its length is read
+pub source-named : (s : List ℕ) (old new : Direct) (from : ℕ) (name : List ℕ) → AwaitsType s old → IsNameAt s old.at name new.at → name ≢ []
+    → Reads old new (source_text name) → from ≡ length old.text.items → IsTypeNamed s new from false false
+source-named s old new from name a is some reads begins = record {
+  state = a.state;
+  candidates = candidates-read old new (source_text name) a.state.candidates reads a.candidates;
+  around = a.around;
+  outside = a.outside;
+  outer = a.os;
+  own = alone (source false name);
+  named = source-opens s a.kind a.around a.os old.at a.state name new.at a.typed a.outside a.awaits is;
+  front = old.text.items;
+  bytes = source_text name;
+  written = reads.text;
+  from_is = begins;
+  prints = source-prints false name some;
+  no_reference = λ e. refl;
+  stands = subst (λ v. Stands s (reverse v.items) a.os old.text.items) (sym reads.waiting) a.stands;
+}
+
+-- a name in std
+pub std-named : (s : List ℕ) (old mid new : Direct) (from : ℕ) (name : List ℕ) → AwaitsType s old → StandsAt s old.at (83 ∷ [])
+    → StandsAt s (old.at + 1) (116 ∷ [])
+    → mid.text.items ≡ old.text.items ++ codes "std::" → mid.candidates ≡ old.candidates → mid.waiting ≡ old.waiting → mid.at ≡ old.at + 1 + 1
+    → IsNameAt s mid.at name new.at → name ≢ [] → Reads mid new (source_text name) → from ≡ length old.text.items → IsTypeNamed s new from false false
+std-named s old mid new from name a s_stands t_stands text candidates waits at is some reads begins = record {
+  state = a.state;
+  candidates = candidates-read mid new (source_text name) a.state.candidates reads
+      (subst (λ v. AreCandidates mid.text.items v.items a.state.candidates) (sym candidates)
+      (subst (λ l. AreCandidates l old.candidates.items a.state.candidates) (sym text)
+      (candidates-stay old.text.items (codes "std::") old.candidates.items a.state.candidates a.candidates)));
+  around = a.around;
+  outside = a.outside;
+  outer = a.os;
+  own = in_std (source false name);
+  named = std-opens s a.kind a.around a.os old.at a.state name new.at a.typed a.awaits (stands-join s old.at (83 ∷ []) (116 ∷ []) s_stands t_stands)
+      (subst (λ k. IsNameAt s k name new.at) (omega (arith, at)) is);
+  front = old.text.items;
+  bytes = codes "std::" ++ source_text name;
+  written = reads.text ∙ ap (λ l. l ++ source_text name) text ∙ append_assoc old.text.items (codes "std::") (source_text name);
+  from_is = begins;
+  prints = std-prints false name some;
+  no_reference = λ e. refl;
+  stands = subst (λ v. Stands s (reverse v.items) a.os old.text.items) (sym (reads.waiting ∙ waits)) a.stands;
+}
+
+-- an abbreviation
+pub abbreviation-named : (s : List ℕ) (old new : Direct) (from letter : ℕ) → AwaitsType s old → StandsAt s old.at (83 ∷ [])
+    → (letter ≢ 0 → StandsAt s (old.at + 1) (letter ∷ [])) → look_up (letter ∷ []) abbreviation_texts ≢ []
+    → new.text.items ≡ old.text.items ++ look_up (letter ∷ []) abbreviation_texts → new.candidates ≡ old.candidates → new.waiting ≡ old.waiting
+    → new.at ≡ old.at + 1 + 1 → from ≡ length old.text.items → IsTypeNamed s new from true false
+abbreviation-named s old new from letter a s_stands stands has text candidates waits at begins =
+    let is = abbreviation-listed letter has in
+    let bytes : List ℕ = look_up (letter ∷ []) abbreviation_texts in
+    record {
+      state = a.state;
+      candidates = subst (λ v. AreCandidates new.text.items v.items a.state.candidates) (sym candidates)
+          (subst (λ l. AreCandidates l old.candidates.items a.state.candidates) (sym text)
+          (candidates-stay old.text.items bytes old.candidates.items a.state.candidates a.candidates));
+      around = a.around;
+      outside = a.outside;
+      outer = a.os;
+      own = abbreviation letter;
+      named = subst (λ k. TypeNamed s a.os a.around (abbreviation letter) true k a.state) (omega (arith, at))
+          (abbreviation-opens s a.kind a.around a.os old.at a.state letter a.typed is a.awaits
+          (stands-join s old.at (83 ∷ []) (letter ∷ []) s_stands (stands (no-abbreviation letter is))));
+      front = old.text.items;
+      bytes = bytes;
+      written = text;
+      from_is = begins;
+      prints = abbreviation-prints letter has;
+      no_reference = λ e. refl;
+      stands = subst (λ v. Stands s (reverse v.items) a.os old.text.items) (sym waits) a.stands;
+    }
+
+-- where a substitution's text stands
+pub substitution-stands : (s : List ℕ) (old : Direct) (n : ℕ) (k : Candidate) → AwaitsType s old → slice_get old.candidates.items n ≡ Some k
+    → (k.from ≤ k.to) × (k.to ≤ length old.text.items)
+substitution-stands s old n k a found =
+    let c = candidate-found old.text.items old.candidates.items a.state.candidates n k a.candidates found in
+    let piece = piece-found old.text.items c.2.front c.2.bytes c.2.back k.from k.to c.2.written c.2.from_is c.2.to_is in
+    (piece.0, piece.1)
+
+-- a substitution
+pub substitution-named : (s : List ℕ) (old new : Direct) (from : ℕ) (digits : List ℕ) (k : Candidate) → AwaitsType s old → StandsAt s old.at (83 ∷ [])
+    → IsSeqAt s (old.at + 1) digits new.at → slice_get old.candidates.items (counted_value Seq36 digits) ≡ Some k
+    → new.text.items ≡ old.text.items ++ take (k.to - k.from) (drop k.from old.text.items) → new.candidates ≡ old.candidates
+    → new.waiting ≡ old.waiting → from ≡ length old.text.items → IsTypeNamed s new from true k.is_reference
+substitution-named s old new from digits k a stands is found text candidates waits begins =
+    let c = candidate-found old.text.items old.candidates.items a.state.candidates (counted_value Seq36 digits) k a.candidates found in
+    let piece = piece-found old.text.items c.2.front c.2.bytes c.2.back k.from k.to c.2.written c.2.from_is c.2.to_is in
+    let written : new.text.items ≡ old.text.items ++ c.2.bytes = text ∙ ap (λ l. old.text.items ++ l) piece.2 in
+    record {
+      state = a.state;
+      candidates = subst (λ v. AreCandidates new.text.items v.items a.state.candidates) (sym candidates)
+          (subst (λ l. AreCandidates l old.candidates.items a.state.candidates) (sym written)
+          (candidates-stay old.text.items c.2.bytes old.candidates.items a.state.candidates a.candidates));
+      around = a.around;
+      outside = a.outside;
+      outer = a.os;
+      own = c.0.tree;
+      named = substitution-opens s a.kind a.around a.os old.at a.state digits new.at c.0 a.typed c.1 c.2.prints.is_closed c.2.prints.packless
+          a.awaits stands is;
+      front = old.text.items;
+      bytes = c.2.bytes;
+      written = written;
+      from_is = begins;
+      prints = c.2.prints;
+      no_reference = λ e. absurd (false≢true (sym e));
+      stands = subst (λ v. Stands s (reverse v.items) a.os old.text.items) (sym waits) a.stands;
+    }
+
+-- ## Types within types
+
+-- a type within another one is expected
+pub type-opened : (s : List ℕ) (old new : Direct) (o : Option Step) (entry : Open) (from : ℕ) (made : Term → Term) (a : AwaitsType s old)
+    (t : TypeOpens s Kind.Type a.os a.around made (old.at + 1) a.state) → from ≡ length old.text.items
+    → (Marks s (Stands s (reverse old.waiting.items)) t.inner old.text.items from made → Stands s (entry ∷ reverse old.waiting.items) t.inner old.text.items)
+    → IfSome o (λ next. next ≡ steps.Type) → OnSome o (new.waiting.items ≡ old.waiting.items ++ entry ∷ []) → OnSome o (new.at ≡ old.at + 1)
+    → new.text ≡ old.text → new.candidates ≡ old.candidates → IfSome o (IsWriting s new)
+type-opened s old new o entry from made a t begins stands is waits at text candidates = by-step o steps.Type (IsWriting s new) is (λ e.
+    record {
+      state = a.state;
+      candidates = subst (λ v. AreCandidates new.text.items v.items a.state.candidates) (sym candidates)
+          (subst (λ v. AreCandidates v.items old.candidates.items a.state.candidates) (sym text) a.candidates);
+      is_before = (
+        t.inner,
+        a.around,
+        a.outside,
+        inl (subst (λ k. Expects s Kind.Type a.around t.inner k a.state) (sym (given _ o steps.Type e at)) t.awaits),
+        subst (λ l. Stands s l t.inner new.text.items)
+            (sym (ap reverse (given _ o steps.Type e waits) ∙ reverse-last old.waiting.items entry))
+            (subst (λ v. Stands s (entry ∷ reverse old.waiting.items) t.inner v.items) (sym text)
+            (stands (a.os, a.around.encoding, begins, t.passes, a.stands))),
+      );
+    })
+
+-- behind a P
+pub pointer-opened : (s : List ℕ) (old new : Direct) (o : Option Step) (from : ℕ) → AwaitsType s old → from ≡ length old.text.items
+    → StandsAt s old.at (80 ∷ []) → IfSome o (λ next. next ≡ steps.Type) → OnSome o (new.waiting.items ≡ old.waiting.items ++ opens.Pointer from ∷ [])
+    → OnSome o (new.at ≡ old.at + 1) → new.text ≡ old.text → new.candidates ≡ old.candidates → IfSome o (IsWriting s new)
+pointer-opened s old new o from a begins stands is waits at text candidates =
+    type-opened s old new o (opens.Pointer from) from pointer a (pointer-opens s a.kind a.around a.os old.at a.state a.typed a.awaits stands) begins
+    (λ m. m) is waits at text candidates
+
+-- behind an R
+pub lvalue-opened : (s : List ℕ) (old new : Direct) (o : Option Step) (from : ℕ) → AwaitsType s old → from ≡ length old.text.items
+    → StandsAt s old.at (82 ∷ []) → IfSome o (λ next. next ≡ steps.Type) → OnSome o (new.waiting.items ≡ old.waiting.items ++ opens.Lvalue from ∷ [])
+    → OnSome o (new.at ≡ old.at + 1) → new.text ≡ old.text → new.candidates ≡ old.candidates → IfSome o (IsWriting s new)
+lvalue-opened s old new o from a begins stands is waits at text candidates =
+    type-opened s old new o (opens.Lvalue from) from lvalue a (lvalue-opens s a.kind a.around a.os old.at a.state a.typed a.awaits stands) begins
+    (λ m. m) is waits at text candidates
+
+-- and behind an O
+pub rvalue-opened : (s : List ℕ) (old new : Direct) (o : Option Step) (from : ℕ) → AwaitsType s old → from ≡ length old.text.items
+    → StandsAt s old.at (79 ∷ []) → IfSome o (λ next. next ≡ steps.Type) → OnSome o (new.waiting.items ≡ old.waiting.items ++ opens.Rvalue from ∷ [])
+    → OnSome o (new.at ≡ old.at + 1) → new.text ≡ old.text → new.candidates ≡ old.candidates → IfSome o (IsWriting s new)
+rvalue-opened s old new o from a begins stands is waits at text candidates =
+    type-opened s old new o (opens.Rvalue from) from rvalue a (rvalue-opens s a.kind a.around a.os old.at a.state a.typed a.awaits stands) begins
+    (λ m. m) is waits at text candidates
+
+-- a plain type is expected, where one with a qualifier may be
+plain-opened : (s : List ℕ) (old new : Direct) (o : Option Step) (from : ℕ) (a : AwaitsType s old) → IsQualifiable a.kind
+    → from ≡ length old.text.items
+    → StandsAt s old.at (75 ∷ []) → IfSome o (λ next. next ≡ steps.Plain) → OnSome o (new.waiting.items ≡ old.waiting.items ++ opens.Const from ∷ [])
+    → OnSome o (new.at ≡ old.at + 1) → new.text ≡ old.text → new.candidates ≡ old.candidates → IfSome o (IsWriting s new)
+plain-opened s old new o from a may begins stands is waits at text candidates =
+    let t = const-opens s a.kind a.around a.os old.at a.state may a.awaits stands in
+    by-step o steps.Plain (IsWriting s new) is (λ e.
+    record {
+      state = a.state;
+      candidates = subst (λ v. AreCandidates new.text.items v.items a.state.candidates) (sym candidates)
+          (subst (λ v. AreCandidates v.items old.candidates.items a.state.candidates) (sym text) a.candidates);
+      is_before = (
+        t.inner,
+        a.around,
+        a.outside,
+        subst (λ k. Expects s Kind.Plain a.around t.inner k a.state) (sym (given _ o steps.Plain e at))
+            t.awaits,
+        subst (λ l. Stands s l t.inner new.text.items)
+            (sym (ap reverse (given _ o steps.Plain e waits) ∙ reverse-last old.waiting.items (opens.Const from)))
+            (subst (λ v. Stands s (opens.Const from ∷ reverse old.waiting.items) t.inner v.items) (sym text)
+            (a.os, a.around.encoding, begins, t.passes, a.stands)),
+      );
+    })
+
+-- behind a K
+pub const-opened : (s : List ℕ) (old new : Direct) (o : Option Step) (from : ℕ) (is_plain : Bool)
+    → IsWriting s old (if is_plain then steps.Plain else steps.Type) → is_plain ≡ false → from ≡ length old.text.items
+    → StandsAt s old.at (75 ∷ []) → IfSome o (λ next. next ≡ steps.Plain) → OnSome o (new.waiting.items ≡ old.waiting.items ++ opens.Const from ∷ [])
+    → OnSome o (new.at ≡ old.at + 1) → new.text ≡ old.text → new.candidates ≡ old.candidates → IfSome o (IsWriting s new)
+const-opened s old new o from true p plain begins stands is waits at text candidates = absurd (false≢true (sym plain))
+const-opened s old new o from false p plain begins stands is waits at text candidates = go p.is_before.3
+  where
+    go : Expects s Kind.Type p.is_before.1 p.is_before.0 old.at p.state ⊎ Expects s Kind.Item p.is_before.1 p.is_before.0 old.at p.state
+        → IfSome o (IsWriting s new)
+    go (inl awaits) = plain-opened s old new o from (record {
+      state = p.state;
+      candidates = p.candidates;
+      kind = Kind.Type;
+      typed = tt;
+      around = p.is_before.1;
+      outside = p.is_before.2;
+      os = p.is_before.0;
+      awaits = awaits;
+      stands = p.is_before.4;
+    }) tt begins stands is waits at text candidates
+    go (inr awaits) = plain-opened s old new o from (record {
+      state = p.state;
+      candidates = p.candidates;
+      kind = Kind.Item;
+      typed = tt;
+      around = p.is_before.1;
+      outside = p.is_before.2;
+      os = p.is_before.0;
+      awaits = awaits;
+      stands = p.is_before.4;
+    }) tt begins stands is waits at text candidates
+
+-- a nested name is expected behind an N
+pub nest-awaited : (s : List ℕ) (old : Direct) (n : ℕ) → AwaitsType s old → n ≡ old.at + 1 → StandsAt s old.at (78 ∷ [])
+    → AwaitsNest s (record old { at = n }) purposes.Type
+nest-awaited s old n a at stands =
+    let t = nested-type-opens s a.kind a.around a.os old.at a.state a.typed a.awaits stands in
+    record {
+      state = a.state;
+      candidates = a.candidates;
+      around = a.around;
+      outside = a.outside;
+      outer = t.inner;
+      awaits = subst (λ k. Expects s Kind.Nest a.around t.inner k a.state) (sym at) t.awaits;
+      serves = (a.os, a.around.encoding, t.passes, a.stands);
+    }

@@ -1,0 +1,23 @@
+use Rattle.std.proofs.Common.{◌≢◌, ◌∷◌, ◌++◌, [], length, ◌==◌, ap, sym, ◌∙◌, refl}
+use Rattle.std.specs.Option.{is_some}
+use Rattle.std.proofs.lemmas.Bool.{false≢true}
+use Rattle.cpp_grammar.specs.Texts.{look_up, special_texts}
+use Rattle.cpp_direct.specs.declared.open.Open.TheVariants as opens
+use Rattle.cpp_direct.proofs.Begins.{special-begins, special-stands, pushed-alone}
+use Rattle.cpp_direct.proofs.direct.Direct.begin_special.Goals as goal
+
+-- src/direct.rt:123:5
+pub returns : goal.returns
+returns c =
+    let s = c.args.s.now in
+    let letter = c.byte_at.result in
+    let text_is = c.special_text-text.ensures in
+    let fresh = c.requires.fresh in
+    let wrote = c.in_ok-push.ensures in
+    let filled : look_up (letter ∷ []) special_texts ≢ [] = λ e. absurd (false≢true (c.if-is_empty.ensures ∙ ap (λ l. length l == 0) (text_is ∙ e))) in
+    special-begins s (record c.push.new.self { waiting = c.push-2.new.self; at = 4 }) letter c.requires.starts
+    (special-stands s letter filled c.requires.letter c.byte_at.ensures) refl
+    (wrote.text ∙ ap (λ l. l ++ c.special_text-text.result.now) fresh.no_text ∙ text_is) filled
+    (ap (λ v. v.items) wrote.candidates ∙ fresh.no_candidate)
+    (pushed-alone _ c.push.new.self.waiting.items opens.Special _ c.push-2.ensures.items (sym c.ok.ensures.variant ∙ ap is_some c.in_ok-ok.was)
+    (ap (λ v. v.items) wrote.waiting ∙ fresh.none_open))

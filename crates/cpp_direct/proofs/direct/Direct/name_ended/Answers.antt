@@ -1,0 +1,29 @@
+use Rattle.std.proofs.Common.{sym, ◌∙◌, subst, ap, refl, arith, ◌++◌, [], ◌∷◌}
+use Rattle.std.specs.Option.{is_some}
+use Rattle.cpp_direct.specs.declared.open.Open.TheVariants as opens
+use Rattle.cpp_direct.specs.Holes.{StandsAt}
+use Rattle.cpp_direct.specs.Ways.{IsNameEnded}
+use Rattle.cpp_direct.proofs.Ending.{object-ended, void-ended, first-expected, pushed}
+use Rattle.cpp_direct.proofs.direct.Direct.name_ended.Goals as goal
+
+pub end-requires-clause-ended : goal.end-requires-clause-ended
+end-requires-clause-ended c = object-ended c.args.s.now c.args.self.now c.args.is_const c.args.is_instance c.requires.ended
+
+pub end-requires-then-behind-eq46-clause-ended : goal.end-requires-then-behind-eq46-clause-ended
+end-requires-then-behind-eq46-clause-ended c =
+    let s = c.args.s.now in
+    let w = c.args.self.now in
+    void-ended s w c.push.new.self _ c.push-then-behind-eq46.new.self c.args.is_const
+    (subst (λ b. IsNameEnded s w c.args.is_const b) c.if-is_instance.false c.requires.ended)
+    (subst (λ b. StandsAt s w.at (b ∷ [])) c.if-byte-eq118.true (c.byte_at-byte.ensures c.if-byte-eq0.false))
+    c.in_ok-push.ensures refl refl (omega (arith, c.in_ok-self.ensures)) c.in_ok-push-2.ensures
+
+pub returns : goal.returns
+returns c =
+    let s = c.args.s.now in
+    let w = c.args.self.now in
+    first-expected s w c.push.new.self _ c.args.is_const
+    (subst (λ b. IsNameEnded s w c.args.is_const b) c.if-is_instance.false c.requires.ended)
+    c.in_ok-push.ensures refl refl refl
+    (pushed _ c.push.new.self.waiting.items (c.push.new.self.waiting.items ++ opens.Parameters c.args.is_const ∷ []) _ c.push-2.ensures.items
+    (sym c.ok.ensures.variant ∙ ap is_some c.in_ok-ok.was))

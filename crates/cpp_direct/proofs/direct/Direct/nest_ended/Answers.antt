@@ -1,0 +1,26 @@
+use Rattle.std.proofs.Common.{subst, sym, ◌∙◌}
+use Rattle.cpp_direct.specs.Ways.{IsNameEnded}
+use Rattle.cpp_direct.proofs.Nesting.{type-ended, name-comes}
+use Rattle.cpp_direct.proofs.direct.Direct.nest_ended.Goals as goal
+
+pub name_ended-requires-clause-ended : goal.name_ended-requires-clause-ended
+name_ended-requires-clause-ended c =
+    let old = c.args.self.now in
+    let writing = c.requires.writing in
+    let before = writing.is_before in
+    subst (λ n. IsNameEnded c.args.s.now (record old { at = n }) c.in-Name.is_const old.nest.is_instance) (sym c.in_ok-self.ensures.1)
+    (name-comes c.args.s.now old writing.state before.0 c.in-Name.is_const writing.candidates before.1 before.2 c.requires.end c.in-Name.is)
+
+pub returns-in_ok-add_unless-in-Type : goal.returns-in_ok-add_unless-in-Type
+returns-in_ok-add_unless-in-Type c =
+    let writing = c.requires.writing in
+    let before = writing.is_before in
+    let added = c.in_ok-add_unless-in-Type.ensures in
+    type-ended c.args.s.now c.args.self.now c.add_unless.new.self writing.state before.0 writing.candidates before.1 c.requires.end c.in-Type.is
+    (record {
+      candidates = added.candidates;
+      text = added.text;
+      waiting = added.«open»;
+      nest = added.nest;
+      at = added.at ∙ c.in_ok-self.ensures.1;
+    })

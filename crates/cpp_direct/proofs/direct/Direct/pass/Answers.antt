@@ -1,0 +1,50 @@
+use Rattle.std.proofs.Common.{refl, codes, true, false, subst}
+use Rattle.cpp_grammar.specs.Term.{pointer, lvalue, rvalue, qualified}
+use Rattle.cpp_direct.specs.declared.open.Open.TheVariants as opens
+use Rattle.cpp_direct.specs.Prints.{Prints}
+use Rattle.cpp_direct.specs.Stands.{qualifiers}
+use Rattle.cpp_direct.proofs.PrintedTypes.{pointer-prints, lvalue-prints, rvalue-prints, const-prints}
+use Rattle.cpp_direct.proofs.Listed.{waits-last, value-marked, value-parameter, value-special, value-argument, takes-arguments}
+use Rattle.cpp_direct.proofs.direct.Direct.pass.Goals as goal
+
+pub mark-requires : goal.mark-requires
+mark-requires c =
+    value-marked c.args.s.now c.args.self.now c.args.is_reference false (opens.Pointer c.in-Pointer.from) c.in-Pointer.from pointer (codes "*")
+    c.requires.writing (waits-last _ _ _ _ c.deref.ensures.value c.in_ok-from.ensures.value c.in-Pointer.is) (λ rest os text h. h)
+    (λ t b h. pointer-prints t b c.args.is_reference h)
+
+pub mark-requires-in-Lvalue : goal.mark-requires-in-Lvalue
+mark-requires-in-Lvalue c =
+    value-marked c.args.s.now c.args.self.now c.args.is_reference true (opens.Lvalue c.in-Lvalue.from) c.in-Lvalue.from lvalue (codes "&")
+    c.requires.writing (waits-last _ _ _ _ c.deref.ensures.value c.in_ok-from.ensures.value c.in-Lvalue.is) (λ rest os text h. h)
+    (λ t b h. lvalue-prints t b (subst (λ r. Prints t b r) c.if-is_reference.false h))
+
+pub mark-requires-in-Rvalue : goal.mark-requires-in-Rvalue
+mark-requires-in-Rvalue c =
+    value-marked c.args.s.now c.args.self.now c.args.is_reference true (opens.Rvalue c.in-Rvalue.from) c.in-Rvalue.from rvalue (codes "&&")
+    c.requires.writing (waits-last _ _ _ _ c.deref.ensures.value c.in_ok-from.ensures.value c.in-Rvalue.is) (λ rest os text h. h)
+    (λ t b h. rvalue-prints t b (subst (λ r. Prints t b r) c.if-is_reference-2.false h))
+
+pub mark-requires-in-Const : goal.mark-requires-in-Const
+mark-requires-in-Const c =
+    value-marked c.args.s.now c.args.self.now c.args.is_reference false (opens.Const c.in-Const.from) c.in-Const.from
+    (qualified (qualifiers true)) (codes " const")
+    c.requires.writing (waits-last _ _ _ _ c.deref.ensures.value c.in_ok-from.ensures.value c.in-Const.is) (λ rest os text h. h)
+    (λ t b h. const-prints t b (subst (λ r. Prints t b r) c.if-is_reference-3.false h))
+
+pub parameter_ended-requires-clause-ended : goal.parameter_ended-requires-clause-ended
+parameter_ended-requires-clause-ended c =
+    value-parameter c.args.s.now c.args.self.now c.args.is_reference c.in-Parameters.is_const
+    c.requires.writing (waits-last _ _ _ _ c.deref.ensures.value c.in_ok-from.ensures.value c.in-Parameters.is)
+
+pub end-requires-clause-ended : goal.end-requires-clause-ended
+end-requires-clause-ended c =
+    value-special c.args.s.now c.args.self.now c.args.is_reference
+    c.requires.writing (waits-last _ _ _ _ c.deref.ensures.value c.in_ok-from.ensures.value c.in-Special.is)
+
+pub returns-in_default : goal.returns-in_default
+returns-in_default c =
+    value-argument c.args.s.now c.args.self.now c.args.is_reference c.in_ok-from.field-0.now
+    c.requires.writing (waits-last _ _ _ _ c.deref.ensures.value c.in_ok-from.ensures.value refl)
+    (takes-arguments c.in_ok-from.field-0.now c.in_default.not-Pointer c.in_default.not-Lvalue c.in_default.not-Rvalue c.in_default.not-Const
+    c.in_default.not-Parameters c.in_default.not-Special)

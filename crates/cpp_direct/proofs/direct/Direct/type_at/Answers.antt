@@ -1,0 +1,60 @@
+use Rattle.std.proofs.Common.{◌∙◌, arith}
+use Rattle.cpp_direct.proofs.TypesRead.{awaits-type, there, source-named, pointer-opened, lvalue-opened, rvalue-opened, const-opened, nest-awaited}
+use Rattle.cpp_direct.proofs.direct.Direct.type_at.Goals as goal
+
+-- src/types.rt:36:17
+pub nest_at-requires-clause-awaits : goal.nest_at-requires-clause-awaits
+nest_at-requires-clause-awaits c =
+    nest-awaited c.args.s.now c.args.self.now c.in_ok-self-in-78.field-0
+    (awaits-type c.args.s.now c.args.self.now c.args.is_plain c.requires.writing) c.in_ok-self-in-78.ensures.1
+    (there c.args.s.now c.args.self.now.at c.byte_at.result 78 c.in-78.is (omega arith) c.byte_at.ensures)
+
+-- src/types.rt:38:21
+pub type_with_s-requires-clause-awaits : goal.type_with_s-requires-clause-awaits
+type_with_s-requires-clause-awaits c = awaits-type c.args.s.now c.args.self.now c.args.is_plain c.requires.writing
+
+-- src/types.rt:41:17
+pub type_named-requires : goal.type_named-requires
+type_named-requires c =
+    let got = c.in_ok-name-in-49-to-57.ensures in
+    source-named c.args.s.now c.args.self.now c.name.new.self c.len-from.result got.0
+    (awaits-type c.args.s.now c.args.self.now c.args.is_plain c.requires.writing) got.1 got.2 got.3 (c.len-from.ensures ∙ c.args.self.now.text.ok.0)
+
+-- src/types.rt:43:23
+pub builtin-requires-clause-awaits : goal.builtin-requires-clause-awaits
+builtin-requires-clause-awaits c = awaits-type c.args.s.now c.args.self.now c.args.is_plain c.requires.writing
+
+-- src/types.rt:18:5
+pub returns-in-80 : goal.returns-in-80
+returns-in-80 c =
+    pointer-opened c.args.s.now c.args.self.now c.open_type.new.self c.open_type.result c.len-from.result
+    (awaits-type c.args.s.now c.args.self.now c.args.is_plain c.requires.writing) (c.len-from.ensures ∙ c.args.self.now.text.ok.0)
+    (there c.args.s.now c.args.self.now.at c.byte_at.result 80 c.in-80.is (omega arith) c.byte_at.ensures)
+    c.open_type.ensures.step c.open_type.ensures.open c.open_type.ensures.at c.open_type.ensures.text c.open_type.ensures.candidates
+
+-- src/types.rt:18:5
+pub returns-in-82 : goal.returns-in-82
+returns-in-82 c =
+    let called = c.open_type-in-82.ensures in
+    lvalue-opened c.args.s.now c.args.self.now c.open_type-in-82.new.self c.open_type-in-82.result c.len-from.result
+    (awaits-type c.args.s.now c.args.self.now c.args.is_plain c.requires.writing) (c.len-from.ensures ∙ c.args.self.now.text.ok.0)
+    (there c.args.s.now c.args.self.now.at c.byte_at.result 82 c.in-82.is (omega arith) c.byte_at.ensures)
+    called.step called.open called.at called.text called.candidates
+
+-- src/types.rt:18:5
+pub returns-in-79 : goal.returns-in-79
+returns-in-79 c =
+    let called = c.open_type-in-79.ensures in
+    rvalue-opened c.args.s.now c.args.self.now c.open_type-in-79.new.self c.open_type-in-79.result c.len-from.result
+    (awaits-type c.args.s.now c.args.self.now c.args.is_plain c.requires.writing) (c.len-from.ensures ∙ c.args.self.now.text.ok.0)
+    (there c.args.s.now c.args.self.now.at c.byte_at.result 79 c.in-79.is (omega arith) c.byte_at.ensures)
+    called.step called.open called.at called.text called.candidates
+
+-- src/types.rt:18:5
+pub returns-else-is_plain : goal.returns-else-is_plain
+returns-else-is_plain c =
+    let called = c.open_type-in-75.ensures in
+    const-opened c.args.s.now c.args.self.now c.open_type-in-75.new.self c.open_type-in-75.result c.len-from.result c.args.is_plain
+    c.requires.writing c.if-is_plain.false (c.len-from.ensures ∙ c.args.self.now.text.ok.0)
+    (there c.args.s.now c.args.self.now.at c.byte_at.result 75 c.in-75.is (omega arith) c.byte_at.ensures)
+    called.step called.open called.at called.text called.candidates

@@ -1,0 +1,61 @@
+use Rattle.std.proofs.Common.{◌≢◌, ◌+◌, ◌-◌, ◌++◌, [], ◌∷◌, length, take, drop, ap, sym, subst, ◌∙◌, arith, append-nil}
+use Rattle.cpp_direct.specs.Holes.{StandsAt, IsSeqAt}
+use Rattle.cpp_direct.proofs.TypesRead.{there, some-text, std-named, abbreviation-named, substitution-stands, substitution-named}
+use Rattle.cpp_direct.proofs.direct.Direct.type_with_s.Goals as goal
+
+-- src/types.rt:79:13
+pub type_named-requires : goal.type_named-requires
+type_named-requires c =
+    let got = c.in_ok-name.ensures in
+    std-named c.args.s.now c.args.self.now c.push.new.self c.name.new.self c.len-from.result got.0 c.requires.awaits c.requires.letter
+    (there c.args.s.now (c.args.self.now.at + 1) c.byte_at-letter.result 116 c.if-letter-eq116.true (omega arith)
+    (subst (λ k. c.byte_at-letter.result ≢ 0 → StandsAt c.args.s.now k (c.byte_at-letter.result ∷ [])) c.in_ok-self.ensures.1
+    c.byte_at-letter.ensures))
+    c.in_ok-push.ensures.text c.in_ok-push.ensures.candidates c.in_ok-push.ensures.waiting
+    (c.in_ok-push.ensures.at ∙ c.in_ok-self-2.ensures.1 ∙ ap (λ k. k + 1) c.in_ok-self.ensures.1)
+    got.1 got.2 got.3 (c.len-from.ensures ∙ c.args.self.now.text.ok.0)
+
+-- src/types.rt:85:13
+pub type_named-requires-then-not-is_empty : goal.type_named-requires-then-not-is_empty
+type_named-requires-then-not-is_empty c =
+    abbreviation-named c.args.s.now c.args.self.now c.push-then-not-is_empty.new.self c.len-from.result c.byte_at-letter.result c.requires.awaits
+    c.requires.letter
+    (subst (λ k. c.byte_at-letter.result ≢ 0 → StandsAt c.args.s.now k (c.byte_at-letter.result ∷ [])) c.in_ok-self.ensures.1
+    c.byte_at-letter.ensures)
+    (some-text c.abbreviation_text-text.result.now _ c.abbreviation_text-text.ensures c.if-not-is_empty.ensures)
+    (c.in_ok-push-2.ensures.text ∙ ap (λ l. c.args.self.now.text.items ++ l) c.abbreviation_text-text.ensures)
+    c.in_ok-push-2.ensures.candidates c.in_ok-push-2.ensures.waiting
+    (c.in_ok-push-2.ensures.at ∙ c.in_ok-self-3.ensures.1 ∙ ap (λ k. k + 1) c.in_ok-self.ensures.1)
+    (c.len-from.ensures ∙ c.args.self.now.text.ok.0)
+
+-- src/types.rt:88:9
+pub repeat-requires-clause-from : goal.repeat-requires-clause-from
+repeat-requires-clause-from c =
+    let got = c.in_ok-candidate.ensures.is in
+    (substitution-stands c.args.s.now c.args.self.now _ c.in_ok-candidate.candidate c.requires.awaits got.2).0
+
+-- src/types.rt:88:9
+pub repeat-requires-clause-to : goal.repeat-requires-clause-to
+repeat-requires-clause-to c =
+    let got = c.in_ok-candidate.ensures.is in
+    let same = c.in_ok-candidate.ensures.same in
+    omega (
+      arith,
+      (substitution-stands c.args.s.now c.args.self.now _ c.in_ok-candidate.candidate c.requires.awaits got.2).1,
+      ap length (same.text ∙ append-nil c.args.self.now.text.items),
+    )
+
+-- src/types.rt:89:9
+pub type_named-requires-2 : goal.type_named-requires-2
+type_named-requires-2 c =
+    let got = c.in_ok-candidate.ensures.is in
+    let same = c.in_ok-candidate.ensures.same in
+    let wrote = c.in_ok-repeat.ensures in
+    let k = c.in_ok-candidate.candidate in
+    substitution-named c.args.s.now c.args.self.now c.repeat.new.self c.len-from.result got.0 c.in_ok-candidate.candidate c.requires.awaits
+    c.requires.letter
+    (subst (λ n. IsSeqAt c.args.s.now n got.0 c.repeat.new.self.at) c.in_ok-self.ensures.1
+    (subst (λ n. IsSeqAt c.args.s.now c.in_ok-self.field-0 got.0 n) (sym wrote.at) got.1))
+    got.2
+    (wrote.text ∙ ap (λ l. l ++ take (k.to - k.from) (drop k.from l)) (same.text ∙ append-nil c.args.self.now.text.items))
+    (wrote.candidates ∙ same.candidates) (wrote.waiting ∙ same.waiting) (c.len-from.ensures ∙ c.args.self.now.text.ok.0)

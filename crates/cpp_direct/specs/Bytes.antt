@@ -1,0 +1,11 @@
+-- The bytes at which a reader goes one way or another.
+use Rattle.std.specs.Prelude.{ℕ, Bool, codes}
+use Rattle.cpp_grammar.specs.Grammar.{among}
+
+-- the letters of the builtin types, but for those behind a D
+unfoldable pub is_builtin : ℕ → Bool
+is_builtin byte = among (codes "abcdefghijlmnostvwxyz") byte
+
+-- the letters behind an S that stand for a class of std, or for std itself
+unfoldable pub is_abbreviated : ℕ → Bool
+is_abbreviated byte = among (codes "abdios") byte

@@ -1,0 +1,172 @@
+-- A symbol that is read from left to right while nothing is known of what comes behind: what the rules that stand open still need,
+-- and that the whole is read once they have it.
+use Rattle.std.specs.Prelude.{◌≡◌, ℕ, ◌+◌, List, [], ◌∷◌, ◌++◌, length, take, drop, Bool, true, false, Ok}
+use Rattle.sym_core.specs.declared.NameClass.TheVariants.{Cpp}
+use Rattle.sym_core.specs.declared.NumberKind.TheVariants.{Seq36}
+use Rattle.sym_core.specs.Token.{Token, bytes_of, IsName, IsNumberToken}
+use Rattle.sym_shape.specs.declared.rule.Sym.{Sym}
+use Rattle.sym_shape.specs.declared.rule.Sym.TheVariants.{Kind as OfKind}
+use Rattle.sym_shape.specs.Tree.{Tree as Shape, Forest, IsTree, AreTrees, spell, spell_all}
+use Rattle.sym_link.specs.Reading.{Open}
+use Rattle.sym_link.specs.Unfold.{found, unfold_tree, unfold_forest}
+use Rattle.cpp_grammar.specs.declared.kind.Kind.{Kind}
+use Rattle.cpp_grammar.specs.Grammar.{number_of_kind}
+use Rattle.cpp_grammar.specs.Table.{abi}
+use Rattle.cpp_grammar.specs.Term.{Term, instance, list}
+use Rattle.cpp_grammar.specs.Values.{State, Around, Value, nothing_there, tree}
+use Rattle.cpp_grammar.specs.References.{is_function_type}
+use Rattle.cpp_grammar.specs.Between.{after, no_items}
+use Rattle.cpp_grammar.specs.Unfolding.{cpp, first_around, first_state}
+
+-- an open rule, the values of its parts so far, and the symbols that are still to be read
+pub record Opened : Type 0 where
+  pub rule : Open State Around
+  pub known : List Value
+  pub todo : List Sym
+
+abbrev pub opened : Open State Around → (known : List Value) → (todo : List Sym) → Opened
+opened rule known todo = record { rule = rule; known = known; todo = todo }
+
+-- A shape that spells these bytes at a place has this value, and this state stands behind it.
+pub record Reads (x : Sym) (around : Around) (at : ℕ) (bytes : List ℕ) (before : State) (v : Value) (after : State) : Type 0 where
+  pub shape : Shape
+  pub shaped : IsTree abi x shape
+  pub spelled : spell shape ≡ bytes
+  pub unfolds : unfold_tree cpp around at shape before ≡ Ok (found (v ∷ []) after)
+
+-- the same of the parts of a rule that are left
+pub record ReadsRest (rule : Open State Around) (known : List Value) (todo : List Sym) (at : ℕ) (bytes : List ℕ) (before : State)
+    (vs : List Value) (after : State) : Type 0 where
+  pub forest : Forest
+  pub shaped : AreTrees abi todo forest
+  pub spelled : spell_all forest ≡ bytes
+  pub unfolds : unfold_forest cpp rule known at forest before ≡ Ok (found vs after)
+
+-- the bytes stand in the symbol at the place
+abbrev pub StandsAt : (s : List ℕ) → (at : ℕ) → (bytes : List ℕ) → Type 0
+StandsAt s at bytes = (rest : List ℕ) × (drop at s ≡ bytes ++ rest)
+
+-- The innermost of the open rules has the next one of its values, and this state stands there: whatever of the symbol is read from
+-- here on as their parts, the whole of it is read.
+abbrev pub Comes : (s : List ℕ) → List Opened → Value → (at : ℕ) → State → Type 0
+Comes s [] v at state = Reads (OfKind (number_of_kind Kind.Symbol)) first_around 0 (take at s) first_state v state
+Comes s (o ∷ os) v at state =
+    (bytes : List ℕ) (vs : List Value) (inner : State) (w : Value) (after : State)
+    → ReadsRest o.rule (o.known ++ v ∷ []) o.todo at bytes state vs inner → StandsAt s at bytes
+    → cpp.close o.rule vs inner ≡ Ok (found w after)
+    → Comes s os w (at + length bytes) after
+
+-- The same where of a rule these values are known and these symbols are left.
+abbrev pub Needs : (s : List ℕ) → List Opened → Open State Around → (known : List Value) → (todo : List Sym) → (at : ℕ) → State → Type 0
+Needs s os rule known todo at state =
+    (bytes : List ℕ) (vs : List Value) (inner : State) (w : Value) (after : State)
+    → ReadsRest rule known todo at bytes state vs inner → StandsAt s at bytes
+    → cpp.close rule vs inner ≡ Ok (found w after)
+    → Comes s os w (at + length bytes) after
+
+-- The same where a symbol is expected next.
+abbrev pub ExpectsSym : (s : List ℕ) → Sym → Around → List Opened → (at : ℕ) → State → Type 0
+ExpectsSym s x around os at state =
+    (bytes : List ℕ) (v : Value) (after : State)
+    → Reads x around at bytes state v after → StandsAt s at bytes → Comes s os v (at + length bytes) after
+
+abbrev pub Expects : (s : List ℕ) → Kind → Around → List Opened → (at : ℕ) → State → Type 0
+Expects s kind around os at state = ExpectsSym s (OfKind (number_of_kind kind)) around os at state
+
+-- ## States
+
+-- one more candidate, made in the encoding that begins at this place
+abbrev pub with_candidate : (encoding : ℕ) → Term → State → State
+with_candidate encoding t state = record state { candidates = state.candidates ++ record { tree = t; encoding = encoding } ∷ [] }
+
+-- one more unless it is a candidate already or never is one
+abbrev pub unless_listed : (listed : Bool) → (encoding : ℕ) → Term → State → State
+unless_listed true encoding t state = state
+unless_listed false encoding t state = with_candidate encoding t state
+
+-- ## What is read
+
+-- a name stands at the place, with these bytes of its own, and this is the place behind it
+pub record IsNameAt (s : List ℕ) (at : ℕ) (name : List ℕ) (end : ℕ) : Type 0 where
+  pub token : Token
+  pub is_name : IsName Cpp token
+  pub own : token.own ≡ name
+  pub stands : StandsAt s at (bytes_of token)
+  pub ends : end ≡ at + length (bytes_of token)
+
+-- the number of a substitution stands at the place, and this is the place behind it
+pub record IsSeqAt (s : List ℕ) (at : ℕ) (digits : List ℕ) (end : ℕ) : Type 0 where
+  pub token : Token
+  pub is_number : IsNumberToken Seq36 token
+  pub own : token.own ≡ digits
+  pub stands : StandsAt s at (bytes_of token)
+  pub ends : end ≡ at + length (bytes_of token)
+
+-- a type may be expected as one of these kinds
+abbrev pub IsTyped : Kind → Type 0
+IsTyped Kind.Type = Unit {0}
+IsTyped Kind.Item = Unit {0}
+IsTyped Kind.Plain = Unit {0}
+IsTyped _ = ⊥
+
+-- and a list of items as one of these
+abbrev pub IsListKind : Kind → Type 0
+IsListKind Kind.ArgumentList = Unit {0}
+IsListKind Kind.Items = Unit {0}
+IsListKind _ = ⊥
+
+-- what comes inside comes outside as well
+abbrev pub SamePasses : (s : List ℕ) → (inner outer : List Opened) → Type 0
+SamePasses s inner outer = (v : Value) (at : ℕ) (st : State) → Comes s inner v at st → Comes s outer v at st
+
+-- a type that comes inside makes the one that comes outside, which is a candidate
+abbrev pub TypePasses : (s : List ℕ) → (inner outer : List Opened) → (encoding : ℕ) → (made : Term → Term) → Type 0
+TypePasses s inner outer e made =
+    (t : Term) (at : ℕ) (st : State) → Comes s inner (tree t true) at st → Comes s outer (tree (made t) true) at (with_candidate e (made t) st)
+
+-- A name was read that is a type, with or without arguments behind it.
+pub record TypeNamed (s : List ℕ) (outer : List Opened) (around : Around) (t : Term) (listed : Bool) (at : ℕ) (st : State) : Type 0 where
+  pub inner : List Opened
+  pub awaits : Expects s Kind.MaybeArguments (after t listed around) inner at st
+  pub bare : (at : ℕ) (st : State) → is_function_type t ≡ false → Comes s inner nothing_there at st
+      → Comes s outer (tree t true) at (unless_listed listed around.encoding t st)
+  pub argued : (a : Term) (at : ℕ) (st : State) → Comes s inner (tree a true) at st
+      → Comes s outer (tree (instance t a) true) at (with_candidate around.encoding (instance t a) st)
+
+-- A name was read that is the name of an encoding or a component, with or without arguments behind it.
+pub record Named (s : List ℕ) (outer : List Opened) (around : Around) (t : Term) (at : ℕ) (st : State) : Type 0 where
+  pub inner : List Opened
+  pub awaits : Expects s Kind.MaybeArguments (after t false around) inner at st
+  pub bare : (at : ℕ) (st : State) → Comes s inner nothing_there at st → Comes s outer (tree t false) at st
+  pub argued : (a : Term) (at : ℕ) (st : State) → Comes s inner (tree a true) at st → Comes s outer (tree (instance t a) false) at st
+
+-- Of a nested name this much is read, and what comes of it comes outside.
+pub record NestGoesOn (s : List ℕ) (kind : Kind) (outer : List Opened) (around : Around) (t : Term) (listed : Bool) (at : ℕ) (st : State) : Type 0 where
+  pub inner : List Opened
+  pub awaits : Expects s kind (after t listed around) inner at st
+  pub passes : SamePasses s inner outer
+
+-- A component of a nested name is expected next.
+pub record AwaitsComponent (s : List ℕ) (outer : List Opened) (around : Around) (t : Term) (at : ℕ) (st : State) : Type 0 where
+  pub inner : List Opened
+  pub awaits : Expects s Kind.Component (after t true around) inner at st
+  pub onward : (u : Term) (at : ℕ) (st : State) → Comes s inner (tree u false) at st → NestGoesOn s Kind.NestTail outer around u false at st
+
+-- A std name was read at the front of a nested one, with or without arguments behind it.
+pub record NestNamed (s : List ℕ) (outer : List Opened) (around : Around) (t : Term) (at : ℕ) (st : State) : Type 0 where
+  pub inner : List Opened
+  pub awaits : Expects s Kind.MaybeArguments (after t false around) inner at st
+  pub bare : (at : ℕ) (st : State) → Comes s inner nothing_there at st → NestGoesOn s Kind.NestTail outer around t false at st
+  pub argued : (a : Term) (at : ℕ) (st : State) → Comes s inner (tree a true) at st → NestGoesOn s Kind.NestTail outer around (instance t a) false at st
+
+-- A list goes on behind an element.
+pub record ListGoesOn (s : List ℕ) (kind : Kind) (outer : List Opened) (around : Around) (t : Term) (at : ℕ) (st : State) : Type 0 where
+  pub inner : List Opened
+  pub awaits : Expects s kind around inner at st
+  pub passes : (l : Value) (at : ℕ) (st : State) → Comes s inner l at st → Comes s outer (tree (list t (no_items l)) true) at st
+
+-- An element of a list is expected, which is a type.
+pub record AwaitsElement (s : List ℕ) (kind : Kind) (outer : List Opened) (around : Around) (at : ℕ) (st : State) : Type 0 where
+  pub inner : List Opened
+  pub awaits : Expects s Kind.Item around inner at st
+  pub onward : (t : Term) (at : ℕ) (st : State) → Comes s inner (tree t true) at st → ListGoesOn s kind outer around t at st

@@ -1,0 +1,92 @@
+-- What is expected in lists, in encodings and in whole symbols that are read from left to right, and what comes of it.
+use Rattle.std.specs.Prelude.{◌≡◌, ℕ, ◌+◌, List, [], ◌∷◌, length, Bool, true, false, Ok}
+use Rattle.std.specs.List.{AllByRecursion}
+use Rattle.sym_core.specs.declared.NumberKind.TheVariants.{Digits}
+use Rattle.sym_core.specs.Token.{Token, bytes_of, IsNumberToken}
+use Rattle.sym_demangle.specs.Mangled.{StandsFor}
+use Rattle.cpp_grammar.specs.declared.kind.Kind.{Kind}
+use Rattle.cpp_grammar.specs.Mangled.{cpp_mangled}
+use Rattle.cpp_grammar.specs.Term.{any_value, Term, symbol, special}
+use Rattle.cpp_grammar.specs.Values.{State, Around, Value, tree, named, tree_of}
+use Rattle.cpp_grammar.specs.Between.{in_name, in_types, inside, no_items}
+use Rattle.cpp_grammar.specs.Meaning.{encoding_of}
+use Rattle.cpp_grammar.specs.Unfolding.{first_around, first_state}
+use Rattle.cpp_direct.specs.Holes.{Opened, StandsAt, Comes, Expects, ListGoesOn}
+use Rattle.cpp_direct.specs.ItemBytes.{is_suffix_byte}
+
+-- ## Lists
+
+-- Behind an I the arguments are expected; at an E they are the arguments of what stands before them.
+pub record ArgumentsOpened (s : List ℕ) (outer : List Opened) (around : Around) (at : ℕ) (st : State) : Type 0 where
+  pub inner : List Opened
+  pub awaits : Expects s Kind.ArgumentList (inside around) inner at st
+  pub onward : (l : Value) (at : ℕ) (st : State) → Comes s inner l at st → StandsAt s at (69 ∷ [])
+      → Comes s outer (tree (no_items l) true) (at + 1) st
+
+-- Behind an L a literal is expected, which ends at an E.
+pub record LiteralOpened (s : List ℕ) (outer : List Opened) (around : Around) (at : ℕ) (st : State) : Type 0 where
+  pub inner : List Opened
+  pub awaits : Expects s Kind.Literal around inner at st
+  pub onward : (t : Term) (at : ℕ) (st : State) → Comes s inner (tree t true) at st → StandsAt s at (69 ∷ [])
+      → ListGoesOn s Kind.ArgumentList outer around t (at + 1) st
+
+-- the digits of an integer stand at the place, and this is the place behind them
+pub record IsDigitsAt (s : List ℕ) (at : ℕ) (digits : List ℕ) (end : ℕ) : Type 0 where
+  pub token : Token
+  pub is_number : IsNumberToken Digits token
+  pub own : token.own ≡ digits
+  pub stands : StandsAt s at (bytes_of token)
+  pub ends : end ≡ at + length (bytes_of token)
+
+-- what stands before the digits of an integer
+abbrev pub minus_sign : Bool → List ℕ
+minus_sign true = 110 ∷ []
+minus_sign false = []
+
+-- ## Encodings
+
+-- The items of an encoding with this name are expected; there may be none.
+pub record ItemsOpened (s : List ℕ) (outer : List Opened) (encoding : ℕ) (name : Value) (at : ℕ) (st : State) : Type 0 where
+  pub inner : List Opened
+  pub awaits : Expects s Kind.Items (in_types encoding (tree_of name)) inner at st
+  pub onward : (l : Value) (at : ℕ) (st : State) → Comes s inner l at st → Comes s outer (tree (encoding_of name (no_items l)) true) at st
+
+-- The name of an encoding that begins here is expected.
+pub record EncodingOpened (s : List ℕ) (outer : List Opened) (at : ℕ) (st : State) : Type 0 where
+  pub inner : List Opened
+  pub awaits : Expects s Kind.CompleteName (in_name at) inner at st
+  pub onward : (v : Value) (here : ℕ) (st : State) → Comes s inner v here st → ItemsOpened s outer at v here st
+
+-- The type of a special object of an encoding that begins at a place is expected.
+pub record SpecialOpened (s : List ℕ) (outer : List Opened) (encoding letter : ℕ) (at : ℕ) (st : State) : Type 0 where
+  pub inner : List Opened
+  pub awaits : Expects s Kind.Type (in_name encoding) inner at st
+  pub onward : (t : Term) (at : ℕ) (st : State) → Comes s inner (tree t true) at st → Comes s outer (tree (special letter t) true) at st
+
+-- what a nested name begins with, const or not
+abbrev pub nest_marks : (const : Bool) → List ℕ
+nest_marks true = 78 ∷ 75 ∷ []
+nest_marks false = 78 ∷ []
+
+-- The parts of a nested name are expected, which is const or not.
+pub record NestOpened (s : List ℕ) (outer : List Opened) (around : Around) (const : Bool) (at : ℕ) (st : State) : Type 0 where
+  pub inner : List Opened
+  pub awaits : Expects s Kind.Nest around inner at st
+  pub onward : (t : Term) (listed : Bool) (at : ℕ) (st : State) → Comes s inner (tree t listed) at st
+      → Comes s outer (named t (record { restrict = false; volatile = false; const = const }) any_value) at st
+
+-- ## Symbols
+
+-- a dot, and one or more bytes behind it
+abbrev pub IsSuffix : List ℕ → Type 0
+IsSuffix [] = ⊥
+IsSuffix (d ∷ []) = ⊥
+IsSuffix (d ∷ b ∷ bs) = (d ≡ 46) × AllByRecursion (λ c. is_suffix_byte c ≡ true) (b ∷ bs)
+
+-- The encoding of a symbol is expected, which ends the symbol or stands before its suffix.
+pub record SymbolOpened (s : List ℕ) : Type 0 where
+  pub inner : List Opened
+  pub awaits : Expects s Kind.Encoding first_around inner 2 first_state
+  pub ends : (e : Term) (st : State) → Comes s inner (tree e true) (length s) st → StandsFor cpp_mangled s (Ok (symbol e []))
+  pub ends_in : (e : Term) (at : ℕ) (suffix : List ℕ) (st : State) → Comes s inner (tree e true) at st → StandsAt s at suffix
+      → at + length suffix ≡ length s → IsSuffix suffix → StandsFor cpp_mangled s (Ok (symbol e suffix))

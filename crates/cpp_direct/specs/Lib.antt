@@ -1,0 +1,10 @@
+pub mod Bytes
+pub mod Holes
+pub mod HolesOfLists
+pub mod HolesOfNests
+pub mod HolesOfTypes
+pub mod ItemBytes
+pub mod Prints
+pub mod Stands
+pub mod Ways
+pub mod Written

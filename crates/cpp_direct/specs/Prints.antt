@@ -1,0 +1,68 @@
+-- Trees of which the text is known: those that print it at the left and nothing at the right, wherever they stand.
+use Rattle.std.specs.Prelude.{◌≡◌, ℕ, ◌+◌, ◌*◌, ◌≤◌, List, [], ◌∷◌, ◌++◌, length, Bool, true, false, cond, None, codes}
+use Rattle.sym_print.specs.declared.detail.Detail.TheVariants.{Full}
+use Rattle.sym_print.specs.Unshared.{Unshared, text_of, cost_of}
+use Rattle.cpp_grammar.specs.Term.{Signed, Term, nil, list}
+use Rattle.cpp_grammar.specs.Scope.{is_open, pack_length}
+use Rattle.cpp_grammar.specs.References.{is_function_type}
+use Rattle.cpp_grammar.specs.Items.{Form, full, left, right, base, Context, closed, head, is_reference, is_funarr, is_empty}
+use Rattle.cpp_grammar.specs.Meaning.{is_void}
+use Rattle.cpp_grammar.specs.Parts.{as_item, prefix_item, last_piece, opening_text}
+use Rattle.cpp_grammar.specs.Answer.{shown}
+
+-- what a tree prints in a form, wherever it stands
+abbrev pub in_form : Form → Context → Term → Unshared
+in_form form context t = shown Full (record { tree = t; form = form; context = context })
+
+-- A tree with this text. It is a type, or the name of something; whether it is a reference is known.
+pub record Prints (t : Term) (bytes : List ℕ) (reference : Bool) : Type 0 where
+  pub left_text : (context : Context) → text_of (in_form left context t) ≡ bytes
+  pub right_text : (context : Context) → text_of (in_form right context t) ≡ []
+  pub cost : (context : Context) → 1 + cost_of (in_form left context t) + cost_of (in_form right context t) ≤ 4 * length bytes
+  pub is_reference_head : (context : Context) → is_reference (head context t) ≡ reference
+  pub is_funarr_head : (context : Context) → is_funarr (head context t) ≡ false
+  pub filled : (context : Context) → is_empty context t ≡ false
+  pub is_closed : is_open t ≡ false
+  pub packless : (scope : Term) → pack_length scope t ≡ None
+  pub no_function : is_function_type t ≡ false
+  pub as_prefix : (context : Context) → prefix_item context t ≡ as_item left context t
+  pub opening : opening_text (last_piece t) ≡ codes "<"
+  pub void : is_void t ≡ true → bytes ≡ codes "void"
+
+-- A tree whose class is named so where it stands in front of a constructor or a destructor.
+pub record NamesClass (t : Term) (class : List ℕ) : Type 0 where
+  pub base_text : (context : Context) → text_of (in_form base context t) ≡ class
+  pub base_cost : (context : Context) → cost_of (in_form left context t) + cost_of (in_form right context t) + cost_of (in_form base context t)
+      ≤ 4 * (length (text_of (in_form left context t)) + length class)
+
+-- An encoding with this text.
+pub record Shows (t : Term) (bytes : List ℕ) : Type 0 where
+  pub shown_text : text_of (in_form full closed t) ≡ bytes
+  pub shown_cost : 1 + cost_of (in_form full closed t) ≤ 4 * length bytes
+
+-- the sign of a number
+abbrev pub sign_text : Signed → List ℕ
+sign_text n = cond n.negative (codes "-") []
+
+-- ## Lists
+
+-- the list of these elements
+abbrev pub list_of : List Term → Term
+list_of [] = nil
+list_of (t ∷ ts) = list t (list_of ts)
+
+-- texts one behind the other, with a comma and a blank between two of them
+abbrev pub joined : List (List ℕ) → List ℕ
+joined [] = []
+joined (b ∷ []) = b
+joined (b ∷ c ∷ bs) = b ++ codes ", " ++ joined (c ∷ bs)
+
+-- each tree prints its text
+abbrev pub PrintEach : List Term → List (List ℕ) → Type 0
+PrintEach [] [] = Unit {0}
+PrintEach (t ∷ ts) (b ∷ bs) = ((reference : Bool) × Prints t b reference) × PrintEach ts bs
+PrintEach _ _ = ⊥
+
+-- these elements print so
+abbrev pub PrintAll : List Term → (bytes : List ℕ) → Type 0
+PrintAll ts bytes = (texts : List (List ℕ)) × PrintEach ts texts × (joined texts ≡ bytes)

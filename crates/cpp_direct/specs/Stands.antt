@@ -1,0 +1,236 @@
+-- What a writer's lists say while a symbol is read: what is open waits for what comes next, and what was written is its text.
+use Rattle.std.specs.Prelude.{◌≡◌, ◌≢◌, ◌⊎◌, ℕ, ◌+◌, ◌*◌, ◌≤◌, List, [], ◌∷◌, ◌++◌, length, reverse, Bool, true, false, Ok, codes}
+use Rattle.sym_print.specs.declared.detail.Detail.TheVariants.{Full}
+use Rattle.sym_print.specs.Unshared.{text_of, cost_of}
+use Rattle.sym_demangle.specs.Mangled.{StandsFor}
+use Rattle.cpp_grammar.specs.declared.kind.Kind.{Kind}
+use Rattle.cpp_grammar.specs.Mangled.{cpp_mangled}
+use Rattle.cpp_grammar.specs.Answer.{shown, root_item}
+use Rattle.cpp_grammar.specs.Term.{Term, Qualifiers, any_value, symbol, special, pointer, lvalue, rvalue, qualified, instance, list}
+use Rattle.cpp_grammar.specs.Texts.{look_up, special_texts}
+use Rattle.cpp_grammar.specs.Scope.{has_return_type, is_structor}
+use Rattle.cpp_grammar.specs.References.{is_function_type}
+use Rattle.cpp_grammar.specs.Values as values
+use Rattle.cpp_grammar.specs.Values.{State, Around, Value, tree, named, outermost, tree_of, qualifiers_of, ref_of}
+use Rattle.cpp_grammar.specs.Between.{no_items}
+use Rattle.cpp_grammar.specs.Meaning.{encoding_of}
+use Rattle.cpp_direct.specs.declared.open.Candidate.{Candidate}
+use Rattle.cpp_direct.specs.declared.open.Nest.{Nest}
+use Rattle.cpp_direct.specs.declared.open.Purpose.{Purpose}
+use Rattle.cpp_direct.specs.declared.open.Purpose.TheVariants as purposes
+use Rattle.cpp_direct.specs.declared.open.Open.{Open}
+use Rattle.cpp_direct.specs.declared.open.Open.TheVariants as opens
+use Rattle.cpp_direct.specs.declared.open.Step.{Step}
+use Rattle.cpp_direct.specs.declared.open.Step.TheVariants as steps
+use Rattle.cpp_direct.specs.declared.direct.Direct.{Direct}
+use Rattle.cpp_direct.specs.Holes.{Opened, Comes, Expects, StandsAt, TypePasses, NestGoesOn, AwaitsComponent, with_candidate, unless_listed}
+use Rattle.cpp_direct.specs.HolesOfLists.{IsSuffix}
+use Rattle.cpp_direct.specs.Prints.{Prints, NamesClass, PrintAll}
+
+-- ## Candidates
+
+-- what a substitution may name prints the text that stands at its place
+pub record IsCandidate (text : List ℕ) (k : Candidate) (c : values.Candidate) : Type 0 where
+  pub front : List ℕ
+  pub bytes : List ℕ
+  pub back : List ℕ
+  pub written : text ≡ front ++ bytes ++ back
+  pub from_is : k.from ≡ length front
+  pub to_is : k.to ≡ length front + length bytes
+  pub prints : Prints c.tree bytes k.is_reference
+
+abbrev pub AreCandidates : (text : List ℕ) → List Candidate → List values.Candidate → Type 0
+AreCandidates text [] [] = Unit {0}
+AreCandidates text (k ∷ ks) (c ∷ cs) = IsCandidate text k c × AreCandidates text ks cs
+AreCandidates text _ _ = ⊥
+
+-- ## The end
+
+-- An encoding with this tree ends at the place: with the symbol, or in front of its suffix.
+pub record Encoded (s : List ℕ) (e : Term) (at : ℕ) : Type 0 where
+  pub ends : at ≡ length s → StandsFor cpp_mangled s (Ok (symbol e []))
+  pub ends_in : (suffix : List ℕ) → StandsAt s at suffix → at + length suffix ≡ length s → IsSuffix suffix
+      → StandsFor cpp_mangled s (Ok (symbol e suffix))
+
+-- the name of an encoding was read, and items may follow
+pub record AwaitsItems (s : List ℕ) (v : Value) (at : ℕ) (st : State) : Type 0 where
+  pub around : Around
+  pub inner : List Opened
+  pub outside : around.prefix ≡ outermost
+  pub awaits : Expects s Kind.Items around inner at st
+  pub onward : (l : Value) (at : ℕ) (st : State) → Comes s inner l at st → Encoded s (encoding_of v (no_items l)) at
+
+-- The symbol is one with this text.
+pub record IsWhole (s : List ℕ) (text : List ℕ) : Type 0 where
+  pub whole : Term
+  pub stands : StandsFor cpp_mangled s (Ok whole)
+  pub text_is : text_of (shown Full (root_item whole)) ≡ text
+  pub cost : cost_of (shown Full (root_item whole)) ≤ 4 * length text
+
+-- ## Names
+
+abbrev pub qualifiers : (is_const : Bool) → Qualifiers
+qualifiers is_const = record { restrict = false; volatile = false; const = is_const }
+
+-- a name so far, with these bytes behind a front
+pub record IsNest (front bytes text : List ℕ) (nest : Nest) (t : Term) : Type 0 where
+  pub back : List ℕ
+  pub written : text ≡ front ++ bytes ++ back
+  pub from_is : nest.from ≡ length front
+  pub prints : Prints t bytes false
+  pub class_front : List ℕ
+  pub class : List ℕ
+  pub class_back : List ℕ
+  pub class_written : text ≡ class_front ++ class ++ class_back
+  pub class_from : nest.class_from ≡ length class_front
+  pub class_to : nest.class_to ≡ length class_front + length class
+  pub names_class : nest.has_class ≡ true → NamesClass t class
+
+-- ## Lists
+
+-- a list of these elements, and of what comes behind them
+abbrev pub list_with : List Term → Term → Term
+list_with [] rest = rest
+list_with (t ∷ ts) rest = list t (list_with ts rest)
+
+-- the text of elements so far, in front of the next one
+abbrev pub in_front_of_next : List Term → List ℕ → List ℕ
+in_front_of_next [] l = l
+in_front_of_next (t ∷ ts) l = l ++ codes ", "
+
+-- parameters go on behind these
+pub record ParametersGoOn (s : List ℕ) (v : Value) (ts : List Term) (at : ℕ) (st : State) : Type 0 where
+  pub around : Around
+  pub inner : List Opened
+  pub outside : around.prefix ≡ outermost
+  pub awaits : Expects s Kind.Items around inner at st
+  pub onward : (l : Value) (at : ℕ) (st : State) → Comes s inner l at st → Encoded s (encoding_of v (list_with ts (no_items l))) at
+
+-- the name of a function with parameters: its text and that of the parameters so far
+pub record IsFunction (is_const : Bool) (v : Value) (ts : List Term) (name parameters : List ℕ) : Type 0 where
+  pub own : Term
+  pub tree_is : tree_of v ≡ own
+  pub qualifiers_are : qualifiers_of v ≡ qualifiers is_const
+  pub mark_is : ref_of v ≡ any_value
+  pub prints : Prints own name false
+  pub no_return : has_return_type own ≡ false
+  pub elements : PrintAll ts parameters
+
+-- ## What is open
+
+-- what is open below: what waits for a value, behind this text
+abbrev pub Below : Type 1
+Below = List Opened → (text : List ℕ) → Type 0
+
+-- A type that comes is marked.
+abbrev pub Marks : (s : List ℕ) → Below → List Opened → (text : List ℕ) → (from : ℕ) → (made : Term → Term) → Type 0
+Marks s below os text from made = (outer : List Opened) × (e : ℕ) × (from ≡ length text) × TypePasses s os outer e made × below outer text
+
+-- A nested name that comes is what it is read as.
+abbrev pub Serves : (s : List ℕ) → Purpose → Below → List Opened → (front : List ℕ) → Type 0
+Serves s purposes.Type below os front =
+    (outer : List Opened) × (e : ℕ)
+    × ((t : Term) (listed : Bool) (at : ℕ) (st : State) → is_function_type t ≡ false → Comes s os (tree t listed) at st
+    → Comes s outer (tree t true) at (unless_listed listed e t st))
+    × below outer front
+Serves s (purposes.Name is_const) below os front =
+    (front ≡ [])
+    × ((t : Term) (listed : Bool) (at : ℕ) (st : State) → Comes s os (tree t listed) at st → AwaitsItems s (named t (qualifiers is_const) any_value) at st)
+
+-- An instance is read, behind this text: what becomes of it.
+abbrev pub Owns : (s : List ℕ) → Open → Below → (front : List ℕ) → Term → (at : ℕ) → State → Type 0
+Owns s (opens.TypeArguments from) below front u at st =
+    (outer : List Opened) × (e : ℕ) × Comes s outer (tree u true) at (with_candidate e u st) × below outer front
+Owns s (opens.NestArguments nest) below front u at st =
+    (around : Around) × (outer : List Opened) × NestGoesOn s Kind.NestTail outer around u false at st × Serves s nest.purpose below outer front
+Owns s (opens.FirstArguments nest) below front u at st =
+    (around : Around) × (outer : List Opened) × AwaitsComponent s outer around u at (with_candidate around.encoding u st)
+    × Serves s nest.purpose below outer front
+Owns s opens.NameArguments below front u at st = AwaitsItems s (tree u false) at st
+Owns s _ below front u at st = ⊥
+
+-- arguments go on behind these
+abbrev pub ArgumentsGoOn : (s : List ℕ) → Open → Below → (front : List ℕ) → (template : Term) → List Term → (at : ℕ) → State → Type 0
+ArgumentsGoOn s owner below front template ts at st =
+    (around : Around) × (inner : List Opened) × (around.prefix ≡ outermost) × Expects s Kind.ArgumentList around inner at st
+    × ((l : Value) (at : ℕ) (st : State) → Comes s inner l at st → StandsAt s at (69 ∷ [])
+    → Owns s owner below front (instance template (list_with ts (no_items l))) (at + 1) st)
+
+-- this template stands before the arguments
+abbrev pub IsTemplate : Open → (front : List ℕ) → Term → (name : List ℕ) → (text : List ℕ) → Type 0
+IsTemplate (opens.TypeArguments from) front template name text = (from ≡ length front) × Prints template name false
+IsTemplate (opens.NestArguments nest) front template name text =
+    IsNest front name text nest template × (nest.has_class ≡ false → is_structor template ≡ true)
+IsTemplate (opens.FirstArguments nest) front template name text = IsNest front name text nest template
+IsTemplate opens.NameArguments front template name text = (front ≡ []) × Prints template name false
+IsTemplate _ front template name text = ⊥
+
+-- a type comes as an argument
+abbrev pub AwaitsArgument : (s : List ℕ) → Open → Below → List Opened → (text : List ℕ) → Type 0
+AwaitsArgument s owner below os text =
+    (front : List ℕ) × (template : Term) × (name : List ℕ) × (ts : List Term) × (arguments : List ℕ)
+    × IsTemplate owner front template name text × PrintAll ts arguments
+    × (text ≡ front ++ name ++ codes "<" ++ in_front_of_next ts arguments)
+    × ((t : Term) (at : ℕ) (st : State) → Comes s os (tree t true) at st → ArgumentsGoOn s owner below front template (ts ++ t ∷ []) at st)
+
+-- A type comes for the last of the open ones, behind what is written.
+abbrev pub Stands : (s : List ℕ) → List Open → List Opened → (text : List ℕ) → Type 0
+Stands s [] os text = ⊥
+Stands s (opens.Pointer from ∷ rest) os text = Marks s (Stands s rest) os text from pointer
+Stands s (opens.Lvalue from ∷ rest) os text = Marks s (Stands s rest) os text from lvalue
+Stands s (opens.Rvalue from ∷ rest) os text = Marks s (Stands s rest) os text from rvalue
+Stands s (opens.Const from ∷ rest) os text = Marks s (Stands s rest) os text from (qualified (qualifiers true))
+Stands s (opens.Parameters is_const ∷ rest) os text =
+    (v : Value) × (ts : List Term) × (name : List ℕ) × (parameters : List ℕ)
+    × IsFunction is_const v ts name parameters
+    × (text ≡ name ++ codes "(" ++ in_front_of_next ts parameters)
+    × ((t : Term) (at : ℕ) (st : State) → Comes s os (tree t true) at st → ParametersGoOn s v (ts ++ t ∷ []) at st)
+Stands s (opens.Special ∷ rest) os text =
+    (letter : ℕ) × (text ≡ look_up (letter ∷ []) special_texts) × (text ≢ [])
+    × ((t : Term) (at : ℕ) (st : State) → Comes s os (tree t true) at st → Encoded s (special letter t) at)
+Stands s (owner ∷ rest) os text = AwaitsArgument s owner (Stands s rest) os text
+
+-- ## What comes next
+
+-- a nested name goes on, of which this was read
+pub record IsNesting (s : List ℕ) (kind : Kind) (w : Direct) (t : Term) (st : State) : Type 0 where
+  pub front : List ℕ
+  pub around : Around
+  pub outer : List Opened
+  pub bytes : List ℕ
+  pub written : w.text.items ≡ front ++ bytes
+  pub is_nest : IsNest front bytes w.text.items w.nest t
+  pub goes : NestGoesOn s kind outer around t w.nest.is_listed w.at st
+  pub serves : Serves s w.nest.purpose (Stands s (reverse w.waiting.items)) outer front
+
+-- where a writer is, before it takes a step
+abbrev pub IsBefore : (s : List ℕ) → Direct → State → Step → Type 0
+IsBefore s w st steps.Type =
+    (os : List Opened) × (around : Around) × (around.prefix ≡ outermost)
+    × (Expects s Kind.Type around os w.at st ⊎ Expects s Kind.Item around os w.at st) × Stands s (reverse w.waiting.items) os w.text.items
+IsBefore s w st steps.Plain =
+    (os : List Opened) × (around : Around) × (around.prefix ≡ outermost)
+    × Expects s Kind.Plain around os w.at st × Stands s (reverse w.waiting.items) os w.text.items
+IsBefore s w st (steps.Value is_reference) =
+    (os : List Opened) × (t : Term) × (front : List ℕ) × (bytes : List ℕ)
+    × (w.text.items ≡ front ++ bytes) × Prints t bytes is_reference
+    × Comes s os (tree t true) w.at st × Stands s (reverse w.waiting.items) os front
+IsBefore s w st (steps.List is_first) =
+    (owner : Open) × (rest : List Open) × (reverse w.waiting.items ≡ owner ∷ rest)
+    × (front : List ℕ) × (template : Term) × (name : List ℕ) × (ts : List Term) × (arguments : List ℕ)
+    × IsTemplate owner front template name w.text.items × PrintAll ts arguments
+    × (w.text.items ≡ front ++ name ++ codes "<" ++ arguments)
+    × (is_first ≡ true → ts ≡ []) × (is_first ≡ false → ts ≢ [])
+    × ArgumentsGoOn s owner (Stands s rest) front template ts w.at st
+IsBefore s w st steps.Rest = (t : Term) × IsNesting s Kind.NestRest w t st
+IsBefore s w st steps.Tail = (t : Term) × IsNesting s Kind.NestTail w t st × (w.nest.is_instance ≡ false → has_return_type t ≡ false)
+IsBefore s w st steps.Component =
+    (t : Term) × (front : List ℕ) × (bytes : List ℕ) × (around : Around) × (outer : List Opened)
+    × (w.text.items ≡ front ++ bytes) × IsNest front bytes w.text.items w.nest t × AwaitsComponent s outer around t w.at st × Serves s w.nest.purpose (Stands s (reverse w.waiting.items)) outer front
+IsBefore s w st steps.Ended = IsWhole s w.text.items
+
+-- a writer that has come so far, and what comes next
+pub record IsWriting (s : List ℕ) (w : Direct) (step : Step) : Type 0 where
+  pub state : State
+  pub candidates : AreCandidates w.text.items w.candidates.items state.candidates
+  pub is_before : IsBefore s w state step

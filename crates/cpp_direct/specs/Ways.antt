@@ -1,0 +1,211 @@
+-- Where a writer is between two of its functions, within a step.
+use Rattle.std.specs.Prelude.{◌≡◌, ◌≢◌, ℕ, ◌+◌, List, [], ◌∷◌, ◌++◌, length, reverse, Bool, true, false, codes}
+use Rattle.cpp_grammar.specs.declared.kind.Kind.{Kind}
+use Rattle.cpp_grammar.specs.Term.{Term, Signed, any_value, instance, builtin}
+use Rattle.cpp_grammar.specs.Texts.{look_up, builtin_texts, literal_endings}
+use Rattle.cpp_grammar.specs.Parts.{is_plain_integer}
+use Rattle.cpp_grammar.specs.Scope.{has_return_type, is_structor}
+use Rattle.cpp_grammar.specs.Values.{State, Around, Value, tree, outermost, tree_of, qualifiers_of, ref_of}
+use Rattle.cpp_direct.specs.declared.open.Purpose.{Purpose}
+use Rattle.cpp_direct.specs.declared.open.Open.{Open}
+use Rattle.cpp_direct.specs.declared.open.Open.TheVariants as opens
+use Rattle.cpp_direct.specs.declared.direct.Direct.{Direct}
+use Rattle.cpp_direct.specs.Holes.{Opened, Comes, Expects, IsTyped, TypeNamed, NestNamed, with_candidate}
+use Rattle.cpp_direct.specs.Prints.{Prints, PrintAll, Shows, list_of, sign_text}
+use Rattle.cpp_direct.specs.Stands.{AreCandidates, AwaitsItems, Encoded, IsFunction, IsNest, IsTemplate, ArgumentsGoOn, Owns, ParametersGoOn, Serves, Stands, qualifiers, in_front_of_next}
+
+-- what stands behind the parameters of a member function
+abbrev pub const_text : (is_const : Bool) → List ℕ
+const_text true = codes " const"
+const_text false = []
+
+-- nothing is written yet
+pub record IsFresh (w : Direct) : Type 0 where
+  pub no_text : w.text.items ≡ []
+  pub no_candidate : w.candidates.items ≡ []
+  pub none_open : w.waiting.items ≡ []
+
+-- a type is expected
+pub record AwaitsType (s : List ℕ) (w : Direct) : Type 0 where
+  pub state : State
+  pub candidates : AreCandidates w.text.items w.candidates.items state.candidates
+  pub kind : Kind
+  pub typed : IsTyped kind
+  pub around : Around
+  pub outside : around.prefix ≡ outermost
+  pub os : List Opened
+  pub awaits : Expects s kind around os w.at state
+  pub stands : Stands s (reverse w.waiting.items) os w.text.items
+
+-- the name of a type was read, which is a candidate already or not, and was written from a place on
+pub record IsTypeNamed (s : List ℕ) (w : Direct) (from : ℕ) (is_listed is_reference : Bool) : Type 0 where
+  pub state : State
+  pub candidates : AreCandidates w.text.items w.candidates.items state.candidates
+  pub around : Around
+  pub outside : around.prefix ≡ outermost
+  pub outer : List Opened
+  pub own : Term
+  pub named : TypeNamed s outer around own is_listed w.at state
+  pub front : List ℕ
+  pub bytes : List ℕ
+  pub written : w.text.items ≡ front ++ bytes
+  pub from_is : from ≡ length front
+  pub prints : Prints own bytes is_reference
+  pub no_reference : is_listed ≡ false → is_reference ≡ false
+  pub stands : Stands s (reverse w.waiting.items) outer front
+
+-- A type was read that what waits for it marks. It was written from a place on, but for its mark.
+pub record AwaitsMark (s : List ℕ) (w : Direct) (mark : List ℕ) (from : ℕ) (is_reference : Bool) : Type 0 where
+  pub state : State
+  pub candidates : AreCandidates w.text.items w.candidates.items state.candidates
+  pub entry : Open
+  pub rest : List Open
+  pub open_is : reverse w.waiting.items ≡ entry ∷ rest
+  pub outer : List Opened
+  pub encoding : ℕ
+  pub made : Term
+  pub comes : Comes s outer (tree made true) w.at (with_candidate encoding made state)
+  pub front : List ℕ
+  pub bytes : List ℕ
+  pub written : w.text.items ≡ front ++ bytes
+  pub from_is : from ≡ length front
+  pub prints : Prints made (bytes ++ mark) is_reference
+  pub stands : Stands s rest outer front
+
+-- the first piece of a nested name is expected
+pub record AwaitsNest (s : List ℕ) (w : Direct) (purpose : Purpose) : Type 0 where
+  pub state : State
+  pub candidates : AreCandidates w.text.items w.candidates.items state.candidates
+  pub around : Around
+  pub outside : around.prefix ≡ outermost
+  pub outer : List Opened
+  pub awaits : Expects s Kind.Nest around outer w.at state
+  pub serves : Serves s purpose (Stands s (reverse w.waiting.items)) outer w.text.items
+
+-- A component of a nested name was read, or a name in std. Arguments may stand behind it.
+pub record IsNestNamed (s : List ℕ) (w : Direct) : Type 0 where
+  pub state : State
+  pub candidates : AreCandidates w.text.items w.candidates.items state.candidates
+  pub around : Around
+  pub outer : List Opened
+  pub own : Term
+  pub named : NestNamed s outer around own w.at state
+  pub front : List ℕ
+  pub bytes : List ℕ
+  pub written : w.text.items ≡ front ++ bytes
+  pub is_nest : IsNest front bytes w.text.items w.nest own
+  pub unlisted : w.nest.is_listed ≡ false
+  pub no_instance : w.nest.is_instance ≡ false
+  pub no_return : has_return_type own ≡ false
+  pub structor : w.nest.has_class ≡ false → is_structor own ≡ true
+  pub serves : Serves s w.nest.purpose (Stands s (reverse w.waiting.items)) outer front
+
+-- A constructor or a destructor was read, and was written but for the name of its class.
+pub record AwaitsClass (s : List ℕ) (w : Direct) : Type 0 where
+  pub state : State
+  pub candidates : AreCandidates w.text.items w.candidates.items state.candidates
+  pub around : Around
+  pub outer : List Opened
+  pub own : Term
+  pub named : NestNamed s outer around own w.at state
+  pub front : List ℕ
+  pub bytes : List ℕ
+  pub written : w.text.items ≡ front ++ bytes
+  pub from_is : w.nest.from ≡ length front
+  pub class_front : List ℕ
+  pub class : List ℕ
+  pub class_back : List ℕ
+  pub class_written : w.text.items ≡ class_front ++ class ++ class_back
+  pub class_from : w.nest.class_from ≡ length class_front
+  pub class_to : w.nest.class_to ≡ length class_front + length class
+  pub prints : Prints own (bytes ++ class) false
+  pub no_return : has_return_type own ≡ false
+  pub structor : is_structor own ≡ true
+  pub serves : Serves s w.nest.purpose (Stands s (reverse w.waiting.items)) outer front
+
+-- The arguments of what was opened last are read and their E, but for their last bracket.
+pub record IsListEnded (s : List ℕ) (w : Direct) : Type 0 where
+  pub state : State
+  pub candidates : AreCandidates w.text.items w.candidates.items state.candidates
+  pub owner : Open
+  pub rest : List Open
+  pub open_is : reverse w.waiting.items ≡ owner ∷ rest
+  pub front : List ℕ
+  pub template : Term
+  pub name : List ℕ
+  pub ts : List Term
+  pub arguments : List ℕ
+  pub is_template : IsTemplate owner front template name w.text.items
+  pub elements : PrintAll ts arguments
+  pub written : w.text.items ≡ front ++ name ++ codes "<" ++ arguments
+  pub owns : Owns s owner (Stands s rest) front (instance template (list_of ts)) w.at state
+
+-- An argument is expected, and the comma before it is written.
+pub record AwaitsNextArgument (s : List ℕ) (w : Direct) : Type 0 where
+  pub state : State
+  pub candidates : AreCandidates w.text.items w.candidates.items state.candidates
+  pub owner : Open
+  pub rest : List Open
+  pub open_is : reverse w.waiting.items ≡ owner ∷ rest
+  pub front : List ℕ
+  pub template : Term
+  pub name : List ℕ
+  pub ts : List Term
+  pub arguments : List ℕ
+  pub is_template : IsTemplate owner front template name w.text.items
+  pub elements : PrintAll ts arguments
+  pub written : w.text.items ≡ front ++ name ++ codes "<" ++ in_front_of_next ts arguments
+  pub goes : ArgumentsGoOn s owner (Stands s rest) front template ts w.at state
+
+-- The name of an encoding was read and written, but for its qualifier.
+pub record IsNameEnded (s : List ℕ) (w : Direct) (is_const is_instance : Bool) : Type 0 where
+  pub state : State
+  pub candidates : AreCandidates w.text.items w.candidates.items state.candidates
+  pub own : Term
+  pub v : Value
+  pub tree_is : tree_of v ≡ own
+  pub qualifiers_are : qualifiers_of v ≡ qualifiers is_const
+  pub mark_is : ref_of v ≡ any_value
+  pub prints : Prints own w.text.items false
+  pub no_return : is_instance ≡ false → has_return_type own ≡ false
+  pub awaits : AwaitsItems s v w.at state
+
+-- A parameter of a function was read.
+pub record IsParameterEnded (s : List ℕ) (w : Direct) (is_const : Bool) : Type 0 where
+  pub state : State
+  pub candidates : AreCandidates w.text.items w.candidates.items state.candidates
+  pub rest : List Open
+  pub open_is : reverse w.waiting.items ≡ opens.Parameters is_const ∷ rest
+  pub v : Value
+  pub ts : List Term
+  pub some : ts ≢ []
+  pub name : List ℕ
+  pub parameters : List ℕ
+  pub is_function : IsFunction is_const v ts name parameters
+  pub written : w.text.items ≡ name ++ codes "(" ++ parameters
+  pub goes : ParametersGoOn s v ts w.at state
+
+-- An encoding was read and written, but for its qualifier.
+pub record IsEncodingEnded (s : List ℕ) (w : Direct) (is_const : Bool) : Type 0 where
+  pub state : State
+  pub candidates : AreCandidates w.text.items w.candidates.items state.candidates
+  pub e : Term
+  pub encoded : Encoded s e w.at
+  pub shows : Shows e (w.text.items ++ const_text is_const)
+
+-- ## Literals
+
+abbrev pub truth_text : Bool → List ℕ
+truth_text true = codes "true"
+truth_text false = codes "false"
+
+-- a number with its sign
+abbrev pub number_text : Signed → List ℕ
+number_text n = sign_text n ++ n.digits
+
+-- an integer of a builtin type with this letter
+abbrev pub integer_text : (letter : ℕ) → Signed → List ℕ
+integer_text letter n = elim (is_plain_integer (builtin (letter ∷ []))) [
+  | true ↦ number_text n ++ look_up (letter ∷ []) literal_endings
+  | false ↦ codes "(" ++ look_up (letter ∷ []) builtin_texts ++ codes ")" ++ number_text n
+]

@@ -1,0 +1,30 @@
+-- What the small functions of a writer do to its lists.
+use Rattle.std.specs.Prelude.{◌≡◌, ℕ, List, [], ◌∷◌, ◌++◌, length, Bool, true, false}
+use Rattle.cpp_direct.specs.declared.open.Candidate.{Candidate}
+use Rattle.cpp_direct.specs.declared.direct.Direct.{Direct}
+
+-- a text was written, and nothing else changed
+pub record Writes (old new : Direct) (bytes : List ℕ) : Type 0 where
+  pub text : new.text.items ≡ old.text.items ++ bytes
+  pub candidates : new.candidates ≡ old.candidates
+  pub waiting : new.waiting ≡ old.waiting
+  pub nest : new.nest ≡ old.nest
+  pub at : new.at ≡ old.at
+  pub most : new.most ≡ old.most
+
+-- the same, and the place is another one
+pub record Reads (old new : Direct) (bytes : List ℕ) : Type 0 where
+  pub text : new.text.items ≡ old.text.items ++ bytes
+  pub candidates : new.candidates ≡ old.candidates
+  pub waiting : new.waiting ≡ old.waiting
+  pub nest : new.nest ≡ old.nest
+  pub most : new.most ≡ old.most
+
+-- the candidates, and what is written from a place on
+abbrev pub added : Direct → (from : ℕ) → (is_reference : Bool) → List Candidate
+added w from is_reference = w.candidates.items ++ record { from = from; to = length w.text.items; is_reference = is_reference } ∷ []
+
+-- the same unless that is one already
+abbrev pub added_unless : Direct → (is_listed : Bool) → (from : ℕ) → List Candidate
+added_unless w true from = w.candidates.items
+added_unless w false from = added w from false

@@ -1,0 +1,239 @@
+// A symbol from its first byte to its last.
+
+ghost use Rattle.std.specs.Prelude.{◌≡◌, ◌≢◌, ◌+◌, ◌∷◌, [], true, Ok};
+ghost use Rattle.std.specs.Option.{IfSome};
+ghost use Rattle.sym_core.specs.Number.{FitsSymbol};
+ghost use Rattle.sym_print.specs.declared.detail.Detail.TheVariants as details;
+ghost use Rattle.cpp_grammar.specs.Mangled.{IsAnswer};
+ghost use Rattle.cpp_direct.specs.Holes.{StandsAt};
+ghost use Rattle.cpp_direct.specs.Stands.{IsWriting};
+ghost use Rattle.cpp_direct.specs.Ways.{IsFresh, IsNameEnded, IsParameterEnded, IsEncodingEnded};
+
+use crate::open::{Candidate, Nest, Open, Purpose, Step};
+use crate::tokens::{byte_at, is_suffix};
+use std::alloc::Global;
+
+/// The longest symbol that is written so, in bytes: the lists stay small, and real symbols are shorter.
+const LONGEST: usize = 4_096;
+
+/// Before the first nested name.
+const NO_NEST: Nest = Nest {
+    from: 0,
+    class_from: 0,
+    class_to: 0,
+    purpose: Purpose::Type,
+    is_listed: false,
+    has_class: false,
+    is_instance: false,
+};
+
+/// The lists with which texts are written, one after the other.
+#[derive(Drop)]
+pub struct Direct {
+    pub(crate) text: Vec<u8>,
+    pub(crate) candidates: Vec<Candidate>,
+    pub(crate) waiting: Vec<Open>,
+    pub(crate) nest: Nest,
+    pub(crate) at: usize,
+    pub(crate) most: usize,
+}
+
+impl Direct {
+    /// Lists that have no memory yet.
+    pub fn new(alloc: Global) -> Direct {
+        Direct {
+            text: Vec::new(alloc),
+            candidates: Vec::new(alloc),
+            waiting: Vec::new(alloc),
+            nest: NO_NEST,
+            at: 0,
+            most: 0,
+        }
+    }
+
+    /// The text that was written last.
+    pub fn text(&self) -> &[u8]
+        ensures { result.now ≡ self.now.text.items }
+    {
+        &self.text
+    }
+
+    /// Writes the text of a symbol, if it is one that can be read so and its text costs at most the limit.
+    pub fn write(&mut self, s: &[u8], limit: u32) -> bool
+        requires { FitsSymbol s.now }
+        ensures { result ≡ true → IsAnswer details.Full s.now limit (Ok self.new.text.items) }
+    {
+        self.text.clear();
+        self.candidates.clear();
+        self.waiting.clear();
+        self.most = limit as usize / 4;
+        let Some(first) = self.begin(s) else {
+            return false;
+        };
+        let mut step = first;
+        let mut left = s.len() * 8;
+        'steps: while left > 0 {
+            left -= 1;
+            if let Step::Ended = step {
+                return self.text.len() <= limit as usize / 4;
+            }
+            match self.take(s, step) {
+                Some(next) => step = next,
+                None => return false,
+            }
+        }
+        false
+    }
+
+    /// Takes a step.
+    #[inline(always)]
+    fn take(&mut self, s: &[u8], step: Step) -> Option<Step>
+        requires fits { FitsSymbol s.now }
+        requires writing { IsWriting s.now self.old step }
+        ensures { IfSome result (IsWriting s.now self.new) }
+    {
+        match step {
+            Step::Type => self.type_at(s, false),
+            Step::Plain => self.type_at(s, true),
+            Step::Value { is_reference } => self.pass(s, is_reference),
+            Step::List { is_first } => self.list_at(s, is_first),
+            Step::Rest => self.rest_at(s),
+            Step::Tail => self.tail_at(s),
+            Step::Component => self.component_at(s),
+            Step::Ended => None,
+        }
+    }
+
+    /// The first bytes of a symbol.
+    // <mangled-name> ::= _Z <encoding>
+    fn begin(&mut self, s: &[u8]) -> Option<Step>
+        requires fits { FitsSymbol s.now }
+        requires fresh { IsFresh self.old }
+        ensures { IfSome result (IsWriting s.now self.new) }
+    {
+        if s.len() > LONGEST || byte_at(s, 0) != b'_' || byte_at(s, 1) != b'Z' {
+            return None;
+        }
+        match byte_at(s, 2) {
+            b'N' => self.begin_nested(s),
+            b'T' => self.begin_special(s),
+            b'L' => self.begin_name(s, true),
+            _ => self.begin_name(s, false),
+        }
+    }
+
+    // <special-name> ::= TV <type> | TT <type> | TI <type> | TS <type>
+    fn begin_special(&mut self, s: &[u8]) -> Option<Step>
+        requires fits { FitsSymbol s.now }
+        requires fresh { IsFresh self.old }
+        requires starts { StandsAt s.now 0 (95 ∷ 90 ∷ []) }
+        requires letter { StandsAt s.now 2 (84 ∷ []) }
+        ensures { IfSome result (IsWriting s.now self.new) }
+    {
+        let text = cpp_layout::special_text(byte_at(s, 3));
+        if text.is_empty() {
+            return None;
+        }
+        self.push(text)?;
+        self.at = 4;
+        self.waiting.push(Open::Special).ok()?;
+        Some(Step::Type)
+    }
+
+    // <nested-name> ::= N [<CV-qualifiers>] [<ref-qualifier>] <prefix> <unqualified-name> E
+    fn begin_nested(&mut self, s: &[u8]) -> Option<Step>
+        requires fits { FitsSymbol s.now }
+        requires fresh { IsFresh self.old }
+        requires starts { StandsAt s.now 0 (95 ∷ 90 ∷ []) }
+        requires letter { StandsAt s.now 2 (78 ∷ []) }
+        ensures { IfSome result (IsWriting s.now self.new) }
+    {
+        let is_const = byte_at(s, 3) == b'K';
+        self.at = if is_const { 4 } else { 3 };
+        self.nest_at(s, Purpose::Name { is_const })
+    }
+
+    // <unscoped-name> ::= <source-name>
+    fn begin_name(&mut self, s: &[u8], is_internal: bool) -> Option<Step>
+        requires fits { FitsSymbol s.now }
+        requires fresh { IsFresh self.old }
+        requires starts { StandsAt s.now 0 (95 ∷ 90 ∷ []) }
+        requires letter { is_internal ≡ true → StandsAt s.now 2 (76 ∷ []) }
+        ensures { IfSome result (IsWriting s.now self.new) }
+    {
+        self.at = if is_internal { 3 } else { 2 };
+        self.name(s)?;
+        if byte_at(s, self.at) == b'I' {
+            self.add_candidate(0, false)?;
+            return self.open_arguments(Open::NameArguments);
+        }
+        self.name_ended(s, false, false)
+    }
+
+    /// The name of an encoding is read: nothing is left, or the function's parameters.
+    // <encoding> ::= <function name> <bare-function-type> | <data name>
+    pub(crate) fn name_ended(&mut self, s: &[u8], is_const: bool, is_instance: bool) -> Option<Step>
+        requires fits { FitsSymbol s.now }
+        requires ended { IsNameEnded s.now self.old is_const is_instance }
+        ensures { IfSome result (IsWriting s.now self.new) }
+    {
+        let byte = byte_at(s, self.at);
+        if byte == 0 || byte == b'.' {
+            return self.end(s, is_const);
+        }
+        if is_instance {
+            return None;
+        }
+        self.push(b"(")?;
+        let behind = byte_at(s, self.at.checked_add(1)?);
+        if byte == b'v' && (behind == 0 || behind == b'.') {
+            self.at = self.at.checked_add(1)?;
+            self.push(b")")?;
+            return self.end(s, is_const);
+        }
+        self.waiting.push(Open::Parameters { is_const }).ok()?;
+        Some(Step::Type)
+    }
+
+    /// A parameter is read: another one follows, or the end of the symbol.
+    pub(crate) fn parameter_ended(&mut self, s: &[u8], is_const: bool) -> Option<Step>
+        requires fits { FitsSymbol s.now }
+        requires ended { IsParameterEnded s.now self.old is_const }
+        ensures { IfSome result (IsWriting s.now self.new) }
+    {
+        let byte = byte_at(s, self.at);
+        if byte != 0 && byte != b'.' {
+            self.push(b", ")?;
+            return Some(Step::Type);
+        }
+        // a lone void is no parameter
+        if self.text.ends_with(b"(void") {
+            return None;
+        }
+        self.push(b")")?;
+        self.end(s, is_const)
+    }
+
+    /// The end of a symbol, behind the text of its encoding but for its qualifier.
+    // <mangled-name> ::= _Z <encoding> . <vendor-specific suffix>
+    pub(crate) fn end(&mut self, s: &[u8], is_const: bool) -> Option<Step>
+        requires fits { FitsSymbol s.now }
+        requires ended { IsEncodingEnded s.now self.old is_const }
+        ensures { IfSome result (IsWriting s.now self.new) }
+    {
+        if is_const {
+            self.push(b" const")?;
+        }
+        let suffix = s.get(self.at..)?;
+        if suffix.is_empty() {
+            return Some(Step::Ended);
+        }
+        if !is_suffix(suffix) {
+            return None;
+        }
+        self.push(b" (")?;
+        self.push(suffix)?;
+        self.push(b")")?;
+        Some(Step::Ended)
+    }
+}

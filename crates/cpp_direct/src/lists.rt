@@ -1,0 +1,250 @@
+// Template arguments.
+
+ghost use Rattle.std.specs.Prelude.{◌≡◌, ◌∷◌, [], ◌⊎◌, ◌+◌, ℕ, List, Bool, length, nat_eq, true};
+ghost use Rattle.std.specs.Option.{OnSome, IfSome};
+ghost use Rattle.sym_core.specs.Number.{FitsSymbol};
+ghost use Rattle.cpp_grammar.specs.Parts.{is_plain_integer};
+ghost use Rattle.cpp_grammar.specs.Term.{builtin};
+ghost use Rattle.cpp_grammar.specs.Values as values;
+ghost use Rattle.cpp_grammar.specs.Values.{signed_digits};
+ghost use Rattle.cpp_direct.specs.declared.open.Step.TheVariants as steps;
+ghost use Rattle.cpp_direct.specs.Holes.{StandsAt};
+ghost use Rattle.cpp_direct.specs.HolesOfLists.{IsDigitsAt, minus_sign};
+ghost use Rattle.cpp_direct.specs.ItemBytes.{is_integer_letter};
+ghost use Rattle.cpp_direct.specs.Stands.{IsWriting};
+ghost use Rattle.cpp_direct.specs.Ways.{IsListEnded, AwaitsNextArgument, truth_text, number_text, integer_text};
+ghost use Rattle.cpp_direct.specs.Written.{Reads};
+
+use crate::direct::Direct;
+use crate::open::{Nest, Open, Step};
+use crate::tokens::byte_at;
+use sym_core::{NumberKind, find_number};
+
+/// Digits without leading zeros, 0 for zero.
+fn normal(digits: &[u8]) -> &[u8]
+    ensures { result.now ≡ values.normal digits.now }
+{
+    let mut at = 0;
+    'zeros: while at + 1 < digits.len() {
+        if digits[at] != b'0' {
+            return &digits[at..];
+        }
+        at += 1;
+    }
+    &digits[at..]
+}
+
+/// Whether it is the digit 0 alone.
+#[tactic(auto, unfolding(cpp_grammar::specs::Values::is_zero))]
+#[inline(always)]
+fn is_zero(digits: &[u8]) -> bool
+    ensures { result ≡ values.is_zero digits.now }
+{
+    match digits {
+        [digit] => *digit == b'0',
+        _ => false,
+    }
+}
+
+/// Whether it is the letter of a type that an integer may have.
+#[tactic(auto, unfolding(crate::specs::ItemBytes::is_integer_letter))]
+#[inline(always)]
+fn is_integer_letter(letter: u8) -> bool
+    ensures { result ≡ is_integer_letter letter }
+{
+    match letter {
+        b'a'
+        | b'c'
+        | b'h'
+        | b'i'
+        | b'j'
+        | b'l'
+        | b'm'
+        | b'n'
+        | b'o'
+        | b's'
+        | b't'
+        | b'w'
+        | b'x'
+        | b'y' => true,
+        _ => false,
+    }
+}
+
+/// Whether the integers of the type with this letter stand without it.
+#[tactic(auto, unfolding(cpp_grammar::specs::Parts::is_plain_integer))]
+#[inline(always)]
+fn is_plain_letter(letter: u8) -> bool
+    ensures { result ≡ is_plain_integer (builtin (letter ∷ [])) }
+{
+    match letter {
+        b'i' => true,
+        b'j' => true,
+        b'l' => true,
+        b'm' => true,
+        b'x' => true,
+        b'y' => true,
+        _ => false,
+    }
+}
+
+impl Direct {
+    /// Reads an argument up to the first type in it, or the end of the arguments.
+    // <template-args> ::= I <template-arg>* E
+    pub(crate) fn list_at(&mut self, s: &[u8], is_first: bool) -> Option<Step>
+        requires fits { FitsSymbol s.now }
+        requires writing { IsWriting s.now self.old (steps.List is_first) }
+        ensures { IfSome result (IsWriting s.now self.new) }
+    {
+        let byte = byte_at(s, self.at);
+        if byte == b'E' {
+            self.at = self.at.checked_add(1)?;
+            return self.close_list(s);
+        }
+        if !is_first {
+            self.push(b", ")?;
+        }
+        if byte == b'L' {
+            return self.literal(s);
+        }
+        Some(Step::Type)
+    }
+
+    /// Ends arguments.
+    fn close_list(&mut self, s: &[u8]) -> Option<Step>
+        requires fits { FitsSymbol s.now }
+        requires ended { IsListEnded s.now self.old }
+        ensures { IfSome result (IsWriting s.now self.new) }
+    {
+        self.push(b">")?;
+        match self.waiting.pop()? {
+            Open::TypeArguments { from } => {
+                self.add_candidate(from, false)?;
+                Some(Step::Value {
+                    is_reference: false,
+                })
+            }
+            Open::NestArguments { nest } => {
+                self.nest = Nest {
+                    is_listed: false,
+                    is_instance: nest.has_class,
+                    ..nest
+                };
+                Some(Step::Tail)
+            }
+            Open::FirstArguments { nest } => {
+                self.add_candidate(nest.from, false)?;
+                self.nest = nest;
+                Some(Step::Component)
+            }
+            Open::NameArguments => self.name_ended(s, false, true),
+            _ => None,
+        }
+    }
+
+    // <expr-primary> ::= L <type> <value number> E | Lb0E | Lb1E
+    fn literal(&mut self, s: &[u8]) -> Option<Step>
+        requires fits { FitsSymbol s.now }
+        requires letter { StandsAt s.now self.old.at (76 ∷ []) }
+        requires awaits { AwaitsNextArgument s.now self.old }
+        ensures { IfSome result (IsWriting s.now self.new) }
+    {
+        self.at = self.at.checked_add(1)?;
+        if byte_at(s, self.at) == b'b' {
+            self.boolean(s)?;
+            self.literal_ended(s)?;
+            return Some(Step::List { is_first: false });
+        }
+        self.integer(s)?;
+        self.literal_ended(s)?;
+        Some(Step::List { is_first: false })
+    }
+
+    /// Reads the end of a literal.
+    #[inline(always)]
+    fn literal_ended(&mut self, s: &[u8]) -> Option<()>
+        ensures { OnSome result (StandsAt s.now self.old.at (69 ∷ []) × (self.new.at ≡ self.old.at + 1) × Reads self.old self.new []) }
+    {
+        if byte_at(s, self.at) != b'E' {
+            return None;
+        }
+        self.at = self.at.checked_add(1)?;
+        Some(())
+    }
+
+    /// Reads a truth value behind its type, at whose letter the writer is.
+    fn boolean(&mut self, s: &[u8]) -> Option<()>
+        requires { StandsAt s.now self.old.at (98 ∷ []) }
+        ensures { OnSome result ((digit : ℕ) × ((digit ≡ 48) ⊎ (digit ≡ 49)) × StandsAt s.now self.old.at (98 ∷ digit ∷ [])
+            × (self.new.at ≡ self.old.at + 2) × Reads self.old self.new (truth_text (nat_eq digit 49))) }
+    {
+        self.at = self.at.checked_add(1)?;
+        let digit = byte_at(s, self.at);
+        self.at = self.at.checked_add(1)?;
+        match digit {
+            b'0' => self.push(b"false"),
+            b'1' => self.push(b"true"),
+            _ => None,
+        }
+    }
+
+    /// Reads an integer with its type, at whose letter the writer is.
+    fn integer(&mut self, s: &[u8]) -> Option<()>
+        requires { FitsSymbol s.now }
+        ensures { OnSome result ((letter : ℕ) × (is_negative : Bool) × (digits : List ℕ) × (is_integer_letter letter ≡ true)
+            × StandsAt s.now self.old.at (letter ∷ minus_sign is_negative)
+            × IsDigitsAt s.now (self.old.at + 1 + length (minus_sign is_negative)) digits self.new.at
+            × Reads self.old self.new (integer_text letter (signed_digits is_negative digits))) }
+    {
+        let letter = byte_at(s, self.at);
+        if !is_integer_letter(letter) {
+            return None;
+        }
+        self.at = self.at.checked_add(1)?;
+        if is_plain_letter(letter) {
+            self.number(s)?;
+            return self.push(cpp_layout::ending_text(letter));
+        }
+        self.push(b"(")?;
+        self.push(cpp_layout::builtin_text(letter))?;
+        self.push(b")")?;
+        self.number(s)
+    }
+
+    // <number> ::= [n] <non-negative decimal integer>
+    fn number(&mut self, s: &[u8]) -> Option<()>
+        requires { FitsSymbol s.now }
+        ensures { OnSome result ((is_negative : Bool) × (digits : List ℕ) × StandsAt s.now self.old.at (minus_sign is_negative)
+            × IsDigitsAt s.now (self.old.at + length (minus_sign is_negative)) digits self.new.at
+            × Reads self.old self.new (number_text (signed_digits is_negative digits))) }
+    {
+        if byte_at(s, self.at) == b'n' {
+            self.at = self.at.checked_add(1)?;
+            return self.digits(s, true);
+        }
+        self.digits(s, false)
+    }
+
+    /// Reads the digits of a number behind its sign, and writes both.
+    // <non-negative decimal integer>
+    fn digits(&mut self, s: &[u8], is_negative: bool) -> Option<()>
+        requires { FitsSymbol s.now }
+        ensures { OnSome result ((digits : List ℕ) × IsDigitsAt s.now self.old.at digits self.new.at
+            × Reads self.old self.new (number_text (signed_digits is_negative digits))) }
+    {
+        if self.at > s.len() {
+            return None;
+        }
+        let place = find_number(s, self.at, NumberKind::Digits).ok()?;
+        let digits = normal(&s[place.from..place.to]);
+        self.at = place.end;
+        if !is_negative {
+            return self.push(digits);
+        }
+        if is_zero(digits) {
+            return self.push(digits);
+        }
+        self.push(b"-")?;
+        self.push(digits)
+    }
+}

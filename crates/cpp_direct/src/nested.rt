@@ -1,0 +1,258 @@
+// Nested names.
+
+ghost use Rattle.std.specs.Prelude.{◌≡◌, ℕ, ◌+◌, ◌∷◌, [], true};
+ghost use Rattle.std.specs.Option.{IfSome};
+ghost use Rattle.sym_core.specs.Number.{FitsSymbol};
+ghost use Rattle.cpp_direct.specs.declared.open.Step.TheVariants as steps;
+ghost use Rattle.cpp_direct.specs.Holes.{StandsAt};
+ghost use Rattle.cpp_direct.specs.Stands.{IsWriting};
+ghost use Rattle.cpp_direct.specs.Ways.{AwaitsNest, AwaitsClass, IsNestNamed};
+
+use crate::direct::Direct;
+use crate::open::{Nest, Open, Purpose, Step};
+use crate::tokens::byte_at;
+
+impl Direct {
+    /// Reads the first piece of a nested name.
+    // <prefix> ::= <unqualified-name> | <substitution>
+    pub(crate) fn nest_at(&mut self, s: &[u8], purpose: Purpose) -> Option<Step>
+        requires fits { FitsSymbol s.now }
+        requires awaits { AwaitsNest s.now self.old purpose }
+        ensures { IfSome result (IsWriting s.now self.new) }
+    {
+        if byte_at(s, self.at) == b'S' {
+            return self.nest_with_s(s, purpose);
+        }
+        let from = self.text.len();
+        self.name(s)?;
+        self.nest = Nest {
+            from,
+            class_from: from,
+            class_to: self.text.len(),
+            purpose,
+            is_listed: false,
+            has_class: true,
+            is_instance: false,
+        };
+        Some(Step::Rest)
+    }
+
+    // <substitution> ::= S <seq-id> _ | S_ | St | Sa | Ss | Sb | Si | So | Sd
+    fn nest_with_s(&mut self, s: &[u8], purpose: Purpose) -> Option<Step>
+        requires fits { FitsSymbol s.now }
+        requires letter { StandsAt s.now self.old.at (83 ∷ []) }
+        requires awaits { AwaitsNest s.now self.old purpose }
+        ensures { IfSome result (IsWriting s.now self.new) }
+    {
+        let from = self.text.len();
+        self.at = self.at.checked_add(1)?;
+        let letter = byte_at(s, self.at);
+        if letter == b't' {
+            return self.nest_in_std(s, purpose);
+        }
+        let text = cpp_layout::abbreviation_text(letter);
+        if text.is_empty() {
+            let candidate = self.substitution(s)?;
+            if candidate.is_reference {
+                return None;
+            }
+            self.repeat(candidate.from, candidate.to)?;
+            self.nest = Nest {
+                from,
+                class_from: from,
+                class_to: from,
+                purpose,
+                is_listed: true,
+                has_class: false,
+                is_instance: false,
+            };
+            return Some(Step::Rest);
+        }
+        self.at = self.at.checked_add(1)?;
+        self.push(text)?;
+        self.nest = Nest {
+            from,
+            class_from: from,
+            class_to: from,
+            purpose,
+            is_listed: true,
+            has_class: false,
+            is_instance: false,
+        };
+        Some(Step::Rest)
+    }
+
+    /// Reads a name in std at the front of a nested one, whose S has been read.
+    // <prefix> ::= St <unqualified-name>
+    fn nest_in_std(&mut self, s: &[u8], purpose: Purpose) -> Option<Step>
+        requires fits { FitsSymbol s.now }
+        requires awaits { (before : ℕ) × (before + 1 ≡ self.old.at) × StandsAt s.now before (83 ∷ 116 ∷ [])
+            × AwaitsNest s.now (record self.old { at = before }) purpose }
+        ensures { IfSome result (IsWriting s.now self.new) }
+    {
+        let from = self.text.len();
+        self.at = self.at.checked_add(1)?;
+        self.push(b"std::")?;
+        let class_from = self.text.len();
+        self.name(s)?;
+        self.nest = Nest {
+            from,
+            class_from,
+            class_to: self.text.len(),
+            purpose,
+            is_listed: false,
+            has_class: true,
+            is_instance: false,
+        };
+        self.nest_named(s)
+    }
+
+    /// The name of a component is read. Arguments may stand behind it.
+    // <prefix> ::= <template-prefix> <template-args>
+    #[inline(always)]
+    fn nest_named(&mut self, s: &[u8]) -> Option<Step>
+        requires { IsNestNamed s.now self.old }
+        ensures { IfSome result (IsWriting s.now self.new) }
+    {
+        if byte_at(s, self.at) != b'I' {
+            return Some(Step::Tail);
+        }
+        self.add_candidate(self.nest.from, false)?;
+        self.open_arguments(Open::NestArguments { nest: self.nest })
+    }
+
+    /// Reads what stands behind the first piece of a nested name.
+    pub(crate) fn rest_at(&mut self, s: &[u8]) -> Option<Step>
+        requires fits { FitsSymbol s.now }
+        requires writing { IsWriting s.now self.old steps.Rest }
+        ensures { IfSome result (IsWriting s.now self.new) }
+    {
+        self.add_unless(self.nest.is_listed, self.nest.from)?;
+        if byte_at(s, self.at) == b'I' {
+            return self.open_arguments(Open::FirstArguments { nest: self.nest });
+        }
+        self.component_at(s)
+    }
+
+    /// Reads another component of a nested name, or its end.
+    pub(crate) fn tail_at(&mut self, s: &[u8]) -> Option<Step>
+        requires fits { FitsSymbol s.now }
+        requires writing { IsWriting s.now self.old steps.Tail }
+        ensures { IfSome result (IsWriting s.now self.new) }
+    {
+        if byte_at(s, self.at) == b'E' {
+            return self.nest_ended(s);
+        }
+        self.add_unless(self.nest.is_listed, self.nest.from)?;
+        self.component_at(s)
+    }
+
+    /// Reads the E of a nested name.
+    fn nest_ended(&mut self, s: &[u8]) -> Option<Step>
+        requires fits { FitsSymbol s.now }
+        requires end { StandsAt s.now self.old.at (69 ∷ []) }
+        requires writing { IsWriting s.now self.old steps.Tail }
+        ensures { IfSome result (IsWriting s.now self.new) }
+    {
+        self.at = self.at.checked_add(1)?;
+        match self.nest.purpose {
+            Purpose::Type => {
+                self.add_unless(self.nest.is_listed, self.nest.from)?;
+                Some(Step::Value {
+                    is_reference: false,
+                })
+            }
+            Purpose::Name { is_const } => self.name_ended(s, is_const, self.nest.is_instance),
+        }
+    }
+
+    /// Reads a component of a nested name.
+    // <unqualified-name> ::= <source-name> | <ctor-dtor-name>
+    pub(crate) fn component_at(&mut self, s: &[u8]) -> Option<Step>
+        requires fits { FitsSymbol s.now }
+        requires writing { IsWriting s.now self.old steps.Component }
+        ensures { IfSome result (IsWriting s.now self.new) }
+    {
+        match byte_at(s, self.at) {
+            b'C' => self.constructor(s),
+            b'D' => self.destructor(s),
+            b'L' => self.source(s, true),
+            _ => self.source(s, false),
+        }
+    }
+
+    // <unqualified-name> ::= <source-name>
+    #[inline(always)]
+    fn source(&mut self, s: &[u8], is_internal: bool) -> Option<Step>
+        requires fits { FitsSymbol s.now }
+        requires letter { is_internal ≡ true → StandsAt s.now self.old.at (76 ∷ []) }
+        requires writing { IsWriting s.now self.old steps.Component }
+        ensures { IfSome result (IsWriting s.now self.new) }
+    {
+        if is_internal {
+            self.at = self.at.checked_add(1)?;
+        }
+        self.push(b"::")?;
+        let class_from = self.text.len();
+        self.name(s)?;
+        self.nest = Nest {
+            class_from,
+            class_to: self.text.len(),
+            is_listed: false,
+            has_class: true,
+            is_instance: false,
+            ..self.nest
+        };
+        self.nest_named(s)
+    }
+
+    // <ctor-dtor-name> ::= C1 | C2 | C3
+    fn constructor(&mut self, s: &[u8]) -> Option<Step>
+        requires fits { FitsSymbol s.now }
+        requires letter { StandsAt s.now self.old.at (67 ∷ []) }
+        requires writing { IsWriting s.now self.old steps.Component }
+        ensures { IfSome result (IsWriting s.now self.new) }
+    {
+        self.at = self.at.checked_add(1)?;
+        let digit = byte_at(s, self.at);
+        if digit < b'1' || b'3' < digit || !self.nest.has_class {
+            return None;
+        }
+        self.at = self.at.checked_add(1)?;
+        self.push(b"::")?;
+        self.class_again(s)
+    }
+
+    // <ctor-dtor-name> ::= D0 | D1 | D2
+    fn destructor(&mut self, s: &[u8]) -> Option<Step>
+        requires fits { FitsSymbol s.now }
+        requires letter { StandsAt s.now self.old.at (68 ∷ []) }
+        requires writing { IsWriting s.now self.old steps.Component }
+        ensures { IfSome result (IsWriting s.now self.new) }
+    {
+        self.at = self.at.checked_add(1)?;
+        let digit = byte_at(s, self.at);
+        if digit < b'0' || b'2' < digit || !self.nest.has_class {
+            return None;
+        }
+        self.at = self.at.checked_add(1)?;
+        self.push(b"::~")?;
+        self.class_again(s)
+    }
+
+    /// Writes the name of the class again, as that of its constructor or destructor.
+    #[inline(always)]
+    fn class_again(&mut self, s: &[u8]) -> Option<Step>
+        requires { AwaitsClass s.now self.old }
+        ensures { IfSome result (IsWriting s.now self.new) }
+    {
+        self.repeat(self.nest.class_from, self.nest.class_to)?;
+        self.nest = Nest {
+            is_listed: false,
+            has_class: false,
+            is_instance: false,
+            ..self.nest
+        };
+        self.nest_named(s)
+    }
+}

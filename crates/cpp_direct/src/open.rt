@@ -1,0 +1,75 @@
+// What stands open around what is being read, and what comes next.
+
+/// What a substitution may name: its text, by its place in the text so far.
+#[derive(Clone, Copy)]
+pub struct Candidate {
+    pub from: usize,
+    pub to: usize,
+    pub is_reference: bool,
+}
+
+/// What a nested name is read as.
+#[derive(Clone, Copy)]
+pub enum Purpose {
+    /// a type
+    Type,
+    /// the name of the encoding, of a member function that is const or not
+    Name { is_const: bool },
+}
+
+/// A nested name so far: where its text begins, and where that of the class is that a constructor would be named after.
+#[derive(Clone, Copy)]
+pub struct Nest {
+    pub from: usize,
+    pub class_from: usize,
+    pub class_to: usize,
+    pub purpose: Purpose,
+    /// It is a candidate already.
+    pub is_listed: bool,
+    /// Its last piece is the name of a class.
+    pub has_class: bool,
+    /// It ends in arguments, and what stands before them is no constructor or destructor.
+    pub is_instance: bool,
+}
+
+/// What waits for the type that is being read.
+#[derive(Clone, Copy)]
+pub enum Open {
+    Pointer { from: usize },
+    Lvalue { from: usize },
+    Rvalue { from: usize },
+    Const { from: usize },
+    /// the arguments of a type
+    TypeArguments { from: usize },
+    /// the arguments of a component, or of a name in std, in a nested name
+    NestArguments { nest: Nest },
+    /// the arguments of a nested name's first piece, behind which a component stands
+    FirstArguments { nest: Nest },
+    /// the arguments of a name of an encoding
+    NameArguments,
+    /// the parameters of a function
+    Parameters { is_const: bool },
+    /// the name of a special symbol
+    Special,
+}
+
+/// What comes next.
+#[derive(Clone, Copy)]
+pub enum Step {
+    /// a type
+    Type,
+    /// a type behind a const
+    Plain,
+    /// a type was read
+    Value { is_reference: bool },
+    /// an argument, or the end of the arguments
+    List { is_first: bool },
+    /// a component, or the arguments of the first piece of a nested name
+    Rest,
+    /// a component, or the end of a nested name
+    Tail,
+    /// a component
+    Component,
+    /// all is read
+    Ended,
+}

@@ -1,0 +1,91 @@
+// The bytes of a symbol.
+
+ghost use Rattle.std.specs.Prelude.{◌≡◌, ◌≢◌, ◌≤◌, ◌∷◌, ◌++◌, [], ℕ, List, length, slice_get, true, Some};
+ghost use Rattle.std.specs.List.{AllByRecursion};
+ghost use Rattle.std.specs.Option.{OnSome, IfSome};
+ghost use Rattle.sym_core.specs.Number.{FitsSymbol};
+ghost use Rattle.sym_core.specs.Value.{counted_value};
+ghost use Rattle.sym_core.specs.declared.NumberKind.{NumberKind};
+ghost use Rattle.cpp_grammar.specs.Parts.{source_text};
+ghost use Rattle.cpp_direct.specs.Holes.{StandsAt, IsNameAt, IsSeqAt};
+ghost use Rattle.cpp_direct.specs.HolesOfLists.{IsSuffix};
+ghost use Rattle.cpp_direct.specs.ItemBytes.{is_suffix_byte};
+ghost use Rattle.cpp_direct.specs.Written.{Reads};
+
+use crate::direct::Direct;
+use crate::open::Candidate;
+use sym_core::{NameClass, NumberKind, find_name, find_number, value36};
+
+/// The byte at a place, or 0 behind the end.
+#[inline(always)]
+pub fn byte_at(s: &[u8], at: usize) -> u8
+    ensures { result ≢ 0 → StandsAt s.now at (result ∷ []) }
+{
+    if at < s.len() { s[at] } else { 0 }
+}
+
+/// Whether a byte may stand in a suffix.
+#[tactic(auto, unfolding(crate::specs::ItemBytes::is_suffix_byte))]
+fn is_suffix_byte(byte: u8) -> bool
+    ensures { result ≡ is_suffix_byte byte }
+{
+    match byte {
+        b'0'..=b'9' => true,
+        b'A'..=b'Z' => true,
+        b'a'..=b'z' => true,
+        b'$' | b'.' | b'_' => true,
+        _ => false,
+    }
+}
+
+/// Whether each byte may stand in a suffix.
+fn are_suffix_bytes(bytes: &[u8]) -> bool
+    ensures { result ≡ true → AllByRecursion (λ b. is_suffix_byte b ≡ true) bytes.now }
+{
+    bytes.iter().all(|byte| is_suffix_byte(*byte))
+}
+
+/// Whether it is a point and at least one byte of a suffix.
+pub fn is_suffix(bytes: &[u8]) -> bool
+    ensures { result ≡ true → IsSuffix bytes.now }
+{
+    if byte_at(bytes, 0) != b'.' || bytes.len() < 2 {
+        return false;
+    }
+    are_suffix_bytes(&bytes[1..])
+}
+
+impl Direct {
+    /// Reads a name and writes its text.
+    // <source-name> ::= <positive length number> <identifier>
+    #[inline(always)]
+    pub(crate) fn name(&mut self, s: &[u8]) -> Option<()>
+        requires { FitsSymbol s.now }
+        ensures { OnSome result ((name : List ℕ) × IsNameAt s.now self.old.at name self.new.at × (name ≢ []) × Reads self.old self.new (source_text name)) }
+    {
+        if self.at > s.len() {
+            return None;
+        }
+        let place = find_name(s, self.at, NameClass::Cpp).ok()?;
+        self.at = place.end;
+        self.push(cpp_layout::name_text(&s[place.from..place.to]))
+    }
+
+    /// Reads the number of a substitution, and finds what it names.
+    // <substitution> ::= S <seq-id> _ | S_
+    pub(crate) fn substitution(&mut self, s: &[u8]) -> Option<Candidate>
+        requires { FitsSymbol s.now }
+        ensures is { IfSome result (λ candidate. (digits : List ℕ) × IsSeqAt s.now self.old.at digits self.new.at
+            × (slice_get self.old.candidates.items (counted_value NumberKind.Seq36 digits) ≡ Some candidate)) }
+        ensures same { OnSome result (Reads self.old self.new []) }
+    {
+        if self.at > s.len() {
+            return None;
+        }
+        let place = find_number(s, self.at, NumberKind::Seq36).ok()?;
+        let index = value36(&s[place.from..place.to])?;
+        self.at = place.end;
+        let candidate = self.candidates.get(index as usize)?;
+        Some(*candidate)
+    }
+}

@@ -1,0 +1,158 @@
+// Types.
+
+ghost use Rattle.std.specs.Prelude.{◌≢◌, ◌∷◌, [], if◌then◌else◌};
+ghost use Rattle.std.specs.Option.{IfSome};
+ghost use Rattle.sym_core.specs.Number.{FitsSymbol};
+ghost use Rattle.cpp_direct.specs.declared.open.Step.TheVariants as steps;
+ghost use Rattle.cpp_direct.specs.Holes.{StandsAt};
+ghost use Rattle.cpp_direct.specs.Stands.{IsWriting};
+ghost use Rattle.cpp_direct.specs.Ways.{AwaitsType, IsTypeNamed, AwaitsMark};
+
+use crate::direct::Direct;
+use crate::open::{Open, Purpose, Step};
+use crate::tokens::byte_at;
+
+impl Direct {
+    /// Reads a type, up to the first that stands in it.
+    // <type> ::= <builtin-type> | <qualified-type> | <class-enum-type> | P <type> | R <type> | O <type> | <substitution>
+    pub(crate) fn type_at(&mut self, s: &[u8], is_plain: bool) -> Option<Step>
+        requires fits { FitsSymbol s.now }
+        requires writing { IsWriting s.now self.old (if is_plain then steps.Plain else steps.Type) }
+        ensures { IfSome result (IsWriting s.now self.new) }
+    {
+        let from = self.text.len();
+        match byte_at(s, self.at) {
+            b'P' => self.open_type(Open::Pointer { from }, Step::Type),
+            b'R' => self.open_type(Open::Lvalue { from }, Step::Type),
+            b'O' => self.open_type(Open::Rvalue { from }, Step::Type),
+            b'K' => {
+                if is_plain {
+                    return None;
+                }
+                self.open_type(Open::Const { from }, Step::Plain)
+            }
+            b'N' => {
+                self.at = self.at.checked_add(1)?;
+                self.nest_at(s, Purpose::Type)
+            }
+            b'S' => self.type_with_s(s),
+            b'1'..=b'9' => {
+                self.name(s)?;
+                self.type_named(s, from, false, false)
+            }
+            letter => self.builtin(s, letter),
+        }
+    }
+
+    // <builtin-type> ::= v | w | b | ..
+    #[inline(always)]
+    fn builtin(&mut self, _s: &[u8], letter: u8) -> Option<Step>
+        requires letter { letter ≢ 0 → StandsAt _s.now self.old.at (letter ∷ []) }
+        requires awaits { AwaitsType _s.now self.old }
+        ensures { IfSome result (IsWriting _s.now self.new) }
+    {
+        let text = cpp_layout::builtin_text(letter);
+        if text.is_empty() {
+            return None;
+        }
+        self.at = self.at.checked_add(1)?;
+        self.push(text)?;
+        Some(Step::Value {
+            is_reference: false,
+        })
+    }
+
+    // <substitution> ::= S <seq-id> _ | S_ | St | Sa | Ss | Sb | Si | So | Sd
+    fn type_with_s(&mut self, s: &[u8]) -> Option<Step>
+        requires fits { FitsSymbol s.now }
+        requires letter { StandsAt s.now self.old.at (83 ∷ []) }
+        requires awaits { AwaitsType s.now self.old }
+        ensures { IfSome result (IsWriting s.now self.new) }
+    {
+        let from = self.text.len();
+        self.at = self.at.checked_add(1)?;
+        let letter = byte_at(s, self.at);
+        if letter == b't' {
+            self.at = self.at.checked_add(1)?;
+            self.push(b"std::")?;
+            self.name(s)?;
+            return self.type_named(s, from, false, false);
+        }
+        let text = cpp_layout::abbreviation_text(letter);
+        if !text.is_empty() {
+            self.at = self.at.checked_add(1)?;
+            self.push(text)?;
+            return self.type_named(s, from, true, false);
+        }
+        let candidate = self.substitution(s)?;
+        self.repeat(candidate.from, candidate.to)?;
+        self.type_named(s, from, true, candidate.is_reference)
+    }
+
+    /// The name of a type is read. Arguments may stand behind it.
+    // <class-enum-type> ::= <name> | <template-template-param> <template-args>
+    #[inline(always)]
+    fn type_named(
+        &mut self,
+        s: &[u8],
+        from: usize,
+        is_listed: bool,
+        is_reference: bool,
+    ) -> Option<Step>
+        requires { IsTypeNamed s.now self.old from is_listed is_reference }
+        ensures { IfSome result (IsWriting s.now self.new) }
+    {
+        self.add_unless(is_listed, from)?;
+        if byte_at(s, self.at) != b'I' {
+            return Some(Step::Value { is_reference });
+        }
+        if is_reference {
+            return None;
+        }
+        self.open_arguments(Open::TypeArguments { from })
+    }
+
+    /// Hands a type on to what waits for it.
+    pub(crate) fn pass(&mut self, s: &[u8], is_reference: bool) -> Option<Step>
+        requires fits { FitsSymbol s.now }
+        requires writing { IsWriting s.now self.old (steps.Value is_reference) }
+        ensures { IfSome result (IsWriting s.now self.new) }
+    {
+        match *self.waiting.last()? {
+            Open::Pointer { from } => self.mark(s, b"*", from, false),
+            Open::Lvalue { from } => {
+                if is_reference {
+                    return None;
+                }
+                self.mark(s, b"&", from, true)
+            }
+            Open::Rvalue { from } => {
+                if is_reference {
+                    return None;
+                }
+                self.mark(s, b"&&", from, true)
+            }
+            Open::Const { from } => {
+                if is_reference {
+                    return None;
+                }
+                self.mark(s, b" const", from, false)
+            }
+            Open::Parameters { is_const } => self.parameter_ended(s, is_const),
+            Open::Special => self.end(s, false),
+            _ => Some(Step::List { is_first: false }),
+        }
+    }
+
+    /// Ends a type with a mark.
+    #[inline(always)]
+    fn mark(&mut self, _s: &[u8], mark: &[u8], from: usize, is_reference: bool) -> Option<Step>
+        requires { AwaitsMark _s.now self.old mark.now from is_reference }
+        ensures { IfSome result (IsWriting _s.now self.new) }
+    {
+        let _open = self.waiting.pop();
+        self.push(mark)?;
+        self.add_candidate(from, is_reference)?;
+        Some(Step::Value { is_reference })
+    }
+}

@@ -1,0 +1,97 @@
+// The text and the candidates, as they grow.
+
+ghost use Rattle.std.specs.Prelude.{◌≡◌, ◌+◌, ◌-◌, ◌≤◌, ◌∷◌, ◌++◌, [], length, take, drop, codes, true, if◌then◌else◌};
+ghost use Rattle.std.specs.Option.{OnSome, IfSome};
+ghost use Rattle.cpp_direct.specs.declared.open.Step.TheVariants as steps;
+ghost use Rattle.cpp_direct.specs.Written.{Writes, added, added_unless};
+
+use crate::direct::Direct;
+use crate::open::{Candidate, Open, Step};
+
+impl Direct {
+    /// Writes a text.
+    #[inline(always)]
+    pub(crate) fn push(&mut self, text: &[u8]) -> Option<()>
+        ensures { OnSome result (Writes self.old self.new text.now) }
+    {
+        self.text.extend_from_slice(text).ok()
+    }
+
+    /// What is written from a place on becomes a candidate.
+    #[inline(always)]
+    pub(crate) fn add_candidate(&mut self, from: usize, is_reference: bool) -> Option<()>
+        ensures candidates { OnSome result (self.new.candidates.items ≡ added self.old from is_reference) }
+        ensures text { self.new.text ≡ self.old.text }
+        ensures open { self.new.waiting ≡ self.old.waiting }
+        ensures nest { self.new.nest ≡ self.old.nest }
+        ensures at { self.new.at ≡ self.old.at }
+        ensures most { self.new.most ≡ self.old.most }
+    {
+        let to = self.text.len();
+        self.candidates
+            .push(Candidate {
+                from,
+                to,
+                is_reference,
+            })
+            .ok()
+    }
+
+    /// The same unless it is one already.
+    #[inline(always)]
+    pub(crate) fn add_unless(&mut self, is_listed: bool, from: usize) -> Option<()>
+        ensures candidates { OnSome result (self.new.candidates.items ≡ added_unless self.old is_listed from) }
+        ensures text { self.new.text ≡ self.old.text }
+        ensures open { self.new.waiting ≡ self.old.waiting }
+        ensures nest { self.new.nest ≡ self.old.nest }
+        ensures at { self.new.at ≡ self.old.at }
+        ensures most { self.new.most ≡ self.old.most }
+    {
+        if is_listed {
+            return Some(());
+        }
+        self.add_candidate(from, false)
+    }
+
+    /// Writes what stands in the text once more.
+    pub(crate) fn repeat(&mut self, from: usize, to: usize) -> Option<()>
+        requires from { from ≤ to }
+        requires to { to ≤ length self.old.text.items }
+        ensures { OnSome result (Writes self.old self.new (take (to - from) (drop from self.old.text.items))) }
+    {
+        if self.text.len() + (to - from) > self.most {
+            return None;
+        }
+        self.text.extend_from_within(from..to).ok()
+    }
+
+    /// Opens what waits for a type.
+    #[inline(always)]
+    pub(crate) fn open_type(&mut self, entry: Open, step: Step) -> Option<Step>
+        ensures step { IfSome result (λ next. next ≡ step) }
+        ensures open { OnSome result (self.new.waiting.items ≡ self.old.waiting.items ++ entry ∷ []) }
+        ensures at { OnSome result (self.new.at ≡ self.old.at + 1) }
+        ensures text { self.new.text ≡ self.old.text }
+        ensures candidates { self.new.candidates ≡ self.old.candidates }
+        ensures nest { self.new.nest ≡ self.old.nest }
+    {
+        self.at = self.at.checked_add(1)?;
+        self.waiting.push(entry).ok()?;
+        Some(step)
+    }
+
+    /// Opens arguments.
+    // <template-args> ::= I <template-arg>* E
+    #[inline(always)]
+    pub(crate) fn open_arguments(&mut self, entry: Open) -> Option<Step>
+        ensures step { IfSome result (λ next. next ≡ steps.List true) }
+        ensures open { OnSome result (self.new.waiting.items ≡ self.old.waiting.items ++ entry ∷ []) }
+        ensures at { OnSome result (self.new.at ≡ self.old.at + 1) }
+        ensures text { OnSome result (self.new.text.items ≡ self.old.text.items ++ codes "<") }
+        ensures candidates { OnSome result (self.new.candidates ≡ self.old.candidates) }
+        ensures nest { OnSome result (self.new.nest ≡ self.old.nest) }
+    {
+        self.push(b"<")?;
+        self.open_type(entry, Step::List { is_first: true })
+    }
+}
