@@ -6,11 +6,6 @@ abbrev pub one_of : List ℕ → ℕ → Bool
 one_of [] byte = false
 one_of (c ∷ cs) byte = nat_eq byte c || one_of cs byte
 
--- a byte at which an item of a list begins that is read at once: a number, a qualifier, a reference, a pointer, a nested name, an S, or
--- the letter of a builtin type
-unfoldable pub begins_item : ℕ → Bool
-begins_item byte = one_of (codes "123456789KNOPRSvwbcahstijlmxynofdegz") byte
-
 -- the letter of a builtin type that an integer in an argument may have
 unfoldable pub is_integer_letter : ℕ → Bool
 is_integer_letter byte = one_of (codes "hijlmnowxyacst") byte

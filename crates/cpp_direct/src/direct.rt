@@ -58,7 +58,8 @@ impl Direct {
         &self.text
     }
 
-    /// Writes the text of a symbol, if it is one that can be read so and its text costs at most the limit.
+    /// Writes the text of a symbol in full, if the symbol is one that can be read so and the text costs at most a limit, and
+    /// answers whether it did. Where it didn't, nothing is known of the symbol.
     pub fn write(&mut self, s: &[u8], limit: u32) -> bool
         requires { FitsSymbol s.now }
         ensures { result ≡ true → IsAnswer details.Full s.now limit (Ok self.new.text.items) }

@@ -125,7 +125,7 @@ pub(crate) fn ending(letter: u8) -> u16
 
 /// Whether the literals of a builtin type need no cast.
 #[tactic(auto, unfolding(cpp_term::specs::Parts::is_plain_integer))]
-pub fn is_plain(letter: u8) -> bool
+pub(crate) fn is_plain(letter: u8) -> bool
     ensures { result ≡ is_plain_integer (builtin (letter ∷ [])) }
 {
     match letter {
