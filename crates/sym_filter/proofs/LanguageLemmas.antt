@@ -1,6 +1,6 @@
 -- What is answered for a symbol, by the laws of its answers.
 use Rattle.std.proofs.Common.{◌≡◌, ◌≢◌, ◌⊎◌, inl, inr, ℕ, List, ◌++◌, length, Result, Ok, Err, sym, ap, ◌∙◌, subst}
-use Rattle.std.specs.Prelude.{OnOk, IfErr, ◌+◌, ◌*◌, ◌≤◌}
+use Rattle.std.specs.Prelude.{OnOk, OnErr, IfErr, ◌+◌, ◌*◌, ◌≤◌}
 use Rattle.sym_core.specs.declared.counts.Counts.{Counts}
 use Rattle.sym_core.specs.declared.refusal.Refusal.{Refusal}
 use Rattle.sym_core.specs.declared.refusal.Refusal.TheVariants.{Memory, TooLong}
@@ -11,7 +11,7 @@ use Rattle.sym_shape.specs.Tree.{AreRowsOf}
 use Rattle.sym_demangle.specs.Mangled.{Mangled, IsAnswer, IsReading, answer}
 use Rattle.sym_demangle.specs.Standing.{AreStepsInAll, AreNodesOf}
 use Rattle.sym_demangle.proofs.Answering.{is_answer, reading_answered}
-use Rattle.sym_filter.specs.Demangled.{IsDemangled}
+use Rattle.sym_filter.specs.Demangled.{IsAppended, IsDemangled}
 use Rattle.sym_filter.specs.Languages.{behind_front, Readings, AreCounts, AreCountsOf}
 use Rattle.sym_filter.specs.declared.demangler.Demangled.{Demangled}
 use Rattle.sym_filter.specs.declared.kinds.Lang.{Lang}
@@ -27,6 +27,15 @@ module _ {W : Type 0} (m : Mangled W) (limit : ℕ) (detail : Detail) (symbol : 
       → (text : List ℕ) × (answer m detail symbol limit ≡ Ok text) × (new ≡ old ++ text)
   text_answered old new result done there is =
       text_given old new (subst (λ r. OnOk r ((text : List ℕ) × (new ≡ old ++ text) × IsAnswer m detail symbol limit (Ok text))) there is)
+
+  -- a text that was appended, or refused
+  pub append_answered : {A : Type 0} (old new : List ℕ) (result : Result A Refusal)
+      → OnOk result ((text : List ℕ) × (new ≡ old ++ text) × IsAnswer m detail symbol limit (Ok text))
+      → IfErr result (λ e. (e ≡ Memory) ⊎ IsAnswer m detail symbol limit (Err e)) → OnErr result (new ≡ old)
+      → IsAppended (answer m detail symbol limit) old new result
+  append_answered old new (Ok done) given refused same = text_given old new given
+  append_answered old new (Err e) given refused same =
+      (λ other. elim refused [ inl memory ↦ absurd (other memory) | inr is ↦ sym (is_answer m detail symbol limit (Err e) bytes is) ], same)
 
   -- a text that is refused for its cost
   pub too_long_answered : {A : Type 0} (result : Result A Refusal) (refusal : Refusal) → result ≡ Err refusal → refusal ≡ TooLong
@@ -73,6 +82,11 @@ pub demangled_in : (answers : Lang → Result (List ℕ) Refusal) (lang known : 
     → IsDemangled (answers known) (AreCountsOf known symbol) old new demangled → IsDemangled (answers lang) (AreCountsOf lang symbol) old new demangled
 demangled_in answers lang known symbol old new demangled same is =
     subst (λ l. IsDemangled (answers l) (AreCountsOf l symbol) old new demangled) (sym same) is
+
+-- what was appended of a symbol of a language, where the language is known by an equation
+pub appended_in : {A : Type 0} (answers : Lang → Result (List ℕ) Refusal) (lang known : Lang) (old new : List ℕ) (result : Result A Refusal) → lang ≡ known
+    → IsAppended (answers known) old new result → IsAppended (answers lang) old new result
+appended_in answers lang known old new result same is = subst (λ l. IsAppended (answers l) old new result) (sym same) is
 
 -- ## Symbols that are pressed
 

@@ -3,7 +3,7 @@ ghost use Rattle.std.specs.Prelude.{List, ℕ, Result};
 ghost use Rattle.sym_core.specs.Number.{FitsSymbol};
 ghost use Rattle.sym_core.specs.declared.counts.Counts.{Counts as Counts-type};
 ghost use Rattle.sym_core.specs.declared.refusal.Refusal.{Refusal as Refusal-type};
-ghost use Rattle.sym_filter.specs.Demangled.{IsDemangled};
+ghost use Rattle.sym_filter.specs.Demangled.{IsAppended, IsDemangled};
 ghost use Rattle.sym_filter.specs.declared.kinds.Kind.{Kind as Kind-type};
 ghost use Rattle.sym_filter.specs.declared.kinds.Lang.{Lang as Lang-type};
 
@@ -49,4 +49,19 @@ pub trait Demangler {
     ) -> Demangled
         requires { FitsSymbol symbol.now }
         ensures { IsDemangled (answer self.now kind symbol.now) (are_counts self.now kind.lang symbol.now) out.old.items out.new.items result };
+
+    /// Appends the same text, or nothing, and counts nothing.
+    ///
+    /// # Errors
+    ///
+    /// Why the symbol has no text: that of a symbol which is read is then `TooLong`. Want of memory may refuse any symbol.
+    fn append(
+        &self,
+        lists: &mut Self::Lists,
+        kind: Kind,
+        symbol: &[u8],
+        out: &mut Vec<u8>,
+    ) -> Result<(), Refusal>
+        requires { FitsSymbol symbol.now }
+        ensures { IsAppended (answer self.now kind symbol.now) out.old.items out.new.items result };
 }

@@ -1,17 +1,19 @@
 // The demangler over both manglings.
 ghost use Rattle.sym_core.specs.Number.{FitsSymbol};
 ghost use Rattle.sym_demangle.specs.Mangled.{answer};
-ghost use Rattle.sym_filter.specs.Demangled.{IsDemangled};
+ghost use Rattle.cpp_grammar.specs.Mangled.{cpp_mangled};
+ghost use Rattle.sym_filter.specs.Demangled.{IsAppended, IsDemangled};
 ghost use Rattle.sym_filter.specs.Languages.{answer_of, AreCounts, AreCountsOf};
 
 use crate::counted::Counted;
 use crate::demangler::{Demangled, Demangler};
 use crate::kinds::{Kind, Lang};
+use cpp_direct::Direct;
 use itanium::Abi;
 use rust_v0::V0;
 use std::alloc::{AllocError, Global};
 use sym_core::Refusal;
-use sym_demangle::Workspace;
+use sym_demangle::{Mangling, Workspace};
 use sym_print::Detail;
 
 /// Both manglings, at a limit on the cost of a text and a detail.
@@ -26,6 +28,7 @@ pub struct Languages {
 pub struct Lists {
     pub cpp: Workspace<Abi>,
     pub rust: Workspace<V0>,
+    pub direct: Direct,
 }
 
 impl Lists {
@@ -33,6 +36,7 @@ impl Lists {
         Lists {
             cpp: Workspace::new(alloc),
             rust: Workspace::new(alloc),
+            direct: Direct::new(alloc),
         }
     }
 
@@ -74,6 +78,53 @@ impl Demangler for Languages {
             Lang::Rust => demangle_in(&mut lists.rust, symbol, self.limit, self.detail, out),
         }
     }
+
+    fn append(
+        &self,
+        lists: &mut Lists,
+        kind: Kind,
+        symbol: &[u8],
+        out: &mut Vec<u8>,
+    ) -> Result<(), Refusal> {
+        match kind.lang {
+            Lang::Cpp => append_cpp(lists, symbol, self.limit, self.detail, out),
+            Lang::Rust => append_in(&mut lists.rust, symbol, self.limit, self.detail, out),
+        }
+    }
+}
+
+/// Appends the text of a C++ symbol, where it has one. In full one of common parts is written while it is read.
+fn append_cpp(
+    lists: &mut Lists,
+    symbol: &[u8],
+    limit: u32,
+    detail: Detail,
+    out: &mut Vec<u8>,
+) -> Result<(), Refusal>
+    requires { FitsSymbol symbol.now }
+    ensures { IsAppended (answer cpp_mangled detail symbol.now limit) out.old.items out.new.items result }
+{
+    if let Detail::Full = detail
+        && lists.direct.write(symbol, limit)
+    {
+        out.extend_from_slice(lists.direct.text())?;
+        return Ok(());
+    }
+    append_in(&mut lists.cpp, symbol, limit, detail, out)
+}
+
+/// Appends the text of a symbol of a mangling, where it has one.
+fn append_in<M: Mangling>(
+    workspace: &mut Workspace<M>,
+    symbol: &[u8],
+    limit: u32,
+    detail: Detail,
+    out: &mut Vec<u8>,
+) -> Result<(), Refusal>
+    requires { FitsSymbol symbol.now }
+    ensures { IsAppended (answer M.mangled detail symbol.now limit) out.old.items out.new.items result }
+{
+    workspace.demangle_into(symbol, limit, detail, out)
 }
 
 /// Appends the text of a symbol of a mangling, where it has one.

@@ -112,6 +112,20 @@ impl Demangler for Pressing {
             Lang::Rust => press_into(&mut lists.rust, kind.skip, symbol, out),
         }
     }
+
+    fn append(
+        &self,
+        lists: &mut Lists,
+        kind: Kind,
+        symbol: &[u8],
+        out: &mut Vec<u8>,
+    ) -> Result<(), Refusal> {
+        match self.demangle(lists, kind, symbol, out) {
+            Demangled::Text(_) => Ok(()),
+            Demangled::TooLong(_) => Err(Refusal::TooLong),
+            Demangled::Refused(refusal) => Err(refusal),
+        }
+    }
 }
 
 /// Appends the pressed spelling of a symbol of a mangling, where it is read, behind the underscore that was dropped.

@@ -342,10 +342,9 @@ fn push_text<D: Demangler>(
     ensures text { OnOk result (out.new.items ≡ out.old.items ++ word_or_text (D.answer demangler.now) word.now) }
     ensures has_text { IfOk result (λ has_text. has_text ≡ is_some (text_for (D.answer demangler.now) word.now)) }
 {
-    match demangler.demangle(lists, kind, kind.symbol_of(word), out) {
-        Demangled::Text(_) => return Ok(true),
-        Demangled::TooLong(_) => {}
-        Demangled::Refused(refusal) => match refusal {
+    match demangler.append(lists, kind, kind.symbol_of(word), out) {
+        Ok(()) => return Ok(true),
+        Err(refusal) => match refusal {
             Refusal::Memory => return Err(AllocError),
             _ => {}
         },

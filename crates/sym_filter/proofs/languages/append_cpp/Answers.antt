@@ -1,0 +1,18 @@
+use Rattle.std.proofs.Common.{rules, Ok, ap, sym, ◌∙◌}
+use Rattle.sym_print.specs.declared.detail.Detail.TheVariants.{Full}
+use Rattle.sym_shape.specs.Decided.{AreBytes}
+use Rattle.sym_demangle.specs.Mangled.{answer}
+use Rattle.sym_demangle.proofs.Answering.{is_answer}
+use Rattle.cpp_grammar.specs.Mangled.{cpp_mangled}
+use Rattle.sym_filter.proofs.languages.append_cpp.Goals as goal
+
+pub returns : goal.returns
+returns c =
+    let symbol = c.args.symbol.now in
+    let bytes : AreBytes symbol = λ i. search (rules, c.type_inv.symbol i) in (
+      c.text.result.now,
+      ap (λ d. answer cpp_mangled d symbol c.args.limit) c.in-Full.is
+          ∙ sym (is_answer cpp_mangled Full symbol c.args.limit (Ok c.write.new.self.text.items) bytes (c.write.ensures c.if-write.true))
+          ∙ ap (λ t. Ok t) (sym c.text.ensures),
+      c.in_ok-extend_from_slice.ensures.items,
+    )
