@@ -1,29 +1,34 @@
 -- An argument that is a literal was read.
-use Rattle.std.proofs.Common.{◌≡◌, ◌≢◌, ℕ, ◌+◌, ◌⊎◌, List, [], ◌∷◌, ◌++◌, length, reverse, nat_eq, Bool, true, false, cond, refl, ap, sym, subst, ◌∙◌, arith, codes, append_assoc, append-nil}
+use Rattle.std.proofs.Common.{◌≡◌, ◌≢◌, ℕ, ◌+◌, ◌⊎◌, List, [], ◌∷◌, ◌++◌, length, reverse, nat_eq, Bool, true, false, cond, refl, ap, sym, subst, ◌∙◌, arith, codes, append_assoc, append-nil, drop, length-append, ◌-◌, inl, inr}
 use Rattle.std.proofs.lemmas.Bool.{false≢true}
+use Rattle.std.specs.List.{ends_with}
+use Rattle.std.specs.Cmp.Lexicographic.{pointwise}
+use Rattle.std.proofs.Math.Seq.{drop-append_seam}
+use Rattle.cpp_direct.specs.HolesOfTypes.{TreeOpens}
 use Rattle.cpp_grammar.specs.declared.kind.Kind.{Kind}
 use Rattle.cpp_grammar.specs.Parts.{is_plain_integer}
 use Rattle.cpp_grammar.specs.Term.{Term, builtin, boolean, integer, instance, list}
 use Rattle.cpp_grammar.specs.Texts.{look_up, builtin_texts, literal_endings}
 use Rattle.cpp_grammar.specs.Grammar.{among}
 use Rattle.cpp_grammar.specs.Between.{no_items}
-use Rattle.cpp_grammar.specs.Values.{tree, tree_of, normal, signed_digits}
+use Rattle.cpp_grammar.specs.Values.{tree, tree_of, normal, signed_digits, State}
+use Rattle.cpp_direct.specs.declared.open.Open.TheVariants as opens
 use Rattle.cpp_direct.specs.declared.direct.Direct.{Direct}
 use Rattle.cpp_direct.specs.declared.open.Step.TheVariants as steps
 use Rattle.cpp_direct.specs.Holes.{StandsAt, ListGoesOn}
 use Rattle.cpp_direct.specs.HolesOfLists.{IsDigitsAt, minus_sign}
 use Rattle.cpp_direct.specs.ItemBytes.{is_integer_letter}
-use Rattle.cpp_direct.specs.Prints.{Prints, PrintAll, PrintEach, joined, sign_text}
-use Rattle.cpp_direct.specs.Stands.{IsTemplate, IsWriting, Owns, Stands, list_with, in_front_of_next}
-use Rattle.cpp_direct.specs.Ways.{AwaitsNextArgument, truth_text, number_text, integer_text}
-use Rattle.cpp_direct.specs.Written.{Reads}
-use Rattle.cpp_direct.proofs.Kept.{candidates-read, template-stays}
-use Rattle.cpp_direct.proofs.Literals.{IsIntegerRead}
+use Rattle.cpp_direct.specs.Prints.{Prints, PrintAll, PrintEach, joined, sign_text, EndsAsInteger}
+use Rattle.cpp_direct.specs.Stands.{IsTemplate, IsWriting, Owns, Stands, list_with, in_front_of_next, AreCandidates, ArgumentsGoOn}
+use Rattle.cpp_direct.specs.Ways.{AwaitsNextArgument, truth_text, number_text, integer_text, AwaitsNumber, AwaitsNamedType}
+use Rattle.cpp_direct.specs.Written.{Reads, Writes}
+use Rattle.cpp_direct.proofs.Kept.{candidates-read, template-stays, candidates-stay, reverse-last}
+use Rattle.cpp_direct.proofs.Literals.{IsIntegerRead, IsNumberRead}
 use Rattle.cpp_direct.proofs.Moves.{stands-join}
-use Rattle.cpp_direct.proofs.MovesOfLists.{bool-element, integer-element}
+use Rattle.cpp_direct.proofs.MovesOfLists.{bool-element, integer-element, enumerator-opens}
 use Rattle.cpp_direct.proofs.PrintedLetters.{integer-there}
 use Rattle.cpp_direct.proofs.PrintedLists.{one-prints, another-prints}
-use Rattle.cpp_direct.proofs.PrintedValues.{boolean-prints, plain-integer-prints, cast-integer-prints, normal-filled}
+use Rattle.cpp_direct.proofs.PrintedValues.{boolean-prints, plain-integer-prints, cast-integer-prints, normal-filled, enumerator-prints, not-integer}
 use Rattle.cpp_direct.proofs.FoundTokens.{reads-then}
 
 -- ## Elements
@@ -46,10 +51,23 @@ added-prints [] l t bytes r all p = go all.0 all.1 all.2
     go (b ∷ bs) each is = absurd each
 added-prints (u ∷ ts) l t bytes r all p = another-prints (u ∷ ts) l t bytes r (λ e. cc e) all p
 
+-- arguments go on behind one more
+element-goes-on : (s : List ℕ) (old : Direct) (a : AwaitsNextArgument s old) (t : Term) (at : ℕ) (st : State)
+    → ListGoesOn s Kind.ArgumentList a.goes.1 a.goes.0 t at st
+    → ArgumentsGoOn s a.owner (Stands s a.rest) a.front a.template (a.ts ++ t ∷ []) at st
+unfolding no_items tree_of
+element-goes-on s old a t at st g = (
+  a.goes.0,
+  g.inner,
+  a.goes.2,
+  g.awaits,
+  λ l there now comes ended. subst (λ u. Owns s a.owner (Stands s a.rest) a.front (instance a.template u) (there + 1) now)
+      (sym (list-more a.ts t (no_items l))) (a.goes.4 (tree (list t (no_items l)) true) there now (g.passes l there now comes) ended),
+)
+
 -- an argument was read and written that is no type
 pub element-read : (s : List ℕ) (old new : Direct) (t : Term) (bytes : List ℕ) (a : AwaitsNextArgument s old) → Prints t bytes false
     → Reads old new bytes → ListGoesOn s Kind.ArgumentList a.goes.1 a.goes.0 t new.at a.state → IsWriting s new (steps.List false)
-unfolding no_items tree_of
 element-read s old new t bytes a prints reads g = record {
   state = a.state;
   candidates = candidates-read old new bytes a.state.candidates reads a.candidates;
@@ -68,14 +86,7 @@ element-read s old new t bytes a prints reads g = record {
     reads.text ∙ ap (λ l. l ++ bytes) a.written ∙ append_assoc (a.front ++ a.name ++ codes "<") (in_front_of_next a.ts a.arguments) bytes,
     λ first. absurd (false≢true first),
     λ further. some-more a.ts t,
-    (
-      a.goes.0,
-      g.inner,
-      a.goes.2,
-      g.awaits,
-      λ l at st comes ended. subst (λ u. Owns s a.owner (Stands s a.rest) a.front (instance a.template u) (at + 1) st)
-          (sym (list-more a.ts t (no_items l))) (a.goes.4 (tree (list t (no_items l)) true) at st (g.passes l at st comes) ended),
-    ),
+    element-goes-on s old a t new.at a.state g,
   );
 }
 
@@ -143,3 +154,120 @@ integer-element-read s old begun middle new a first next nothing read ended =
     (subst (λ n. ListGoesOn s Kind.ArgumentList a.goes.1 a.goes.0 t n a.state) (sym ended.1)
     (integer-element s a.goes.1 a.goes.0 letter negative ds old.at middle.at a.state read.3 a.goes.3 whole
     (subst (λ n. IsDigitsAt s n ds middle.at) there read.5) ended.0))
+
+-- ## Enumerators
+
+-- an argument was begun that is an enumerator
+pub enumerator-expected : (s : List ℕ) (old begun pushed new : Direct) (a : AwaitsNextArgument s old) → StandsAt s old.at (76 ∷ [])
+    → begun.at ≡ old.at + 1 → Reads old begun [] → Writes begun pushed (codes "(")
+    → new.text.items ≡ pushed.text.items → new.candidates ≡ pushed.candidates → new.waiting.items ≡ pushed.waiting.items ++ opens.Enumerator ∷ []
+    → new.at ≡ pushed.at → AwaitsNamedType s new
+enumerator-expected s old begun pushed new a stands next nothing writes text candidates waits at =
+    let e = enumerator-opens s a.goes.1 a.goes.0 old.at a.state a.goes.3 stands in
+    let same : begun.text.items ≡ old.text.items = nothing.text ∙ append-nil old.text.items in
+    let written : new.text.items ≡ old.text.items ++ codes "(" = text ∙ writes.text ∙ ap (λ l. l ++ codes "(") same in
+    let waiting : new.waiting.items ≡ old.waiting.items ++ opens.Enumerator ∷ [] =
+    waits ∙ ap (λ v. v.items ++ opens.Enumerator ∷ []) (writes.waiting ∙ nothing.waiting) in
+    record {
+      state = a.state;
+      candidates = subst (λ v. AreCandidates new.text.items v.items a.state.candidates) (sym (candidates ∙ writes.candidates ∙ nothing.candidates))
+          (subst (λ l. AreCandidates l old.candidates.items a.state.candidates) (sym written)
+          (candidates-stay old.text.items (codes "(") old.candidates.items a.state.candidates a.candidates));
+      kind = Kind.LiteralType;
+      is_named = tt;
+      around = a.goes.0;
+      outside = a.goes.2;
+      os = e.inner;
+      begins = subst (λ k. TreeOpens s Kind.LiteralType e.inner a.goes.0 k a.state) (sym (at ∙ writes.at ∙ next)) e.opens;
+      stands = subst (λ ws. Stands s ws e.inner new.text.items)
+          (sym (ap reverse waiting ∙ reverse-last old.waiting.items opens.Enumerator ∙ ap (λ ws. opens.Enumerator ∷ ws) a.open_is)) (
+            a.front,
+            a.template,
+            a.name,
+            a.ts,
+            a.arguments,
+            subst (λ l. IsTemplate a.owner a.front a.template a.name l) (sym written)
+                (template-stays a.owner a.front a.template a.name old.text.items (codes "(") a.is_template),
+            a.elements,
+            written ∙ ap (λ l. l ++ codes "(") a.written,
+            λ t here now comes negative digits end minus digits_there ended.
+                element-goes-on s old a (integer t (signed_digits negative digits)) (end + 1) now
+                (e.onward t here now comes negative digits end minus digits_there ended),
+          );
+    }
+
+-- a text that ends so
+ends-so : (text front last : List ℕ) → text ≡ front ++ last → ends_with nat_eq text last ≡ pointwise nat_eq last last
+ends-so text front last e =
+    let size : length text - length last ≡ length front = omega (arith, ap length e, length-append front last) in
+    ap (λ n. pointwise nat_eq last (drop n text)) size ∙ ap (λ l. pointwise nat_eq last (drop (length front) l)) e
+    ∙ ap (λ l. pointwise nat_eq last l) (drop-append_seam front last)
+
+-- a type that stands at the end of a text that doesn't end as those of integers without a type do
+no-integer-type : (text front bytes : List ℕ) → text ≡ front ++ bytes → ends_with nat_eq text (codes "int") ≡ false
+    → ends_with nat_eq text (codes "long") ≡ false → EndsAsInteger bytes → ⊥
+no-integer-type text front bytes e int long ending = go ending.1
+  where
+    go : (bytes ≡ ending.0 ++ codes "int") ⊎ (bytes ≡ ending.0 ++ codes "long") → ⊥
+    go (inl is) = false≢true (sym int ∙ ends-so text (front ++ ending.0) (codes "int")
+        (e ∙ ap (λ l. front ++ l) is ∙ sym (append_assoc front ending.0 (codes "int"))))
+    go (inr is) = false≢true (sym long ∙ ends-so text (front ++ ending.0) (codes "long")
+        (e ∙ ap (λ l. front ++ l) is ∙ sym (append_assoc front ending.0 (codes "long"))))
+
+-- the number of an enumerator was read behind its type, and an E
+pub enumerator-read : (s : List ℕ) (old begun pushed middle new : Direct) (a : AwaitsNumber s old)
+    → ends_with nat_eq old.text.items (codes "int") ≡ false → ends_with nat_eq old.text.items (codes "long") ≡ false
+    → begun.text ≡ old.text → begun.candidates ≡ old.candidates → begun.at ≡ old.at → reverse begun.waiting.items ≡ a.owner ∷ a.rest
+    → Writes begun pushed (codes ")") → (read : IsNumberRead s pushed middle)
+    → StandsAt s middle.at (69 ∷ []) × (new.at ≡ middle.at + 1) × Reads middle new [] → IsWriting s new (steps.List false)
+unfolding signed_digits
+enumerator-read s old begun pushed middle new a int long text candidates at waits writes read ended =
+    let negative = read.0 in
+    let ds = read.1 in
+    let n = signed_digits negative ds in
+    let t = integer a.type n in
+    let here : pushed.at ≡ old.at = writes.at ∙ at in
+    let front = a.front ++ a.name ++ codes "<" in
+    let before = in_front_of_next a.ts a.arguments in
+    let more = codes ")" ++ number_text n in
+    let own = codes "(" ++ a.bytes ++ codes ")" ++ sign_text n ++ n.digits in
+    let wrote : new.text.items ≡ old.text.items ++ more =
+    ended.2.text ∙ append-nil middle.text.items ∙ read.4.text ∙ ap (λ l. l ++ number_text n) (writes.text ∙ ap (λ v. v.items ++ codes ")") text)
+    ∙ append_assoc old.text.items (codes ")") (number_text n) in
+    let filled : ds ≢ [] = λ none. absurd (omega (arith, read.3.is_number.digits.1, ap length read.3.own, ap (λ (l : List ℕ). length l) none)) in
+    let prints = enumerator-prints a.type a.bytes a.is_reference a.prints (not-integer a.type a.bytes a.is_reference a.prints
+    (no-integer-type old.text.items (front ++ before ++ codes "(") a.bytes a.written int long)) n (normal-filled ds filled) in
+    record {
+      state = a.state;
+      candidates = subst (λ v. AreCandidates new.text.items v.items a.state.candidates)
+          (sym (ended.2.candidates ∙ read.4.candidates ∙ writes.candidates ∙ candidates))
+          (subst (λ l. AreCandidates l old.candidates.items a.state.candidates) (sym wrote)
+          (candidates-stay old.text.items more old.candidates.items a.state.candidates a.candidates));
+      is_before = (
+        a.owner,
+        a.rest,
+        ap (λ v. reverse v.items) (ended.2.waiting ∙ read.4.waiting ∙ writes.waiting) ∙ waits,
+        a.front,
+        a.template,
+        a.name,
+        a.ts ++ t ∷ [],
+        before ++ own,
+        subst (λ l. IsTemplate a.owner a.front a.template a.name l) (sym wrote)
+            (template-stays a.owner a.front a.template a.name old.text.items more a.is_template),
+        added-prints a.ts a.arguments t own false a.elements prints,
+        wrote ∙ ap (λ l. l ++ more) a.written ∙ rejoined front before a.bytes (sign_text n) n.digits,
+        λ first. absurd (false≢true first),
+        λ further. some-more a.ts t,
+        subst (λ k. ArgumentsGoOn s a.owner (Stands s a.rest) a.front a.template (a.ts ++ t ∷ []) k a.state) (sym ended.1)
+            (a.goes negative ds middle.at (subst (λ k. StandsAt s k (minus_sign negative)) here read.2)
+            (subst (λ k. IsDigitsAt s (k + length (minus_sign negative)) ds middle.at) here read.3) ended.0),
+      );
+    }
+  where
+    rejoined : (f b t s d : List ℕ)
+        → (f ++ b ++ codes "(" ++ t) ++ (codes ")" ++ (s ++ d)) ≡ f ++ (b ++ (codes "(" ++ t ++ codes ")" ++ s ++ d))
+    rejoined f b t s d =
+        ap (λ l. l ++ (codes ")" ++ (s ++ d))) (append_assoc (f ++ b) (codes "(") t ∙ append_assoc f b (codes "(" ++ t))
+        ∙ append_assoc f (b ++ (codes "(" ++ t)) (codes ")" ++ (s ++ d))
+        ∙ ap (λ l. f ++ l) (append_assoc b (codes "(" ++ t) (codes ")" ++ (s ++ d))
+        ∙ ap (λ l. b ++ l) (sym (append_assoc (codes "(" ++ t) (codes ")") (s ++ d)) ∙ sym (append_assoc (codes "(" ++ t ++ codes ")") s d)))

@@ -18,7 +18,7 @@ use Rattle.cpp_direct.specs.declared.direct.Direct.{Direct}
 use Rattle.cpp_direct.specs.Holes.{Opened, Comes, Expects, StandsAt, AwaitsComponent, with_candidate}
 use Rattle.cpp_direct.specs.Prints.{Prints, PrintEach, PrintAll, Shows, joined, list_of}
 use Rattle.cpp_direct.specs.Stands.{AreCandidates, IsNest, IsTemplate, IsWriting, Below, Marks, Owns, Serves, ArgumentsGoOn, AwaitsArgument, Stands, list_with, in_front_of_next}
-use Rattle.cpp_direct.specs.Ways.{AwaitsMark, IsListEnded, AwaitsNextArgument, IsNameEnded, IsParameterEnded, IsEncodingEnded}
+use Rattle.cpp_direct.specs.Ways.{AwaitsMark, IsListEnded, AwaitsNextArgument, IsNameEnded, IsParameterEnded, IsEncodingEnded, AwaitsNumber}
 use Rattle.cpp_direct.specs.Written.{Writes, added}
 use Rattle.cpp_direct.proofs.Moves.{expects-empty}
 use Rattle.cpp_direct.proofs.MovesOfLists.{element-awaits}
@@ -540,6 +540,42 @@ value-special s w is_reference p found =
           (special-shows letter (λ e. filled (front_is ∙ e)) t bytes is_reference prints);
     }
 
+-- it is the type of an enumerator
+pub value-enumerator : (s : List ℕ) (w : Direct) (is_reference : Bool) → IsWriting s w (steps.Value is_reference)
+    → slice_get w.waiting.items (length w.waiting.items - 1) ≡ Some opens.Enumerator → AwaitsNumber s w
+value-enumerator s w is_reference p found =
+    let last = last-found w.waiting.items opens.Enumerator found in
+    go last.0 last.1 (subst (λ ws. Stands s ws p.is_before.0 p.is_before.2) last.1 p.is_before.7)
+  where
+    go : (rest : List Open) → reverse w.waiting.items ≡ opens.Enumerator ∷ rest
+        → Stands s (opens.Enumerator ∷ rest) p.is_before.0 p.is_before.2 → AwaitsNumber s w
+    go [] is waits = absurd waits
+    go (owner ∷ rest) is waits =
+        let t = p.is_before.1 in
+        let bytes = p.is_before.3 in
+        let written = p.is_before.4 in
+        record {
+          state = p.state;
+          candidates = p.candidates;
+          owner = owner;
+          rest = rest;
+          open_is = is;
+          front = waits.0;
+          template = waits.1;
+          name = waits.2;
+          ts = waits.3;
+          arguments = waits.4;
+          is_template = subst (λ l. IsTemplate owner waits.0 waits.1 waits.2 l) (sym written)
+              (template-stays owner waits.0 waits.1 waits.2 p.is_before.2 bytes waits.5);
+          elements = waits.6;
+          type = t;
+          bytes = bytes;
+          is_reference = is_reference;
+          prints = p.is_before.5;
+          written = written ∙ ap (λ l. l ++ bytes) waits.7;
+          goes = waits.8 t w.at p.state p.is_before.6;
+        }
+
 -- what waits is none of the others
 abbrev pub TakesArguments : Open → Type 0
 TakesArguments (opens.TypeArguments from) = Unit {0}
@@ -551,17 +587,18 @@ TakesArguments _ = ⊥
 -- what is none of those that wait for something else
 pub takes-arguments : (o : Open) → ((x : ℕ) → o ≡ opens.Pointer x → ⊥) → ((x : ℕ) → o ≡ opens.Lvalue x → ⊥)
     → ((x : ℕ) → o ≡ opens.Rvalue x → ⊥) → ((x : ℕ) → o ≡ opens.Const x → ⊥) → ((x : Bool) → o ≡ opens.Parameters x → ⊥)
-    → (o ≡ opens.Special → ⊥) → TakesArguments o
-takes-arguments (opens.Pointer x) p l r c f z = absurd (p x refl)
-takes-arguments (opens.Lvalue x) p l r c f z = absurd (l x refl)
-takes-arguments (opens.Rvalue x) p l r c f z = absurd (r x refl)
-takes-arguments (opens.Const x) p l r c f z = absurd (c x refl)
-takes-arguments (opens.Parameters x) p l r c f z = absurd (f x refl)
-takes-arguments opens.Special p l r c f z = absurd (z refl)
-takes-arguments (opens.TypeArguments x) p l r c f z = tt
-takes-arguments (opens.NestArguments x) p l r c f z = tt
-takes-arguments (opens.FirstArguments x) p l r c f z = tt
-takes-arguments opens.NameArguments p l r c f z = tt
+    → (o ≡ opens.Special → ⊥) → (o ≡ opens.Enumerator → ⊥) → TakesArguments o
+takes-arguments (opens.Pointer x) p l r c f z n = absurd (p x refl)
+takes-arguments (opens.Lvalue x) p l r c f z n = absurd (l x refl)
+takes-arguments (opens.Rvalue x) p l r c f z n = absurd (r x refl)
+takes-arguments (opens.Const x) p l r c f z n = absurd (c x refl)
+takes-arguments (opens.Parameters x) p l r c f z n = absurd (f x refl)
+takes-arguments opens.Special p l r c f z n = absurd (z refl)
+takes-arguments opens.Enumerator p l r c f z n = absurd (n refl)
+takes-arguments (opens.TypeArguments x) p l r c f z n = tt
+takes-arguments (opens.NestArguments x) p l r c f z n = tt
+takes-arguments (opens.FirstArguments x) p l r c f z n = tt
+takes-arguments opens.NameArguments p l r c f z n = tt
 
 stands-argument : (s : List ℕ) (owner : Open) (rest : List Open) (os : List Opened) (text : List ℕ) → TakesArguments owner
     → Stands s (owner ∷ rest) os text → AwaitsArgument s owner (Stands s rest) os text

@@ -1,23 +1,26 @@
 -- The moves in lists of arguments and of items: arguments are opened and closed, and a list goes on behind each of its elements.
-use Rattle.std.proofs.Common.{◌≡◌, ℕ, ◌+◌, ◌<◌, ◌⊎◌, inl, inr, length, List, [], ◌∷◌, Bool, true, false, nat_eq, nat_lt, ◌||◌, Some, Ok, refl, ap, sym, subst, arith, codes}
+use Rattle.std.proofs.Common.{◌≡◌, ℕ, ◌+◌, ◌<◌, ◌⊎◌, inl, inr, length, List, [], ◌∷◌, Bool, true, false, nat_eq, nat_lt, ◌||◌, Some, Ok, refl, ap, sym, subst, arith, codes, ◌∙◌, Result, Err}
 use Rattle.std.proofs.lemmas.Bool.{eqb-true, ltb-true, false≢true}
 use Rattle.sym_core.specs.declared.NumberKind.TheVariants.{Digits}
 use Rattle.sym_shape.specs.declared.rule.Sym.TheVariants.{Kind as OfKind, Number, Byte}
-use Rattle.sym_link.specs.Unfold.{standing}
+use Rattle.sym_shape.specs.Tree.{Tree as Shape, Forest, nothing, grown, IsTree, AreTrees, spell_all}
+use Rattle.sym_link.specs.Reading.{Open, Found, ◌>>=◌}
+use Rattle.sym_link.specs.Unfold.{found, standing, unfold_tree, unfold_forest}
+use Rattle.sym_core.specs.declared.refusal.Refusal.{Refusal}
 use Rattle.cpp_grammar.specs.declared.kind.Kind.{Kind}
 use Rattle.cpp_grammar.specs.declared.production.Production.{Production}
-use Rattle.cpp_grammar.specs.Grammar.{in_ranges, among, is_in, pick, number_of_kind, alternatives, choose, parts_of, is_chain}
-use Rattle.cpp_grammar.specs.Table.{rule_of}
+use Rattle.cpp_grammar.specs.Grammar.{in_ranges, among, is_in, pick, number_of_kind, alternatives, choose, parts_of, is_chain, productions, number_of}
+use Rattle.cpp_grammar.specs.Table.{abi, rule_of}
 use Rattle.cpp_grammar.specs.Term.{Term, builtin, integer, boolean}
-use Rattle.cpp_grammar.specs.Values.{State, Around, nothing_there, letter, text, signed, tree, tree_of, is_listed, letter_of, text_of, signed_of, signed_digits, prefix_tree, prefix_listed, part}
+use Rattle.cpp_grammar.specs.Values.{State, Around, nothing_there, letter, text, signed, tree, tree_of, is_listed, letter_of, text_of, signed_of, signed_digits, prefix_tree, prefix_listed, part, Value}
 use Rattle.cpp_grammar.specs.References.{appended, with_type, with_prefix}
 use Rattle.cpp_grammar.specs.Between.{Going, between, after, inside}
 use Rattle.cpp_grammar.specs.Meaning.{meaning}
 use Rattle.cpp_grammar.specs.Unfolding as unfolding_
-use Rattle.cpp_grammar.specs.Unfolding.{opening, close, byte_of}
-use Rattle.cpp_direct.specs.Holes.{Opened, opened, StandsAt, Comes, Expects, ExpectsSym, unless_listed, IsListKind, ListGoesOn, AwaitsElement}
+use Rattle.cpp_grammar.specs.Unfolding.{cpp, opening, close, byte_of}
+use Rattle.cpp_direct.specs.Holes.{Opened, opened, StandsAt, Comes, Expects, ExpectsSym, unless_listed, IsListKind, ListGoesOn, AwaitsElement, with_candidate}
 use Rattle.cpp_direct.specs.ItemBytes.{one_of, is_integer_letter}
-use Rattle.cpp_direct.specs.HolesOfLists.{ArgumentsOpened, LiteralOpened, IsDigitsAt, minus_sign}
+use Rattle.cpp_direct.specs.HolesOfLists.{ArgumentsOpened, LiteralOpened, EnumeratorOpened, IsDigitsAt, minus_sign}
 use Rattle.cpp_direct.proofs.Moves.{stands-split, opens, opens-chain, needs-next, ends, expects-byte, expects-number}
 
 -- ## Marks
@@ -272,3 +275,73 @@ integer-element s os around b negative digits at end st letter_is expects stands
     literal.onward (integer (builtin (b ∷ [])) (signed_digits negative digits)) end st
     (integer-literal-comes s literal.inner around b negative digits (at + 1) end st letter_is literal.awaits places.1
     (subst (λ n. IsDigitsAt s n digits end) behind_type is)) ended
+
+-- ## Enumerators
+
+-- the type of an enumerator comes as a candidate, which it becomes unless it is one
+enumeration-passes : (s : List ℕ) (os : List Opened) (around : Around) (place : ℕ) (before : State) (t : Term) (listed : Bool) (at : ℕ) (st : State)
+    → Comes s (opened (standing (rule_of Production.IntegerLiteral) [] place around before) [] (OfKind (number_of_kind Kind.Integer) ∷ []) ∷ os)
+    (tree t listed) at st
+    → Comes s (opened (standing (rule_of Production.IntegerLiteral) [] place around before) [] (OfKind (number_of_kind Kind.Integer) ∷ []) ∷ os)
+    (tree t true) at (unless_listed listed around.encoding t st)
+unfolding cpp rule_of number_of productions unfolding_.production_at between close unfolding_.behind meaning part tree_of signed_of with_type is_listed appended
+enumeration-passes s os around place before t true at st comes bytes vs inner w later rest there closes = comes bytes vs inner w later rest there closes
+enumeration-passes s os around place before t false at st comes bytes vs inner w later rest there closes = go rest.forest rest.shaped rest.spelled rest.unfolds
+  where
+    rule : Open State Around
+    rule = standing (rule_of Production.IntegerLiteral) [] place around before
+
+    behind : State
+    behind = with_candidate around.encoding t st
+
+    closed : (y : Found (List Value) State) → found (tree t true ∷ y.value) y.state ≡ found vs inner
+        → cpp.close rule (tree t false ∷ y.value) y.state ≡ Ok (found w later)
+    closed y same = ap (λ (f : Found (List Value) State). cpp.close rule f.value f.state) same ∙ closes
+
+    part_of : (x : Shape) → IsTree abi (OfKind (number_of_kind Kind.Integer)) x → spell_all (grown x nothing) ≡ bytes
+        → (r : Result (Found (List Value) State) Refusal) → unfold_tree cpp around at x behind ≡ r
+        → ◌≡◌ {A = Result (Found (List Value) State) Refusal} (r >>= λ y. Ok (found (tree t true ∷ y.value) y.state)) (Ok (found vs inner))
+        → Comes s os w (at + length bytes) later
+    part_of x shaped spelled (Err e) is same = cc same
+    part_of x shaped spelled (Ok y) is same = comes bytes (tree t false ∷ y.value) y.state w later
+        (record {
+          forest = grown x nothing;
+          shaped = (shaped, tt);
+          spelled = spelled;
+          unfolds = ap (λ (r : Result (Found (List Value) State) Refusal). r >>= λ z. Ok (found (tree t false ∷ z.value) z.state)) is;
+        })
+        there (closed y (cc same))
+
+    go : (f : Forest) → AreTrees abi (OfKind (number_of_kind Kind.Integer) ∷ []) f → spell_all f ≡ bytes
+        → unfold_forest cpp rule (tree t true ∷ []) at f behind ≡ Ok (found vs inner)
+        → Comes s os w (at + length bytes) later
+    go nothing shaped spelled unfolds = absurd shaped
+    go (grown x nothing) shaped spelled unfolds = part_of x shaped.0 spelled (unfold_tree cpp around at x behind) refl unfolds
+    go (grown x (grown y more)) shaped spelled unfolds = absurd shaped.1
+
+-- an argument begins that is an enumerator
+pub enumerator-opens : (s : List ℕ) (os : List Opened) (around : Around) (at : ℕ) (st : State)
+    → Expects s Kind.ArgumentList around os at st → StandsAt s at (76 ∷ []) → EnumeratorOpened s os around (at + 1) st
+unfolding choose alternatives pick is_in in_ranges among is_chain parts_of between opening close unfolding_.behind meaning part tree_of signed_of with_type is_listed
+enumerator-opens s os around at st expects stands =
+    let p = Production.IntegerLiteral in
+    let literal = literal-opens s os around at st expects stands in
+    let rule = standing (rule_of p) [] (at + 1) around st in
+    let number = OfKind (number_of_kind Kind.Integer) in
+    let type = opened rule [] (number ∷ []) ∷ literal.inner in
+    record {
+      inner = type;
+      opens = record {
+        inner = type;
+        awaits = needs-next s p [] (at + 1) around st [] (OfKind (number_of_kind Kind.LiteralType)) (number ∷ []) literal.inner (at + 1) st around [] st refl
+            (opens-chain s Kind.Literal p 80 around literal.inner (at + 1) st refl (omega arith) refl (λ f. refl) literal.awaits);
+        passes = λ t listed here now other comes. enumeration-passes s literal.inner around (at + 1) st t listed here now comes;
+      };
+      onward = λ t here now comes negative digits end minus digits_there ended.
+          literal.onward (integer t (signed_digits negative digits)) end now
+          (ends s p [] (at + 1) around st (tree t true ∷ signed (signed_digits negative digits) ∷ []) literal.inner end now _ now
+          (integer-comes s (opened rule (tree t true ∷ []) [] ∷ literal.inner) around negative digits here end now
+          (needs-next s p [] (at + 1) around st (tree t true ∷ []) number [] literal.inner here now around (tree t true ∷ []) now refl comes)
+          minus digits_there) refl)
+          ended;
+    }

@@ -24,7 +24,7 @@ use Rattle.cpp_grammar.specs.Unfolding as unfolding_
 use Rattle.cpp_grammar.specs.Unfolding.{opening, close, byte_of}
 use Rattle.cpp_direct.specs.Bytes.{is_builtin, is_abbreviated}
 use Rattle.cpp_direct.specs.Holes.{Opened, opened, StandsAt, Comes, Expects, IsNameAt, IsSeqAt, IsTyped, TypeNamed, with_candidate, unless_listed}
-use Rattle.cpp_direct.specs.HolesOfTypes.{as_const, IsQualifiable, TypeOpens, TreePasses, TreeOpens, NameOpens}
+use Rattle.cpp_direct.specs.HolesOfTypes.{as_const, IsQualifiable, TypeOpens, TreePasses, TreeOpens, NameOpens, IsNamedKind}
 use Rattle.cpp_direct.proofs.Moves.{stands-split, expects-name, expects-seq, first-of, first-of-chain, next-of, last-of, letter-comes}
 
 -- ## Solid types
@@ -271,21 +271,38 @@ named-so s around os inner t listed at st solid passes awaits bare argued = reco
   argued = λ a end now comes. passes (instance t a) false end now refl (argued a end now comes);
 }
 
+source-taken : (kind : Kind) → IsNamedKind kind → choose kind 48 ≡ Some Production.SourceName
+unfolding choose alternatives pick is_in in_ranges among
+source-taken Kind.Solid is_named = refl
+source-taken Kind.LiteralType is_named = refl
+source-taken _ is_named = absurd is_named
+
+s-taken : (kind : Kind) → IsNamedKind kind → choose kind 83 ≡ Some Production.TypeWithS
+unfolding choose alternatives pick is_in in_ranges among
+s-taken Kind.Solid is_named = refl
+s-taken Kind.LiteralType is_named = refl
+s-taken _ is_named = absurd is_named
+
+nest-taken : (kind : Kind) → IsNamedKind kind → choose kind 78 ≡ Some Production.NestedType
+unfolding choose alternatives pick is_in in_ranges among
+nest-taken Kind.Solid is_named = refl
+nest-taken Kind.LiteralType is_named = refl
+nest-taken _ is_named = absurd is_named
+
 -- a name with its length
-pub source-opens : (s : List ℕ) (kind : Kind) (around : Around) (os : List Opened) (at : ℕ) (st : State) (name : List ℕ) (end : ℕ) → IsTyped kind
-    → around.prefix ≡ outermost → Expects s kind around os at st → IsNameAt s at name end
+pub source-opens : (s : List ℕ) (kind : Kind) (around : Around) (os : List Opened) (at : ℕ) (st : State) (name : List ℕ) (end : ℕ) → IsNamedKind kind
+    → around.prefix ≡ outermost → TreeOpens s kind os around at st → IsNameAt s at name end
     → TypeNamed s os around (alone (source false name)) false end st
 unfolding choose alternatives pick is_in in_ranges among is_chain parts_of number_of_kind between opening close unfolding_.behind meaning byte_of tree_of is_there part text_of applied named_so_far piece_so_far extended after
-source-opens s kind around os at st name end typed first expects is =
-    let solid = solid-opens s kind around os at st typed expects in
+source-opens s kind around os at st name end is_named first solid is =
     let named = alone (source false name) in
     let rest = opened (standing (rule_of Production.SourceName) [] at around st) (tree named false ∷ []) [] ∷ solid.inner in
     named-so s around os rest named false end st solid.inner solid.passes
     (next-of s Production.SourceName [] at around st [] (text name) (OfKind 42) [] solid.inner end st (after named false around)
     (tree named false ∷ []) st (rw first refl)
     (expects-name s around (opened (standing (rule_of Production.SourceName) [] at around st) [] (OfKind 42 ∷ []) ∷ solid.inner) at st name end
-    (first-of-chain s Kind.Solid Production.SourceName 48 around solid.inner at st Name (OfKind 42 ∷ []) around [] st refl (omega arith) refl
-    (λ f. refl) refl refl solid.awaits) is))
+    (first-of-chain s kind Production.SourceName 48 around solid.inner at st Name (OfKind 42 ∷ []) around [] st (source-taken kind is_named)
+    (omega arith) refl (λ f. refl) refl refl solid.awaits) is))
     (λ later now comes. last-of s Production.SourceName [] at around st (tree named false ∷ []) nothing_there solid.inner later now
     (tree named false) now refl comes)
     (λ a later now comes. last-of s Production.SourceName [] at around st (tree named false ∷ []) (tree a true) solid.inner later now
@@ -302,15 +319,14 @@ listed-lost t true st = refl
 listed-lost t false st = refl
 
 -- a name behind an S
-pub name-with-s-opens : (s : List ℕ) (kind : Kind) (around : Around) (os : List Opened) (at : ℕ) (st : State) → IsTyped kind
-    → Expects s kind around os at st → StandsAt s at (83 ∷ []) → NameOpens s Kind.TypeAfterS os around (at + 1) st
+pub name-with-s-opens : (s : List ℕ) (kind : Kind) (around : Around) (os : List Opened) (at : ℕ) (st : State) → IsNamedKind kind
+    → TreeOpens s kind os around at st → StandsAt s at (83 ∷ []) → NameOpens s Kind.TypeAfterS os around (at + 1) st
 unfolding choose alternatives pick is_in in_ranges among is_chain parts_of number_of_kind between opening close unfolding_.behind meaning byte_of tree_of is_listed is_there part applied
-name-with-s-opens s kind around os at st typed expects stands =
-    let solid = solid-opens s kind around os at st typed expects in
+name-with-s-opens s kind around os at st is_named solid stands =
     let rule = standing (rule_of Production.TypeWithS) (83 ∷ []) at around st in
     record {
       inner = opened rule [] (OfKind 42 ∷ []) ∷ solid.inner;
-      awaits = first-of s Kind.Solid Production.TypeWithS 83 around solid.inner at st (OfKind 36) (OfKind 42 ∷ []) around [] st refl (omega arith)
+      awaits = first-of s kind Production.TypeWithS 83 around solid.inner at st (OfKind 36) (OfKind 42 ∷ []) around [] st (s-taken kind is_named) (omega arith)
           refl (λ f. refl) refl refl solid.awaits stands;
       named = λ t listed end now comes.
           named-so s around os (opened rule (tree t listed ∷ []) [] ∷ solid.inner) t listed end now solid.inner solid.passes
@@ -323,13 +339,13 @@ name-with-s-opens s kind around os at st typed expects stands =
     }
 
 -- a name of std
-pub std-opens : (s : List ℕ) (kind : Kind) (around : Around) (os : List Opened) (at : ℕ) (st : State) (name : List ℕ) (end : ℕ) → IsTyped kind
-    → Expects s kind around os at st → StandsAt s at (83 ∷ 116 ∷ []) → IsNameAt s (at + 2) name end
+pub std-opens : (s : List ℕ) (kind : Kind) (around : Around) (os : List Opened) (at : ℕ) (st : State) (name : List ℕ) (end : ℕ) → IsNamedKind kind
+    → TreeOpens s kind os around at st → StandsAt s at (83 ∷ 116 ∷ []) → IsNameAt s (at + 2) name end
     → TypeNamed s os around (in_std (source false name)) false end st
 unfolding choose alternatives pick is_in in_ranges among is_chain parts_of number_of_kind between opening close unfolding_.behind meaning byte_of piece_of part text_of
-std-opens s kind around os at st name end typed expects stands is =
+std-opens s kind around os at st name end is_named solid stands is =
     let both = stands-split s at (83 ∷ []) (116 ∷ []) stands in
-    let w = name-with-s-opens s kind around os at st typed expects both.0 in
+    let w = name-with-s-opens s kind around os at st is_named solid both.0 in
     let std = opened (standing (rule_of Production.StdType) (116 ∷ []) (at + 1) around st) [] [] ∷ w.inner in
     let expects_piece = first-of s Kind.TypeAfterS Production.StdType 116 around w.inner (at + 1) st (OfKind 37) [] around [] st refl (omega arith)
     refl (λ f. refl) refl refl w.awaits both.1 in
@@ -361,13 +377,13 @@ reference-behind-s s around os at st expects =
     refl refl expects
 
 -- an abbreviation
-pub abbreviation-opens : (s : List ℕ) (kind : Kind) (around : Around) (os : List Opened) (at : ℕ) (st : State) (letter : ℕ) → IsTyped kind
-    → is_abbreviated letter ≡ true → Expects s kind around os at st → StandsAt s at (83 ∷ letter ∷ [])
+pub abbreviation-opens : (s : List ℕ) (kind : Kind) (around : Around) (os : List Opened) (at : ℕ) (st : State) (letter : ℕ) → IsNamedKind kind
+    → is_abbreviated letter ≡ true → TreeOpens s kind os around at st → StandsAt s at (83 ∷ letter ∷ [])
     → TypeNamed s os around (abbreviation letter) true (at + 2) st
 unfolding is_chain parts_of opening close unfolding_.behind meaning byte_of part
-abbreviation-opens s kind around os at st letter typed is expects stands =
+abbreviation-opens s kind around os at st letter is_named is solid stands =
     let both = stands-split s at (83 ∷ []) (letter ∷ []) stands in
-    let w = name-with-s-opens s kind around os at st typed expects both.0 in
+    let w = name-with-s-opens s kind around os at st is_named solid both.0 in
     let rule = standing (rule_of Production.AbbreviatedType) [] (at + 1) around st in
     let v = tree (abbreviation letter) true in
     subst (λ k. TypeNamed s os around (abbreviation letter) true k st) (omega arith)
@@ -403,13 +419,13 @@ substitution-closes around place before digits c st at closed none =
 
 -- a substitution
 pub substitution-opens : (s : List ℕ) (kind : Kind) (around : Around) (os : List Opened) (at : ℕ) (st : State) (digits : List ℕ) (end : ℕ)
-    (c : Candidate) → IsTyped kind
+    (c : Candidate) → IsNamedKind kind
     → slice_get st.candidates (counted_value Seq36 digits) ≡ Some c → is_open c.tree ≡ false → ((scope : Term) → pack_length scope c.tree ≡ None)
-    → Expects s kind around os at st → StandsAt s at (83 ∷ []) → IsSeqAt s (at + 1) digits end
+    → TreeOpens s kind os around at st → StandsAt s at (83 ∷ []) → IsSeqAt s (at + 1) digits end
     → TypeNamed s os around c.tree true end st
 unfolding choose alternatives pick is_in in_ranges among is_chain parts_of number_of_kind between opening close unfolding_.behind meaning byte_of part
-substitution-opens s kind around os at st digits end c typed names_it closed none expects stands is =
-    let w = name-with-s-opens s kind around os at st typed expects stands in
+substitution-opens s kind around os at st digits end c is_named names_it closed none solid stands is =
+    let w = name-with-s-opens s kind around os at st is_named solid stands in
     let type = opened (standing (rule_of Production.AbbreviatedType) [] (at + 1) around st) [] [] ∷ w.inner in
     let v = tree c.tree true in
     w.named c.tree true end st
@@ -421,14 +437,13 @@ substitution-opens s kind around os at st digits end c typed names_it closed non
     (λ f. refl) refl refl (reference-behind-s s around w.inner (at + 1) st w.awaits)) is)))
 
 -- a nested name is expected behind an N
-pub nested-type-opens : (s : List ℕ) (kind : Kind) (around : Around) (os : List Opened) (at : ℕ) (st : State) → IsTyped kind
-    → Expects s kind around os at st → StandsAt s at (78 ∷ []) → TreeOpens s Kind.Nest os around (at + 1) st
+pub nested-type-opens : (s : List ℕ) (kind : Kind) (around : Around) (os : List Opened) (at : ℕ) (st : State) → IsNamedKind kind
+    → TreeOpens s kind os around at st → StandsAt s at (78 ∷ []) → TreeOpens s Kind.Nest os around (at + 1) st
 unfolding choose alternatives pick is_in in_ranges among is_chain parts_of number_of_kind between opening close unfolding_.behind meaning byte_of part
-nested-type-opens s kind around os at st typed expects stands =
-    let solid = solid-opens s kind around os at st typed expects in
+nested-type-opens s kind around os at st is_named solid stands =
     record {
       inner = opened (standing (rule_of Production.NestedType) (78 ∷ []) at around st) [] [] ∷ solid.inner;
-      awaits = first-of s Kind.Solid Production.NestedType 78 around solid.inner at st (OfKind 15) [] around [] st refl (omega arith) refl
+      awaits = first-of s kind Production.NestedType 78 around solid.inner at st (OfKind 15) [] around [] st (nest-taken kind is_named) (omega arith) refl
           (λ f. refl) refl refl solid.awaits stands;
       passes = λ t listed end now other comes. solid.passes t listed end now other
           (last-of s Production.NestedType (78 ∷ []) at around st [] (tree t listed) solid.inner end now (tree t listed) now refl comes);

@@ -1,5 +1,5 @@
 -- Names and types that are one text: source names, abbreviations and builtin types.
-use Rattle.std.proofs.Common.{◌≡◌, ◌≢◌, refl, ap, sym, ◌∙◌, ℕ, ◌+◌, ◌≤◌, List, [], ◌∷◌, ◌++◌, length, drop, Bool, true, false, arith, codes, length-append, append-nil, subst}
+use Rattle.std.proofs.Common.{◌≡◌, ◌≢◌, refl, ap, sym, ◌∙◌, ℕ, ◌+◌, ◌≤◌, List, [], ◌∷◌, ◌++◌, length, drop, Bool, true, false, arith, codes, length-append, append-nil, subst, nat_eq, ◌||◌, inl, inr}
 use Rattle.std.proofs.lemmas.Bool.{eqb-true}
 use Rattle.sym_print.specs.Unfold.{text}
 use Rattle.sym_print.specs.Unshared.{text_of, cost_of}
@@ -9,8 +9,8 @@ use Rattle.cpp_grammar.specs.References.{is_function_type}
 use Rattle.cpp_grammar.specs.Texts.{look_up, abbreviation_texts, builtin_texts, same_bytes}
 use Rattle.cpp_grammar.specs.Items.{left, right, base, piece, Context, head_with, head, is_reference, is_funarr, is_empty}
 use Rattle.cpp_grammar.specs.Meaning.{is_void}
-use Rattle.cpp_grammar.specs.Parts.{as_item, says, source_text, prefix_item, last_piece, opening_text, piece_parts, left_parts, right_parts, base_parts, parts_in, not_empty}
-use Rattle.cpp_direct.specs.Prints.{in_form, Prints, NamesClass}
+use Rattle.cpp_grammar.specs.Parts.{as_item, says, source_text, prefix_item, last_piece, opening_text, piece_parts, left_parts, right_parts, base_parts, parts_in, not_empty, is_plain_integer}
+use Rattle.cpp_direct.specs.Prints.{in_form, EndsAsInteger, Prints, NamesClass}
 use Rattle.cpp_direct.proofs.PrintedParts.{text_by, cost_by, text_alone, cost_first, length-filled}
 
 -- the text of a source name isn't empty
@@ -22,10 +22,27 @@ source-filled name filled = go _
     go true = omega arith
     go false = length-filled name filled
 
+-- one of some letters, or one more
+at-letter : (P : ℕ → Type 0) (letter c : ℕ) (before : Bool) → (before ≡ true → P letter) → P c → (before || nat_eq letter c) ≡ true → P letter
+at-letter P letter c before others there e = go before refl e
+  where
+    go : (b : Bool) → before ≡ b → (b || nat_eq letter c) ≡ true → P letter
+    go true is h = others is
+    go false is h = subst P (sym (eqb-true letter c h)) there
+
+-- the name of a type whose integers stand without it
+builtin-ends : (letter : ℕ) → is_plain_integer (builtin (letter ∷ [])) ≡ true → EndsAsInteger (look_up (letter ∷ []) builtin_texts)
+unfolding is_plain_integer look_up builtin_texts same_bytes
+builtin-ends letter e =
+    let P : ℕ → Type 0 = λ c. EndsAsInteger (look_up (c ∷ []) builtin_texts) in
+    at-letter P letter 121 _ (at-letter P letter 120 _ (at-letter P letter 109 _ (at-letter P letter 108 _ (at-letter P letter 106 _
+    (λ h. subst P (sym (eqb-true letter 105 h)) ([], inl refl)) (codes "unsigned ", inl refl)) ([], inr refl)) (codes "unsigned ", inr refl))
+    (codes "long ", inr refl)) (codes "unsigned long ", inr refl) e
+
 -- A source name prints itself.
 pub source-prints : (internal : Bool) (name : List ℕ) → name ≢ [] → Prints (alone (source internal name)) (source_text name) false
 unfolding parts_in left_parts right_parts piece_parts not_empty head head_with is_reference is_funarr is_empty is_open pack_length is_function_type
-    prefix_item last_piece opening_text is_void
+    prefix_item last_piece opening_text is_void is_plain_integer
 source-prints internal name filled = let t = alone (source internal name) in record {
   left_text = λ c. text_by left c t (text (source_text name) ∷ []) refl ∙ text_alone (source_text name);
   right_text = λ c. text_by right c t [] refl;
@@ -45,6 +62,7 @@ source-prints internal name filled = let t = alone (source internal name) in rec
   as_prefix = λ c. refl;
   opening = refl;
   void = λ e. cc e;
+  integer = λ e. cc e;
 }
 
 -- It names its class by itself.
@@ -96,7 +114,7 @@ std-cost c internal name =
 -- A source name in std prints so.
 pub std-prints : (internal : Bool) (name : List ℕ) → name ≢ [] → Prints (in_std (source internal name)) (codes "std::" ++ source_text name) false
 unfolding parts_in left_parts right_parts not_empty head head_with is_reference is_funarr is_empty is_open pack_length is_function_type prefix_item
-    last_piece opening_text is_void
+    last_piece opening_text is_void is_plain_integer
 std-prints internal name filled = let t = in_std (source internal name) in record {
   left_text = λ c. std-left c internal name;
   right_text = λ c. text_by right c t [] refl;
@@ -116,6 +134,7 @@ std-prints internal name filled = let t = in_std (source internal name) in recor
   as_prefix = λ c. refl;
   opening = refl;
   void = λ e. cc e;
+  integer = λ e. cc e;
 }
 
 -- It names its class without std.
@@ -139,7 +158,7 @@ std-class internal name filled = let t = in_std (source internal name) in record
 pub abbreviation-prints : (letter : ℕ) → look_up (letter ∷ []) abbreviation_texts ≢ []
     → Prints (abbreviation letter) (look_up (letter ∷ []) abbreviation_texts) false
 unfolding parts_in left_parts right_parts not_empty head head_with is_reference is_funarr is_empty is_open pack_length is_function_type prefix_item
-    last_piece opening_text is_void
+    last_piece opening_text is_void is_plain_integer
 abbreviation-prints letter filled = let t = abbreviation letter in let b = look_up (letter ∷ []) abbreviation_texts in record {
   left_text = λ c. text_by left c t (text b ∷ []) refl ∙ text_alone b;
   right_text = λ c. text_by right c t [] refl;
@@ -153,6 +172,7 @@ abbreviation-prints letter filled = let t = abbreviation letter in let b = look_
   as_prefix = λ c. refl;
   opening = refl;
   void = λ e. cc e;
+  integer = λ e. cc e;
 }
 
 -- It names its class without std.
@@ -185,7 +205,7 @@ void-text letter same = subst (λ l. look_up (l ∷ []) builtin_texts ≡ codes 
 pub builtin-prints : (letter : ℕ) → look_up (letter ∷ []) builtin_texts ≢ []
     → Prints (builtin (letter ∷ [])) (look_up (letter ∷ []) builtin_texts) false
 unfolding parts_in left_parts right_parts not_empty head head_with is_reference is_funarr is_empty is_open pack_length is_function_type prefix_item
-    last_piece opening_text is_void
+    last_piece opening_text is_void is_plain_integer
 builtin-prints letter filled = let t = builtin (letter ∷ []) in let b = look_up (letter ∷ []) builtin_texts in record {
   left_text = λ c. text_by left c t (text b ∷ []) refl ∙ text_alone b;
   right_text = λ c. text_by right c t [] refl;
@@ -199,4 +219,5 @@ builtin-prints letter filled = let t = builtin (letter ∷ []) in let b = look_u
   as_prefix = λ c. refl;
   opening = refl;
   void = λ e. void-text letter (eqb-true letter 118 e);
+  integer = λ e. builtin-ends letter e;
 }

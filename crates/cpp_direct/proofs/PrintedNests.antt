@@ -8,7 +8,7 @@ use Rattle.cpp_grammar.specs.Scope.{is_open, pack_length, first_of}
 use Rattle.cpp_grammar.specs.References.{is_function_type}
 use Rattle.cpp_grammar.specs.Items.{left, right, base, piece, first, Context, head_with, head, is_reference, is_funarr, is_empty}
 use Rattle.cpp_grammar.specs.Meaning.{is_void}
-use Rattle.cpp_grammar.specs.Parts.{as_item, says, list_part, source_text, prefix_item, last_piece, opening_text, piece_parts, within_parts, base_within, instance_parts, left_parts, right_parts, base_parts, parts_in, not_empty}
+use Rattle.cpp_grammar.specs.Parts.{as_item, says, list_part, source_text, prefix_item, last_piece, opening_text, piece_parts, within_parts, base_within, instance_parts, left_parts, right_parts, base_parts, parts_in, not_empty, is_plain_integer}
 use Rattle.cpp_direct.specs.Prints.{in_form, Prints, NamesClass, list_of, PrintAll}
 use Rattle.cpp_direct.proofs.PrintedParts.{printed_by, text_by, cost_by, text_alone, cost_first, text_append, cost_append}
 use Rattle.cpp_direct.proofs.PrintedNames.{source-filled, piece-text, piece-cost}
@@ -49,7 +49,7 @@ within-cost t b p internal name c =
 pub within-prints : (t : Term) (b : List ℕ) → Prints t b false → (internal : Bool) (name : List ℕ) → name ≢ []
     → Prints (within t (source internal name)) (b ++ codes "::" ++ source_text name) false
 unfolding parts_in left_parts right_parts not_empty head head_with is_reference is_funarr is_empty is_open pack_length first_of is_function_type
-    prefix_item last_piece opening_text is_void
+    prefix_item last_piece opening_text is_void is_plain_integer
 within-prints t b p internal name filled = let w = within t (source internal name) in record {
   left_text = within-text t b p internal name;
   right_text = λ c. text_by right c w [] refl;
@@ -71,6 +71,7 @@ within-prints t b p internal name filled = let w = within t (source internal nam
   as_prefix = λ c. refl;
   opening = refl;
   void = λ e. cc e;
+  integer = λ e. cc e;
 }
 
 -- It names its class without what it stands in.
@@ -99,7 +100,7 @@ within-class t b p internal name filled = let w = within t (source internal name
 pub constructor-prints : (t : Term) (b class : List ℕ) → Prints t b false → NamesClass t class → (digit : ℕ)
     → Prints (within t (constructor digit)) (b ++ codes "::" ++ class) false
 unfolding parts_in left_parts right_parts within_parts not_empty head head_with is_reference is_funarr is_empty is_open pack_length first_of
-    is_function_type prefix_item last_piece opening_text is_void
+    is_function_type prefix_item last_piece opening_text is_void is_plain_integer
 constructor-prints t b class p n digit = let w = within t (constructor digit) in record {
   left_text = λ c. text_by left c w (as_item left c t ∷ says "::" ∷ as_item base c t ∷ []) refl
       ∙ joins (text_of (in_form left c t)) (codes "::") (text_of (in_form base c t)) b class (p.left_text c) (n.base_text c);
@@ -122,13 +123,14 @@ constructor-prints t b class p n digit = let w = within t (constructor digit) in
   as_prefix = λ c. refl;
   opening = refl;
   void = λ e. cc e;
+  integer = λ e. cc e;
 }
 
 -- A destructor prints it behind a tilde.
 pub destructor-prints : (t : Term) (b class : List ℕ) → Prints t b false → NamesClass t class → (digit : ℕ)
     → Prints (within t (destructor digit)) (b ++ codes "::~" ++ class) false
 unfolding parts_in left_parts right_parts within_parts not_empty head head_with is_reference is_funarr is_empty is_open pack_length first_of
-    is_function_type prefix_item last_piece opening_text is_void
+    is_function_type prefix_item last_piece opening_text is_void is_plain_integer
 destructor-prints t b class p n digit = let w = within t (destructor digit) in record {
   left_text = λ c. text_by left c w (as_item left c t ∷ says "::~" ∷ as_item base c t ∷ []) refl
       ∙ joins (text_of (in_form left c t)) (codes "::~") (text_of (in_form base c t)) b class (p.left_text c) (n.base_text c);
@@ -151,6 +153,7 @@ destructor-prints t b class p n digit = let w = within t (destructor digit) in r
   as_prefix = λ c. refl;
   opening = refl;
   void = λ e. cc e;
+  integer = λ e. cc e;
 }
 
 -- ## Names with arguments
@@ -188,7 +191,7 @@ instance-cost t b p ts l all c =
 pub instance-prints : (t : Term) (b : List ℕ) → Prints t b false → (ts : List Term) (l : List ℕ) → PrintAll ts l
     → Prints (instance t (list_of ts)) (b ++ codes "<" ++ l ++ codes ">") false
 unfolding parts_in right_parts not_empty head head_with is_reference is_funarr is_empty is_open pack_length first_of is_function_type prefix_item
-    last_piece opening_text is_void
+    last_piece opening_text is_void is_plain_integer
 instance-prints t b p ts l all = let i = instance t (list_of ts) in record {
   left_text = instance-text t b p ts l all;
   right_text = λ c. text_by right c i [] refl;
@@ -210,6 +213,7 @@ instance-prints t b p ts l all = let i = instance t (list_of ts) in record {
   as_prefix = λ c. refl;
   opening = refl;
   void = λ e. cc e;
+  integer = λ e. cc e;
 }
 
 -- Its class is named without them.

@@ -6,7 +6,7 @@ use Rattle.cpp_grammar.specs.Scope.{is_open, pack_length}
 use Rattle.cpp_grammar.specs.References.{is_function_type}
 use Rattle.cpp_grammar.specs.Items.{Form, left, right, low, Context, Head, lref, collapsed, head_with, head, is_reference, is_funarr, is_empty}
 use Rattle.cpp_grammar.specs.Meaning.{is_void}
-use Rattle.cpp_grammar.specs.Parts.{as_item, says, text_part, qualifier_text, prefix_item, last_piece, opening_text, marked_parts, reference_parts, qualified_left, qualified_right, closing_right, left_parts, right_parts, parts_in, not_empty}
+use Rattle.cpp_grammar.specs.Parts.{as_item, says, text_part, qualifier_text, prefix_item, last_piece, opening_text, marked_parts, reference_parts, qualified_left, qualified_right, closing_right, left_parts, right_parts, parts_in, not_empty, is_plain_integer}
 use Rattle.cpp_direct.specs.Prints.{Prints}
 use Rattle.cpp_direct.proofs.PrintedParts.{text_by, cost_by}
 
@@ -26,7 +26,7 @@ closing c t e = rw (e, closing_right) refl
 -- A pointer prints its type and a star.
 pub pointer-prints : (t : Term) (b : List ℕ) (r : Bool) → Prints t b r → Prints (pointer t) (b ++ codes "*") false
 unfolding parts_in left_parts right_parts not_empty head head_with is_reference is_funarr is_empty is_open pack_length is_function_type prefix_item
-    last_piece opening_text is_void
+    last_piece opening_text is_void is_plain_integer
 pointer-prints t b r p = record {
   left_text = λ c. text_by left c (pointer t) (as_item left c t ∷ says "*" ∷ []) (marked c t "*" (p.is_funarr_head c))
       ∙ ap (λ s. s ++ codes "*") (p.left_text c);
@@ -47,12 +47,13 @@ pointer-prints t b r p = record {
   as_prefix = λ c. refl;
   opening = refl;
   void = λ e. cc e;
+  integer = λ e. cc e;
 }
 
 -- An lvalue reference prints its type, which is no reference, and its mark.
 pub lvalue-prints : (t : Term) (b : List ℕ) → Prints t b false → Prints (lvalue t) (b ++ codes "&") true
 unfolding parts_in left_parts right_parts not_empty head head_with is_reference is_funarr is_empty is_open pack_length is_function_type prefix_item
-    last_piece opening_text is_void
+    last_piece opening_text is_void is_plain_integer
 lvalue-prints t b p = record {
   left_text = λ c. text_by left c (lvalue t) (as_item left c t ∷ says "&" ∷ []) (reference c low t "&" (p.is_reference_head c) (p.is_funarr_head c))
       ∙ ap (λ s. s ++ codes "&") (p.left_text c);
@@ -73,6 +74,7 @@ lvalue-prints t b p = record {
   as_prefix = λ c. refl;
   opening = refl;
   void = λ e. cc e;
+  integer = λ e. cc e;
 }
 
 collapsed-refers : (h : Head) → is_reference (collapsed h) ≡ true
@@ -88,7 +90,7 @@ collapsed-no_function _ = refl
 -- An rvalue reference does as well.
 pub rvalue-prints : (t : Term) (b : List ℕ) → Prints t b false → Prints (rvalue t) (b ++ codes "&&") true
 unfolding parts_in left_parts right_parts not_empty head head_with is_empty is_open pack_length is_function_type prefix_item last_piece
-    opening_text is_void
+    opening_text is_void is_plain_integer
 rvalue-prints t b p = record {
   left_text = λ c. text_by left c (rvalue t) (as_item left c t ∷ says "&&" ∷ [])
       (reference c left t "&&" (p.is_reference_head c) (p.is_funarr_head c))
@@ -110,6 +112,7 @@ rvalue-prints t b p = record {
   as_prefix = λ c. refl;
   opening = refl;
   void = λ e. cc e;
+  integer = λ e. cc e;
 }
 
 -- the qualifiers of a type that is declared const
@@ -130,7 +133,7 @@ qualified_right-is c t e = refl
 -- A constant type, which is no reference, prints the word behind it.
 pub const-prints : (t : Term) (b : List ℕ) → Prints t b false → Prints (qualified constant t) (b ++ codes " const") false
 unfolding parts_in left_parts right_parts not_empty head head_with is_empty is_open pack_length is_function_type prefix_item last_piece
-    opening_text is_void
+    opening_text is_void is_plain_integer
 const-prints t b p = record {
   left_text = λ c. text_by left c (qualified constant t) (as_item left c t ∷ says " const" ∷ [])
       (qualified_left-is c t p.no_function (p.is_reference_head c) (p.is_funarr_head c)) ∙ ap (λ s. s ++ codes " const") (p.left_text c);
@@ -153,4 +156,5 @@ const-prints t b p = record {
   as_prefix = λ c. refl;
   opening = refl;
   void = λ e. cc e;
+  integer = λ e. cc e;
 }

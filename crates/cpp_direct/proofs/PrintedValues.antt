@@ -10,7 +10,7 @@ use Rattle.cpp_grammar.specs.Items.{left, right, Context, Item, head_with, head,
 use Rattle.cpp_grammar.specs.Values.{normal}
 use Rattle.cpp_grammar.specs.Meaning.{is_void}
 use Rattle.cpp_grammar.specs.Parts.{as_item, says, text_part, sign_part, is_plain_integer, builtin_code, integer_parts, prefix_item, last_piece, opening_text, left_parts, right_parts, parts_in, not_empty}
-use Rattle.cpp_direct.specs.Prints.{in_form, Prints, sign_text}
+use Rattle.cpp_direct.specs.Prints.{in_form, EndsAsInteger, Prints, sign_text}
 use Rattle.cpp_direct.proofs.PrintedParts.{printed_by, text_by, cost_by, text_alone, text_first, cost_first, text_append, cost_append, part-text, part-cost, length-filled}
 use Rattle.cpp_direct.proofs.PrintedNames.{builtin-prints}
 
@@ -21,7 +21,7 @@ boolean-filled false = omega arith
 -- A boolean prints its word.
 pub boolean-prints : (b : Bool) → Prints (boolean b) (cond b (codes "true") (codes "false")) false
 unfolding parts_in left_parts right_parts not_empty head head_with is_reference is_funarr is_empty is_open pack_length is_function_type prefix_item
-    last_piece opening_text is_void
+    last_piece opening_text is_void is_plain_integer
 boolean-prints b = let t = boolean b in let w : List ℕ = cond b (codes "true") (codes "false") in record {
   left_text = λ c. text_by left c t (text w ∷ []) refl ∙ text_alone w;
   right_text = λ c. text_by right c t [] refl;
@@ -35,6 +35,7 @@ boolean-prints b = let t = boolean b in let w : List ℕ = cond b (codes "true")
   as_prefix = λ c. refl;
   opening = refl;
   void = λ e. cc e;
+  integer = λ e. cc e;
 }
 
 -- ## Signs and digits
@@ -85,7 +86,7 @@ three x y z s d e f g h = rw (f, g, h) (sym (append_assoc s d e))
 pub plain-integer-prints : (letter : ℕ) → is_plain_integer (builtin (letter ∷ [])) ≡ true → (n : Signed) → n.digits ≢ []
     → Prints (integer (builtin (letter ∷ [])) n) (sign_text n ++ n.digits ++ look_up (letter ∷ []) literal_endings) false
 unfolding parts_in left_parts right_parts builtin_code not_empty head head_with is_reference is_funarr is_empty is_open pack_length
-    is_function_type prefix_item last_piece opening_text is_void
+    is_function_type prefix_item last_piece opening_text is_void is_plain_integer
 plain-integer-prints letter plain n filled =
     let t = builtin (letter ∷ []) in
     let i = integer t n in
@@ -117,6 +118,7 @@ plain-integer-prints letter plain n filled =
       as_prefix = λ c. refl;
       opening = refl;
       void = λ e. cc e;
+      integer = λ e. cc e;
     }
 
 cast_text : (x r y z b s d : List ℕ) → x ≡ b → r ≡ [] → y ≡ s → z ≡ d
@@ -124,16 +126,12 @@ cast_text : (x r y z b s d : List ℕ) → x ≡ b → r ≡ [] → y ≡ s → 
 cast_text x r y z b s d e f g h = rw (e, f, g, h) (ap (λ u. u ++ s ++ d) (sym (append_assoc (codes "(") b (codes ")"))))
 
 -- An integer of another type prints its type in front.
-pub cast-integer-prints : (letter : ℕ) → is_plain_integer (builtin (letter ∷ [])) ≡ false → look_up (letter ∷ []) builtin_texts ≢ []
-    → (n : Signed) → n.digits ≢ []
-    → Prints (integer (builtin (letter ∷ [])) n) (codes "(" ++ look_up (letter ∷ []) builtin_texts ++ codes ")" ++ sign_text n ++ n.digits) false
+pub enumerator-prints : (t : Term) (b : List ℕ) (r : Bool) → Prints t b r → is_plain_integer t ≡ false → (n : Signed) → n.digits ≢ []
+    → Prints (integer t n) (codes "(" ++ b ++ codes ")" ++ sign_text n ++ n.digits) false
 unfolding parts_in left_parts right_parts not_empty head head_with is_reference is_funarr is_empty is_open pack_length is_function_type prefix_item
-    last_piece opening_text is_void
-cast-integer-prints letter cast there n filled =
-    let t = builtin (letter ∷ []) in
+    last_piece opening_text is_void is_plain_integer
+enumerator-prints t b r p cast n filled =
     let i = integer t n in
-    let b = look_up (letter ∷ []) builtin_texts in
-    let p = builtin-prints letter there in
     let front : Context → List (PartOf Item) = λ c. says "(" ∷ as_item left c t ∷ as_item right c t ∷ says ")" ∷ [] in
     record {
       left_text = λ c. text_by left c i (front c ++ sign_part n ++ (text n.digits ∷ [])) (cast-is c t n cast)
@@ -160,10 +158,26 @@ cast-integer-prints letter cast there n filled =
       is_reference_head = λ c. refl;
       is_funarr_head = λ c. refl;
       filled = λ c. refl;
-      is_closed = refl;
-      packless = λ scope. refl;
+      is_closed = p.is_closed;
+      packless = λ scope. p.packless scope;
       no_function = refl;
       as_prefix = λ c. refl;
       opening = refl;
       void = λ e. cc e;
+      integer = λ e. cc e;
     }
+
+-- and so does one of a builtin type
+pub cast-integer-prints : (letter : ℕ) → is_plain_integer (builtin (letter ∷ [])) ≡ false → look_up (letter ∷ []) builtin_texts ≢ []
+    → (n : Signed) → n.digits ≢ []
+    → Prints (integer (builtin (letter ∷ [])) n) (codes "(" ++ look_up (letter ∷ []) builtin_texts ++ codes ")" ++ sign_text n ++ n.digits) false
+cast-integer-prints letter cast there n filled =
+    enumerator-prints (builtin (letter ∷ [])) (look_up (letter ∷ []) builtin_texts) false (builtin-prints letter there) cast n filled
+
+-- a type with another name is none whose integers stand without it
+pub not-integer : (t : Term) (b : List ℕ) (r : Bool) → Prints t b r → (EndsAsInteger b → ⊥) → is_plain_integer t ≡ false
+not-integer t b r p other = go (is_plain_integer t) refl
+  where
+    go : (is : Bool) → is_plain_integer t ≡ is → is_plain_integer t ≡ false
+    go true e = absurd (other (p.integer e))
+    go false e = e

@@ -26,12 +26,12 @@ use Rattle.cpp_direct.specs.Holes.{StandsAt, Comes, Expects, IsNameAt, IsSeqAt, 
 use Rattle.cpp_direct.specs.HolesOfTypes.{IsQualifiable, TypeOpens}
 use Rattle.cpp_direct.specs.Prints.{Prints}
 use Rattle.cpp_direct.specs.Stands.{AreCandidates, Marks, Stands, IsWriting}
-use Rattle.cpp_direct.specs.Ways.{AwaitsType, AwaitsNest, IsTypeNamed, AwaitsMark}
+use Rattle.cpp_direct.specs.Ways.{AwaitsType, AwaitsNamedType, AwaitsNest, IsTypeNamed, AwaitsMark}
 use Rattle.cpp_direct.specs.Written.{Reads, added, added_unless}
 use Rattle.cpp_direct.proofs.Kept.{piece-found, candidates-stay, candidates-added, candidates-read, candidate-found, reverse-last, last-reversed}
 use Rattle.cpp_direct.proofs.Moves.{expects-empty, stands-join}
 use Rattle.cpp_direct.proofs.MovesOfLists.{arguments-open}
-use Rattle.cpp_direct.proofs.MovesOfTypes.{builtin-comes, pointer-opens, lvalue-opens, rvalue-opens, const-opens, source-opens, std-opens, abbreviation-opens, substitution-opens, nested-type-opens}
+use Rattle.cpp_direct.proofs.MovesOfTypes.{solid-opens, builtin-comes, pointer-opens, lvalue-opens, rvalue-opens, const-opens, source-opens, std-opens, abbreviation-opens, substitution-opens, nested-type-opens}
 use Rattle.cpp_direct.proofs.PrintedLists.{none-print}
 use Rattle.cpp_direct.proofs.PrintedNames.{source-prints, std-prints, abbreviation-prints, builtin-prints}
 
@@ -308,8 +308,22 @@ builtin-done s old new letter a stands has text candidates waits at =
 
 -- ## Names
 
+-- where a type is expected a name may be
+pub names-awaited : (s : List ℕ) (w : Direct) → AwaitsType s w → AwaitsNamedType s w
+names-awaited s w a = record {
+  state = a.state;
+  candidates = a.candidates;
+  kind = Kind.Solid;
+  is_named = tt;
+  around = a.around;
+  outside = a.outside;
+  os = a.os;
+  begins = solid-opens s a.kind a.around a.os w.at a.state a.typed a.awaits;
+  stands = a.stands;
+}
+
 -- a name with its length is read
-pub source-named : (s : List ℕ) (old new : Direct) (from : ℕ) (name : List ℕ) → AwaitsType s old → IsNameAt s old.at name new.at → name ≢ []
+pub source-named : (s : List ℕ) (old new : Direct) (from : ℕ) (name : List ℕ) → AwaitsNamedType s old → IsNameAt s old.at name new.at → name ≢ []
     → Reads old new (source_text name) → from ≡ length old.text.items → IsTypeNamed s new from false false
 source-named s old new from name a is some reads begins = record {
   state = a.state;
@@ -318,7 +332,7 @@ source-named s old new from name a is some reads begins = record {
   outside = a.outside;
   outer = a.os;
   own = alone (source false name);
-  named = source-opens s a.kind a.around a.os old.at a.state name new.at a.typed a.outside a.awaits is;
+  named = source-opens s a.kind a.around a.os old.at a.state name new.at a.is_named a.outside a.begins is;
   front = old.text.items;
   bytes = source_text name;
   written = reads.text;
@@ -329,7 +343,7 @@ source-named s old new from name a is some reads begins = record {
 }
 
 -- a name in std
-pub std-named : (s : List ℕ) (old mid new : Direct) (from : ℕ) (name : List ℕ) → AwaitsType s old → StandsAt s old.at (83 ∷ [])
+pub std-named : (s : List ℕ) (old mid new : Direct) (from : ℕ) (name : List ℕ) → AwaitsNamedType s old → StandsAt s old.at (83 ∷ [])
     → StandsAt s (old.at + 1) (116 ∷ [])
     → mid.text.items ≡ old.text.items ++ codes "std::" → mid.candidates ≡ old.candidates → mid.waiting ≡ old.waiting → mid.at ≡ old.at + 1 + 1
     → IsNameAt s mid.at name new.at → name ≢ [] → Reads mid new (source_text name) → from ≡ length old.text.items → IsTypeNamed s new from false false
@@ -343,7 +357,7 @@ std-named s old mid new from name a s_stands t_stands text candidates waits at i
   outside = a.outside;
   outer = a.os;
   own = in_std (source false name);
-  named = std-opens s a.kind a.around a.os old.at a.state name new.at a.typed a.awaits (stands-join s old.at (83 ∷ []) (116 ∷ []) s_stands t_stands)
+  named = std-opens s a.kind a.around a.os old.at a.state name new.at a.is_named a.begins (stands-join s old.at (83 ∷ []) (116 ∷ []) s_stands t_stands)
       (subst (λ k. IsNameAt s k name new.at) (omega (arith, at)) is);
   front = old.text.items;
   bytes = codes "std::" ++ source_text name;
@@ -355,7 +369,7 @@ std-named s old mid new from name a s_stands t_stands text candidates waits at i
 }
 
 -- an abbreviation
-pub abbreviation-named : (s : List ℕ) (old new : Direct) (from letter : ℕ) → AwaitsType s old → StandsAt s old.at (83 ∷ [])
+pub abbreviation-named : (s : List ℕ) (old new : Direct) (from letter : ℕ) → AwaitsNamedType s old → StandsAt s old.at (83 ∷ [])
     → (letter ≢ 0 → StandsAt s (old.at + 1) (letter ∷ [])) → look_up (letter ∷ []) abbreviation_texts ≢ []
     → new.text.items ≡ old.text.items ++ look_up (letter ∷ []) abbreviation_texts → new.candidates ≡ old.candidates → new.waiting ≡ old.waiting
     → new.at ≡ old.at + 1 + 1 → from ≡ length old.text.items → IsTypeNamed s new from true false
@@ -372,7 +386,7 @@ abbreviation-named s old new from letter a s_stands stands has text candidates w
       outer = a.os;
       own = abbreviation letter;
       named = subst (λ k. TypeNamed s a.os a.around (abbreviation letter) true k a.state) (omega (arith, at))
-          (abbreviation-opens s a.kind a.around a.os old.at a.state letter a.typed is a.awaits
+          (abbreviation-opens s a.kind a.around a.os old.at a.state letter a.is_named is a.begins
           (stands-join s old.at (83 ∷ []) (letter ∷ []) s_stands (stands (no-abbreviation letter is))));
       front = old.text.items;
       bytes = bytes;
@@ -384,7 +398,7 @@ abbreviation-named s old new from letter a s_stands stands has text candidates w
     }
 
 -- where a substitution's text stands
-pub substitution-stands : (s : List ℕ) (old : Direct) (n : ℕ) (k : Candidate) → AwaitsType s old → slice_get old.candidates.items n ≡ Some k
+pub substitution-stands : (s : List ℕ) (old : Direct) (n : ℕ) (k : Candidate) → AwaitsNamedType s old → slice_get old.candidates.items n ≡ Some k
     → (k.from ≤ k.to) × (k.to ≤ length old.text.items)
 substitution-stands s old n k a found =
     let c = candidate-found old.text.items old.candidates.items a.state.candidates n k a.candidates found in
@@ -392,7 +406,7 @@ substitution-stands s old n k a found =
     (piece.0, piece.1)
 
 -- a substitution
-pub substitution-named : (s : List ℕ) (old new : Direct) (from : ℕ) (digits : List ℕ) (k : Candidate) → AwaitsType s old → StandsAt s old.at (83 ∷ [])
+pub substitution-named : (s : List ℕ) (old new : Direct) (from : ℕ) (digits : List ℕ) (k : Candidate) → AwaitsNamedType s old → StandsAt s old.at (83 ∷ [])
     → IsSeqAt s (old.at + 1) digits new.at → slice_get old.candidates.items (counted_value Seq36 digits) ≡ Some k
     → new.text.items ≡ old.text.items ++ take (k.to - k.from) (drop k.from old.text.items) → new.candidates ≡ old.candidates
     → new.waiting ≡ old.waiting → from ≡ length old.text.items → IsTypeNamed s new from true k.is_reference
@@ -409,8 +423,8 @@ substitution-named s old new from digits k a stands is found text candidates wai
       outside = a.outside;
       outer = a.os;
       own = c.0.tree;
-      named = substitution-opens s a.kind a.around a.os old.at a.state digits new.at c.0 a.typed c.1 c.2.prints.is_closed c.2.prints.packless
-          a.awaits stands is;
+      named = substitution-opens s a.kind a.around a.os old.at a.state digits new.at c.0 a.is_named c.1 c.2.prints.is_closed c.2.prints.packless
+          a.begins stands is;
       front = old.text.items;
       bytes = c.2.bytes;
       written = written;
@@ -528,10 +542,10 @@ const-opened s old new o from false p plain begins stands is waits at text candi
     }) tt begins stands is waits at text candidates
 
 -- a nested name is expected behind an N
-pub nest-awaited : (s : List ℕ) (old : Direct) (n : ℕ) → AwaitsType s old → n ≡ old.at + 1 → StandsAt s old.at (78 ∷ [])
+pub nest-awaited : (s : List ℕ) (old : Direct) (n : ℕ) → AwaitsNamedType s old → n ≡ old.at + 1 → StandsAt s old.at (78 ∷ [])
     → AwaitsNest s (record old { at = n }) purposes.Type
 nest-awaited s old n a at stands =
-    let t = nested-type-opens s a.kind a.around a.os old.at a.state a.typed a.awaits stands in
+    let t = nested-type-opens s a.kind a.around a.os old.at a.state a.is_named a.begins stands in
     record {
       state = a.state;
       candidates = a.candidates;

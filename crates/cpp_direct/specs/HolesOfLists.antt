@@ -6,12 +6,13 @@ use Rattle.sym_core.specs.Token.{Token, bytes_of, IsNumberToken}
 use Rattle.sym_demangle.specs.Mangled.{StandsFor}
 use Rattle.cpp_grammar.specs.declared.kind.Kind.{Kind}
 use Rattle.cpp_grammar.specs.Mangled.{cpp_mangled}
-use Rattle.cpp_grammar.specs.Term.{any_value, Term, symbol, special}
-use Rattle.cpp_grammar.specs.Values.{State, Around, Value, tree, named, tree_of}
+use Rattle.cpp_grammar.specs.Term.{any_value, Term, symbol, special, integer}
+use Rattle.cpp_grammar.specs.Values.{State, Around, Value, tree, named, tree_of, signed_digits}
 use Rattle.cpp_grammar.specs.Between.{in_name, in_types, inside, no_items}
 use Rattle.cpp_grammar.specs.Meaning.{encoding_of}
 use Rattle.cpp_grammar.specs.Unfolding.{first_around, first_state}
 use Rattle.cpp_direct.specs.Holes.{Opened, StandsAt, Comes, Expects, ListGoesOn}
+use Rattle.cpp_direct.specs.HolesOfTypes.{TreeOpens}
 use Rattle.cpp_direct.specs.ItemBytes.{is_suffix_byte}
 
 -- ## Lists
@@ -42,6 +43,14 @@ pub record IsDigitsAt (s : List ℕ) (at : ℕ) (digits : List ℕ) (end : ℕ) 
 abbrev pub minus_sign : Bool → List ℕ
 minus_sign true = 110 ∷ []
 minus_sign false = []
+
+-- Behind an L the type of an enumerator is expected, then its number and an E.
+pub record EnumeratorOpened (s : List ℕ) (outer : List Opened) (around : Around) (at : ℕ) (st : State) : Type 0 where
+  pub inner : List Opened
+  pub opens : TreeOpens s Kind.LiteralType inner around at st
+  pub onward : (t : Term) (at : ℕ) (st : State) → Comes s inner (tree t true) at st → (negative : Bool) (digits : List ℕ) (end : ℕ)
+      → StandsAt s at (minus_sign negative) → IsDigitsAt s (at + length (minus_sign negative)) digits end → StandsAt s end (69 ∷ [])
+      → ListGoesOn s Kind.ArgumentList outer around (integer t (signed_digits negative digits)) (end + 1) st
 
 -- ## Encodings
 

@@ -16,6 +16,12 @@ IsQualifiable Kind.Type = Unit {0}
 IsQualifiable Kind.Item = Unit {0}
 IsQualifiable _ = ⊥
 
+-- a type that is a name may be expected as one of these kinds
+abbrev pub IsNamedKind : Kind → Type 0
+IsNamedKind Kind.Solid = Unit {0}
+IsNamedKind Kind.LiteralType = Unit {0}
+IsNamedKind _ = ⊥
+
 -- A type of this kind is expected within another, which is made of it.
 pub record TypeOpens (s : List ℕ) (kind : Kind) (outer : List Opened) (around : Around) (made : Term → Term) (at : ℕ) (st : State) : Type 0 where
   pub inner : List Opened

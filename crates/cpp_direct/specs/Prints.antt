@@ -1,5 +1,5 @@
 -- Trees of which the text is known: those that print it at the left and nothing at the right, wherever they stand.
-use Rattle.std.specs.Prelude.{◌≡◌, ℕ, ◌+◌, ◌*◌, ◌≤◌, List, [], ◌∷◌, ◌++◌, length, Bool, true, false, cond, None, codes}
+use Rattle.std.specs.Prelude.{◌≡◌, ℕ, ◌+◌, ◌*◌, ◌≤◌, List, [], ◌∷◌, ◌++◌, length, Bool, true, false, cond, None, codes, ◌⊎◌}
 use Rattle.sym_print.specs.declared.detail.Detail.TheVariants.{Full}
 use Rattle.sym_print.specs.Unshared.{Unshared, text_of, cost_of}
 use Rattle.cpp_grammar.specs.Term.{Signed, Term, nil, list}
@@ -7,12 +7,16 @@ use Rattle.cpp_grammar.specs.Scope.{is_open, pack_length}
 use Rattle.cpp_grammar.specs.References.{is_function_type}
 use Rattle.cpp_grammar.specs.Items.{Form, full, left, right, base, Context, closed, head, is_reference, is_funarr, is_empty}
 use Rattle.cpp_grammar.specs.Meaning.{is_void}
-use Rattle.cpp_grammar.specs.Parts.{as_item, prefix_item, last_piece, opening_text}
+use Rattle.cpp_grammar.specs.Parts.{as_item, prefix_item, last_piece, opening_text, is_plain_integer}
 use Rattle.cpp_grammar.specs.Answer.{shown}
 
 -- what a tree prints in a form, wherever it stands
 abbrev pub in_form : Form → Context → Term → Unshared
 in_form form context t = shown Full (record { tree = t; form = form; context = context })
+
+-- the name of a builtin type whose integers stand without it ends so
+abbrev pub EndsAsInteger : List ℕ → Type 0
+EndsAsInteger bytes = (front : List ℕ) × ((bytes ≡ front ++ codes "int") ⊎ (bytes ≡ front ++ codes "long"))
 
 -- A tree with this text. It is a type, or the name of something; whether it is a reference is known.
 pub record Prints (t : Term) (bytes : List ℕ) (reference : Bool) : Type 0 where
@@ -28,6 +32,7 @@ pub record Prints (t : Term) (bytes : List ℕ) (reference : Bool) : Type 0 wher
   pub as_prefix : (context : Context) → prefix_item context t ≡ as_item left context t
   pub opening : opening_text (last_piece t) ≡ codes "<"
   pub void : is_void t ≡ true → bytes ≡ codes "void"
+  pub integer : is_plain_integer t ≡ true → EndsAsInteger bytes
 
 -- A tree whose class is named so where it stands in front of a constructor or a destructor.
 pub record NamesClass (t : Term) (class : List ℕ) : Type 0 where

@@ -6,12 +6,12 @@ use Rattle.sym_demangle.specs.Mangled.{StandsFor}
 use Rattle.cpp_grammar.specs.declared.kind.Kind.{Kind}
 use Rattle.cpp_grammar.specs.Mangled.{cpp_mangled}
 use Rattle.cpp_grammar.specs.Answer.{shown, root_item}
-use Rattle.cpp_grammar.specs.Term.{Term, Qualifiers, any_value, symbol, special, pointer, lvalue, rvalue, qualified, instance, list}
+use Rattle.cpp_grammar.specs.Term.{Term, Qualifiers, any_value, symbol, special, pointer, lvalue, rvalue, qualified, instance, integer, list}
 use Rattle.cpp_grammar.specs.Texts.{look_up, special_texts}
 use Rattle.cpp_grammar.specs.Scope.{has_return_type, is_structor}
 use Rattle.cpp_grammar.specs.References.{is_function_type}
 use Rattle.cpp_grammar.specs.Values as values
-use Rattle.cpp_grammar.specs.Values.{State, Around, Value, tree, named, outermost, tree_of, qualifiers_of, ref_of}
+use Rattle.cpp_grammar.specs.Values.{State, Around, Value, tree, named, outermost, tree_of, qualifiers_of, ref_of, signed_digits}
 use Rattle.cpp_grammar.specs.Between.{no_items}
 use Rattle.cpp_grammar.specs.Meaning.{encoding_of}
 use Rattle.cpp_direct.specs.declared.open.Candidate.{Candidate}
@@ -24,7 +24,7 @@ use Rattle.cpp_direct.specs.declared.open.Step.{Step}
 use Rattle.cpp_direct.specs.declared.open.Step.TheVariants as steps
 use Rattle.cpp_direct.specs.declared.direct.Direct.{Direct}
 use Rattle.cpp_direct.specs.Holes.{Opened, Comes, Expects, StandsAt, TypePasses, NestGoesOn, AwaitsComponent, with_candidate, unless_listed}
-use Rattle.cpp_direct.specs.HolesOfLists.{IsSuffix}
+use Rattle.cpp_direct.specs.HolesOfLists.{IsSuffix, IsDigitsAt, minus_sign}
 use Rattle.cpp_direct.specs.Prints.{Prints, NamesClass, PrintAll}
 
 -- ## Candidates
@@ -173,6 +173,21 @@ AwaitsArgument s owner below os text =
     × (text ≡ front ++ name ++ codes "<" ++ in_front_of_next ts arguments)
     × ((t : Term) (at : ℕ) (st : State) → Comes s os (tree t true) at st → ArgumentsGoOn s owner below front template (ts ++ t ∷ []) at st)
 
+-- arguments go on behind an enumerator of this type, once its number and an E are read
+abbrev pub EnumeratorGoesOn : (s : List ℕ) → Open → Below → (front : List ℕ) → (template : Term) → List Term → Term → (at : ℕ) → State → Type 0
+EnumeratorGoesOn s owner below front template ts t at st =
+    (negative : Bool) (digits : List ℕ) (end : ℕ) → StandsAt s at (minus_sign negative)
+    → IsDigitsAt s (at + length (minus_sign negative)) digits end → StandsAt s end (69 ∷ [])
+    → ArgumentsGoOn s owner below front template (ts ++ integer t (signed_digits negative digits) ∷ []) (end + 1) st
+
+-- a type comes as that of an enumerator, which is an argument
+abbrev pub AwaitsEnumerator : (s : List ℕ) → Open → Below → List Opened → (text : List ℕ) → Type 0
+AwaitsEnumerator s owner below os text =
+    (front : List ℕ) × (template : Term) × (name : List ℕ) × (ts : List Term) × (arguments : List ℕ)
+    × IsTemplate owner front template name text × PrintAll ts arguments
+    × (text ≡ front ++ name ++ codes "<" ++ in_front_of_next ts arguments ++ codes "(")
+    × ((t : Term) (at : ℕ) (st : State) → Comes s os (tree t true) at st → EnumeratorGoesOn s owner below front template ts t at st)
+
 -- A type comes for the last of the open ones, behind what is written.
 abbrev pub Stands : (s : List ℕ) → List Open → List Opened → (text : List ℕ) → Type 0
 Stands s [] os text = ⊥
@@ -188,6 +203,8 @@ Stands s (opens.Parameters is_const ∷ rest) os text =
 Stands s (opens.Special ∷ rest) os text =
     (letter : ℕ) × (text ≡ look_up (letter ∷ []) special_texts) × (text ≢ [])
     × ((t : Term) (at : ℕ) (st : State) → Comes s os (tree t true) at st → Encoded s (special letter t) at)
+Stands s (opens.Enumerator ∷ []) os text = ⊥
+Stands s (opens.Enumerator ∷ owner ∷ rest) os text = AwaitsEnumerator s owner (Stands s rest) os text
 Stands s (owner ∷ rest) os text = AwaitsArgument s owner (Stands s rest) os text
 
 -- ## What comes next

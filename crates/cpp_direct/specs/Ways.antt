@@ -11,8 +11,9 @@ use Rattle.cpp_direct.specs.declared.open.Open.{Open}
 use Rattle.cpp_direct.specs.declared.open.Open.TheVariants as opens
 use Rattle.cpp_direct.specs.declared.direct.Direct.{Direct}
 use Rattle.cpp_direct.specs.Holes.{Opened, Comes, Expects, IsTyped, TypeNamed, NestNamed, with_candidate}
+use Rattle.cpp_direct.specs.HolesOfTypes.{IsNamedKind, TreeOpens}
 use Rattle.cpp_direct.specs.Prints.{Prints, PrintAll, Shows, list_of, sign_text}
-use Rattle.cpp_direct.specs.Stands.{AreCandidates, AwaitsItems, Encoded, IsFunction, IsNest, IsTemplate, ArgumentsGoOn, Owns, ParametersGoOn, Serves, Stands, qualifiers, in_front_of_next}
+use Rattle.cpp_direct.specs.Stands.{AreCandidates, AwaitsItems, Encoded, IsFunction, IsNest, IsTemplate, ArgumentsGoOn, EnumeratorGoesOn, Owns, ParametersGoOn, Serves, Stands, qualifiers, in_front_of_next}
 
 -- what stands behind the parameters of a member function
 abbrev pub const_text : (is_const : Bool) → List ℕ
@@ -35,6 +36,18 @@ pub record AwaitsType (s : List ℕ) (w : Direct) : Type 0 where
   pub outside : around.prefix ≡ outermost
   pub os : List Opened
   pub awaits : Expects s kind around os w.at state
+  pub stands : Stands s (reverse w.waiting.items) os w.text.items
+
+-- a type is expected that is a name
+pub record AwaitsNamedType (s : List ℕ) (w : Direct) : Type 0 where
+  pub state : State
+  pub candidates : AreCandidates w.text.items w.candidates.items state.candidates
+  pub kind : Kind
+  pub is_named : IsNamedKind kind
+  pub around : Around
+  pub outside : around.prefix ≡ outermost
+  pub os : List Opened
+  pub begins : TreeOpens s kind os around w.at state
   pub stands : Stands s (reverse w.waiting.items) os w.text.items
 
 -- the name of a type was read, which is a candidate already or not, and was written from a place on
@@ -156,6 +169,27 @@ pub record AwaitsNextArgument (s : List ℕ) (w : Direct) : Type 0 where
   pub elements : PrintAll ts arguments
   pub written : w.text.items ≡ front ++ name ++ codes "<" ++ in_front_of_next ts arguments
   pub goes : ArgumentsGoOn s owner (Stands s rest) front template ts w.at state
+
+-- The type of an enumerator was read, which is an argument. Its number is expected.
+pub record AwaitsNumber (s : List ℕ) (w : Direct) : Type 0 where
+  pub state : State
+  pub candidates : AreCandidates w.text.items w.candidates.items state.candidates
+  pub owner : Open
+  pub rest : List Open
+  pub open_is : reverse w.waiting.items ≡ opens.Enumerator ∷ owner ∷ rest
+  pub front : List ℕ
+  pub template : Term
+  pub name : List ℕ
+  pub ts : List Term
+  pub arguments : List ℕ
+  pub is_template : IsTemplate owner front template name w.text.items
+  pub elements : PrintAll ts arguments
+  pub type : Term
+  pub bytes : List ℕ
+  pub is_reference : Bool
+  pub prints : Prints type bytes is_reference
+  pub written : w.text.items ≡ front ++ name ++ codes "<" ++ in_front_of_next ts arguments ++ codes "(" ++ bytes
+  pub goes : EnumeratorGoesOn s owner (Stands s rest) front template ts type w.at state
 
 -- The name of an encoding was read and written, but for its qualifier.
 pub record IsNameEnded (s : List ℕ) (w : Direct) (is_const is_instance : Bool) : Type 0 where

@@ -12,7 +12,7 @@ ghost use Rattle.cpp_direct.specs.Holes.{StandsAt};
 ghost use Rattle.cpp_direct.specs.HolesOfLists.{IsDigitsAt, minus_sign};
 ghost use Rattle.cpp_direct.specs.ItemBytes.{is_integer_letter};
 ghost use Rattle.cpp_direct.specs.Stands.{IsWriting};
-ghost use Rattle.cpp_direct.specs.Ways.{IsListEnded, AwaitsNextArgument, truth_text, number_text, integer_text};
+ghost use Rattle.cpp_direct.specs.Ways.{IsListEnded, AwaitsNextArgument, AwaitsNumber, truth_text, number_text, integer_text};
 ghost use Rattle.cpp_direct.specs.Written.{Reads};
 
 use crate::direct::Direct;
@@ -150,12 +150,42 @@ impl Direct {
         ensures { IfSome result (IsWriting s.now self.new) }
     {
         self.at = self.at.checked_add(1)?;
-        if byte_at(s, self.at) == b'b' {
-            self.boolean(s)?;
-            self.literal_ended(s)?;
-            return Some(Step::List { is_first: false });
+        match byte_at(s, self.at) {
+            b'b' => {
+                self.boolean(s)?;
+                self.literal_ended(s)?;
+                Some(Step::List { is_first: false })
+            }
+            b'N' | b'S' | b'1'..=b'9' => {
+                self.push(b"(")?;
+                self.waiting.push(Open::Enumerator).ok()?;
+                self.named_type(s)
+            }
+            _ => {
+                self.integer(s)?;
+                self.literal_ended(s)?;
+                Some(Step::List { is_first: false })
+            }
         }
-        self.integer(s)?;
+    }
+
+    /// Reads the number of an enumerator, behind its type.
+    // <expr-primary> ::= L <type> <value number> E
+    pub(crate) fn enumerator(&mut self, s: &[u8]) -> Option<Step>
+        requires fits { FitsSymbol s.now }
+        requires awaits { AwaitsNumber s.now self.old }
+        ensures { IfSome result (IsWriting s.now self.new) }
+    {
+        // the integers of some builtin types stand without them
+        if self.text.ends_with(b"int") {
+            return None;
+        }
+        if self.text.ends_with(b"long") {
+            return None;
+        }
+        let _open = self.waiting.pop();
+        self.push(b")")?;
+        self.number(s)?;
         self.literal_ended(s)?;
         Some(Step::List { is_first: false })
     }

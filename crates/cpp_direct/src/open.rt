@@ -51,6 +51,8 @@ pub enum Open {
     Parameters { is_const: bool },
     /// the name of a special symbol
     Special,
+    /// the number of an enumerator, an argument of what was opened before
+    Enumerator,
 }
 
 /// What comes next.

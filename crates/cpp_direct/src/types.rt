@@ -6,7 +6,7 @@ ghost use Rattle.sym_core.specs.Number.{FitsSymbol};
 ghost use Rattle.cpp_direct.specs.declared.open.Step.TheVariants as steps;
 ghost use Rattle.cpp_direct.specs.Holes.{StandsAt};
 ghost use Rattle.cpp_direct.specs.Stands.{IsWriting};
-ghost use Rattle.cpp_direct.specs.Ways.{AwaitsType, IsTypeNamed, AwaitsMark};
+ghost use Rattle.cpp_direct.specs.Ways.{AwaitsType, AwaitsNamedType, IsTypeNamed, AwaitsMark};
 
 use crate::direct::Direct;
 use crate::open::{Open, Purpose, Step};
@@ -31,16 +31,29 @@ impl Direct {
                 }
                 self.open_type(Open::Const { from }, Step::Plain)
             }
+            b'N' | b'S' | b'1'..=b'9' => self.named_type(s),
+            letter => self.builtin(s, letter),
+        }
+    }
+
+    /// Reads a type that is a name, up to the first type that stands in it.
+    // <class-enum-type> ::= <name>
+    pub(crate) fn named_type(&mut self, s: &[u8]) -> Option<Step>
+        requires fits { FitsSymbol s.now }
+        requires awaits { AwaitsNamedType s.now self.old }
+        ensures { IfSome result (IsWriting s.now self.new) }
+    {
+        let from = self.text.len();
+        match byte_at(s, self.at) {
             b'N' => {
                 self.at = self.at.checked_add(1)?;
                 self.nest_at(s, Purpose::Type)
             }
             b'S' => self.type_with_s(s),
-            b'1'..=b'9' => {
+            _ => {
                 self.name(s)?;
                 self.type_named(s, from, false, false)
             }
-            letter => self.builtin(s, letter),
         }
     }
 
@@ -66,7 +79,7 @@ impl Direct {
     fn type_with_s(&mut self, s: &[u8]) -> Option<Step>
         requires fits { FitsSymbol s.now }
         requires letter { StandsAt s.now self.old.at (83 ∷ []) }
-        requires awaits { AwaitsType s.now self.old }
+        requires awaits { AwaitsNamedType s.now self.old }
         ensures { IfSome result (IsWriting s.now self.new) }
     {
         let from = self.text.len();
@@ -140,6 +153,7 @@ impl Direct {
             }
             Open::Parameters { is_const } => self.parameter_ended(s, is_const),
             Open::Special => self.end(s, false),
+            Open::Enumerator => self.enumerator(s),
             _ => Some(Step::List { is_first: false }),
         }
     }

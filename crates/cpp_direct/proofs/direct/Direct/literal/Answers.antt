@@ -1,18 +1,33 @@
-use Rattle.std.proofs.Common.{refl}
+use Rattle.std.proofs.Common.{◌++◌, ◌∷◌, [], refl, ap, sym, ◌∙◌}
+use Rattle.std.specs.Option.{is_some}
+use Rattle.cpp_direct.specs.declared.open.Open.TheVariants as opens
+use Rattle.cpp_direct.proofs.Ending.{pushed}
 use Rattle.cpp_direct.proofs.FoundTokens.{reads-begun}
-use Rattle.cpp_direct.proofs.Elements.{boolean-element-read, integer-element-read}
+use Rattle.cpp_direct.proofs.Elements.{boolean-element-read, integer-element-read, enumerator-expected}
 use Rattle.cpp_direct.proofs.direct.Direct.literal.Goals as goal
 
-pub returns-then-byte_at-eq98 : goal.returns-then-byte_at-eq98
-returns-then-byte_at-eq98 c =
+-- src/lists.rt:162:17
+pub named_type-requires-clause-awaits : goal.named_type-requires-clause-awaits
+named_type-requires-clause-awaits c =
+    enumerator-expected c.args.s.now c.args.self.now (record c.args.self.now { at = c.in_ok-self.field-0 }) c.push.new.self
+    (record c.push.new.self { waiting = c.push-in-78.new.self })
+    c.requires.awaits c.requires.letter c.in_ok-self.ensures.1 (reads-begun c.args.self.now _ refl refl refl refl refl) c.in_ok-push-in-78.ensures
+    refl refl
+    (pushed _ c.push.new.self.waiting.items (c.push.new.self.waiting.items ++ opens.Enumerator ∷ []) _ c.push-in-78.ensures.items
+    (sym c.ok.ensures.variant ∙ ap is_some c.in_ok-ok-in-78.was)) refl
+
+-- src/lists.rt:146:5
+pub returns-in_ok-literal_ended-in-98 : goal.returns-in_ok-literal_ended-in-98
+returns-in_ok-literal_ended-in-98 c =
     boolean-element-read c.args.s.now c.args.self.now (record c.args.self.now { at = c.in_ok-self.field-0 }) c.boolean.new.self
     c.literal_ended.new.self
-    c.requires.awaits c.requires.letter c.in_ok-self.ensures.1 (reads-begun c.args.self.now _ refl refl refl refl refl) c.in_ok-boolean.ensures
-    c.in_ok-literal_ended.ensures
+    c.requires.awaits c.requires.letter c.in_ok-self.ensures.1 (reads-begun c.args.self.now _ refl refl refl refl refl) c.in_ok-boolean-in-98.ensures
+    c.in_ok-literal_ended-in-98.ensures
 
-pub returns : goal.returns
-returns c =
+-- src/lists.rt:146:5
+pub returns-in_ok-literal_ended-in_default : goal.returns-in_ok-literal_ended-in_default
+returns-in_ok-literal_ended-in_default c =
     integer-element-read c.args.s.now c.args.self.now (record c.args.self.now { at = c.in_ok-self.field-0 }) c.integer.new.self
-    c.literal_ended-2.new.self
-    c.requires.awaits c.requires.letter c.in_ok-self.ensures.1 (reads-begun c.args.self.now _ refl refl refl refl refl) c.in_ok-integer.ensures
-    c.in_ok-literal_ended-2.ensures
+    c.literal_ended-in_default.new.self
+    c.requires.awaits c.requires.letter c.in_ok-self.ensures.1 (reads-begun c.args.self.now _ refl refl refl refl refl) c.in_ok-integer-in_default.ensures
+    c.in_ok-literal_ended-in_default.ensures

@@ -1,24 +1,11 @@
 use Rattle.std.proofs.Common.{◌∙◌, arith}
-use Rattle.cpp_direct.proofs.TypesRead.{awaits-type, there, source-named, pointer-opened, lvalue-opened, rvalue-opened, const-opened, nest-awaited}
+use Rattle.cpp_direct.proofs.TypesRead.{awaits-type, names-awaited, there, pointer-opened, lvalue-opened, rvalue-opened, const-opened}
 use Rattle.cpp_direct.proofs.direct.Direct.type_at.Goals as goal
 
 -- src/types.rt:36:17
-pub nest_at-requires-clause-awaits : goal.nest_at-requires-clause-awaits
-nest_at-requires-clause-awaits c =
-    nest-awaited c.args.s.now c.args.self.now c.in_ok-self-in-78.field-0
-    (awaits-type c.args.s.now c.args.self.now c.args.is_plain c.requires.writing) c.in_ok-self-in-78.ensures.1
-    (there c.args.s.now c.args.self.now.at c.byte_at.result 78 c.in-78.is (omega arith) c.byte_at.ensures)
-
--- src/types.rt:38:21
-pub type_with_s-requires-clause-awaits : goal.type_with_s-requires-clause-awaits
-type_with_s-requires-clause-awaits c = awaits-type c.args.s.now c.args.self.now c.args.is_plain c.requires.writing
-
--- src/types.rt:41:17
-pub type_named-requires : goal.type_named-requires
-type_named-requires c =
-    let got = c.in_ok-name-in-49-to-57.ensures in
-    source-named c.args.s.now c.args.self.now c.name.new.self c.len-from.result got.0
-    (awaits-type c.args.s.now c.args.self.now c.args.is_plain c.requires.writing) got.1 got.2 got.3 (c.len-from.ensures ∙ c.args.self.now.text.ok.0)
+pub named_type-requires-clause-awaits : goal.named_type-requires-clause-awaits
+named_type-requires-clause-awaits c =
+    names-awaited c.args.s.now c.args.self.now (awaits-type c.args.s.now c.args.self.now c.args.is_plain c.requires.writing)
 
 -- src/types.rt:43:23
 pub builtin-requires-clause-awaits : goal.builtin-requires-clause-awaits
