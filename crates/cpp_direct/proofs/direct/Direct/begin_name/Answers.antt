@@ -4,7 +4,6 @@ use Rattle.cpp_direct.proofs.Begins.{name-bare, name-argued}
 use Rattle.cpp_direct.proofs.direct.Direct.begin_name.Goals as goal
 use Rattle.cpp_direct.proofs.direct.Direct.begin_name.Goals.{then-is_internal, else-is_internal}
 
--- src/direct.rt:165:13
 pub returns-then-byte_at-eq73 : goal.returns-then-byte_at-eq73
 returns-then-byte_at-eq73 c =
     let place : c.if-is_internal.self ≡ 2 + cond c.args.is_internal 1 0 = elim c.if-is_internal.branch [
@@ -20,7 +19,6 @@ returns-then-byte_at-eq73 c =
     c.in_ok-add_candidate.ensures.candidates c.add_candidate.ensures.text c.add_candidate.ensures.open c.add_candidate.ensures.at
     c.open_arguments.ensures.step c.open_arguments.ensures.open c.open_arguments.ensures.at c.open_arguments.ensures.text c.open_arguments.ensures.candidates
 
--- src/direct.rt:167:9
 pub name_ended-requires-clause-ended : goal.name_ended-requires-clause-ended
 name_ended-requires-clause-ended c =
     let place : c.if-is_internal.self ≡ 2 + cond c.args.is_internal 1 0 = elim c.if-is_internal.branch [

@@ -4,7 +4,6 @@ use Rattle.cpp_direct.proofs.Begins.{nested-begins}
 use Rattle.cpp_direct.proofs.direct.Direct.begin_nested.Goals as goal
 use Rattle.cpp_direct.proofs.direct.Direct.begin_nested.Goals.{then-is_const, else-is_const}
 
--- src/direct.rt:150:9
 pub nest_at-requires-clause-awaits : goal.nest_at-requires-clause-awaits
 nest_at-requires-clause-awaits c =
     let const = nat_eq c.byte_at-is_const.result 75 in

@@ -6,7 +6,6 @@ use Rattle.cpp_direct.specs.declared.open.Open.TheVariants as opens
 use Rattle.cpp_direct.proofs.Begins.{special-begins, special-stands, pushed-alone}
 use Rattle.cpp_direct.proofs.direct.Direct.begin_special.Goals as goal
 
--- src/direct.rt:123:5
 pub returns : goal.returns
 returns c =
     let s = c.args.s.now in

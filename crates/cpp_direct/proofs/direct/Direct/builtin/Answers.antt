@@ -2,7 +2,6 @@ use Rattle.std.proofs.Common.{◌∙◌, ap, ◌++◌}
 use Rattle.cpp_direct.proofs.TypesRead.{builtin-done, some-text}
 use Rattle.cpp_direct.proofs.direct.Direct.builtin.Goals as goal
 
--- src/types.rt:48:5
 pub returns : goal.returns
 returns c =
     builtin-done c.args._s.now c.args.self.now c.push.new.self c.args.letter c.requires.awaits c.requires.letter

@@ -6,7 +6,6 @@ use Rattle.cpp_direct.proofs.FoundTokens.{reads-begun}
 use Rattle.cpp_direct.proofs.Elements.{boolean-element-read, integer-element-read, enumerator-expected}
 use Rattle.cpp_direct.proofs.direct.Direct.literal.Goals as goal
 
--- src/lists.rt:162:17
 pub named_type-requires-clause-awaits : goal.named_type-requires-clause-awaits
 named_type-requires-clause-awaits c =
     enumerator-expected c.args.s.now c.args.self.now (record c.args.self.now { at = c.in_ok-self.field-0 }) c.push.new.self
@@ -16,7 +15,6 @@ named_type-requires-clause-awaits c =
     (pushed _ c.push.new.self.waiting.items (c.push.new.self.waiting.items ++ opens.Enumerator ∷ []) _ c.push-in-78.ensures.items
     (sym c.ok.ensures.variant ∙ ap is_some c.in_ok-ok-in-78.was)) refl
 
--- src/lists.rt:146:5
 pub returns-in_ok-literal_ended-in-98 : goal.returns-in_ok-literal_ended-in-98
 returns-in_ok-literal_ended-in-98 c =
     boolean-element-read c.args.s.now c.args.self.now (record c.args.self.now { at = c.in_ok-self.field-0 }) c.boolean.new.self
@@ -24,7 +22,6 @@ returns-in_ok-literal_ended-in-98 c =
     c.requires.awaits c.requires.letter c.in_ok-self.ensures.1 (reads-begun c.args.self.now _ refl refl refl refl refl) c.in_ok-boolean-in-98.ensures
     c.in_ok-literal_ended-in-98.ensures
 
--- src/lists.rt:146:5
 pub returns-in_ok-literal_ended-in_default : goal.returns-in_ok-literal_ended-in_default
 returns-in_ok-literal_ended-in_default c =
     integer-element-read c.args.s.now c.args.self.now (record c.args.self.now { at = c.in_ok-self.field-0 }) c.integer.new.self

@@ -2,13 +2,11 @@ use Rattle.std.proofs.Common.{◌∙◌, arith}
 use Rattle.cpp_direct.proofs.TypesRead.{there, source-named, nest-awaited}
 use Rattle.cpp_direct.proofs.direct.Direct.named_type.Goals as goal
 
--- src/types.rt:50:17
 pub nest_at-requires-clause-awaits : goal.nest_at-requires-clause-awaits
 nest_at-requires-clause-awaits c =
     nest-awaited c.args.s.now c.args.self.now c.in_ok-self-in-78.field-0 c.requires.awaits c.in_ok-self-in-78.ensures.1
     (there c.args.s.now c.args.self.now.at c.byte_at.result 78 c.in-78.is (omega arith) c.byte_at.ensures)
 
--- src/types.rt:55:17
 pub type_named-requires : goal.type_named-requires
 type_named-requires c =
     let got = c.in_ok-name-in_default.ensures in

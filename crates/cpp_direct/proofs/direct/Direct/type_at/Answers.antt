@@ -2,16 +2,13 @@ use Rattle.std.proofs.Common.{◌∙◌, arith}
 use Rattle.cpp_direct.proofs.TypesRead.{awaits-type, names-awaited, there, pointer-opened, lvalue-opened, rvalue-opened, const-opened}
 use Rattle.cpp_direct.proofs.direct.Direct.type_at.Goals as goal
 
--- src/types.rt:36:17
 pub named_type-requires-clause-awaits : goal.named_type-requires-clause-awaits
 named_type-requires-clause-awaits c =
     names-awaited c.args.s.now c.args.self.now (awaits-type c.args.s.now c.args.self.now c.args.is_plain c.requires.writing)
 
--- src/types.rt:43:23
 pub builtin-requires-clause-awaits : goal.builtin-requires-clause-awaits
 builtin-requires-clause-awaits c = awaits-type c.args.s.now c.args.self.now c.args.is_plain c.requires.writing
 
--- src/types.rt:18:5
 pub returns-in-80 : goal.returns-in-80
 returns-in-80 c =
     pointer-opened c.args.s.now c.args.self.now c.open_type.new.self c.open_type.result c.len-from.result
@@ -19,7 +16,6 @@ returns-in-80 c =
     (there c.args.s.now c.args.self.now.at c.byte_at.result 80 c.in-80.is (omega arith) c.byte_at.ensures)
     c.open_type.ensures.step c.open_type.ensures.open c.open_type.ensures.at c.open_type.ensures.text c.open_type.ensures.candidates
 
--- src/types.rt:18:5
 pub returns-in-82 : goal.returns-in-82
 returns-in-82 c =
     let called = c.open_type-in-82.ensures in
@@ -28,7 +24,6 @@ returns-in-82 c =
     (there c.args.s.now c.args.self.now.at c.byte_at.result 82 c.in-82.is (omega arith) c.byte_at.ensures)
     called.step called.open called.at called.text called.candidates
 
--- src/types.rt:18:5
 pub returns-in-79 : goal.returns-in-79
 returns-in-79 c =
     let called = c.open_type-in-79.ensures in
@@ -37,7 +32,6 @@ returns-in-79 c =
     (there c.args.s.now c.args.self.now.at c.byte_at.result 79 c.in-79.is (omega arith) c.byte_at.ensures)
     called.step called.open called.at called.text called.candidates
 
--- src/types.rt:18:5
 pub returns-else-is_plain : goal.returns-else-is_plain
 returns-else-is_plain c =
     let called = c.open_type-in-75.ensures in

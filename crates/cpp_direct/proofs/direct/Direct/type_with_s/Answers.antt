@@ -3,7 +3,6 @@ use Rattle.cpp_direct.specs.Holes.{StandsAt, IsSeqAt}
 use Rattle.cpp_direct.proofs.TypesRead.{there, some-text, std-named, abbreviation-named, substitution-stands, substitution-named}
 use Rattle.cpp_direct.proofs.direct.Direct.type_with_s.Goals as goal
 
--- src/types.rt:79:13
 pub type_named-requires : goal.type_named-requires
 type_named-requires c =
     let got = c.in_ok-name.ensures in
@@ -15,7 +14,6 @@ type_named-requires c =
     (c.in_ok-push.ensures.at ∙ c.in_ok-self-2.ensures.1 ∙ ap (λ k. k + 1) c.in_ok-self.ensures.1)
     got.1 got.2 got.3 (c.len-from.ensures ∙ c.args.self.now.text.ok.0)
 
--- src/types.rt:85:13
 pub type_named-requires-then-not-is_empty : goal.type_named-requires-then-not-is_empty
 type_named-requires-then-not-is_empty c =
     abbreviation-named c.args.s.now c.args.self.now c.push-then-not-is_empty.new.self c.len-from.result c.byte_at-letter.result c.requires.awaits
@@ -28,13 +26,11 @@ type_named-requires-then-not-is_empty c =
     (c.in_ok-push-2.ensures.at ∙ c.in_ok-self-3.ensures.1 ∙ ap (λ k. k + 1) c.in_ok-self.ensures.1)
     (c.len-from.ensures ∙ c.args.self.now.text.ok.0)
 
--- src/types.rt:88:9
 pub repeat-requires-clause-from : goal.repeat-requires-clause-from
 repeat-requires-clause-from c =
     let got = c.in_ok-candidate.ensures.is in
     (substitution-stands c.args.s.now c.args.self.now _ c.in_ok-candidate.candidate c.requires.awaits got.2).0
 
--- src/types.rt:88:9
 pub repeat-requires-clause-to : goal.repeat-requires-clause-to
 repeat-requires-clause-to c =
     let got = c.in_ok-candidate.ensures.is in
@@ -45,7 +41,6 @@ repeat-requires-clause-to c =
       ap length (same.text ∙ append-nil c.args.self.now.text.items),
     )
 
--- src/types.rt:89:9
 pub type_named-requires-2 : goal.type_named-requires-2
 type_named-requires-2 c =
     let got = c.in_ok-candidate.ensures.is in

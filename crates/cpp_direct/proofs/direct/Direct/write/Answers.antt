@@ -3,21 +3,17 @@ use Rattle.cpp_direct.specs.Stands.{IsBefore}
 use Rattle.cpp_direct.proofs.Begins.{whole-answer}
 use Rattle.cpp_direct.proofs.direct.Direct.write.Goals as goal
 
--- src/direct.rt:72:9
 pub steps-init : goal.steps-init
 steps-init c = c.in-Some.ensures
 
--- src/direct.rt:75:17
 pub returns-in-Ended : goal.returns-in-Ended
 returns-in-Ended c within =
     whole-answer c.args.s.now c.steps.self.text.items c.args.limit c.len.result
     (subst (λ k. IsBefore c.args.s.now c.steps.self c.steps.invariant.state k) c.in-Ended.is c.steps.invariant.is_before)
     (c.len.ensures ∙ c.steps.self.text.ok.0) within
 
--- src/direct.rt:77:19
 pub take-requires : goal.take-requires
 take-requires c = record { fits = c.requires; writing = c.steps.invariant }
 
--- src/direct.rt:72:9
 pub steps-preserved : goal.steps-preserved
 steps-preserved c = c.in-Some-take.ensures
