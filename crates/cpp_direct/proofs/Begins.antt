@@ -31,7 +31,7 @@ use Rattle.cpp_direct.specs.Prints.{Prints}
 use Rattle.cpp_direct.specs.Stands.{AreCandidates, Encoded, AwaitsItems, IsWhole, Stands, IsWriting, qualifiers}
 use Rattle.cpp_direct.specs.Ways.{IsFresh, AwaitsNest, IsNameEnded}
 use Rattle.cpp_direct.specs.Written.{Reads, added}
-use Rattle.cpp_direct.proofs.Kept.{candidates-stay, candidates-with}
+use Rattle.cpp_direct.proofs.Kept.{arguments-begun, candidates-stay, candidates-with}
 use Rattle.cpp_direct.proofs.Moves.{stands-join, expects-empty}
 use Rattle.cpp_direct.proofs.MovesOfEncodings.{symbol-starts, encoding-opens, special-opens, name-nested, name-source, name-internal}
 use Rattle.cpp_direct.proofs.MovesOfLists.{arguments-open}
@@ -255,28 +255,15 @@ list-stands s internal old read new name fresh starts letter at_is is filled rea
           (subst (λ ks. AreCandidates (read.text.items ++ codes "<") ks state.candidates) (sym candidates_are)
           (candidates-stay read.text.items (codes "<") (added read 0 false) state.candidates
           (candidates-with read first_state [] (source_text name) 0 own 2 false (none-candidates old read name fresh reads) written refl prints)));
-      is_before = (
-        opens.NameArguments,
-        [],
-        ap reverse (waiting_is ∙ ap (λ ws. ws ++ opens.NameArguments ∷ []) none),
-        [],
-        own,
-        source_text name,
-        [],
-        [],
-        (refl, prints),
-        ([], tt, refl),
-        text_is ∙ ap (λ l. l ++ codes "<") written ∙ sym (append-nil (source_text name ++ codes "<")),
-        (λ e. refl),
-        (λ e. absurd (false≢true (sym e))),
-        (
-          inside (in_name 2),
-          list.inner,
-          refl,
-          subst (λ n. Expects s Kind.ArgumentList (inside (in_name 2)) list.inner n state) (sym here_is) list.awaits,
-          λ l at st comes ended. has.argued (no_items l) (at + 1) st (list.onward l at st comes ended),
-        ),
-      );
+      is_before = arguments-begun s new state opens.NameArguments [] [] (source_text name) own
+          (ap reverse (waiting_is ∙ ap (λ ws. ws ++ opens.NameArguments ∷ []) none)) (refl, prints)
+          (text_is ∙ ap (λ l. l ++ codes "<") written) (
+            inside (in_name 2),
+            list.inner,
+            refl,
+            subst (λ n. Expects s Kind.ArgumentList (inside (in_name 2)) list.inner n state) (sym here_is) list.awaits,
+            λ l at st comes ended. has.argued (no_items l) (at + 1) st (list.onward l at st comes ended),
+          );
     }
 
 -- a name with arguments

@@ -19,76 +19,45 @@ use Rattle.cpp_direct.specs.Holes.{StandsAt, ListGoesOn}
 use Rattle.cpp_direct.specs.HolesOfLists.{IsDigitsAt, minus_sign}
 use Rattle.cpp_direct.specs.ItemBytes.{is_integer_letter}
 use Rattle.cpp_direct.specs.Prints.{Prints, PrintAll, PrintEach, joined, sign_text, EndsAsInteger}
-use Rattle.cpp_direct.specs.Stands.{IsTemplate, IsWriting, Owns, Stands, list_with, in_front_of_next, AreCandidates, ArgumentsGoOn}
+use Rattle.cpp_direct.specs.Stands.{AreCandidates, Belongs, Closes, GoesOn, IsTemplate, IsWriting, Stands, element_kind, extra_of, led_by, in_front_of_next}
 use Rattle.cpp_direct.specs.Ways.{AwaitsNextArgument, truth_text, number_text, integer_text, AwaitsNumber, AwaitsNamedType}
 use Rattle.cpp_direct.specs.Written.{Reads, Writes}
 use Rattle.cpp_direct.proofs.Kept.{candidates-read, template-stays, candidates-stay, reverse-last}
+use Rattle.cpp_direct.proofs.Listed.{element-kind, element-goes-on, enumerator-stands, listing-at, some-elements}
 use Rattle.cpp_direct.proofs.Literals.{IsIntegerRead, IsNumberRead}
 use Rattle.cpp_direct.proofs.Moves.{stands-join}
 use Rattle.cpp_direct.proofs.MovesOfLists.{bool-element, integer-element, enumerator-opens}
 use Rattle.cpp_direct.proofs.PrintedLetters.{integer-there}
-use Rattle.cpp_direct.proofs.PrintedLists.{one-prints, another-prints}
+use Rattle.cpp_direct.proofs.PrintedLists.{next-prints, type-element}
 use Rattle.cpp_direct.proofs.PrintedValues.{boolean-prints, plain-integer-prints, cast-integer-prints, normal-filled, enumerator-prints, not-integer}
 use Rattle.cpp_direct.proofs.FoundTokens.{reads-then}
 
 -- ## Elements
 
-list-more : (ts : List Term) (t r : Term) → list_with (ts ++ t ∷ []) r ≡ list_with ts (list t r)
-list-more [] t r = refl
-list-more (u ∷ ts) t r = ap (λ l. list u l) (list-more ts t r)
-
-some-more : {X : Type 0} (xs : List X) (x : X) → xs ++ x ∷ [] ≢ []
-some-more [] x = λ e. cc e
-some-more (y ∷ ys) x = λ e. cc e
-
--- elements, and one more behind what stands in front of it
-pub added-prints : (ts : List Term) (l : List ℕ) (t : Term) (bytes : List ℕ) (r : Bool) → PrintAll ts l → Prints t bytes r
-    → PrintAll (ts ++ t ∷ []) (in_front_of_next ts l ++ bytes)
-added-prints [] l t bytes r all p = go all.0 all.1 all.2
-  where
-    go : (texts : List (List ℕ)) → PrintEach [] texts → joined texts ≡ l → PrintAll (t ∷ []) (l ++ bytes)
-    go [] each is = subst (λ k. PrintAll (t ∷ []) (k ++ bytes)) is (one-prints t bytes r p)
-    go (b ∷ bs) each is = absurd each
-added-prints (u ∷ ts) l t bytes r all p = another-prints (u ∷ ts) l t bytes r (λ e. cc e) all p
-
--- arguments go on behind one more
-element-goes-on : (s : List ℕ) (old : Direct) (a : AwaitsNextArgument s old) (t : Term) (at : ℕ) (st : State)
-    → ListGoesOn s Kind.ArgumentList a.goes.1 a.goes.0 t at st
-    → ArgumentsGoOn s a.owner (Stands s a.rest) a.front a.template (a.ts ++ t ∷ []) at st
-unfolding no_items tree_of
-element-goes-on s old a t at st g = (
-  a.goes.0,
-  g.inner,
-  a.goes.2,
-  g.awaits,
-  λ l there now comes ended. subst (λ u. Owns s a.owner (Stands s a.rest) a.front (instance a.template u) (there + 1) now)
-      (sym (list-more a.ts t (no_items l))) (a.goes.4 (tree (list t (no_items l)) true) there now (g.passes l there now comes) ended),
-)
-
--- an argument was read and written that is no type
+-- an element was read and written that is no type
 pub element-read : (s : List ℕ) (old new : Direct) (t : Term) (bytes : List ℕ) (a : AwaitsNextArgument s old) → Prints t bytes false
-    → Reads old new bytes → ListGoesOn s Kind.ArgumentList a.goes.1 a.goes.0 t new.at a.state → IsWriting s new (steps.List false)
-element-read s old new t bytes a prints reads g = record {
-  state = a.state;
-  candidates = candidates-read old new bytes a.state.candidates reads a.candidates;
-  is_before = (
-    a.owner,
-    a.rest,
-    ap (λ v. reverse v.items) reads.waiting ∙ a.open_is,
-    a.front,
-    a.template,
-    a.name,
-    a.ts ++ t ∷ [],
-    in_front_of_next a.ts a.arguments ++ bytes,
-    subst (λ l. IsTemplate a.owner a.front a.template a.name l) (sym reads.text)
-        (template-stays a.owner a.front a.template a.name old.text.items bytes a.is_template),
-    added-prints a.ts a.arguments t bytes false a.elements prints,
-    reads.text ∙ ap (λ l. l ++ bytes) a.written ∙ append_assoc (a.front ++ a.name ++ codes "<") (in_front_of_next a.ts a.arguments) bytes,
-    λ first. absurd (false≢true first),
-    λ further. some-more a.ts t,
-    element-goes-on s old a t new.at a.state g,
-  );
-}
+    → Reads old new bytes → ListGoesOn s (element_kind a.place.listing) a.goes.1 a.goes.0 t new.at a.state → IsWriting s new (steps.List false)
+element-read s old new t bytes a prints reads g =
+    let p = a.place in
+    let extra = extra_of p.listing in
+    record {
+      state = a.state;
+      candidates = candidates-read old new bytes a.state.candidates reads a.candidates;
+      is_before = (
+        listing-at (reverse old.waiting.items) old.text.items (reverse new.waiting.items) new.text.items p
+            (subst (λ v. Belongs p.listing (reverse v.items) p.owner p.rest) (sym reads.waiting) p.belongs)
+            (subst (λ l. IsTemplate p.owner p.front p.template p.name l) (sym reads.text)
+            (template-stays p.owner p.front p.template p.name old.text.items bytes p.is_template)),
+        a.ts ++ t ∷ [],
+        in_front_of_next a.ts a.texts ++ bytes,
+        next-prints extra a.ts a.texts t bytes a.elements (type-element extra t bytes false prints),
+        reads.text ∙ ap (λ l. l ++ bytes) a.written ∙ append_assoc (led_by p.listing p.front p.name) (in_front_of_next a.ts a.texts) bytes,
+        λ first. absurd (false≢true first),
+        λ further. some-elements a.ts t,
+        element-goes-on s (element_kind p.listing) (λ l now then. Closes s p.listing p.owner (Stands s p.rest) p.front p.template l now then)
+            a.ts t old.at new.at a.state a.state a.goes g,
+      );
+    }
 
 -- ## Literals
 
@@ -115,8 +84,8 @@ boolean-element-read s old begun middle new a first next nothing read ended =
     element-read s old new (boolean (nat_eq d 49)) (written ++ []) a
     (subst (λ l. Prints (boolean (nat_eq d 49)) l false) (truth-is (nat_eq d 49) ∙ sym (append-nil written)) (boolean-prints (nat_eq d 49)))
     (reads-then old middle new written [] (reads-then old begun middle [] written nothing read.4) ended.2)
-    (subst (λ n. ListGoesOn s Kind.ArgumentList a.goes.1 a.goes.0 (boolean (nat_eq d 49)) n a.state) behind
-    (bool-element s a.goes.1 a.goes.0 d old.at a.state read.1 a.goes.3 whole))
+    (subst (λ n. ListGoesOn s (element_kind a.place.listing) a.goes.1 a.goes.0 (boolean (nat_eq d 49)) n a.state) behind
+    (bool-element s (element_kind a.place.listing) a.goes.1 a.goes.0 d old.at a.state (element-kind a.place.listing) read.1 a.goes.3 whole))
 
 integer-prints : (letter : ℕ) (n : Bool) (ds : List ℕ) → is_integer_letter letter ≡ true → ds ≢ []
     → Prints (integer (builtin (letter ∷ [])) (signed_digits n ds)) (integer_text letter (signed_digits n ds)) false
@@ -151,8 +120,8 @@ integer-element-read s old begun middle new a first next nothing read ended =
     element-read s old new t (written ++ []) a
     (subst (λ l. Prints t l false) (sym (append-nil written)) (integer-prints letter negative ds read.3 filled))
     (reads-then old middle new written [] (reads-then old begun middle [] written nothing read.6) ended.2)
-    (subst (λ n. ListGoesOn s Kind.ArgumentList a.goes.1 a.goes.0 t n a.state) (sym ended.1)
-    (integer-element s a.goes.1 a.goes.0 letter negative ds old.at middle.at a.state read.3 a.goes.3 whole
+    (subst (λ n. ListGoesOn s (element_kind a.place.listing) a.goes.1 a.goes.0 t n a.state) (sym ended.1)
+    (integer-element s (element_kind a.place.listing) a.goes.1 a.goes.0 letter negative ds old.at middle.at a.state (element-kind a.place.listing) read.3 a.goes.3 whole
     (subst (λ n. IsDigitsAt s n ds middle.at) there read.5) ended.0))
 
 -- ## Enumerators
@@ -163,7 +132,8 @@ pub enumerator-expected : (s : List ℕ) (old begun pushed new : Direct) (a : Aw
     → new.text.items ≡ pushed.text.items → new.candidates ≡ pushed.candidates → new.waiting.items ≡ pushed.waiting.items ++ opens.Enumerator ∷ []
     → new.at ≡ pushed.at → AwaitsNamedType s new
 enumerator-expected s old begun pushed new a stands next nothing writes text candidates waits at =
-    let e = enumerator-opens s a.goes.1 a.goes.0 old.at a.state a.goes.3 stands in
+    let p = a.place in
+    let e = enumerator-opens s (element_kind p.listing) a.goes.1 a.goes.0 old.at a.state (element-kind p.listing) a.goes.3 stands in
     let same : begun.text.items ≡ old.text.items = nothing.text ∙ append-nil old.text.items in
     let written : new.text.items ≡ old.text.items ++ codes "(" = text ∙ writes.text ∙ ap (λ l. l ++ codes "(") same in
     let waiting : new.waiting.items ≡ old.waiting.items ++ opens.Enumerator ∷ [] =
@@ -180,20 +150,16 @@ enumerator-expected s old begun pushed new a stands next nothing writes text can
       os = e.inner;
       begins = subst (λ k. TreeOpens s Kind.LiteralType e.inner a.goes.0 k a.state) (sym (at ∙ writes.at ∙ next)) e.opens;
       stands = subst (λ ws. Stands s ws e.inner new.text.items)
-          (sym (ap reverse waiting ∙ reverse-last old.waiting.items opens.Enumerator ∙ ap (λ ws. opens.Enumerator ∷ ws) a.open_is)) (
-            a.front,
-            a.template,
-            a.name,
-            a.ts,
-            a.arguments,
-            subst (λ l. IsTemplate a.owner a.front a.template a.name l) (sym written)
-                (template-stays a.owner a.front a.template a.name old.text.items (codes "(") a.is_template),
-            a.elements,
-            written ∙ ap (λ l. l ++ codes "(") a.written,
-            λ t here now comes negative digits end minus digits_there ended.
-                element-goes-on s old a (integer t (signed_digits negative digits)) (end + 1) now
-                (e.onward t here now comes negative digits end minus digits_there ended),
-          );
+          (sym (ap reverse waiting ∙ reverse-last old.waiting.items opens.Enumerator))
+          (enumerator-stands s (reverse old.waiting.items) new.text.items e.inner
+          (listing-at (reverse old.waiting.items) old.text.items (reverse old.waiting.items) new.text.items p p.belongs
+          (subst (λ l. IsTemplate p.owner p.front p.template p.name l) (sym written)
+          (template-stays p.owner p.front p.template p.name old.text.items (codes "(") p.is_template)))
+          a.ts a.texts a.elements (written ∙ ap (λ l. l ++ codes "(") a.written)
+          (λ t here now comes negative digits end minus digits_there ended.
+          element-goes-on s (element_kind p.listing) (λ l now then. Closes s p.listing p.owner (Stands s p.rest) p.front p.template l now then)
+          a.ts (integer t (signed_digits negative digits)) old.at (end + 1) a.state now a.goes
+          (e.onward t here now comes negative digits end minus digits_there ended)));
     }
 
 -- a text that ends so
@@ -217,7 +183,7 @@ no-integer-type text front bytes e int long ending = go ending.1
 -- the number of an enumerator was read behind its type, and an E
 pub enumerator-read : (s : List ℕ) (old begun pushed middle new : Direct) (a : AwaitsNumber s old)
     → ends_with nat_eq old.text.items (codes "int") ≡ false → ends_with nat_eq old.text.items (codes "long") ≡ false
-    → begun.text ≡ old.text → begun.candidates ≡ old.candidates → begun.at ≡ old.at → reverse begun.waiting.items ≡ a.owner ∷ a.rest
+    → begun.text ≡ old.text → begun.candidates ≡ old.candidates → begun.at ≡ old.at → reverse begun.waiting.items ≡ a.opened
     → Writes begun pushed (codes ")") → (read : IsNumberRead s pushed middle)
     → StandsAt s middle.at (69 ∷ []) × (new.at ≡ middle.at + 1) × Reads middle new [] → IsWriting s new (steps.List false)
 unfolding signed_digits
@@ -227,8 +193,10 @@ enumerator-read s old begun pushed middle new a int long text candidates at wait
     let n = signed_digits negative ds in
     let t = integer a.type n in
     let here : pushed.at ≡ old.at = writes.at ∙ at in
-    let front = a.front ++ a.name ++ codes "<" in
-    let before = in_front_of_next a.ts a.arguments in
+    let p = a.place in
+    let extra = extra_of p.listing in
+    let front = led_by p.listing p.front p.name in
+    let before = in_front_of_next a.ts a.texts in
     let more = codes ")" ++ number_text n in
     let own = codes "(" ++ a.bytes ++ codes ")" ++ sign_text n ++ n.digits in
     let wrote : new.text.items ≡ old.text.items ++ more =
@@ -244,21 +212,18 @@ enumerator-read s old begun pushed middle new a int long text candidates at wait
           (subst (λ l. AreCandidates l old.candidates.items a.state.candidates) (sym wrote)
           (candidates-stay old.text.items more old.candidates.items a.state.candidates a.candidates));
       is_before = (
-        a.owner,
-        a.rest,
-        ap (λ v. reverse v.items) (ended.2.waiting ∙ read.4.waiting ∙ writes.waiting) ∙ waits,
-        a.front,
-        a.template,
-        a.name,
+        listing-at a.opened old.text.items (reverse new.waiting.items) new.text.items p
+            (subst (λ ws. Belongs p.listing ws p.owner p.rest)
+            (sym (ap (λ v. reverse v.items) (ended.2.waiting ∙ read.4.waiting ∙ writes.waiting) ∙ waits)) p.belongs)
+            (subst (λ l. IsTemplate p.owner p.front p.template p.name l) (sym wrote)
+            (template-stays p.owner p.front p.template p.name old.text.items more p.is_template)),
         a.ts ++ t ∷ [],
         before ++ own,
-        subst (λ l. IsTemplate a.owner a.front a.template a.name l) (sym wrote)
-            (template-stays a.owner a.front a.template a.name old.text.items more a.is_template),
-        added-prints a.ts a.arguments t own false a.elements prints,
+        next-prints extra a.ts a.texts t own a.elements (type-element extra t own false prints),
         wrote ∙ ap (λ l. l ++ more) a.written ∙ rejoined front before a.bytes (sign_text n) n.digits,
         λ first. absurd (false≢true first),
-        λ further. some-more a.ts t,
-        subst (λ k. ArgumentsGoOn s a.owner (Stands s a.rest) a.front a.template (a.ts ++ t ∷ []) k a.state) (sym ended.1)
+        λ further. some-elements a.ts t,
+        subst (λ k. GoesOn s p.listing p.owner (Stands s p.rest) p.front p.template (a.ts ++ t ∷ []) k a.state) (sym ended.1)
             (a.goes negative ds middle.at (subst (λ k. StandsAt s k (minus_sign negative)) here read.2)
             (subst (λ k. IsDigitsAt s (k + length (minus_sign negative)) ds middle.at) here read.3) ended.0),
       );

@@ -240,7 +240,7 @@ first-expected s w first last is_const p one text candidates at waiting =
       mark_is = p.mark_is;
       prints = p.prints;
       no_return = p.no_return refl;
-      elements = none-print;
+      elements = none-print 0;
     })
     (ap (λ l. l.items) text ∙ one.text ∙ sym (append-nil (w.text.items ++ codes "(")))
     (subst (λ n. ParametersGoOn s p.v [] n p.state) (sym (at ∙ one.at)) (none-go_on s p.v w.at p.state p.awaits))

@@ -1,5 +1,5 @@
 -- What a writer keeps while its text and its lists grow.
-use Rattle.std.proofs.Common.{◌≡◌, ℕ, zero, suc, ◌+◌, ◌-◌, ◌≤◌, length, List, [], ◌∷◌, ◌++◌, take, drop, reverse, slice_get, Bool, true, false, Option, Some, None, is_some, refl, ap, sym, ◌∙◌, subst, arith, append_assoc, append-nil}
+use Rattle.std.proofs.Common.{◌≡◌, ℕ, zero, suc, ◌+◌, ◌-◌, ◌≤◌, length, List, [], ◌∷◌, ◌++◌, take, drop, reverse, slice_get, Bool, true, false, Option, Some, None, is_some, refl, ap, sym, ◌∙◌, subst, arith, append_assoc, append-nil, codes}
 use Rattle.std.proofs.lemmas.Bool.{false≢true}
 use Rattle.std.proofs.lemmas.List.{length-append, reverse-append, reverse-reverse}
 use Rattle.std.proofs.Math.Seq.{drop-append_seam, take-append_seam}
@@ -13,7 +13,8 @@ use Rattle.cpp_direct.specs.declared.open.Open.TheVariants as opens
 use Rattle.cpp_direct.specs.declared.direct.Direct.{Direct}
 use Rattle.cpp_direct.specs.Holes.{with_candidate, unless_listed}
 use Rattle.cpp_direct.specs.Prints.{Prints}
-use Rattle.cpp_direct.specs.Stands.{IsCandidate, AreCandidates, IsNest, IsTemplate}
+use Rattle.cpp_direct.specs.declared.open.Step.TheVariants as steps
+use Rattle.cpp_direct.specs.Stands.{IsCandidate, AreCandidates, IsBefore, IsNest, IsTemplate, ArgumentsGoOn, Stands, of_template}
 use Rattle.cpp_direct.specs.Written.{Writes, Reads, added, added_unless}
 
 -- ## Pieces of a text
@@ -163,3 +164,29 @@ template-stays (opens.NestArguments nest) front t name text more p = (nest-stays
 template-stays (opens.FirstArguments nest) front t name text more p = nest-stays front name text more nest t p
 template-stays opens.NameArguments front t name text more p = p
 template-stays _ front t name text more p = p
+
+-- ## Lists
+
+-- arguments begin
+pub arguments-begun : (s : List ℕ) (w : Direct) (st : State) (owner : Open) (rest : List Open) (front name : List ℕ) (t : Term)
+    → reverse w.waiting.items ≡ owner ∷ rest → IsTemplate owner front t name w.text.items → w.text.items ≡ front ++ name ++ codes "<"
+    → ArgumentsGoOn s owner (Stands s rest) front t [] w.at st → IsBefore s w st (steps.List true)
+arguments-begun s w st owner rest front name t open_is is_template written goes = (
+  record {
+    listing = of_template;
+    owner = owner;
+    rest = rest;
+    belongs = open_is;
+    front = front;
+    template = t;
+    name = name;
+    is_template = is_template;
+  },
+  [],
+  [],
+  ([], tt, refl),
+  written ∙ sym (append-nil (front ++ name ++ codes "<")),
+  (λ e. refl),
+  (λ e. absurd (false≢true (sym e))),
+  goes,
+)

@@ -1,4 +1,4 @@
--- A writer at the end of arguments, between two of them, and where a type was read that something waits for.
+-- A writer at the end of arguments or a pack, between two elements, and where a type was read that something waits for.
 use Rattle.std.proofs.Common.{◌≡◌, ◌≢◌, inr, ℕ, ◌+◌, ◌-◌, length, List, [], ◌∷◌, ◌++◌, reverse, slice_get, get_or, Bool, true, false, Some, refl, ap, sym, ◌∙◌, subst, arith, codes, append_assoc, append-nil}
 use Rattle.std.proofs.lemmas.Bool.{false≢true}
 use Rattle.std.proofs.lemmas.List.{length-append, reverse-reverse}
@@ -6,7 +6,7 @@ use Rattle.std.proofs.lemmas.Option.{slice_get_within, get_or_from_slice_get}
 use Rattle.std.proofs.Math.Seq.{get_or-append_seam}
 use Rattle.cpp_grammar.specs.declared.kind.Kind.{Kind}
 use Rattle.cpp_grammar.specs.Grammar.{may_be_empty}
-use Rattle.cpp_grammar.specs.Term.{Term, nil, list, instance, special}
+use Rattle.cpp_grammar.specs.Term.{Term, nil, list, instance, pack, special}
 use Rattle.cpp_grammar.specs.Scope.{arguments_of, before_arguments, is_structor, has_return_type}
 use Rattle.cpp_grammar.specs.Values.{State, Around, tree, nothing_there, outermost, tree_of, qualifiers_of, ref_of}
 use Rattle.cpp_grammar.specs.Between.{no_items}
@@ -15,14 +15,15 @@ use Rattle.cpp_direct.specs.declared.open.Open.{Open}
 use Rattle.cpp_direct.specs.declared.open.Open.TheVariants as opens
 use Rattle.cpp_direct.specs.declared.open.Step.TheVariants as steps
 use Rattle.cpp_direct.specs.declared.direct.Direct.{Direct}
-use Rattle.cpp_direct.specs.Holes.{Opened, Comes, Expects, StandsAt, AwaitsComponent, with_candidate}
-use Rattle.cpp_direct.specs.Prints.{Prints, PrintEach, PrintAll, Shows, joined, list_of}
-use Rattle.cpp_direct.specs.Stands.{AreCandidates, IsNest, IsTemplate, IsWriting, Below, Marks, Owns, Serves, ArgumentsGoOn, AwaitsArgument, Stands, list_with, in_front_of_next}
+use Rattle.cpp_direct.specs.Holes.{Opened, Comes, Expects, IsListKind, ListGoesOn, StandsAt, AwaitsComponent, with_candidate}
+use Rattle.cpp_direct.specs.HolesOfLists.{IsArgumentKind}
+use Rattle.cpp_direct.specs.Prints.{Prints, PrintAll, Shows, list_of}
+use Rattle.cpp_direct.specs.Stands.{AreCandidates, IsListing, IsNest, IsTemplate, IsWriting, Marks, Owns, Serves, ArgumentsGoOn, AwaitsElementOf, AwaitsEnumerator, Belongs, Closes, ElementsGoOn, EnumeratorGoesOn, GoesOn, Listing, of_template, of_pack, Stands, element_kind, extra_of, led_by, list_with, in_front_of_next}
 use Rattle.cpp_direct.specs.Ways.{AwaitsMark, IsListEnded, AwaitsNextArgument, IsNameEnded, IsParameterEnded, IsEncodingEnded, AwaitsNumber}
 use Rattle.cpp_direct.specs.Written.{Writes, added}
 use Rattle.cpp_direct.proofs.Moves.{expects-empty}
-use Rattle.cpp_direct.proofs.MovesOfLists.{element-awaits}
-use Rattle.cpp_direct.proofs.PrintedLists.{one-prints, another-prints}
+use Rattle.cpp_direct.proofs.MovesOfLists.{element-awaits, pack-opens}
+use Rattle.cpp_direct.proofs.PrintedLists.{next-prints, none-print, pack-element, type-element}
 use Rattle.cpp_direct.proofs.PrintedNests.{instance-prints, instance-class}
 use Rattle.cpp_direct.proofs.PrintedSymbols.{special-shows}
 use Rattle.cpp_direct.proofs.Kept.{candidates-stay, candidates-with, template-stays, reverse-last, last-reversed}
@@ -60,24 +61,51 @@ list-with-none : (ts : List Term) → list_with ts nil ≡ list_of ts
 list-with-none [] = refl
 list-with-none (t ∷ ts) = ap (λ r. list t r) (list-with-none ts)
 
-list-with-one : (ts : List Term) (t r : Term) → list_with ts (list t r) ≡ list_with (ts ++ t ∷ []) r
-list-with-one [] t r = refl
-list-with-one (u ∷ ts) t r = ap (λ l. list u l) (list-with-one ts t r)
+list-more : (ts : List Term) (t r : Term) → list_with (ts ++ t ∷ []) r ≡ list_with ts (list t r)
+list-more [] t r = refl
+list-more (u ∷ ts) t r = ap (λ l. list u l) (list-more ts t r)
 
 -- one more element behind these
 pub some-elements : (ts : List Term) (t : Term) → ts ++ t ∷ [] ≢ []
 some-elements [] t e = cc e
 some-elements (u ∷ ts) t e = cc e
 
--- one more element prints behind those before it
-pub next-prints : (ts : List Term) (l : List ℕ) (t : Term) (b : List ℕ) (r : Bool) → PrintAll ts l → Prints t b r
-    → PrintAll (ts ++ t ∷ []) (in_front_of_next ts l ++ b)
-next-prints [] l t b r all p = go all.0 all.1 all.2
-  where
-    go : (texts : List (List ℕ)) → PrintEach [] texts → joined texts ≡ l → PrintAll (t ∷ []) (l ++ b)
-    go [] each is = subst (λ m. PrintAll (t ∷ []) (m ++ b)) is (one-prints t b r p)
-    go (c ∷ texts) each is = absurd each
-next-prints (u ∷ ts) l t b r all p = another-prints (u ∷ ts) l t b r (λ e. cc e) all p
+list-kind : (l : Listing) → IsListKind (element_kind l)
+list-kind of_template = tt
+list-kind (of_pack before written) = tt
+
+-- arguments and packs are lists of arguments
+pub element-kind : (l : Listing) → IsArgumentKind (element_kind l)
+element-kind of_template = tt
+element-kind (of_pack before written) = tt
+
+-- a list goes on behind one more
+pub element-goes-on : (s : List ℕ) (kind : Kind) (closes : Term → (at : ℕ) → State → Type 0) (ts : List Term) (t : Term)
+    (before at : ℕ) (earlier st : State) (goes : ElementsGoOn s kind closes ts before earlier) → ListGoesOn s kind goes.1 goes.0 t at st
+    → ElementsGoOn s kind closes (ts ++ t ∷ []) at st
+unfolding no_items tree_of
+element-goes-on s kind closes ts t before at earlier st goes g = (
+  goes.0,
+  g.inner,
+  goes.2,
+  g.awaits,
+  λ l there now comes ended. subst (λ u. closes u (there + 1) now) (sym (list-more ts t (no_items l)))
+      (goes.4 (tree (list t (no_items l)) true) there now (g.passes l there now comes) ended),
+)
+
+-- a list is open still where something else is
+abbrev pub listing-at : (opened : List Open) (text : List ℕ) (now : List Open) (later : List ℕ) (p : IsListing opened text)
+    → Belongs p.listing now p.owner p.rest → IsTemplate p.owner p.front p.template p.name later → IsListing now later
+listing-at opened text now later p belongs is_template = record {
+  listing = p.listing;
+  owner = p.owner;
+  rest = p.rest;
+  belongs = belongs;
+  front = p.front;
+  template = p.template;
+  name = p.name;
+  is_template = is_template;
+}
 
 -- what is written between two arguments
 abbrev pub comma : (is_first : Bool) → List ℕ
@@ -103,7 +131,7 @@ pub record IsClosed (s : List ℕ) (w : Direct) (owner : Open) : Type 0 where
   pub ts : List Term
   pub arguments : List ℕ
   pub is_template : IsTemplate owner front template name w.text.items
-  pub elements : PrintAll ts arguments
+  pub elements : PrintAll 3 ts arguments
   pub written : w.text.items ≡ front ++ (name ++ codes "<" ++ arguments ++ codes ">")
   pub owns : Owns s owner (Stands s (reverse w.waiting.items)) front (instance template (list_of ts)) w.at state
 
@@ -174,7 +202,7 @@ type-closed s w new from p candidates text waiting at =
     }
 
 instance-nest : (front name text : List ℕ) (nest : Nest) (is_listed is_instance : Bool) (t : Term) (ts : List Term) (l : List ℕ)
-    → IsNest front name text nest t → PrintAll ts l → text ≡ front ++ (name ++ codes "<" ++ l ++ codes ">")
+    → IsNest front name text nest t → PrintAll 3 ts l → text ≡ front ++ (name ++ codes "<" ++ l ++ codes ">")
     → IsNest front (name ++ codes "<" ++ l ++ codes ">") text (record nest { is_listed = is_listed; is_instance = is_instance })
     (instance t (list_of ts))
 instance-nest front name text nest is_listed is_instance t ts l p all written = record {
@@ -271,100 +299,130 @@ name-closed s w p =
       awaits = p.owns;
     }
 
--- ## Between arguments
+-- ## Between elements
 
 -- an E ends the arguments
-pub list-ends : (s : List ℕ) (w : Direct) (first : Bool) → IsWriting s w (steps.List first) → StandsAt s w.at (69 ∷ [])
+pub list-ends : (s : List ℕ) (w : Direct) (first : Bool) (owner : Open) → IsWriting s w (steps.List first) → StandsAt s w.at (69 ∷ [])
+    → slice_get w.waiting.items (length w.waiting.items - 1) ≡ Some owner → (owner ≡ opens.Pack → ⊥)
     → IsListEnded s (record w { at = w.at + 1 })
 unfolding no_items may_be_empty
-list-ends s w first p stands = go p.is_before
+list-ends s w first owner p stands found other = go p.is_before.0.listing refl
   where
-    go : (owner : Open) × (rest : List Open) × (reverse w.waiting.items ≡ owner ∷ rest)
-        × (front : List ℕ) × (template : Term) × (name : List ℕ) × (ts : List Term) × (arguments : List ℕ)
-        × IsTemplate owner front template name w.text.items × PrintAll ts arguments
-        × (w.text.items ≡ front ++ name ++ codes "<" ++ arguments)
-        × (first ≡ true → ts ≡ []) × (first ≡ false → ts ≢ [])
-        × ArgumentsGoOn s owner (Stands s rest) front template ts w.at p.state → IsListEnded s (record w { at = w.at + 1 })
-    go b =
-        let owner = b.0 in
-        let rest = b.1 in
-        let open_is = b.2 in
-        let front = b.3 in
-        let template = b.4 in
-        let name = b.5 in
-        let ts = b.6 in
-        let arguments = b.7 in
-        let is_template = b.8 in
-        let elements = b.9 in
-        let written = b.10 in
-        let none = b.11 in
-        let some = b.12 in
-        let goes = b.13 in
+    place : IsListing (reverse w.waiting.items) w.text.items
+    place = p.is_before.0
+
+    last : (rest : List Open) × (reverse w.waiting.items ≡ owner ∷ rest)
+    last = last-found w.waiting.items owner found
+
+    go : (l : Listing) → p.is_before.0.listing ≡ l → IsListEnded s (record w { at = w.at + 1 })
+    go (of_pack before written) is = absurd (packed (subst (λ l. Belongs l (reverse w.waiting.items) p.is_before.0.owner p.is_before.0.rest) is p.is_before.0.belongs).0)
+      where
+        packed : reverse w.waiting.items ≡ opens.Pack ∷ p.is_before.0.owner ∷ p.is_before.0.rest → ⊥
+        packed e = other (cc (sym last.1 ∙ e))
+    go of_template is =
+        let place = p.is_before.0 in
+        let ts = p.is_before.1 in
+        let texts = p.is_before.2 in
+        let goes = subst (λ l. GoesOn s l place.owner (Stands s place.rest) place.front place.template ts w.at p.state) is p.is_before.7 in
         record {
           state = p.state;
           candidates = p.candidates;
-          owner = owner;
-          rest = rest;
-          open_is = open_is;
-          front = front;
-          template = template;
-          name = name;
+          owner = place.owner;
+          rest = place.rest;
+          open_is = subst (λ l. Belongs l (reverse w.waiting.items) place.owner place.rest) is place.belongs;
+          front = place.front;
+          template = place.template;
+          name = place.name;
           ts = ts;
-          arguments = arguments;
-          is_template = is_template;
-          elements = elements;
-          written = written;
-          owns = subst (λ l. Owns s owner (Stands s rest) front (instance template l) (w.at + 1) p.state) (list-with-none ts)
+          arguments = texts;
+          is_template = place.is_template;
+          elements = subst (λ l. PrintAll (extra_of l) ts texts) is p.is_before.3;
+          written = subst (λ l. w.text.items ≡ led_by l place.front place.name ++ texts) is p.is_before.4;
+          owns = subst (λ l. Owns s place.owner (Stands s place.rest) place.front (instance place.template l) (w.at + 1) p.state) (list-with-none ts)
               (goes.4 nothing_there w.at p.state (expects-empty s Kind.ArgumentList goes.0 goes.1 w.at p.state goes.3 refl) stands);
         }
 
--- one more argument is expected, and a comma stands before it but at the first
+-- an E ends a pack, which is an argument
+pub pack-ends : (s : List ℕ) (w new : Direct) → IsWriting s w (steps.List false) → StandsAt s w.at (69 ∷ [])
+    → slice_get w.waiting.items (length w.waiting.items - 1) ≡ Some opens.Pack
+    → new.text ≡ w.text → new.candidates ≡ w.candidates → new.at ≡ w.at + 1
+    → ((opened : List Open) → reverse w.waiting.items ≡ opens.Pack ∷ opened → reverse new.waiting.items ≡ opened)
+    → IsWriting s new (steps.List false)
+unfolding no_items may_be_empty
+pack-ends s w new p stands found text candidates at popped = go p.is_before.0.listing refl
+  where
+    last : (rest : List Open) × (reverse w.waiting.items ≡ opens.Pack ∷ rest)
+    last = last-found w.waiting.items opens.Pack found
+
+    go : (l : Listing) → p.is_before.0.listing ≡ l → IsWriting s new (steps.List false)
+    go of_template is = absurd (no-template p.is_before.0.owner p.is_before.0.is_template
+        (cc (sym last.1 ∙ subst (λ l. Belongs l (reverse w.waiting.items) p.is_before.0.owner p.is_before.0.rest) is p.is_before.0.belongs)))
+      where
+        no-template : (o : Open) → IsTemplate o p.is_before.0.front p.is_before.0.template p.is_before.0.name w.text.items → opens.Pack ≡ o → ⊥
+        no-template o t e = subst (λ x. IsTemplate x p.is_before.0.front p.is_before.0.template p.is_before.0.name w.text.items) (sym e) t
+    go (of_pack before written) is =
+        let place = p.is_before.0 in
+        let us = p.is_before.1 in
+        let texts = p.is_before.2 in
+        let belongs = subst (λ l. Belongs l (reverse w.waiting.items) place.owner place.rest) is place.belongs in
+        let goes = subst (λ l. GoesOn s l place.owner (Stands s place.rest) place.front place.template us w.at p.state) is p.is_before.7 in
+        let us_print = subst (λ l. PrintAll (extra_of l) us texts) is p.is_before.3 in
+        let us_written = subst (λ l. w.text.items ≡ led_by l place.front place.name ++ texts) is p.is_before.4 in
+        let made = pack (list_of us) in
+        let same : new.text.items ≡ w.text.items = ap (λ v. v.items) text in
+        record {
+          state = p.state;
+          candidates = subst (λ v. AreCandidates new.text.items v.items p.state.candidates) (sym candidates)
+              (subst (λ v. AreCandidates v.items w.candidates.items p.state.candidates) (sym text) p.candidates);
+          is_before = (
+            record {
+              listing = of_template;
+              owner = place.owner;
+              rest = place.rest;
+              belongs = popped (place.owner ∷ place.rest) belongs.0;
+              front = place.front;
+              template = place.template;
+              name = place.name;
+              is_template = subst (λ v. IsTemplate place.owner place.front place.template place.name v.items) (sym text) place.is_template;
+            },
+            before ++ made ∷ [],
+            in_front_of_next before written ++ texts,
+            next-prints 3 before written made texts belongs.1 (pack-element us texts (p.is_before.6 refl) us_print),
+            same ∙ us_written ∙ append_assoc (place.front ++ place.name ++ codes "<") (in_front_of_next before written) texts,
+            λ e. absurd (false≢true e),
+            λ e. some-elements before made,
+            subst (λ n. ArgumentsGoOn s place.owner (Stands s place.rest) place.front place.template (before ++ made ∷ []) n p.state) (sym at)
+                (subst (λ l. ArgumentsGoOn s place.owner (Stands s place.rest) place.front place.template (before ++ pack l ∷ []) (w.at + 1) p.state)
+                (list-with-none us)
+                (goes.4 nothing_there w.at p.state (expects-empty s Kind.PackList goes.0 goes.1 w.at p.state goes.3 refl) stands)),
+          );
+        }
+
+-- one more element is expected, and a comma stands before it but at the first
 pub argument-expected : (s : List ℕ) (w new : Direct) (first : Bool) → IsWriting s w (steps.List first)
     → new.text.items ≡ w.text.items ++ comma first → new.candidates.items ≡ w.candidates.items → new.waiting ≡ w.waiting → new.at ≡ w.at
     → AwaitsNextArgument s new
-argument-expected s w new first p text candidates waiting at = go p.is_before
-  where
-    go : (owner : Open) × (rest : List Open) × (reverse w.waiting.items ≡ owner ∷ rest)
-        × (front : List ℕ) × (template : Term) × (name : List ℕ) × (ts : List Term) × (arguments : List ℕ)
-        × IsTemplate owner front template name w.text.items × PrintAll ts arguments
-        × (w.text.items ≡ front ++ name ++ codes "<" ++ arguments)
-        × (first ≡ true → ts ≡ []) × (first ≡ false → ts ≢ [])
-        × ArgumentsGoOn s owner (Stands s rest) front template ts w.at p.state → AwaitsNextArgument s new
-    go b =
-        let owner = b.0 in
-        let rest = b.1 in
-        let open_is = b.2 in
-        let front = b.3 in
-        let template = b.4 in
-        let name = b.5 in
-        let ts = b.6 in
-        let arguments = b.7 in
-        let is_template = b.8 in
-        let elements = b.9 in
-        let written = b.10 in
-        let none = b.11 in
-        let some = b.12 in
-        let goes = b.13 in
-        record {
-          state = p.state;
-          candidates = subst (λ l. AreCandidates l new.candidates.items p.state.candidates) (sym text)
-              (subst (λ ks. AreCandidates (w.text.items ++ comma first) ks p.state.candidates) (sym candidates)
-              (candidates-stay w.text.items (comma first) w.candidates.items p.state.candidates p.candidates));
-          owner = owner;
-          rest = rest;
-          open_is = subst (λ v. reverse v.items ≡ owner ∷ rest) (sym waiting) open_is;
-          front = front;
-          template = template;
-          name = name;
-          ts = ts;
-          arguments = arguments;
-          is_template = subst (λ l. IsTemplate owner front template name l) (sym text)
-              (template-stays owner front template name w.text.items (comma first) is_template);
-          elements = elements;
-          written = text ∙ ap (λ l. l ++ comma first) written ∙ append_assoc (front ++ name ++ codes "<") arguments (comma first)
-              ∙ ap (λ l. front ++ name ++ codes "<" ++ l) (sym (in-front ts arguments first none some));
-          goes = subst (λ n. ArgumentsGoOn s owner (Stands s rest) front template ts n p.state) (sym at) goes;
-        }
+argument-expected s w new first p text candidates waiting at =
+    let place = p.is_before.0 in
+    let ts = p.is_before.1 in
+    let texts = p.is_before.2 in
+    let led = led_by place.listing place.front place.name in
+    record {
+      state = p.state;
+      candidates = subst (λ l. AreCandidates l new.candidates.items p.state.candidates) (sym text)
+          (subst (λ ks. AreCandidates (w.text.items ++ comma first) ks p.state.candidates) (sym candidates)
+          (candidates-stay w.text.items (comma first) w.candidates.items p.state.candidates p.candidates));
+      place = listing-at (reverse w.waiting.items) w.text.items (reverse new.waiting.items) new.text.items place
+          (subst (λ v. Belongs place.listing (reverse v.items) place.owner place.rest) (sym waiting) place.belongs)
+          (subst (λ l. IsTemplate place.owner place.front place.template place.name l) (sym text)
+          (template-stays place.owner place.front place.template place.name w.text.items (comma first) place.is_template));
+      ts = ts;
+      texts = texts;
+      elements = p.is_before.3;
+      written = text ∙ ap (λ l. l ++ comma first) p.is_before.4 ∙ append_assoc led texts (comma first)
+          ∙ ap (λ l. led ++ l) (sym (in-front ts texts first p.is_before.5 p.is_before.6));
+      goes = subst (λ n. GoesOn s place.listing place.owner (Stands s place.rest) place.front place.template ts n p.state) (sym at) p.is_before.7;
+    }
 
 -- the comma is written
 pub another-expected : (s : List ℕ) (w new self : Direct) (first : Bool) → IsWriting s w (steps.List first) → first ≡ false
@@ -381,56 +439,249 @@ first-expected s w self first p is same =
     subst (λ d. AwaitsNextArgument s d) (sym same)
     (argument-expected s w w true (subst (λ f. IsWriting s w (steps.List f)) is p) (sym (append-nil w.text.items)) refl refl refl)
 
-argument-stands : (s : List ℕ) (owner : Open) (rest : List Open) (os : List Opened) (text : List ℕ)
-    → AwaitsArgument s owner (Stands s rest) os text → Stands s (owner ∷ rest) os text
-argument-stands s (opens.TypeArguments from) rest os text p = p
-argument-stands s (opens.NestArguments nest) rest os text p = p
-argument-stands s (opens.FirstArguments nest) rest os text p = p
-argument-stands s opens.NameArguments rest os text p = p
-argument-stands s _ rest os text p = absurd p.5
+-- a pack begins
+pub pack-begins : (s : List ℕ) (old new : Direct) (owner : Open) → AwaitsNextArgument s old → StandsAt s old.at (74 ∷ [])
+    → slice_get old.waiting.items (length old.waiting.items - 1) ≡ Some owner → (owner ≡ opens.Pack → ⊥)
+    → new.waiting.items ≡ old.waiting.items ++ opens.Pack ∷ [] → new.at ≡ old.at + 1 → new.text ≡ old.text → new.candidates ≡ old.candidates
+    → IsWriting s new (steps.List true)
+pack-begins s old new owner a stands found other waits at text candidates = go a.place.listing refl
+  where
+    last : (rest : List Open) × (reverse old.waiting.items ≡ owner ∷ rest)
+    last = last-found old.waiting.items owner found
 
--- an argument goes on to the next ones
-goes-on : (s : List ℕ) (owner : Open) (below : Below) (front : List ℕ) (template : Term) (ts : List Term) (at : ℕ) (st : State)
-    → ArgumentsGoOn s owner below front template ts at st
-    → (around : Around) × (os : List Opened) × (around.prefix ≡ outermost) × Expects s Kind.Item around os at st
-    × ((t : Term) (at : ℕ) (st : State) → Comes s os (tree t true) at st → ArgumentsGoOn s owner below front template (ts ++ t ∷ []) at st)
-unfolding no_items tree_of
-goes-on s owner below front template ts at st goes =
-    let around = goes.0 in
-    let element = element-awaits s Kind.ArgumentList goes.1 around at st tt goes.3 in (
-      around,
-      element.inner,
-      goes.2,
-      element.awaits,
-      λ t here now comes.
-          let next = element.onward t here now comes in (
-            around,
-            next.inner,
-            goes.2,
-            next.awaits,
-            λ l there then_ last ended.
-                subst (λ r. Owns s owner below front (instance template r) (there + 1) then_) (list-with-one ts t (no_items l))
-                (goes.4 (tree (list t (no_items l)) true) there then_ (next.passes l there then_ last) ended),
-          ),
-    )
+    go : (l : Listing) → a.place.listing ≡ l → IsWriting s new (steps.List true)
+    go (of_pack before written) is =
+        absurd (other (cc (sym last.1 ∙ (subst (λ l. Belongs l (reverse old.waiting.items) a.place.owner a.place.rest) is a.place.belongs).0)))
+    go of_template is =
+        let p = a.place in
+        let goes = subst (λ l. GoesOn s l p.owner (Stands s p.rest) p.front p.template a.ts old.at a.state) is a.goes in
+        let opened = pack-opens s goes.1 goes.0 old.at a.state goes.3 stands in
+        let belongs = subst (λ l. Belongs l (reverse old.waiting.items) p.owner p.rest) is p.belongs in
+        let elements = subst (λ l. PrintAll (extra_of l) a.ts a.texts) is a.elements in
+        let written = subst (λ l. old.text.items ≡ led_by l p.front p.name ++ in_front_of_next a.ts a.texts) is a.written in
+        record {
+          state = a.state;
+          candidates = subst (λ v. AreCandidates new.text.items v.items a.state.candidates) (sym candidates)
+              (subst (λ v. AreCandidates v.items old.candidates.items a.state.candidates) (sym text) a.candidates);
+          is_before = (
+            record {
+              listing = of_pack a.ts a.texts;
+              owner = p.owner;
+              rest = p.rest;
+              belongs = (
+                ap reverse waits ∙ reverse-last old.waiting.items opens.Pack ∙ ap (λ ws. opens.Pack ∷ ws) belongs,
+                elements,
+              );
+              front = p.front;
+              template = p.template;
+              name = p.name;
+              is_template = subst (λ v. IsTemplate p.owner p.front p.template p.name v.items) (sym text) p.is_template;
+            },
+            [],
+            [],
+            none-print 0,
+            ap (λ v. v.items) text ∙ written ∙ sym (append-nil (p.front ++ p.name ++ codes "<" ++ in_front_of_next a.ts a.texts)),
+            (λ e. refl),
+            (λ e. absurd (false≢true (sym e))),
+            (
+              goes.0,
+              opened.inner,
+              goes.2,
+              subst (λ n. Expects s Kind.PackList goes.0 opened.inner n a.state) (sym at) opened.awaits,
+              λ l here now comes ended.
+                  element-goes-on s Kind.ArgumentList (λ u there later. Owns s p.owner (Stands s p.rest) p.front (instance p.template u) there later)
+                  a.ts (pack (no_items l)) old.at (here + 1) a.state now goes (opened.onward l here now comes ended),
+            ),
+          );
+        }
 
--- it may be a type
+-- a list waits for a type among its elements
+pub record ListWaits (s : List ℕ) (opened : List Open) (os : List Opened) (text : List ℕ) : Type 0 where
+  pub place : IsListing opened text
+  pub ts : List Term
+  pub texts : List ℕ
+  pub elements : PrintAll (extra_of place.listing) ts texts
+  pub written : text ≡ led_by place.listing place.front place.name ++ in_front_of_next ts texts
+  pub onward : (t : Term) (at : ℕ) (st : State) → Comes s os (tree t true) at st
+      → GoesOn s place.listing place.owner (Stands s place.rest) place.front place.template (ts ++ t ∷ []) at st
+
+-- what is open takes arguments
+abbrev pub TakesArguments : Open → Type 0
+TakesArguments (opens.TypeArguments from) = Unit {0}
+TakesArguments (opens.NestArguments nest) = Unit {0}
+TakesArguments (opens.FirstArguments nest) = Unit {0}
+TakesArguments opens.NameArguments = Unit {0}
+TakesArguments _ = ⊥
+
+-- or is a pack of them
+abbrev pub TakesElements : Open → Type 0
+TakesElements opens.Pack = Unit {0}
+TakesElements o = TakesArguments o
+
+template-takes : (o : Open) (front : List ℕ) (t : Term) (name text : List ℕ) → IsTemplate o front t name text → TakesArguments o
+template-takes (opens.TypeArguments from) front t name text is = tt
+template-takes (opens.NestArguments nest) front t name text is = tt
+template-takes (opens.FirstArguments nest) front t name text is = tt
+template-takes opens.NameArguments front t name text is = tt
+template-takes _ front t name text is = absurd is
+
+argument-stands : (s : List ℕ) (owner : Open) (rest : List Open) (os : List Opened) (text : List ℕ) → TakesArguments owner
+    → AwaitsElementOf s of_template owner (Stands s rest) os text → Stands s (owner ∷ rest) os text
+argument-stands s (opens.TypeArguments from) rest os text takes p = p
+argument-stands s (opens.NestArguments nest) rest os text takes p = p
+argument-stands s (opens.FirstArguments nest) rest os text takes p = p
+argument-stands s opens.NameArguments rest os text takes p = p
+argument-stands s _ rest os text takes p = absurd takes
+
+-- it stands open so
+list-stands : (s : List ℕ) (opened : List Open) (os : List Opened) (text : List ℕ) → ListWaits s opened os text → Stands s opened os text
+list-stands s opened os text w = go w.place.listing refl
+  where
+    go : (l : Listing) → w.place.listing ≡ l → Stands s opened os text
+    go of_template is =
+        let p = w.place in
+        subst (λ ws. Stands s ws os text) (sym (subst (λ l. Belongs l opened p.owner p.rest) is p.belongs))
+        (argument-stands s p.owner p.rest os text (template-takes p.owner p.front p.template p.name text p.is_template) (
+          p.front,
+          p.template,
+          p.name,
+          w.ts,
+          w.texts,
+          p.is_template,
+          subst (λ l. PrintAll (extra_of l) w.ts w.texts) is w.elements,
+          subst (λ l. text ≡ led_by l p.front p.name ++ in_front_of_next w.ts w.texts) is w.written,
+          λ t at st comes. subst (λ l. GoesOn s l p.owner (Stands s p.rest) p.front p.template (w.ts ++ t ∷ []) at st) is (w.onward t at st comes),
+        ))
+    go (of_pack before written) is =
+        let p = w.place in
+        let belongs = subst (λ l. Belongs l opened p.owner p.rest) is p.belongs in
+        subst (λ ws. Stands s ws os text) (sym belongs.0) (before, written, belongs.1, (
+          p.front,
+          p.template,
+          p.name,
+          w.ts,
+          w.texts,
+          p.is_template,
+          subst (λ l. PrintAll (extra_of l) w.ts w.texts) is w.elements,
+          subst (λ l. text ≡ led_by l p.front p.name ++ in_front_of_next w.ts w.texts) is w.written,
+          λ t at st comes. subst (λ l. GoesOn s l p.owner (Stands s p.rest) p.front p.template (w.ts ++ t ∷ []) at st) is (w.onward t at st comes),
+        ))
+
+waits-of : (s : List ℕ) (owner : Open) (rest : List Open) (os : List Opened) (text : List ℕ)
+    → AwaitsElementOf s of_template owner (Stands s rest) os text → ListWaits s (owner ∷ rest) os text
+waits-of s owner rest os text p = record {
+  place = record {
+    listing = of_template;
+    owner = owner;
+    rest = rest;
+    belongs = refl;
+    front = p.0;
+    template = p.1;
+    name = p.2;
+    is_template = p.5;
+  };
+  ts = p.3;
+  texts = p.4;
+  elements = p.6;
+  written = p.7;
+  onward = p.8;
+}
+
+-- and what stands open so is a list
+list-waits : (s : List ℕ) (o : Open) (rest : List Open) (os : List Opened) (text : List ℕ) → TakesElements o → Stands s (o ∷ rest) os text
+    → ListWaits s (o ∷ rest) os text
+list-waits s opens.Pack [] os text takes p = absurd p
+list-waits s opens.Pack (owner ∷ rest) os text takes p = record {
+  place = record {
+    listing = of_pack p.0 p.1;
+    owner = owner;
+    rest = rest;
+    belongs = (refl, p.2);
+    front = p.3.0;
+    template = p.3.1;
+    name = p.3.2;
+    is_template = p.3.5;
+  };
+  ts = p.3.3;
+  texts = p.3.4;
+  elements = p.3.6;
+  written = p.3.7;
+  onward = p.3.8;
+}
+list-waits s (opens.TypeArguments from) rest os text takes p = waits-of s (opens.TypeArguments from) rest os text p
+list-waits s (opens.NestArguments nest) rest os text takes p = waits-of s (opens.NestArguments nest) rest os text p
+list-waits s (opens.FirstArguments nest) rest os text takes p = waits-of s (opens.FirstArguments nest) rest os text p
+list-waits s opens.NameArguments rest os text takes p = waits-of s opens.NameArguments rest os text p
+list-waits s _ rest os text takes p = absurd takes
+
+-- an element may be a type
 pub type-expected : (s : List ℕ) (w : Direct) → AwaitsNextArgument s w → IsWriting s w steps.Type
-type-expected s w p =
-    let on = goes-on s p.owner (Stands s p.rest) p.front p.template p.ts w.at p.state p.goes in
+type-expected s w a =
+    let p = a.place in
+    let kind = element_kind p.listing in
+    let element = element-awaits s kind a.goes.1 a.goes.0 w.at a.state (list-kind p.listing) a.goes.3 in
     record {
-      state = p.state;
-      candidates = p.candidates;
+      state = a.state;
+      candidates = a.candidates;
       is_before = (
-        on.1,
-        on.0,
-        on.2,
-        inr on.3,
-        subst (λ os. Stands s os on.1 w.text.items) (sym p.open_is)
-            (argument-stands s p.owner p.rest on.1 w.text.items
-            (p.front, p.template, p.name, p.ts, p.arguments, p.is_template, p.elements, p.written, on.4)),
+        element.inner,
+        a.goes.0,
+        a.goes.2,
+        inr element.awaits,
+        list-stands s (reverse w.waiting.items) element.inner w.text.items (record {
+          place = p;
+          ts = a.ts;
+          texts = a.texts;
+          elements = a.elements;
+          written = a.written;
+          onward = λ t here now comes.
+              element-goes-on s kind (λ l there later. Closes s p.listing p.owner (Stands s p.rest) p.front p.template l there later)
+              a.ts t w.at here a.state now a.goes (element.onward t here now comes);
+        }),
       );
     }
+
+-- ## Enumerators
+
+-- a list waits for the type of an enumerator
+pub enumerator-stands : (s : List ℕ) (opened : List Open) (text : List ℕ) (os : List Opened) (p : IsListing opened text) (ts : List Term)
+    (texts : List ℕ) → PrintAll (extra_of p.listing) ts texts
+    → text ≡ led_by p.listing p.front p.name ++ in_front_of_next ts texts ++ codes "("
+    → ((t : Term) (at : ℕ) (st : State) → Comes s os (tree t true) at st
+    → EnumeratorGoesOn s p.listing p.owner (Stands s p.rest) p.front p.template ts t at st)
+    → Stands s (opens.Enumerator ∷ opened) os text
+enumerator-stands s opened text os p ts texts elements written onward = go p.listing refl
+  where
+    awaits : (l : Listing) → p.listing ≡ l → AwaitsEnumerator s l p.owner (Stands s p.rest) os text
+    awaits l is = (
+      p.front,
+      p.template,
+      p.name,
+      ts,
+      texts,
+      p.is_template,
+      subst (λ k. PrintAll (extra_of k) ts texts) is elements,
+      subst (λ k. text ≡ led_by k p.front p.name ++ in_front_of_next ts texts ++ codes "(") is written,
+      λ t at st comes. subst (λ k. EnumeratorGoesOn s k p.owner (Stands s p.rest) p.front p.template ts t at st) is (onward t at st comes),
+    )
+
+    go : (l : Listing) → p.listing ≡ l → Stands s (opens.Enumerator ∷ opened) os text
+    go of_template is =
+        subst (λ ws. Stands s (opens.Enumerator ∷ ws) os text) (sym (subst (λ l. Belongs l opened p.owner p.rest) is p.belongs))
+        (of-arguments p.owner (template-takes p.owner p.front p.template p.name text p.is_template) (awaits of_template is))
+      where
+        of-arguments : (o : Open) → TakesArguments o → AwaitsEnumerator s of_template o (Stands s p.rest) os text
+            → Stands s (opens.Enumerator ∷ o ∷ p.rest) os text
+        of-arguments (opens.TypeArguments from) takes e = e
+        of-arguments (opens.NestArguments nest) takes e = e
+        of-arguments (opens.FirstArguments nest) takes e = e
+        of-arguments opens.NameArguments takes e = e
+        of-arguments _ takes e = absurd takes
+    go (of_pack before written_) is =
+        let belongs = subst (λ l. Belongs l opened p.owner p.rest) is p.belongs in
+        let e = awaits (of_pack before written_) is in
+        subst (λ ws. Stands s (opens.Enumerator ∷ ws) os text) (sym belongs.0)
+        (before, written_, belongs.1, e)
 
 -- ## Where a type was read
 
@@ -507,7 +758,7 @@ value-parameter s w is_reference is_const p found =
         mark_is = is_function.mark_is;
         prints = is_function.prints;
         no_return = is_function.no_return;
-        elements = next-prints ts parameters t bytes is_reference is_function.elements prints;
+        elements = next-prints 0 ts parameters t bytes is_function.elements (type-element 0 t bytes is_reference prints);
       };
       written = written ∙ ap (λ l. l ++ bytes) front_is ∙ append_assoc (name ++ codes "(") (in_front_of_next ts parameters) bytes;
       goes = onward t w.at p.state comes;
@@ -547,107 +798,90 @@ value-enumerator s w is_reference p found =
     let last = last-found w.waiting.items opens.Enumerator found in
     go last.0 last.1 (subst (λ ws. Stands s ws p.is_before.0 p.is_before.2) last.1 p.is_before.7)
   where
-    go : (rest : List Open) → reverse w.waiting.items ≡ opens.Enumerator ∷ rest
-        → Stands s (opens.Enumerator ∷ rest) p.is_before.0 p.is_before.2 → AwaitsNumber s w
-    go [] is waits = absurd waits
-    go (owner ∷ rest) is waits =
+    number : (l : Listing) (opened : List Open) (owner : Open) (rest : List Open) → reverse w.waiting.items ≡ opens.Enumerator ∷ opened
+        → Belongs l opened owner rest → AwaitsEnumerator s l owner (Stands s rest) p.is_before.0 p.is_before.2 → AwaitsNumber s w
+    number l opened owner rest is belongs waits =
         let t = p.is_before.1 in
         let bytes = p.is_before.3 in
         let written = p.is_before.4 in
         record {
           state = p.state;
           candidates = p.candidates;
-          owner = owner;
-          rest = rest;
+          opened = opened;
           open_is = is;
-          front = waits.0;
-          template = waits.1;
-          name = waits.2;
+          place = record {
+            listing = l;
+            owner = owner;
+            rest = rest;
+            belongs = belongs;
+            front = waits.0;
+            template = waits.1;
+            name = waits.2;
+            is_template = subst (λ k. IsTemplate owner waits.0 waits.1 waits.2 k) (sym written)
+                (template-stays owner waits.0 waits.1 waits.2 p.is_before.2 bytes waits.5);
+          };
           ts = waits.3;
-          arguments = waits.4;
-          is_template = subst (λ l. IsTemplate owner waits.0 waits.1 waits.2 l) (sym written)
-              (template-stays owner waits.0 waits.1 waits.2 p.is_before.2 bytes waits.5);
+          texts = waits.4;
           elements = waits.6;
           type = t;
           bytes = bytes;
           is_reference = is_reference;
           prints = p.is_before.5;
-          written = written ∙ ap (λ l. l ++ bytes) waits.7;
+          written = written ∙ ap (λ k. k ++ bytes) waits.7;
           goes = waits.8 t w.at p.state p.is_before.6;
         }
 
--- what waits is none of the others
-abbrev pub TakesArguments : Open → Type 0
-TakesArguments (opens.TypeArguments from) = Unit {0}
-TakesArguments (opens.NestArguments nest) = Unit {0}
-TakesArguments (opens.FirstArguments nest) = Unit {0}
-TakesArguments opens.NameArguments = Unit {0}
-TakesArguments _ = ⊥
+    go : (rest : List Open) → reverse w.waiting.items ≡ opens.Enumerator ∷ rest
+        → Stands s (opens.Enumerator ∷ rest) p.is_before.0 p.is_before.2 → AwaitsNumber s w
+    go [] is waits = absurd waits
+    go (opens.Pack ∷ []) is waits = absurd waits
+    go (opens.Pack ∷ owner ∷ rest) is waits = number (of_pack waits.0 waits.1) (opens.Pack ∷ owner ∷ rest) owner rest is (refl, waits.2) waits.3
+    go (owner ∷ rest) is waits = number of_template (owner ∷ rest) owner rest is refl waits
 
 -- what is none of those that wait for something else
-pub takes-arguments : (o : Open) → ((x : ℕ) → o ≡ opens.Pointer x → ⊥) → ((x : ℕ) → o ≡ opens.Lvalue x → ⊥)
+pub takes-elements : (o : Open) → ((x : ℕ) → o ≡ opens.Pointer x → ⊥) → ((x : ℕ) → o ≡ opens.Lvalue x → ⊥)
     → ((x : ℕ) → o ≡ opens.Rvalue x → ⊥) → ((x : ℕ) → o ≡ opens.Const x → ⊥) → ((x : Bool) → o ≡ opens.Parameters x → ⊥)
-    → (o ≡ opens.Special → ⊥) → (o ≡ opens.Enumerator → ⊥) → TakesArguments o
-takes-arguments (opens.Pointer x) p l r c f z n = absurd (p x refl)
-takes-arguments (opens.Lvalue x) p l r c f z n = absurd (l x refl)
-takes-arguments (opens.Rvalue x) p l r c f z n = absurd (r x refl)
-takes-arguments (opens.Const x) p l r c f z n = absurd (c x refl)
-takes-arguments (opens.Parameters x) p l r c f z n = absurd (f x refl)
-takes-arguments opens.Special p l r c f z n = absurd (z refl)
-takes-arguments opens.Enumerator p l r c f z n = absurd (n refl)
-takes-arguments (opens.TypeArguments x) p l r c f z n = tt
-takes-arguments (opens.NestArguments x) p l r c f z n = tt
-takes-arguments (opens.FirstArguments x) p l r c f z n = tt
-takes-arguments opens.NameArguments p l r c f z n = tt
+    → (o ≡ opens.Special → ⊥) → (o ≡ opens.Enumerator → ⊥) → TakesElements o
+takes-elements (opens.Pointer x) p l r c f z n = absurd (p x refl)
+takes-elements (opens.Lvalue x) p l r c f z n = absurd (l x refl)
+takes-elements (opens.Rvalue x) p l r c f z n = absurd (r x refl)
+takes-elements (opens.Const x) p l r c f z n = absurd (c x refl)
+takes-elements (opens.Parameters x) p l r c f z n = absurd (f x refl)
+takes-elements opens.Special p l r c f z n = absurd (z refl)
+takes-elements opens.Enumerator p l r c f z n = absurd (n refl)
+takes-elements opens.Pack p l r c f z n = tt
+takes-elements (opens.TypeArguments x) p l r c f z n = tt
+takes-elements (opens.NestArguments x) p l r c f z n = tt
+takes-elements (opens.FirstArguments x) p l r c f z n = tt
+takes-elements opens.NameArguments p l r c f z n = tt
 
-stands-argument : (s : List ℕ) (owner : Open) (rest : List Open) (os : List Opened) (text : List ℕ) → TakesArguments owner
-    → Stands s (owner ∷ rest) os text → AwaitsArgument s owner (Stands s rest) os text
-stands-argument s (opens.TypeArguments from) rest os text takes p = p
-stands-argument s (opens.NestArguments nest) rest os text takes p = p
-stands-argument s (opens.FirstArguments nest) rest os text takes p = p
-stands-argument s opens.NameArguments rest os text takes p = p
-stands-argument s _ rest os text takes p = absurd takes
-
--- it is an argument
-pub value-argument : (s : List ℕ) (w : Direct) (is_reference : Bool) (owner : Open) → IsWriting s w (steps.Value is_reference)
-    → slice_get w.waiting.items (length w.waiting.items - 1) ≡ Some owner → TakesArguments owner → IsWriting s w (steps.List false)
-value-argument s w is_reference owner p found takes =
+-- it is an element
+pub value-argument : (s : List ℕ) (w : Direct) (is_reference : Bool) (o : Open) → IsWriting s w (steps.Value is_reference)
+    → slice_get w.waiting.items (length w.waiting.items - 1) ≡ Some o → TakesElements o → IsWriting s w (steps.List false)
+value-argument s w is_reference o p found takes =
     let os = p.is_before.0 in
     let t = p.is_before.1 in
-    let front_ = p.is_before.2 in
+    let front = p.is_before.2 in
     let bytes = p.is_before.3 in
     let written = p.is_before.4 in
-    let prints = p.is_before.5 in
-    let comes = p.is_before.6 in
-    let stands = p.is_before.7 in
-    let last = last-found w.waiting.items owner found in
-    let waits = stands-argument s owner last.0 os front_ takes (subst (λ ws. Stands s ws os front_) last.1 stands) in
-    let front = waits.0 in
-    let template = waits.1 in
-    let name = waits.2 in
-    let ts = waits.3 in
-    let arguments = waits.4 in
-    let is_template = waits.5 in
-    let elements = waits.6 in
-    let front_is = waits.7 in
-    let onward = waits.8 in
+    let last = last-found w.waiting.items o found in
+    let waits = list-waits s o last.0 os front takes (subst (λ ws. Stands s ws os front) last.1 p.is_before.7) in
+    let place = waits.place in
+    let extra = extra_of place.listing in
     record {
       state = p.state;
       candidates = p.candidates;
       is_before = (
-        owner,
-        last.0,
-        last.1,
-        front,
-        template,
-        name,
-        ts ++ t ∷ [],
-        in_front_of_next ts arguments ++ bytes,
-        subst (λ l. IsTemplate owner front template name l) (sym written) (template-stays owner front template name front_ bytes is_template),
-        next-prints ts arguments t bytes is_reference elements prints,
-        written ∙ ap (λ l. l ++ bytes) front_is ∙ append_assoc (front ++ name ++ codes "<") (in_front_of_next ts arguments) bytes,
+        listing-at (o ∷ last.0) front (reverse w.waiting.items) w.text.items place
+            (subst (λ ws. Belongs place.listing ws place.owner place.rest) (sym last.1) place.belongs)
+            (subst (λ l. IsTemplate place.owner place.front place.template place.name l) (sym written)
+            (template-stays place.owner place.front place.template place.name front bytes place.is_template)),
+        waits.ts ++ t ∷ [],
+        in_front_of_next waits.ts waits.texts ++ bytes,
+        next-prints extra waits.ts waits.texts t bytes waits.elements (type-element extra t bytes is_reference p.is_before.5),
+        written ∙ ap (λ l. l ++ bytes) waits.written ∙ append_assoc (led_by place.listing place.front place.name) (in_front_of_next waits.ts waits.texts) bytes,
         λ e. absurd (false≢true e),
-        λ e. some-elements ts t,
-        onward t w.at p.state comes,
+        λ e. some-elements waits.ts t,
+        waits.onward t w.at p.state p.is_before.6,
       );
     }

@@ -11,16 +11,16 @@ use Rattle.cpp_grammar.specs.declared.kind.Kind.{Kind}
 use Rattle.cpp_grammar.specs.declared.production.Production.{Production}
 use Rattle.cpp_grammar.specs.Grammar.{in_ranges, among, is_in, pick, number_of_kind, alternatives, choose, parts_of, is_chain, productions, number_of}
 use Rattle.cpp_grammar.specs.Table.{abi, rule_of}
-use Rattle.cpp_grammar.specs.Term.{Term, builtin, integer, boolean}
+use Rattle.cpp_grammar.specs.Term.{Term, builtin, integer, boolean, pack}
 use Rattle.cpp_grammar.specs.Values.{State, Around, nothing_there, letter, text, signed, tree, tree_of, is_listed, letter_of, text_of, signed_of, signed_digits, prefix_tree, prefix_listed, part, Value}
 use Rattle.cpp_grammar.specs.References.{appended, with_type, with_prefix}
-use Rattle.cpp_grammar.specs.Between.{Going, between, after, inside}
+use Rattle.cpp_grammar.specs.Between.{Going, between, after, inside, no_items}
 use Rattle.cpp_grammar.specs.Meaning.{meaning}
 use Rattle.cpp_grammar.specs.Unfolding as unfolding_
 use Rattle.cpp_grammar.specs.Unfolding.{cpp, opening, close, byte_of}
 use Rattle.cpp_direct.specs.Holes.{Opened, opened, StandsAt, Comes, Expects, ExpectsSym, unless_listed, IsListKind, ListGoesOn, AwaitsElement, with_candidate}
 use Rattle.cpp_direct.specs.ItemBytes.{one_of, is_integer_letter}
-use Rattle.cpp_direct.specs.HolesOfLists.{ArgumentsOpened, LiteralOpened, EnumeratorOpened, IsDigitsAt, minus_sign}
+use Rattle.cpp_direct.specs.HolesOfLists.{ArgumentsOpened, IsArgumentKind, LiteralOpened, PackOpened, EnumeratorOpened, IsDigitsAt, minus_sign}
 use Rattle.cpp_direct.proofs.Moves.{stands-split, opens, opens-chain, needs-next, ends, expects-byte, expects-number}
 
 -- ## Marks
@@ -85,6 +85,20 @@ element-awaits s Kind.ArgumentList os around at st list_kind expects =
         passes = λ l there then_ last. ends s Production.TypeArgument [] at around st (tree t true ∷ l ∷ []) os there then_ _ then_ last refl;
       };
     }
+element-awaits s Kind.PackList os around at st list_kind expects =
+    let rule = standing (rule_of Production.TypeElement) [] at around st in
+    let needs = opens-chain s Kind.PackList Production.TypeElement 80 around os at st refl (omega arith) refl (λ f. refl) expects in
+    let rest = OfKind (number_of_kind Kind.PackList) in
+    record {
+      inner = opened rule [] (rest ∷ []) ∷ os;
+      awaits = needs-next s Production.TypeElement [] at around st [] (OfKind (number_of_kind Kind.Item)) (rest ∷ []) os at st around []
+          st refl needs;
+      onward = λ t here now comes. record {
+        inner = opened rule (tree t true ∷ []) [] ∷ os;
+        awaits = needs-next s Production.TypeElement [] at around st (tree t true ∷ []) rest [] os here now around (tree t true ∷ []) now refl comes;
+        passes = λ l there then_ last. ends s Production.TypeElement [] at around st (tree t true ∷ l ∷ []) os there then_ _ then_ last refl;
+      };
+    }
 element-awaits s Kind.Items os around at st list_kind expects =
     let rule = standing (rule_of Production.Items) [] at around st in
     let needs = opens-chain s Kind.Items Production.Items 80 around os at st refl (omega arith) refl (λ f. refl) expects in
@@ -104,11 +118,11 @@ element-awaits s _ os around at st list_kind expects = absurd list_kind
 -- ## Elements that are literals
 
 -- an argument that is a literal begins with an L, and ends with an E
-pub literal-opens : (s : List ℕ) (os : List Opened) (around : Around) (at : ℕ) (st : State)
-    → Expects s Kind.ArgumentList around os at st → StandsAt s at (76 ∷ [])
-    → LiteralOpened s os around (at + 1) st
+pub literal-opens : (s : List ℕ) (kind : Kind) (os : List Opened) (around : Around) (at : ℕ) (st : State) → IsArgumentKind kind
+    → Expects s kind around os at st → StandsAt s at (76 ∷ [])
+    → LiteralOpened s kind os around (at + 1) st
 unfolding choose alternatives pick is_in in_ranges among is_chain parts_of between opening close unfolding_.behind meaning part tree_of
-literal-opens s os around at st expects stands =
+literal-opens s Kind.ArgumentList os around at st is expects stands =
     let p = Production.LiteralArgument in
     let rule = standing (rule_of p) (76 ∷ []) at around st in
     let rest = OfKind (number_of_kind Kind.ArgumentList) in
@@ -128,6 +142,56 @@ literal-opens s os around at st expects stands =
             ends s p (76 ∷ []) at around st (tree t true ∷ nothing_there ∷ l ∷ []) os there then_ _ then_ last refl;
       };
     }
+literal-opens s Kind.PackList os around at st is expects stands =
+    let p = Production.LiteralElement in
+    let rule = standing (rule_of p) (76 ∷ []) at around st in
+    let rest = OfKind (number_of_kind Kind.PackList) in
+    let needs = opens s Kind.PackList p 76 (76 ∷ []) around os at st refl (omega arith) refl (λ f. refl) expects stands in
+    record {
+      inner = opened rule [] (Byte 69 ∷ rest ∷ []) ∷ os;
+      awaits = needs-next s p (76 ∷ []) at around st [] (OfKind (number_of_kind Kind.Literal)) (Byte 69 ∷ rest ∷ []) os (at + 1) st
+          around [] st refl needs;
+      onward = λ t here now comes ended. record {
+        inner = opened rule (tree t true ∷ nothing_there ∷ []) [] ∷ os;
+        awaits = needs-next s p (76 ∷ []) at around st (tree t true ∷ nothing_there ∷ []) rest [] os (here + 1) now around
+            (tree t true ∷ nothing_there ∷ []) now refl
+            (expects-byte s 69 around (opened rule (tree t true ∷ []) (rest ∷ []) ∷ os) here now
+            (needs-next s p (76 ∷ []) at around st (tree t true ∷ []) (Byte 69) (rest ∷ []) os here now around (tree t true ∷ []) now refl comes)
+            ended);
+        passes = λ l there then_ last.
+            ends s p (76 ∷ []) at around st (tree t true ∷ nothing_there ∷ l ∷ []) os there then_ _ then_ last refl;
+      };
+    }
+literal-opens s _ os around at st is expects stands = absurd is
+
+-- ## Packs
+
+-- an argument that is a pack begins with a J, and ends with an E
+pub pack-opens : (s : List ℕ) (os : List Opened) (around : Around) (at : ℕ) (st : State)
+    → Expects s Kind.ArgumentList around os at st → StandsAt s at (74 ∷ []) → PackOpened s os around (at + 1) st
+unfolding choose alternatives pick is_in in_ranges among is_chain parts_of between opening close unfolding_.behind meaning part tree_of
+pack-opens s os around at st expects stands =
+    let p = Production.PackArgument in
+    let rule = standing (rule_of p) (74 ∷ []) at around st in
+    let rest = OfKind (number_of_kind Kind.ArgumentList) in
+    let needs = opens s Kind.ArgumentList p 74 (74 ∷ []) around os at st refl (omega arith) refl (λ f. refl) expects stands in
+    record {
+      inner = opened rule [] (Byte 69 ∷ rest ∷ []) ∷ os;
+      awaits = needs-next s p (74 ∷ []) at around st [] (OfKind (number_of_kind Kind.PackList)) (Byte 69 ∷ rest ∷ []) os (at + 1) st
+          around [] st refl needs;
+      onward = λ l here now comes ended. let made = tree (pack (no_items l)) true in record {
+        inner = opened rule (made ∷ nothing_there ∷ []) [] ∷ os;
+        awaits = needs-next s p (74 ∷ []) at around st (made ∷ nothing_there ∷ []) rest [] os (here + 1) now around
+            (made ∷ nothing_there ∷ []) now refl
+            (expects-byte s 69 around (opened rule (made ∷ []) (rest ∷ []) ∷ os) here now
+            (needs-next s p (74 ∷ []) at around st (l ∷ []) (Byte 69) (rest ∷ []) os here now around (made ∷ []) now refl comes)
+            ended);
+        passes = λ x there then_ last.
+            ends s p (74 ∷ []) at around st (made ∷ nothing_there ∷ x ∷ []) os there then_ _ then_ last refl;
+      };
+    }
+
+-- ## Literals
 
 -- a bit of a boolean
 is-bit : (d : ℕ) → (d ≡ 48) ⊎ (d ≡ 49) → (choose Kind.Bit d ≡ Some Production.Mark) × (d < 256)
@@ -151,15 +215,15 @@ boolean-comes s os around d at st bit expects stands =
     (opens s Kind.Literal p 98 (98 ∷ []) around os at st refl (omega arith) refl (λ f. refl) expects places.0)) places.1) refl
 
 -- an argument that is a boolean
-pub bool-element : (s : List ℕ) (os : List Opened) (around : Around) (d at : ℕ) (st : State) → (d ≡ 48) ⊎ (d ≡ 49)
-    → Expects s Kind.ArgumentList around os at st → StandsAt s at (76 ∷ 98 ∷ d ∷ 69 ∷ [])
-    → ListGoesOn s Kind.ArgumentList os around (boolean (nat_eq d 49)) (at + 4) st
-bool-element s os around d at st bit expects stands =
+pub bool-element : (s : List ℕ) (kind : Kind) (os : List Opened) (around : Around) (d at : ℕ) (st : State) → IsArgumentKind kind → (d ≡ 48) ⊎ (d ≡ 49)
+    → Expects s kind around os at st → StandsAt s at (76 ∷ 98 ∷ d ∷ 69 ∷ [])
+    → ListGoesOn s kind os around (boolean (nat_eq d 49)) (at + 4) st
+bool-element s kind os around d at st is bit expects stands =
     let first = stands-split s at (76 ∷ []) (98 ∷ d ∷ 69 ∷ []) stands in
     let second = stands-split s (at + 1) (98 ∷ d ∷ []) (69 ∷ []) first.1 in
-    let literal = literal-opens s os around at st expects first.0 in
+    let literal = literal-opens s kind os around at st is expects first.0 in
     let three : at + 1 + 2 ≡ at + 1 + 1 + 1 = omega arith in
-    subst (λ n. ListGoesOn s Kind.ArgumentList os around (boolean (nat_eq d 49)) n st) (omega arith)
+    subst (λ n. ListGoesOn s kind os around (boolean (nat_eq d 49)) n st) (omega arith)
     (literal.onward (boolean (nat_eq d 49)) (at + 1 + 1 + 1) st
     (boolean-comes s literal.inner around d (at + 1) st bit literal.awaits second.0)
     (subst (λ n. StandsAt s n (69 ∷ [])) three second.1))
@@ -264,13 +328,13 @@ integer-literal-comes s os around b negative digits at end st letter_is expects 
     (opens-chain s Kind.Literal p 80 around os at st refl (omega arith) refl (λ f. refl) expects)) places.0)) places.1 is) refl
 
 -- an argument that is an integer
-pub integer-element : (s : List ℕ) (os : List Opened) (around : Around) (b : ℕ) (negative : Bool) (digits : List ℕ) (at end : ℕ) (st : State)
-    → is_integer_letter b ≡ true → Expects s Kind.ArgumentList around os at st → StandsAt s at (76 ∷ b ∷ minus_sign negative)
+pub integer-element : (s : List ℕ) (kind : Kind) (os : List Opened) (around : Around) (b : ℕ) (negative : Bool) (digits : List ℕ) (at end : ℕ) (st : State)
+    → IsArgumentKind kind → is_integer_letter b ≡ true → Expects s kind around os at st → StandsAt s at (76 ∷ b ∷ minus_sign negative)
     → IsDigitsAt s (at + length (76 ∷ b ∷ minus_sign negative)) digits end → StandsAt s end (69 ∷ [])
-    → ListGoesOn s Kind.ArgumentList os around (integer (builtin (b ∷ [])) (signed_digits negative digits)) (end + 1) st
-integer-element s os around b negative digits at end st letter_is expects stands is ended =
+    → ListGoesOn s kind os around (integer (builtin (b ∷ [])) (signed_digits negative digits)) (end + 1) st
+integer-element s kind os around b negative digits at end st kind_is letter_is expects stands is ended =
     let places = stands-split s at (76 ∷ []) (b ∷ minus_sign negative) stands in
-    let literal = literal-opens s os around at st expects places.0 in
+    let literal = literal-opens s kind os around at st kind_is expects places.0 in
     let behind_type : at + length (76 ∷ b ∷ minus_sign negative) ≡ at + 1 + 1 + length (minus_sign negative) = omega arith in
     literal.onward (integer (builtin (b ∷ [])) (signed_digits negative digits)) end st
     (integer-literal-comes s literal.inner around b negative digits (at + 1) end st letter_is literal.awaits places.1
@@ -320,12 +384,12 @@ enumeration-passes s os around place before t false at st comes bytes vs inner w
     go (grown x (grown y more)) shaped spelled unfolds = absurd shaped.1
 
 -- an argument begins that is an enumerator
-pub enumerator-opens : (s : List ℕ) (os : List Opened) (around : Around) (at : ℕ) (st : State)
-    → Expects s Kind.ArgumentList around os at st → StandsAt s at (76 ∷ []) → EnumeratorOpened s os around (at + 1) st
+pub enumerator-opens : (s : List ℕ) (kind : Kind) (os : List Opened) (around : Around) (at : ℕ) (st : State) → IsArgumentKind kind
+    → Expects s kind around os at st → StandsAt s at (76 ∷ []) → EnumeratorOpened s kind os around (at + 1) st
 unfolding choose alternatives pick is_in in_ranges among is_chain parts_of between opening close unfolding_.behind meaning part tree_of signed_of with_type is_listed
-enumerator-opens s os around at st expects stands =
+enumerator-opens s kind os around at st is expects stands =
     let p = Production.IntegerLiteral in
-    let literal = literal-opens s os around at st expects stands in
+    let literal = literal-opens s kind os around at st is expects stands in
     let rule = standing (rule_of p) [] (at + 1) around st in
     let number = OfKind (number_of_kind Kind.Integer) in
     let type = opened rule [] (number ∷ []) ∷ literal.inner in

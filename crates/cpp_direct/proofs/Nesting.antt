@@ -27,7 +27,7 @@ use Rattle.cpp_direct.specs.Prints.{Prints, NamesClass}
 use Rattle.cpp_direct.specs.Stands.{AreCandidates, IsNest, IsNesting, IsTemplate, ArgumentsGoOn, Serves, Stands, IsWriting, qualifiers}
 use Rattle.cpp_direct.specs.Ways.{AwaitsNest, IsNestNamed, IsNameEnded}
 use Rattle.cpp_direct.specs.Written.{Reads, added, added_unless}
-use Rattle.cpp_direct.proofs.Kept.{candidates-stay, candidates-with, candidates-unless, candidate-found, piece-found, nest-stays, reverse-last}
+use Rattle.cpp_direct.proofs.Kept.{arguments-begun, candidates-stay, candidates-with, candidates-unless, candidate-found, piece-found, nest-stays, reverse-last}
 use Rattle.cpp_direct.proofs.Moves.{expects-empty, stands-join, comes-moved}
 use Rattle.cpp_direct.proofs.MovesOfComponents.{component-awaits, first-arguments, nest-end}
 use Rattle.cpp_direct.proofs.MovesOfLists.{arguments-open}
@@ -71,22 +71,10 @@ list-begins s old mid new ks st owner front name t keeps opening_ candidates tem
       candidates = subst (λ l. AreCandidates l new.candidates.items st.candidates) (sym text_is)
           (subst (λ l. AreCandidates (old.text.items ++ codes "<") l st.candidates) (sym candidates_are)
           (candidates-stay old.text.items (codes "<") ks st.candidates candidates));
-      is_before = (
-        owner,
-        reverse old.waiting.items,
-        ap reverse waiting_is ∙ reverse-last old.waiting.items owner,
-        front,
-        t,
-        name,
-        [],
-        [],
-        subst (λ l. IsTemplate owner front t name l) (sym text_is) template,
-        ([], tt, refl),
-        text_is ∙ ap (λ l. l ++ codes "<") written ∙ sym (append-nil (front ++ name ++ codes "<")),
-        (λ e. refl),
-        (λ e. absurd (false≢true (sym e))),
-        subst (λ n. ArgumentsGoOn s owner (Stands s (reverse old.waiting.items)) front t [] n st) (sym at_is) goes,
-      );
+      is_before = arguments-begun s new st owner (reverse old.waiting.items) front name t
+          (ap reverse waiting_is ∙ reverse-last old.waiting.items owner)
+          (subst (λ l. IsTemplate owner front t name l) (sym text_is) template) (text_is ∙ ap (λ l. l ++ codes "<") written)
+          (subst (λ n. ArgumentsGoOn s owner (Stands s (reverse old.waiting.items)) front t [] n st) (sym at_is) goes);
     }
 
 -- ## A name with or without arguments

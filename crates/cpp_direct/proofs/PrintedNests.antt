@@ -166,17 +166,17 @@ instance-is c t arguments e = ap (λ o. (as_item left c t ∷ text o ∷ list_pa
 bracketed : (x y b l : List ℕ) → x ≡ b → y ≡ l → (x ++ (codes "<" ++ y)) ++ codes ">" ≡ b ++ codes "<" ++ l ++ codes ">"
 bracketed x y b l e f = rw (e, f) (ap (λ s. s ++ codes ">") (sym (append_assoc b (codes "<") l)))
 
-instance-text : (t : Term) (b : List ℕ) → Prints t b false → (ts : List Term) (l : List ℕ) → PrintAll ts l → (c : Context)
+instance-text : (t : Term) (b : List ℕ) → Prints t b false → (ts : List Term) (l : List ℕ) → PrintAll 3 ts l → (c : Context)
     → text_of (in_form left c (instance t (list_of ts))) ≡ b ++ codes "<" ++ l ++ codes ">"
 unfolding parts_in left_parts not_empty
 instance-text t b p ts l all c =
     let ps = as_item left c t ∷ says "<" ∷ list_part first c (list_of ts) in
     text_by left c (instance t (list_of ts)) (ps ++ (says ">" ∷ [])) (instance-is c t (list_of ts) p.opening)
     ∙ text_append ps (says ">" ∷ [])
-    ∙ bracketed (text_of (in_form left c t)) (text_of (printed_by (list_part first c (list_of ts)))) b l (p.left_text c) (list-text c ts l all)
+    ∙ bracketed (text_of (in_form left c t)) (text_of (printed_by (list_part first c (list_of ts)))) b l (p.left_text c) (list-text c 3 ts l all)
 
-instance-cost : (t : Term) (b : List ℕ) → Prints t b false → (ts : List Term) (l : List ℕ) → PrintAll ts l → (c : Context)
-    → cost_of (in_form left c (instance t (list_of ts))) ≤ cost_of (in_form left c t) + 3 + 4 * length l
+instance-cost : (t : Term) (b : List ℕ) → Prints t b false → (ts : List Term) (l : List ℕ) → PrintAll 3 ts l → (c : Context)
+    → cost_of (in_form left c (instance t (list_of ts))) ≤ cost_of (in_form left c t) + 6 + 4 * length l
 unfolding parts_in left_parts not_empty
 instance-cost t b p ts l all c =
     let ps = as_item left c t ∷ says "<" ∷ list_part first c (list_of ts) in
@@ -184,11 +184,11 @@ instance-cost t b p ts l all c =
       arith,
       cost_by left c (instance t (list_of ts)) (ps ++ (says ">" ∷ [])) (instance-is c t (list_of ts) p.opening),
       cost_append ps (says ">" ∷ []),
-      list-cost c ts l all,
+      list-cost c 3 ts l (omega arith) all,
     )
 
 -- A name with arguments prints them in brackets.
-pub instance-prints : (t : Term) (b : List ℕ) → Prints t b false → (ts : List Term) (l : List ℕ) → PrintAll ts l
+pub instance-prints : (t : Term) (b : List ℕ) → Prints t b false → (ts : List Term) (l : List ℕ) → PrintAll 3 ts l
     → Prints (instance t (list_of ts)) (b ++ codes "<" ++ l ++ codes ">") false
 unfolding parts_in right_parts not_empty head head_with is_reference is_funarr is_empty is_open pack_length first_of is_function_type prefix_item
     last_piece opening_text is_void is_plain_integer
@@ -207,8 +207,8 @@ instance-prints t b p ts l all = let i = instance t (list_of ts) in record {
   is_reference_head = λ c. refl;
   is_funarr_head = λ c. refl;
   filled = λ c. refl;
-  is_closed = rw (p.is_closed, list-closed ts l all) refl;
-  packless = λ scope. rw (p.packless scope, list-packless scope ts l all) refl;
+  is_closed = rw (p.is_closed, list-closed 3 ts l all) refl;
+  packless = λ scope. rw (p.packless scope, list-packless scope 3 ts l all) refl;
   no_function = refl;
   as_prefix = λ c. refl;
   opening = refl;
@@ -217,7 +217,7 @@ instance-prints t b p ts l all = let i = instance t (list_of ts) in record {
 }
 
 -- Its class is named without them.
-pub instance-class : (t : Term) (b class : List ℕ) → Prints t b false → NamesClass t class → (ts : List Term) (l : List ℕ) → PrintAll ts l
+pub instance-class : (t : Term) (b class : List ℕ) → Prints t b false → NamesClass t class → (ts : List Term) (l : List ℕ) → PrintAll 3 ts l
     → NamesClass (instance t (list_of ts)) class
 unfolding parts_in right_parts base_parts not_empty
 instance-class t b class p n ts l all = let i = instance t (list_of ts) in record {

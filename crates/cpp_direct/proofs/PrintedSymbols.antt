@@ -23,7 +23,7 @@ signed_text x y z b l q e f g =
     rw (e, f, g) (ap (λ s. s ++ (codes ")" ++ q)) (sym (append_assoc b (codes "(") l)) ∙ sym (append_assoc (b ++ codes "(" ++ l) (codes ")") q))
 
 -- A function that has no return type prints its name, its parameters and its qualifiers.
-pub function-shows : (name : Term) (b : List ℕ) → Prints name b false → (ts : List Term) (l : List ℕ) → PrintAll ts l
+pub function-shows : (name : Term) (b : List ℕ) → Prints name b false → (ts : List Term) (l : List ℕ) → PrintAll 0 ts l
     → (q : Qualifiers) (ref : RefQualifier)
     → Shows (function name q ref absent (list_of ts)) (b ++ codes "(" ++ l ++ codes ")" ++ encoding_text q ref)
 unfolding parts_in full_parts function_full function_bare not_empty
@@ -36,11 +36,11 @@ function-shows name b p ts l all q ref =
       shown_text = text_by full closed f (front ++ behind) refl ∙ text_append front behind
           ∙ signed_text (text_of (in_form left closed name)) (text_of (printed_by (list_part first c (list_of ts))))
           (text_of (printed_by (text_part (encoding_text q ref)))) b l (encoding_text q ref) (p.left_text closed)
-          (list-text c ts l all) (part-text (encoding_text q ref));
+          (list-text c 0 ts l all) (part-text (encoding_text q ref));
       shown_cost = omega (
         arith,
         p.cost closed,
-        list-cost c ts l all,
+        list-cost c 0 ts l (omega arith) all,
         cost_by full closed f (front ++ behind) refl,
         cost_append front behind,
         part-cost (encoding_text q ref),
@@ -81,7 +81,7 @@ returned_text x y z v b l q e f g = rw (e, f, g) (append-nil (v ++ codes " " ++ 
 
 -- A function with a return type prints it in front.
 pub returning-shows : (returned : Term) (v : List ℕ) (r : Bool) → Prints returned v r → (name : Term) (b : List ℕ) → Prints name b false
-    → (ts : List Term) (l : List ℕ) → PrintAll ts l → (q : Qualifiers) (ref : RefQualifier)
+    → (ts : List Term) (l : List ℕ) → PrintAll 0 ts l → (q : Qualifiers) (ref : RefQualifier)
     → Shows (function name q ref returned (list_of ts)) (v ++ codes " " ++ (b ++ codes "(" ++ l ++ codes ")" ++ encoding_text q ref))
 unfolding parts_in full_parts function_bare not_empty
 returning-shows returned v r pr name b p ts l all q ref =
@@ -165,15 +165,15 @@ parameters-same element rest apart = go (is_void element) (is_nil rest) refl ref
     go false b e f = refl
 
 -- elements that don't print the word void alone are the parameters
-pub parameters-kept : (ts : List Term) (l : List ℕ) → PrintAll ts l → l ≢ codes "void" → parameters (list_of ts) ≡ list_of ts
+pub parameters-kept : (ts : List Term) (l : List ℕ) → PrintAll 0 ts l → l ≢ codes "void" → parameters (list_of ts) ≡ list_of ts
 unfolding parameters is_nil
 parameters-kept [] l all apart = refl
 parameters-kept (t ∷ u ∷ ts) l all apart = parameters-same t (list_of (u ∷ ts)) (λ e f. cc f)
 parameters-kept (t ∷ []) l all apart = parameters-same t nil (λ e f. go all.0 all.1 all.2 e)
   where
-    go : (texts : List (List ℕ)) → PrintEach (t ∷ []) texts → joined texts ≡ l → is_void t ≡ true → ⊥
+    go : (texts : List (List ℕ)) → PrintEach 0 (t ∷ []) texts → joined texts ≡ l → is_void t ≡ true → ⊥
     go [] each is e = elim each [ ]
-    go (b ∷ []) each is e = apart (sym is ∙ each.0.1.void e)
+    go (b ∷ []) each is e = apart (sym is ∙ each.0.void e)
     go (b ∷ c ∷ bs) each is e = elim each.1 [ ]
 
 -- a first element that isn't void is one too
@@ -212,7 +212,7 @@ encoding-object v = refl
 
 -- The encoding of a name with items shows the name, the items and the qualifiers.
 pub function-encoded : (v : Value) (b : List ℕ) → Prints (tree_of v) b false → has_return_type (tree_of v) ≡ false
-    → (ts : List Term) (l : List ℕ) → ts ≢ [] → PrintAll ts l → parameters (list_of ts) ≡ list_of ts
+    → (ts : List Term) (l : List ℕ) → ts ≢ [] → PrintAll 0 ts l → parameters (list_of ts) ≡ list_of ts
     → Shows (encoding_of v (list_of ts)) (b ++ codes "(" ++ l ++ codes ")" ++ encoding_text (qualifiers_of v) (ref_of v))
 function-encoded v b p e ts l filled all kept =
     subst (λ f. Shows f (b ++ codes "(" ++ l ++ codes ")" ++ encoding_text (qualifiers_of v) (ref_of v))) (sym (encoding-function v ts e filled kept))
@@ -229,7 +229,7 @@ void-encoded v b p e =
     subst (λ f. Shows f (b ++ codes "()" ++ q)) (sym (encoding-void v e))
     (subst (Shows (function (tree_of v) (qualifiers_of v) (ref_of v) absent nil))
     (none_bracketed b q)
-    (function-shows (tree_of v) b p [] [] none-print (qualifiers_of v) (ref_of v)))
+    (function-shows (tree_of v) b p [] [] (none-print 0) (qualifiers_of v) (ref_of v)))
 
 -- Without items it shows the name.
 pub object-encoded : (v : Value) (b : List ℕ) → Prints (tree_of v) b false
@@ -239,7 +239,7 @@ object-encoded v b p = subst (λ f. Shows f (b ++ encoding_text (qualifiers_of v
 
 -- With a return type it shows that in front.
 pub returning-encoded : (v : Value) (b : List ℕ) → Prints (tree_of v) b false → has_return_type (tree_of v) ≡ true
-    → (t : Term) (a : List ℕ) (r : Bool) → Prints t a r → (ts : List Term) (l : List ℕ) → PrintAll ts l → parameters (list_of ts) ≡ list_of ts
+    → (t : Term) (a : List ℕ) (r : Bool) → Prints t a r → (ts : List Term) (l : List ℕ) → PrintAll 0 ts l → parameters (list_of ts) ≡ list_of ts
     → Shows (encoding_of v (list_of (t ∷ ts))) (a ++ codes " " ++ (b ++ codes "(" ++ l ++ codes ")" ++ encoding_text (qualifiers_of v) (ref_of v)))
 returning-encoded v b p e t a r pt ts l all kept =
     subst (λ f. Shows f (a ++ codes " " ++ (b ++ codes "(" ++ l ++ codes ")" ++ encoding_text (qualifiers_of v) (ref_of v))))
@@ -254,7 +254,7 @@ returning-void-encoded v b p e t a r pt =
     let q = encoding_text (qualifiers_of v) (ref_of v) in
     subst (λ f. Shows f (a ++ codes " " ++ (b ++ codes "()" ++ q))) (sym (encoding-returning-void v t e))
     (subst (λ s. Shows (function (tree_of v) (qualifiers_of v) (ref_of v) t nil) (a ++ codes " " ++ s)) (none_bracketed b q)
-    (returning-shows t a r pt (tree_of v) b p [] [] none-print (qualifiers_of v) (ref_of v)))
+    (returning-shows t a r pt (tree_of v) b p [] [] (none-print 0) (qualifiers_of v) (ref_of v)))
 
 -- The qualifiers of a name: const, or none.
 pub const-text : (const : Bool) → encoding_text (record { restrict = false; volatile = false; const = const }) any_value ≡ cond const (codes " const") []

@@ -28,7 +28,7 @@ use Rattle.cpp_direct.specs.Prints.{Prints}
 use Rattle.cpp_direct.specs.Stands.{AreCandidates, Marks, Stands, IsWriting}
 use Rattle.cpp_direct.specs.Ways.{AwaitsType, AwaitsNamedType, AwaitsNest, IsTypeNamed, AwaitsMark}
 use Rattle.cpp_direct.specs.Written.{Reads, added, added_unless}
-use Rattle.cpp_direct.proofs.Kept.{piece-found, candidates-stay, candidates-added, candidates-read, candidate-found, reverse-last, last-reversed}
+use Rattle.cpp_direct.proofs.Kept.{arguments-begun, piece-found, candidates-stay, candidates-added, candidates-read, candidate-found, reverse-last, last-reversed}
 use Rattle.cpp_direct.proofs.Moves.{expects-empty, stands-join}
 use Rattle.cpp_direct.proofs.MovesOfLists.{arguments-open}
 use Rattle.cpp_direct.proofs.MovesOfTypes.{solid-opens, builtin-comes, pointer-opens, lvalue-opens, rvalue-opens, const-opens, source-opens, std-opens, abbreviation-opens, substitution-opens, nested-type-opens}
@@ -151,33 +151,20 @@ argued-done s old new from listed a stands waits text candidates at =
       candidates = subst (λ l. AreCandidates l new.candidates.items state.candidates) (sym text)
           (candidates-stay old.text.items (codes "<") new.candidates.items state.candidates
           (named-candidates s old new from listed false a candidates));
-      is_before = (
-        opens.TypeArguments from,
-        reverse old.waiting.items,
-        ap reverse waits ∙ reverse-last old.waiting.items (opens.TypeArguments from),
-        a.front,
-        a.own,
-        a.bytes,
-        [],
-        [],
-        (a.from_is, a.prints),
-        none-print,
-        text ∙ ap (λ l. l ++ codes "<") a.written ∙ sym (append-nil (a.front ++ a.bytes ++ codes "<")),
-        (λ e. refl),
-        (λ e. absurd (false≢true (sym e))),
-        (
-          inside a.around,
-          o.inner,
-          refl,
-          subst (λ k. Expects s Kind.ArgumentList (inside a.around) o.inner k state) (sym at) o.awaits,
-          λ l here now comes ended. (
-            a.outer,
-            a.around.encoding,
-            a.named.argued (no_items l) (here + 1) now (o.onward l here now comes ended),
-            a.stands,
-          ),
-        ),
-      );
+      is_before = arguments-begun s new state (opens.TypeArguments from) (reverse old.waiting.items) a.front a.bytes a.own
+          (ap reverse waits ∙ reverse-last old.waiting.items (opens.TypeArguments from)) (a.from_is, a.prints)
+          (text ∙ ap (λ l. l ++ codes "<") a.written) (
+            inside a.around,
+            o.inner,
+            refl,
+            subst (λ k. Expects s Kind.ArgumentList (inside a.around) o.inner k state) (sym at) o.awaits,
+            λ l here now comes ended. (
+              a.outer,
+              a.around.encoding,
+              a.named.argued (no_items l) (here + 1) now (o.onward l here now comes ended),
+              a.stands,
+            ),
+          );
     }
 
 -- the same, by what the calls give

@@ -112,6 +112,7 @@ IsTyped _ = ⊥
 -- and a list of items as one of these
 abbrev pub IsListKind : Kind → Type 0
 IsListKind Kind.ArgumentList = Unit {0}
+IsListKind Kind.PackList = Unit {0}
 IsListKind Kind.Items = Unit {0}
 IsListKind _ = ⊥
 

@@ -6,7 +6,7 @@ use Rattle.sym_core.specs.Token.{Token, bytes_of, IsNumberToken}
 use Rattle.sym_demangle.specs.Mangled.{StandsFor}
 use Rattle.cpp_grammar.specs.declared.kind.Kind.{Kind}
 use Rattle.cpp_grammar.specs.Mangled.{cpp_mangled}
-use Rattle.cpp_grammar.specs.Term.{any_value, Term, symbol, special, integer}
+use Rattle.cpp_grammar.specs.Term.{any_value, Term, symbol, special, integer, pack}
 use Rattle.cpp_grammar.specs.Values.{State, Around, Value, tree, named, tree_of, signed_digits}
 use Rattle.cpp_grammar.specs.Between.{in_name, in_types, inside, no_items}
 use Rattle.cpp_grammar.specs.Meaning.{encoding_of}
@@ -24,12 +24,25 @@ pub record ArgumentsOpened (s : List ℕ) (outer : List Opened) (around : Around
   pub onward : (l : Value) (at : ℕ) (st : State) → Comes s inner l at st → StandsAt s at (69 ∷ [])
       → Comes s outer (tree (no_items l) true) (at + 1) st
 
+-- template arguments are read as one of these kinds
+abbrev pub IsArgumentKind : Kind → Type 0
+IsArgumentKind Kind.ArgumentList = Unit {0}
+IsArgumentKind Kind.PackList = Unit {0}
+IsArgumentKind _ = ⊥
+
 -- Behind an L a literal is expected, which ends at an E.
-pub record LiteralOpened (s : List ℕ) (outer : List Opened) (around : Around) (at : ℕ) (st : State) : Type 0 where
+pub record LiteralOpened (s : List ℕ) (kind : Kind) (outer : List Opened) (around : Around) (at : ℕ) (st : State) : Type 0 where
   pub inner : List Opened
   pub awaits : Expects s Kind.Literal around inner at st
   pub onward : (t : Term) (at : ℕ) (st : State) → Comes s inner (tree t true) at st → StandsAt s at (69 ∷ [])
-      → ListGoesOn s Kind.ArgumentList outer around t (at + 1) st
+      → ListGoesOn s kind outer around t (at + 1) st
+
+-- Behind a J the elements of a pack are expected, which ends at an E.
+pub record PackOpened (s : List ℕ) (outer : List Opened) (around : Around) (at : ℕ) (st : State) : Type 0 where
+  pub inner : List Opened
+  pub awaits : Expects s Kind.PackList around inner at st
+  pub onward : (l : Value) (at : ℕ) (st : State) → Comes s inner l at st → StandsAt s at (69 ∷ [])
+      → ListGoesOn s Kind.ArgumentList outer around (pack (no_items l)) (at + 1) st
 
 -- the digits of an integer stand at the place, and this is the place behind them
 pub record IsDigitsAt (s : List ℕ) (at : ℕ) (digits : List ℕ) (end : ℕ) : Type 0 where
@@ -45,12 +58,12 @@ minus_sign true = 110 ∷ []
 minus_sign false = []
 
 -- Behind an L the type of an enumerator is expected, then its number and an E.
-pub record EnumeratorOpened (s : List ℕ) (outer : List Opened) (around : Around) (at : ℕ) (st : State) : Type 0 where
+pub record EnumeratorOpened (s : List ℕ) (kind : Kind) (outer : List Opened) (around : Around) (at : ℕ) (st : State) : Type 0 where
   pub inner : List Opened
   pub opens : TreeOpens s Kind.LiteralType inner around at st
   pub onward : (t : Term) (at : ℕ) (st : State) → Comes s inner (tree t true) at st → (negative : Bool) (digits : List ℕ) (end : ℕ)
       → StandsAt s at (minus_sign negative) → IsDigitsAt s (at + length (minus_sign negative)) digits end → StandsAt s end (69 ∷ [])
-      → ListGoesOn s Kind.ArgumentList outer around (integer t (signed_digits negative digits)) (end + 1) st
+      → ListGoesOn s kind outer around (integer t (signed_digits negative digits)) (end + 1) st
 
 -- ## Encodings
 

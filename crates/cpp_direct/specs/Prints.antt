@@ -62,12 +62,21 @@ joined [] = []
 joined (b ∷ []) = b
 joined (b ∷ c ∷ bs) = b ++ codes ", " ++ joined (c ∷ bs)
 
+-- A tree prints this text as the element of a list. It may cost so much more than a type with that text.
+pub record IsElement (extra : ℕ) (t : Term) (bytes : List ℕ) : Type 0 where
+  pub both_texts : (context : Context) → text_of (in_form left context t) ++ text_of (in_form right context t) ≡ bytes
+  pub cost : (context : Context) → 1 + cost_of (in_form left context t) + cost_of (in_form right context t) ≤ extra + 4 * length bytes
+  pub filled : (context : Context) → is_empty context t ≡ false
+  pub is_closed : is_open t ≡ false
+  pub packless : (scope : Term) → pack_length scope t ≡ None
+  pub void : is_void t ≡ true → bytes ≡ codes "void"
+
 -- each tree prints its text
-abbrev pub PrintEach : List Term → List (List ℕ) → Type 0
-PrintEach [] [] = Unit {0}
-PrintEach (t ∷ ts) (b ∷ bs) = ((reference : Bool) × Prints t b reference) × PrintEach ts bs
-PrintEach _ _ = ⊥
+abbrev pub PrintEach : (extra : ℕ) → List Term → List (List ℕ) → Type 0
+PrintEach extra [] [] = Unit {0}
+PrintEach extra (t ∷ ts) (b ∷ bs) = IsElement extra t b × PrintEach extra ts bs
+PrintEach extra _ _ = ⊥
 
 -- these elements print so
-abbrev pub PrintAll : List Term → (bytes : List ℕ) → Type 0
-PrintAll ts bytes = (texts : List (List ℕ)) × PrintEach ts texts × (joined texts ≡ bytes)
+abbrev pub PrintAll : (extra : ℕ) → List Term → (bytes : List ℕ) → Type 0
+PrintAll extra ts bytes = (texts : List (List ℕ)) × PrintEach extra ts texts × (joined texts ≡ bytes)

@@ -6,7 +6,7 @@ use Rattle.sym_demangle.specs.Mangled.{StandsFor}
 use Rattle.cpp_grammar.specs.declared.kind.Kind.{Kind}
 use Rattle.cpp_grammar.specs.Mangled.{cpp_mangled}
 use Rattle.cpp_grammar.specs.Answer.{shown, root_item}
-use Rattle.cpp_grammar.specs.Term.{Term, Qualifiers, any_value, symbol, special, pointer, lvalue, rvalue, qualified, instance, integer, list}
+use Rattle.cpp_grammar.specs.Term.{Term, Qualifiers, any_value, symbol, special, pointer, lvalue, rvalue, qualified, instance, integer, pack, list}
 use Rattle.cpp_grammar.specs.Texts.{look_up, special_texts}
 use Rattle.cpp_grammar.specs.Scope.{has_return_type, is_structor}
 use Rattle.cpp_grammar.specs.References.{is_function_type}
@@ -114,7 +114,7 @@ pub record IsFunction (is_const : Bool) (v : Value) (ts : List Term) (name param
   pub mark_is : ref_of v ≡ any_value
   pub prints : Prints own name false
   pub no_return : has_return_type own ≡ false
-  pub elements : PrintAll ts parameters
+  pub elements : PrintAll 0 ts parameters
 
 -- ## What is open
 
@@ -149,12 +149,47 @@ Owns s (opens.FirstArguments nest) below front u at st =
 Owns s opens.NameArguments below front u at st = AwaitsItems s (tree u false) at st
 Owns s _ below front u at st = ⊥
 
+-- elements go on behind these, up to an E, and what becomes of the list that they make
+abbrev pub ElementsGoOn : (s : List ℕ) → Kind → (closes : Term → (at : ℕ) → State → Type 0) → List Term → (at : ℕ) → State → Type 0
+ElementsGoOn s kind closes ts at st =
+    (around : Around) × (inner : List Opened) × (around.prefix ≡ outermost) × Expects s kind around inner at st
+    × ((l : Value) (at : ℕ) (st : State) → Comes s inner l at st → StandsAt s at (69 ∷ []) → closes (list_with ts (no_items l)) (at + 1) st)
+
 -- arguments go on behind these
 abbrev pub ArgumentsGoOn : (s : List ℕ) → Open → Below → (front : List ℕ) → (template : Term) → List Term → (at : ℕ) → State → Type 0
 ArgumentsGoOn s owner below front template ts at st =
-    (around : Around) × (inner : List Opened) × (around.prefix ≡ outermost) × Expects s Kind.ArgumentList around inner at st
-    × ((l : Value) (at : ℕ) (st : State) → Comes s inner l at st → StandsAt s at (69 ∷ [])
-    → Owns s owner below front (instance template (list_with ts (no_items l))) (at + 1) st)
+    ElementsGoOn s Kind.ArgumentList (λ l now then. Owns s owner below front (instance template l) now then) ts at st
+
+-- the list that is read: the arguments of a template, or a pack among them, behind these and their text
+pub data Listing : Type 0 where
+  of_template : Listing
+  of_pack : (before : List Term) → (written : List ℕ) → Listing
+
+-- what its elements are read as
+abbrev pub element_kind : Listing → Kind
+element_kind of_template = Kind.ArgumentList
+element_kind (of_pack before written) = Kind.PackList
+
+-- what each of them may cost beyond its text
+abbrev pub extra_of : Listing → ℕ
+extra_of of_template = 3
+extra_of (of_pack before written) = 0
+
+-- the text in front of them
+abbrev pub led_by : Listing → (front name : List ℕ) → List ℕ
+led_by of_template front name = front ++ name ++ codes "<"
+led_by (of_pack before written) front name = front ++ name ++ codes "<" ++ in_front_of_next before written
+
+-- what becomes of the list
+abbrev pub Closes : (s : List ℕ) → Listing → Open → Below → (front : List ℕ) → (template : Term) → Term → (at : ℕ) → State → Type 0
+Closes s of_template owner below front template l at st = Owns s owner below front (instance template l) at st
+Closes s (of_pack before written) owner below front template l at st =
+    ArgumentsGoOn s owner below front template (before ++ pack l ∷ []) at st
+
+-- the list goes on behind these elements
+abbrev pub GoesOn : (s : List ℕ) → Listing → Open → Below → (front : List ℕ) → (template : Term) → List Term → (at : ℕ) → State → Type 0
+GoesOn s listing owner below front template ts at st =
+    ElementsGoOn s (element_kind listing) (λ l now then. Closes s listing owner below front template l now then) ts at st
 
 -- this template stands before the arguments
 abbrev pub IsTemplate : Open → (front : List ℕ) → Term → (name : List ℕ) → (text : List ℕ) → Type 0
@@ -165,28 +200,44 @@ IsTemplate (opens.FirstArguments nest) front template name text = IsNest front n
 IsTemplate opens.NameArguments front template name text = (front ≡ []) × Prints template name false
 IsTemplate _ front template name text = ⊥
 
--- a type comes as an argument
-abbrev pub AwaitsArgument : (s : List ℕ) → Open → Below → List Opened → (text : List ℕ) → Type 0
-AwaitsArgument s owner below os text =
-    (front : List ℕ) × (template : Term) × (name : List ℕ) × (ts : List Term) × (arguments : List ℕ)
-    × IsTemplate owner front template name text × PrintAll ts arguments
-    × (text ≡ front ++ name ++ codes "<" ++ in_front_of_next ts arguments)
-    × ((t : Term) (at : ℕ) (st : State) → Comes s os (tree t true) at st → ArgumentsGoOn s owner below front template (ts ++ t ∷ []) at st)
+-- a type comes as an element
+abbrev pub AwaitsElementOf : (s : List ℕ) → Listing → Open → Below → List Opened → (text : List ℕ) → Type 0
+AwaitsElementOf s listing owner below os text =
+    (front : List ℕ) × (template : Term) × (name : List ℕ) × (ts : List Term) × (elements : List ℕ)
+    × IsTemplate owner front template name text × PrintAll (extra_of listing) ts elements
+    × (text ≡ led_by listing front name ++ in_front_of_next ts elements)
+    × ((t : Term) (at : ℕ) (st : State) → Comes s os (tree t true) at st → GoesOn s listing owner below front template (ts ++ t ∷ []) at st)
 
--- arguments go on behind an enumerator of this type, once its number and an E are read
-abbrev pub EnumeratorGoesOn : (s : List ℕ) → Open → Below → (front : List ℕ) → (template : Term) → List Term → Term → (at : ℕ) → State → Type 0
-EnumeratorGoesOn s owner below front template ts t at st =
+-- a list goes on behind an enumerator of this type, once its number and an E are read
+abbrev pub EnumeratorGoesOn : (s : List ℕ) → Listing → Open → Below → (front : List ℕ) → (template : Term) → List Term → Term → (at : ℕ) → State → Type 0
+EnumeratorGoesOn s listing owner below front template ts t at st =
     (negative : Bool) (digits : List ℕ) (end : ℕ) → StandsAt s at (minus_sign negative)
     → IsDigitsAt s (at + length (minus_sign negative)) digits end → StandsAt s end (69 ∷ [])
-    → ArgumentsGoOn s owner below front template (ts ++ integer t (signed_digits negative digits) ∷ []) (end + 1) st
+    → GoesOn s listing owner below front template (ts ++ integer t (signed_digits negative digits) ∷ []) (end + 1) st
 
--- a type comes as that of an enumerator, which is an argument
-abbrev pub AwaitsEnumerator : (s : List ℕ) → Open → Below → List Opened → (text : List ℕ) → Type 0
-AwaitsEnumerator s owner below os text =
-    (front : List ℕ) × (template : Term) × (name : List ℕ) × (ts : List Term) × (arguments : List ℕ)
-    × IsTemplate owner front template name text × PrintAll ts arguments
-    × (text ≡ front ++ name ++ codes "<" ++ in_front_of_next ts arguments ++ codes "(")
-    × ((t : Term) (at : ℕ) (st : State) → Comes s os (tree t true) at st → EnumeratorGoesOn s owner below front template ts t at st)
+-- a type comes as that of an enumerator, which is an element
+abbrev pub AwaitsEnumerator : (s : List ℕ) → Listing → Open → Below → List Opened → (text : List ℕ) → Type 0
+AwaitsEnumerator s listing owner below os text =
+    (front : List ℕ) × (template : Term) × (name : List ℕ) × (ts : List Term) × (elements : List ℕ)
+    × IsTemplate owner front template name text × PrintAll (extra_of listing) ts elements
+    × (text ≡ led_by listing front name ++ in_front_of_next ts elements ++ codes "(")
+    × ((t : Term) (at : ℕ) (st : State) → Comes s os (tree t true) at st → EnumeratorGoesOn s listing owner below front template ts t at st)
+
+-- what is open is this list of this owner
+abbrev pub Belongs : Listing → (opened : List Open) → (owner : Open) → (rest : List Open) → Type 0
+Belongs of_template opened owner rest = opened ≡ owner ∷ rest
+Belongs (of_pack before written) opened owner rest = (opened ≡ opens.Pack ∷ owner ∷ rest) × PrintAll 3 before written
+
+-- a list is open, and what it belongs to
+pub record IsListing (opened : List Open) (text : List ℕ) : Type 0 where
+  pub listing : Listing
+  pub owner : Open
+  pub rest : List Open
+  pub belongs : Belongs listing opened owner rest
+  pub front : List ℕ
+  pub template : Term
+  pub name : List ℕ
+  pub is_template : IsTemplate owner front template name text
 
 -- A type comes for the last of the open ones, behind what is written.
 abbrev pub Stands : (s : List ℕ) → List Open → List Opened → (text : List ℕ) → Type 0
@@ -204,8 +255,14 @@ Stands s (opens.Special ∷ rest) os text =
     (letter : ℕ) × (text ≡ look_up (letter ∷ []) special_texts) × (text ≢ [])
     × ((t : Term) (at : ℕ) (st : State) → Comes s os (tree t true) at st → Encoded s (special letter t) at)
 Stands s (opens.Enumerator ∷ []) os text = ⊥
-Stands s (opens.Enumerator ∷ owner ∷ rest) os text = AwaitsEnumerator s owner (Stands s rest) os text
-Stands s (owner ∷ rest) os text = AwaitsArgument s owner (Stands s rest) os text
+Stands s (opens.Enumerator ∷ opens.Pack ∷ []) os text = ⊥
+Stands s (opens.Enumerator ∷ opens.Pack ∷ owner ∷ rest) os text =
+    (before : List Term) × (written : List ℕ) × PrintAll 3 before written × AwaitsEnumerator s (of_pack before written) owner (Stands s rest) os text
+Stands s (opens.Enumerator ∷ owner ∷ rest) os text = AwaitsEnumerator s of_template owner (Stands s rest) os text
+Stands s (opens.Pack ∷ []) os text = ⊥
+Stands s (opens.Pack ∷ owner ∷ rest) os text =
+    (before : List Term) × (written : List ℕ) × PrintAll 3 before written × AwaitsElementOf s (of_pack before written) owner (Stands s rest) os text
+Stands s (owner ∷ rest) os text = AwaitsElementOf s of_template owner (Stands s rest) os text
 
 -- ## What comes next
 
@@ -233,12 +290,11 @@ IsBefore s w st (steps.Value is_reference) =
     × (w.text.items ≡ front ++ bytes) × Prints t bytes is_reference
     × Comes s os (tree t true) w.at st × Stands s (reverse w.waiting.items) os front
 IsBefore s w st (steps.List is_first) =
-    (owner : Open) × (rest : List Open) × (reverse w.waiting.items ≡ owner ∷ rest)
-    × (front : List ℕ) × (template : Term) × (name : List ℕ) × (ts : List Term) × (arguments : List ℕ)
-    × IsTemplate owner front template name w.text.items × PrintAll ts arguments
-    × (w.text.items ≡ front ++ name ++ codes "<" ++ arguments)
+    (place : IsListing (reverse w.waiting.items) w.text.items) × (ts : List Term) × (elements : List ℕ)
+    × PrintAll (extra_of place.listing) ts elements
+    × (w.text.items ≡ led_by place.listing place.front place.name ++ elements)
     × (is_first ≡ true → ts ≡ []) × (is_first ≡ false → ts ≢ [])
-    × ArgumentsGoOn s owner (Stands s rest) front template ts w.at st
+    × GoesOn s place.listing place.owner (Stands s place.rest) place.front place.template ts w.at st
 IsBefore s w st steps.Rest = (t : Term) × IsNesting s Kind.NestRest w t st
 IsBefore s w st steps.Tail = (t : Term) × IsNesting s Kind.NestTail w t st × (w.nest.is_instance ≡ false → has_return_type t ≡ false)
 IsBefore s w st steps.Component =

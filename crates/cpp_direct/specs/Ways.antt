@@ -13,7 +13,7 @@ use Rattle.cpp_direct.specs.declared.direct.Direct.{Direct}
 use Rattle.cpp_direct.specs.Holes.{Opened, Comes, Expects, IsTyped, TypeNamed, NestNamed, with_candidate}
 use Rattle.cpp_direct.specs.HolesOfTypes.{IsNamedKind, TreeOpens}
 use Rattle.cpp_direct.specs.Prints.{Prints, PrintAll, Shows, list_of, sign_text}
-use Rattle.cpp_direct.specs.Stands.{AreCandidates, AwaitsItems, Encoded, IsFunction, IsNest, IsTemplate, ArgumentsGoOn, EnumeratorGoesOn, Owns, ParametersGoOn, Serves, Stands, qualifiers, in_front_of_next}
+use Rattle.cpp_direct.specs.Stands.{AreCandidates, AwaitsItems, Encoded, IsFunction, IsListing, IsNest, IsTemplate, GoesOn, EnumeratorGoesOn, Owns, ParametersGoOn, Serves, Stands, qualifiers, extra_of, led_by, in_front_of_next}
 
 -- what stands behind the parameters of a member function
 abbrev pub const_text : (is_const : Bool) → List ℕ
@@ -149,47 +149,37 @@ pub record IsListEnded (s : List ℕ) (w : Direct) : Type 0 where
   pub ts : List Term
   pub arguments : List ℕ
   pub is_template : IsTemplate owner front template name w.text.items
-  pub elements : PrintAll ts arguments
+  pub elements : PrintAll 3 ts arguments
   pub written : w.text.items ≡ front ++ name ++ codes "<" ++ arguments
   pub owns : Owns s owner (Stands s rest) front (instance template (list_of ts)) w.at state
 
--- An argument is expected, and the comma before it is written.
+-- An element is expected, and the comma before it is written.
 pub record AwaitsNextArgument (s : List ℕ) (w : Direct) : Type 0 where
   pub state : State
   pub candidates : AreCandidates w.text.items w.candidates.items state.candidates
-  pub owner : Open
-  pub rest : List Open
-  pub open_is : reverse w.waiting.items ≡ owner ∷ rest
-  pub front : List ℕ
-  pub template : Term
-  pub name : List ℕ
+  pub place : IsListing (reverse w.waiting.items) w.text.items
   pub ts : List Term
-  pub arguments : List ℕ
-  pub is_template : IsTemplate owner front template name w.text.items
-  pub elements : PrintAll ts arguments
-  pub written : w.text.items ≡ front ++ name ++ codes "<" ++ in_front_of_next ts arguments
-  pub goes : ArgumentsGoOn s owner (Stands s rest) front template ts w.at state
+  pub texts : List ℕ
+  pub elements : PrintAll (extra_of place.listing) ts texts
+  pub written : w.text.items ≡ led_by place.listing place.front place.name ++ in_front_of_next ts texts
+  pub goes : GoesOn s place.listing place.owner (Stands s place.rest) place.front place.template ts w.at state
 
--- The type of an enumerator was read, which is an argument. Its number is expected.
+-- The type of an enumerator was read, which is an element. Its number is expected.
 pub record AwaitsNumber (s : List ℕ) (w : Direct) : Type 0 where
   pub state : State
   pub candidates : AreCandidates w.text.items w.candidates.items state.candidates
-  pub owner : Open
-  pub rest : List Open
-  pub open_is : reverse w.waiting.items ≡ opens.Enumerator ∷ owner ∷ rest
-  pub front : List ℕ
-  pub template : Term
-  pub name : List ℕ
+  pub opened : List Open
+  pub open_is : reverse w.waiting.items ≡ opens.Enumerator ∷ opened
+  pub place : IsListing opened w.text.items
   pub ts : List Term
-  pub arguments : List ℕ
-  pub is_template : IsTemplate owner front template name w.text.items
-  pub elements : PrintAll ts arguments
+  pub texts : List ℕ
+  pub elements : PrintAll (extra_of place.listing) ts texts
   pub type : Term
   pub bytes : List ℕ
   pub is_reference : Bool
   pub prints : Prints type bytes is_reference
-  pub written : w.text.items ≡ front ++ name ++ codes "<" ++ in_front_of_next ts arguments ++ codes "(" ++ bytes
-  pub goes : EnumeratorGoesOn s owner (Stands s rest) front template ts type w.at state
+  pub written : w.text.items ≡ led_by place.listing place.front place.name ++ in_front_of_next ts texts ++ codes "(" ++ bytes
+  pub goes : EnumeratorGoesOn s place.listing place.owner (Stands s place.rest) place.front place.template ts type w.at state
 
 -- The name of an encoding was read and written, but for its qualifier.
 pub record IsNameEnded (s : List ℕ) (w : Direct) (is_const is_instance : Bool) : Type 0 where

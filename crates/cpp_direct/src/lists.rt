@@ -89,7 +89,7 @@ fn is_plain_letter(letter: u8) -> bool
 }
 
 impl Direct {
-    /// Reads an argument up to the first type in it, or the end of the arguments.
+    /// Reads an argument or an element of a pack up to the first type in it, or the end of either.
     // <template-args> ::= I <template-arg>* E
     pub(crate) fn list_at(&mut self, s: &[u8], is_first: bool) -> Option<Step>
         requires fits { FitsSymbol s.now }
@@ -98,16 +98,51 @@ impl Direct {
     {
         let byte = byte_at(s, self.at);
         if byte == b'E' {
-            self.at = self.at.checked_add(1)?;
-            return self.close_list(s);
+            return self.list_ended(s, is_first);
         }
         if !is_first {
             self.push(b", ")?;
         }
-        if byte == b'L' {
-            return self.literal(s);
+        match byte {
+            b'L' => self.literal(s),
+            b'J' => self.begin_pack(s),
+            _ => Some(Step::Type),
         }
-        Some(Step::Type)
+    }
+
+    // <template-arg> ::= J <template-arg>* E
+    #[inline(always)]
+    fn begin_pack(&mut self, s: &[u8]) -> Option<Step>
+        requires letter { StandsAt s.now self.old.at (74 ∷ []) }
+        requires awaits { AwaitsNextArgument s.now self.old }
+        ensures { IfSome result (IsWriting s.now self.new) }
+    {
+        match *self.waiting.last()? {
+            Open::Pack => None,
+            _ => self.open_type(Open::Pack, Step::List { is_first: true }),
+        }
+    }
+
+    /// Reads the E of arguments or of a pack.
+    #[inline(always)]
+    fn list_ended(&mut self, s: &[u8], is_first: bool) -> Option<Step>
+        requires fits { FitsSymbol s.now }
+        requires letter { StandsAt s.now self.old.at (69 ∷ []) }
+        requires writing { IsWriting s.now self.old (steps.List is_first) }
+        ensures { IfSome result (IsWriting s.now self.new) }
+    {
+        self.at = self.at.checked_add(1)?;
+        match *self.waiting.last()? {
+            Open::Pack => {
+                // nothing stands for a pack of nothing, and no comma before it
+                if is_first {
+                    return None;
+                }
+                let _open = self.waiting.pop();
+                Some(Step::List { is_first: false })
+            }
+            _ => self.close_list(s),
+        }
     }
 
     /// Ends arguments.

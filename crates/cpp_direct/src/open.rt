@@ -51,7 +51,9 @@ pub enum Open {
     Parameters { is_const: bool },
     /// the name of a special symbol
     Special,
-    /// the number of an enumerator, an argument of what was opened before
+    /// the elements of a pack, an argument of what was opened before
+    Pack,
+    /// the number of an enumerator, an element of what was opened before
     Enumerator,
 }
 
@@ -64,7 +66,7 @@ pub enum Step {
     Plain,
     /// a type was read
     Value { is_reference: bool },
-    /// an argument, or the end of the arguments
+    /// an argument or an element of a pack, or the end of either
     List { is_first: bool },
     /// a component, or the arguments of the first piece of a nested name
     Rest,

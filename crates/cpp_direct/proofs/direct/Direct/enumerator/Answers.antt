@@ -22,5 +22,5 @@ returns c =
     (subst (λ l. ends_with nat_eq l (codes "int") ≡ false) c.deref.ensures.value (sym c.ends_with.ensures.value ∙ c.if-ends_with.false))
     (subst (λ l. ends_with nat_eq l (codes "long") ≡ false) c.deref-2.ensures.value (sym c.ends_with-2.ensures.value ∙ c.if-ends_with-2.false))
     refl refl refl
-    (popped old.waiting.items c.pop-open.new.self.items (a.owner ∷ a.rest) opens.Enumerator _ old.waiting.ok.0 a.open_is c.pop-open.ensures.rest)
+    (popped old.waiting.items c.pop-open.new.self.items a.opened opens.Enumerator _ old.waiting.ok.0 a.open_is c.pop-open.ensures.rest)
     c.in_ok-push.ensures c.in_ok-number.ensures c.in_ok-literal_ended.ensures

@@ -4,7 +4,7 @@ use Rattle.cpp_direct.specs.declared.open.Open.TheVariants as opens
 use Rattle.cpp_direct.specs.Prints.{Prints}
 use Rattle.cpp_direct.specs.Stands.{qualifiers}
 use Rattle.cpp_direct.proofs.PrintedTypes.{pointer-prints, lvalue-prints, rvalue-prints, const-prints}
-use Rattle.cpp_direct.proofs.Listed.{waits-last, value-marked, value-parameter, value-special, value-enumerator, value-argument, takes-arguments}
+use Rattle.cpp_direct.proofs.Listed.{waits-last, value-marked, value-parameter, value-special, value-enumerator, value-argument, takes-elements}
 use Rattle.cpp_direct.proofs.direct.Direct.pass.Goals as goal
 
 pub mark-requires : goal.mark-requires
@@ -51,5 +51,5 @@ pub returns-in_default : goal.returns-in_default
 returns-in_default c =
     value-argument c.args.s.now c.args.self.now c.args.is_reference c.in_ok-from.field-0.now
     c.requires.writing (waits-last _ _ _ _ c.deref.ensures.value c.in_ok-from.ensures.value refl)
-    (takes-arguments c.in_ok-from.field-0.now c.in_default.not-Pointer c.in_default.not-Lvalue c.in_default.not-Rvalue c.in_default.not-Const
+    (takes-elements c.in_ok-from.field-0.now c.in_default.not-Pointer c.in_default.not-Lvalue c.in_default.not-Rvalue c.in_default.not-Const
     c.in_default.not-Parameters c.in_default.not-Special c.in_default.not-Enumerator)

@@ -1,0 +1,30 @@
+use Rattle.std.proofs.Common.{◌+◌, refl, subst, sym}
+use Rattle.cpp_direct.specs.declared.direct.Direct.{Direct}
+use Rattle.cpp_direct.specs.declared.open.Open.TheVariants as opens
+use Rattle.cpp_direct.specs.declared.open.Step.TheVariants as steps
+use Rattle.cpp_direct.specs.Stands.{IsWriting}
+use Rattle.cpp_direct.specs.Ways.{IsListEnded}
+use Rattle.cpp_direct.proofs.Listed.{waits-last, list-ends, pack-ends}
+use Rattle.cpp_direct.proofs.TypesRead.{popped}
+use Rattle.cpp_direct.proofs.direct.Direct.list_ended.Goals as goal
+
+pub close_list-requires-clause-ended : goal.close_list-requires-clause-ended
+close_list-requires-clause-ended c =
+    subst (λ n. IsListEnded c.args.s.now (record c.args.self.now { at = n })) (sym c.in_ok-self.ensures.1)
+    (list-ends c.args.s.now c.args.self.now c.args.is_first c.in_ok-last.field-0.now c.requires.writing c.requires.letter
+    (waits-last _ _ _ _ c.deref.ensures.value c.in_ok-last.ensures.value refl) c.in_default.not-Pack)
+
+pub returns-else-is_first : goal.returns-else-is_first
+returns-else-is_first c =
+    let old = c.args.self.now in
+    let w : Direct = record {
+      text = old.text;
+      candidates = old.candidates;
+      waiting = c.pop-open.new.self;
+      nest = old.nest;
+      at = c.in_ok-self.field-0;
+      most = old.most;
+    } in
+    pack-ends c.args.s.now old w (subst (λ f. IsWriting c.args.s.now old (steps.List f)) c.if-is_first.false c.requires.writing) c.requires.letter
+    (waits-last _ _ _ _ c.deref.ensures.value c.in_ok-last.ensures.value c.in-Pack.is) refl refl c.in_ok-self.ensures.1
+    (λ opened is. popped old.waiting.items c.pop-open.new.self.items opened opens.Pack _ old.waiting.ok.0 is c.pop-open.ensures.rest)
