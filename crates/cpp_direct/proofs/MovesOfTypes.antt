@@ -22,7 +22,7 @@ use Rattle.cpp_grammar.specs.Between.{between, after, extended, applied, named_s
 use Rattle.cpp_grammar.specs.Meaning.{meaning, listed_value, qualified_by, reference_to}
 use Rattle.cpp_grammar.specs.Unfolding as unfolding_
 use Rattle.cpp_grammar.specs.Unfolding.{opening, close, byte_of}
-use Rattle.cpp_direct.specs.Bytes.{is_builtin, is_abbreviated}
+use Rattle.cpp_direct.specs.Bytes.{is_builtin, is_builtin_with_d, is_abbreviated}
 use Rattle.cpp_direct.specs.Holes.{Opened, opened, StandsAt, Comes, Expects, IsNameAt, IsSeqAt, IsTyped, TypeNamed, with_candidate, unless_listed}
 use Rattle.cpp_direct.specs.HolesOfTypes.{as_const, IsQualifiable, TypeOpens, TreePasses, TreeOpens, NameOpens, IsNamedKind}
 use Rattle.cpp_direct.proofs.Moves.{stands-split, expects-name, expects-seq, first-of, first-of-chain, next-of, last-of, letter-comes}
@@ -177,6 +177,56 @@ builtin-comes s kind around os at st b typed is expects stands =
     solid.passes (builtin (b ∷ [])) true (at + 1) st refl
     (letter-comes s Kind.Solid Production.Builtin b around solid.inner at st (tree (builtin (b ∷ [])) true) st (builtin-taken b is)
     (builtin-small b is) refl (λ f. refl) refl refl solid.awaits stands)
+
+builtin-with-d-taken : (byte : ℕ) → is_builtin_with_d byte ≡ true
+    → (choose Kind.AfterD byte ≡ Some Production.BuiltinWithD) × (choose Kind.ItemAfterD byte ≡ Some Production.ItemIsType)
+unfolding choose alternatives pick is_in in_ranges among is_builtin_with_d
+builtin-with-d-taken byte e =
+    at-each (codes "acinsu") (λ b. (choose Kind.AfterD b ≡ Some Production.BuiltinWithD) × (choose Kind.ItemAfterD b ≡ Some Production.ItemIsType))
+    ((refl, refl), ((refl, refl), ((refl, refl), ((refl, refl), ((refl, refl), ((refl, refl), tt)))))) byte e
+
+builtin-with-d-small : (byte : ℕ) → is_builtin_with_d byte ≡ true → byte < 256
+unfolding are_small is_builtin_with_d
+builtin-with-d-small byte e = among-small (codes "acinsu") byte refl e
+
+-- and so does one with a code of two letters
+pub builtin-with-d-comes : (s : List ℕ) (kind : Kind) (around : Around) (os : List Opened) (at : ℕ) (st : State) (b : ℕ) → IsTyped kind
+    → is_builtin_with_d b ≡ true → Expects s kind around os at st → StandsAt s at (68 ∷ b ∷ [])
+    → Comes s os (tree (builtin (68 ∷ b ∷ [])) true) (at + 2) st
+unfolding choose alternatives pick is_in in_ranges among is_chain parts_of number_of_kind between opening close unfolding_.behind meaning listed_value with_type with_unqualified byte_of tree_of is_listed part is_function_type
+builtin-with-d-comes s Kind.Type around os at st b typed is expects stands =
+    let p = Production.TypeWithD in
+    let both = stands-split s at (68 ∷ []) (b ∷ []) stands in
+    let v = tree (builtin (68 ∷ b ∷ [])) true in
+    subst (λ k. Comes s os v k st) (omega arith)
+    (last-of s p (68 ∷ []) at around st [] v os (at + 1 + 1) st v st refl
+    (letter-comes s Kind.AfterD Production.BuiltinWithD b around (opened (standing (rule_of p) (68 ∷ []) at around st) [] [] ∷ os) (at + 1) st v st
+    (builtin-with-d-taken b is).0 (builtin-with-d-small b is) refl (λ f. refl) refl refl
+    (first-of s Kind.Type p 68 around os at st (OfKind 33) [] around [] st refl (omega arith) refl (λ f. refl) refl refl expects both.0) both.1))
+builtin-with-d-comes s Kind.Plain around os at st b typed is expects stands =
+    let p = Production.PlainWithD in
+    let both = stands-split s at (68 ∷ []) (b ∷ []) stands in
+    let v = tree (builtin (68 ∷ b ∷ [])) true in
+    subst (λ k. Comes s os v k st) (omega arith)
+    (last-of s p (68 ∷ []) at around st [] v os (at + 1 + 1) st v st refl
+    (letter-comes s Kind.AfterD Production.BuiltinWithD b around (opened (standing (rule_of p) (68 ∷ []) at around st) [] [] ∷ os) (at + 1) st v st
+    (builtin-with-d-taken b is).0 (builtin-with-d-small b is) refl (λ f. refl) refl refl
+    (first-of s Kind.Plain p 68 around os at st (OfKind 33) [] around [] st refl (omega arith) refl (λ f. refl) refl refl expects both.0) both.1))
+builtin-with-d-comes s Kind.Item around os at st b typed is expects stands =
+    let p = Production.ItemWithD in
+    let both = stands-split s at (68 ∷ []) (b ∷ []) stands in
+    let v = tree (builtin (68 ∷ b ∷ [])) true in
+    let outer = opened (standing (rule_of p) (68 ∷ []) at around st) [] [] ∷ os in
+    let q = Production.ItemIsType in
+    subst (λ k. Comes s os v k st) (omega arith)
+    (last-of s p (68 ∷ []) at around st [] v os (at + 1 + 1) st v st refl
+    (last-of s q [] (at + 1) around st [] v outer (at + 1 + 1) st v st refl
+    (letter-comes s Kind.AfterD Production.BuiltinWithD b around (opened (standing (rule_of q) [] (at + 1) around st) [] [] ∷ outer) (at + 1) st v st
+    (builtin-with-d-taken b is).0 (builtin-with-d-small b is) refl (λ f. refl) refl refl
+    (first-of-chain s Kind.ItemAfterD q b around outer (at + 1) st (OfKind 33) [] around [] st (builtin-with-d-taken b is).1 (builtin-with-d-small b is)
+    refl (λ f. refl) refl refl
+    (first-of s Kind.Item p 68 around os at st (OfKind 32) [] around [] st refl (omega arith) refl (λ f. refl) refl refl expects both.0)) both.1)))
+builtin-with-d-comes s _ around os at st b typed is expects stands = absurd typed
 
 -- ## Types of types
 

@@ -221,3 +221,24 @@ builtin-prints letter filled = let t = builtin (letter ∷ []) in let b = look_u
   void = λ e. void-text letter (eqb-true letter 118 e);
   integer = λ e. builtin-ends letter e;
 }
+
+-- So does one with a code of two letters.
+pub builtin-with-d-prints : (letter : ℕ) → look_up (68 ∷ letter ∷ []) builtin_texts ≢ []
+    → Prints (builtin (68 ∷ letter ∷ [])) (look_up (68 ∷ letter ∷ []) builtin_texts) false
+unfolding parts_in left_parts right_parts not_empty head head_with is_reference is_funarr is_empty is_open pack_length is_function_type prefix_item
+    last_piece opening_text is_void is_plain_integer
+builtin-with-d-prints letter filled = let t = builtin (68 ∷ letter ∷ []) in let b = look_up (68 ∷ letter ∷ []) builtin_texts in record {
+  left_text = λ c. text_by left c t (text b ∷ []) refl ∙ text_alone b;
+  right_text = λ c. text_by right c t [] refl;
+  cost = λ c. omega (arith, length-filled b filled, cost_first b [], cost_by left c t (text b ∷ []) refl, cost_by right c t [] refl);
+  is_reference_head = λ c. refl;
+  is_funarr_head = λ c. refl;
+  filled = λ c. refl;
+  is_closed = refl;
+  packless = λ scope. refl;
+  no_function = refl;
+  as_prefix = λ c. refl;
+  opening = refl;
+  void = λ e. cc e;
+  integer = λ e. cc e;
+}

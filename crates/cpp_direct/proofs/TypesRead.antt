@@ -14,7 +14,7 @@ use Rattle.cpp_grammar.specs.Texts.{Naming, look_up, builtin_texts, abbreviation
 use Rattle.cpp_grammar.specs.Parts.{source_text}
 use Rattle.cpp_grammar.specs.Values.{State, tree}
 use Rattle.cpp_grammar.specs.Between.{after, inside, no_items}
-use Rattle.cpp_direct.specs.Bytes.{is_builtin, is_abbreviated}
+use Rattle.cpp_direct.specs.Bytes.{is_builtin, is_builtin_with_d, is_abbreviated}
 use Rattle.cpp_direct.specs.declared.open.Candidate.{Candidate}
 use Rattle.cpp_direct.specs.declared.open.Open.{Open}
 use Rattle.cpp_direct.specs.declared.open.Open.TheVariants as opens
@@ -31,9 +31,9 @@ use Rattle.cpp_direct.specs.Written.{Reads, added, added_unless}
 use Rattle.cpp_direct.proofs.Kept.{arguments-begun, piece-found, candidates-stay, candidates-added, candidates-read, candidate-found, reverse-last, last-reversed}
 use Rattle.cpp_direct.proofs.Moves.{expects-empty, stands-join}
 use Rattle.cpp_direct.proofs.MovesOfLists.{arguments-open}
-use Rattle.cpp_direct.proofs.MovesOfTypes.{solid-opens, builtin-comes, pointer-opens, lvalue-opens, rvalue-opens, const-opens, source-opens, std-opens, abbreviation-opens, substitution-opens, nested-type-opens}
+use Rattle.cpp_direct.proofs.MovesOfTypes.{solid-opens, builtin-comes, builtin-with-d-comes, pointer-opens, lvalue-opens, rvalue-opens, const-opens, source-opens, std-opens, abbreviation-opens, substitution-opens, nested-type-opens}
 use Rattle.cpp_direct.proofs.PrintedLists.{none-print}
-use Rattle.cpp_direct.proofs.PrintedNames.{source-prints, std-prints, abbreviation-prints, builtin-prints}
+use Rattle.cpp_direct.proofs.PrintedNames.{source-prints, std-prints, abbreviation-prints, builtin-prints, builtin-with-d-prints}
 
 -- ## What calls give
 
@@ -214,6 +214,41 @@ pub builtin-listed : (letter : ℕ) → look_up (letter ∷ []) builtin_texts �
 unfolding is_builtin builtin_texts code_in codes_in among
 builtin-listed letter has = letter-listed builtin_texts (codes "abcdefghijlmnostvwxyz") letter refl has
 
+pair_in : List ℕ → List ℕ → Bool
+pair_in (c ∷ d ∷ []) cs = among cs d
+pair_in _ cs = true
+
+pairs_in : List Naming → List ℕ → Bool
+pairs_in [] cs = true
+pairs_in (n ∷ rest) cs = pair_in n.code cs && pairs_in rest cs
+
+-- where the second letters of all codes of two letters are among some, one that is found there is
+pair-listed : (table : List Naming) (cs : List ℕ) (first letter : ℕ) → pairs_in table cs ≡ true → look_up (first ∷ letter ∷ []) table ≢ []
+    → among cs letter ≡ true
+unfolding look_up same_bytes pair_in pairs_in
+pair-listed [] cs first letter all has = absurd (has refl)
+pair-listed (n ∷ rest) cs first letter all has =
+    let both = and_parts (pair_in n.code cs) (pairs_in rest cs) all in
+    go n.code both.0 (same_bytes (first ∷ letter ∷ []) n.code) refl has (pair-listed rest cs first letter both.1)
+  where
+    go : (code : List ℕ) → pair_in code cs ≡ true → (b : Bool) → same_bytes (first ∷ letter ∷ []) code ≡ b
+        → ◌≢◌ {A = List ℕ} (elim b [ true ↦ n.text | false ↦ look_up (first ∷ letter ∷ []) rest ]) []
+        → (look_up (first ∷ letter ∷ []) rest ≢ [] → among cs letter ≡ true)
+        → among cs letter ≡ true
+    go code has_code false same filled later = later filled
+    go [] has_code true same filled later = absurd (false≢true same)
+    go (c ∷ []) has_code true same filled later = absurd (false≢true ((and_parts (nat_eq first c) false same).1))
+    go (c ∷ d ∷ []) has_code true same filled later =
+        subst (λ l. among cs l ≡ true) (sym (eqb-true letter d ((and_parts (nat_eq letter d) true
+        ((and_parts (nat_eq first c) (nat_eq letter d && true) same).1)).0))) has_code
+    go (c ∷ d ∷ e ∷ es) has_code true same filled later =
+        absurd (false≢true ((and_parts (nat_eq letter d) false ((and_parts (nat_eq first c) (nat_eq letter d && false) same).1)).1))
+
+-- a letter with such a text behind a D is one of these
+builtin-with-d-listed : (letter : ℕ) → look_up (68 ∷ letter ∷ []) builtin_texts ≢ [] → is_builtin_with_d letter ≡ true
+unfolding is_builtin_with_d builtin_texts pair_in pairs_in among
+builtin-with-d-listed letter has = pair-listed builtin_texts (codes "acinsu") 68 letter refl has
+
 -- and so is one of an abbreviation
 pub abbreviation-listed : (letter : ℕ) → look_up (letter ∷ []) abbreviation_texts ≢ [] → is_abbreviated letter ≡ true
 unfolding is_abbreviated abbreviation_texts code_in codes_in among
@@ -290,6 +325,37 @@ builtin-done s old new letter a stands has text candidates waits at =
         subst (λ k. Comes s a.os (tree (builtin (letter ∷ [])) true) k a.state) (sym at)
             (builtin-comes s a.kind a.around a.os old.at a.state letter a.typed is a.awaits (stands (no-builtin letter is))),
         subst (λ l. Stands s (reverse l) a.os old.text.items) (sym waits) a.stands,
+      );
+    }
+
+no-builtin-with-d : (letter : ℕ) → is_builtin_with_d letter ≡ true → letter ≢ 0
+unfolding is_builtin_with_d among
+no-builtin-with-d letter is none = absurd (false≢true (subst (λ l. is_builtin_with_d l ≡ true) none is))
+
+-- and so is one with a code of two letters
+pub builtin-with-d-done : (s : List ℕ) (old new : Direct) (letter : ℕ) → AwaitsType s old → StandsAt s old.at (68 ∷ [])
+    → (letter ≢ 0 → StandsAt s (old.at + 1) (letter ∷ []))
+    → look_up (68 ∷ letter ∷ []) builtin_texts ≢ [] → new.text.items ≡ old.text.items ++ look_up (68 ∷ letter ∷ []) builtin_texts
+    → new.candidates ≡ old.candidates → new.waiting ≡ old.waiting → new.at ≡ old.at + 1 + 1 → IsWriting s new (steps.Value false)
+builtin-with-d-done s old new letter a first stands has text candidates waits at =
+    let is = builtin-with-d-listed letter has in
+    let bytes : List ℕ = look_up (68 ∷ letter ∷ []) builtin_texts in
+    record {
+      state = a.state;
+      candidates = subst (λ v. AreCandidates new.text.items v.items a.state.candidates) (sym candidates)
+          (subst (λ l. AreCandidates l old.candidates.items a.state.candidates) (sym text)
+          (candidates-stay old.text.items bytes old.candidates.items a.state.candidates a.candidates));
+      is_before = (
+        a.os,
+        builtin (68 ∷ letter ∷ []),
+        old.text.items,
+        bytes,
+        text,
+        builtin-with-d-prints letter has,
+        subst (λ k. Comes s a.os (tree (builtin (68 ∷ letter ∷ [])) true) k a.state) (omega (arith, at))
+            (builtin-with-d-comes s a.kind a.around a.os old.at a.state letter a.typed is a.awaits
+            (stands-join s old.at (68 ∷ []) (letter ∷ []) first (stands (no-builtin-with-d letter is)))),
+        subst (λ v. Stands s (reverse v.items) a.os old.text.items) (sym waits) a.stands,
       );
     }
 

@@ -6,6 +6,10 @@ use Rattle.cpp_grammar.specs.Grammar.{among}
 unfoldable pub is_builtin : ℕ → Bool
 is_builtin byte = among (codes "abcdefghijlmnostvwxyz") byte
 
+-- the letters of the builtin types behind a D
+unfoldable pub is_builtin_with_d : ℕ → Bool
+is_builtin_with_d byte = among (codes "acinsu") byte
+
 -- the letters behind an S that stand for a class of std, or for std itself
 unfoldable pub is_abbreviated : ℕ → Bool
 is_abbreviated byte = among (codes "abdios") byte

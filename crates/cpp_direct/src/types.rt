@@ -32,6 +32,7 @@ impl Direct {
                 self.open_type(Open::Const { from }, Step::Plain)
             }
             b'N' | b'S' | b'1'..=b'9' => self.named_type(s),
+            b'D' => self.builtin_with_d(s),
             letter => self.builtin(s, letter),
         }
     }
@@ -65,6 +66,24 @@ impl Direct {
         ensures { IfSome result (IsWriting _s.now self.new) }
     {
         let text = cpp_layout::builtin_text(letter);
+        if text.is_empty() {
+            return None;
+        }
+        self.at = self.at.checked_add(1)?;
+        self.push(text)?;
+        Some(Step::Value {
+            is_reference: false,
+        })
+    }
+
+    // <builtin-type> ::= Di | Ds | Du | Da | Dc | Dn
+    fn builtin_with_d(&mut self, s: &[u8]) -> Option<Step>
+        requires letter { StandsAt s.now self.old.at (68 ∷ []) }
+        requires awaits { AwaitsType s.now self.old }
+        ensures { IfSome result (IsWriting s.now self.new) }
+    {
+        self.at = self.at.checked_add(1)?;
+        let text = cpp_layout::builtin_with_d_text(byte_at(s, self.at));
         if text.is_empty() {
             return None;
         }

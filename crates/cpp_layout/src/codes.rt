@@ -237,6 +237,14 @@ pub fn builtin_text(letter: u8) -> &'static [u8]
     texts::fixed_text(builtin(letter))
 }
 
+/// The text of a builtin type with a code of D and this letter, or none.
+#[inline(always)]
+pub fn builtin_with_d_text(letter: u8) -> &'static [u8]
+    ensures { result.now ≡ look_up (68 ∷ letter ∷ []) builtin_texts }
+{
+    texts::fixed_text(builtin_with_d(letter))
+}
+
 /// The text of an abbreviation, by the letter behind its S, or none.
 #[inline(always)]
 pub fn abbreviation_text(letter: u8) -> &'static [u8]

@@ -6,6 +6,9 @@ pub named_type-requires-clause-awaits : goal.named_type-requires-clause-awaits
 named_type-requires-clause-awaits c =
     names-awaited c.args.s.now c.args.self.now (awaits-type c.args.s.now c.args.self.now c.args.is_plain c.requires.writing)
 
+pub builtin_with_d-requires-clause-awaits : goal.builtin_with_d-requires-clause-awaits
+builtin_with_d-requires-clause-awaits c = awaits-type c.args.s.now c.args.self.now c.args.is_plain c.requires.writing
+
 pub builtin-requires-clause-awaits : goal.builtin-requires-clause-awaits
 builtin-requires-clause-awaits c = awaits-type c.args.s.now c.args.self.now c.args.is_plain c.requires.writing
 
