@@ -13,6 +13,7 @@ pub mod MovesOfNests
 pub mod MovesOfTypes
 pub mod NestComponents
 pub mod Nesting
+pub mod Operators
 pub mod PrintedLetters
 pub mod PrintedLists
 pub mod PrintedNames

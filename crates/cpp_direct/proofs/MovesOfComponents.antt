@@ -7,9 +7,9 @@ use Rattle.cpp_grammar.specs.declared.kind.Kind.{Kind}
 use Rattle.cpp_grammar.specs.declared.production.Production.{Production}
 use Rattle.cpp_grammar.specs.Grammar.{in_ranges, among, is_in, pick, alternatives, number_of_kind, choose, parts_of, is_chain}
 use Rattle.cpp_grammar.specs.Table.{rule_of}
-use Rattle.cpp_grammar.specs.Term.{Term, within, instance, source, constructor, destructor}
-use Rattle.cpp_grammar.specs.Values.{State, Around, prefix_tree, prefix_listed, Value, nothing_there, text, letter, tree}
-use Rattle.cpp_grammar.specs.Values.{tree_of, text_of, letter_of, is_there, part}
+use Rattle.cpp_grammar.specs.Term.{Term, within, instance, source, operator, constructor, destructor}
+use Rattle.cpp_grammar.specs.Values.{State, Around, prefix_tree, prefix_listed, Value, nothing_there, text, letter, tree, piece}
+use Rattle.cpp_grammar.specs.Values.{tree_of, piece_of, text_of, letter_of, is_there, part}
 use Rattle.cpp_grammar.specs.References.{appended, with_prefix}
 use Rattle.cpp_grammar.specs.Between.{between, after, inside, extended, applied, no_items, named_so_far, listed_so_far, piece_so_far}
 use Rattle.cpp_grammar.specs.Meaning.{meaning}
@@ -19,6 +19,7 @@ use Rattle.cpp_direct.specs.Holes.{Opened, opened, StandsAt, Comes, Expects, wit
 use Rattle.cpp_direct.specs.HolesOfNests.{IsRest, AwaitsArguments}
 use Rattle.cpp_direct.proofs.Moves.{stands-split, comes-moved, first-of, first-of-chain, next-of, last-of, expects-byte, expects-name, letter-comes}
 use Rattle.cpp_direct.proofs.MovesOfNests.{last-passes}
+use Rattle.cpp_direct.proofs.Operators.{IsOperator}
 
 -- ## Behind the name so far
 
@@ -140,6 +141,30 @@ component-internal s os around t at st name end expects stands is =
     (next-of s p (76 ∷ []) at here st [] (text name) (OfKind 42) [] os end st (after u false around) (tree u false ∷ []) st refl
     (expects-name s here (opened (standing (rule_of p) (76 ∷ []) at here st) [] (OfKind 42 ∷ []) ∷ os) (at + 1) st name end
     (first-of s Kind.Component p 76 here os at st Name (OfKind 42 ∷ []) here [] st refl (omega arith) refl (λ f. refl) refl refl expects stands) is))
+
+-- an operator
+pub component-operator : (s : List ℕ) (os : List Opened) (around : Around) (t : Term) (at : ℕ) (st : State) (first second : ℕ)
+    → IsOperator first second → Expects s Kind.Component (after t true around) os at st → StandsAt s at (first ∷ second ∷ [])
+    → Named s os around (within t (operator first second)) (at + 2) st
+unfolding choose alternatives pick is_in in_ranges among is_chain parts_of number_of_kind between opening close unfolding_.behind meaning piece_so_far named_so_far extended after byte_of piece_of tree_of part
+component-operator s os around t at st first second is expects stands =
+    let p : Production = Production.OperatorName in
+    let here : Around = after t true around in
+    let u : Term = within t (operator first second) in
+    let v : Value = piece (operator first second) in
+    let two = stands-split s at (first ∷ []) (second ∷ []) stands in
+    let os1 : List Opened = opened (standing (rule_of p) [] at here st) [] (OfKind 42 ∷ []) ∷ os in
+    let os2 : List Opened = opened (standing (rule_of is.production) (first ∷ []) at here st) [] [] ∷ os1 in
+    named-by s os p [] at here st u (at + 2) st (λ byte now began later w. refl) around
+    (next-of s p [] at here st [] v (OfKind 42) [] os (at + 2) st (after u false around) (tree u false ∷ []) st refl
+    (comes-moved s os1 v (at + 1 + 1) (at + 2) st (omega arith)
+    (last-of s is.production (first ∷ []) at here st [] (letter second) os1 (at + 1 + 1) st v st (is.takes.closes first second here at st st)
+    (letter-comes s is.kind Production.Mark second here os2 (at + 1) st (letter second) st is.marked is.small_second refl (λ f. refl) refl refl
+    (first-of s Kind.Operator is.production first here os1 at st (OfKind (number_of_kind is.kind)) [] here [] st is.chosen is.small is.takes.chain
+    (λ f. is.takes.begins f at st) is.takes.parts (is.takes.passes here at st)
+    (first-of-chain s Kind.Component p 110 here os at st (OfKind 52) (OfKind 42 ∷ []) here [] st refl (omega arith) refl (λ f. refl) refl refl expects)
+    two.0)
+    two.1))))
 
 -- a constructor
 pub component-constructor : (s : List ℕ) (os : List Opened) (around : Around) (t : Term) (at : ℕ) (st : State) (digit : ℕ)

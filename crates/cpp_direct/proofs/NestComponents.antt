@@ -1,8 +1,9 @@
 -- A component of a nested name is written: where the writer is then.
-use Rattle.std.proofs.Common.{◌≡◌, ◌≢◌, ℕ, ◌+◌, ◌-◌, ◌≤◌, length, List, [], ◌∷◌, ◌++◌, take, drop, reverse, Bool, true, false, refl, ap, sym, ◌∙◌, subst, arith, codes, append_assoc, append-nil}
+use Rattle.std.proofs.Common.{◌≡◌, ◌≢◌, ℕ, ◌+◌, ◌-◌, ◌≤◌, length, List, [], ◌∷◌, ◌++◌, take, drop, reverse, Bool, true, false, ◌||◌, refl, ap, sym, ◌∙◌, subst, arith, codes, append_assoc, append-nil}
 use Rattle.std.proofs.lemmas.Bool.{false≢true}
 use Rattle.std.proofs.lemmas.List.{length-append}
-use Rattle.cpp_grammar.specs.Term.{Term, within, instance, source, constructor, destructor}
+use Rattle.cpp_grammar.specs.Term.{Term, within, instance, source, operator, constructor, destructor}
+use Rattle.cpp_grammar.specs.Texts.{look_up, operator_texts, same_bytes}
 use Rattle.cpp_grammar.specs.Parts.{source_text}
 use Rattle.cpp_grammar.specs.Scope.{arguments_of, has_return_type, is_structor}
 use Rattle.cpp_grammar.specs.Values as values
@@ -18,8 +19,9 @@ use Rattle.cpp_direct.specs.Ways.{AwaitsClass, IsNestNamed}
 use Rattle.cpp_direct.specs.Written.{Writes, Reads}
 use Rattle.cpp_direct.proofs.Kept.{piece-found, candidates-stay}
 use Rattle.cpp_direct.proofs.Moves.{stands-join}
-use Rattle.cpp_direct.proofs.MovesOfComponents.{component-source, component-internal, component-constructor, component-destructor}
-use Rattle.cpp_direct.proofs.PrintedNests.{within-prints, within-class, constructor-prints, destructor-prints}
+use Rattle.cpp_direct.proofs.MovesOfComponents.{component-source, component-internal, component-operator, component-constructor, component-destructor}
+use Rattle.cpp_direct.proofs.Operators.{IsOperator, operator-listed}
+use Rattle.cpp_direct.proofs.PrintedNests.{IsPiece, source-piece, operator-piece, within-prints, within-class, constructor-prints, destructor-prints}
 
 -- ## Pieces of a text
 
@@ -193,20 +195,18 @@ class-named s old between new p w text candidates waiting at nest_from purpose f
     (piece-found old.text.items p.class_front p.class p.class_back old.nest.class_from old.nest.class_to p.class_written p.class_from p.class_to).2 g)
     (rw (at, w.at) refl) (rw (from, w.nest) refl) (rw (to, w.nest) refl) unlisted classless no_instance
 
--- ## A name
+-- ## A piece of a name
 
--- A name is written behind the name so far.
-source-named : (s : List ℕ) (old new : Direct) (st : State) (t : Term) (internal : Bool) (name front bytes : List ℕ) (around : Around)
-    (outer : List Opened)
+-- A piece is written behind the name so far.
+piece-named : (s : List ℕ) (old new : Direct) (st : State) (t piece : Term) (x front bytes : List ℕ) (around : Around) (outer : List Opened)
     → AreCandidates old.text.items old.candidates.items st.candidates → old.text.items ≡ front ++ bytes
     → IsNest front bytes old.text.items old.nest t → Serves s old.nest.purpose (Stands s (reverse old.waiting.items)) outer front
-    → Goes old new (codes "::" ++ source_text name) → NestNamed s outer around (within t (source internal name)) new.at st → name ≢ []
+    → Goes old new (codes "::" ++ x) → NestNamed s outer around (within t piece) new.at st → IsPiece piece x
     → new.nest.class_from ≡ length (old.text.items ++ codes "::") → new.nest.class_to ≡ length new.text.items → new.nest.is_listed ≡ false
     → new.nest.has_class ≡ true → new.nest.is_instance ≡ false → IsNestNamed s new
 unfolding has_return_type arguments_of
-source-named s old new st t internal name front bytes around outer candidates before is serves g named filled from to unlisted has no_instance =
+piece-named s old new st t piece x front bytes around outer candidates before is serves g named is_piece from to unlisted has no_instance =
     let m : List ℕ = codes "::" in
-    let x : List ℕ = source_text name in
     let written : new.text.items ≡ front ++ (bytes ++ m ++ x)
     = g.text ∙ ap (λ l. l ++ (m ++ x)) before ∙ append_assoc front bytes (m ++ x) ∙ ap (λ l. front ++ l) (sym (append_assoc bytes m x)) in
     let class_written : new.text.items ≡ (old.text.items ++ m) ++ x = g.text ∙ sym (append_assoc old.text.items m x) in
@@ -215,7 +215,7 @@ source-named s old new st t internal name front bytes around outer candidates be
       candidates = candidates-go old new (m ++ x) st.candidates g candidates;
       around = around;
       outer = outer;
-      own = within t (source internal name);
+      own = within t piece;
       named = named;
       front = front;
       bytes = bytes ++ m ++ x;
@@ -224,14 +224,14 @@ source-named s old new st t internal name front bytes around outer candidates be
         back = [];
         written = written ∙ sym (append-nil (front ++ (bytes ++ m ++ x)));
         from_is = g.from ∙ is.from_is;
-        prints = within-prints t bytes is.prints internal name filled;
+        prints = within-prints t bytes is.prints piece x is_piece;
         class_front = old.text.items ++ m;
         class = x;
         class_back = [];
         class_written = class_written ∙ sym (append-nil (old.text.items ++ m ++ x));
         class_from = from;
         class_to = to ∙ ap length class_written ∙ length-append (old.text.items ++ m) x;
-        names_class = λ e. within-class t bytes is.prints internal name filled;
+        names_class = λ e. within-class t bytes is.prints piece x is_piece;
       };
       unlisted = unlisted;
       no_instance = no_instance;
@@ -250,6 +250,29 @@ pub moves-to : (old new : Direct) (at by : ℕ) → new ≡ record old { at = at
 moves-to old new at by same e =
     subst (λ (d : Direct). Moves old d by) (sym same) (record { text = refl; candidates = refl; waiting = refl; nest = refl; at = e })
 
+-- The same of a writer that goes on so.
+piece-follows : (s : List ℕ) (old start marked read new : Direct) (by : ℕ) (piece : Term) (x : List ℕ) (p : IsWriting s old steps.Component)
+    → IsPiece piece x → Moves old start by → Writes start marked (codes "::") → Reads marked read x
+    → NestNamed s p.is_before.4 p.is_before.3 (within p.is_before.0 piece) new.at p.state
+    → new.text.items ≡ read.text.items → new.candidates.items ≡ read.candidates.items → new.waiting.items ≡ read.waiting.items
+    → new.nest.from ≡ read.nest.from → new.nest.purpose ≡ read.nest.purpose
+    → new.nest.class_from ≡ length marked.text.items → new.nest.class_to ≡ length read.text.items → new.nest.is_listed ≡ false
+    → new.nest.has_class ≡ true → new.nest.is_instance ≡ false → IsNestNamed s new
+piece-follows s old start marked read new by piece x p is m w r named text candidates waiting nest_from purpose from to unlisted has no_instance =
+    let b = p.is_before in
+    let m1 : marked.text.items ≡ old.text.items ++ codes "::" = rw (w.text, m.text) refl in
+    let g : Goes old new (codes "::" ++ x) = record {
+      text = text ∙ r.text ∙ ap (λ l. l ++ x) m1 ∙ append_assoc old.text.items (codes "::") x;
+      candidates = rw (candidates, r.candidates, w.candidates, m.candidates) refl;
+      waiting = rw (waiting, r.waiting, w.waiting, m.waiting) refl;
+      from = rw (nest_from, r.nest, w.nest, m.nest) refl;
+      purpose = rw (purpose, r.nest, w.nest, m.nest) refl;
+    } in
+    piece-named s old new p.state b.0 piece x b.1 b.2 b.3 b.4 p.candidates b.5 b.6 b.8 g named is (from ∙ ap length m1) (to ∙ ap length (sym text))
+    unlisted has no_instance
+
+-- ## A name
+
 -- what a name in a nested one is read as
 source-read : (s : List ℕ) (os : List Opened) (around : Around) (t : Term) (at : ℕ) (st : State) (a : AwaitsComponent s os around t at st)
     → (internal : Bool) (name : List ℕ) (to from end : ℕ) → (internal ≡ true → StandsAt s at (76 ∷ [])) → IsNameAt s from name to
@@ -264,7 +287,7 @@ source-read s os around t at st a false name to from end letter is moved same =
     none : from ≡ at + 0 → from ≡ at
     none e = omega (arith, e)
 
--- The same of a writer that goes on so.
+-- A name follows the name so far.
 pub source-follows : (s : List ℕ) (old start marked read new : Direct) (internal : Bool) → IsWriting s old steps.Component
     → (internal ≡ true → StandsAt s old.at (76 ∷ [])) → Moves old start (letters internal) → Writes start marked (codes "::")
     → (name : List ℕ) → IsNameAt s marked.at name read.at → name ≢ [] → Reads marked read (source_text name)
@@ -275,14 +298,31 @@ pub source-follows : (s : List ℕ) (old start marked read new : Direct) (intern
 source-follows s old start marked read new internal p letter m w name is filled r text candidates waiting at nest_from purpose from to unlisted has
     no_instance =
     let b = p.is_before in
-    let m1 : marked.text.items ≡ old.text.items ++ codes "::" = rw (w.text, m.text) refl in
-    let g : Goes old new (codes "::" ++ source_text name) = record {
-      text = text ∙ r.text ∙ ap (λ l. l ++ source_text name) m1 ∙ append_assoc old.text.items (codes "::") (source_text name);
-      candidates = rw (candidates, r.candidates, w.candidates, m.candidates) refl;
-      waiting = rw (waiting, r.waiting, w.waiting, m.waiting) refl;
-      from = rw (nest_from, r.nest, w.nest, m.nest) refl;
-      purpose = rw (purpose, r.nest, w.nest, m.nest) refl;
-    } in
-    source-named s old new p.state b.0 internal name b.1 b.2 b.3 b.4 p.candidates b.5 b.6 b.8 g
+    piece-follows s old start marked read new (letters internal) (source internal name) (source_text name) p (source-piece internal name filled) m w r
     (source-read s b.4 b.3 b.0 old.at p.state b.7 internal name read.at marked.at new.at letter is (w.at ∙ m.at) at)
-    filled (from ∙ ap length m1) (to ∙ ap length (sym text)) unlisted has no_instance
+    text candidates waiting nest_from purpose from to unlisted has no_instance
+
+-- ## An operator
+
+-- An operator follows the name so far.
+pub operator-follows : (s : List ℕ) (old start marked read new : Direct) (first second : ℕ) → IsWriting s old steps.Component
+    → look_up (first ∷ second ∷ []) operator_texts ≢ []
+    → same_bytes (first ∷ second ∷ []) (codes "ls") || same_bytes (first ∷ second ∷ []) (codes "lt") ≡ false
+    → (first ≢ 0 → StandsAt s old.at (first ∷ [])) → (second ≢ 0 → StandsAt s (old.at + 1) (second ∷ []))
+    → Writes start marked (codes "::") → Moves old start 2
+    → Writes marked read (codes "operator" ++ look_up (first ∷ second ∷ []) operator_texts)
+    → new.text.items ≡ read.text.items → new.candidates.items ≡ read.candidates.items → new.waiting.items ≡ read.waiting.items
+    → new.at ≡ read.at → new.nest.from ≡ read.nest.from → new.nest.purpose ≡ read.nest.purpose
+    → new.nest.class_from ≡ length marked.text.items → new.nest.class_to ≡ length read.text.items → new.nest.is_listed ≡ false
+    → new.nest.has_class ≡ true → new.nest.is_instance ≡ false → IsNestNamed s new
+operator-follows s old start marked read new first second p known plain letter next w m r text candidates waiting at nest_from purpose from to
+    unlisted has no_instance =
+    let b = p.is_before in
+    let is : IsOperator first second = operator-listed first second known in
+    piece-follows s old start marked read new 2 (operator first second) (codes "operator" ++ look_up (first ∷ second ∷ []) operator_texts) p
+    (operator-piece first second plain) m w
+    (record { text = r.text; candidates = r.candidates; waiting = r.waiting; nest = r.nest; most = r.most })
+    (component-named s b.4 b.3 b.0 (within b.0 (operator first second)) old.at p.state b.7 (old.at + 2) new.at (at ∙ r.at ∙ w.at ∙ m.at)
+    (component-operator s b.7.inner b.3 b.0 old.at p.state first second is b.7.awaits
+    (stands-join s old.at (first ∷ []) (second ∷ []) (letter is.first_filled) (next is.second_filled))))
+    text candidates waiting nest_from purpose from to unlisted has no_instance

@@ -3,10 +3,10 @@ use Rattle.std.proofs.Common.{◌≡◌, ◌≢◌, refl, ap, sym, ◌∙◌, �
 use Rattle.std.proofs.lemmas.Bool.{eqb-true}
 use Rattle.sym_print.specs.Unfold.{text}
 use Rattle.sym_print.specs.Unshared.{text_of, cost_of}
-use Rattle.cpp_grammar.specs.Term.{alone, in_std, abbreviation, source, builtin}
+use Rattle.cpp_grammar.specs.Term.{alone, in_std, abbreviation, source, operator, builtin}
 use Rattle.cpp_grammar.specs.Scope.{is_open, pack_length}
 use Rattle.cpp_grammar.specs.References.{is_function_type}
-use Rattle.cpp_grammar.specs.Texts.{look_up, abbreviation_texts, builtin_texts, same_bytes}
+use Rattle.cpp_grammar.specs.Texts.{look_up, abbreviation_texts, builtin_texts, operator_texts, same_bytes}
 use Rattle.cpp_grammar.specs.Items.{left, right, base, piece, Context, head_with, head, is_reference, is_funarr, is_empty}
 use Rattle.cpp_grammar.specs.Meaning.{is_void}
 use Rattle.cpp_grammar.specs.Parts.{as_item, says, source_text, prefix_item, last_piece, opening_text, piece_parts, left_parts, right_parts, base_parts, parts_in, not_empty, is_plain_integer}
@@ -94,6 +94,22 @@ piece-cost c internal name = omega (
   cost_by piece c (source internal name) (text (source_text name) ∷ []) refl,
   cost_first (source_text name) [],
 )
+
+-- an operator as a piece
+pub operator-text : (c : Context) (first second : ℕ)
+    → text_of (in_form piece c (operator first second)) ≡ codes "operator" ++ look_up (first ∷ second ∷ []) operator_texts
+unfolding parts_in piece_parts
+operator-text c first second =
+    let x : List ℕ = codes "operator" ++ look_up (first ∷ second ∷ []) operator_texts in
+    text_by piece c (operator first second) (text x ∷ []) refl ∙ text_alone x
+
+-- and what it costs
+pub operator-cost : (c : Context) (first second : ℕ)
+    → cost_of (in_form piece c (operator first second)) ≡ 1 + length (codes "operator" ++ look_up (first ∷ second ∷ []) operator_texts)
+unfolding parts_in piece_parts not_empty
+operator-cost c first second =
+    let x : List ℕ = codes "operator" ++ look_up (first ∷ second ∷ []) operator_texts in
+    omega (arith, cost_by piece c (operator first second) (text x ∷ []) refl, cost_first x [])
 
 std-left : (c : Context) (internal : Bool) (name : List ℕ)
     → text_of (in_form left c (in_std (source internal name))) ≡ codes "std::" ++ source_text name

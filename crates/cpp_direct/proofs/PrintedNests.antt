@@ -1,95 +1,131 @@
 -- Names in other names, constructors and destructors, and names with arguments.
-use Rattle.std.proofs.Common.{◌≡◌, ◌≢◌, refl, ap, sym, ◌∙◌, ℕ, ◌+◌, ◌*◌, ◌≤◌, List, [], ◌∷◌, ◌++◌, length, Bool, false, arith, codes, length-append, append-nil, append_assoc}
+use Rattle.std.proofs.Common.{◌≡◌, ◌≢◌, refl, ap, sym, ◌∙◌, ℕ, ◌+◌, ◌*◌, ◌≤◌, List, [], ◌∷◌, ◌++◌, length, Bool, false, ◌||◌, None, arith, codes, length-append, append-nil, append_assoc}
 use Rattle.sym_print.specs.declared.detail.Detail.TheVariants.{Full}
 use Rattle.sym_print.specs.Unfold.{text}
 use Rattle.sym_print.specs.Unshared.{text_of, cost_of}
-use Rattle.cpp_grammar.specs.Term.{Term, within, instance, source, constructor, destructor}
+use Rattle.cpp_grammar.specs.Term.{Term, within, instance, source, operator, constructor, destructor}
 use Rattle.cpp_grammar.specs.Scope.{is_open, pack_length, first_of}
 use Rattle.cpp_grammar.specs.References.{is_function_type}
+use Rattle.cpp_grammar.specs.Texts.{look_up, operator_texts, same_bytes}
 use Rattle.cpp_grammar.specs.Items.{left, right, base, piece, first, Context, head_with, head, is_reference, is_funarr, is_empty}
 use Rattle.cpp_grammar.specs.Meaning.{is_void}
 use Rattle.cpp_grammar.specs.Parts.{as_item, says, list_part, source_text, prefix_item, last_piece, opening_text, piece_parts, within_parts, base_within, instance_parts, left_parts, right_parts, base_parts, parts_in, not_empty, is_plain_integer}
 use Rattle.cpp_direct.specs.Prints.{in_form, Prints, NamesClass, list_of, PrintAll}
 use Rattle.cpp_direct.proofs.PrintedParts.{printed_by, text_by, cost_by, text_alone, cost_first, text_append, cost_append}
-use Rattle.cpp_direct.proofs.PrintedNames.{source-filled, piece-text, piece-cost}
+use Rattle.cpp_direct.proofs.PrintedNames.{source-filled, piece-text, piece-cost, operator-text, operator-cost}
 use Rattle.cpp_direct.proofs.PrintedLists.{list-text, list-cost, list-closed, list-packless}
 
 -- a text, a mark and a text
 joins : (x m y b n : List ℕ) → x ≡ b → y ≡ n → x ++ (m ++ (y ++ [])) ≡ b ++ m ++ n
 joins x m y b n e f = rw (e, f, append-nil n) (sym (append_assoc b m n))
 
--- ## A name in a name
+-- ## A piece in a name
 
-within-is : (c : Context) (t : Term) (internal : Bool) (name : List ℕ) → prefix_item c t ≡ as_item left c t
-    → within_parts c t (source internal name) ≡ as_item left c t ∷ says "::" ∷ as_item piece c (source internal name) ∷ []
-unfolding within_parts
-within-is c t internal name e = ap (λ i. i ∷ says "::" ∷ as_item piece c (source internal name) ∷ []) e
+-- a piece of a name, with its text, that is printed behind colons
+pub record IsPiece (p : Term) (x : List ℕ) : Type 0 where
+  pub piece_text : (context : Context) → text_of (in_form piece context p) ≡ x
+  pub piece_cost : (context : Context) → cost_of (in_form piece context p) ≡ 1 + length x
+  pub within_is : (context : Context) (t : Term) → within_parts context t p ≡ prefix_item context t ∷ says "::" ∷ as_item piece context p ∷ []
+  pub base_is : (context : Context) (t : Term) → base_within context t p ≡ text x ∷ []
+  pub filled : 1 ≤ length x
+  pub is_closed : is_open p ≡ false
+  pub packless : (scope : Term) → pack_length scope p ≡ None
+  pub opening : opening_text p ≡ codes "<"
 
-within-text : (t : Term) (b : List ℕ) → Prints t b false → (internal : Bool) (name : List ℕ) (c : Context)
-    → text_of (in_form left c (within t (source internal name))) ≡ b ++ codes "::" ++ source_text name
+-- a source name is one
+pub source-piece : (internal : Bool) (name : List ℕ) → name ≢ [] → IsPiece (source internal name) (source_text name)
+unfolding within_parts base_within piece_parts is_open pack_length opening_text
+source-piece internal name filled = record {
+  piece_text = λ c. piece-text c internal name;
+  piece_cost = λ c. piece-cost c internal name;
+  within_is = λ c t. refl;
+  base_is = λ c t. refl;
+  filled = source-filled name filled;
+  is_closed = refl;
+  packless = λ scope. refl;
+  opening = refl;
+}
+
+-- and so is an operator, but for << and <, behind which a blank stands before arguments
+pub operator-piece : (a b : ℕ) → same_bytes (a ∷ b ∷ []) (codes "ls") || same_bytes (a ∷ b ∷ []) (codes "lt") ≡ false
+    → IsPiece (operator a b) (codes "operator" ++ look_up (a ∷ b ∷ []) operator_texts)
+unfolding within_parts base_within piece_parts is_open pack_length opening_text
+operator-piece a b plain = record {
+  piece_text = λ c. operator-text c a b;
+  piece_cost = λ c. operator-cost c a b;
+  within_is = λ c t. refl;
+  base_is = λ c t. refl;
+  filled = omega (arith, length-append (codes "operator") (look_up (a ∷ b ∷ []) operator_texts));
+  is_closed = refl;
+  packless = λ scope. refl;
+  opening = rw plain refl;
+}
+
+within-is : (c : Context) (t p : Term) (x : List ℕ) → IsPiece p x → prefix_item c t ≡ as_item left c t
+    → within_parts c t p ≡ as_item left c t ∷ says "::" ∷ as_item piece c p ∷ []
+within-is c t p x is e = is.within_is c t ∙ ap (λ i. i ∷ says "::" ∷ as_item piece c p ∷ []) e
+
+within-text : (t : Term) (b : List ℕ) → Prints t b false → (p : Term) (x : List ℕ) → IsPiece p x → (c : Context)
+    → text_of (in_form left c (within t p)) ≡ b ++ codes "::" ++ x
 unfolding parts_in left_parts not_empty
-within-text t b p internal name c =
-    text_by left c (within t (source internal name)) (as_item left c t ∷ says "::" ∷ as_item piece c (source internal name) ∷ [])
-    (within-is c t internal name (p.as_prefix c))
-    ∙ joins (text_of (in_form left c t)) (codes "::") (text_of (in_form piece c (source internal name))) b (source_text name) (p.left_text c)
-    (piece-text c internal name)
+within-text t b prints p x is c =
+    text_by left c (within t p) (as_item left c t ∷ says "::" ∷ as_item piece c p ∷ []) (within-is c t p x is (prints.as_prefix c))
+    ∙ joins (text_of (in_form left c t)) (codes "::") (text_of (in_form piece c p)) b x (prints.left_text c) (is.piece_text c)
 
-within-cost : (t : Term) (b : List ℕ) → Prints t b false → (internal : Bool) (name : List ℕ) (c : Context)
-    → cost_of (in_form left c (within t (source internal name))) ≡ cost_of (in_form left c t) + 4 + length (source_text name)
+within-cost : (t : Term) (b : List ℕ) → Prints t b false → (p : Term) (x : List ℕ) → IsPiece p x → (c : Context)
+    → cost_of (in_form left c (within t p)) ≡ cost_of (in_form left c t) + 4 + length x
 unfolding parts_in left_parts not_empty
-within-cost t b p internal name c =
+within-cost t b prints p x is c =
     omega (
       arith,
-      cost_by left c (within t (source internal name)) (as_item left c t ∷ says "::" ∷ as_item piece c (source internal name) ∷ [])
-          (within-is c t internal name (p.as_prefix c)),
-      piece-cost c internal name,
+      cost_by left c (within t p) (as_item left c t ∷ says "::" ∷ as_item piece c p ∷ []) (within-is c t p x is (prints.as_prefix c)),
+      is.piece_cost c,
     )
 
--- A name in a class or a namespace prints both.
-pub within-prints : (t : Term) (b : List ℕ) → Prints t b false → (internal : Bool) (name : List ℕ) → name ≢ []
-    → Prints (within t (source internal name)) (b ++ codes "::" ++ source_text name) false
+-- A piece in a class or a namespace prints both.
+pub within-prints : (t : Term) (b : List ℕ) → Prints t b false → (p : Term) (x : List ℕ) → IsPiece p x
+    → Prints (within t p) (b ++ codes "::" ++ x) false
 unfolding parts_in left_parts right_parts not_empty head head_with is_reference is_funarr is_empty is_open pack_length first_of is_function_type
-    prefix_item last_piece opening_text is_void is_plain_integer
-within-prints t b p internal name filled = let w = within t (source internal name) in record {
-  left_text = within-text t b p internal name;
+    prefix_item last_piece is_void is_plain_integer
+within-prints t b prints p x is = let w = within t p in record {
+  left_text = within-text t b prints p x is;
   right_text = λ c. text_by right c w [] refl;
   cost = λ c. omega (
     arith,
-    p.cost c,
-    within-cost t b p internal name c,
+    prints.cost c,
+    within-cost t b prints p x is c,
     cost_by right c w [] refl,
-    source-filled name filled,
-    length-append (b ++ codes "::") (source_text name),
+    is.filled,
+    length-append (b ++ codes "::") x,
     length-append b (codes "::"),
   );
   is_reference_head = λ c. refl;
   is_funarr_head = λ c. refl;
   filled = λ c. refl;
-  is_closed = rw p.is_closed refl;
-  packless = λ scope. rw (p.packless scope) refl;
+  is_closed = rw (prints.is_closed, is.is_closed) refl;
+  packless = λ scope. rw (prints.packless scope, is.packless scope) refl;
   no_function = refl;
   as_prefix = λ c. refl;
-  opening = refl;
+  opening = is.opening;
   void = λ e. cc e;
   integer = λ e. cc e;
 }
 
 -- It names its class without what it stands in.
-pub within-class : (t : Term) (b : List ℕ) → Prints t b false → (internal : Bool) (name : List ℕ) → name ≢ []
-    → NamesClass (within t (source internal name)) (source_text name)
-unfolding parts_in right_parts base_parts base_within piece_parts not_empty
-within-class t b p internal name filled = let w = within t (source internal name) in record {
-  base_text = λ c. text_by base c w (text (source_text name) ∷ []) refl ∙ text_alone (source_text name);
+pub within-class : (t : Term) (b : List ℕ) → Prints t b false → (p : Term) (x : List ℕ) → IsPiece p x → NamesClass (within t p) x
+unfolding parts_in right_parts base_parts not_empty
+within-class t b prints p x is = let w = within t p in record {
+  base_text = λ c. text_by base c w (text x ∷ []) (is.base_is c t) ∙ text_alone x;
   base_cost = λ c. omega (
     arith,
-    p.cost c,
-    within-cost t b p internal name c,
+    prints.cost c,
+    within-cost t b prints p x is c,
     cost_by right c w [] refl,
-    source-filled name filled,
-    cost_by base c w (text (source_text name) ∷ []) refl,
-    cost_first (source_text name) [],
-    ap length (within-text t b p internal name c),
-    length-append (b ++ codes "::") (source_text name),
+    is.filled,
+    cost_by base c w (text x ∷ []) (is.base_is c t),
+    cost_first x [],
+    ap length (within-text t b prints p x is c),
+    length-append (b ++ codes "::") x,
     length-append b (codes "::"),
   );
 }

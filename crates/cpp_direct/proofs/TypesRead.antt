@@ -32,6 +32,7 @@ use Rattle.cpp_direct.proofs.Kept.{arguments-begun, piece-found, candidates-stay
 use Rattle.cpp_direct.proofs.Moves.{expects-empty, stands-join}
 use Rattle.cpp_direct.proofs.MovesOfLists.{arguments-open}
 use Rattle.cpp_direct.proofs.MovesOfTypes.{solid-opens, builtin-comes, builtin-with-d-comes, pointer-opens, lvalue-opens, rvalue-opens, const-opens, source-opens, std-opens, abbreviation-opens, substitution-opens, nested-type-opens}
+use Rattle.cpp_direct.proofs.PrintedLetters.{is_pair, are_pairs, pair-listed}
 use Rattle.cpp_direct.proofs.PrintedLists.{none-print}
 use Rattle.cpp_direct.proofs.PrintedNames.{source-prints, std-prints, abbreviation-prints, builtin-prints, builtin-with-d-prints}
 
@@ -214,40 +215,10 @@ pub builtin-listed : (letter : ℕ) → look_up (letter ∷ []) builtin_texts �
 unfolding is_builtin builtin_texts code_in codes_in among
 builtin-listed letter has = letter-listed builtin_texts (codes "abcdefghijlmnostvwxyz") letter refl has
 
-pair_in : List ℕ → List ℕ → Bool
-pair_in (c ∷ d ∷ []) cs = among cs d
-pair_in _ cs = true
-
-pairs_in : List Naming → List ℕ → Bool
-pairs_in [] cs = true
-pairs_in (n ∷ rest) cs = pair_in n.code cs && pairs_in rest cs
-
--- where the second letters of all codes of two letters are among some, one that is found there is
-pair-listed : (table : List Naming) (cs : List ℕ) (first letter : ℕ) → pairs_in table cs ≡ true → look_up (first ∷ letter ∷ []) table ≢ []
-    → among cs letter ≡ true
-unfolding look_up same_bytes pair_in pairs_in
-pair-listed [] cs first letter all has = absurd (has refl)
-pair-listed (n ∷ rest) cs first letter all has =
-    let both = and_parts (pair_in n.code cs) (pairs_in rest cs) all in
-    go n.code both.0 (same_bytes (first ∷ letter ∷ []) n.code) refl has (pair-listed rest cs first letter both.1)
-  where
-    go : (code : List ℕ) → pair_in code cs ≡ true → (b : Bool) → same_bytes (first ∷ letter ∷ []) code ≡ b
-        → ◌≢◌ {A = List ℕ} (elim b [ true ↦ n.text | false ↦ look_up (first ∷ letter ∷ []) rest ]) []
-        → (look_up (first ∷ letter ∷ []) rest ≢ [] → among cs letter ≡ true)
-        → among cs letter ≡ true
-    go code has_code false same filled later = later filled
-    go [] has_code true same filled later = absurd (false≢true same)
-    go (c ∷ []) has_code true same filled later = absurd (false≢true ((and_parts (nat_eq first c) false same).1))
-    go (c ∷ d ∷ []) has_code true same filled later =
-        subst (λ l. among cs l ≡ true) (sym (eqb-true letter d ((and_parts (nat_eq letter d) true
-        ((and_parts (nat_eq first c) (nat_eq letter d && true) same).1)).0))) has_code
-    go (c ∷ d ∷ e ∷ es) has_code true same filled later =
-        absurd (false≢true ((and_parts (nat_eq letter d) false ((and_parts (nat_eq first c) (nat_eq letter d && false) same).1)).1))
-
 -- a letter with such a text behind a D is one of these
 builtin-with-d-listed : (letter : ℕ) → look_up (68 ∷ letter ∷ []) builtin_texts ≢ [] → is_builtin_with_d letter ≡ true
-unfolding is_builtin_with_d builtin_texts pair_in pairs_in among
-builtin-with-d-listed letter has = pair-listed builtin_texts (codes "acinsu") 68 letter refl has
+unfolding is_builtin_with_d builtin_texts are_pairs is_pair among
+builtin-with-d-listed letter has = pair-listed builtin_texts (λ first second. is_builtin_with_d second) 68 letter refl has
 
 -- and so is one of an abbreviation
 pub abbreviation-listed : (letter : ℕ) → look_up (letter ∷ []) abbreviation_texts ≢ [] → is_abbreviated letter ≡ true

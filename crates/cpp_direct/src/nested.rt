@@ -167,7 +167,7 @@ impl Direct {
     }
 
     /// Reads a component of a nested name.
-    // <unqualified-name> ::= <source-name> | <ctor-dtor-name>
+    // <unqualified-name> ::= <source-name> | <operator-name> | <ctor-dtor-name>
     pub(crate) fn component_at(&mut self, s: &[u8]) -> Option<Step>
         requires fits { FitsSymbol s.now }
         requires writing { IsWriting s.now self.old steps.Component }
@@ -177,6 +177,7 @@ impl Direct {
             b'C' => self.constructor(s),
             b'D' => self.destructor(s),
             b'L' => self.source(s, true),
+            b'a'..=b'z' => self.operator(s),
             _ => self.source(s, false),
         }
     }
@@ -195,6 +196,34 @@ impl Direct {
         self.push(b"::")?;
         let class_from = self.text.len();
         self.name(s)?;
+        self.nest = Nest {
+            class_from,
+            class_to: self.text.len(),
+            is_listed: false,
+            has_class: true,
+            is_instance: false,
+            ..self.nest
+        };
+        self.nest_named(s)
+    }
+
+    /// Reads an operator, but for << and <: a blank stands between these and the arguments behind them.
+    // <operator-name> ::= nw | na | dl | da | ps | ng | ..
+    fn operator(&mut self, s: &[u8]) -> Option<Step>
+        requires { IsWriting s.now self.old steps.Component }
+        ensures { IfSome result (IsWriting s.now self.new) }
+    {
+        let first = byte_at(s, self.at);
+        self.at = self.at.checked_add(1)?;
+        let second = byte_at(s, self.at);
+        let text = cpp_layout::operator_text(first, second);
+        if text.is_empty() || cpp_layout::is_angle_code(first, second) {
+            return None;
+        }
+        self.at = self.at.checked_add(1)?;
+        self.push(b"::")?;
+        let class_from = self.text.len();
+        self.push(text)?;
         self.nest = Nest {
             class_from,
             class_to: self.text.len(),

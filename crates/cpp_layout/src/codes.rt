@@ -1,7 +1,7 @@
 // The texts of codes. A code that isn't in the tables has no text.
 #![tactic(auto)]
 
-ghost use Rattle.std.specs.Prelude.{◌≡◌, ◌<◌, ◌∷◌, ◌++◌, [], codes, drop, ◌||◌};
+ghost use Rattle.std.specs.Prelude.{◌≡◌, ◌≢◌, ◌<◌, ◌∷◌, ◌++◌, [], codes, drop, ◌||◌};
 ghost use Rattle.cpp_grammar.specs.Texts.{look_up, same_bytes, builtin_texts, operator_texts, abbreviation_texts, special_texts, literal_endings};
 ghost use Rattle.cpp_term.specs.Term.{builtin};
 ghost use Rattle.cpp_term.specs.Parts.{is_plain_integer};
@@ -140,7 +140,7 @@ pub(crate) fn is_plain(letter: u8) -> bool
 }
 
 /// Whether it is the code of the operator << or <.
-pub(crate) fn is_angle_code(first: u8, second: u8) -> bool
+pub fn is_angle_code(first: u8, second: u8) -> bool
     ensures { result ≡ same_bytes (first ∷ second ∷ []) (codes "ls") || same_bytes (first ∷ second ∷ []) (codes "lt") }
 {
     if first != b'l' {
@@ -251,6 +251,18 @@ pub fn abbreviation_text(letter: u8) -> &'static [u8]
     ensures { result.now ≡ look_up (letter ∷ []) abbreviation_texts }
 {
     texts::fixed_text(abbreviation(letter))
+}
+
+/// The name of an operator, by the two letters of its code, or none.
+pub fn operator_text(first: u8, second: u8) -> &'static [u8]
+    ensures known { result.now ≢ [] → look_up (first ∷ second ∷ []) operator_texts ≢ [] }
+    ensures text { result.now ≢ [] → result.now ≡ codes "operator" ++ look_up (first ∷ second ∷ []) operator_texts }
+{
+    let text = texts::fixed_text(operator(first, second));
+    if text.len() <= b"operator".len() {
+        return b"";
+    }
+    text
 }
 
 /// The text before the type of a special name, by the letter behind its T, or none.

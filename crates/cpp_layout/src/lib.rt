@@ -17,7 +17,10 @@ mod symbol;
 mod texts;
 mod types;
 
-pub use codes::{abbreviation_text, builtin_text, builtin_with_d_text, ending_text, special_text};
+pub use codes::{
+    abbreviation_text, builtin_text, builtin_with_d_text, ending_text, is_angle_code,
+    operator_text, special_text,
+};
 pub use context::Context;
 pub use cpp_tree::node::{Adjustment, Signed, Thunk};
 pub use cpp_views::{Node, equal_trees_have_equal_views, fields_make_the_tree, tree_production};
