@@ -1,5 +1,6 @@
 -- The parts of names.
-use Rattle.std.proofs.Common.{◌≡◌, refl, sym, ◌∙◌, ap, subst, ℕ, List, [], ◌∷◌, ◌++◌, Bool, true, false, nat_eq, ◌&&◌, ◌||◌, cond, codes, decimal, if◌then◌else◌, Option}
+use Rattle.std.proofs.Common.{◌≡◌, ◌≢◌, ◌<◌, refl, sym, ◌∙◌, ap, subst, arith, slice_index, length, ℕ, List, [], ◌∷◌, ◌++◌, Bool, true, false, nat_eq, ◌&&◌, ◌||◌, cond, codes, decimal, if◌then◌else◌, Option}
+use Rattle.std.proofs.lemmas.Bool.{eqb-true}
 use Rattle.std.specs.List.{starts_with}
 use Rattle.sym_core.specs.declared.Span.{Span}
 use Rattle.sym_print.specs.Unfold.{text}
@@ -23,6 +24,16 @@ unfolding begins_with
 begins [] ys = refl
 begins (x ∷ xs) [] = refl
 begins (x ∷ xs) (y ∷ ys) = ap (λ b. nat_eq x y && b) (begins xs ys)
+
+-- what doesn't begin with its first byte doesn't begin so
+pub begins-otherwise : (x : ℕ) (xs ys : List ℕ) → (0 < length ys → slice_index ys 0 ≢ x) → begins_with (x ∷ xs) ys ≡ false
+unfolding begins_with
+begins-otherwise x xs [] other = refl
+begins-otherwise x xs (y ∷ ys) other = go (nat_eq x y) refl
+  where
+    go : (b : Bool) → nat_eq x y ≡ b → (nat_eq x y && begins_with xs ys) ≡ false
+    go false e = rw e refl
+    go true e = absurd (other (omega arith) (sym (eqb-true x y e)))
 
 pub source-anonymous : (name : List ℕ) → begins_with (codes "_GLOBAL__N") name ≡ true → fixed_text 36 ≡ source_text name
 unfolding source_text

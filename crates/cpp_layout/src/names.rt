@@ -27,6 +27,10 @@ use sym_print::{Detail, Part, PartList};
 fn is_anonymous(name: &[u8]) -> bool
     ensures { result ≡ begins_with (codes "_GLOBAL__N") name.now }
 {
+    // the first byte tells it of most names
+    if name.is_empty() || name[0] != b'_' {
+        return false;
+    }
     name.starts_with(b"_GLOBAL__N")
 }
 
