@@ -10,11 +10,11 @@ use Rattle.cpp_grammar.specs.declared.kind.Kind.{Kind}
 use Rattle.cpp_grammar.specs.Grammar.{may_be_empty}
 use Rattle.cpp_grammar.specs.Mangled.{cpp_mangled, IsAnswer}
 use Rattle.cpp_grammar.specs.Answer.{shown, root_item}
-use Rattle.cpp_grammar.specs.Term.{Term, any_value, special, alone, source, instance}
-use Rattle.cpp_grammar.specs.Parts.{source_text}
+use Rattle.cpp_grammar.specs.Term.{Term, any_value, Adjustment, non_virtual, by_table, adjusting, special, thunk, alone, source, instance}
+use Rattle.cpp_grammar.specs.Parts.{source_text, thunk_text}
 use Rattle.cpp_grammar.specs.Scope.{has_return_type, arguments_of}
 use Rattle.cpp_grammar.specs.Texts.{Naming, look_up, special_texts, same_bytes}
-use Rattle.cpp_grammar.specs.Values.{State, Value, nothing_there, tree, named, tree_of, qualifiers_of, ref_of}
+use Rattle.cpp_grammar.specs.Values.{State, Value, nothing_there, tree, named, tree_of, qualifiers_of, ref_of, signed_digits}
 use Rattle.cpp_grammar.specs.Between.{after, in_name, in_types, inside, no_items}
 use Rattle.cpp_grammar.specs.Meaning.{encoding_of}
 use Rattle.cpp_grammar.specs.Unfolding.{first_around, first_state}
@@ -25,17 +25,19 @@ use Rattle.cpp_direct.specs.declared.open.Step.{Step}
 use Rattle.cpp_direct.specs.declared.open.Step.TheVariants as steps
 use Rattle.cpp_direct.specs.declared.direct.Direct.{Direct}
 use Rattle.cpp_direct.specs.Holes.{Opened, StandsAt, Comes, Expects, IsNameAt, Named, with_candidate}
-use Rattle.cpp_direct.specs.HolesOfLists.{SymbolOpened, EncodingOpened, nest_marks}
+use Rattle.cpp_direct.specs.HolesOfLists.{SymbolOpened, EncodingOpened, IsOffsetAt, ThunkOpened, nest_marks}
 use Rattle.cpp_direct.specs.ItemBytes.{one_of, is_special_letter}
-use Rattle.cpp_direct.specs.Prints.{Prints}
+use Rattle.cpp_direct.specs.Prints.{Shows}
 use Rattle.cpp_direct.specs.Stands.{AreCandidates, Encoded, AwaitsItems, IsWhole, Stands, IsWriting, qualifiers}
-use Rattle.cpp_direct.specs.Ways.{IsFresh, AwaitsNest, IsNameEnded}
-use Rattle.cpp_direct.specs.Written.{Reads, added}
-use Rattle.cpp_direct.proofs.Kept.{arguments-begun, candidates-stay, candidates-with}
+use Rattle.cpp_direct.specs.Ways.{IsFresh, AwaitsEncoding, AwaitsSource, AwaitsNest, IsNameEnded}
+use Rattle.cpp_direct.specs.Written.{Writes, Reads, added}
+use Rattle.cpp_direct.proofs.Kept.{arguments-begun, candidates-stay, candidates-with, candidates-read, reverse-last}
+use Rattle.cpp_direct.proofs.FoundTokens.{reads-then}
 use Rattle.cpp_direct.proofs.Moves.{stands-join, expects-empty}
-use Rattle.cpp_direct.proofs.MovesOfEncodings.{symbol-starts, encoding-opens, special-opens, name-nested, name-source, name-internal}
+use Rattle.cpp_direct.proofs.MovesOfEncodings.{symbol-starts, encoding-opens, special-opens, thunk-opens, virtual-thunk-opens, name-nested, name-source, name-internal}
 use Rattle.cpp_direct.proofs.MovesOfLists.{arguments-open}
 use Rattle.cpp_direct.proofs.PrintedNames.{source-prints}
+use Rattle.cpp_direct.proofs.PrintedSymbols.{thunk-shows}
 
 -- ## Answers
 
@@ -58,23 +60,93 @@ encoded-whole s opened_ e at st comes = record {
   ends_in = λ suffix there whole is. opened_.ends_in e at suffix st comes there whole is;
 }
 
--- the encoding of a symbol
-encoding-expected : (s : List ℕ) (opened_ : SymbolOpened s) → EncodingOpened s opened_.inner 2 first_state
-encoding-expected s opened_ = encoding-opens s opened_.inner first_around 2 first_state opened_.awaits
+-- the encoding of a symbol is expected, and nothing is written yet
+pub encoding-awaited : (s : List ℕ) (w : Direct) → w.text.items ≡ [] → w.candidates.items ≡ [] → StandsAt s 0 (95 ∷ 90 ∷ []) → w.at ≡ 2
+    → AwaitsEncoding s w
+unfolding first_state
+encoding-awaited s w no_text no_candidate starts at_is =
+    let opened_ = symbol-starts s starts in
+    record {
+      state = first_state;
+      candidates = subst (λ ks. AreCandidates w.text.items ks []) (sym no_candidate) tt;
+      around = first_around;
+      outer = opened_.inner;
+      awaits = subst (λ n. Expects s Kind.Encoding first_around opened_.inner n first_state) (sym at_is) opened_.awaits;
+      onward = λ e at st comes. record {
+        made = e;
+        encoded = encoded-whole s opened_ e at st comes;
+        shows = λ bytes p. subst (λ l. Shows e (l ++ bytes)) (sym no_text) p;
+      };
+    }
+
+-- the name of an encoding is expected
+encoding-expected : (s : List ℕ) (w : Direct) (p : AwaitsEncoding s w) → EncodingOpened s p.outer w.at p.state
+encoding-expected s w p = encoding-opens s p.outer p.around w.at p.state p.awaits
 
 -- a name that comes awaits its items
-items-await : (s : List ℕ) (opened_ : SymbolOpened s) (v : Value) (at : ℕ) (st : State) → Comes s (encoding-expected s opened_).inner v at st
-    → AwaitsItems s v at st
+items-await : (s : List ℕ) (w : Direct) (p : AwaitsEncoding s w) (v : Value) (at : ℕ) (st : State) → Comes s (encoding-expected s w p).inner v at st
+    → AwaitsItems s w.text.items v at st
 unfolding in_types
-items-await s opened_ v at st comes =
-    let items = (encoding-expected s opened_).onward v at st comes in
+items-await s w p v at st comes =
+    let items = (encoding-expected s w p).onward v at st comes in
     record {
-      around = in_types 2 (tree_of v);
+      around = in_types w.at (tree_of v);
       inner = items.inner;
       outside = refl;
       awaits = items.awaits;
-      onward = λ l here now last. encoded-whole s opened_ (encoding_of v (no_items l)) here now (items.onward l here now last);
+      onward = λ l here now last. p.onward (encoding_of v (no_items l)) here now (items.onward l here now last);
     }
+
+-- ## Thunks
+
+-- the encoding that a thunk calls is expected, behind the thunk's text
+thunk-awaited : (s : List ℕ) (opened_ : SymbolOpened s) (by : Adjustment) (w : Direct)
+    → ThunkOpened s opened_.inner 2 by w.at first_state → w.text.items ≡ thunk_text (adjusting by) → w.candidates.items ≡ []
+    → AwaitsEncoding s w
+unfolding first_state
+thunk-awaited s opened_ by w thunk_ text_is no_candidate = record {
+  state = first_state;
+  candidates = subst (λ ks. AreCandidates w.text.items ks []) (sym no_candidate) tt;
+  around = in_name 2;
+  outer = thunk_.inner;
+  awaits = thunk_.awaits;
+  onward = λ e at st comes. record {
+    made = thunk (adjusting by) e;
+    encoded = encoded-whole s opened_ (thunk (adjusting by) e) at st (thunk_.onward e at st comes);
+    shows = λ bytes p. subst (λ l. Shows (thunk (adjusting by) e) (l ++ bytes)) (sym text_is) (thunk-shows (adjusting by) e bytes p);
+  };
+}
+
+-- what was read without a text and written behind it, where nothing was there before
+thunk-written : (old middle new : Direct) (text : List ℕ) → IsFresh old → Reads old middle [] → Writes middle new text
+    → (new.text.items ≡ text) × (new.candidates.items ≡ [])
+thunk-written old middle new text fresh reads writes = (
+  writes.text ∙ ap (λ l. l ++ text) (reads.text ∙ ap (λ l. l ++ []) fresh.no_text),
+  ap (λ v. v.items) writes.candidates ∙ ap (λ v. v.items) reads.candidates ∙ fresh.no_candidate,
+)
+
+-- a thunk begins
+pub thunk-begins : (s : List ℕ) (old middle new : Direct) → IsFresh old → StandsAt s 0 (95 ∷ 90 ∷ []) → StandsAt s 2 (84 ∷ []) → StandsAt s 3 (104 ∷ [])
+    → IsOffsetAt s 4 middle.at → Reads old middle [] → Writes middle new (codes "non-virtual thunk to ") → AwaitsEncoding s new
+unfolding thunk_text
+thunk-begins s old middle new fresh starts first second is reads writes =
+    let opened_ = symbol-starts s starts in
+    let by = non_virtual (signed_digits is.negative is.digits) in
+    let opens = thunk-opens s opened_.inner first_around 2 middle.at first_state opened_.awaits first second is in
+    let written = thunk-written old middle new (codes "non-virtual thunk to ") fresh reads writes in
+    thunk-awaited s opened_ by new (subst (λ n. ThunkOpened s opened_.inner 2 by n first_state) (sym writes.at) opens) written.0 written.1
+
+-- a virtual one begins
+pub virtual-thunk-begins : (s : List ℕ) (old first_ middle new : Direct) → IsFresh old → StandsAt s 0 (95 ∷ 90 ∷ []) → StandsAt s 2 (84 ∷ [])
+    → StandsAt s 3 (118 ∷ []) → IsOffsetAt s 4 first_.at → Reads old first_ [] → IsOffsetAt s first_.at middle.at → Reads first_ middle []
+    → Writes middle new (codes "virtual thunk to ") → AwaitsEncoding s new
+unfolding thunk_text
+virtual-thunk-begins s old first_ middle new fresh starts first second is reads is_then reads_then writes =
+    let opened_ = symbol-starts s starts in
+    let by = by_table (signed_digits is.negative is.digits) (signed_digits is_then.negative is_then.digits) in
+    let opens = virtual-thunk-opens s opened_.inner first_around 2 first_.at middle.at first_state opened_.awaits first second is is_then in
+    let written = thunk-written old middle new (codes "virtual thunk to ") fresh (reads-then old first_ middle [] [] reads reads_then) writes in
+    thunk-awaited s opened_ by new (subst (λ n. ThunkOpened s opened_.inner 2 by n first_state) (sym writes.at) opens) written.0 written.1
 
 -- ## Special objects
 
@@ -149,133 +221,138 @@ special-begins s w letter starts stands at_is written filled none_ waiting =
 -- ## Nested names
 
 -- the nested name of an encoding begins, of a member function that is const or not
-nested-marked : (s : List ℕ) (w : Direct) (const : Bool) → IsFresh (record w { at = 0 }) → StandsAt s 0 (95 ∷ 90 ∷ []) → StandsAt s 2 (nest_marks const)
-    → w.at ≡ 2 + length (nest_marks const) → AwaitsNest s w (purposes.Name const)
-unfolding in_name first_state
-nested-marked s w const fresh starts stands at_is =
-    let opened_ = symbol-starts s starts in
-    let encoding = encoding-expected s opened_ in
-    let nest = name-nested s encoding.inner (in_name 2) const 2 first_state encoding.awaits stands in
+nested-marked : (s : List ℕ) (old : Direct) (n : ℕ) (const : Bool) → AwaitsEncoding s old → StandsAt s old.at (nest_marks const)
+    → n ≡ old.at + length (nest_marks const) → AwaitsNest s (record old { at = n }) (purposes.Name const)
+unfolding in_name
+nested-marked s old n const p stands at_is =
+    let encoding = encoding-expected s old p in
+    let nest = name-nested s encoding.inner (in_name old.at) const old.at p.state encoding.awaits stands in
     record {
-      state = first_state;
-      candidates = subst (λ ks. AreCandidates w.text.items ks []) (sym fresh.no_candidate) tt;
-      around = in_name 2;
+      state = p.state;
+      candidates = p.candidates;
+      around = in_name old.at;
       outside = refl;
       outer = nest.inner;
-      awaits = subst (λ n. Expects s Kind.Nest (in_name 2) nest.inner n first_state) (sym at_is) nest.awaits;
-      serves = (fresh.no_text, λ t listed at st comes. items-await s opened_ (named t (qualifiers const) any_value) at st (nest.onward t listed at st comes));
+      awaits = subst (λ k. Expects s Kind.Nest (in_name old.at) nest.inner k p.state) (sym at_is) nest.awaits;
+      serves = λ t listed at st comes. items-await s old p (named t (qualifiers const) any_value) at st (nest.onward t listed at st comes);
     }
 
--- the same by the byte behind the N
-pub nested-begins : (s : List ℕ) (w : Direct) (byte : ℕ) (const : Bool) → IsFresh (record w { at = 0 }) → StandsAt s 0 (95 ∷ 90 ∷ []) → StandsAt s 2 (78 ∷ [])
-    → (byte ≢ 0 → StandsAt s 3 (byte ∷ [])) → nat_eq byte 75 ≡ const → w.at ≡ 3 + cond const 1 0 → AwaitsNest s w (purposes.Name const)
-nested-begins s w byte true fresh starts letter there is at_is =
-    let same = eqb-true byte 75 is in
-    let mark : StandsAt s 3 (75 ∷ []) = subst (λ b. StandsAt s 3 (b ∷ [])) same (there (λ e. omega (arith, e, same))) in
-    nested-marked s w true fresh starts (stands-join s 2 (78 ∷ []) (75 ∷ []) letter mark) at_is
-nested-begins s w byte false fresh starts letter there is at_is = nested-marked s w false fresh starts letter at_is
+-- one that isn't const
+pub nested-plain : (s : List ℕ) (old : Direct) (n : ℕ) → AwaitsEncoding s old → StandsAt s old.at (78 ∷ []) → n ≡ old.at + 1
+    → AwaitsNest s (record old { at = n }) (purposes.Name false)
+nested-plain s old n p letter at_is = nested-marked s old n false p letter at_is
+
+-- and one that is
+pub nested-const : (s : List ℕ) (old : Direct) (inside_ n : ℕ) → AwaitsEncoding s old → StandsAt s old.at (78 ∷ []) → inside_ ≡ old.at + 1
+    → StandsAt s inside_ (75 ∷ []) → n ≡ inside_ + 1 → AwaitsNest s (record old { at = n }) (purposes.Name true)
+nested-const s old inside_ n p letter next mark at_is =
+    nested-marked s old n true p
+    (stands-join s old.at (78 ∷ []) (75 ∷ []) letter (subst (λ k. StandsAt s k (75 ∷ [])) next mark)) (omega (arith, next, at_is))
 
 -- ## Names
 
--- the name of an encoding was read, with or without arguments behind it
-record HasName (s : List ℕ) (t : Term) (at : ℕ) : Type 0 where
+-- the name of an encoding was read behind a text, with or without arguments behind it
+record HasName (s : List ℕ) (lead : List ℕ) (encoding : ℕ) (t : Term) (at : ℕ) (st : State) : Type 0 where
   pub inner : List Opened
-  pub awaits : Expects s Kind.MaybeArguments (after t false (in_name 2)) inner at first_state
-  pub bare : (at : ℕ) (st : State) → Comes s inner nothing_there at st → AwaitsItems s (tree t false) at st
-  pub argued : (a : Term) (at : ℕ) (st : State) → Comes s inner (tree a true) at st → AwaitsItems s (tree (instance t a) false) at st
+  pub awaits : Expects s Kind.MaybeArguments (after t false (in_name encoding)) inner at st
+  pub bare : (at : ℕ) (st : State) → Comes s inner nothing_there at st → AwaitsItems s lead (tree t false) at st
+  pub argued : (a : Term) (at : ℕ) (st : State) → Comes s inner (tree a true) at st → AwaitsItems s lead (tree (instance t a) false) at st
 
-named-has : (s : List ℕ) (opened_ : SymbolOpened s) (t : Term) (at : ℕ) → Named s (encoding-expected s opened_).inner (in_name 2) t at first_state → HasName s t at
-named-has s opened_ t at is = record {
+named-has : (s : List ℕ) (w : Direct) (p : AwaitsEncoding s w) (t : Term) (at : ℕ)
+    → Named s (encoding-expected s w p).inner (in_name w.at) t at p.state → HasName s w.text.items w.at t at p.state
+named-has s w p t at is = record {
   inner = is.inner;
   awaits = is.awaits;
-  bare = λ here now comes. items-await s opened_ (tree t false) here now (is.bare here now comes);
-  argued = λ a here now comes. items-await s opened_ (tree (instance t a) false) here now (is.argued a here now comes);
+  bare = λ here now comes. items-await s w p (tree t false) here now (is.bare here now comes);
+  argued = λ a here now comes. items-await s w p (tree (instance t a) false) here now (is.argued a here now comes);
 }
 
-name-read : (s : List ℕ) (internal : Bool) (at : ℕ) (name : List ℕ) (end : ℕ) → StandsAt s 0 (95 ∷ 90 ∷ []) → (internal ≡ true → StandsAt s 2 (76 ∷ []))
-    → at ≡ 2 + cond internal 1 0 → IsNameAt s at name end → HasName s (alone (source internal name)) end
+name-has : (s : List ℕ) (internal : Bool) (w : Direct) (p : AwaitsEncoding s w) (at : ℕ) (name : List ℕ) (end : ℕ)
+    → (internal ≡ true → StandsAt s w.at (76 ∷ [])) → at ≡ w.at + cond internal 1 0 → IsNameAt s at name end
+    → HasName s w.text.items w.at (alone (source internal name)) end p.state
 unfolding in_name
-name-read s true at name end starts letter at_is is =
-    let opened_ = symbol-starts s starts in
-    let encoding = encoding-expected s opened_ in
-    named-has s opened_ (alone (source true name)) end
-    (name-internal s encoding.inner (in_name 2) 2 name end first_state encoding.awaits refl (letter refl) (subst (λ n. IsNameAt s n name end) at_is is))
-name-read s false at name end starts letter at_is is =
-    let opened_ = symbol-starts s starts in
-    let encoding = encoding-expected s opened_ in
-    named-has s opened_ (alone (source false name)) end
-    (name-source s encoding.inner (in_name 2) 2 name end first_state encoding.awaits refl (subst (λ n. IsNameAt s n name end) at_is is))
+name-has s true w p at name end letter at_is is =
+    let encoding = encoding-expected s w p in
+    named-has s w p (alone (source true name)) end
+    (name-internal s encoding.inner (in_name w.at) w.at name end p.state encoding.awaits refl (letter refl) (subst (λ n. IsNameAt s n name end) at_is is))
+name-has s false w p at name end letter at_is is =
+    let encoding = encoding-expected s w p in
+    let here : at ≡ w.at = omega (arith, at_is) in
+    named-has s w p (alone (source false name)) end
+    (name-source s encoding.inner (in_name w.at) w.at name end p.state encoding.awaits refl (subst (λ n. IsNameAt s n name end) here is))
 
--- nothing was written before a name
-name-written : (old new : Direct) (name : List ℕ) → IsFresh old → Reads old new (source_text name) → new.text.items ≡ source_text name
-name-written old new name fresh reads = reads.text ∙ ap (λ l. l ++ source_text name) fresh.no_text
-
-none-candidates : (old new : Direct) (name : List ℕ) → IsFresh old → Reads old new (source_text name) → AreCandidates new.text.items new.candidates.items []
-none-candidates old new name fresh reads =
-    subst (λ v. AreCandidates new.text.items v.items []) (sym reads.candidates) (subst (λ ks. AreCandidates new.text.items ks []) (sym fresh.no_candidate) tt)
+-- the name of an encoding, by what awaited it
+source-has : (s : List ℕ) (internal : Bool) (w : Direct) (p : AwaitsSource s w internal) (name : List ℕ) (end : ℕ) → IsNameAt s w.at name end
+    → HasName s w.text.items p.before (alone (source internal name)) end p.awaits.state
+source-has s internal w p name end is = name-has s internal (record w { at = p.before }) p.awaits w.at name end p.letter p.at_is is
 
 -- a name without arguments
-pub name-bare : (s : List ℕ) (internal : Bool) (old new : Direct) (name : List ℕ) → IsFresh old → StandsAt s 0 (95 ∷ 90 ∷ []) → (internal ≡ true → StandsAt s 2 (76 ∷ []))
-    → old.at ≡ 2 + cond internal 1 0 → IsNameAt s old.at name new.at → name ≢ [] → Reads old new (source_text name)
-    → IsNameEnded s new false false
-unfolding may_be_empty first_state tree_of qualifiers_of ref_of has_return_type arguments_of
-name-bare s internal old new name fresh starts letter at_is is filled reads =
+pub name-bare : (s : List ℕ) (internal : Bool) (old new : Direct) (name : List ℕ) → AwaitsSource s old internal → IsNameAt s old.at name new.at
+    → name ≢ [] → Reads old new (source_text name) → IsNameEnded s new false false
+unfolding may_be_empty tree_of qualifiers_of ref_of has_return_type arguments_of
+name-bare s internal old new name p is filled reads =
     let own = alone (source internal name) in
-    let read = name-read s internal old.at name new.at starts letter at_is is in
+    let st = p.awaits.state in
+    let has = source-has s internal old p name new.at is in
     record {
-      state = first_state;
-      candidates = none-candidates old new name fresh reads;
+      state = st;
+      candidates = candidates-read old new (source_text name) st.candidates reads p.awaits.candidates;
       own = own;
       v = tree own false;
       tree_is = refl;
       qualifiers_are = refl;
       mark_is = refl;
-      prints = subst (λ l. Prints own l false) (sym (name-written old new name fresh reads)) (source-prints internal name filled);
+      lead = old.text.items;
+      name = source_text name;
+      written = reads.text;
+      prints = source-prints internal name filled;
       no_return = λ e. refl;
-      awaits = read.bare new.at first_state (expects-empty s Kind.MaybeArguments (after own false (in_name 2)) read.inner new.at first_state read.awaits refl);
+      awaits = has.bare new.at st (expects-empty s Kind.MaybeArguments (after own false (in_name p.before)) has.inner new.at st has.awaits refl);
     }
 
 -- where arguments were opened behind a name
-list-stands : (s : List ℕ) (internal : Bool) (old read new : Direct) (name : List ℕ) → IsFresh old → StandsAt s 0 (95 ∷ 90 ∷ [])
-    → (internal ≡ true → StandsAt s 2 (76 ∷ [])) → old.at ≡ 2 + cond internal 1 0 → IsNameAt s old.at name read.at → name ≢ [] → Reads old read (source_text name)
-    → StandsAt s read.at (73 ∷ []) → new.candidates.items ≡ added read 0 false → new.text.items ≡ read.text.items ++ codes "<"
+list-stands : (s : List ℕ) (internal : Bool) (old read new : Direct) (name : List ℕ) (from : ℕ) → AwaitsSource s old internal
+    → from ≡ length old.text.items → IsNameAt s old.at name read.at → name ≢ [] → Reads old read (source_text name)
+    → StandsAt s read.at (73 ∷ []) → new.candidates.items ≡ added read from false → new.text.items ≡ read.text.items ++ codes "<"
     → new.waiting.items ≡ read.waiting.items ++ opens.NameArguments ∷ [] → new.at ≡ read.at + 1 → IsWriting s new (steps.List true)
-unfolding in_name first_state inside
-list-stands s internal old read new name fresh starts letter at_is is filled reads there candidates_are text_is waiting_is here_is =
+unfolding in_name inside
+list-stands s internal old read new name from p from_is is filled reads there candidates_are text_is waiting_is here_is =
     let own = alone (source internal name) in
-    let has = name-read s internal old.at name read.at starts letter at_is is in
-    let list = arguments-open s has.inner (in_name 2) own false read.at first_state has.awaits there in
+    let st = p.awaits.state in
+    let place = p.before in
+    let front = old.text.items in
+    let has = source-has s internal old p name read.at is in
+    let list = arguments-open s has.inner (in_name place) own false read.at st has.awaits there in
     let prints = source-prints internal name filled in
-    let written = name-written old read name fresh reads in
-    let state = with_candidate 2 own first_state in
-    let none : read.waiting.items ≡ [] = ap (λ v. v.items) reads.waiting ∙ fresh.none_open in
+    let state = with_candidate place own st in
     record {
       state = state;
       candidates = subst (λ l. AreCandidates l new.candidates.items state.candidates) (sym text_is)
           (subst (λ ks. AreCandidates (read.text.items ++ codes "<") ks state.candidates) (sym candidates_are)
-          (candidates-stay read.text.items (codes "<") (added read 0 false) state.candidates
-          (candidates-with read first_state [] (source_text name) 0 own 2 false (none-candidates old read name fresh reads) written refl prints)));
-      is_before = arguments-begun s new state opens.NameArguments [] [] (source_text name) own
-          (ap reverse (waiting_is ∙ ap (λ ws. ws ++ opens.NameArguments ∷ []) none)) (refl, prints)
-          (text_is ∙ ap (λ l. l ++ codes "<") written) (
-            inside (in_name 2),
+          (candidates-stay read.text.items (codes "<") (added read from false) state.candidates
+          (candidates-with read st front (source_text name) from own place false
+          (candidates-read old read (source_text name) st.candidates reads p.awaits.candidates) reads.text from_is prints)));
+      is_before = arguments-begun s new state opens.NameArguments (reverse read.waiting.items) front (source_text name) own
+          (ap reverse waiting_is ∙ reverse-last read.waiting.items opens.NameArguments) prints
+          (text_is ∙ ap (λ l. l ++ codes "<") reads.text) (
+            inside (in_name place),
             list.inner,
             refl,
-            subst (λ n. Expects s Kind.ArgumentList (inside (in_name 2)) list.inner n state) (sym here_is) list.awaits,
+            subst (λ n. Expects s Kind.ArgumentList (inside (in_name place)) list.inner n state) (sym here_is) list.awaits,
             λ l at st comes ended. has.argued (no_items l) (at + 1) st (list.onward l at st comes ended),
           );
     }
 
 -- a name with arguments
-pub name-argued : (s : List ℕ) (internal : Bool) (old read kept new : Direct) (name : List ℕ) (r : Option Step) → IsFresh old → StandsAt s 0 (95 ∷ 90 ∷ [])
-    → (internal ≡ true → StandsAt s 2 (76 ∷ [])) → old.at ≡ 2 + cond internal 1 0 → IsNameAt s old.at name read.at → name ≢ [] → Reads old read (source_text name)
-    → StandsAt s read.at (73 ∷ []) → kept.candidates.items ≡ added read 0 false → kept.text ≡ read.text → kept.waiting ≡ read.waiting → kept.at ≡ read.at
+pub name-argued : (s : List ℕ) (internal : Bool) (old read kept new : Direct) (name : List ℕ) (from : ℕ) (r : Option Step) → AwaitsSource s old internal
+    → from ≡ length old.text.items → IsNameAt s old.at name read.at → name ≢ [] → Reads old read (source_text name)
+    → StandsAt s read.at (73 ∷ []) → kept.candidates.items ≡ added read from false → kept.text ≡ read.text → kept.waiting ≡ read.waiting → kept.at ≡ read.at
     → IfSome r (λ next. next ≡ steps.List true) → OnSome r (new.waiting.items ≡ kept.waiting.items ++ opens.NameArguments ∷ []) → OnSome r (new.at ≡ kept.at + 1)
     → OnSome r (new.text.items ≡ kept.text.items ++ codes "<") → OnSome r (new.candidates ≡ kept.candidates) → IfSome r (IsWriting s new)
-name-argued s internal old read kept new name None fresh starts letter at_is is filled reads there ks same_text same_open same_at step open_ at_ text_ candidates_ = tt
-name-argued s internal old read kept new name (Some next) fresh starts letter at_is is filled reads there ks same_text same_open same_at step open_ at_ text_ candidates_ =
+name-argued s internal old read kept new name from None p from_is is filled reads there ks same_text same_open same_at step open_ at_ text_ candidates_ = tt
+name-argued s internal old read kept new name from (Some next) p from_is is filled reads there ks same_text same_open same_at step open_ at_ text_ candidates_ =
     subst (λ x. IsWriting s new x) (sym step)
-    (list-stands s internal old read new name fresh starts letter at_is is filled reads there
+    (list-stands s internal old read new name from p from_is is filled reads there
     (ap (λ v. v.items) candidates_ ∙ ks)
     (text_ ∙ ap (λ v. v.items ++ codes "<") same_text)
     (open_ ∙ ap (λ v. v.items ++ opens.NameArguments ∷ []) same_open)

@@ -22,7 +22,7 @@ use Rattle.cpp_direct.specs.Bytes.{is_builtin}
 use Rattle.cpp_direct.specs.Holes.{StandsAt, ListGoesOn}
 use Rattle.cpp_direct.specs.HolesOfLists.{IsSuffix}
 use Rattle.cpp_direct.specs.Prints.{Prints, Shows, list_of}
-use Rattle.cpp_direct.specs.Stands.{AreCandidates, AwaitsItems, Encoded, IsWhole, IsWriting, IsFunction, ParametersGoOn, Stands, qualifiers, list_with, in_front_of_next}
+use Rattle.cpp_direct.specs.Stands.{AreCandidates, AwaitsItems, Encoded, EncodedBehind, IsWhole, IsWriting, IsFunction, ParametersGoOn, Stands, qualifiers, list_with, in_front_of_next}
 use Rattle.cpp_direct.specs.Ways.{IsNameEnded, IsParameterEnded, IsEncodingEnded, const_text}
 use Rattle.cpp_direct.specs.Written.{Writes}
 use Rattle.cpp_direct.proofs.Kept.{candidates-written, reverse-last}
@@ -116,26 +116,41 @@ pub qualifiers-text : (v : Value) (is_const : Bool) → qualifiers_of v ≡ qual
 qualifiers-text v true e f = rw (e, f) (const-text true)
 qualifiers-text v false e f = rw (e, f) (const-text false)
 
+-- what stands behind a text is written in two or more pieces
+behind-two : (lead a q : List ℕ) → lead ++ a ++ q ≡ lead ++ (a ++ q)
+behind-two lead a q = append_assoc lead a q
+
+behind-three : (lead a b q : List ℕ) → lead ++ a ++ b ++ q ≡ lead ++ (a ++ b ++ q)
+behind-three lead a b q = ap (λ l. l ++ q) (behind-two lead a b) ∙ append_assoc lead (a ++ b) q
+
+behind-five : (lead a b c d q : List ℕ) → lead ++ a ++ b ++ c ++ d ++ q ≡ lead ++ (a ++ b ++ c ++ d ++ q)
+behind-five lead a b c d q =
+    ap (λ l. l ++ d ++ q) (behind-three lead a b c) ∙ ap (λ l. l ++ q) (append_assoc lead (a ++ b ++ c) d) ∙ append_assoc lead (a ++ b ++ c ++ d) q
+
 -- a name without items is an encoding
 pub object-ended : (s : List ℕ) (w : Direct) (is_const is_instance : Bool) → IsNameEnded s w is_const is_instance → IsEncodingEnded s w is_const
 unfolding no_items may_be_empty
 object-ended s w is_const is_instance p =
-    let b = w.text.items in
+    let b = p.name in
+    let q = const_text is_const in
+    let behind : EncodedBehind s p.lead (encoding_of p.v nil) w.at = p.awaits.onward nothing_there w.at p.state
+    (expects-empty s Kind.Items p.awaits.around p.awaits.inner w.at p.state p.awaits.awaits refl) in
+    let shows : Shows (encoding_of p.v nil) (b ++ q) =
+    subst (λ l. Shows (encoding_of p.v nil) (b ++ l)) (qualifiers-text p.v is_const p.qualifiers_are p.mark_is)
+    (object-encoded p.v b (subst (λ t. Prints t b false) (sym p.tree_is) p.prints)) in
     record {
       state = p.state;
       candidates = p.candidates;
-      e = encoding_of p.v nil;
-      encoded = p.awaits.onward nothing_there w.at p.state
-          (expects-empty s Kind.Items p.awaits.around p.awaits.inner w.at p.state p.awaits.awaits refl);
-      shows = subst (λ l. Shows (encoding_of p.v nil) (b ++ l)) (qualifiers-text p.v is_const p.qualifiers_are p.mark_is)
-          (object-encoded p.v b (subst (λ t. Prints t b false) (sym p.tree_is) p.prints));
+      e = behind.made;
+      encoded = behind.encoded;
+      shows = subst (λ l. Shows behind.made l) (sym (ap (λ l. l ++ q) p.written ∙ behind-two p.lead b q)) (behind.shows (b ++ q) shows);
     }
 
 -- a lone void is read
-void-read : (s : List ℕ) (v : Value) (at : ℕ) (st : State) → AwaitsItems s v at st → StandsAt s at (118 ∷ [])
-    → Encoded s (encoding_of v (list_of (builtin (118 ∷ []) ∷ []))) (at + 1)
+void-read : (s : List ℕ) (lead : List ℕ) (v : Value) (at : ℕ) (st : State) → AwaitsItems s lead v at st → StandsAt s at (118 ∷ [])
+    → EncodedBehind s lead (encoding_of v (list_of (builtin (118 ∷ []) ∷ []))) (at + 1)
 unfolding no_items may_be_empty tree_of is_builtin among
-void-read s v at st p stands =
+void-read s lead v at st p stands =
     let t = builtin (118 ∷ []) in
     let element = element-awaits s Kind.Items p.inner p.around at st tt p.awaits in
     let goes = element.onward t (at + 1) st (builtin-comes s Kind.Item p.around element.inner at st 118 tt refl element.awaits stands) in
@@ -147,23 +162,27 @@ pub void-ended : (s : List ℕ) (w first here last : Direct) (is_const : Bool) �
     → Writes w first (codes "(") → here.text ≡ first.text → here.candidates ≡ first.candidates → here.at ≡ first.at + 1
     → Writes here last (codes ")") → IsEncodingEnded s last is_const
 void-ended s w first here last is_const p stands one text candidates at two =
-    let b = w.text.items in
+    let b = p.name in
+    let q = const_text is_const in
     let e = encoding_of p.v (list_of (builtin (118 ∷ []) ∷ [])) in
-    let written : last.text.items ≡ b ++ codes "()" =
-    two.text ∙ ap (λ l. l.items ++ codes ")") text ∙ ap (λ l. l ++ codes ")") one.text ∙ append_assoc b (codes "(") (codes ")") in
+    let behind : EncodedBehind s p.lead e (w.at + 1) = void-read s p.lead p.v w.at p.state p.awaits stands in
+    let written : last.text.items ≡ p.lead ++ b ++ codes "()" =
+    two.text ∙ ap (λ l. l.items ++ codes ")") text ∙ ap (λ l. l ++ codes ")") one.text ∙ append_assoc w.text.items (codes "(") (codes ")")
+    ∙ ap (λ l. l ++ codes "()") p.written in
     let known = candidates-written w first (codes "(") p.state.candidates one p.candidates in
     let moved : AreCandidates here.text.items here.candidates.items p.state.candidates =
     subst (λ l. AreCandidates l.items here.candidates.items p.state.candidates) (sym text)
     (subst (λ l. AreCandidates first.text.items l.items p.state.candidates) (sym candidates) known) in
-    let shows : Shows e (b ++ codes "()" ++ const_text is_const) =
+    let shows : Shows e (b ++ codes "()" ++ q) =
     subst (λ l. Shows e (b ++ codes "()" ++ l)) (qualifiers-text p.v is_const p.qualifiers_are p.mark_is)
     (void-encoded p.v b (subst (λ t. Prints t b false) (sym p.tree_is) p.prints) (ap has_return_type p.tree_is ∙ p.no_return refl)) in
     record {
       state = p.state;
       candidates = candidates-written here last (codes ")") p.state.candidates two moved;
-      e = e;
-      encoded = subst (λ n. Encoded s e n) (omega (arith, two.at, at, one.at)) (void-read s p.v w.at p.state p.awaits stands);
-      shows = subst (λ l. Shows e l) (sym (ap (λ l. l ++ const_text is_const) written)) shows;
+      e = behind.made;
+      encoded = subst (λ n. Encoded s behind.made n) (omega (arith, two.at, at, one.at)) behind.encoded;
+      shows = subst (λ l. Shows behind.made l) (sym (ap (λ l. l ++ q) written ∙ behind-three p.lead b (codes "()") q))
+          (behind.shows (b ++ codes "()" ++ q) shows);
     }
 
 -- ## Parameters
@@ -181,39 +200,40 @@ next-written [] l some = absurd (some refl)
 next-written (t ∷ ts) l some = refl
 
 -- a name is one where parameters go on behind none
-pub none-go_on : (s : List ℕ) (v : Value) (at : ℕ) (st : State) → AwaitsItems s v at st → ParametersGoOn s v [] at st
-none-go_on s v at st p = record { around = p.around; inner = p.inner; outside = p.outside; awaits = p.awaits; onward = p.onward }
+pub none-go_on : (s : List ℕ) (lead : List ℕ) (v : Value) (at : ℕ) (st : State) → AwaitsItems s lead v at st → ParametersGoOn s lead v [] at st
+none-go_on s lead v at st p = record { around = p.around; inner = p.inner; outside = p.outside; awaits = p.awaits; onward = p.onward }
 
 -- a parameter is expected
-parameter-goes_on : (s : List ℕ) (v : Value) (ts : List Term) (at : ℕ) (st : State) (p : ParametersGoOn s v ts at st)
+parameter-goes_on : (s : List ℕ) (lead : List ℕ) (v : Value) (ts : List Term) (at : ℕ) (st : State) (p : ParametersGoOn s lead v ts at st)
     (t : Term) (here : ℕ) (now : State)
-    → ListGoesOn s Kind.Items p.inner p.around t here now → ParametersGoOn s v (ts ++ t ∷ []) here now
+    → ListGoesOn s Kind.Items p.inner p.around t here now → ParametersGoOn s lead v (ts ++ t ∷ []) here now
 unfolding no_items tree_of
-parameter-goes_on s v ts at st p t here now goes = record {
+parameter-goes_on s lead v ts at st p t here now goes = record {
   around = p.around;
   inner = goes.inner;
   outside = p.outside;
   awaits = goes.awaits;
-  onward = λ l there then_ comes. subst (λ u. Encoded s (encoding_of v u) there) (sym (list-more ts t (no_items l)))
+  onward = λ l there then_ comes. subst (λ u. EncodedBehind s lead (encoding_of v u) there) (sym (list-more ts t (no_items l)))
       (p.onward (tree (list t (no_items l)) true) there then_ (goes.passes l there then_ comes));
 }
 
 -- a parameter comes next
-pub parameter-expected : (s : List ℕ) (w : Direct) (st : State) (is_const : Bool) (rest : List Open) (v : Value) (ts : List Term)
+pub parameter-expected : (s : List ℕ) (w : Direct) (st : State) (is_const : Bool) (rest : List Open) (lead : List ℕ) (v : Value) (ts : List Term)
     (name parameters : List ℕ)
     → AreCandidates w.text.items w.candidates.items st.candidates → reverse w.waiting.items ≡ opens.Parameters is_const ∷ rest
-    → IsFunction is_const v ts name parameters → w.text.items ≡ name ++ codes "(" ++ in_front_of_next ts parameters
-    → ParametersGoOn s v ts w.at st → IsWriting s w steps.Type
-parameter-expected s w st is_const rest v ts name parameters candidates open_is is_function written p =
+    → IsFunction is_const v ts name parameters → w.text.items ≡ lead ++ name ++ codes "(" ++ in_front_of_next ts parameters
+    → ParametersGoOn s lead v ts w.at st → IsWriting s w steps.Type
+parameter-expected s w st is_const rest lead v ts name parameters candidates open_is is_function written p =
     let element = element-awaits s Kind.Items p.inner p.around w.at st tt p.awaits in
     let stands : Stands s (opens.Parameters is_const ∷ rest) element.inner w.text.items = (
+      lead,
       v,
       ts,
       name,
       parameters,
       is_function,
       written,
-      λ t here now comes. parameter-goes_on s v ts w.at st p t here now (element.onward t here now comes),
+      λ t here now comes. parameter-goes_on s lead v ts w.at st p t here now (element.onward t here now comes),
     ) in
     record {
       state = st;
@@ -231,7 +251,7 @@ first-expected s w first last is_const p one text candidates at waiting =
     let moved : AreCandidates last.text.items last.candidates.items p.state.candidates =
     subst (λ l. AreCandidates l.items last.candidates.items p.state.candidates) (sym text)
     (subst (λ l. AreCandidates first.text.items l.items p.state.candidates) (sym candidates) known) in
-    parameter-expected s last p.state is_const (reverse first.waiting.items) p.v [] w.text.items [] moved
+    parameter-expected s last p.state is_const (reverse first.waiting.items) p.lead p.v [] p.name [] moved
     (ap reverse waiting ∙ reverse-last first.waiting.items (opens.Parameters is_const))
     (record {
       own = p.own;
@@ -242,19 +262,19 @@ first-expected s w first last is_const p one text candidates at waiting =
       no_return = p.no_return refl;
       elements = none-print 0;
     })
-    (ap (λ l. l.items) text ∙ one.text ∙ sym (append-nil (w.text.items ++ codes "(")))
-    (subst (λ n. ParametersGoOn s p.v [] n p.state) (sym (at ∙ one.at)) (none-go_on s p.v w.at p.state p.awaits))
+    (ap (λ l. l.items) text ∙ one.text ∙ ap (λ l. l ++ codes "(") p.written ∙ sym (append-nil (p.lead ++ p.name ++ codes "(")))
+    (subst (λ n. ParametersGoOn s p.lead p.v [] n p.state) (sym (at ∙ one.at)) (none-go_on s p.lead p.v w.at p.state p.awaits))
 
 -- another parameter comes next
 pub next-expected : (s : List ℕ) (w last : Direct) (is_const : Bool) → IsParameterEnded s w is_const → Writes w last (codes ", ")
     → IsWriting s last steps.Type
 next-expected s w last is_const p one =
-    parameter-expected s last p.state is_const p.rest p.v p.ts p.name p.parameters
+    parameter-expected s last p.state is_const p.rest p.lead p.v p.ts p.name p.parameters
     (candidates-written w last (codes ", ") p.state.candidates one p.candidates)
     (ap (λ l. reverse l.items) one.waiting ∙ p.open_is) p.is_function
-    (one.text ∙ ap (λ l. l ++ codes ", ") p.written ∙ append_assoc (p.name ++ codes "(") p.parameters (codes ", ")
-    ∙ ap (λ l. p.name ++ codes "(" ++ l) (sym (next-written p.ts p.parameters p.some)))
-    (subst (λ n. ParametersGoOn s p.v p.ts n p.state) (sym one.at) p.goes)
+    (one.text ∙ ap (λ l. l ++ codes ", ") p.written ∙ append_assoc (p.lead ++ p.name ++ codes "(") p.parameters (codes ", ")
+    ∙ ap (λ l. p.lead ++ p.name ++ codes "(" ++ l) (sym (next-written p.ts p.parameters p.some)))
+    (subst (λ n. ParametersGoOn s p.lead p.v p.ts n p.state) (sym one.at) p.goes)
 
 -- a function with its parameters is an encoding, unless they are a lone void
 pub function-ended : (s : List ℕ) (w last : Direct) (is_const : Bool) (p : IsParameterEnded s w is_const) → p.parameters ≢ codes "void"
@@ -265,20 +285,22 @@ function-ended s w last is_const p apart one =
     let e = encoding_of p.v (list_of p.ts) in
     let b = p.name in
     let l = p.parameters in
-    let written : last.text.items ++ const_text is_const ≡ b ++ codes "(" ++ l ++ codes ")" ++ const_text is_const =
-    ap (λ x. x ++ const_text is_const) (one.text ∙ ap (λ x. x ++ codes ")") p.written) in
-    let shows : Shows e (b ++ codes "(" ++ l ++ codes ")" ++ const_text is_const) =
-    subst (λ q. Shows e (b ++ codes "(" ++ l ++ codes ")" ++ q)) (qualifiers-text p.v is_const f.qualifiers_are f.mark_is)
+    let q = const_text is_const in
+    let behind : EncodedBehind s p.lead e w.at = subst (λ u. EncodedBehind s p.lead (encoding_of p.v u) w.at) (list-ends p.ts)
+    (p.goes.onward nothing_there w.at p.state (expects-empty s Kind.Items p.goes.around p.goes.inner w.at p.state p.goes.awaits refl)) in
+    let written : last.text.items ++ q ≡ p.lead ++ (b ++ codes "(" ++ l ++ codes ")" ++ q) =
+    ap (λ x. x ++ q) (one.text ∙ ap (λ x. x ++ codes ")") p.written) ∙ behind-five p.lead b (codes "(") l (codes ")") q in
+    let shows : Shows e (b ++ codes "(" ++ l ++ codes ")" ++ q) =
+    subst (λ x. Shows e (b ++ codes "(" ++ l ++ codes ")" ++ x)) (qualifiers-text p.v is_const f.qualifiers_are f.mark_is)
     (function-encoded p.v b (subst (λ t. Prints t b false) (sym f.tree_is) f.prints) (ap has_return_type f.tree_is ∙ f.no_return)
     p.ts l p.some f.elements
     (parameters-kept p.ts l f.elements apart)) in
     record {
       state = p.state;
       candidates = candidates-written w last (codes ")") p.state.candidates one p.candidates;
-      e = e;
-      encoded = subst (λ n. Encoded s e n) (sym one.at) (subst (λ u. Encoded s (encoding_of p.v u) w.at) (list-ends p.ts)
-          (p.goes.onward nothing_there w.at p.state (expects-empty s Kind.Items p.goes.around p.goes.inner w.at p.state p.goes.awaits refl)));
-      shows = subst (λ x. Shows e x) (sym written) shows;
+      e = behind.made;
+      encoded = subst (λ n. Encoded s behind.made n) (sym one.at) behind.encoded;
+      shows = subst (λ x. Shows behind.made x) (sym written) (behind.shows (b ++ codes "(" ++ l ++ codes ")" ++ q) shows);
     }
 
 -- what ends in a lone void ends so

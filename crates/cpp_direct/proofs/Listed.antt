@@ -293,8 +293,10 @@ name-closed s w p =
       tree_is = refl;
       qualifiers_are = refl;
       mark_is = refl;
-      prints = subst (λ l. Prints t l false) (sym (p.written ∙ ap (λ l. l ++ bytes) p.is_template.0))
-          (instance-prints p.template p.name p.is_template.1 p.ts p.arguments p.elements);
+      lead = p.front;
+      name = bytes;
+      written = p.written;
+      prints = instance-prints p.template p.name p.is_template p.ts p.arguments p.elements;
       no_return = λ h. absurd (false≢true (sym h));
       awaits = p.owns;
     }
@@ -734,13 +736,14 @@ value-parameter s w is_reference is_const p found =
     let stands = p.is_before.7 in
     let last = last-found w.waiting.items (opens.Parameters is_const) found in
     let waits : Stands s (opens.Parameters is_const ∷ last.0) os front = subst (λ ws. Stands s ws os front) last.1 stands in
-    let v = waits.0 in
-    let ts = waits.1 in
-    let name = waits.2 in
-    let parameters = waits.3 in
-    let is_function = waits.4 in
-    let front_is = waits.5 in
-    let onward = waits.6 in
+    let lead = waits.0 in
+    let v = waits.1 in
+    let ts = waits.2 in
+    let name = waits.3 in
+    let parameters = waits.4 in
+    let is_function = waits.5 in
+    let front_is = waits.6 in
+    let onward = waits.7 in
     record {
       state = p.state;
       candidates = p.candidates;
@@ -749,6 +752,7 @@ value-parameter s w is_reference is_const p found =
       v = v;
       ts = ts ++ t ∷ [];
       some = some-elements ts t;
+      lead = lead;
       name = name;
       parameters = in_front_of_next ts parameters ++ bytes;
       is_function = record {
@@ -760,7 +764,7 @@ value-parameter s w is_reference is_const p found =
         no_return = is_function.no_return;
         elements = next-prints 0 ts parameters t bytes is_function.elements (type-element 0 t bytes is_reference prints);
       };
-      written = written ∙ ap (λ l. l ++ bytes) front_is ∙ append_assoc (name ++ codes "(") (in_front_of_next ts parameters) bytes;
+      written = written ∙ ap (λ l. l ++ bytes) front_is ∙ append_assoc (lead ++ name ++ codes "(") (in_front_of_next ts parameters) bytes;
       goes = onward t w.at p.state comes;
     }
 

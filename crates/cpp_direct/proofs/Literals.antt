@@ -8,7 +8,7 @@ use Rattle.cpp_grammar.specs.Texts.{look_up, builtin_texts, literal_endings}
 use Rattle.cpp_grammar.specs.Values.{normal, is_zero, signed_digits}
 use Rattle.cpp_direct.specs.declared.direct.Direct.{Direct}
 use Rattle.cpp_direct.specs.Holes.{StandsAt}
-use Rattle.cpp_direct.specs.HolesOfLists.{IsDigitsAt, minus_sign}
+use Rattle.cpp_direct.specs.HolesOfLists.{IsDigitsAt, IsOffsetAt, minus_sign}
 use Rattle.cpp_direct.specs.ItemBytes.{is_integer_letter}
 use Rattle.cpp_direct.specs.Ways.{truth_text, number_text, integer_text}
 use Rattle.cpp_direct.specs.Written.{Reads}
@@ -67,6 +67,24 @@ unfolding signed_digits
 minus-digits ns ds n is e other =
     ap (λ l. codes "-" ++ l) is ∙ sym (ap (λ b. number_text (signed_digits b ds)) e
     ∙ ap (λ (b : Bool). cond (true && not b) (codes "-") [] ++ normal ds) (ap is_zero (sym is) ∙ sym other))
+
+-- the digits of an offset and its _ were read behind its sign
+pub offset-read : (s : List ℕ) (old middle new : Direct) (n : Bool) → StandsAt s old.at (minus_sign n) → middle.at ≡ old.at + length (minus_sign n)
+    → Reads old middle []
+    → (digits : List ℕ) × (end : ℕ) × IsDigitsAt s middle.at digits end × StandsAt s end (95 ∷ []) × (new.at ≡ end + 1) × Reads middle new []
+    → IsOffsetAt s old.at new.at × Reads old new []
+offset-read s old middle new n minus next begun read = (
+  record {
+    negative = n;
+    digits = read.0;
+    behind = read.1;
+    minus = minus;
+    number = subst (λ k. IsDigitsAt s k read.0 read.1) next read.2;
+    line = read.3;
+    ends = read.4;
+  },
+  reads-then old middle new [] [] begun read.5,
+)
 
 -- ## Booleans
 

@@ -1,6 +1,6 @@
 -- The moves in encodings and in whole symbols: a symbol begins and ends, with a suffix or without, an encoding has a name and items,
 -- and names are nested or not.
-use Rattle.std.proofs.Common.{◌≡◌, ℕ, ◌+◌, ◌<◌, length, List, [], ◌∷◌, take, Bool, true, false, nat_lt, nat_le, ◌||◌, ◌&&◌, cond, None, Some, Ok, refl, ap, sym, subst, ◌∙◌, arith, codes}
+use Rattle.std.proofs.Common.{◌≡◌, ℕ, ◌+◌, ◌<◌, length, List, [], ◌∷◌, take, ◌++◌, Bool, true, false, nat_lt, nat_le, ◌||◌, ◌&&◌, cond, None, Some, Ok, refl, ap, sym, subst, ◌∙◌, arith, codes}
 use Rattle.std.specs.List.{AllByRecursion}
 use Rattle.std.proofs.Math.Nat.{zero-add}
 use Rattle.std.proofs.Math.Seq.{take-append_seam}
@@ -17,17 +17,17 @@ use Rattle.cpp_grammar.specs.declared.production.Production.{Production}
 use Rattle.cpp_grammar.specs.Grammar.{in_ranges, among, is_in, pick, number_of_kind, alternatives, choose, parts_of, is_chain, may_be_empty}
 use Rattle.cpp_grammar.specs.Mangled.{cpp_mangled}
 use Rattle.cpp_grammar.specs.Table.{rule_of}
-use Rattle.cpp_grammar.specs.Term.{Term, symbol, special, alone, source}
-use Rattle.cpp_grammar.specs.Values.{State, outermost, Around, Value, nothing_there, letter, text, tree, tree_of, text_of, is_there, mark_of, part}
-use Rattle.cpp_grammar.specs.Between.{between, after, in_name, in_types, extended, applied, piece_so_far, named_so_far}
+use Rattle.cpp_grammar.specs.Term.{non_virtual, by_table, Term, symbol, special, alone, source}
+use Rattle.cpp_grammar.specs.Values.{State, outermost, Around, Value, nothing_there, letter, text, signed, tree, tree_of, text_of, signed_of, signed_digits, is_there, mark_of, part}
+use Rattle.cpp_grammar.specs.Between.{Going, between, after, in_name, in_types, extended, applied, piece_so_far, named_so_far}
 use Rattle.cpp_grammar.specs.Meaning.{meaning}
 use Rattle.cpp_grammar.specs.Unfolding as unfolding_
 use Rattle.cpp_grammar.specs.Unfolding.{opening, close, byte_of, first_around, first_state, first_tree, unfold_cpp}
 use Rattle.cpp_direct.specs.Holes.{Opened, opened, Reads, StandsAt, Comes, Needs, Expects, IsNameAt, Named}
 use Rattle.cpp_direct.specs.ItemBytes.{one_of, is_special_letter, is_suffix_byte}
-use Rattle.cpp_direct.specs.HolesOfLists.{EncodingOpened, SpecialOpened, nest_marks, NestOpened, IsSuffix, SymbolOpened}
+use Rattle.cpp_direct.specs.HolesOfLists.{EncodingOpened, SpecialOpened, IsOffsetAt, ThunkOpened, nest_marks, NestOpened, IsSuffix, SymbolOpened}
 use Rattle.cpp_direct.proofs.Moves.{stands-split, comes-moved, opens, opens-chain, needs-next, ends, expects-empty, expects-byte, expects-name}
-use Rattle.cpp_direct.proofs.MovesOfLists.{mark-comes, of-one}
+use Rattle.cpp_direct.proofs.MovesOfLists.{mark-comes, integer-comes, of-one}
 
 -- ## Encodings
 
@@ -81,6 +81,80 @@ special-opens s os around b at st is expects stands =
       onward = λ t here now comes.
           ends s p (84 ∷ []) at around st (tree (special b t) true ∷ []) os here now _ now
           (ends s q (b ∷ []) (at + 1) (in_name at) st (tree t true ∷ []) above here now _ now comes refl) refl;
+    }
+
+-- ## Thunks
+
+-- an offset is read, and its _, where a rule has them next
+offset-comes : (s : List ℕ) (p : Production) (taken : List ℕ) (at0 : ℕ) (around : Around) (before : State) (known : List Value) (todo : List Sym)
+    (os : List Opened) (at end : ℕ) (st : State) (is : IsOffsetAt s at end)
+    → ((vs : List Value) → ◌≡◌ {A = Going} (between p around at0 vs st) (Ok (record { context = around; values = vs; state = st })))
+    → Needs s os (standing (rule_of p) taken at0 around before) known (OfKind (number_of_kind Kind.Integer) ∷ Byte 95 ∷ todo) at st
+    → Comes s (opened (standing (rule_of p) taken at0 around before) (known ++ signed (signed_digits is.negative is.digits) ∷ []) todo ∷ os)
+    nothing_there end st
+offset-comes s p taken at0 around before known todo os at end st is goes needs =
+    let rule = standing (rule_of p) taken at0 around before in
+    let integer = OfKind (number_of_kind Kind.Integer) in
+    let more = known ++ signed (signed_digits is.negative is.digits) ∷ [] in
+    comes-moved s (opened rule more todo ∷ os) nothing_there (is.behind + 1) end st (sym is.ends)
+    (expects-byte s 95 around (opened rule more todo ∷ os) is.behind st
+    (needs-next s p taken at0 around before more (Byte 95) todo os is.behind st around more st (goes more)
+    (integer-comes s (opened rule known (Byte 95 ∷ todo) ∷ os) around is.negative is.digits at is.behind st
+    (needs-next s p taken at0 around before known integer (Byte 95 ∷ todo) os at st around known st (goes known) needs)
+    is.minus is.number)) is.line)
+
+-- a thunk begins with a T, an h and an offset, and the encoding is expected that it calls
+pub thunk-opens : (s : List ℕ) (os : List Opened) (around : Around) (at end : ℕ) (st : State) → Expects s Kind.Encoding around os at st
+    → StandsAt s at (84 ∷ []) → StandsAt s (at + 1) (104 ∷ []) → (is : IsOffsetAt s (at + 1 + 1) end)
+    → ThunkOpened s os at (non_virtual (signed_digits is.negative is.digits)) end st
+unfolding choose alternatives pick is_in in_ranges among is_chain parts_of between opening close unfolding_.behind meaning part tree_of signed_of byte_of
+thunk-opens s os around at end st expects first second is =
+    let p = Production.Special in
+    let q = Production.NonVirtualThunk in
+    let outer = standing (rule_of p) (84 ∷ []) at around st in
+    let rule = standing (rule_of q) (104 ∷ []) (at + 1) (in_name at) st in
+    let above = opened outer [] [] ∷ os in
+    let encoding = OfKind (number_of_kind Kind.Encoding) in
+    let known = signed (signed_digits is.negative is.digits) ∷ nothing_there ∷ [] in
+    let needs = opens s Kind.Special q 104 (104 ∷ []) (in_name at) above (at + 1) st refl (omega arith) refl (λ f. refl)
+    (needs-next s p (84 ∷ []) at around st [] (OfKind (number_of_kind Kind.Special)) [] os (at + 1) st (in_name at) [] st refl
+    (opens s Kind.Encoding p 84 (84 ∷ []) around os at st refl (omega arith) refl (λ f. refl) expects first)) second in
+    record {
+      inner = opened rule known [] ∷ above;
+      awaits = needs-next s q (104 ∷ []) (at + 1) (in_name at) st known encoding [] above end st (in_name at) known st refl
+          (offset-comes s q (104 ∷ []) (at + 1) (in_name at) st [] (encoding ∷ []) above (at + 1 + 1) end st is (λ vs. refl) needs);
+      onward = λ e here now comes.
+          ends s p (84 ∷ []) at around st _ os here now _ now
+          (ends s q (104 ∷ []) (at + 1) (in_name at) st (known ++ tree e true ∷ []) above here now _ now comes refl) refl;
+    }
+
+-- a virtual one begins with a T, a v and two offsets
+pub virtual-thunk-opens : (s : List ℕ) (os : List Opened) (around : Around) (at middle end : ℕ) (st : State) → Expects s Kind.Encoding around os at st
+    → StandsAt s at (84 ∷ []) → StandsAt s (at + 1) (118 ∷ []) → (is : IsOffsetAt s (at + 1 + 1) middle) (then_ : IsOffsetAt s middle end)
+    → ThunkOpened s os at (by_table (signed_digits is.negative is.digits) (signed_digits then_.negative then_.digits)) end st
+unfolding choose alternatives pick is_in in_ranges among is_chain parts_of between opening close unfolding_.behind meaning part tree_of signed_of byte_of
+virtual-thunk-opens s os around at middle end st expects first second is then_ =
+    let p = Production.Special in
+    let q = Production.VirtualThunk in
+    let outer = standing (rule_of p) (84 ∷ []) at around st in
+    let rule = standing (rule_of q) (118 ∷ []) (at + 1) (in_name at) st in
+    let above = opened outer [] [] ∷ os in
+    let encoding = OfKind (number_of_kind Kind.Encoding) in
+    let integer = OfKind (number_of_kind Kind.Integer) in
+    let one = signed (signed_digits is.negative is.digits) ∷ nothing_there ∷ [] in
+    let known = one ++ signed (signed_digits then_.negative then_.digits) ∷ nothing_there ∷ [] in
+    let needs = opens s Kind.Special q 118 (118 ∷ []) (in_name at) above (at + 1) st refl (omega arith) refl (λ f. refl)
+    (needs-next s p (84 ∷ []) at around st [] (OfKind (number_of_kind Kind.Special)) [] os (at + 1) st (in_name at) [] st refl
+    (opens s Kind.Encoding p 84 (84 ∷ []) around os at st refl (omega arith) refl (λ f. refl) expects first)) second in
+    record {
+      inner = opened rule known [] ∷ above;
+      awaits = needs-next s q (118 ∷ []) (at + 1) (in_name at) st known encoding [] above end st (in_name at) known st refl
+          (offset-comes s q (118 ∷ []) (at + 1) (in_name at) st one (encoding ∷ []) above middle end st then_ (λ vs. refl)
+          (offset-comes s q (118 ∷ []) (at + 1) (in_name at) st [] (integer ∷ Byte 95 ∷ encoding ∷ []) above (at + 1 + 1) middle st is (λ vs. refl)
+          needs));
+      onward = λ e here now comes.
+          ends s p (84 ∷ []) at around st _ os here now _ now
+          (ends s q (118 ∷ []) (at + 1) (in_name at) st (known ++ tree e true ∷ []) above here now _ now comes refl) refl;
     }
 
 -- ## Names

@@ -245,9 +245,12 @@ name-comes s old st t is_const candidates n no_return here is_name =
       tree_is = refl;
       qualifiers_are = refl;
       mark_is = refl;
-      prints = subst (λ l. Prints t l false) (sym (n.written ∙ ap (λ l. l ++ n.bytes) serves.0)) n.is_nest.prints;
+      lead = n.front;
+      name = n.bytes;
+      written = n.written;
+      prints = n.is_nest.prints;
       no_return = no_return;
-      awaits = serves.1 t old.nest.is_listed (old.at + 1) st (nest-comes s old st t n here);
+      awaits = serves t old.nest.is_listed (old.at + 1) st (nest-comes s old st t n here);
     }
 
 -- ## The first piece

@@ -4,13 +4,13 @@ use Rattle.std.proofs.lemmas.Bool.{false≢true}
 use Rattle.sym_print.specs.declared.detail.Detail.TheVariants.{Full}
 use Rattle.sym_print.specs.Unfold.{text}
 use Rattle.sym_print.specs.Unshared.{text_of, cost_of}
-use Rattle.cpp_grammar.specs.Term.{Qualifiers, RefQualifier, any_value, Term, symbol, function, object, special, builtin, nil, list, absent}
+use Rattle.cpp_grammar.specs.Term.{Qualifiers, RefQualifier, any_value, non_virtual, by_table, Thunk, adjusting, covariant, Term, symbol, function, object, special, thunk, builtin, nil, list, absent}
 use Rattle.cpp_grammar.specs.Scope.{has_return_type}
 use Rattle.cpp_grammar.specs.Texts.{look_up, special_texts}
 use Rattle.cpp_grammar.specs.Items.{root, full, left, right, first, closed}
 use Rattle.cpp_grammar.specs.Values.{Value, tree_of, qualifiers_of, ref_of}
 use Rattle.cpp_grammar.specs.Meaning.{is_void, is_nil, parameters, encoding_of}
-use Rattle.cpp_grammar.specs.Parts.{as_item, says, text_part, list_part, types_of, qualifier_text, ref_text, encoding_text, function_bare, function_full, full_parts, root_parts, left_parts, parts_in, not_empty}
+use Rattle.cpp_grammar.specs.Parts.{as_item, says, text_part, list_part, types_of, qualifier_text, ref_text, encoding_text, function_bare, function_full, thunk_text, full_parts, root_parts, left_parts, parts_in, not_empty}
 use Rattle.cpp_grammar.specs.Answer.{shown, root_item}
 use Rattle.cpp_direct.specs.Prints.{in_form, Prints, Shows, list_of, joined, PrintEach, PrintAll}
 use Rattle.cpp_direct.proofs.PrintedParts.{printed_by, prints_parts, text_by, cost_by, text_first, cost_first, text_append, cost_append, part-text, part-cost, length-filled}
@@ -149,6 +149,31 @@ special-shows letter filled t b r p =
         cost_by full closed (special letter t) (text k ∷ behind) refl,
         cost_first k behind,
         length-filled k filled,
+        length-append k b,
+      );
+    }
+
+thunk-filled : (kind : Thunk) → 1 ≤ length (thunk_text kind)
+unfolding thunk_text
+thunk-filled (adjusting (non_virtual a)) = omega arith
+thunk-filled (adjusting (by_table a b)) = omega arith
+thunk-filled (covariant a b) = omega arith
+
+-- A thunk prints what it is, and the encoding that it calls.
+pub thunk-shows : (kind : Thunk) (e : Term) (b : List ℕ) → Shows e b → Shows (thunk kind e) (thunk_text kind ++ b)
+unfolding parts_in full_parts not_empty
+thunk-shows kind e b p =
+    let k = thunk_text kind in
+    let behind = as_item full closed e ∷ [] in
+    record {
+      shown_text = text_by full closed (thunk kind e) (text k ∷ behind) refl ∙ text_first k behind
+          ∙ ap (λ s. k ++ s) (append-nil (text_of (in_form full closed e)) ∙ p.shown_text);
+      shown_cost = omega (
+        arith,
+        p.shown_cost,
+        cost_by full closed (thunk kind e) (text k ∷ behind) refl,
+        cost_first k behind,
+        thunk-filled kind,
         length-append k b,
       );
     }

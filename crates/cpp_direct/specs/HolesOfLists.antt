@@ -6,7 +6,7 @@ use Rattle.sym_core.specs.Token.{Token, bytes_of, IsNumberToken}
 use Rattle.sym_demangle.specs.Mangled.{StandsFor}
 use Rattle.cpp_grammar.specs.declared.kind.Kind.{Kind}
 use Rattle.cpp_grammar.specs.Mangled.{cpp_mangled}
-use Rattle.cpp_grammar.specs.Term.{any_value, Term, symbol, special, integer, pack}
+use Rattle.cpp_grammar.specs.Term.{any_value, Adjustment, adjusting, Term, symbol, special, thunk, integer, pack}
 use Rattle.cpp_grammar.specs.Values.{State, Around, Value, tree, named, tree_of, signed_digits}
 use Rattle.cpp_grammar.specs.Between.{in_name, in_types, inside, no_items}
 use Rattle.cpp_grammar.specs.Meaning.{encoding_of}
@@ -84,6 +84,23 @@ pub record SpecialOpened (s : List ℕ) (outer : List Opened) (encoding letter :
   pub inner : List Opened
   pub awaits : Expects s Kind.Type (in_name encoding) inner at st
   pub onward : (t : Term) (at : ℕ) (st : State) → Comes s inner (tree t true) at st → Comes s outer (tree (special letter t) true) at st
+
+-- an offset of a thunk stands at the place, and this is the place behind its _
+pub record IsOffsetAt (s : List ℕ) (at : ℕ) (end : ℕ) : Type 0 where
+  pub negative : Bool
+  pub digits : List ℕ
+  pub behind : ℕ
+  pub minus : StandsAt s at (minus_sign negative)
+  pub number : IsDigitsAt s (at + length (minus_sign negative)) digits behind
+  pub line : StandsAt s behind (95 ∷ [])
+  pub ends : end ≡ behind + 1
+
+-- The encoding is expected that a thunk calls, which begins at a place.
+pub record ThunkOpened (s : List ℕ) (outer : List Opened) (encoding : ℕ) (by : Adjustment) (at : ℕ) (st : State) : Type 0 where
+  pub inner : List Opened
+  pub awaits : Expects s Kind.Encoding (in_name encoding) inner at st
+  pub onward : (e : Term) (at : ℕ) (st : State) → Comes s inner (tree e true) at st
+      → Comes s outer (tree (thunk (adjusting by) e) true) at st
 
 -- what a nested name begins with, const or not
 abbrev pub nest_marks : (const : Bool) → List ℕ

@@ -25,7 +25,7 @@ use Rattle.cpp_direct.specs.declared.open.Step.TheVariants as steps
 use Rattle.cpp_direct.specs.declared.direct.Direct.{Direct}
 use Rattle.cpp_direct.specs.Holes.{Opened, Comes, Expects, StandsAt, TypePasses, NestGoesOn, AwaitsComponent, with_candidate, unless_listed}
 use Rattle.cpp_direct.specs.HolesOfLists.{IsSuffix, IsDigitsAt, minus_sign}
-use Rattle.cpp_direct.specs.Prints.{Prints, NamesClass, PrintAll}
+use Rattle.cpp_direct.specs.Prints.{Prints, Shows, NamesClass, PrintAll}
 
 -- ## Candidates
 
@@ -52,13 +52,20 @@ pub record Encoded (s : List ℕ) (e : Term) (at : ℕ) : Type 0 where
   pub ends_in : (suffix : List ℕ) → StandsAt s at suffix → at + length suffix ≡ length s → IsSuffix suffix
       → StandsFor cpp_mangled s (Ok (symbol e suffix))
 
--- the name of an encoding was read, and items may follow
-pub record AwaitsItems (s : List ℕ) (v : Value) (at : ℕ) (st : State) : Type 0 where
+-- An encoding with this tree ends at the place, behind a text: what the whole makes of it shows the text in front of its own. Of a
+-- thunk that text says that it is one; else it is empty.
+pub record EncodedBehind (s : List ℕ) (lead : List ℕ) (e : Term) (at : ℕ) : Type 0 where
+  pub made : Term
+  pub encoded : Encoded s made at
+  pub shows : (bytes : List ℕ) → Shows e bytes → Shows made (lead ++ bytes)
+
+-- the name of an encoding behind a text was read, and items may follow
+pub record AwaitsItems (s : List ℕ) (lead : List ℕ) (v : Value) (at : ℕ) (st : State) : Type 0 where
   pub around : Around
   pub inner : List Opened
   pub outside : around.prefix ≡ outermost
   pub awaits : Expects s Kind.Items around inner at st
-  pub onward : (l : Value) (at : ℕ) (st : State) → Comes s inner l at st → Encoded s (encoding_of v (no_items l)) at
+  pub onward : (l : Value) (at : ℕ) (st : State) → Comes s inner l at st → EncodedBehind s lead (encoding_of v (no_items l)) at
 
 -- The symbol is one with this text.
 pub record IsWhole (s : List ℕ) (text : List ℕ) : Type 0 where
@@ -98,13 +105,13 @@ abbrev pub in_front_of_next : List Term → List ℕ → List ℕ
 in_front_of_next [] l = l
 in_front_of_next (t ∷ ts) l = l ++ codes ", "
 
--- parameters go on behind these
-pub record ParametersGoOn (s : List ℕ) (v : Value) (ts : List Term) (at : ℕ) (st : State) : Type 0 where
+-- parameters go on behind these, of an encoding behind a text
+pub record ParametersGoOn (s : List ℕ) (lead : List ℕ) (v : Value) (ts : List Term) (at : ℕ) (st : State) : Type 0 where
   pub around : Around
   pub inner : List Opened
   pub outside : around.prefix ≡ outermost
   pub awaits : Expects s Kind.Items around inner at st
-  pub onward : (l : Value) (at : ℕ) (st : State) → Comes s inner l at st → Encoded s (encoding_of v (list_with ts (no_items l))) at
+  pub onward : (l : Value) (at : ℕ) (st : State) → Comes s inner l at st → EncodedBehind s lead (encoding_of v (list_with ts (no_items l))) at
 
 -- the name of a function with parameters: its text and that of the parameters so far
 pub record IsFunction (is_const : Bool) (v : Value) (ts : List Term) (name parameters : List ℕ) : Type 0 where
@@ -134,8 +141,7 @@ Serves s purposes.Type below os front =
     → Comes s outer (tree t true) at (unless_listed listed e t st))
     × below outer front
 Serves s (purposes.Name is_const) below os front =
-    (front ≡ [])
-    × ((t : Term) (listed : Bool) (at : ℕ) (st : State) → Comes s os (tree t listed) at st → AwaitsItems s (named t (qualifiers is_const) any_value) at st)
+    (t : Term) (listed : Bool) (at : ℕ) (st : State) → Comes s os (tree t listed) at st → AwaitsItems s front (named t (qualifiers is_const) any_value) at st
 
 -- An instance is read, behind this text: what becomes of it.
 abbrev pub Owns : (s : List ℕ) → Open → Below → (front : List ℕ) → Term → (at : ℕ) → State → Type 0
@@ -146,7 +152,7 @@ Owns s (opens.NestArguments nest) below front u at st =
 Owns s (opens.FirstArguments nest) below front u at st =
     (around : Around) × (outer : List Opened) × AwaitsComponent s outer around u at (with_candidate around.encoding u st)
     × Serves s nest.purpose below outer front
-Owns s opens.NameArguments below front u at st = AwaitsItems s (tree u false) at st
+Owns s opens.NameArguments below front u at st = AwaitsItems s front (tree u false) at st
 Owns s _ below front u at st = ⊥
 
 -- elements go on behind these, up to an E, and what becomes of the list that they make
@@ -197,7 +203,7 @@ IsTemplate (opens.TypeArguments from) front template name text = (from ≡ lengt
 IsTemplate (opens.NestArguments nest) front template name text =
     IsNest front name text nest template × (nest.has_class ≡ false → is_structor template ≡ true)
 IsTemplate (opens.FirstArguments nest) front template name text = IsNest front name text nest template
-IsTemplate opens.NameArguments front template name text = (front ≡ []) × Prints template name false
+IsTemplate opens.NameArguments front template name text = Prints template name false
 IsTemplate _ front template name text = ⊥
 
 -- a type comes as an element
@@ -247,10 +253,10 @@ Stands s (opens.Lvalue from ∷ rest) os text = Marks s (Stands s rest) os text 
 Stands s (opens.Rvalue from ∷ rest) os text = Marks s (Stands s rest) os text from rvalue
 Stands s (opens.Const from ∷ rest) os text = Marks s (Stands s rest) os text from (qualified (qualifiers true))
 Stands s (opens.Parameters is_const ∷ rest) os text =
-    (v : Value) × (ts : List Term) × (name : List ℕ) × (parameters : List ℕ)
+    (lead : List ℕ) × (v : Value) × (ts : List Term) × (name : List ℕ) × (parameters : List ℕ)
     × IsFunction is_const v ts name parameters
-    × (text ≡ name ++ codes "(" ++ in_front_of_next ts parameters)
-    × ((t : Term) (at : ℕ) (st : State) → Comes s os (tree t true) at st → ParametersGoOn s v (ts ++ t ∷ []) at st)
+    × (text ≡ lead ++ name ++ codes "(" ++ in_front_of_next ts parameters)
+    × ((t : Term) (at : ℕ) (st : State) → Comes s os (tree t true) at st → ParametersGoOn s lead v (ts ++ t ∷ []) at st)
 Stands s (opens.Special ∷ rest) os text =
     (letter : ℕ) × (text ≡ look_up (letter ∷ []) special_texts) × (text ≢ [])
     × ((t : Term) (at : ℕ) (st : State) → Comes s os (tree t true) at st → Encoded s (special letter t) at)

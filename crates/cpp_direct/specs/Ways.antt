@@ -1,5 +1,5 @@
 -- Where a writer is between two of its functions, within a step.
-use Rattle.std.specs.Prelude.{◌≡◌, ◌≢◌, ℕ, ◌+◌, List, [], ◌∷◌, ◌++◌, length, reverse, Bool, true, false, codes}
+use Rattle.std.specs.Prelude.{◌≡◌, ◌≢◌, ℕ, ◌+◌, List, [], ◌∷◌, ◌++◌, length, reverse, Bool, true, false, cond, codes}
 use Rattle.cpp_grammar.specs.declared.kind.Kind.{Kind}
 use Rattle.cpp_grammar.specs.Term.{Term, Signed, any_value, instance, builtin}
 use Rattle.cpp_grammar.specs.Texts.{look_up, builtin_texts, literal_endings}
@@ -10,10 +10,10 @@ use Rattle.cpp_direct.specs.declared.open.Purpose.{Purpose}
 use Rattle.cpp_direct.specs.declared.open.Open.{Open}
 use Rattle.cpp_direct.specs.declared.open.Open.TheVariants as opens
 use Rattle.cpp_direct.specs.declared.direct.Direct.{Direct}
-use Rattle.cpp_direct.specs.Holes.{Opened, Comes, Expects, IsTyped, TypeNamed, NestNamed, with_candidate}
+use Rattle.cpp_direct.specs.Holes.{Opened, StandsAt, Comes, Expects, IsTyped, TypeNamed, NestNamed, with_candidate}
 use Rattle.cpp_direct.specs.HolesOfTypes.{IsNamedKind, TreeOpens}
 use Rattle.cpp_direct.specs.Prints.{Prints, PrintAll, Shows, list_of, sign_text}
-use Rattle.cpp_direct.specs.Stands.{AreCandidates, AwaitsItems, Encoded, IsFunction, IsListing, IsNest, IsTemplate, GoesOn, EnumeratorGoesOn, Owns, ParametersGoOn, Serves, Stands, qualifiers, extra_of, led_by, in_front_of_next}
+use Rattle.cpp_direct.specs.Stands.{AreCandidates, AwaitsItems, Encoded, EncodedBehind, IsFunction, IsListing, IsNest, IsTemplate, GoesOn, EnumeratorGoesOn, Owns, ParametersGoOn, Serves, Stands, qualifiers, extra_of, led_by, in_front_of_next}
 
 -- what stands behind the parameters of a member function
 abbrev pub const_text : (is_const : Bool) → List ℕ
@@ -25,6 +25,22 @@ pub record IsFresh (w : Direct) : Type 0 where
   pub no_text : w.text.items ≡ []
   pub no_candidate : w.candidates.items ≡ []
   pub none_open : w.waiting.items ≡ []
+
+-- an encoding is expected behind what is written
+pub record AwaitsEncoding (s : List ℕ) (w : Direct) : Type 0 where
+  pub state : State
+  pub candidates : AreCandidates w.text.items w.candidates.items state.candidates
+  pub around : Around
+  pub outer : List Opened
+  pub awaits : Expects s Kind.Encoding around outer w.at state
+  pub onward : (e : Term) (at : ℕ) (st : State) → Comes s outer (tree e true) at st → EncodedBehind s w.text.items e at
+
+-- the name of an encoding that began before is expected, behind the L of internal linkage or without
+pub record AwaitsSource (s : List ℕ) (w : Direct) (is_internal : Bool) : Type 0 where
+  pub before : ℕ
+  pub awaits : AwaitsEncoding s (record w { at = before })
+  pub letter : is_internal ≡ true → StandsAt s before (76 ∷ [])
+  pub at_is : w.at ≡ before + cond is_internal 1 0
 
 -- a type is expected
 pub record AwaitsType (s : List ℕ) (w : Direct) : Type 0 where
@@ -190,9 +206,12 @@ pub record IsNameEnded (s : List ℕ) (w : Direct) (is_const is_instance : Bool)
   pub tree_is : tree_of v ≡ own
   pub qualifiers_are : qualifiers_of v ≡ qualifiers is_const
   pub mark_is : ref_of v ≡ any_value
-  pub prints : Prints own w.text.items false
+  pub lead : List ℕ
+  pub name : List ℕ
+  pub written : w.text.items ≡ lead ++ name
+  pub prints : Prints own name false
   pub no_return : is_instance ≡ false → has_return_type own ≡ false
-  pub awaits : AwaitsItems s v w.at state
+  pub awaits : AwaitsItems s lead v w.at state
 
 -- A parameter of a function was read.
 pub record IsParameterEnded (s : List ℕ) (w : Direct) (is_const : Bool) : Type 0 where
@@ -203,11 +222,12 @@ pub record IsParameterEnded (s : List ℕ) (w : Direct) (is_const : Bool) : Type
   pub v : Value
   pub ts : List Term
   pub some : ts ≢ []
+  pub lead : List ℕ
   pub name : List ℕ
   pub parameters : List ℕ
   pub is_function : IsFunction is_const v ts name parameters
-  pub written : w.text.items ≡ name ++ codes "(" ++ parameters
-  pub goes : ParametersGoOn s v ts w.at state
+  pub written : w.text.items ≡ lead ++ name ++ codes "(" ++ parameters
+  pub goes : ParametersGoOn s lead v ts w.at state
 
 -- An encoding was read and written, but for its qualifier.
 pub record IsEncodingEnded (s : List ℕ) (w : Direct) (is_const : Bool) : Type 0 where

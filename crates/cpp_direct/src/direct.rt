@@ -7,7 +7,7 @@ ghost use Rattle.sym_print.specs.declared.detail.Detail.TheVariants as details;
 ghost use Rattle.cpp_grammar.specs.Mangled.{IsAnswer};
 ghost use Rattle.cpp_direct.specs.Holes.{StandsAt};
 ghost use Rattle.cpp_direct.specs.Stands.{IsWriting};
-ghost use Rattle.cpp_direct.specs.Ways.{IsFresh, IsNameEnded, IsParameterEnded, IsEncodingEnded};
+ghost use Rattle.cpp_direct.specs.Ways.{IsFresh, AwaitsEncoding, AwaitsSource, IsNameEnded, IsParameterEnded, IsEncodingEnded};
 
 use crate::open::{Candidate, Nest, Open, Purpose, Step};
 use crate::tokens::{byte_at, is_suffix};
@@ -115,10 +115,30 @@ impl Direct {
         if s.len() > LONGEST || byte_at(s, 0) != b'_' || byte_at(s, 1) != b'Z' {
             return None;
         }
-        match byte_at(s, 2) {
+        if byte_at(s, 2) != b'T' {
+            self.at = 2;
+            return self.begin_encoding(s);
+        }
+        match byte_at(s, 3) {
+            b'h' => self.begin_thunk(s),
+            b'v' => self.begin_virtual_thunk(s),
+            _ => self.begin_special(s),
+        }
+    }
+
+    /// The first bytes of an encoding.
+    // <encoding> ::= <function name> <bare-function-type> | <data name>
+    pub(crate) fn begin_encoding(&mut self, s: &[u8]) -> Option<Step>
+        requires fits { FitsSymbol s.now }
+        requires awaits { AwaitsEncoding s.now self.old }
+        ensures { IfSome result (IsWriting s.now self.new) }
+    {
+        match byte_at(s, self.at) {
             b'N' => self.begin_nested(s),
-            b'T' => self.begin_special(s),
-            b'L' => self.begin_name(s, true),
+            b'L' => {
+                self.at = self.at.checked_add(1)?;
+                self.begin_name(s, true)
+            }
             _ => self.begin_name(s, false),
         }
     }
@@ -144,28 +164,29 @@ impl Direct {
     // <nested-name> ::= N [<CV-qualifiers>] [<ref-qualifier>] <prefix> <unqualified-name> E
     fn begin_nested(&mut self, s: &[u8]) -> Option<Step>
         requires fits { FitsSymbol s.now }
-        requires fresh { IsFresh self.old }
-        requires starts { StandsAt s.now 0 (95 ∷ 90 ∷ []) }
-        requires letter { StandsAt s.now 2 (78 ∷ []) }
+        requires awaits { AwaitsEncoding s.now self.old }
+        requires letter { StandsAt s.now self.old.at (78 ∷ []) }
         ensures { IfSome result (IsWriting s.now self.new) }
     {
-        let is_const = byte_at(s, 3) == b'K';
-        self.at = if is_const { 4 } else { 3 };
-        self.nest_at(s, Purpose::Name { is_const })
+        self.at = self.at.checked_add(1)?;
+        if byte_at(s, self.at) == b'K' {
+            self.at = self.at.checked_add(1)?;
+            return self.nest_at(s, Purpose::Name { is_const: true });
+        }
+        self.nest_at(s, Purpose::Name { is_const: false })
     }
 
+    /// A name of its own, behind the L of internal linkage or without one.
     // <unscoped-name> ::= <source-name>
     fn begin_name(&mut self, s: &[u8], is_internal: bool) -> Option<Step>
         requires fits { FitsSymbol s.now }
-        requires fresh { IsFresh self.old }
-        requires starts { StandsAt s.now 0 (95 ∷ 90 ∷ []) }
-        requires letter { is_internal ≡ true → StandsAt s.now 2 (76 ∷ []) }
+        requires awaits { AwaitsSource s.now self.old is_internal }
         ensures { IfSome result (IsWriting s.now self.new) }
     {
-        self.at = if is_internal { 3 } else { 2 };
+        let from = self.text.len();
         self.name(s)?;
         if byte_at(s, self.at) == b'I' {
-            self.add_candidate(0, false)?;
+            self.add_candidate(from, false)?;
             return self.open_arguments(Open::NameArguments);
         }
         self.name_ended(s, false, false)

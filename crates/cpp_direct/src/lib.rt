@@ -8,6 +8,7 @@ mod direct;
 mod lists;
 mod nested;
 mod open;
+mod thunks;
 mod tokens;
 mod types;
 mod writing;

@@ -1,4 +1,4 @@
-use Rattle.std.proofs.Common.{sym, ◌∙◌}
+use Rattle.std.proofs.Common.{◌++◌, sym, ◌∙◌}
 use Rattle.cpp_direct.proofs.Ending.{next-expected, function-ended, no-void}
 use Rattle.cpp_direct.proofs.direct.Direct.parameter_ended.Goals as goal
 
@@ -9,5 +9,5 @@ pub end-requires-clause-ended : goal.end-requires-clause-ended
 end-requires-clause-ended c =
     let p = c.requires.ended in
     function-ended c.args.s.now c.args.self.now c.push-2.new.self c.args.is_const p
-    (no-void c.deref.result.now p.name p.parameters (c.deref.ensures.value ∙ p.written) (sym c.ends_with.ensures.value ∙ c.if-ends_with.false))
+    (no-void c.deref.result.now (p.lead ++ p.name) p.parameters (c.deref.ensures.value ∙ p.written) (sym c.ends_with.ensures.value ∙ c.if-ends_with.false))
     c.in_ok-push-2.ensures

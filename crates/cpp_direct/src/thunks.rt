@@ -1,0 +1,81 @@
+// Thunks: functions that call another one, with what they call it on moved by an offset.
+
+ghost use Rattle.std.specs.Prelude.{◌≡◌, ◌+◌, ◌∷◌, [], ℕ, List};
+ghost use Rattle.std.specs.Option.{OnSome, IfSome};
+ghost use Rattle.sym_core.specs.Number.{FitsSymbol};
+ghost use Rattle.cpp_direct.specs.Holes.{StandsAt};
+ghost use Rattle.cpp_direct.specs.HolesOfLists.{IsDigitsAt, IsOffsetAt};
+ghost use Rattle.cpp_direct.specs.Stands.{IsWriting};
+ghost use Rattle.cpp_direct.specs.Ways.{IsFresh};
+ghost use Rattle.cpp_direct.specs.Written.{Reads};
+
+use crate::direct::Direct;
+use crate::open::Step;
+use crate::tokens::byte_at;
+use sym_core::{NumberKind, find_number};
+
+impl Direct {
+    // <special-name> ::= T <call-offset> <base encoding>
+    // <call-offset> ::= h <nv-offset> _
+    pub(crate) fn begin_thunk(&mut self, s: &[u8]) -> Option<Step>
+        requires fits { FitsSymbol s.now }
+        requires fresh { IsFresh self.old }
+        requires starts { StandsAt s.now 0 (95 ∷ 90 ∷ []) }
+        requires letter { StandsAt s.now 2 (84 ∷ []) }
+        requires kind { StandsAt s.now 3 (104 ∷ []) }
+        ensures { IfSome result (IsWriting s.now self.new) }
+    {
+        self.at = 4;
+        self.offset(s)?;
+        self.push(b"non-virtual thunk to ")?;
+        self.begin_encoding(s)
+    }
+
+    // <special-name> ::= T <call-offset> <base encoding>
+    // <call-offset> ::= v <offset number> _ <virtual offset number> _
+    pub(crate) fn begin_virtual_thunk(&mut self, s: &[u8]) -> Option<Step>
+        requires fits { FitsSymbol s.now }
+        requires fresh { IsFresh self.old }
+        requires starts { StandsAt s.now 0 (95 ∷ 90 ∷ []) }
+        requires letter { StandsAt s.now 2 (84 ∷ []) }
+        requires kind { StandsAt s.now 3 (118 ∷ []) }
+        ensures { IfSome result (IsWriting s.now self.new) }
+    {
+        self.at = 4;
+        self.offset(s)?;
+        self.offset(s)?;
+        self.push(b"virtual thunk to ")?;
+        self.begin_encoding(s)
+    }
+
+    /// Reads an offset and the _ behind it, of which nothing is written.
+    // <number> ::= [n] <non-negative decimal integer>
+    fn offset(&mut self, s: &[u8]) -> Option<()>
+        requires { FitsSymbol s.now }
+        ensures { OnSome result (IsOffsetAt s.now self.old.at self.new.at × Reads self.old self.new []) }
+    {
+        if byte_at(s, self.at) == b'n' {
+            self.at = self.at.checked_add(1)?;
+            return self.distance(s);
+        }
+        self.distance(s)
+    }
+
+    /// Reads the digits of an offset and the _ behind them.
+    // <non-negative decimal integer>
+    fn distance(&mut self, s: &[u8]) -> Option<()>
+        requires { FitsSymbol s.now }
+        ensures { OnSome result ((digits : List ℕ) × (end : ℕ) × IsDigitsAt s.now self.old.at digits end × StandsAt s.now end (95 ∷ [])
+            × (self.new.at ≡ end + 1) × Reads self.old self.new []) }
+    {
+        if self.at > s.len() {
+            return None;
+        }
+        let place = find_number(s, self.at, NumberKind::Digits).ok()?;
+        if byte_at(s, place.end) != b'_' {
+            return None;
+        }
+        self.at = place.end.checked_add(1)?;
+        Some(())
+    }
+}
