@@ -206,11 +206,11 @@ impl Direct {
         if is_instance {
             return None;
         }
-        self.push(b"(")?;
+        self.push_byte(b'(')?;
         let behind = byte_at(s, self.at.checked_add(1)?);
         if byte == b'v' && (behind == 0 || behind == b'.') {
             self.at = self.at.checked_add(1)?;
-            self.push(b")")?;
+            self.push_byte(b')')?;
             return self.end(s, is_const);
         }
         self.waiting.push(Open::Parameters { is_const }).ok()?;
@@ -225,14 +225,14 @@ impl Direct {
     {
         let byte = byte_at(s, self.at);
         if byte != 0 && byte != b'.' {
-            self.push(b", ")?;
+            self.push_pair(b',', b' ')?;
             return Some(Step::Type);
         }
         // a lone void is no parameter
         if self.text.ends_with(b"(void") {
             return None;
         }
-        self.push(b")")?;
+        self.push_byte(b')')?;
         self.end(s, is_const)
     }
 

@@ -101,7 +101,7 @@ impl Direct {
             return self.list_ended(s, is_first);
         }
         if !is_first {
-            self.push(b", ")?;
+            self.push_pair(b',', b' ')?;
         }
         match byte {
             b'L' => self.literal(s),
@@ -151,7 +151,7 @@ impl Direct {
         requires ended { IsListEnded s.now self.old }
         ensures { IfSome result (IsWriting s.now self.new) }
     {
-        self.push(b">")?;
+        self.push_byte(b'>')?;
         match self.waiting.pop()? {
             Open::TypeArguments { from } => {
                 self.add_candidate(from, false)?;

@@ -193,7 +193,7 @@ impl Direct {
         if is_internal {
             self.at = self.at.checked_add(1)?;
         }
-        self.push(b"::")?;
+        self.push_pair(b':', b':')?;
         let class_from = self.text.len();
         self.name(s)?;
         self.nest = Nest {
@@ -221,7 +221,7 @@ impl Direct {
             return None;
         }
         self.at = self.at.checked_add(1)?;
-        self.push(b"::")?;
+        self.push_pair(b':', b':')?;
         let class_from = self.text.len();
         self.push(text)?;
         self.nest = Nest {

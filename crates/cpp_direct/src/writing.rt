@@ -17,6 +17,23 @@ impl Direct {
         self.text.extend_from_slice(text).ok()
     }
 
+    /// Writes a byte.
+    #[inline(always)]
+    pub(crate) fn push_byte(&mut self, byte: u8) -> Option<()>
+        ensures { OnSome result (Writes self.old self.new (byte ∷ [])) }
+    {
+        self.text.push(byte).ok()
+    }
+
+    /// Writes two bytes.
+    #[inline(always)]
+    pub(crate) fn push_pair(&mut self, first: u8, second: u8) -> Option<()>
+        ensures { OnSome result (Writes self.old self.new (first ∷ second ∷ [])) }
+    {
+        self.text.push(first).ok()?;
+        self.text.push(second).ok()
+    }
+
     /// What is written from a place on becomes a candidate.
     #[inline(always)]
     pub(crate) fn add_candidate(&mut self, from: usize, is_reference: bool) -> Option<()>
@@ -91,7 +108,7 @@ impl Direct {
         ensures candidates { OnSome result (self.new.candidates ≡ self.old.candidates) }
         ensures nest { OnSome result (self.new.nest ≡ self.old.nest) }
     {
-        self.push(b"<")?;
+        self.push_byte(b'<')?;
         self.open_type(entry, Step::List { is_first: true })
     }
 }

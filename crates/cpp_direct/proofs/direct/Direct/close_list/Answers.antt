@@ -7,58 +7,58 @@ use Rattle.cpp_direct.proofs.direct.Direct.close_list.Goals as goal
 pub name_ended-requires-clause-ended : goal.name_ended-requires-clause-ended
 name_ended-requires-clause-ended c =
     let w : Direct = record {
-      text = c.push.new.self.text;
-      candidates = c.push.new.self.candidates;
+      text = c.push_byte.new.self.text;
+      candidates = c.push_byte.new.self.candidates;
       waiting = c.pop.new.self;
-      nest = c.push.new.self.nest;
-      at = c.push.new.self.at;
-      most = c.push.new.self.most;
+      nest = c.push_byte.new.self.nest;
+      at = c.push_byte.new.self.at;
+      most = c.push_byte.new.self.most;
     } in
     name-closed c.args.s.now w
-    (closed-by c.args.s.now c.args.self.now c.push.new.self w c.in_ok-from.field-0 opens.NameArguments
-    c.requires.ended c.in_ok-push.ensures refl refl refl c.in_ok-from.ensures.items c.in-NameArguments.is)
+    (closed-by c.args.s.now c.args.self.now c.push_byte.new.self w c.in_ok-from.field-0 opens.NameArguments
+    c.requires.ended c.in_ok-push_byte.ensures refl refl refl c.in_ok-from.ensures.items c.in-NameArguments.is)
 
 pub returns-in_ok-add_candidate-in-TypeArguments : goal.returns-in_ok-add_candidate-in-TypeArguments
 returns-in_ok-add_candidate-in-TypeArguments c =
     let w : Direct = record {
-      text = c.push.new.self.text;
-      candidates = c.push.new.self.candidates;
+      text = c.push_byte.new.self.text;
+      candidates = c.push_byte.new.self.candidates;
       waiting = c.pop.new.self;
-      nest = c.push.new.self.nest;
-      at = c.push.new.self.at;
-      most = c.push.new.self.most;
+      nest = c.push_byte.new.self.nest;
+      at = c.push_byte.new.self.at;
+      most = c.push_byte.new.self.most;
     } in
     type-closed c.args.s.now w c.add_candidate.new.self c.in-TypeArguments.from
-    (closed-by c.args.s.now c.args.self.now c.push.new.self w c.in_ok-from.field-0 (opens.TypeArguments c.in-TypeArguments.from)
-    c.requires.ended c.in_ok-push.ensures refl refl refl c.in_ok-from.ensures.items c.in-TypeArguments.is)
+    (closed-by c.args.s.now c.args.self.now c.push_byte.new.self w c.in_ok-from.field-0 (opens.TypeArguments c.in-TypeArguments.from)
+    c.requires.ended c.in_ok-push_byte.ensures refl refl refl c.in_ok-from.ensures.items c.in-TypeArguments.is)
     c.in_ok-add_candidate-in-TypeArguments.ensures.candidates c.add_candidate.ensures.text c.add_candidate.ensures.open c.add_candidate.ensures.at
 
 pub returns-in-NestArguments : goal.returns-in-NestArguments
 returns-in-NestArguments c =
     let w : Direct = record {
-      text = c.push.new.self.text;
-      candidates = c.push.new.self.candidates;
+      text = c.push_byte.new.self.text;
+      candidates = c.push_byte.new.self.candidates;
       waiting = c.pop.new.self;
-      nest = c.push.new.self.nest;
-      at = c.push.new.self.at;
-      most = c.push.new.self.most;
+      nest = c.push_byte.new.self.nest;
+      at = c.push_byte.new.self.at;
+      most = c.push_byte.new.self.most;
     } in
     nest-closed c.args.s.now w c.in-NestArguments.nest
-    (closed-by c.args.s.now c.args.self.now c.push.new.self w c.in_ok-from.field-0 (opens.NestArguments c.in-NestArguments.nest)
-    c.requires.ended c.in_ok-push.ensures refl refl refl c.in_ok-from.ensures.items c.in-NestArguments.is)
+    (closed-by c.args.s.now c.args.self.now c.push_byte.new.self w c.in_ok-from.field-0 (opens.NestArguments c.in-NestArguments.nest)
+    c.requires.ended c.in_ok-push_byte.ensures refl refl refl c.in_ok-from.ensures.items c.in-NestArguments.is)
 
 pub returns-in_ok-add_candidate-in-FirstArguments : goal.returns-in_ok-add_candidate-in-FirstArguments
 returns-in_ok-add_candidate-in-FirstArguments c =
     let w : Direct = record {
-      text = c.push.new.self.text;
-      candidates = c.push.new.self.candidates;
+      text = c.push_byte.new.self.text;
+      candidates = c.push_byte.new.self.candidates;
       waiting = c.pop.new.self;
-      nest = c.push.new.self.nest;
-      at = c.push.new.self.at;
-      most = c.push.new.self.most;
+      nest = c.push_byte.new.self.nest;
+      at = c.push_byte.new.self.at;
+      most = c.push_byte.new.self.most;
     } in
     first-closed c.args.s.now w c.add_candidate-in-FirstArguments.new.self c.in-FirstArguments.nest
-    (closed-by c.args.s.now c.args.self.now c.push.new.self w c.in_ok-from.field-0 (opens.FirstArguments c.in-FirstArguments.nest)
-    c.requires.ended c.in_ok-push.ensures refl refl refl c.in_ok-from.ensures.items c.in-FirstArguments.is)
+    (closed-by c.args.s.now c.args.self.now c.push_byte.new.self w c.in_ok-from.field-0 (opens.FirstArguments c.in-FirstArguments.nest)
+    c.requires.ended c.in_ok-push_byte.ensures refl refl refl c.in_ok-from.ensures.items c.in-FirstArguments.is)
     c.in_ok-add_candidate-in-FirstArguments.ensures.candidates c.add_candidate-in-FirstArguments.ensures.text
     c.add_candidate-in-FirstArguments.ensures.open c.add_candidate-in-FirstArguments.ensures.at

@@ -13,17 +13,17 @@ pub end-requires-then-behind-eq46-clause-ended : goal.end-requires-then-behind-e
 end-requires-then-behind-eq46-clause-ended c =
     let s = c.args.s.now in
     let w = c.args.self.now in
-    void-ended s w c.push.new.self _ c.push-then-behind-eq46.new.self c.args.is_const
+    void-ended s w c.push_byte.new.self _ c.push_byte-then-behind-eq46.new.self c.args.is_const
     (subst (λ b. IsNameEnded s w c.args.is_const b) c.if-is_instance.false c.requires.ended)
     (subst (λ b. StandsAt s w.at (b ∷ [])) c.if-byte-eq118.true (c.byte_at-byte.ensures c.if-byte-eq0.false))
-    c.in_ok-push.ensures refl refl (omega (arith, c.in_ok-self.ensures)) c.in_ok-push-2.ensures
+    c.in_ok-push_byte.ensures refl refl (omega (arith, c.in_ok-self.ensures)) c.in_ok-push_byte-2.ensures
 
 pub returns : goal.returns
 returns c =
     let s = c.args.s.now in
     let w = c.args.self.now in
-    first-expected s w c.push.new.self _ c.args.is_const
+    first-expected s w c.push_byte.new.self _ c.args.is_const
     (subst (λ b. IsNameEnded s w c.args.is_const b) c.if-is_instance.false c.requires.ended)
-    c.in_ok-push.ensures refl refl refl
-    (pushed _ c.push.new.self.waiting.items (c.push.new.self.waiting.items ++ opens.Parameters c.args.is_const ∷ []) _ c.push-2.ensures.items
+    c.in_ok-push_byte.ensures refl refl refl
+    (pushed _ c.push_byte.new.self.waiting.items (c.push_byte.new.self.waiting.items ++ opens.Parameters c.args.is_const ∷ []) _ c.push.ensures.items
     (sym c.ok.ensures.variant ∙ ap is_some c.in_ok-ok.was))

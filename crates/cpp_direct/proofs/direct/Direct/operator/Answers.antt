@@ -9,11 +9,11 @@ pub nest_named-requires : goal.nest_named-requires
 nest_named-requires c =
     let text = c.operator_text-text.ensures in
     let filled : c.operator_text-text.result.now ≢ [] = some-text c.operator_text-text.result.now _ refl c.if-is_empty.ensures in
-    operator-follows c.args.s.now c.args.self.now _ c.push.new.self c.push-2.new.self _ c.byte_at-first.result c.byte_at-second.result c.requires
+    operator-follows c.args.s.now c.args.self.now _ c.push_pair.new.self c.push.new.self _ c.byte_at-first.result c.byte_at-second.result c.requires
     (text.known filled) (sym c.is_angle_code.ensures ∙ c.if-is_angle_code.false) c.byte_at-first.ensures
     (subst (λ k. c.byte_at-second.result ≢ 0 → StandsAt c.args.s.now k (c.byte_at-second.result ∷ [])) c.in_ok-self.ensures.1 c.byte_at-second.ensures)
-    c.in_ok-push.ensures
+    c.in_ok-push_pair.ensures
     (record { text = refl; candidates = refl; waiting = refl; nest = refl; at = omega (arith, c.in_ok-self.ensures, c.in_ok-self-2.ensures) })
-    (subst (λ l. Writes c.push.new.self c.push-2.new.self l) (text.text filled) c.in_ok-push-2.ensures)
+    (subst (λ l. Writes c.push_pair.new.self c.push.new.self l) (text.text filled) c.in_ok-push.ensures)
     refl refl refl refl refl refl
-    (c.len-class_from.ensures ∙ c.push.new.self.text.ok.0) (c.len.ensures ∙ c.push-2.new.self.text.ok.0) refl refl refl
+    (c.len-class_from.ensures ∙ c.push_pair.new.self.text.ok.0) (c.len.ensures ∙ c.push.new.self.text.ok.0) refl refl refl

@@ -3,11 +3,11 @@ use Rattle.cpp_direct.proofs.Ending.{next-expected, function-ended, no-void}
 use Rattle.cpp_direct.proofs.direct.Direct.parameter_ended.Goals as goal
 
 pub returns-then-byte-ne46 : goal.returns-then-byte-ne46
-returns-then-byte-ne46 c = next-expected c.args.s.now c.args.self.now c.push.new.self c.args.is_const c.requires.ended c.in_ok-push.ensures
+returns-then-byte-ne46 c = next-expected c.args.s.now c.args.self.now c.push_pair.new.self c.args.is_const c.requires.ended c.in_ok-push_pair.ensures
 
 pub end-requires-clause-ended : goal.end-requires-clause-ended
 end-requires-clause-ended c =
     let p = c.requires.ended in
-    function-ended c.args.s.now c.args.self.now c.push-2.new.self c.args.is_const p
+    function-ended c.args.s.now c.args.self.now c.push_byte.new.self c.args.is_const p
     (no-void c.deref.result.now (p.lead ++ p.name) p.parameters (c.deref.ensures.value ∙ p.written) (sym c.ends_with.ensures.value ∙ c.if-ends_with.false))
-    c.in_ok-push-2.ensures
+    c.in_ok-push_byte.ensures
