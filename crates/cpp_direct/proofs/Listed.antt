@@ -1,5 +1,5 @@
 -- A writer at the end of arguments or a pack, between two elements, and where a type was read that something waits for.
-use Rattle.std.proofs.Common.{◌≡◌, ◌≢◌, inr, ℕ, ◌+◌, ◌-◌, length, List, [], ◌∷◌, ◌++◌, reverse, slice_get, get_or, Bool, true, false, Some, refl, ap, sym, ◌∙◌, subst, arith, codes, append_assoc, append-nil}
+use Rattle.std.proofs.Common.{◌≡◌, ◌≢◌, inl, inr, ℕ, ◌+◌, ◌-◌, length, List, [], ◌∷◌, ◌++◌, reverse, slice_get, get_or, Bool, true, false, Some, refl, ap, sym, ◌∙◌, subst, arith, codes, append_assoc, append-nil}
 use Rattle.std.proofs.lemmas.Bool.{false≢true}
 use Rattle.std.proofs.lemmas.List.{length-append, reverse-reverse}
 use Rattle.std.proofs.lemmas.Option.{slice_get_within, get_or_from_slice_get}
@@ -18,12 +18,12 @@ use Rattle.cpp_direct.specs.declared.direct.Direct.{Direct}
 use Rattle.cpp_direct.specs.Holes.{Opened, Comes, Expects, IsListKind, ListGoesOn, StandsAt, AwaitsComponent, with_candidate}
 use Rattle.cpp_direct.specs.HolesOfLists.{IsArgumentKind}
 use Rattle.cpp_direct.specs.Prints.{Prints, PrintAll, Shows, list_of}
-use Rattle.cpp_direct.specs.Stands.{AreCandidates, IsListing, IsNest, IsTemplate, IsWriting, Marks, Owns, Serves, ArgumentsGoOn, AwaitsElementOf, AwaitsEnumerator, Belongs, Closes, ElementsGoOn, EnumeratorGoesOn, GoesOn, Listing, of_template, of_pack, Stands, element_kind, extra_of, led_by, list_with, in_front_of_next}
+use Rattle.cpp_direct.specs.Stands.{AreCandidates, IsListing, IsNest, IsTail, IsTemplate, IsWriting, Marks, Owns, Serves, ArgumentsGoOn, AwaitsElementOf, AwaitsEnumerator, Belongs, Closes, ElementsGoOn, EnumeratorGoesOn, GoesOn, Listing, of_template, of_pack, Stands, element_kind, extra_of, led_by, list_with, in_front_of_next}
 use Rattle.cpp_direct.specs.Ways.{AwaitsMark, IsListEnded, AwaitsNextArgument, IsNameEnded, IsParameterEnded, IsEncodingEnded, AwaitsNumber}
 use Rattle.cpp_direct.specs.Written.{Writes, added}
-use Rattle.cpp_direct.proofs.Moves.{expects-empty}
+use Rattle.cpp_direct.proofs.Moves.{expects-empty, stands-split}
 use Rattle.cpp_direct.proofs.MovesOfLists.{element-awaits, pack-opens}
-use Rattle.cpp_direct.proofs.PrintedLists.{next-prints, none-print, pack-element, type-element}
+use Rattle.cpp_direct.proofs.PrintedLists.{list-with-none, next-prints, none-print, pack-element, type-element}
 use Rattle.cpp_direct.proofs.PrintedNests.{instance-prints, instance-class}
 use Rattle.cpp_direct.proofs.PrintedSymbols.{special-shows}
 use Rattle.cpp_direct.proofs.Kept.{candidates-stay, candidates-with, template-stays, reverse-last, last-reversed}
@@ -56,10 +56,6 @@ pub waits-last : (items xs : List Open) (x y : Open) → xs ≡ items → Some x
 waits-last items xs x y same found is = ap (λ l. slice_get l (length l - 1)) (sym same) ∙ sym found ∙ ap (λ o. Some o) is
 
 -- ## Lists
-
-list-with-none : (ts : List Term) → list_with ts nil ≡ list_of ts
-list-with-none [] = refl
-list-with-none (t ∷ ts) = ap (λ r. list t r) (list-with-none ts)
 
 list-more : (ts : List Term) (t r : Term) → list_with (ts ++ t ∷ []) r ≡ list_with ts (list t r)
 list-more [] t r = refl
@@ -129,11 +125,13 @@ pub record IsClosed (s : List ℕ) (w : Direct) (owner : Open) : Type 0 where
   pub template : Term
   pub name : List ℕ
   pub ts : List Term
+  pub tail : Term
+  pub is_tail : IsTail tail
   pub arguments : List ℕ
   pub is_template : IsTemplate owner front template name w.text.items
   pub elements : PrintAll 3 ts arguments
   pub written : w.text.items ≡ front ++ (name ++ codes "<" ++ arguments ++ codes ">")
-  pub owns : Owns s owner (Stands s (reverse w.waiting.items)) front (instance template (list_of ts)) w.at state
+  pub owns : Owns s owner (Stands s (reverse w.waiting.items)) front (instance template (list_with ts tail)) w.at state
 
 closing : (a b d : List ℕ) → (a ++ b ++ codes "<" ++ d) ++ codes ">" ≡ a ++ (b ++ codes "<" ++ d ++ codes ">")
 closing a b d =
@@ -145,7 +143,7 @@ pub closes : (s : List ℕ) (old new : Direct) (owner : Open) → IsListEnded s 
     → new.candidates.items ≡ old.candidates.items → new.at ≡ old.at → old.waiting.items ≡ new.waiting.items ++ owner ∷ [] → IsClosed s new owner
 closes s old new owner p text candidates at opened =
     let last = opened-last old.waiting.items new.waiting.items owner p.owner p.rest p.open_is opened in
-    let made = instance p.template (list_of p.ts) in
+    let made = instance p.template (list_with p.ts p.tail) in
     record {
       state = p.state;
       candidates = subst (λ l. AreCandidates l new.candidates.items p.state.candidates) (sym text)
@@ -155,6 +153,8 @@ closes s old new owner p text candidates at opened =
       template = p.template;
       name = p.name;
       ts = p.ts;
+      tail = p.tail;
+      is_tail = p.is_tail;
       arguments = p.arguments;
       is_template = subst (λ l. IsTemplate owner p.front p.template p.name l) (sym text)
           (subst (λ o. IsTemplate o p.front p.template p.name (old.text.items ++ codes ">")) last.0
@@ -179,11 +179,11 @@ closed-by s old mid new x owner p writes text candidates at items is =
 pub type-closed : (s : List ℕ) (w new : Direct) (from : ℕ) → IsClosed s w (opens.TypeArguments from)
     → new.candidates.items ≡ added w from false → new.text ≡ w.text → new.waiting ≡ w.waiting → new.at ≡ w.at → IsWriting s new (steps.Value false)
 type-closed s w new from p candidates text waiting at =
-    let t = instance p.template (list_of p.ts) in
+    let t = instance p.template (list_with p.ts p.tail) in
     let bytes = p.name ++ codes "<" ++ p.arguments ++ codes ">" in
     let outer = p.owns.0 in
     let state = with_candidate p.owns.1 t p.state in
-    let prints = instance-prints p.template p.name p.is_template.1 p.ts p.arguments p.elements in
+    let prints = instance-prints p.template p.name p.is_template.1 p.ts p.tail p.arguments p.is_tail p.elements in
     record {
       state = state;
       candidates = subst (λ v. AreCandidates v.items new.candidates.items state.candidates) (sym text)
@@ -201,22 +201,22 @@ type-closed s w new from p candidates text waiting at =
       );
     }
 
-instance-nest : (front name text : List ℕ) (nest : Nest) (is_listed is_instance : Bool) (t : Term) (ts : List Term) (l : List ℕ)
-    → IsNest front name text nest t → PrintAll 3 ts l → text ≡ front ++ (name ++ codes "<" ++ l ++ codes ">")
+instance-nest : (front name text : List ℕ) (nest : Nest) (is_listed is_instance : Bool) (t : Term) (ts : List Term) (tail : Term) (l : List ℕ)
+    → IsTail tail → IsNest front name text nest t → PrintAll 3 ts l → text ≡ front ++ (name ++ codes "<" ++ l ++ codes ">")
     → IsNest front (name ++ codes "<" ++ l ++ codes ">") text (record nest { is_listed = is_listed; is_instance = is_instance })
-    (instance t (list_of ts))
-instance-nest front name text nest is_listed is_instance t ts l p all written = record {
+    (instance t (list_with ts tail))
+instance-nest front name text nest is_listed is_instance t ts tail l is p all written = record {
   back = [];
   written = written ∙ sym (append-nil (front ++ (name ++ codes "<" ++ l ++ codes ">")));
   from_is = p.from_is;
-  prints = instance-prints t name p.prints ts l all;
+  prints = instance-prints t name p.prints ts tail l is all;
   class_front = p.class_front;
   class = p.class;
   class_back = p.class_back;
   class_written = p.class_written;
   class_from = p.class_from;
   class_to = p.class_to;
-  names_class = λ h. instance-class t name p.class p.prints (p.names_class h) ts l all;
+  names_class = λ h. instance-class t name p.class p.prints (p.names_class h) ts tail l is all;
 }
 
 structor-returns : (t a : Term) → is_structor t ≡ true → has_return_type (instance t a) ≡ false
@@ -227,7 +227,7 @@ structor-returns t a h = rw h refl
 pub nest-closed : (s : List ℕ) (w : Direct) (nest : Nest) → IsClosed s w (opens.NestArguments nest)
     → IsWriting s (record w { nest = record nest { is_listed = false; is_instance = nest.has_class } }) steps.Tail
 nest-closed s w nest p =
-    let t = instance p.template (list_of p.ts) in
+    let t = instance p.template (list_with p.ts p.tail) in
     record {
       state = p.state;
       candidates = p.candidates;
@@ -239,12 +239,12 @@ nest-closed s w nest p =
           outer = p.owns.1;
           bytes = p.name ++ codes "<" ++ p.arguments ++ codes ">";
           written = p.written;
-          is_nest = instance-nest p.front p.name w.text.items nest false nest.has_class p.template p.ts p.arguments p.is_template.0
+          is_nest = instance-nest p.front p.name w.text.items nest false nest.has_class p.template p.ts p.tail p.arguments p.is_tail p.is_template.0
               p.elements p.written;
           goes = p.owns.2;
           serves = p.owns.3;
         },
-        λ h. structor-returns p.template (list_of p.ts) (p.is_template.1 h),
+        λ h. structor-returns p.template (list_with p.ts p.tail) (p.is_template.1 h),
       );
     }
 
@@ -253,13 +253,13 @@ pub first-closed : (s : List ℕ) (w new : Direct) (nest : Nest) → IsClosed s 
     → new.candidates.items ≡ added w nest.from false → new.text ≡ w.text → new.waiting ≡ w.waiting → new.at ≡ w.at
     → IsWriting s (record new { nest = nest }) steps.Component
 first-closed s w new nest p candidates text waiting at =
-    let t = instance p.template (list_of p.ts) in
+    let t = instance p.template (list_with p.ts p.tail) in
     let bytes = p.name ++ codes "<" ++ p.arguments ++ codes ">" in
     let around = p.owns.0 in
     let outer = p.owns.1 in
     let state = with_candidate around.encoding t p.state in
     let is_nest : IsNest p.front bytes w.text.items nest t
-    = instance-nest p.front p.name w.text.items nest nest.is_listed nest.is_instance p.template p.ts p.arguments p.is_template
+    = instance-nest p.front p.name w.text.items nest nest.is_listed nest.is_instance p.template p.ts p.tail p.arguments p.is_tail p.is_template
     p.elements p.written in
     record {
       state = state;
@@ -283,7 +283,7 @@ first-closed s w new nest p candidates text waiting at =
 pub name-closed : (s : List ℕ) (w : Direct) → IsClosed s w opens.NameArguments → IsNameEnded s w false true
 unfolding tree_of qualifiers_of ref_of
 name-closed s w p =
-    let t = instance p.template (list_of p.ts) in
+    let t = instance p.template (list_with p.ts p.tail) in
     let bytes = p.name ++ codes "<" ++ p.arguments ++ codes ">" in
     record {
       state = p.state;
@@ -296,7 +296,7 @@ name-closed s w p =
       lead = p.front;
       name = bytes;
       written = p.written;
-      prints = instance-prints p.template p.name p.is_template p.ts p.arguments p.elements;
+      prints = instance-prints p.template p.name p.is_template p.ts p.tail p.arguments p.is_tail p.elements;
       no_return = λ h. absurd (false≢true (sym h));
       awaits = p.owns;
     }
@@ -336,12 +336,64 @@ list-ends s w first owner p stands found other = go p.is_before.0.listing refl
           template = place.template;
           name = place.name;
           ts = ts;
+          tail = nil;
+          is_tail = inl refl;
           arguments = texts;
           is_template = place.is_template;
           elements = subst (λ l. PrintAll (extra_of l) ts texts) is p.is_before.3;
           written = subst (λ l. w.text.items ≡ led_by l place.front place.name ++ texts) is p.is_before.4;
-          owns = subst (λ l. Owns s place.owner (Stands s place.rest) place.front (instance place.template l) (w.at + 1) p.state) (list-with-none ts)
-              (goes.4 nothing_there w.at p.state (expects-empty s Kind.ArgumentList goes.0 goes.1 w.at p.state goes.3 refl) stands);
+          owns = goes.4 nothing_there w.at p.state (expects-empty s Kind.ArgumentList goes.0 goes.1 w.at p.state goes.3 refl) stands;
+        }
+
+-- a pack of nothing and an E end them too
+pub empty-pack-ends : (s : List ℕ) (w : Direct) (first : Bool) (owner : Open) → IsWriting s w (steps.List first)
+    → StandsAt s w.at (74 ∷ 69 ∷ 69 ∷ [])
+    → slice_get w.waiting.items (length w.waiting.items - 1) ≡ Some owner → (owner ≡ opens.Pack → ⊥)
+    → IsListEnded s (record w { at = w.at + 3 })
+unfolding no_items may_be_empty tree_of
+empty-pack-ends s w first owner p stands found other = go p.is_before.0.listing refl
+  where
+    last : (rest : List Open) × (reverse w.waiting.items ≡ owner ∷ rest)
+    last = last-found w.waiting.items owner found
+
+    go : (l : Listing) → p.is_before.0.listing ≡ l → IsListEnded s (record w { at = w.at + 3 })
+    go (of_pack before written) is =
+        absurd (other (cc (sym last.1
+        ∙ (subst (λ l. Belongs l (reverse w.waiting.items) p.is_before.0.owner p.is_before.0.rest) is p.is_before.0.belongs).0)))
+    go of_template is =
+        let place = p.is_before.0 in
+        let ts = p.is_before.1 in
+        let texts = p.is_before.2 in
+        let goes = subst (λ l. GoesOn s l place.owner (Stands s place.rest) place.front place.template ts w.at p.state) is p.is_before.7 in
+        let begins = stands-split s w.at (74 ∷ []) (69 ∷ 69 ∷ []) stands in
+        let ends = stands-split s (w.at + 1) (69 ∷ []) (69 ∷ []) begins.1 in
+        let opened = pack-opens s goes.1 goes.0 w.at p.state goes.3 begins.0 in
+        let more = opened.onward nothing_there (w.at + 1) p.state
+        (expects-empty s Kind.PackList goes.0 opened.inner (w.at + 1) p.state opened.awaits refl) ends.0 in
+        let behind = element-goes-on s Kind.ArgumentList (λ u there later. Owns s place.owner (Stands s place.rest) place.front (instance place.template u) there later)
+        ts (pack nil) w.at (w.at + 1 + 1) p.state p.state goes more in
+        record {
+          state = p.state;
+          candidates = p.candidates;
+          owner = place.owner;
+          rest = place.rest;
+          open_is = subst (λ l. Belongs l (reverse w.waiting.items) place.owner place.rest) is place.belongs;
+          front = place.front;
+          template = place.template;
+          name = place.name;
+          ts = ts;
+          tail = list (pack nil) nil;
+          is_tail = inr refl;
+          arguments = texts;
+          is_template = place.is_template;
+          elements = subst (λ l. PrintAll (extra_of l) ts texts) is p.is_before.3;
+          written = subst (λ l. w.text.items ≡ led_by l place.front place.name ++ texts) is p.is_before.4;
+          owns = subst (λ k. Owns s place.owner (Stands s place.rest) place.front (instance place.template (list_with ts (list (pack nil) nil))) k p.state)
+              (omega arith)
+              (subst (λ l. Owns s place.owner (Stands s place.rest) place.front (instance place.template l) (w.at + 1 + 1 + 1) p.state)
+              (list-more ts (pack nil) nil)
+              (behind.4 nothing_there (w.at + 1 + 1) p.state
+              (expects-empty s Kind.ArgumentList behind.0 behind.1 (w.at + 1 + 1) p.state behind.3 refl) ends.1));
         }
 
 -- an E ends a pack, which is an argument

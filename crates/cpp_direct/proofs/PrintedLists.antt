@@ -1,13 +1,13 @@
 -- Lists of trees of which the texts are known.
-use Rattle.std.proofs.Common.{◌≡◌, ◌≢◌, refl, ap, sym, subst, ◌∙◌, ℕ, ◌+◌, ◌*◌, ◌≤◌, List, [], ◌∷◌, ◌++◌, length, Bool, false, None, arith, codes, length-append, append-nil, append_assoc}
+use Rattle.std.proofs.Common.{◌≡◌, ◌≢◌, inl, inr, refl, ap, sym, subst, ◌∙◌, ℕ, ◌+◌, ◌*◌, ◌≤◌, List, [], ◌∷◌, ◌++◌, length, Bool, false, None, arith, codes, length-append, append-nil, append_assoc}
 use Rattle.sym_print.specs.Unshared.{text_of, cost_of}
-use Rattle.cpp_grammar.specs.Term.{Term, list, pack}
+use Rattle.cpp_grammar.specs.Term.{Term, nil, list, pack}
 use Rattle.cpp_grammar.specs.Scope.{is_open, pack_length, first_of}
 use Rattle.cpp_grammar.specs.Items.{left, right, first, more, Context, is_empty}
 use Rattle.cpp_grammar.specs.Meaning.{is_void}
 use Rattle.cpp_grammar.specs.Parts.{as_item, says, list_part, first_parts, more_parts, left_parts, right_parts, parts_in, not_empty}
 use Rattle.cpp_direct.specs.Prints.{in_form, Prints, IsElement, list_of, joined, PrintEach, PrintAll}
-use Rattle.cpp_direct.specs.Stands.{in_front_of_next}
+use Rattle.cpp_direct.specs.Stands.{IsTail, list_with, in_front_of_next}
 use Rattle.cpp_direct.proofs.PrintedParts.{printed_by, text_by, cost_by}
 
 -- ## What a list prints
@@ -35,102 +35,161 @@ first-is c e rest filled = rw (filled, first_parts) refl
 element-text : (l r x b y : List ℕ) → l ++ r ≡ b → x ≡ y → l ++ (r ++ x) ≡ b ++ y
 element-text l r x b y e f = sym (append_assoc l r x) ∙ ap (λ k. k ++ x) e ∙ ap (λ k. b ++ k) f
 
-more-text : (c : Context) (extra : ℕ) (ts : List Term) (texts : List (List ℕ)) → PrintEach extra ts texts
-    → text_of (printed_by (list_part more c (list_of ts))) ≡ further texts
-unfolding list_part parts_in not_empty
-more-text c extra [] [] each = refl
-more-text c extra (t ∷ ts) (b ∷ bs) each =
-    append-nil (text_of (in_form more c (list t (list_of ts))))
-    ∙ text_by more c (list t (list_of ts)) (says ", " ∷ as_item left c t ∷ as_item right c t ∷ list_part more c (list_of ts))
-    (more-is c t (list_of ts) (each.0.filled c))
-    ∙ ap (λ s. codes ", " ++ s) (element-text (text_of (in_form left c t)) (text_of (in_form right c t))
-    (text_of (printed_by (list_part more c (list_of ts)))) b (further bs)
-    (each.0.both_texts c) (more-text c extra ts bs each.1))
-more-text c extra [] (b ∷ bs) each = elim each [ ]
-more-text c extra (t ∷ ts) [] each = elim each [ ]
+-- Behind the elements of a list this stands and prints nothing. It may cost so much.
+record EndsList (most : ℕ) (tail : Term) : Type 0 where
+  first_text : (c : Context) → text_of (printed_by (list_part first c tail)) ≡ []
+  first_cost : (c : Context) → cost_of (printed_by (list_part first c tail)) ≤ 1 + most
+  more_text : (c : Context) → text_of (printed_by (list_part more c tail)) ≡ []
+  more_cost : (c : Context) → cost_of (printed_by (list_part more c tail)) ≤ 1 + most
+  closed : is_open tail ≡ false
+  packless : (scope : Term) → pack_length scope tail ≡ None
 
-more-cost : (c : Context) (extra : ℕ) (ts : List Term) (texts : List (List ℕ)) → extra ≤ 3 → PrintEach extra ts texts
-    → cost_of (printed_by (list_part more c (list_of ts))) ≤ 1 + 4 * length (further texts)
+ends-bare : EndsList 0 nil
+unfolding list_part parts_in not_empty is_open pack_length
+ends-bare = record {
+  first_text = λ c. refl;
+  first_cost = λ c. omega arith;
+  more_text = λ c. refl;
+  more_cost = λ c. omega arith;
+  closed = refl;
+  packless = λ scope. refl;
+}
+
+ends-list : (tail : Term) → IsTail tail → EndsList 1 tail
+unfolding list_part first_parts more_parts parts_in not_empty is_empty is_open pack_length first_of
+ends-list tail (inl is) = subst (EndsList 1) (sym is) (record {
+  first_text = λ c. refl;
+  first_cost = λ c. omega arith;
+  more_text = λ c. refl;
+  more_cost = λ c. omega arith;
+  closed = refl;
+  packless = λ scope. refl;
+})
+ends-list tail (inr is) = let l = list (pack nil) nil in subst (EndsList 1) (sym is) (record {
+  first_text = λ c. append-nil (text_of (in_form first c l)) ∙ text_by first c l [] refl;
+  first_cost = λ c. omega (arith, cost_by first c l [] refl);
+  more_text = λ c. append-nil (text_of (in_form more c l)) ∙ text_by more c l [] refl;
+  more_cost = λ c. omega (arith, cost_by more c l [] refl);
+  closed = refl;
+  packless = λ scope. refl;
+})
+
+more-text : (c : Context) (extra : ℕ) (ts : List Term) (tail : Term) (texts : List (List ℕ)) (most : ℕ) → EndsList most tail → PrintEach extra ts texts
+    → text_of (printed_by (list_part more c (list_with ts tail))) ≡ further texts
 unfolding list_part parts_in not_empty
-more-cost c extra [] [] few each = omega arith
-more-cost c extra (t ∷ ts) (b ∷ bs) few each =
+more-text c extra [] tail [] most ends each = ends.more_text c
+more-text c extra (t ∷ ts) tail (b ∷ bs) most ends each =
+    append-nil (text_of (in_form more c (list t (list_with ts tail))))
+    ∙ text_by more c (list t (list_with ts tail)) (says ", " ∷ as_item left c t ∷ as_item right c t ∷ list_part more c (list_with ts tail))
+    (more-is c t (list_with ts tail) (each.0.filled c))
+    ∙ ap (λ s. codes ", " ++ s) (element-text (text_of (in_form left c t)) (text_of (in_form right c t))
+    (text_of (printed_by (list_part more c (list_with ts tail)))) b (further bs)
+    (each.0.both_texts c) (more-text c extra ts tail bs most ends each.1))
+more-text c extra [] tail (b ∷ bs) most ends each = elim each [ ]
+more-text c extra (t ∷ ts) tail [] most ends each = elim each [ ]
+
+more-cost : (c : Context) (extra : ℕ) (ts : List Term) (tail : Term) (texts : List (List ℕ)) (most : ℕ) → extra ≤ 3 → EndsList most tail → PrintEach extra ts texts
+    → cost_of (printed_by (list_part more c (list_with ts tail))) ≤ 1 + most + 4 * length (further texts)
+unfolding list_part parts_in not_empty
+more-cost c extra [] tail [] most few ends each = omega (arith, ends.more_cost c)
+more-cost c extra (t ∷ ts) tail (b ∷ bs) most few ends each =
     omega (
       arith,
-      more-cost c extra ts bs few each.1,
+      more-cost c extra ts tail bs most few ends each.1,
       few,
       each.0.cost c,
       length-append b (further bs),
       length-append (codes ", ") (b ++ further bs),
-      cost_by more c (list t (list_of ts)) (says ", " ∷ as_item left c t ∷ as_item right c t ∷ list_part more c (list_of ts))
-          (more-is c t (list_of ts) (each.0.filled c)),
+      cost_by more c (list t (list_with ts tail)) (says ", " ∷ as_item left c t ∷ as_item right c t ∷ list_part more c (list_with ts tail))
+          (more-is c t (list_with ts tail) (each.0.filled c)),
     )
-more-cost c extra [] (b ∷ bs) few each = elim each [ ]
-more-cost c extra (t ∷ ts) [] few each = elim each [ ]
+more-cost c extra [] tail (b ∷ bs) most few ends each = elim each [ ]
+more-cost c extra (t ∷ ts) tail [] most few ends each = elim each [ ]
 
-first-text : (c : Context) (extra : ℕ) (ts : List Term) (texts : List (List ℕ)) → PrintEach extra ts texts
-    → text_of (printed_by (list_part first c (list_of ts))) ≡ joined texts
+first-text : (c : Context) (extra : ℕ) (ts : List Term) (tail : Term) (texts : List (List ℕ)) (most : ℕ) → EndsList most tail → PrintEach extra ts texts
+    → text_of (printed_by (list_part first c (list_with ts tail))) ≡ joined texts
 unfolding list_part parts_in not_empty
-first-text c extra [] [] each = refl
-first-text c extra (t ∷ ts) (b ∷ bs) each =
-    append-nil (text_of (in_form first c (list t (list_of ts))))
-    ∙ text_by first c (list t (list_of ts)) (as_item left c t ∷ as_item right c t ∷ list_part more c (list_of ts))
-    (first-is c t (list_of ts) (each.0.filled c))
-    ∙ element-text (text_of (in_form left c t)) (text_of (in_form right c t)) (text_of (printed_by (list_part more c (list_of ts)))) b (further bs)
-    (each.0.both_texts c) (more-text c extra ts bs each.1)
+first-text c extra [] tail [] most ends each = ends.first_text c
+first-text c extra (t ∷ ts) tail (b ∷ bs) most ends each =
+    append-nil (text_of (in_form first c (list t (list_with ts tail))))
+    ∙ text_by first c (list t (list_with ts tail)) (as_item left c t ∷ as_item right c t ∷ list_part more c (list_with ts tail))
+    (first-is c t (list_with ts tail) (each.0.filled c))
+    ∙ element-text (text_of (in_form left c t)) (text_of (in_form right c t)) (text_of (printed_by (list_part more c (list_with ts tail)))) b (further bs)
+    (each.0.both_texts c) (more-text c extra ts tail bs most ends each.1)
     ∙ sym (joined-further b bs)
-first-text c extra [] (b ∷ bs) each = elim each [ ]
-first-text c extra (t ∷ ts) [] each = elim each [ ]
+first-text c extra [] tail (b ∷ bs) most ends each = elim each [ ]
+first-text c extra (t ∷ ts) tail [] most ends each = elim each [ ]
 
-first-cost : (c : Context) (extra : ℕ) (ts : List Term) (texts : List (List ℕ)) → extra ≤ 3 → PrintEach extra ts texts
-    → cost_of (printed_by (list_part first c (list_of ts))) ≤ 1 + extra + 4 * length (joined texts)
+first-cost : (c : Context) (extra : ℕ) (ts : List Term) (tail : Term) (texts : List (List ℕ)) (most : ℕ) → extra ≤ 3 → EndsList most tail → PrintEach extra ts texts
+    → cost_of (printed_by (list_part first c (list_with ts tail))) ≤ 1 + most + extra + 4 * length (joined texts)
 unfolding list_part parts_in not_empty
-first-cost c extra [] [] few each = omega arith
-first-cost c extra (t ∷ ts) (b ∷ bs) few each =
+first-cost c extra [] tail [] most few ends each = omega (arith, ends.first_cost c)
+first-cost c extra (t ∷ ts) tail (b ∷ bs) most few ends each =
     omega (
       arith,
-      more-cost c extra ts bs few each.1,
+      more-cost c extra ts tail bs most few ends each.1,
       few,
       each.0.cost c,
       ap length (joined-further b bs),
       length-append b (further bs),
-      cost_by first c (list t (list_of ts)) (as_item left c t ∷ as_item right c t ∷ list_part more c (list_of ts))
-          (first-is c t (list_of ts) (each.0.filled c)),
+      cost_by first c (list t (list_with ts tail)) (as_item left c t ∷ as_item right c t ∷ list_part more c (list_with ts tail))
+          (first-is c t (list_with ts tail) (each.0.filled c)),
     )
-first-cost c extra [] (b ∷ bs) few each = elim each [ ]
-first-cost c extra (t ∷ ts) [] few each = elim each [ ]
+first-cost c extra [] tail (b ∷ bs) most few ends each = elim each [ ]
+first-cost c extra (t ∷ ts) tail [] most few ends each = elim each [ ]
+
+pub list-with-none : (ts : List Term) → list_with ts nil ≡ list_of ts
+list-with-none [] = refl
+list-with-none (t ∷ ts) = ap (λ r. list t r) (list-with-none ts)
+
+-- What a list prints whose last elements may be nothing,
+pub list-text-before : (c : Context) (extra : ℕ) (ts : List Term) (tail : Term) (l : List ℕ) → IsTail tail → PrintAll extra ts l
+    → text_of (printed_by (list_part first c (list_with ts tail))) ≡ l
+list-text-before c extra ts tail l is all = first-text c extra ts tail all.0 1 (ends-list tail is) all.1 ∙ all.2
+
+-- at a cost that its text bounds
+pub list-cost-before : (c : Context) (extra : ℕ) (ts : List Term) (tail : Term) (l : List ℕ) → extra ≤ 3 → IsTail tail → PrintAll extra ts l
+    → cost_of (printed_by (list_part first c (list_with ts tail))) ≤ 2 + extra + 4 * length l
+list-cost-before c extra ts tail l few is all = omega (arith, first-cost c extra ts tail all.0 1 few (ends-list tail is) all.1, ap length all.2)
 
 -- What a list prints,
 pub list-text : (c : Context) (extra : ℕ) (ts : List Term) (l : List ℕ) → PrintAll extra ts l → text_of (printed_by (list_part first c (list_of ts))) ≡ l
-list-text c extra ts l all = first-text c extra ts all.0 all.1 ∙ all.2
+list-text c extra ts l all =
+    subst (λ k. text_of (printed_by (list_part first c k)) ≡ l) (list-with-none ts) (list-text-before c extra ts nil l (inl refl) all)
 
 -- at a cost that its text bounds
 pub list-cost : (c : Context) (extra : ℕ) (ts : List Term) (l : List ℕ) → extra ≤ 3 → PrintAll extra ts l
     → cost_of (printed_by (list_part first c (list_of ts))) ≤ 1 + extra + 4 * length l
-list-cost c extra ts l few all = omega (arith, first-cost c extra ts all.0 few all.1, ap length all.2)
+list-cost c extra ts l few all =
+    subst (λ k. cost_of (printed_by (list_part first c k)) ≤ 1 + extra + 4 * length l) (list-with-none ts)
+    (omega (arith, first-cost c extra ts nil all.0 0 few ends-bare all.1, ap length all.2))
 
 -- ## What else is known of a list
 
-each-closed : (extra : ℕ) (ts : List Term) (texts : List (List ℕ)) → PrintEach extra ts texts → is_open (list_of ts) ≡ false
+each-closed : (extra : ℕ) (ts : List Term) (tail : Term) (texts : List (List ℕ)) (most : ℕ) → EndsList most tail → PrintEach extra ts texts
+    → is_open (list_with ts tail) ≡ false
 unfolding is_open
-each-closed extra [] [] each = refl
-each-closed extra (t ∷ ts) (b ∷ bs) each = rw (each.0.is_closed, each-closed extra ts bs each.1) refl
-each-closed extra [] (b ∷ bs) each = elim each [ ]
-each-closed extra (t ∷ ts) [] each = elim each [ ]
+each-closed extra [] tail [] most ends each = ends.closed
+each-closed extra (t ∷ ts) tail (b ∷ bs) most ends each = rw (each.0.is_closed, each-closed extra ts tail bs most ends each.1) refl
+each-closed extra [] tail (b ∷ bs) most ends each = elim each [ ]
+each-closed extra (t ∷ ts) tail [] most ends each = elim each [ ]
 
-each-packless : (scope : Term) (extra : ℕ) (ts : List Term) (texts : List (List ℕ)) → PrintEach extra ts texts → pack_length scope (list_of ts) ≡ None
+each-packless : (scope : Term) (extra : ℕ) (ts : List Term) (tail : Term) (texts : List (List ℕ)) (most : ℕ) → EndsList most tail → PrintEach extra ts texts
+    → pack_length scope (list_with ts tail) ≡ None
 unfolding pack_length first_of
-each-packless scope extra [] [] each = refl
-each-packless scope extra (t ∷ ts) (b ∷ bs) each = rw (each.0.packless scope, each-packless scope extra ts bs each.1) refl
-each-packless scope extra [] (b ∷ bs) each = elim each [ ]
-each-packless scope extra (t ∷ ts) [] each = elim each [ ]
+each-packless scope extra [] tail [] most ends each = ends.packless scope
+each-packless scope extra (t ∷ ts) tail (b ∷ bs) most ends each = rw (each.0.packless scope, each-packless scope extra ts tail bs most ends each.1) refl
+each-packless scope extra [] tail (b ∷ bs) most ends each = elim each [ ]
+each-packless scope extra (t ∷ ts) tail [] most ends each = elim each [ ]
 
 -- No parameter is free in a list of such trees.
-pub list-closed : (extra : ℕ) (ts : List Term) (l : List ℕ) → PrintAll extra ts l → is_open (list_of ts) ≡ false
-list-closed extra ts l all = each-closed extra ts all.0 all.1
+pub list-closed : (extra : ℕ) (ts : List Term) (tail : Term) (l : List ℕ) → IsTail tail → PrintAll extra ts l → is_open (list_with ts tail) ≡ false
+list-closed extra ts tail l is all = each-closed extra ts tail all.0 1 (ends-list tail is) all.1
 
 -- It names no packs.
-pub list-packless : (scope : Term) (extra : ℕ) (ts : List Term) (l : List ℕ) → PrintAll extra ts l → pack_length scope (list_of ts) ≡ None
-list-packless scope extra ts l all = each-packless scope extra ts all.0 all.1
+pub list-packless : (scope : Term) (extra : ℕ) (ts : List Term) (tail : Term) (l : List ℕ) → IsTail tail → PrintAll extra ts l
+    → pack_length scope (list_with ts tail) ≡ None
+list-packless scope extra ts tail l is all = each-packless scope extra ts tail all.0 1 (ends-list tail is) all.1
 
 -- ## Elements are read one behind the other
 
@@ -160,8 +219,8 @@ pack-element (t ∷ ts) l some all = let p = pack (list_of (t ∷ ts)) in record
     list-cost c 0 (t ∷ ts) l (omega arith) all,
   );
   filled = λ c. first-filled c all.0 all.1;
-  is_closed = list-closed 0 (t ∷ ts) l all;
-  packless = λ scope. list-packless scope 0 (t ∷ ts) l all;
+  is_closed = subst (λ k. is_open k ≡ false) (list-with-none (t ∷ ts)) (list-closed 0 (t ∷ ts) nil l (inl refl) all);
+  packless = λ scope. subst (λ k. pack_length scope k ≡ None) (list-with-none (t ∷ ts)) (list-packless scope 0 (t ∷ ts) nil l (inl refl) all);
   void = λ e. cc e;
 }
   where

@@ -11,9 +11,10 @@ use Rattle.cpp_grammar.specs.Items.{left, right, base, piece, first, Context, he
 use Rattle.cpp_grammar.specs.Meaning.{is_void}
 use Rattle.cpp_grammar.specs.Parts.{as_item, says, list_part, source_text, prefix_item, last_piece, opening_text, piece_parts, within_parts, base_within, instance_parts, left_parts, right_parts, base_parts, parts_in, not_empty, is_plain_integer}
 use Rattle.cpp_direct.specs.Prints.{in_form, Prints, NamesClass, list_of, PrintAll}
+use Rattle.cpp_direct.specs.Stands.{IsTail, list_with}
 use Rattle.cpp_direct.proofs.PrintedParts.{printed_by, text_by, cost_by, text_alone, cost_first, text_append, cost_append}
 use Rattle.cpp_direct.proofs.PrintedNames.{source-filled, piece-text, piece-cost, operator-text, operator-cost}
-use Rattle.cpp_direct.proofs.PrintedLists.{list-text, list-cost, list-closed, list-packless}
+use Rattle.cpp_direct.proofs.PrintedLists.{list-text-before, list-cost-before, list-closed, list-packless}
 
 -- a text, a mark and a text
 joins : (x m y b n : List ℕ) → x ≡ b → y ≡ n → x ++ (m ++ (y ++ [])) ≡ b ++ m ++ n
@@ -202,39 +203,39 @@ instance-is c t arguments e = ap (λ o. (as_item left c t ∷ text o ∷ list_pa
 bracketed : (x y b l : List ℕ) → x ≡ b → y ≡ l → (x ++ (codes "<" ++ y)) ++ codes ">" ≡ b ++ codes "<" ++ l ++ codes ">"
 bracketed x y b l e f = rw (e, f) (ap (λ s. s ++ codes ">") (sym (append_assoc b (codes "<") l)))
 
-instance-text : (t : Term) (b : List ℕ) → Prints t b false → (ts : List Term) (l : List ℕ) → PrintAll 3 ts l → (c : Context)
-    → text_of (in_form left c (instance t (list_of ts))) ≡ b ++ codes "<" ++ l ++ codes ">"
+instance-text : (t : Term) (b : List ℕ) → Prints t b false → (ts : List Term) (tail : Term) (l : List ℕ) → IsTail tail → PrintAll 3 ts l → (c : Context)
+    → text_of (in_form left c (instance t (list_with ts tail))) ≡ b ++ codes "<" ++ l ++ codes ">"
 unfolding parts_in left_parts not_empty
-instance-text t b p ts l all c =
-    let ps = as_item left c t ∷ says "<" ∷ list_part first c (list_of ts) in
-    text_by left c (instance t (list_of ts)) (ps ++ (says ">" ∷ [])) (instance-is c t (list_of ts) p.opening)
+instance-text t b p ts tail l is all c =
+    let ps = as_item left c t ∷ says "<" ∷ list_part first c (list_with ts tail) in
+    text_by left c (instance t (list_with ts tail)) (ps ++ (says ">" ∷ [])) (instance-is c t (list_with ts tail) p.opening)
     ∙ text_append ps (says ">" ∷ [])
-    ∙ bracketed (text_of (in_form left c t)) (text_of (printed_by (list_part first c (list_of ts)))) b l (p.left_text c) (list-text c 3 ts l all)
+    ∙ bracketed (text_of (in_form left c t)) (text_of (printed_by (list_part first c (list_with ts tail)))) b l (p.left_text c) (list-text-before c 3 ts tail l is all)
 
-instance-cost : (t : Term) (b : List ℕ) → Prints t b false → (ts : List Term) (l : List ℕ) → PrintAll 3 ts l → (c : Context)
-    → cost_of (in_form left c (instance t (list_of ts))) ≤ cost_of (in_form left c t) + 6 + 4 * length l
+instance-cost : (t : Term) (b : List ℕ) → Prints t b false → (ts : List Term) (tail : Term) (l : List ℕ) → IsTail tail → PrintAll 3 ts l → (c : Context)
+    → cost_of (in_form left c (instance t (list_with ts tail))) ≤ cost_of (in_form left c t) + 7 + 4 * length l
 unfolding parts_in left_parts not_empty
-instance-cost t b p ts l all c =
-    let ps = as_item left c t ∷ says "<" ∷ list_part first c (list_of ts) in
+instance-cost t b p ts tail l is all c =
+    let ps = as_item left c t ∷ says "<" ∷ list_part first c (list_with ts tail) in
     omega (
       arith,
-      cost_by left c (instance t (list_of ts)) (ps ++ (says ">" ∷ [])) (instance-is c t (list_of ts) p.opening),
+      cost_by left c (instance t (list_with ts tail)) (ps ++ (says ">" ∷ [])) (instance-is c t (list_with ts tail) p.opening),
       cost_append ps (says ">" ∷ []),
-      list-cost c 3 ts l (omega arith) all,
+      list-cost-before c 3 ts tail l (omega arith) is all,
     )
 
 -- A name with arguments prints them in brackets.
-pub instance-prints : (t : Term) (b : List ℕ) → Prints t b false → (ts : List Term) (l : List ℕ) → PrintAll 3 ts l
-    → Prints (instance t (list_of ts)) (b ++ codes "<" ++ l ++ codes ">") false
+pub instance-prints : (t : Term) (b : List ℕ) → Prints t b false → (ts : List Term) (tail : Term) (l : List ℕ) → IsTail tail → PrintAll 3 ts l
+    → Prints (instance t (list_with ts tail)) (b ++ codes "<" ++ l ++ codes ">") false
 unfolding parts_in right_parts not_empty head head_with is_reference is_funarr is_empty is_open pack_length first_of is_function_type prefix_item
     last_piece opening_text is_void is_plain_integer
-instance-prints t b p ts l all = let i = instance t (list_of ts) in record {
-  left_text = instance-text t b p ts l all;
+instance-prints t b p ts tail l is all = let i = instance t (list_with ts tail) in record {
+  left_text = instance-text t b p ts tail l is all;
   right_text = λ c. text_by right c i [] refl;
   cost = λ c. omega (
     arith,
     p.cost c,
-    instance-cost t b p ts l all c,
+    instance-cost t b p ts tail l is all c,
     cost_by right c i [] refl,
     length-append (b ++ codes "<" ++ l) (codes ">"),
     length-append (b ++ codes "<") l,
@@ -243,8 +244,8 @@ instance-prints t b p ts l all = let i = instance t (list_of ts) in record {
   is_reference_head = λ c. refl;
   is_funarr_head = λ c. refl;
   filled = λ c. refl;
-  is_closed = rw (p.is_closed, list-closed 3 ts l all) refl;
-  packless = λ scope. rw (p.packless scope, list-packless scope 3 ts l all) refl;
+  is_closed = rw (p.is_closed, list-closed 3 ts tail l is all) refl;
+  packless = λ scope. rw (p.packless scope, list-packless scope 3 ts tail l is all) refl;
   no_function = refl;
   as_prefix = λ c. refl;
   opening = refl;
@@ -253,19 +254,19 @@ instance-prints t b p ts l all = let i = instance t (list_of ts) in record {
 }
 
 -- Its class is named without them.
-pub instance-class : (t : Term) (b class : List ℕ) → Prints t b false → NamesClass t class → (ts : List Term) (l : List ℕ) → PrintAll 3 ts l
-    → NamesClass (instance t (list_of ts)) class
+pub instance-class : (t : Term) (b class : List ℕ) → Prints t b false → NamesClass t class → (ts : List Term) (tail : Term) (l : List ℕ) → IsTail tail → PrintAll 3 ts l
+    → NamesClass (instance t (list_with ts tail)) class
 unfolding parts_in right_parts base_parts not_empty
-instance-class t b class p n ts l all = let i = instance t (list_of ts) in record {
+instance-class t b class p n ts tail l is all = let i = instance t (list_with ts tail) in record {
   base_text = λ c. text_by base c i (as_item base c t ∷ []) refl ∙ append-nil (text_of (in_form base c t)) ∙ n.base_text c;
   base_cost = λ c. omega (
     arith,
     n.base_cost c,
     ap length (p.left_text c),
-    instance-cost t b p ts l all c,
+    instance-cost t b p ts tail l is all c,
     cost_by right c i [] refl,
     cost_by base c i (as_item base c t ∷ []) refl,
-    ap length (instance-text t b p ts l all c),
+    ap length (instance-text t b p ts tail l is all c),
     length-append (b ++ codes "<" ++ l) (codes ">"),
     length-append (b ++ codes "<") l,
     length-append b (codes "<"),

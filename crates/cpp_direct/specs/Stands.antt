@@ -6,7 +6,7 @@ use Rattle.sym_demangle.specs.Mangled.{StandsFor}
 use Rattle.cpp_grammar.specs.declared.kind.Kind.{Kind}
 use Rattle.cpp_grammar.specs.Mangled.{cpp_mangled}
 use Rattle.cpp_grammar.specs.Answer.{shown, root_item}
-use Rattle.cpp_grammar.specs.Term.{Term, Qualifiers, any_value, symbol, special, pointer, lvalue, rvalue, qualified, instance, integer, pack, list}
+use Rattle.cpp_grammar.specs.Term.{Term, Qualifiers, any_value, symbol, special, pointer, lvalue, rvalue, qualified, instance, integer, pack, nil, list}
 use Rattle.cpp_grammar.specs.Texts.{look_up, special_texts}
 use Rattle.cpp_grammar.specs.Scope.{has_return_type, is_structor}
 use Rattle.cpp_grammar.specs.References.{is_function_type}
@@ -99,6 +99,10 @@ pub record IsNest (front bytes text : List ℕ) (nest : Nest) (t : Term) : Type 
 abbrev pub list_with : List Term → Term → Term
 list_with [] rest = rest
 list_with (t ∷ ts) rest = list t (list_with ts rest)
+
+-- behind the elements that print something there may be a pack of nothing
+abbrev pub IsTail : Term → Type 0
+IsTail rest = (rest ≡ nil) ⊎ (rest ≡ list (pack nil) nil)
 
 -- the text of elements so far, in front of the next one
 abbrev pub in_front_of_next : List Term → List ℕ → List ℕ

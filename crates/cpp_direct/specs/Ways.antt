@@ -12,8 +12,8 @@ use Rattle.cpp_direct.specs.declared.open.Open.TheVariants as opens
 use Rattle.cpp_direct.specs.declared.direct.Direct.{Direct}
 use Rattle.cpp_direct.specs.Holes.{Opened, StandsAt, Comes, Expects, IsTyped, TypeNamed, NestNamed, with_candidate}
 use Rattle.cpp_direct.specs.HolesOfTypes.{IsNamedKind, TreeOpens}
-use Rattle.cpp_direct.specs.Prints.{Prints, PrintAll, Shows, list_of, sign_text}
-use Rattle.cpp_direct.specs.Stands.{AreCandidates, AwaitsItems, Encoded, EncodedBehind, IsFunction, IsListing, IsNest, IsTemplate, GoesOn, EnumeratorGoesOn, Owns, ParametersGoOn, Serves, Stands, qualifiers, extra_of, led_by, in_front_of_next}
+use Rattle.cpp_direct.specs.Prints.{Prints, PrintAll, Shows, sign_text}
+use Rattle.cpp_direct.specs.Stands.{AreCandidates, AwaitsItems, Encoded, EncodedBehind, IsFunction, IsListing, IsNest, IsTail, IsTemplate, GoesOn, EnumeratorGoesOn, Owns, ParametersGoOn, Serves, Stands, qualifiers, extra_of, led_by, list_with, in_front_of_next}
 
 -- what stands behind the parameters of a member function
 abbrev pub const_text : (is_const : Bool) → List ℕ
@@ -163,11 +163,13 @@ pub record IsListEnded (s : List ℕ) (w : Direct) : Type 0 where
   pub template : Term
   pub name : List ℕ
   pub ts : List Term
+  pub tail : Term
+  pub is_tail : IsTail tail
   pub arguments : List ℕ
   pub is_template : IsTemplate owner front template name w.text.items
   pub elements : PrintAll 3 ts arguments
   pub written : w.text.items ≡ front ++ name ++ codes "<" ++ arguments
-  pub owns : Owns s owner (Stands s rest) front (instance template (list_of ts)) w.at state
+  pub owns : Owns s owner (Stands s rest) front (instance template (list_with ts tail)) w.at state
 
 -- An element is expected, and the comma before it is written.
 pub record AwaitsNextArgument (s : List ℕ) (w : Direct) : Type 0 where

@@ -100,6 +100,12 @@ impl Direct {
         if byte == b'E' {
             return self.list_ended(s, is_first);
         }
+        if byte == b'J' {
+            let behind = byte_at(s, self.at.checked_add(1)?);
+            if behind == b'E' {
+                return self.empty_pack(s, is_first);
+            }
+        }
         if !is_first {
             self.push_pair(b',', b' ')?;
         }
@@ -120,6 +126,25 @@ impl Direct {
         match *self.waiting.last()? {
             Open::Pack => None,
             _ => self.open_type(Open::Pack, Step::List { is_first: true }),
+        }
+    }
+
+    /// Reads a pack of nothing, for which nothing is written, at the end of arguments.
+    // <template-arg> ::= J <template-arg>* E
+    fn empty_pack(&mut self, s: &[u8], _is_first: bool) -> Option<Step>
+        requires fits { FitsSymbol s.now }
+        requires letters { StandsAt s.now self.old.at (74 ∷ 69 ∷ []) }
+        requires writing { IsWriting s.now self.old (steps.List _is_first) }
+        ensures { IfSome result (IsWriting s.now self.new) }
+    {
+        self.at = self.at.checked_add(2)?;
+        if byte_at(s, self.at) != b'E' {
+            return None;
+        }
+        self.at = self.at.checked_add(1)?;
+        match *self.waiting.last()? {
+            Open::Pack => None,
+            _ => self.close_list(s),
         }
     }
 

@@ -24,6 +24,7 @@ use sym_core::Span;
 use sym_print::{Detail, Part, PartList};
 
 /// Whether it is the name of an unnamed namespace.
+#[inline(always)]
 fn is_anonymous(name: &[u8]) -> bool
     ensures { result ≡ begins_with (codes "_GLOBAL__N") name.now }
 {
