@@ -144,6 +144,7 @@ impl Direct {
     }
 
     // <special-name> ::= TV <type> | TT <type> | TI <type> | TS <type>
+    #[inline(never)]
     fn begin_special(&mut self, s: &[u8]) -> Option<Step>
         requires fits { FitsSymbol s.now }
         requires fresh { IsFresh self.old }

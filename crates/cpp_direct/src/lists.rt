@@ -131,6 +131,7 @@ impl Direct {
 
     /// Reads a pack of nothing, for which nothing is written, at the end of arguments.
     // <template-arg> ::= J <template-arg>* E
+    #[inline(never)]
     fn empty_pack(&mut self, s: &[u8], _is_first: bool) -> Option<Step>
         requires fits { FitsSymbol s.now }
         requires letters { StandsAt s.now self.old.at (74 ∷ 69 ∷ []) }

@@ -209,6 +209,7 @@ impl Direct {
 
     /// Reads an operator, but for << and <: a blank stands between these and the arguments behind them.
     // <operator-name> ::= nw | na | dl | da | ps | ng | ..
+    #[inline(never)]
     fn operator(&mut self, s: &[u8]) -> Option<Step>
         requires { IsWriting s.now self.old steps.Component }
         ensures { IfSome result (IsWriting s.now self.new) }

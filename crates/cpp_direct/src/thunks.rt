@@ -17,6 +17,7 @@ use sym_core::{NumberKind, find_number};
 impl Direct {
     // <special-name> ::= T <call-offset> <base encoding>
     // <call-offset> ::= h <nv-offset> _
+    #[inline(never)]
     pub(crate) fn begin_thunk(&mut self, s: &[u8]) -> Option<Step>
         requires fits { FitsSymbol s.now }
         requires fresh { IsFresh self.old }
@@ -33,6 +34,7 @@ impl Direct {
 
     // <special-name> ::= T <call-offset> <base encoding>
     // <call-offset> ::= v <offset number> _ <virtual offset number> _
+    #[inline(never)]
     pub(crate) fn begin_virtual_thunk(&mut self, s: &[u8]) -> Option<Step>
         requires fits { FitsSymbol s.now }
         requires fresh { IsFresh self.old }

@@ -77,6 +77,7 @@ impl Direct {
     }
 
     // <builtin-type> ::= Di | Ds | Du | Da | Dc | Dn
+    #[inline(never)]
     fn builtin_with_d(&mut self, s: &[u8]) -> Option<Step>
         requires letter { StandsAt s.now self.old.at (68 ∷ []) }
         requires awaits { AwaitsType s.now self.old }
