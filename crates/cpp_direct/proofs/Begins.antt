@@ -1,5 +1,5 @@
 -- The beginnings of symbols, and their answers.
-use Rattle.std.proofs.Common.{◌≡◌, ◌≢◌, ℕ, ◌+◌, ◌≤◌, ◌/◌, inl, length, List, [], ◌∷◌, ◌++◌, reverse, Bool, true, false, ◌&&◌, nat_eq, nat_le, cond, Option, Some, None, Ok, refl, ap, sym, subst, ◌∙◌, arith, codes, append-nil}
+use Rattle.std.proofs.Common.{◌≡◌, ◌≢◌, ℕ, ◌+◌, ◌≤◌, ◌/◌, inl, length, List, [], ◌∷◌, ◌++◌, reverse, Bool, true, false, ◌&&◌, ◌||◌, nat_eq, nat_le, cond, Option, Some, None, Ok, refl, ap, sym, subst, ◌∙◌, arith, codes}
 use Rattle.std.specs.Prelude.{if◌then◌else◌}
 use Rattle.std.specs.Option.{IfSome, OnSome}
 use Rattle.std.proofs.lemmas.Bool.{false≢true, leb-true, eqb-true}
@@ -24,11 +24,12 @@ use Rattle.cpp_direct.specs.declared.open.Open.TheVariants as opens
 use Rattle.cpp_direct.specs.declared.open.Step.{Step}
 use Rattle.cpp_direct.specs.declared.open.Step.TheVariants as steps
 use Rattle.cpp_direct.specs.declared.direct.Direct.{Direct}
+use Rattle.cpp_direct.specs.Bytes.{is_local}
 use Rattle.cpp_direct.specs.Holes.{Opened, StandsAt, Comes, Expects, IsNameAt, Named, with_candidate}
 use Rattle.cpp_direct.specs.HolesOfLists.{SymbolOpened, EncodingOpened, IsOffsetAt, ThunkOpened, nest_marks}
 use Rattle.cpp_direct.specs.ItemBytes.{one_of, is_special_letter}
 use Rattle.cpp_direct.specs.Prints.{Shows}
-use Rattle.cpp_direct.specs.Stands.{AreCandidates, Encoded, AwaitsItems, IsWhole, Stands, IsWriting, qualifiers}
+use Rattle.cpp_direct.specs.Stands.{AreCandidates, Encoded, EndsBehind, EncodedBehind, AwaitsItems, IsWhole, Stands, IsWriting, qualifiers}
 use Rattle.cpp_direct.specs.Ways.{IsFresh, AwaitsEncoding, AwaitsSource, AwaitsNest, IsNameEnded}
 use Rattle.cpp_direct.specs.Written.{Writes, Reads, added}
 use Rattle.cpp_direct.proofs.Kept.{arguments-begun, candidates-stay, candidates-with, candidates-read, reverse-last}
@@ -54,17 +55,29 @@ whole-answer s text limit len whole is within =
 -- ## Encodings
 
 -- an encoding that comes ends the symbol
-encoded-whole : (s : List ℕ) (opened_ : SymbolOpened s) (e : Term) (at : ℕ) (st : State) → Comes s opened_.inner (tree e true) at st → Encoded s e at
+pub encoded-whole : (s : List ℕ) (opened_ : SymbolOpened s) (e : Term) (at : ℕ) (st : State) → Comes s opened_.inner (tree e true) at st → Encoded s e at
 encoded-whole s opened_ e at st comes = record {
   ends = λ here. opened_.ends e st (subst (λ n. Comes s opened_.inner (tree e true) n st) here comes);
   ends_in = λ suffix there whole is. opened_.ends_in e at suffix st comes there whole is;
 }
 
+-- where no local entity is named, an encoding ends the symbol
+whole-behind : (s lead : List ℕ) (e : Term) (at : ℕ) → is_local s ≡ false → EndsBehind s lead e at → EncodedBehind s lead e at
+whole-behind s lead e at apart p = record { whole = λ f. p; entity = λ is. absurd (false≢true (sym apart ∙ is)) }
+
+-- the third byte tells whether one is
+pub third-tells : (s : List ℕ) (b : ℕ) → StandsAt s 2 (b ∷ []) → is_local s ≡ (nat_eq b 90 || nat_eq b 71)
+unfolding is_local
+third-tells (x ∷ y ∷ c ∷ rest) b stands = let same : c ≡ b = cc stands.1 in ap (λ k. nat_eq k 90 || nat_eq k 71) same
+third-tells (x ∷ y ∷ []) b stands = cc stands.1
+third-tells (x ∷ []) b stands = cc stands.1
+third-tells [] b stands = cc stands.1
+
 -- the encoding of a symbol is expected, and nothing is written yet
 pub encoding-awaited : (s : List ℕ) (w : Direct) → w.text.items ≡ [] → w.candidates.items ≡ [] → StandsAt s 0 (95 ∷ 90 ∷ []) → w.at ≡ 2
-    → AwaitsEncoding s w
+    → is_local s ≡ false → AwaitsEncoding s w
 unfolding first_state
-encoding-awaited s w no_text no_candidate starts at_is =
+encoding-awaited s w no_text no_candidate starts at_is apart =
     let opened_ = symbol-starts s starts in
     record {
       state = first_state;
@@ -72,11 +85,12 @@ encoding-awaited s w no_text no_candidate starts at_is =
       around = first_around;
       outer = opened_.inner;
       awaits = subst (λ n. Expects s Kind.Encoding first_around opened_.inner n first_state) (sym at_is) opened_.awaits;
-      onward = λ e at st comes. record {
-        made = e;
-        encoded = encoded-whole s opened_ e at st comes;
-        shows = λ bytes p. subst (λ l. Shows e (l ++ bytes)) (sym no_text) p;
-      };
+      onward = λ e at st comes.
+          whole-behind s w.text.items e at apart (record {
+            made = e;
+            encoded = encoded-whole s opened_ e at st comes;
+            shows = λ bytes p. subst (λ l. Shows e (l ++ bytes)) (sym no_text) p;
+          });
     }
 
 -- the name of an encoding is expected
@@ -101,20 +115,21 @@ items-await s w p v at st comes =
 
 -- the encoding that a thunk calls is expected, behind the thunk's text
 thunk-awaited : (s : List ℕ) (opened_ : SymbolOpened s) (by : Adjustment) (w : Direct)
-    → ThunkOpened s opened_.inner 2 by w.at first_state → w.text.items ≡ thunk_text (adjusting by) → w.candidates.items ≡ []
+    → is_local s ≡ false → ThunkOpened s opened_.inner 2 by w.at first_state → w.text.items ≡ thunk_text (adjusting by) → w.candidates.items ≡ []
     → AwaitsEncoding s w
 unfolding first_state
-thunk-awaited s opened_ by w thunk_ text_is no_candidate = record {
+thunk-awaited s opened_ by w apart thunk_ text_is no_candidate = record {
   state = first_state;
   candidates = subst (λ ks. AreCandidates w.text.items ks []) (sym no_candidate) tt;
   around = in_name 2;
   outer = thunk_.inner;
   awaits = thunk_.awaits;
-  onward = λ e at st comes. record {
-    made = thunk (adjusting by) e;
-    encoded = encoded-whole s opened_ (thunk (adjusting by) e) at st (thunk_.onward e at st comes);
-    shows = λ bytes p. subst (λ l. Shows (thunk (adjusting by) e) (l ++ bytes)) (sym text_is) (thunk-shows (adjusting by) e bytes p);
-  };
+  onward = λ e at st comes.
+      whole-behind s w.text.items e at apart (record {
+        made = thunk (adjusting by) e;
+        encoded = encoded-whole s opened_ (thunk (adjusting by) e) at st (thunk_.onward e at st comes);
+        shows = λ bytes p. subst (λ l. Shows (thunk (adjusting by) e) (l ++ bytes)) (sym text_is) (thunk-shows (adjusting by) e bytes p);
+      });
 }
 
 -- what was read without a text and written behind it, where nothing was there before
@@ -134,7 +149,7 @@ thunk-begins s old middle new fresh starts first second is reads writes =
     let by = non_virtual (signed_digits is.negative is.digits) in
     let opens = thunk-opens s opened_.inner first_around 2 middle.at first_state opened_.awaits first second is in
     let written = thunk-written old middle new (codes "non-virtual thunk to ") fresh reads writes in
-    thunk-awaited s opened_ by new (subst (λ n. ThunkOpened s opened_.inner 2 by n first_state) (sym writes.at) opens) written.0 written.1
+    thunk-awaited s opened_ by new (third-tells s 84 first) (subst (λ n. ThunkOpened s opened_.inner 2 by n first_state) (sym writes.at) opens) written.0 written.1
 
 -- a virtual one begins
 pub virtual-thunk-begins : (s : List ℕ) (old first_ middle new : Direct) → IsFresh old → StandsAt s 0 (95 ∷ 90 ∷ []) → StandsAt s 2 (84 ∷ [])
@@ -146,7 +161,7 @@ virtual-thunk-begins s old first_ middle new fresh starts first second is reads 
     let by = by_table (signed_digits is.negative is.digits) (signed_digits is_then.negative is_then.digits) in
     let opens = virtual-thunk-opens s opened_.inner first_around 2 first_.at middle.at first_state opened_.awaits first second is is_then in
     let written = thunk-written old middle new (codes "virtual thunk to ") fresh (reads-then old first_ middle [] [] reads reads_then) writes in
-    thunk-awaited s opened_ by new (subst (λ n. ThunkOpened s opened_.inner 2 by n first_state) (sym writes.at) opens) written.0 written.1
+    thunk-awaited s opened_ by new (third-tells s 84 first) (subst (λ n. ThunkOpened s opened_.inner 2 by n first_state) (sym writes.at) opens) written.0 written.1
 
 -- ## Special objects
 

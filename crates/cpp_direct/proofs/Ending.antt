@@ -18,18 +18,19 @@ use Rattle.cpp_direct.specs.declared.open.Open.{Open}
 use Rattle.cpp_direct.specs.declared.open.Open.TheVariants as opens
 use Rattle.cpp_direct.specs.declared.open.Step.TheVariants as steps
 use Rattle.cpp_direct.specs.declared.direct.Direct.{Direct}
-use Rattle.cpp_direct.specs.Bytes.{is_builtin}
+use Rattle.cpp_direct.specs.Bytes.{is_builtin, is_local}
 use Rattle.cpp_direct.specs.Holes.{StandsAt, ListGoesOn}
 use Rattle.cpp_direct.specs.HolesOfLists.{IsSuffix}
 use Rattle.cpp_direct.specs.Prints.{Prints, Shows, list_of}
-use Rattle.cpp_direct.specs.Stands.{AreCandidates, AwaitsItems, Encoded, EncodedBehind, IsWhole, IsWriting, IsFunction, ParametersGoOn, Stands, qualifiers, list_with, in_front_of_next}
-use Rattle.cpp_direct.specs.Ways.{IsNameEnded, IsParameterEnded, IsEncodingEnded, const_text}
+use Rattle.cpp_direct.specs.Stands.{AreCandidates, AwaitsItems, Encoded, EndsBehind, EncodedBehind, IsWhole, IsWriting, IsFunction, ParametersGoOn, Stands, qualifiers, list_with, in_front_of_next}
+use Rattle.cpp_direct.specs.Ways.{IsNameEnded, IsParameterEnded, IsEncodingEnded, IsSymbolEnded, const_text}
 use Rattle.cpp_direct.specs.Written.{Writes}
 use Rattle.cpp_direct.proofs.Kept.{candidates-written, reverse-last}
 use Rattle.cpp_direct.proofs.Moves.{expects-empty}
 use Rattle.cpp_direct.proofs.MovesOfLists.{element-awaits}
 use Rattle.cpp_direct.proofs.MovesOfTypes.{builtin-comes}
 use Rattle.cpp_direct.proofs.PrintedLists.{none-print}
+use Rattle.cpp_direct.proofs.PrintedLocals.{object-enclosing, void-enclosing, function-enclosing}
 use Rattle.cpp_direct.proofs.PrintedSymbols.{function-encoded, void-encoded, object-encoded, const-text, symbol-text, symbol-cost, suffix-text, suffix-cost, parameters-kept}
 
 -- ## The end
@@ -67,8 +68,12 @@ const-written s old new p writes = record {
   state = p.state;
   candidates = candidates-written old new (codes " const") p.state.candidates writes p.candidates;
   e = p.e;
-  encoded = subst (λ n. Encoded s p.e n) (sym writes.at) p.encoded;
-  shows = subst (λ l. Shows p.e l) (sym writes.text ∙ sym (append-nil new.text.items)) p.shows;
+  lead = p.lead;
+  bytes = p.bytes;
+  written = append-nil new.text.items ∙ writes.text ∙ p.written;
+  shows = p.shows;
+  encloses = p.encloses;
+  behind = subst (λ n. EncodedBehind s p.lead p.e n) (sym writes.at) p.behind;
 }
 
 -- an encoding without a qualifier
@@ -80,18 +85,30 @@ pub const-added : (s : List ℕ) (old new : Direct) (is_const : Bool) → IsEnco
     → Writes old new (codes " const") → IsEncodingEnded s new false
 const-added s old new is_const p e writes = const-written s old new (subst (λ b. IsEncodingEnded s old b) e p) writes
 
+-- an encoding in which no entity stands ends the symbol
+pub symbol-ended : (s : List ℕ) (w : Direct) → IsEncodingEnded s w false → is_local s ≡ false → IsSymbolEnded s w
+symbol-ended s w p apart =
+    let behind : EndsBehind s p.lead p.e w.at = p.behind.whole apart in
+    record {
+      state = p.state;
+      candidates = p.candidates;
+      e = behind.made;
+      encoded = behind.encoded;
+      shows = subst (λ l. Shows behind.made l) (sym p.written ∙ append-nil w.text.items) (behind.shows p.bytes p.shows);
+    }
+
 -- the symbol is written where it has no suffix
-pub ends-plain : (s suffix : List ℕ) (w : Direct) → IsEncodingEnded s w false → w.at ≤ length s → suffix ≡ take (length s - w.at) (drop w.at s)
+pub ends-plain : (s suffix : List ℕ) (w : Direct) → IsSymbolEnded s w → w.at ≤ length s → suffix ≡ take (length s - w.at) (drop w.at s)
     → length suffix ≡ 0 → IsWriting s w steps.Ended
 ends-plain s suffix w p inside is none = record {
   state = p.state;
   candidates = p.candidates;
-  is_before = whole-plain s p.e w.at w.text.items p.encoded (subst (λ l. Shows p.e l) (append-nil w.text.items) p.shows)
+  is_before = whole-plain s p.e w.at w.text.items p.encoded p.shows
       (omega (arith, none, (rest-stands s suffix w.at inside is).1));
 }
 
 -- and where it has one
-pub ends-suffixed : (s suffix : List ℕ) (w first second last : Direct) → IsEncodingEnded s w false → w.at ≤ length s
+pub ends-suffixed : (s suffix : List ℕ) (w first second last : Direct) → IsSymbolEnded s w → w.at ≤ length s
     → suffix ≡ take (length s - w.at) (drop w.at s) → IsSuffix suffix
     → Writes w first (codes " (") → Writes first second suffix → Writes second last (codes ")") → IsWriting s last steps.Ended
 ends-suffixed s suffix w first second last p inside is is_suffix one two three =
@@ -104,7 +121,7 @@ ends-suffixed s suffix w first second last p inside is is_suffix one two three =
           (candidates-written first second suffix p.state.candidates two
           (candidates-written w first (codes " (") p.state.candidates one p.candidates));
       is_before = subst (λ l. IsWhole s l) (sym text)
-          (whole-suffixed s p.e w.at w.text.items suffix p.encoded (subst (λ l. Shows p.e l) (append-nil w.text.items) p.shows)
+          (whole-suffixed s p.e w.at w.text.items suffix p.encoded p.shows
           there.0 there.1 is_suffix);
     }
 
@@ -120,7 +137,7 @@ qualifiers-text v false e f = rw (e, f) (const-text false)
 behind-two : (lead a q : List ℕ) → lead ++ a ++ q ≡ lead ++ (a ++ q)
 behind-two lead a q = append_assoc lead a q
 
-behind-three : (lead a b q : List ℕ) → lead ++ a ++ b ++ q ≡ lead ++ (a ++ b ++ q)
+pub behind-three : (lead a b q : List ℕ) → lead ++ a ++ b ++ q ≡ lead ++ (a ++ b ++ q)
 behind-three lead a b q = ap (λ l. l ++ q) (behind-two lead a b) ∙ append_assoc lead (a ++ b) q
 
 behind-five : (lead a b c d q : List ℕ) → lead ++ a ++ b ++ c ++ d ++ q ≡ lead ++ (a ++ b ++ c ++ d ++ q)
@@ -141,9 +158,13 @@ object-ended s w is_const is_instance p =
     record {
       state = p.state;
       candidates = p.candidates;
-      e = behind.made;
-      encoded = behind.encoded;
-      shows = subst (λ l. Shows behind.made l) (sym (ap (λ l. l ++ q) p.written ∙ behind-two p.lead b q)) (behind.shows (b ++ q) shows);
+      e = encoding_of p.v nil;
+      lead = p.lead;
+      bytes = b ++ q;
+      written = ap (λ l. l ++ q) p.written ∙ behind-two p.lead b q;
+      shows = shows;
+      encloses = object-enclosing p.v (b ++ q) shows;
+      behind = behind;
     }
 
 -- a lone void is read
@@ -165,6 +186,7 @@ void-ended s w first here last is_const p stands one text candidates at two =
     let b = p.name in
     let q = const_text is_const in
     let e = encoding_of p.v (list_of (builtin (118 ∷ []) ∷ [])) in
+    let none : has_return_type (tree_of p.v) ≡ false = ap has_return_type p.tree_is ∙ p.no_return refl in
     let behind : EncodedBehind s p.lead e (w.at + 1) = void-read s p.lead p.v w.at p.state p.awaits stands in
     let written : last.text.items ≡ p.lead ++ b ++ codes "()" =
     two.text ∙ ap (λ l. l.items ++ codes ")") text ∙ ap (λ l. l ++ codes ")") one.text ∙ append_assoc w.text.items (codes "(") (codes ")")
@@ -175,14 +197,17 @@ void-ended s w first here last is_const p stands one text candidates at two =
     (subst (λ l. AreCandidates first.text.items l.items p.state.candidates) (sym candidates) known) in
     let shows : Shows e (b ++ codes "()" ++ q) =
     subst (λ l. Shows e (b ++ codes "()" ++ l)) (qualifiers-text p.v is_const p.qualifiers_are p.mark_is)
-    (void-encoded p.v b (subst (λ t. Prints t b false) (sym p.tree_is) p.prints) (ap has_return_type p.tree_is ∙ p.no_return refl)) in
+    (void-encoded p.v b (subst (λ t. Prints t b false) (sym p.tree_is) p.prints) none) in
     record {
       state = p.state;
       candidates = candidates-written here last (codes ")") p.state.candidates two moved;
-      e = behind.made;
-      encoded = subst (λ n. Encoded s behind.made n) (omega (arith, two.at, at, one.at)) behind.encoded;
-      shows = subst (λ l. Shows behind.made l) (sym (ap (λ l. l ++ q) written ∙ behind-three p.lead b (codes "()") q))
-          (behind.shows (b ++ codes "()" ++ q) shows);
+      e = e;
+      lead = p.lead;
+      bytes = b ++ codes "()" ++ q;
+      written = ap (λ l. l ++ q) written ∙ behind-three p.lead b (codes "()") q;
+      shows = shows;
+      encloses = void-enclosing p.v (b ++ codes "()" ++ q) none shows;
+      behind = subst (λ n. EncodedBehind s p.lead e n) (omega (arith, two.at, at, one.at)) behind;
     }
 
 -- ## Parameters
@@ -286,21 +311,25 @@ function-ended s w last is_const p apart one =
     let b = p.name in
     let l = p.parameters in
     let q = const_text is_const in
+    let none : has_return_type (tree_of p.v) ≡ false = ap has_return_type f.tree_is ∙ f.no_return in
+    let kept = parameters-kept p.ts l f.elements apart in
     let behind : EncodedBehind s p.lead e w.at = subst (λ u. EncodedBehind s p.lead (encoding_of p.v u) w.at) (list-ends p.ts)
     (p.goes.onward nothing_there w.at p.state (expects-empty s Kind.Items p.goes.around p.goes.inner w.at p.state p.goes.awaits refl)) in
     let written : last.text.items ++ q ≡ p.lead ++ (b ++ codes "(" ++ l ++ codes ")" ++ q) =
     ap (λ x. x ++ q) (one.text ∙ ap (λ x. x ++ codes ")") p.written) ∙ behind-five p.lead b (codes "(") l (codes ")") q in
     let shows : Shows e (b ++ codes "(" ++ l ++ codes ")" ++ q) =
     subst (λ x. Shows e (b ++ codes "(" ++ l ++ codes ")" ++ x)) (qualifiers-text p.v is_const f.qualifiers_are f.mark_is)
-    (function-encoded p.v b (subst (λ t. Prints t b false) (sym f.tree_is) f.prints) (ap has_return_type f.tree_is ∙ f.no_return)
-    p.ts l p.some f.elements
-    (parameters-kept p.ts l f.elements apart)) in
+    (function-encoded p.v b (subst (λ t. Prints t b false) (sym f.tree_is) f.prints) none p.ts l p.some f.elements kept) in
     record {
       state = p.state;
       candidates = candidates-written w last (codes ")") p.state.candidates one p.candidates;
-      e = behind.made;
-      encoded = subst (λ n. Encoded s behind.made n) (sym one.at) behind.encoded;
-      shows = subst (λ x. Shows behind.made x) (sym written) (behind.shows (b ++ codes "(" ++ l ++ codes ")" ++ q) shows);
+      e = e;
+      lead = p.lead;
+      bytes = b ++ codes "(" ++ l ++ codes ")" ++ q;
+      written = written;
+      shows = shows;
+      encloses = function-enclosing p.v p.ts (b ++ codes "(" ++ l ++ codes ")" ++ q) none p.some kept shows;
+      behind = subst (λ n. EncodedBehind s p.lead e n) (sym one.at) behind;
     }
 
 -- what ends in a lone void ends so

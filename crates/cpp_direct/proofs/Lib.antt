@@ -1,6 +1,7 @@
 pub mod Begins
 pub mod Elements
 pub mod Ending
+pub mod Entities
 pub mod FoundTokens
 pub mod Kept
 pub mod Listed
@@ -9,6 +10,7 @@ pub mod Moves
 pub mod MovesOfComponents
 pub mod MovesOfEncodings
 pub mod MovesOfLists
+pub mod MovesOfLocals
 pub mod MovesOfNests
 pub mod MovesOfTypes
 pub mod NestComponents
@@ -16,6 +18,7 @@ pub mod Nesting
 pub mod Operators
 pub mod PrintedLetters
 pub mod PrintedLists
+pub mod PrintedLocals
 pub mod PrintedNames
 pub mod PrintedNests
 pub mod PrintedParts

@@ -8,7 +8,7 @@ use Rattle.cpp_grammar.specs.declared.kind.Kind.{Kind}
 use Rattle.cpp_grammar.specs.Grammar.{may_be_empty}
 use Rattle.cpp_grammar.specs.Term.{Term, nil, list, instance, pack, special}
 use Rattle.cpp_grammar.specs.Scope.{arguments_of, before_arguments, is_structor, has_return_type}
-use Rattle.cpp_grammar.specs.Values.{State, Around, tree, nothing_there, outermost, tree_of, qualifiers_of, ref_of}
+use Rattle.cpp_grammar.specs.Values.{State, tree, nothing_there, tree_of, qualifiers_of, ref_of}
 use Rattle.cpp_grammar.specs.Between.{no_items}
 use Rattle.cpp_direct.specs.declared.open.Nest.{Nest}
 use Rattle.cpp_direct.specs.declared.open.Open.{Open}
@@ -19,7 +19,7 @@ use Rattle.cpp_direct.specs.Holes.{Opened, Comes, Expects, IsListKind, ListGoesO
 use Rattle.cpp_direct.specs.HolesOfLists.{IsArgumentKind}
 use Rattle.cpp_direct.specs.Prints.{Prints, PrintAll, Shows, list_of}
 use Rattle.cpp_direct.specs.Stands.{AreCandidates, IsListing, IsNest, IsTail, IsTemplate, IsWriting, Marks, Owns, Serves, ArgumentsGoOn, AwaitsElementOf, AwaitsEnumerator, Belongs, Closes, ElementsGoOn, EnumeratorGoesOn, GoesOn, Listing, of_template, of_pack, Stands, element_kind, extra_of, led_by, list_with, in_front_of_next}
-use Rattle.cpp_direct.specs.Ways.{AwaitsMark, IsListEnded, AwaitsNextArgument, IsNameEnded, IsParameterEnded, IsEncodingEnded, AwaitsNumber}
+use Rattle.cpp_direct.specs.Ways.{AwaitsMark, IsListEnded, AwaitsNextArgument, IsNameEnded, IsParameterEnded, IsSymbolEnded, AwaitsNumber}
 use Rattle.cpp_direct.specs.Written.{Writes, added}
 use Rattle.cpp_direct.proofs.Moves.{expects-empty, stands-split}
 use Rattle.cpp_direct.proofs.MovesOfLists.{element-awaits, pack-opens}
@@ -609,17 +609,22 @@ list-stands s opened os text w = go w.place.listing refl
     go (of_pack before written) is =
         let p = w.place in
         let belongs = subst (λ l. Belongs l opened p.owner p.rest) is p.belongs in
-        subst (λ ws. Stands s ws os text) (sym belongs.0) (before, written, belongs.1, (
-          p.front,
-          p.template,
-          p.name,
-          w.ts,
-          w.texts,
-          p.is_template,
-          subst (λ l. PrintAll (extra_of l) w.ts w.texts) is w.elements,
-          subst (λ l. text ≡ led_by l p.front p.name ++ in_front_of_next w.ts w.texts) is w.written,
-          λ t at st comes. subst (λ l. GoesOn s l p.owner (Stands s p.rest) p.front p.template (w.ts ++ t ∷ []) at st) is (w.onward t at st comes),
-        ))
+        subst (λ ws. Stands s ws os text) (sym belongs.0) (
+          before,
+          written,
+          belongs.1,
+          (
+            p.front,
+            p.template,
+            p.name,
+            w.ts,
+            w.texts,
+            p.is_template,
+            subst (λ l. PrintAll (extra_of l) w.ts w.texts) is w.elements,
+            subst (λ l. text ≡ led_by l p.front p.name ++ in_front_of_next w.ts w.texts) is w.written,
+            λ t at st comes. subst (λ l. GoesOn s l p.owner (Stands s p.rest) p.front p.template (w.ts ++ t ∷ []) at st) is (w.onward t at st comes),
+          ),
+        )
 
 waits-of : (s : List ℕ) (owner : Open) (rest : List Open) (os : List Opened) (text : List ℕ)
     → AwaitsElementOf s of_template owner (Stands s rest) os text → ListWaits s (owner ∷ rest) os text
@@ -822,7 +827,7 @@ value-parameter s w is_reference is_const p found =
 
 -- it is what a special symbol is of
 pub value-special : (s : List ℕ) (w : Direct) (is_reference : Bool) → IsWriting s w (steps.Value is_reference)
-    → slice_get w.waiting.items (length w.waiting.items - 1) ≡ Some opens.Special → IsEncodingEnded s w false
+    → slice_get w.waiting.items (length w.waiting.items - 1) ≡ Some opens.Special → IsSymbolEnded s w
 value-special s w is_reference p found =
     let os = p.is_before.0 in
     let t = p.is_before.1 in
@@ -843,7 +848,7 @@ value-special s w is_reference p found =
       candidates = p.candidates;
       e = special letter t;
       encoded = onward t w.at p.state comes;
-      shows = subst (λ l. Shows (special letter t) l) (sym (append-nil w.text.items ∙ written ∙ ap (λ l. l ++ bytes) front_is))
+      shows = subst (λ l. Shows (special letter t) l) (sym (written ∙ ap (λ l. l ++ bytes) front_is))
           (special-shows letter (λ e. filled (front_is ∙ e)) t bytes is_reference prints);
     }
 

@@ -17,7 +17,7 @@ use Rattle.cpp_direct.proofs.PrintedNames.{source-filled, piece-text, piece-cost
 use Rattle.cpp_direct.proofs.PrintedLists.{list-text-before, list-cost-before, list-closed, list-packless}
 
 -- a text, a mark and a text
-joins : (x m y b n : List ℕ) → x ≡ b → y ≡ n → x ++ (m ++ (y ++ [])) ≡ b ++ m ++ n
+pub joins : (x m y b n : List ℕ) → x ≡ b → y ≡ n → x ++ (m ++ (y ++ [])) ≡ b ++ m ++ n
 joins x m y b n e f = rw (e, f, append-nil n) (sym (append_assoc b m n))
 
 -- ## A piece in a name

@@ -1,5 +1,5 @@
 -- The bytes at which a reader goes one way or another.
-use Rattle.std.specs.Prelude.{ℕ, Bool, codes}
+use Rattle.std.specs.Prelude.{ℕ, List, ◌∷◌, Bool, false, ◌||◌, nat_eq, codes}
 use Rattle.cpp_grammar.specs.Grammar.{among}
 
 -- the letters of the builtin types, but for those behind a D
@@ -13,3 +13,8 @@ is_builtin_with_d byte = among (codes "acinsu") byte
 -- the letters behind an S that stand for a class of std, or for std itself
 unfoldable pub is_abbreviated : ℕ → Bool
 is_abbreviated byte = among (codes "abdios") byte
+
+-- a symbol that names a local entity, or its guard variable, has a Z or a G behind its _Z
+unfoldable pub is_local : List ℕ → Bool
+is_local (a ∷ b ∷ c ∷ rest) = nat_eq c 90 || nat_eq c 71
+is_local _ = false

@@ -1,6 +1,7 @@
 pub mod Bytes
 pub mod Holes
 pub mod HolesOfLists
+pub mod HolesOfLocals
 pub mod HolesOfNests
 pub mod HolesOfTypes
 pub mod ItemBytes

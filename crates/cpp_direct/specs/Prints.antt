@@ -5,7 +5,7 @@ use Rattle.sym_print.specs.Unshared.{Unshared, text_of, cost_of}
 use Rattle.cpp_grammar.specs.Term.{Signed, Term, nil, list}
 use Rattle.cpp_grammar.specs.Scope.{is_open, pack_length}
 use Rattle.cpp_grammar.specs.References.{is_function_type}
-use Rattle.cpp_grammar.specs.Items.{Form, full, left, right, base, Context, closed, head, is_reference, is_funarr, is_empty}
+use Rattle.cpp_grammar.specs.Items.{Form, full, bare, left, right, base, Context, closed, head, is_reference, is_funarr, is_empty}
 use Rattle.cpp_grammar.specs.Meaning.{is_void}
 use Rattle.cpp_grammar.specs.Parts.{as_item, prefix_item, last_piece, opening_text, is_plain_integer}
 use Rattle.cpp_grammar.specs.Answer.{shown}
@@ -44,6 +44,12 @@ pub record NamesClass (t : Term) (class : List ℕ) : Type 0 where
 pub record Shows (t : Term) (bytes : List ℕ) : Type 0 where
   pub shown_text : text_of (in_form full closed t) ≡ bytes
   pub shown_cost : 1 + cost_of (in_form full closed t) ≤ 4 * length bytes
+
+-- An encoding that has this text in front of what stands in it.
+pub record Encloses (t : Term) (bytes : List ℕ) : Type 0 where
+  pub as_prefix : (context : Context) → prefix_item context t ≡ as_item bare closed t
+  pub bare_text : text_of (in_form bare closed t) ≡ bytes
+  pub bare_cost : 1 + cost_of (in_form bare closed t) ≤ 4 * length bytes
 
 -- the sign of a number
 abbrev pub sign_text : Signed → List ℕ

@@ -1,5 +1,5 @@
 -- What a writer's lists say while a symbol is read: what is open waits for what comes next, and what was written is its text.
-use Rattle.std.specs.Prelude.{◌≡◌, ◌≢◌, ◌⊎◌, ℕ, ◌+◌, ◌*◌, ◌≤◌, List, [], ◌∷◌, ◌++◌, length, reverse, Bool, true, false, Ok, codes}
+use Rattle.std.specs.Prelude.{◌≡◌, ◌≢◌, ◌⊎◌, ℕ, ◌+◌, ◌*◌, ◌≤◌, List, [], ◌∷◌, ◌++◌, length, reverse, Bool, true, false, Option, Ok, codes}
 use Rattle.sym_print.specs.declared.detail.Detail.TheVariants.{Full}
 use Rattle.sym_print.specs.Unshared.{text_of, cost_of}
 use Rattle.sym_demangle.specs.Mangled.{StandsFor}
@@ -7,6 +7,7 @@ use Rattle.cpp_grammar.specs.declared.kind.Kind.{Kind}
 use Rattle.cpp_grammar.specs.Mangled.{cpp_mangled}
 use Rattle.cpp_grammar.specs.Answer.{shown, root_item}
 use Rattle.cpp_grammar.specs.Term.{Term, Qualifiers, any_value, symbol, special, pointer, lvalue, rvalue, qualified, instance, integer, pack, nil, list}
+use Rattle.cpp_grammar.specs.Parts.{source_text}
 use Rattle.cpp_grammar.specs.Texts.{look_up, special_texts}
 use Rattle.cpp_grammar.specs.Scope.{has_return_type, is_structor}
 use Rattle.cpp_grammar.specs.References.{is_function_type}
@@ -23,9 +24,11 @@ use Rattle.cpp_direct.specs.declared.open.Open.TheVariants as opens
 use Rattle.cpp_direct.specs.declared.open.Step.{Step}
 use Rattle.cpp_direct.specs.declared.open.Step.TheVariants as steps
 use Rattle.cpp_direct.specs.declared.direct.Direct.{Direct}
+use Rattle.cpp_direct.specs.Bytes.{is_local}
 use Rattle.cpp_direct.specs.Holes.{Opened, Comes, Expects, StandsAt, TypePasses, NestGoesOn, AwaitsComponent, with_candidate, unless_listed}
 use Rattle.cpp_direct.specs.HolesOfLists.{IsSuffix, IsDigitsAt, minus_sign}
-use Rattle.cpp_direct.specs.Prints.{Prints, Shows, NamesClass, PrintAll}
+use Rattle.cpp_direct.specs.HolesOfLocals.{IsEntityAt}
+use Rattle.cpp_direct.specs.Prints.{Prints, Shows, Encloses, NamesClass, PrintAll}
 
 -- ## Candidates
 
@@ -52,12 +55,24 @@ pub record Encoded (s : List ℕ) (e : Term) (at : ℕ) : Type 0 where
   pub ends_in : (suffix : List ℕ) → StandsAt s at suffix → at + length suffix ≡ length s → IsSuffix suffix
       → StandsFor cpp_mangled s (Ok (symbol e suffix))
 
--- An encoding with this tree ends at the place, behind a text: what the whole makes of it shows the text in front of its own. Of a
--- thunk that text says that it is one; else it is empty.
-pub record EncodedBehind (s : List ℕ) (lead : List ℕ) (e : Term) (at : ℕ) : Type 0 where
+-- An encoding with this tree ends the symbol at the place, behind a text: what the whole makes of it shows the text in front of its
+-- own. Of a thunk that text says that it is one; else it is empty.
+pub record EndsBehind (s : List ℕ) (lead : List ℕ) (e : Term) (at : ℕ) : Type 0 where
   pub made : Term
   pub encoded : Encoded s made at
   pub shows : (bytes : List ℕ) → Shows e bytes → Shows made (lead ++ bytes)
+
+-- The same of an entity in the encoding, with this name: it shows the text, and that of the encoding and of the name.
+pub record EntityBehind (s : List ℕ) (lead : List ℕ) (e : Term) (name : List ℕ) (at : ℕ) : Type 0 where
+  pub made : Term
+  pub encoded : Encoded s made at
+  pub shows : (bytes : List ℕ) → Encloses e bytes → Shows made (lead ++ (bytes ++ codes "::" ++ source_text name))
+
+-- An encoding with this tree ends at the place, behind a text. It ends the symbol, or a local entity stands behind it.
+pub record EncodedBehind (s : List ℕ) (lead : List ℕ) (e : Term) (at : ℕ) : Type 0 where
+  pub whole : is_local s ≡ false → EndsBehind s lead e at
+  pub entity : is_local s ≡ true → (internal : Bool) (name : List ℕ) (digit : Option ℕ) (end : ℕ) → IsEntityAt s at internal name digit end
+      → EntityBehind s lead e name end
 
 -- the name of an encoding behind a text was read, and items may follow
 pub record AwaitsItems (s : List ℕ) (lead : List ℕ) (v : Value) (at : ℕ) (st : State) : Type 0 where

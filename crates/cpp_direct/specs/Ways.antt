@@ -10,9 +10,10 @@ use Rattle.cpp_direct.specs.declared.open.Purpose.{Purpose}
 use Rattle.cpp_direct.specs.declared.open.Open.{Open}
 use Rattle.cpp_direct.specs.declared.open.Open.TheVariants as opens
 use Rattle.cpp_direct.specs.declared.direct.Direct.{Direct}
+use Rattle.cpp_direct.specs.Bytes.{is_local}
 use Rattle.cpp_direct.specs.Holes.{Opened, StandsAt, Comes, Expects, IsTyped, TypeNamed, NestNamed, with_candidate}
 use Rattle.cpp_direct.specs.HolesOfTypes.{IsNamedKind, TreeOpens}
-use Rattle.cpp_direct.specs.Prints.{Prints, PrintAll, Shows, sign_text}
+use Rattle.cpp_direct.specs.Prints.{Prints, PrintAll, Shows, Encloses, sign_text}
 use Rattle.cpp_direct.specs.Stands.{AreCandidates, AwaitsItems, Encoded, EncodedBehind, IsFunction, IsListing, IsNest, IsTail, IsTemplate, GoesOn, EnumeratorGoesOn, Owns, ParametersGoOn, Serves, Stands, qualifiers, extra_of, led_by, list_with, in_front_of_next}
 
 -- what stands behind the parameters of a member function
@@ -231,13 +232,36 @@ pub record IsParameterEnded (s : List ℕ) (w : Direct) (is_const : Bool) : Type
   pub written : w.text.items ≡ lead ++ name ++ codes "(" ++ parameters
   pub goes : ParametersGoOn s lead v ts w.at state
 
--- An encoding was read and written, but for its qualifier.
+-- An encoding was read and written behind a text, but for its qualifier.
 pub record IsEncodingEnded (s : List ℕ) (w : Direct) (is_const : Bool) : Type 0 where
   pub state : State
   pub candidates : AreCandidates w.text.items w.candidates.items state.candidates
   pub e : Term
+  pub lead : List ℕ
+  pub bytes : List ℕ
+  pub written : w.text.items ++ const_text is_const ≡ lead ++ bytes
+  pub shows : Shows e bytes
+  pub encloses : Encloses e bytes
+  pub behind : EncodedBehind s lead e w.at
+
+-- The encoding of a symbol was read and written.
+pub record IsSymbolEnded (s : List ℕ) (w : Direct) : Type 0 where
+  pub state : State
+  pub candidates : AreCandidates w.text.items w.candidates.items state.candidates
+  pub e : Term
   pub encoded : Encoded s e w.at
-  pub shows : Shows e (w.text.items ++ const_text is_const)
+  pub shows : Shows e w.text.items
+
+-- ## Local entities
+
+-- The name of a local entity is expected behind the E of the encoding before it, and behind the L of internal linkage or without.
+pub record AwaitsEntity (s : List ℕ) (w : Direct) (is_internal : Bool) : Type 0 where
+  pub before : ℕ
+  pub ended : IsEncodingEnded s (record w { at = before }) false
+  pub is_entity : is_local s ≡ true
+  pub first : StandsAt s before (69 ∷ [])
+  pub letter : is_internal ≡ true → StandsAt s (before + 1) (76 ∷ [])
+  pub at_is : w.at ≡ before + 1 + cond is_internal 1 0
 
 -- ## Literals
 

@@ -7,10 +7,10 @@ ghost use Rattle.sym_print.specs.declared.detail.Detail.TheVariants as details;
 ghost use Rattle.cpp_grammar.specs.Mangled.{IsAnswer};
 ghost use Rattle.cpp_direct.specs.Holes.{StandsAt};
 ghost use Rattle.cpp_direct.specs.Stands.{IsWriting};
-ghost use Rattle.cpp_direct.specs.Ways.{IsFresh, AwaitsEncoding, AwaitsSource, IsNameEnded, IsParameterEnded, IsEncodingEnded};
+ghost use Rattle.cpp_direct.specs.Ways.{IsFresh, AwaitsEncoding, AwaitsSource, IsNameEnded, IsParameterEnded, IsEncodingEnded, IsSymbolEnded};
 
 use crate::open::{Candidate, Nest, Open, Purpose, Step};
-use crate::tokens::{byte_at, is_suffix};
+use crate::tokens::{byte_at, is_local, is_suffix, may_end};
 use std::alloc::Global;
 
 /// The longest symbol that is written so, in bytes: the lists stay small, and real symbols are shorter.
@@ -115,6 +115,9 @@ impl Direct {
         if s.len() > LONGEST || byte_at(s, 0) != b'_' || byte_at(s, 1) != b'Z' {
             return None;
         }
+        if is_local(s) {
+            return self.begin_local(s);
+        }
         if byte_at(s, 2) != b'T' {
             self.at = 2;
             return self.begin_encoding(s);
@@ -201,7 +204,7 @@ impl Direct {
         ensures { IfSome result (IsWriting s.now self.new) }
     {
         let byte = byte_at(s, self.at);
-        if byte == 0 || byte == b'.' {
+        if may_end(byte) {
             return self.end(s, is_const);
         }
         if is_instance {
@@ -209,7 +212,7 @@ impl Direct {
         }
         self.push_byte(b'(')?;
         let behind = byte_at(s, self.at.checked_add(1)?);
-        if byte == b'v' && (behind == 0 || behind == b'.') {
+        if byte == b'v' && may_end(behind) {
             self.at = self.at.checked_add(1)?;
             self.push_byte(b')')?;
             return self.end(s, is_const);
@@ -218,14 +221,14 @@ impl Direct {
         Some(Step::Type)
     }
 
-    /// A parameter is read: another one follows, or the end of the symbol.
+    /// A parameter is read: another one follows, or the end of the encoding.
     pub(crate) fn parameter_ended(&mut self, s: &[u8], is_const: bool) -> Option<Step>
         requires fits { FitsSymbol s.now }
         requires ended { IsParameterEnded s.now self.old is_const }
         ensures { IfSome result (IsWriting s.now self.new) }
     {
         let byte = byte_at(s, self.at);
-        if byte != 0 && byte != b'.' {
+        if !may_end(byte) {
             self.push_pair(b',', b' ')?;
             return Some(Step::Type);
         }
@@ -237,8 +240,7 @@ impl Direct {
         self.end(s, is_const)
     }
 
-    /// The end of a symbol, behind the text of its encoding but for its qualifier.
-    // <mangled-name> ::= _Z <encoding> . <vendor-specific suffix>
+    /// The end of an encoding, behind its text but for its qualifier: a local entity follows, or the end of the symbol.
     pub(crate) fn end(&mut self, s: &[u8], is_const: bool) -> Option<Step>
         requires fits { FitsSymbol s.now }
         requires ended { IsEncodingEnded s.now self.old is_const }
@@ -247,6 +249,18 @@ impl Direct {
         if is_const {
             self.push(b" const")?;
         }
+        if is_local(s) {
+            return self.entity(s);
+        }
+        self.finish(s)
+    }
+
+    /// The end of a symbol, behind the text of its encoding.
+    // <mangled-name> ::= _Z <encoding> . <vendor-specific suffix>
+    pub(crate) fn finish(&mut self, s: &[u8]) -> Option<Step>
+        requires { IsSymbolEnded s.now self.old }
+        ensures { IfSome result (IsWriting s.now self.new) }
+    {
         let suffix = s.get(self.at..)?;
         if suffix.is_empty() {
             return Some(Step::Ended);

@@ -6,6 +6,7 @@
 
 mod direct;
 mod lists;
+mod locals;
 mod nested;
 mod open;
 mod thunks;

@@ -7,6 +7,7 @@ ghost use Rattle.sym_core.specs.Number.{FitsSymbol};
 ghost use Rattle.sym_core.specs.Value.{counted_value};
 ghost use Rattle.sym_core.specs.declared.NumberKind.{NumberKind};
 ghost use Rattle.cpp_grammar.specs.Parts.{source_text};
+ghost use Rattle.cpp_direct.specs.Bytes.{is_local};
 ghost use Rattle.cpp_direct.specs.Holes.{StandsAt, IsNameAt, IsSeqAt};
 ghost use Rattle.cpp_direct.specs.HolesOfLists.{IsSuffix};
 ghost use Rattle.cpp_direct.specs.ItemBytes.{is_suffix_byte};
@@ -22,6 +23,24 @@ pub fn byte_at(s: &[u8], at: usize) -> u8
     ensures { result ≢ 0 → StandsAt s.now at (result ∷ []) }
 {
     if at < s.len() { s[at] } else { 0 }
+}
+
+/// Whether a symbol names a local entity, or its guard variable: a Z or a G stands behind its _Z.
+#[inline(always)]
+#[tactic(auto, unfolding(crate::specs::Bytes::is_local))]
+pub fn is_local(s: &[u8]) -> bool
+    ensures { result ≡ is_local s.now }
+{
+    match s {
+        [_, _, byte, ..] => *byte == b'Z' || *byte == b'G',
+        _ => false,
+    }
+}
+
+/// Whether an encoding may end in front of a byte, which is 0 where the symbol ends.
+#[inline(always)]
+pub fn may_end(byte: u8) -> bool {
+    byte == 0 || byte == b'.' || byte == b'E'
 }
 
 /// Whether a byte may stand in a suffix.

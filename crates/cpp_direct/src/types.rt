@@ -172,7 +172,7 @@ impl Direct {
                 self.mark(s, b" const", from, false)
             }
             Open::Parameters { is_const } => self.parameter_ended(s, is_const),
-            Open::Special => self.end(s, false),
+            Open::Special => self.finish(s),
             Open::Enumerator => self.enumerator(s),
             _ => Some(Step::List { is_first: false }),
         }

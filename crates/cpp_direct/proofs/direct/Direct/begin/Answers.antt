@@ -1,4 +1,4 @@
-use Rattle.std.proofs.Common.{◌∷◌, [], arith, refl, subst}
+use Rattle.std.proofs.Common.{◌∷◌, [], arith, refl, subst, sym, ◌∙◌}
 use Rattle.cpp_direct.specs.Holes.{StandsAt}
 use Rattle.cpp_direct.proofs.Begins.{encoding-awaited}
 use Rattle.cpp_direct.proofs.Moves.{stands-join}
@@ -12,3 +12,4 @@ begin_encoding-requires-clause-awaits c =
     let second = subst (λ b. StandsAt s 1 (b ∷ [])) c.if-byte_at-ne90.false
     (c.byte_at-else-byte_at-ne95.ensures (λ e. omega (arith, e, c.if-byte_at-ne90.false))) in
     encoding-awaited s (record c.args.self.now { at = 2 }) fresh.no_text fresh.no_candidate (stands-join s 0 (95 ∷ []) (90 ∷ []) first second) refl
+    (sym c.is_local.ensures ∙ c.if-is_local.false)

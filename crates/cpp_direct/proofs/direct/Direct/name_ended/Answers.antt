@@ -9,13 +9,13 @@ use Rattle.cpp_direct.proofs.direct.Direct.name_ended.Goals as goal
 pub end-requires-clause-ended : goal.end-requires-clause-ended
 end-requires-clause-ended c = object-ended c.args.s.now c.args.self.now c.args.is_const c.args.is_instance c.requires.ended
 
-pub end-requires-then-behind-eq46-clause-ended : goal.end-requires-then-behind-eq46-clause-ended
-end-requires-then-behind-eq46-clause-ended c =
+pub end-requires-then-may_end-2-clause-ended : goal.end-requires-then-may_end-2-clause-ended
+end-requires-then-may_end-2-clause-ended c =
     let s = c.args.s.now in
     let w = c.args.self.now in
-    void-ended s w c.push_byte.new.self _ c.push_byte-then-behind-eq46.new.self c.args.is_const
+    void-ended s w c.push_byte.new.self _ c.push_byte-then-may_end-2.new.self c.args.is_const
     (subst (λ b. IsNameEnded s w c.args.is_const b) c.if-is_instance.false c.requires.ended)
-    (subst (λ b. StandsAt s w.at (b ∷ [])) c.if-byte-eq118.true (c.byte_at-byte.ensures c.if-byte-eq0.false))
+    (subst (λ b. StandsAt s w.at (b ∷ [])) c.if-byte-eq118.true (c.byte_at-byte.ensures (λ e. omega (arith, e, c.if-byte-eq118.true))))
     c.in_ok-push_byte.ensures refl refl (omega (arith, c.in_ok-self.ensures)) c.in_ok-push_byte-2.ensures
 
 pub returns : goal.returns

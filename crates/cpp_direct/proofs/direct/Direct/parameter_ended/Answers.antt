@@ -2,8 +2,8 @@ use Rattle.std.proofs.Common.{◌++◌, sym, ◌∙◌}
 use Rattle.cpp_direct.proofs.Ending.{next-expected, function-ended, no-void}
 use Rattle.cpp_direct.proofs.direct.Direct.parameter_ended.Goals as goal
 
-pub returns-then-byte-ne46 : goal.returns-then-byte-ne46
-returns-then-byte-ne46 c = next-expected c.args.s.now c.args.self.now c.push_pair.new.self c.args.is_const c.requires.ended c.in_ok-push_pair.ensures
+pub returns-then-not-may_end : goal.returns-then-not-may_end
+returns-then-not-may_end c = next-expected c.args.s.now c.args.self.now c.push_pair.new.self c.args.is_const c.requires.ended c.in_ok-push_pair.ensures
 
 pub end-requires-clause-ended : goal.end-requires-clause-ended
 end-requires-clause-ended c =

@@ -37,8 +37,8 @@ parameter_ended-requires-clause-ended c =
     value-parameter c.args.s.now c.args.self.now c.args.is_reference c.in-Parameters.is_const
     c.requires.writing (waits-last _ _ _ _ c.deref.ensures.value c.in_ok-from.ensures.value c.in-Parameters.is)
 
-pub end-requires-clause-ended : goal.end-requires-clause-ended
-end-requires-clause-ended c =
+pub finish-requires : goal.finish-requires
+finish-requires c =
     value-special c.args.s.now c.args.self.now c.args.is_reference
     c.requires.writing (waits-last _ _ _ _ c.deref.ensures.value c.in_ok-from.ensures.value c.in-Special.is)
 

@@ -1,0 +1,20 @@
+use Rattle.std.proofs.Common.{◌+◌, ◌≤◌, ◌∷◌, [], refl, arith, subst}
+use Rattle.cpp_direct.specs.Holes.{StandsAt}
+use Rattle.cpp_direct.proofs.Entities.{none-told, digit-told}
+use Rattle.cpp_direct.proofs.FoundTokens.{reads-begun}
+use Rattle.cpp_direct.proofs.Moves.{stands-moved}
+use Rattle.cpp_direct.proofs.direct.Direct.discriminator.Goals as goal
+
+pub returns-then-byte_at-ne95 : goal.returns-then-byte_at-ne95
+returns-then-byte_at-ne95 c = none-told c.args.s.now c.args.self.now
+
+pub returns : goal.returns
+returns c =
+    let s = c.args.s.now in
+    let old = c.args.self.now in
+    let low : 48 ≤ c.byte_at-digit.result = omega (arith, c.if-digit-lt48.false) in
+    digit-told s old _ c.byte_at-digit.result
+    (subst (λ b. StandsAt s old.at (b ∷ [])) c.if-byte_at-ne95.false (c.byte_at.ensures (λ e. omega (arith, e, c.if-byte_at-ne95.false))))
+    (stands-moved s _ (old.at + 1) (c.byte_at-digit.result ∷ []) (omega (arith, c.in_ok-self.ensures)) (c.byte_at-digit.ensures (λ e. omega (arith, e, low))))
+    low (omega (arith, c.if-digit-gt57.false)) (omega (arith, c.in_ok-self.ensures, c.in_ok-self-2.ensures))
+    (reads-begun old _ refl refl refl refl refl)

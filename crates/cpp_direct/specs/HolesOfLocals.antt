@@ -1,0 +1,55 @@
+-- What is expected in the name of a local entity, and what comes of it.
+use Rattle.std.specs.Prelude.{◌≡◌, ◌≢◌, ℕ, ◌+◌, ◌≤◌, List, [], ◌∷◌, length, Bool, true, cond, Option, Some, None}
+use Rattle.cpp_grammar.specs.declared.kind.Kind.{Kind}
+use Rattle.cpp_grammar.specs.Term.{Term, any_value, guard, local, within, source}
+use Rattle.cpp_grammar.specs.Values.{State, Around, Value, nothing_there, text, tree, named, unqualified, tree_of, qualifiers_of, ref_of}
+use Rattle.cpp_grammar.specs.Between.{in_name}
+use Rattle.cpp_grammar.specs.Meaning.{discriminator_of}
+use Rattle.cpp_direct.specs.Holes.{Opened, StandsAt, Comes, Expects, IsNameAt}
+
+-- the bytes of a discriminator of one digit, or of none
+abbrev pub discriminator_bytes : Option ℕ → List ℕ
+discriminator_bytes None = []
+discriminator_bytes (Some digit) = 95 ∷ digit ∷ []
+
+-- what it stands for
+abbrev pub discriminator_value : Option ℕ → Value
+discriminator_value None = nothing_there
+discriminator_value (Some digit) = text (digit ∷ [])
+
+abbrev pub IsDiscriminator : Option ℕ → Type 0
+IsDiscriminator None = Unit {0}
+IsDiscriminator (Some digit) = (48 ≤ digit) × (digit ≤ 57)
+
+-- a discriminator stands at the place, or none, and this is the place behind it
+pub record IsDiscriminatorAt (s : List ℕ) (at : ℕ) (digit : Option ℕ) (end : ℕ) : Type 0 where
+  pub is_digit : IsDiscriminator digit
+  pub stands : StandsAt s at (discriminator_bytes digit)
+  pub ends : end ≡ at + length (discriminator_bytes digit)
+
+-- an entity stands at the place, behind an E, with this name and discriminator, and this is the place behind it
+pub record IsEntityAt (s : List ℕ) (at : ℕ) (internal : Bool) (name : List ℕ) (digit : Option ℕ) (end : ℕ) : Type 0 where
+  pub first : StandsAt s at (69 ∷ [])
+  pub letter : internal ≡ true → StandsAt s (at + 1) (76 ∷ [])
+  pub middle : ℕ
+  pub is_name : IsNameAt s (at + 1 + cond internal 1 0) name middle
+  pub filled : name ≢ []
+  pub discriminator : IsDiscriminatorAt s middle digit end
+
+-- the entity with this name in an encoding
+abbrev pub entity_in : (e : Term) → (internal : Bool) → (name : List ℕ) → (digit : Option ℕ) → Term
+entity_in e internal name digit = local e (within e (source internal name)) (discriminator_of (discriminator_value digit))
+
+-- The encoding is expected in which an entity stands.
+pub record LocalOpened (s : List ℕ) (outer : List Opened) (around : Around) (at : ℕ) (st : State) : Type 0 where
+  pub inner : List Opened
+  pub awaits : Expects s Kind.Encoding around inner at st
+  pub onward : (e : Term) (at : ℕ) (st : State) → Comes s inner (tree e true) at st → (internal : Bool) (name : List ℕ) (digit : Option ℕ) (end : ℕ)
+      → IsEntityAt s at internal name digit end → Comes s outer (named (entity_in e internal name digit) unqualified any_value) end st
+
+-- The name is expected of which a variable is the guard, in an encoding that begins at a place.
+pub record GuardOpened (s : List ℕ) (outer : List Opened) (encoding : ℕ) (at : ℕ) (st : State) : Type 0 where
+  pub inner : List Opened
+  pub awaits : Expects s Kind.CompleteName (in_name encoding) inner at st
+  pub onward : (v : Value) (at : ℕ) (st : State) → Comes s inner v at st
+      → Comes s outer (tree (guard (tree_of v) (qualifiers_of v) (ref_of v)) true) at st

@@ -1,0 +1,97 @@
+// Local entities: what has a name in the body of a function.
+
+ghost use Rattle.std.specs.Prelude.{◌≡◌, ◌∷◌, [], ℕ, Option, true, false};
+ghost use Rattle.std.specs.Option.{OnSome, IfSome};
+ghost use Rattle.sym_core.specs.Number.{FitsSymbol};
+ghost use Rattle.cpp_direct.specs.Bytes.{is_local};
+ghost use Rattle.cpp_direct.specs.Holes.{StandsAt};
+ghost use Rattle.cpp_direct.specs.HolesOfLocals.{IsDiscriminatorAt};
+ghost use Rattle.cpp_direct.specs.Stands.{IsWriting};
+ghost use Rattle.cpp_direct.specs.Ways.{IsFresh, IsEncodingEnded, AwaitsEntity};
+ghost use Rattle.cpp_direct.specs.Written.{Reads};
+
+use crate::direct::Direct;
+use crate::open::Step;
+use crate::tokens::byte_at;
+
+impl Direct {
+    /// The first bytes of the symbol of a local entity, or of its guard variable.
+    // <local-name> ::= Z <function encoding> E <entity name> [<discriminator>]
+    pub(crate) fn begin_local(&mut self, s: &[u8]) -> Option<Step>
+        requires fits { FitsSymbol s.now }
+        requires fresh { IsFresh self.old }
+        requires starts { StandsAt s.now 0 (95 ∷ 90 ∷ []) }
+        ensures { IfSome result (IsWriting s.now self.new) }
+    {
+        if byte_at(s, 2) != b'Z' {
+            return self.begin_guard(s);
+        }
+        self.at = 3;
+        self.begin_encoding(s)
+    }
+
+    /// The first bytes of the symbol of a guard variable.
+    // <special-name> ::= GV <object name>
+    fn begin_guard(&mut self, s: &[u8]) -> Option<Step>
+        requires fits { FitsSymbol s.now }
+        requires fresh { IsFresh self.old }
+        requires starts { StandsAt s.now 0 (95 ∷ 90 ∷ []) }
+        ensures { IfSome result (IsWriting s.now self.new) }
+    {
+        if byte_at(s, 2) != b'G' || byte_at(s, 3) != b'V' || byte_at(s, 4) != b'Z' {
+            return None;
+        }
+        self.push(b"guard variable for ")?;
+        self.at = 5;
+        self.begin_encoding(s)
+    }
+
+    /// A local entity, behind the encoding that it stands in.
+    // <local-name> ::= Z <function encoding> E <entity name> [<discriminator>]
+    pub(crate) fn entity(&mut self, s: &[u8]) -> Option<Step>
+        requires fits { FitsSymbol s.now }
+        requires ended { IsEncodingEnded s.now self.old false }
+        requires local { is_local s.now ≡ true }
+        ensures { IfSome result (IsWriting s.now self.new) }
+    {
+        if byte_at(s, self.at) != b'E' {
+            return None;
+        }
+        self.at = self.at.checked_add(1)?;
+        if byte_at(s, self.at) == b'L' {
+            self.at = self.at.checked_add(1)?;
+            return self.entity_name(s, true);
+        }
+        self.entity_name(s, false)
+    }
+
+    /// The name of a local entity, behind the L of internal linkage or without one.
+    // <unscoped-name> ::= <source-name>
+    fn entity_name(&mut self, s: &[u8], is_internal: bool) -> Option<Step>
+        requires fits { FitsSymbol s.now }
+        requires awaits { AwaitsEntity s.now self.old is_internal }
+        ensures { IfSome result (IsWriting s.now self.new) }
+    {
+        self.push_pair(b':', b':')?;
+        self.name(s)?;
+        self.discriminator(s)?;
+        self.finish(s)
+    }
+
+    /// Reads a discriminator of one digit, if there is one. Nothing of it is written.
+    // <discriminator> ::= _ <non-negative number>
+    fn discriminator(&mut self, s: &[u8]) -> Option<()>
+        ensures { OnSome result ((digit : Option ℕ) × IsDiscriminatorAt s.now self.old.at digit self.new.at × Reads self.old self.new []) }
+    {
+        if byte_at(s, self.at) != b'_' {
+            return Some(());
+        }
+        self.at = self.at.checked_add(1)?;
+        let digit = byte_at(s, self.at);
+        if digit < b'0' || b'9' < digit {
+            return None;
+        }
+        self.at = self.at.checked_add(1)?;
+        Some(())
+    }
+}
