@@ -7,18 +7,17 @@ use Rattle.std.proofs.Math.Seq.{drop-append_seam}
 use Rattle.cpp_direct.specs.HolesOfTypes.{TreeOpens}
 use Rattle.cpp_grammar.specs.declared.kind.Kind.{Kind}
 use Rattle.cpp_grammar.specs.Parts.{is_plain_integer}
-use Rattle.cpp_grammar.specs.Term.{Term, builtin, boolean, integer, instance, list}
+use Rattle.cpp_grammar.specs.Term.{Term, builtin, boolean, integer}
 use Rattle.cpp_grammar.specs.Texts.{look_up, builtin_texts, literal_endings}
 use Rattle.cpp_grammar.specs.Grammar.{among}
-use Rattle.cpp_grammar.specs.Between.{no_items}
-use Rattle.cpp_grammar.specs.Values.{tree, tree_of, normal, signed_digits, State}
+use Rattle.cpp_grammar.specs.Values.{normal, signed_digits}
 use Rattle.cpp_direct.specs.declared.open.Open.TheVariants as opens
 use Rattle.cpp_direct.specs.declared.direct.Direct.{Direct}
 use Rattle.cpp_direct.specs.declared.open.Step.TheVariants as steps
 use Rattle.cpp_direct.specs.Holes.{StandsAt, ListGoesOn}
 use Rattle.cpp_direct.specs.HolesOfLists.{IsDigitsAt, minus_sign}
 use Rattle.cpp_direct.specs.ItemBytes.{is_integer_letter}
-use Rattle.cpp_direct.specs.Prints.{Prints, PrintAll, PrintEach, joined, sign_text, EndsAsInteger}
+use Rattle.cpp_direct.specs.Prints.{Prints, sign_text, EndsAsInteger}
 use Rattle.cpp_direct.specs.Stands.{AreCandidates, Belongs, Closes, GoesOn, IsTemplate, IsWriting, Stands, element_kind, extra_of, led_by, in_front_of_next}
 use Rattle.cpp_direct.specs.Ways.{AwaitsNextArgument, truth_text, number_text, integer_text, AwaitsNumber, AwaitsNamedType}
 use Rattle.cpp_direct.specs.Written.{Reads, Writes}

@@ -1,5 +1,4 @@
-use Rattle.std.proofs.Common.{◌++◌, ◌∷◌, [], true, refl}
-use Rattle.cpp_direct.specs.declared.open.Open.TheVariants as opens
+use Rattle.std.proofs.Common.{true, refl}
 use Rattle.cpp_direct.specs.declared.open.Step.TheVariants as steps
 use Rattle.cpp_direct.specs.Stands.{IsWriting}
 use Rattle.cpp_direct.proofs.Listed.{waits-last, pack-begins}

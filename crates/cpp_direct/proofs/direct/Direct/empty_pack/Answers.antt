@@ -1,4 +1,4 @@
-use Rattle.std.proofs.Common.{◌+◌, ◌∷◌, [], arith, refl, subst, sym}
+use Rattle.std.proofs.Common.{◌∷◌, [], arith, refl, subst}
 use Rattle.cpp_direct.specs.Holes.{StandsAt}
 use Rattle.cpp_direct.specs.Ways.{IsListEnded}
 use Rattle.cpp_direct.proofs.Listed.{waits-last, empty-pack-ends}
