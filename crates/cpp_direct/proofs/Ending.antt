@@ -1,5 +1,5 @@
 -- How a symbol ends: its encoding's name, its parameters, and what stands behind them.
-use Rattle.std.proofs.Common.{◌≡◌, ◌≢◌, refl, ap, sym, ◌∙◌, subst, ℕ, ◌+◌, ◌-◌, ◌≤◌, List, [], ◌∷◌, ◌++◌, length, take, drop, reverse, inr, Bool, true, false, nat_eq, arith, codes, append-nil, append_assoc}
+use Rattle.std.proofs.Common.{◌≡◌, ◌≢◌, refl, ap, sym, ◌∙◌, subst, ℕ, ◌+◌, ◌-◌, ◌≤◌, List, [], ◌∷◌, ◌++◌, length, take, drop, reverse, inl, inr, Bool, true, false, nat_eq, arith, codes, append-nil, append_assoc}
 use Rattle.std.specs.Prelude.{if◌then◌else◌}
 use Rattle.std.specs.List.{ends_with}
 use Rattle.std.specs.Cmp.Lexicographic.{pointwise}
@@ -220,7 +220,7 @@ list-ends : (ts : List Term) → list_with ts nil ≡ list_of ts
 list-ends [] = refl
 list-ends (t ∷ ts) = ap (list t) (list-ends ts)
 
-next-written : (ts : List Term) (l : List ℕ) → ts ≢ [] → in_front_of_next ts l ≡ l ++ codes ", "
+pub next-written : (ts : List Term) (l : List ℕ) → ts ≢ [] → in_front_of_next ts l ≡ l ++ codes ", "
 next-written [] l some = absurd (some refl)
 next-written (t ∷ ts) l some = refl
 
@@ -263,7 +263,7 @@ parameter-expected s w st is_const rest lead v ts name parameters candidates ope
     record {
       state = st;
       candidates = candidates;
-      is_before = (element.inner, p.around, p.outside, inr element.awaits, subst (λ os. Stands s os element.inner w.text.items) (sym open_is) stands);
+      is_before = (element.inner, p.around, p.outside, inr (inl element.awaits), subst (λ os. Stands s os element.inner w.text.items) (sym open_is) stands);
     }
 
 -- the first parameter comes next

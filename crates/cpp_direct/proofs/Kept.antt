@@ -56,13 +56,13 @@ candidate-stays text more k c p = record {
 -- candidates stay so where more is written
 pub candidates-stay : (text more : List ℕ) (ks : List Candidate) (cs : List values.Candidate) → AreCandidates text ks cs → AreCandidates (text ++ more) ks cs
 candidates-stay text more [] [] p = tt
-candidates-stay text more (k ∷ ks) (c ∷ cs) p = (candidate-stays text more k c p.0, candidates-stay text more ks cs p.1)
+candidates-stay text more (k ∷ ks) (c ∷ cs) p = ((λ e. candidate-stays text more k c (p.0 e)), candidates-stay text more ks cs p.1)
 candidates-stay text more [] (c ∷ cs) p = absurd p
 candidates-stay text more (k ∷ ks) [] p = absurd p
 
 -- one more
-candidates-more : (text : List ℕ) (ks : List Candidate) (cs : List values.Candidate) (k : Candidate) (c : values.Candidate)
-    → AreCandidates text ks cs → IsCandidate text k c → AreCandidates text (ks ++ k ∷ []) (cs ++ c ∷ [])
+pub candidates-more : (text : List ℕ) (ks : List Candidate) (cs : List values.Candidate) (k : Candidate) (c : values.Candidate)
+    → AreCandidates text ks cs → (k.from ≤ k.to → IsCandidate text k c) → AreCandidates text (ks ++ k ∷ []) (cs ++ c ∷ [])
 candidates-more text [] [] k c p is = (is, tt)
 candidates-more text (x ∷ ks) (y ∷ cs) k c p is = (p.0, candidates-more text ks cs k c p.1 is)
 candidates-more text [] (y ∷ cs) k c p is = absurd p
@@ -73,7 +73,7 @@ pub candidates-added : (text : List ℕ) (ks : List Candidate) (cs : List values
     → AreCandidates text ks cs → text ≡ front ++ bytes → from ≡ length front → Prints t bytes r
     → AreCandidates text (ks ++ record { from = from; to = length text; is_reference = r } ∷ []) (cs ++ record { tree = t; encoding = e } ∷ [])
 candidates-added text ks cs front bytes from t e r p written from_is prints =
-    candidates-more text ks cs (record { from = from; to = length text; is_reference = r }) (record { tree = t; encoding = e }) p (record {
+    candidates-more text ks cs (record { from = from; to = length text; is_reference = r }) (record { tree = t; encoding = e }) p (λ ordered. record {
       front = front;
       bytes = bytes;
       back = [];
@@ -115,15 +115,15 @@ candidates-read old new bytes cs reads p =
 
 -- what a substitution names
 pub candidate-found : (text : List ℕ) (ks : List Candidate) (cs : List values.Candidate) (n : ℕ) (k : Candidate)
-    → AreCandidates text ks cs → slice_get ks n ≡ Some k → (c : values.Candidate) × (slice_get cs n ≡ Some c) × IsCandidate text k c
-candidate-found text [] cs n k p found = absurd (false≢true (ap is_some found))
-candidate-found text (x ∷ ks) [] n k p found = absurd p
-candidate-found text (x ∷ ks) (y ∷ cs) zero k p found = (y, refl, subst (λ o. Named o) found p.0)
+    → AreCandidates text ks cs → k.from ≤ k.to → slice_get ks n ≡ Some k → (c : values.Candidate) × (slice_get cs n ≡ Some c) × IsCandidate text k c
+candidate-found text [] cs n k p ordered found = absurd (false≢true (ap is_some found))
+candidate-found text (x ∷ ks) [] n k p ordered found = absurd p
+candidate-found text (x ∷ ks) (y ∷ cs) zero k p ordered found = (y, refl, (subst (λ o. Named o) found p.0) ordered)
   where
     Named : Option Candidate → Type 0
-    Named (Some z) = IsCandidate text z y
+    Named (Some z) = z.from ≤ z.to → IsCandidate text z y
     Named None = ⊥
-candidate-found text (x ∷ ks) (y ∷ cs) (suc n) k p found = candidate-found text ks cs n k p.1 found
+candidate-found text (x ∷ ks) (y ∷ cs) (suc n) k p ordered found = candidate-found text ks cs n k p.1 ordered found
 
 -- ## What is open
 

@@ -3,12 +3,15 @@ pub mod Elements
 pub mod Ending
 pub mod Entities
 pub mod FoundTokens
+pub mod FunctionsRead
+pub mod Handed
 pub mod Kept
 pub mod Listed
 pub mod Literals
 pub mod Moves
 pub mod MovesOfComponents
 pub mod MovesOfEncodings
+pub mod MovesOfFunctions
 pub mod MovesOfLists
 pub mod MovesOfLocals
 pub mod MovesOfNests
@@ -16,6 +19,7 @@ pub mod MovesOfTypes
 pub mod NestComponents
 pub mod Nesting
 pub mod Operators
+pub mod PrintedFunctions
 pub mod PrintedLetters
 pub mod PrintedLists
 pub mod PrintedLocals
@@ -25,4 +29,5 @@ pub mod PrintedParts
 pub mod PrintedSymbols
 pub mod PrintedTypes
 pub mod PrintedValues
+pub mod Signatures
 pub mod TypesRead

@@ -57,7 +57,7 @@ waits-last items xs x y same found is = ap (λ l. slice_get l (length l - 1)) (s
 
 -- ## Lists
 
-list-more : (ts : List Term) (t r : Term) → list_with (ts ++ t ∷ []) r ≡ list_with ts (list t r)
+pub list-more : (ts : List Term) (t r : Term) → list_with (ts ++ t ∷ []) r ≡ list_with ts (list t r)
 list-more [] t r = refl
 list-more (u ∷ ts) t r = ap (λ l. list u l) (list-more ts t r)
 
@@ -647,7 +647,7 @@ waits-of s owner rest os text p = record {
 }
 
 -- and what stands open so is a list
-list-waits : (s : List ℕ) (o : Open) (rest : List Open) (os : List Opened) (text : List ℕ) → TakesElements o → Stands s (o ∷ rest) os text
+pub list-waits : (s : List ℕ) (o : Open) (rest : List Open) (os : List Opened) (text : List ℕ) → TakesElements o → Stands s (o ∷ rest) os text
     → ListWaits s (o ∷ rest) os text
 list-waits s opens.Pack [] os text takes p = absurd p
 list-waits s opens.Pack (owner ∷ rest) os text takes p = record {
@@ -686,7 +686,7 @@ type-expected s w a =
         element.inner,
         a.goes.0,
         a.goes.2,
-        inr element.awaits,
+        inr (inl element.awaits),
         list-stands s (reverse w.waiting.items) element.inner w.text.items (record {
           place = p;
           ts = a.ts;
@@ -741,208 +741,3 @@ enumerator-stands s opened text os p ts texts elements written onward = go p.lis
         let e = awaits (of_pack before written_) is in
         subst (λ ws. Stands s (opens.Enumerator ∷ ws) os text) (sym belongs.0)
         (before, written_, belongs.1, e)
-
--- ## Where a type was read
-
--- it is marked
-pub value-marked : (s : List ℕ) (w : Direct) (is_reference marked_reference : Bool) (entry : Open) (from : ℕ) (made : Term → Term) (mark : List ℕ)
-    → IsWriting s w (steps.Value is_reference) → slice_get w.waiting.items (length w.waiting.items - 1) ≡ Some entry
-    → ((rest : List Open) (os : List Opened) (text : List ℕ) → Stands s (entry ∷ rest) os text → Marks s (Stands s rest) os text from made)
-    → ((t : Term) (b : List ℕ) → Prints t b is_reference → Prints (made t) (b ++ mark) marked_reference)
-    → AwaitsMark s w mark from marked_reference
-value-marked s w is_reference marked_reference entry from made mark p found stands_as prints_as =
-    let os = p.is_before.0 in
-    let t = p.is_before.1 in
-    let front = p.is_before.2 in
-    let bytes = p.is_before.3 in
-    let written = p.is_before.4 in
-    let prints = p.is_before.5 in
-    let comes = p.is_before.6 in
-    let stands = p.is_before.7 in
-    let last = last-found w.waiting.items entry found in
-    let marks = stands_as last.0 os front (subst (λ ws. Stands s ws os front) last.1 stands) in
-    record {
-      state = p.state;
-      candidates = p.candidates;
-      entry = entry;
-      rest = last.0;
-      open_is = last.1;
-      outer = marks.0;
-      encoding = marks.1;
-      made = made t;
-      comes = marks.3 t w.at p.state comes;
-      front = front;
-      bytes = bytes;
-      written = written;
-      from_is = marks.2;
-      prints = prints_as t bytes prints;
-      stands = marks.4;
-    }
-
--- it is a parameter
-pub value-parameter : (s : List ℕ) (w : Direct) (is_reference is_const : Bool) → IsWriting s w (steps.Value is_reference)
-    → slice_get w.waiting.items (length w.waiting.items - 1) ≡ Some (opens.Parameters is_const) → IsParameterEnded s w is_const
-value-parameter s w is_reference is_const p found =
-    let os = p.is_before.0 in
-    let t = p.is_before.1 in
-    let front = p.is_before.2 in
-    let bytes = p.is_before.3 in
-    let written = p.is_before.4 in
-    let prints = p.is_before.5 in
-    let comes = p.is_before.6 in
-    let stands = p.is_before.7 in
-    let last = last-found w.waiting.items (opens.Parameters is_const) found in
-    let waits : Stands s (opens.Parameters is_const ∷ last.0) os front = subst (λ ws. Stands s ws os front) last.1 stands in
-    let lead = waits.0 in
-    let v = waits.1 in
-    let ts = waits.2 in
-    let name = waits.3 in
-    let parameters = waits.4 in
-    let is_function = waits.5 in
-    let front_is = waits.6 in
-    let onward = waits.7 in
-    record {
-      state = p.state;
-      candidates = p.candidates;
-      rest = last.0;
-      open_is = last.1;
-      v = v;
-      ts = ts ++ t ∷ [];
-      some = some-elements ts t;
-      lead = lead;
-      name = name;
-      parameters = in_front_of_next ts parameters ++ bytes;
-      is_function = record {
-        own = is_function.own;
-        tree_is = is_function.tree_is;
-        qualifiers_are = is_function.qualifiers_are;
-        mark_is = is_function.mark_is;
-        prints = is_function.prints;
-        no_return = is_function.no_return;
-        elements = next-prints 0 ts parameters t bytes is_function.elements (type-element 0 t bytes is_reference prints);
-      };
-      written = written ∙ ap (λ l. l ++ bytes) front_is ∙ append_assoc (lead ++ name ++ codes "(") (in_front_of_next ts parameters) bytes;
-      goes = onward t w.at p.state comes;
-    }
-
--- it is what a special symbol is of
-pub value-special : (s : List ℕ) (w : Direct) (is_reference : Bool) → IsWriting s w (steps.Value is_reference)
-    → slice_get w.waiting.items (length w.waiting.items - 1) ≡ Some opens.Special → IsSymbolEnded s w
-value-special s w is_reference p found =
-    let os = p.is_before.0 in
-    let t = p.is_before.1 in
-    let front = p.is_before.2 in
-    let bytes = p.is_before.3 in
-    let written = p.is_before.4 in
-    let prints = p.is_before.5 in
-    let comes = p.is_before.6 in
-    let stands = p.is_before.7 in
-    let last = last-found w.waiting.items opens.Special found in
-    let waits : Stands s (opens.Special ∷ last.0) os front = subst (λ ws. Stands s ws os front) last.1 stands in
-    let letter = waits.0 in
-    let front_is = waits.1 in
-    let filled = waits.2 in
-    let onward = waits.3 in
-    record {
-      state = p.state;
-      candidates = p.candidates;
-      e = special letter t;
-      encoded = onward t w.at p.state comes;
-      shows = subst (λ l. Shows (special letter t) l) (sym (written ∙ ap (λ l. l ++ bytes) front_is))
-          (special-shows letter (λ e. filled (front_is ∙ e)) t bytes is_reference prints);
-    }
-
--- it is the type of an enumerator
-pub value-enumerator : (s : List ℕ) (w : Direct) (is_reference : Bool) → IsWriting s w (steps.Value is_reference)
-    → slice_get w.waiting.items (length w.waiting.items - 1) ≡ Some opens.Enumerator → AwaitsNumber s w
-value-enumerator s w is_reference p found =
-    let last = last-found w.waiting.items opens.Enumerator found in
-    go last.0 last.1 (subst (λ ws. Stands s ws p.is_before.0 p.is_before.2) last.1 p.is_before.7)
-  where
-    number : (l : Listing) (opened : List Open) (owner : Open) (rest : List Open) → reverse w.waiting.items ≡ opens.Enumerator ∷ opened
-        → Belongs l opened owner rest → AwaitsEnumerator s l owner (Stands s rest) p.is_before.0 p.is_before.2 → AwaitsNumber s w
-    number l opened owner rest is belongs waits =
-        let t = p.is_before.1 in
-        let bytes = p.is_before.3 in
-        let written = p.is_before.4 in
-        record {
-          state = p.state;
-          candidates = p.candidates;
-          opened = opened;
-          open_is = is;
-          place = record {
-            listing = l;
-            owner = owner;
-            rest = rest;
-            belongs = belongs;
-            front = waits.0;
-            template = waits.1;
-            name = waits.2;
-            is_template = subst (λ k. IsTemplate owner waits.0 waits.1 waits.2 k) (sym written)
-                (template-stays owner waits.0 waits.1 waits.2 p.is_before.2 bytes waits.5);
-          };
-          ts = waits.3;
-          texts = waits.4;
-          elements = waits.6;
-          type = t;
-          bytes = bytes;
-          is_reference = is_reference;
-          prints = p.is_before.5;
-          written = written ∙ ap (λ k. k ++ bytes) waits.7;
-          goes = waits.8 t w.at p.state p.is_before.6;
-        }
-
-    go : (rest : List Open) → reverse w.waiting.items ≡ opens.Enumerator ∷ rest
-        → Stands s (opens.Enumerator ∷ rest) p.is_before.0 p.is_before.2 → AwaitsNumber s w
-    go [] is waits = absurd waits
-    go (opens.Pack ∷ []) is waits = absurd waits
-    go (opens.Pack ∷ owner ∷ rest) is waits = number (of_pack waits.0 waits.1) (opens.Pack ∷ owner ∷ rest) owner rest is (refl, waits.2) waits.3
-    go (owner ∷ rest) is waits = number of_template (owner ∷ rest) owner rest is refl waits
-
--- what is none of those that wait for something else
-pub takes-elements : (o : Open) → ((x : ℕ) → o ≡ opens.Pointer x → ⊥) → ((x : ℕ) → o ≡ opens.Lvalue x → ⊥)
-    → ((x : ℕ) → o ≡ opens.Rvalue x → ⊥) → ((x : ℕ) → o ≡ opens.Const x → ⊥) → ((x : Bool) → o ≡ opens.Parameters x → ⊥)
-    → (o ≡ opens.Special → ⊥) → (o ≡ opens.Enumerator → ⊥) → TakesElements o
-takes-elements (opens.Pointer x) p l r c f z n = absurd (p x refl)
-takes-elements (opens.Lvalue x) p l r c f z n = absurd (l x refl)
-takes-elements (opens.Rvalue x) p l r c f z n = absurd (r x refl)
-takes-elements (opens.Const x) p l r c f z n = absurd (c x refl)
-takes-elements (opens.Parameters x) p l r c f z n = absurd (f x refl)
-takes-elements opens.Special p l r c f z n = absurd (z refl)
-takes-elements opens.Enumerator p l r c f z n = absurd (n refl)
-takes-elements opens.Pack p l r c f z n = tt
-takes-elements (opens.TypeArguments x) p l r c f z n = tt
-takes-elements (opens.NestArguments x) p l r c f z n = tt
-takes-elements (opens.FirstArguments x) p l r c f z n = tt
-takes-elements opens.NameArguments p l r c f z n = tt
-
--- it is an element
-pub value-argument : (s : List ℕ) (w : Direct) (is_reference : Bool) (o : Open) → IsWriting s w (steps.Value is_reference)
-    → slice_get w.waiting.items (length w.waiting.items - 1) ≡ Some o → TakesElements o → IsWriting s w (steps.List false)
-value-argument s w is_reference o p found takes =
-    let os = p.is_before.0 in
-    let t = p.is_before.1 in
-    let front = p.is_before.2 in
-    let bytes = p.is_before.3 in
-    let written = p.is_before.4 in
-    let last = last-found w.waiting.items o found in
-    let waits = list-waits s o last.0 os front takes (subst (λ ws. Stands s ws os front) last.1 p.is_before.7) in
-    let place = waits.place in
-    let extra = extra_of place.listing in
-    record {
-      state = p.state;
-      candidates = p.candidates;
-      is_before = (
-        listing-at (o ∷ last.0) front (reverse w.waiting.items) w.text.items place
-            (subst (λ ws. Belongs place.listing ws place.owner place.rest) (sym last.1) place.belongs)
-            (subst (λ l. IsTemplate place.owner place.front place.template place.name l) (sym written)
-            (template-stays place.owner place.front place.template place.name front bytes place.is_template)),
-        waits.ts ++ t ∷ [],
-        in_front_of_next waits.ts waits.texts ++ bytes,
-        next-prints extra waits.ts waits.texts t bytes waits.elements (type-element extra t bytes is_reference p.is_before.5),
-        written ∙ ap (λ l. l ++ bytes) waits.written ∙ append_assoc (led_by place.listing place.front place.name) (in_front_of_next waits.ts waits.texts) bytes,
-        λ e. absurd (false≢true e),
-        λ e. some-elements waits.ts t,
-        waits.onward t w.at p.state p.is_before.6,
-      );
-    }

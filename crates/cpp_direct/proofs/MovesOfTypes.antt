@@ -23,7 +23,7 @@ use Rattle.cpp_grammar.specs.Meaning.{meaning, listed_value, qualified_by, refer
 use Rattle.cpp_grammar.specs.Unfolding as unfolding_
 use Rattle.cpp_grammar.specs.Unfolding.{opening, close, byte_of}
 use Rattle.cpp_direct.specs.Bytes.{is_builtin, is_builtin_with_d, is_abbreviated}
-use Rattle.cpp_direct.specs.Holes.{Opened, opened, StandsAt, Comes, Expects, IsNameAt, IsSeqAt, IsTyped, TypeNamed, with_candidate, unless_listed}
+use Rattle.cpp_direct.specs.Holes.{Opened, opened, StandsAt, Comes, Expects, IsNameAt, IsSeqAt, IsReferable, IsTyped, TypeNamed, with_candidate, unless_listed}
 use Rattle.cpp_direct.specs.HolesOfTypes.{as_const, IsQualifiable, TypeOpens, TreePasses, TreeOpens, NameOpens, IsNamedKind}
 use Rattle.cpp_direct.proofs.Moves.{stands-split, expects-name, expects-seq, first-of, first-of-chain, next-of, last-of, letter-comes}
 
@@ -61,6 +61,13 @@ solid-opens s Kind.Item around os at st typed expects = record {
   passes = λ t listed end now other comes. last-of s Production.PlainType [] at around st [] (tree t listed) os end now (tree t true)
       (unless_listed listed around.encoding t now) (plain-closes around at st t listed now) comes;
 }
+solid-opens s Kind.ItemButRef around os at st typed expects = record {
+  inner = opened (standing (rule_of Production.PlainType) [] at around st) [] [] ∷ os;
+  awaits = first-of-chain s Kind.ItemButRef Production.PlainType 80 around os at st (OfKind 34) [] around [] st refl (omega arith) refl (λ f. refl) refl
+      refl expects;
+  passes = λ t listed end now other comes. last-of s Production.PlainType [] at around st [] (tree t listed) os end now (tree t true)
+      (unless_listed listed around.encoding t now) (plain-closes around at st t listed now) comes;
+}
 solid-opens s Kind.Plain around os at st typed expects = record {
   inner = opened (standing (rule_of Production.QualifiedPlain) [] at around st) [] [] ∷ os;
   awaits = first-of-chain s Kind.Plain Production.QualifiedPlain 80 around os at st (OfKind 34) [] around [] st refl (omega arith) refl (λ f. refl)
@@ -69,6 +76,39 @@ solid-opens s Kind.Plain around os at st typed expects = record {
       (unless_listed listed around.encoding t now) (qualified-closes around at st t listed now other) comes;
 }
 solid-opens s _ around os at st typed expects = absurd typed
+
+-- A solid type is expected where a whole one is, be it a function type or not.
+pub record WholeOpens (s : List ℕ) (outer : List Opened) (around : Around) (at : ℕ) (st : State) : Type 0 where
+  pub inner : List Opened
+  pub awaits : Expects s Kind.Solid around inner at st
+  pub passes : (t : Term) (listed : Bool) (end : ℕ) (now : State) → Comes s inner (tree t listed) end now
+      → Comes s outer (tree t true) end (unless_listed listed around.encoding t now)
+
+pub whole-opens : (s : List ℕ) (kind : Kind) (around : Around) (os : List Opened) (at : ℕ) (st : State) → IsQualifiable kind
+    → Expects s kind around os at st → WholeOpens s os around at st
+unfolding choose alternatives pick is_in in_ranges among is_chain parts_of number_of_kind between opening byte_of
+whole-opens s Kind.Type around os at st whole expects = record {
+  inner = opened (standing (rule_of Production.PlainType) [] at around st) [] [] ∷ os;
+  awaits = first-of-chain s Kind.Type Production.PlainType 80 around os at st (OfKind 34) [] around [] st refl (omega arith) refl (λ f. refl) refl
+      refl expects;
+  passes = λ t listed end now comes. last-of s Production.PlainType [] at around st [] (tree t listed) os end now (tree t true)
+      (unless_listed listed around.encoding t now) (plain-closes around at st t listed now) comes;
+}
+whole-opens s Kind.Item around os at st whole expects = record {
+  inner = opened (standing (rule_of Production.PlainType) [] at around st) [] [] ∷ os;
+  awaits = first-of-chain s Kind.Item Production.PlainType 80 around os at st (OfKind 34) [] around [] st refl (omega arith) refl (λ f. refl) refl
+      refl expects;
+  passes = λ t listed end now comes. last-of s Production.PlainType [] at around st [] (tree t listed) os end now (tree t true)
+      (unless_listed listed around.encoding t now) (plain-closes around at st t listed now) comes;
+}
+whole-opens s Kind.ItemButRef around os at st whole expects = record {
+  inner = opened (standing (rule_of Production.PlainType) [] at around st) [] [] ∷ os;
+  awaits = first-of-chain s Kind.ItemButRef Production.PlainType 80 around os at st (OfKind 34) [] around [] st refl (omega arith) refl (λ f. refl)
+      refl refl expects;
+  passes = λ t listed end now comes. last-of s Production.PlainType [] at around st [] (tree t listed) os end now (tree t true)
+      (unless_listed listed around.encoding t now) (plain-closes around at st t listed now) comes;
+}
+whole-opens s _ around os at st whole expects = absurd whole
 
 -- ## Builtin types
 
@@ -226,6 +266,20 @@ builtin-with-d-comes s Kind.Item around os at st b typed is expects stands =
     (first-of-chain s Kind.ItemAfterD q b around outer (at + 1) st (OfKind 33) [] around [] st (builtin-with-d-taken b is).1 (builtin-with-d-small b is)
     refl (λ f. refl) refl refl
     (first-of s Kind.Item p 68 around os at st (OfKind 32) [] around [] st refl (omega arith) refl (λ f. refl) refl refl expects both.0)) both.1)))
+builtin-with-d-comes s Kind.ItemButRef around os at st b typed is expects stands =
+    let p = Production.ItemWithD in
+    let both = stands-split s at (68 ∷ []) (b ∷ []) stands in
+    let v = tree (builtin (68 ∷ b ∷ [])) true in
+    let outer = opened (standing (rule_of p) (68 ∷ []) at around st) [] [] ∷ os in
+    let q = Production.ItemIsType in
+    subst (λ k. Comes s os v k st) (omega arith)
+    (last-of s p (68 ∷ []) at around st [] v os (at + 1 + 1) st v st refl
+    (last-of s q [] (at + 1) around st [] v outer (at + 1 + 1) st v st refl
+    (letter-comes s Kind.AfterD Production.BuiltinWithD b around (opened (standing (rule_of q) [] (at + 1) around st) [] [] ∷ outer) (at + 1) st v st
+    (builtin-with-d-taken b is).0 (builtin-with-d-small b is) refl (λ f. refl) refl refl
+    (first-of-chain s Kind.ItemAfterD q b around outer (at + 1) st (OfKind 33) [] around [] st (builtin-with-d-taken b is).1 (builtin-with-d-small b is)
+    refl (λ f. refl) refl refl
+    (first-of s Kind.ItemButRef p 68 around os at st (OfKind 32) [] around [] st refl (omega arith) refl (λ f. refl) refl refl expects both.0)) both.1)))
 builtin-with-d-comes s _ around os at st b typed is expects stands = absurd typed
 
 -- ## Types of types
@@ -245,7 +299,7 @@ pointer-opens s kind around os at st typed expects stands =
     }
 
 reference-opens : (s : List ℕ) (kind : Kind) (around : Around) (os : List Opened) (at : ℕ) (st : State) (byte : ℕ) (made : Term → Term)
-    → IsTyped kind → ((k : Kind) → IsTyped k → choose k byte ≡ Some Production.ReferenceType) → byte < 256
+    → IsReferable kind → ((k : Kind) → IsReferable k → choose k byte ≡ Some Production.ReferenceType) → byte < 256
     → ((t : Term) → reference_to byte (tree t true) ≡ tree (made t) false)
     → Expects s kind around os at st → StandsAt s at (byte ∷ []) → TypeOpens s Kind.Type os around made (at + 1) st
 unfolding is_chain parts_of number_of_kind between opening close unfolding_.behind meaning listed_value byte_of tree_of part appended
@@ -257,14 +311,14 @@ reference-opens s kind around os at st byte made typed chosen small makes expect
       (with_candidate around.encoding (made t) now) (rw (makes t) refl) comes;
 }
 
-lvalue-taken : (k : Kind) → IsTyped k → choose k 82 ≡ Some Production.ReferenceType
+lvalue-taken : (k : Kind) → IsReferable k → choose k 82 ≡ Some Production.ReferenceType
 unfolding choose alternatives pick is_in in_ranges among
 lvalue-taken Kind.Type typed = refl
 lvalue-taken Kind.Item typed = refl
 lvalue-taken Kind.Plain typed = refl
 lvalue-taken _ typed = absurd typed
 
-rvalue-taken : (k : Kind) → IsTyped k → choose k 79 ≡ Some Production.ReferenceType
+rvalue-taken : (k : Kind) → IsReferable k → choose k 79 ≡ Some Production.ReferenceType
 unfolding choose alternatives pick is_in in_ranges among
 rvalue-taken Kind.Type typed = refl
 rvalue-taken Kind.Item typed = refl
@@ -272,14 +326,14 @@ rvalue-taken Kind.Plain typed = refl
 rvalue-taken _ typed = absurd typed
 
 -- a type is expected behind an R
-pub lvalue-opens : (s : List ℕ) (kind : Kind) (around : Around) (os : List Opened) (at : ℕ) (st : State) → IsTyped kind
+pub lvalue-opens : (s : List ℕ) (kind : Kind) (around : Around) (os : List Opened) (at : ℕ) (st : State) → IsReferable kind
     → Expects s kind around os at st → StandsAt s at (82 ∷ []) → TypeOpens s Kind.Type os around lvalue (at + 1) st
 unfolding reference_to tree_of
 lvalue-opens s kind around os at st typed expects stands =
     reference-opens s kind around os at st 82 lvalue typed lvalue-taken (omega arith) (λ t. refl) expects stands
 
 -- and behind an O
-pub rvalue-opens : (s : List ℕ) (kind : Kind) (around : Around) (os : List Opened) (at : ℕ) (st : State) → IsTyped kind
+pub rvalue-opens : (s : List ℕ) (kind : Kind) (around : Around) (os : List Opened) (at : ℕ) (st : State) → IsReferable kind
     → Expects s kind around os at st → StandsAt s at (79 ∷ []) → TypeOpens s Kind.Type os around rvalue (at + 1) st
 unfolding reference_to tree_of
 rvalue-opens s kind around os at st typed expects stands =
@@ -299,6 +353,13 @@ const-opens s Kind.Type around os at st typed expects stands = record {
 const-opens s Kind.Item around os at st typed expects stands = record {
   inner = opened (standing (rule_of Production.ConstType) (75 ∷ []) at around st) [] [] ∷ os;
   awaits = first-of s Kind.Item Production.ConstType 75 around os at st (OfKind 29) [] around [] st refl (omega arith) refl (λ f. refl) refl refl
+      expects stands;
+  passes = λ t end now comes. last-of s Production.ConstType (75 ∷ []) at around st [] (tree t true) os end now (tree (as_const t) true)
+      (with_candidate around.encoding (as_const t) now) refl comes;
+}
+const-opens s Kind.ItemButRef around os at st typed expects stands = record {
+  inner = opened (standing (rule_of Production.ConstType) (75 ∷ []) at around st) [] [] ∷ os;
+  awaits = first-of s Kind.ItemButRef Production.ConstType 75 around os at st (OfKind 29) [] around [] st refl (omega arith) refl (λ f. refl) refl refl
       expects stands;
   passes = λ t end now comes. last-of s Production.ConstType (75 ∷ []) at around st [] (tree t true) os end now (tree (as_const t) true)
       (with_candidate around.encoding (as_const t) now) refl comes;

@@ -392,9 +392,9 @@ abbreviation-begins s old mid purpose letter a here behind there text_is candida
 
 -- what a candidate says of the text
 pub candidate-text : (s : List ℕ) (w : Direct) (purpose : Purpose) (a : AwaitsNest s w purpose) (n : ℕ) (k : Candidate)
-    → slice_get w.candidates.items n ≡ Some k → (k.from ≤ k.to) × (k.to ≤ length w.text.items)
-candidate-text s w purpose a n k found =
-    let one = candidate-found w.text.items w.candidates.items a.state.candidates n k a.candidates found in
+    → k.from ≤ k.to → slice_get w.candidates.items n ≡ Some k → (k.from ≤ k.to) × (k.to ≤ length w.text.items)
+candidate-text s w purpose a n k ordered found =
+    let one = candidate-found w.text.items w.candidates.items a.state.candidates n k a.candidates ordered found in
     let is = one.2 in
     let piece = piece-found w.text.items is.front is.bytes is.back k.from k.to is.written is.from_is is.to_is in
     (piece.0, piece.1)
@@ -402,13 +402,13 @@ candidate-text s w purpose a n k found =
 -- a reference begins a nested name
 pub reference-begins : (s : List ℕ) (old mid : Direct) (purpose : Purpose) (digits : List ℕ) (k : Candidate) → AwaitsNest s old purpose
     → StandsAt s old.at (83 ∷ []) → IsSeqAt s (old.at + 1) digits mid.at
-    → slice_get old.candidates.items (counted_value Seq36 digits) ≡ Some k → k.is_reference ≡ false
+    → k.from ≤ k.to → slice_get old.candidates.items (counted_value Seq36 digits) ≡ Some k → k.is_reference ≡ false
     → mid.text.items ≡ old.text.items ++ take (k.to - k.from) (drop k.from old.text.items) → mid.candidates ≡ old.candidates
     → mid.waiting ≡ old.waiting → (from : ℕ) → from ≡ length old.text.items
     → IsWriting s (record mid { nest = nest_of from from from purpose true false }) steps.Rest
-reference-begins s old mid purpose digits k a here is found plain text_is candidates_are waiting_is from from_is =
+reference-begins s old mid purpose digits k a here is ordered found plain text_is candidates_are waiting_is from from_is =
     let nest = nest_of from from from purpose true false in
-    let one = candidate-found old.text.items old.candidates.items a.state.candidates (counted_value Seq36 digits) k a.candidates found in
+    let one = candidate-found old.text.items old.candidates.items a.state.candidates (counted_value Seq36 digits) k a.candidates ordered found in
     let c = one.0 in
     let it = one.2 in
     let piece = piece-found old.text.items it.front it.bytes it.back k.from k.to it.written it.from_is it.to_is in

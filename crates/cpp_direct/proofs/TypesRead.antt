@@ -22,8 +22,8 @@ use Rattle.cpp_direct.specs.declared.open.Purpose.TheVariants as purposes
 use Rattle.cpp_direct.specs.declared.open.Step.{Step}
 use Rattle.cpp_direct.specs.declared.open.Step.TheVariants as steps
 use Rattle.cpp_direct.specs.declared.direct.Direct.{Direct}
-use Rattle.cpp_direct.specs.Holes.{StandsAt, Comes, Expects, IsNameAt, IsSeqAt, TypeNamed, with_candidate, unless_listed}
-use Rattle.cpp_direct.specs.HolesOfTypes.{IsQualifiable, TypeOpens}
+use Rattle.cpp_direct.specs.Holes.{StandsAt, Comes, Expects, IsReferable, IsNameAt, IsSeqAt, TypeNamed, with_candidate, unless_listed}
+use Rattle.cpp_direct.specs.HolesOfTypes.{NoReference, IsQualifiable, TypeOpens}
 use Rattle.cpp_direct.specs.Prints.{Prints}
 use Rattle.cpp_direct.specs.Stands.{AreCandidates, Marks, Stands, IsWriting}
 use Rattle.cpp_direct.specs.Ways.{AwaitsType, AwaitsNamedType, AwaitsNest, IsTypeNamed, AwaitsMark}
@@ -244,12 +244,14 @@ awaits-type s w true p = record {
   around = p.is_before.1;
   outside = p.is_before.2;
   os = p.is_before.0;
+  referable = inl tt;
   awaits = p.is_before.3;
   stands = p.is_before.4;
 }
 awaits-type s w false p = go p.is_before.3
   where
-    go : Expects s Kind.Type p.is_before.1 p.is_before.0 w.at p.state ⊎ Expects s Kind.Item p.is_before.1 p.is_before.0 w.at p.state → AwaitsType s w
+    go : Expects s Kind.Type p.is_before.1 p.is_before.0 w.at p.state ⊎ Expects s Kind.Item p.is_before.1 p.is_before.0 w.at p.state
+        ⊎ (Expects s Kind.ItemButRef p.is_before.1 p.is_before.0 w.at p.state × NoReference s w.at) → AwaitsType s w
     go (inl awaits) = record {
       state = p.state;
       candidates = p.candidates;
@@ -258,10 +260,11 @@ awaits-type s w false p = go p.is_before.3
       around = p.is_before.1;
       outside = p.is_before.2;
       os = p.is_before.0;
+      referable = inl tt;
       awaits = awaits;
       stands = p.is_before.4;
     }
-    go (inr awaits) = record {
+    go (inr (inl awaits)) = record {
       state = p.state;
       candidates = p.candidates;
       kind = Kind.Item;
@@ -269,7 +272,20 @@ awaits-type s w false p = go p.is_before.3
       around = p.is_before.1;
       outside = p.is_before.2;
       os = p.is_before.0;
+      referable = inl tt;
       awaits = awaits;
+      stands = p.is_before.4;
+    }
+    go (inr (inr awaits)) = record {
+      state = p.state;
+      candidates = p.candidates;
+      kind = Kind.ItemButRef;
+      typed = tt;
+      around = p.is_before.1;
+      outside = p.is_before.2;
+      os = p.is_before.0;
+      referable = inr awaits.1;
+      awaits = awaits.0;
       stands = p.is_before.4;
     }
 
@@ -421,20 +437,20 @@ abbreviation-named s old new from letter a s_stands stands has text candidates w
     }
 
 -- where a substitution's text stands
-pub substitution-stands : (s : List ℕ) (old : Direct) (n : ℕ) (k : Candidate) → AwaitsNamedType s old → slice_get old.candidates.items n ≡ Some k
+pub substitution-stands : (s : List ℕ) (old : Direct) (n : ℕ) (k : Candidate) → AwaitsNamedType s old → k.from ≤ k.to → slice_get old.candidates.items n ≡ Some k
     → (k.from ≤ k.to) × (k.to ≤ length old.text.items)
-substitution-stands s old n k a found =
-    let c = candidate-found old.text.items old.candidates.items a.state.candidates n k a.candidates found in
+substitution-stands s old n k a ordered found =
+    let c = candidate-found old.text.items old.candidates.items a.state.candidates n k a.candidates ordered found in
     let piece = piece-found old.text.items c.2.front c.2.bytes c.2.back k.from k.to c.2.written c.2.from_is c.2.to_is in
     (piece.0, piece.1)
 
 -- a substitution
 pub substitution-named : (s : List ℕ) (old new : Direct) (from : ℕ) (digits : List ℕ) (k : Candidate) → AwaitsNamedType s old → StandsAt s old.at (83 ∷ [])
-    → IsSeqAt s (old.at + 1) digits new.at → slice_get old.candidates.items (counted_value Seq36 digits) ≡ Some k
+    → IsSeqAt s (old.at + 1) digits new.at → k.from ≤ k.to → slice_get old.candidates.items (counted_value Seq36 digits) ≡ Some k
     → new.text.items ≡ old.text.items ++ take (k.to - k.from) (drop k.from old.text.items) → new.candidates ≡ old.candidates
     → new.waiting ≡ old.waiting → from ≡ length old.text.items → IsTypeNamed s new from true k.is_reference
-substitution-named s old new from digits k a stands is found text candidates waits begins =
-    let c = candidate-found old.text.items old.candidates.items a.state.candidates (counted_value Seq36 digits) k a.candidates found in
+substitution-named s old new from digits k a stands is ordered found text candidates waits begins =
+    let c = candidate-found old.text.items old.candidates.items a.state.candidates (counted_value Seq36 digits) k a.candidates ordered found in
     let piece = piece-found old.text.items c.2.front c.2.bytes c.2.back k.from k.to c.2.written c.2.from_is c.2.to_is in
     let written : new.text.items ≡ old.text.items ++ c.2.bytes = text ∙ ap (λ l. old.text.items ++ l) piece.2 in
     record {
@@ -495,16 +511,26 @@ pub lvalue-opened : (s : List ℕ) (old new : Direct) (o : Option Step) (from : 
     → StandsAt s old.at (82 ∷ []) → IfSome o (λ next. next ≡ steps.Type) → OnSome o (new.waiting.items ≡ old.waiting.items ++ opens.Lvalue from ∷ [])
     → OnSome o (new.at ≡ old.at + 1) → new.text ≡ old.text → new.candidates ≡ old.candidates → IfSome o (IsWriting s new)
 lvalue-opened s old new o from a begins stands is waits at text candidates =
-    type-opened s old new o (opens.Lvalue from) from lvalue a (lvalue-opens s a.kind a.around a.os old.at a.state a.typed a.awaits stands) begins
-    (λ m. m) is waits at text candidates
+    go a.referable
+  where
+    go : IsReferable a.kind ⊎ NoReference s old.at → IfSome o (IsWriting s new)
+    go (inr none) = absurd (none.0 stands)
+    go (inl referable) =
+        type-opened s old new o (opens.Lvalue from) from lvalue a (lvalue-opens s a.kind a.around a.os old.at a.state referable a.awaits stands) begins
+        (λ m. m) is waits at text candidates
 
 -- and behind an O
 pub rvalue-opened : (s : List ℕ) (old new : Direct) (o : Option Step) (from : ℕ) → AwaitsType s old → from ≡ length old.text.items
     → StandsAt s old.at (79 ∷ []) → IfSome o (λ next. next ≡ steps.Type) → OnSome o (new.waiting.items ≡ old.waiting.items ++ opens.Rvalue from ∷ [])
     → OnSome o (new.at ≡ old.at + 1) → new.text ≡ old.text → new.candidates ≡ old.candidates → IfSome o (IsWriting s new)
 rvalue-opened s old new o from a begins stands is waits at text candidates =
-    type-opened s old new o (opens.Rvalue from) from rvalue a (rvalue-opens s a.kind a.around a.os old.at a.state a.typed a.awaits stands) begins
-    (λ m. m) is waits at text candidates
+    go a.referable
+  where
+    go : IsReferable a.kind ⊎ NoReference s old.at → IfSome o (IsWriting s new)
+    go (inr none) = absurd (none.1 stands)
+    go (inl referable) =
+        type-opened s old new o (opens.Rvalue from) from rvalue a (rvalue-opens s a.kind a.around a.os old.at a.state referable a.awaits stands) begins
+        (λ m. m) is waits at text candidates
 
 -- a plain type is expected, where one with a qualifier may be
 plain-opened : (s : List ℕ) (old new : Direct) (o : Option Step) (from : ℕ) (a : AwaitsType s old) → IsQualifiable a.kind
@@ -540,7 +566,7 @@ const-opened s old new o from true p plain begins stands is waits at text candid
 const-opened s old new o from false p plain begins stands is waits at text candidates = go p.is_before.3
   where
     go : Expects s Kind.Type p.is_before.1 p.is_before.0 old.at p.state ⊎ Expects s Kind.Item p.is_before.1 p.is_before.0 old.at p.state
-        → IfSome o (IsWriting s new)
+        ⊎ (Expects s Kind.ItemButRef p.is_before.1 p.is_before.0 old.at p.state × NoReference s old.at) → IfSome o (IsWriting s new)
     go (inl awaits) = plain-opened s old new o from (record {
       state = p.state;
       candidates = p.candidates;
@@ -549,10 +575,11 @@ const-opened s old new o from false p plain begins stands is waits at text candi
       around = p.is_before.1;
       outside = p.is_before.2;
       os = p.is_before.0;
+      referable = inl tt;
       awaits = awaits;
       stands = p.is_before.4;
     }) tt begins stands is waits at text candidates
-    go (inr awaits) = plain-opened s old new o from (record {
+    go (inr (inl awaits)) = plain-opened s old new o from (record {
       state = p.state;
       candidates = p.candidates;
       kind = Kind.Item;
@@ -560,7 +587,20 @@ const-opened s old new o from false p plain begins stands is waits at text candi
       around = p.is_before.1;
       outside = p.is_before.2;
       os = p.is_before.0;
+      referable = inl tt;
       awaits = awaits;
+      stands = p.is_before.4;
+    }) tt begins stands is waits at text candidates
+    go (inr (inr awaits)) = plain-opened s old new o from (record {
+      state = p.state;
+      candidates = p.candidates;
+      kind = Kind.ItemButRef;
+      typed = tt;
+      around = p.is_before.1;
+      outside = p.is_before.2;
+      os = p.is_before.0;
+      referable = inr awaits.1;
+      awaits = awaits.0;
       stands = p.is_before.4;
     }) tt begins stands is waits at text candidates
 

@@ -107,7 +107,15 @@ abbrev pub IsTyped : Kind → Type 0
 IsTyped Kind.Type = Unit {0}
 IsTyped Kind.Item = Unit {0}
 IsTyped Kind.Plain = Unit {0}
+IsTyped Kind.ItemButRef = Unit {0}
 IsTyped _ = ⊥
+
+-- and a reference as one of these
+abbrev pub IsReferable : Kind → Type 0
+IsReferable Kind.Type = Unit {0}
+IsReferable Kind.Item = Unit {0}
+IsReferable Kind.Plain = Unit {0}
+IsReferable _ = ⊥
 
 -- and a list of items as one of these
 abbrev pub IsListKind : Kind → Type 0

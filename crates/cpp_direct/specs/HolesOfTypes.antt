@@ -1,10 +1,10 @@
 -- What is expected within a type, and what comes of it.
-use Rattle.std.specs.Prelude.{◌≡◌, ℕ, List, Bool, true, false}
+use Rattle.std.specs.Prelude.{◌≡◌, ℕ, List, [], ◌∷◌, Bool, true, false}
 use Rattle.cpp_grammar.specs.declared.kind.Kind.{Kind}
 use Rattle.cpp_grammar.specs.Term.{Term, qualified}
 use Rattle.cpp_grammar.specs.Values.{State, Around, tree}
 use Rattle.cpp_grammar.specs.References.{is_function_type}
-use Rattle.cpp_direct.specs.Holes.{Opened, Comes, Expects, TypePasses, TypeNamed, unless_listed}
+use Rattle.cpp_direct.specs.Holes.{Opened, StandsAt, Comes, Expects, TypePasses, TypeNamed, unless_listed}
 
 -- const and nothing else
 abbrev pub as_const : Term → Term
@@ -14,7 +14,12 @@ as_const t = qualified (record { restrict = false; volatile = false; const = tru
 abbrev pub IsQualifiable : Kind → Type 0
 IsQualifiable Kind.Type = Unit {0}
 IsQualifiable Kind.Item = Unit {0}
+IsQualifiable Kind.ItemButRef = Unit {0}
 IsQualifiable _ = ⊥
+
+-- no reference stands at the place
+abbrev pub NoReference : (s : List ℕ) → (at : ℕ) → Type 0
+NoReference s at = (StandsAt s at (82 ∷ []) → ⊥) × (StandsAt s at (79 ∷ []) → ⊥)
 
 -- a type that is a name may be expected as one of these kinds
 abbrev pub IsNamedKind : Kind → Type 0

@@ -26,6 +26,8 @@ use Rattle.cpp_direct.specs.declared.open.Step.TheVariants as steps
 use Rattle.cpp_direct.specs.declared.direct.Direct.{Direct}
 use Rattle.cpp_direct.specs.Bytes.{is_local}
 use Rattle.cpp_direct.specs.Holes.{Opened, Comes, Expects, StandsAt, TypePasses, NestGoesOn, AwaitsComponent, with_candidate, unless_listed}
+use Rattle.cpp_direct.specs.HolesOfFunctions.{SignatureGoesOn, plain_function}
+use Rattle.cpp_direct.specs.HolesOfTypes.{NoReference}
 use Rattle.cpp_direct.specs.HolesOfLists.{IsSuffix, IsDigitsAt, minus_sign}
 use Rattle.cpp_direct.specs.HolesOfLocals.{IsEntityAt}
 use Rattle.cpp_direct.specs.Prints.{Prints, Shows, Encloses, NamesClass, PrintAll}
@@ -42,9 +44,10 @@ pub record IsCandidate (text : List ℕ) (k : Candidate) (c : values.Candidate) 
   pub to_is : k.to ≡ length front + length bytes
   pub prints : Prints c.tree bytes k.is_reference
 
+-- each candidate is so, but for those that end before they begin, of which nothing is known
 abbrev pub AreCandidates : (text : List ℕ) → List Candidate → List values.Candidate → Type 0
 AreCandidates text [] [] = Unit {0}
-AreCandidates text (k ∷ ks) (c ∷ cs) = IsCandidate text k c × AreCandidates text ks cs
+AreCandidates text (k ∷ ks) (c ∷ cs) = (k.from ≤ k.to → IsCandidate text k c) × AreCandidates text ks cs
 AreCandidates text _ _ = ⊥
 
 -- ## The end
@@ -264,6 +267,21 @@ pub record IsListing (opened : List Open) (text : List ℕ) : Type 0 where
   pub name : List ℕ
   pub is_template : IsTemplate owner front template name text
 
+-- what stands behind the return type of a function type, or of one that is pointed to
+abbrev pub opening_text : (is_pointer : Bool) → List ℕ
+opening_text true = codes " (*)("
+opening_text false = codes " ("
+
+-- what takes an element or a parameter may take a function type
+abbrev pub TakesFunction : List Open → Type 0
+TakesFunction (opens.TypeArguments from ∷ rest) = Unit {0}
+TakesFunction (opens.NestArguments nest ∷ rest) = Unit {0}
+TakesFunction (opens.FirstArguments nest ∷ rest) = Unit {0}
+TakesFunction (opens.NameArguments ∷ rest) = Unit {0}
+TakesFunction (opens.Pack ∷ rest) = Unit {0}
+TakesFunction (opens.Parameters is_const ∷ rest) = Unit {0}
+TakesFunction _ = ⊥
+
 -- A type comes for the last of the open ones, behind what is written.
 abbrev pub Stands : (s : List ℕ) → List Open → List Opened → (text : List ℕ) → Type 0
 Stands s [] os text = ⊥
@@ -276,6 +294,17 @@ Stands s (opens.Parameters is_const ∷ rest) os text =
     × IsFunction is_const v ts name parameters
     × (text ≡ lead ++ name ++ codes "(" ++ in_front_of_next ts parameters)
     × ((t : Term) (at : ℕ) (st : State) → Comes s os (tree t true) at st → ParametersGoOn s lead v (ts ++ t ∷ []) at st)
+Stands s (opens.Returned is_pointer ∷ rest) os text =
+    (outer : List Opened) × (e : ℕ)
+    × ((r : Term) (at : ℕ) (st : State) → Comes s os (tree r true) at st → SignatureGoesOn s outer e is_pointer (λ l. plain_function r l) at st)
+    × TakesFunction rest × Stands s rest outer text
+Stands s (opens.Signature is_pointer ∷ rest) os text =
+    (outer : List Opened) × (e : ℕ) × (front : List ℕ) × (r : Term) × (bytes : List ℕ) × (is_reference : Bool) × (ts : List Term) × (texts : List ℕ)
+    × Prints r bytes is_reference × PrintAll 0 ts texts
+    × (text ≡ front ++ (bytes ++ opening_text is_pointer) ++ in_front_of_next ts texts)
+    × ((t : Term) (at : ℕ) (st : State) → Comes s os (tree t true) at st
+    → SignatureGoesOn s outer e is_pointer (λ l. plain_function r (list_with (ts ++ t ∷ []) l)) at st)
+    × TakesFunction rest × Stands s rest outer front
 Stands s (opens.Special ∷ rest) os text =
     (letter : ℕ) × (text ≡ look_up (letter ∷ []) special_texts) × (text ≢ [])
     × ((t : Term) (at : ℕ) (st : State) → Comes s os (tree t true) at st → Encoded s (special letter t) at)
@@ -306,7 +335,8 @@ pub record IsNesting (s : List ℕ) (kind : Kind) (w : Direct) (t : Term) (st : 
 abbrev pub IsBefore : (s : List ℕ) → Direct → State → Step → Type 0
 IsBefore s w st steps.Type =
     (os : List Opened) × (around : Around) × (around.prefix ≡ outermost)
-    × (Expects s Kind.Type around os w.at st ⊎ Expects s Kind.Item around os w.at st) × Stands s (reverse w.waiting.items) os w.text.items
+    × (Expects s Kind.Type around os w.at st ⊎ Expects s Kind.Item around os w.at st
+    ⊎ (Expects s Kind.ItemButRef around os w.at st × NoReference s w.at)) × Stands s (reverse w.waiting.items) os w.text.items
 IsBefore s w st steps.Plain =
     (os : List Opened) × (around : Around) × (around.prefix ≡ outermost)
     × Expects s Kind.Plain around os w.at st × Stands s (reverse w.waiting.items) os w.text.items

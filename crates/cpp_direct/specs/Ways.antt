@@ -1,5 +1,5 @@
 -- Where a writer is between two of its functions, within a step.
-use Rattle.std.specs.Prelude.{◌≡◌, ◌≢◌, ℕ, ◌+◌, List, [], ◌∷◌, ◌++◌, length, reverse, Bool, true, false, cond, codes}
+use Rattle.std.specs.Prelude.{◌≡◌, ◌≢◌, ◌⊎◌, ℕ, ◌+◌, List, [], ◌∷◌, ◌++◌, length, reverse, Bool, true, false, cond, codes}
 use Rattle.cpp_grammar.specs.declared.kind.Kind.{Kind}
 use Rattle.cpp_grammar.specs.Term.{Term, Signed, any_value, instance, builtin}
 use Rattle.cpp_grammar.specs.Texts.{look_up, builtin_texts, literal_endings}
@@ -11,10 +11,11 @@ use Rattle.cpp_direct.specs.declared.open.Open.{Open}
 use Rattle.cpp_direct.specs.declared.open.Open.TheVariants as opens
 use Rattle.cpp_direct.specs.declared.direct.Direct.{Direct}
 use Rattle.cpp_direct.specs.Bytes.{is_local}
-use Rattle.cpp_direct.specs.Holes.{Opened, StandsAt, Comes, Expects, IsTyped, TypeNamed, NestNamed, with_candidate}
-use Rattle.cpp_direct.specs.HolesOfTypes.{IsNamedKind, TreeOpens}
-use Rattle.cpp_direct.specs.Prints.{Prints, PrintAll, Shows, Encloses, sign_text}
-use Rattle.cpp_direct.specs.Stands.{AreCandidates, AwaitsItems, Encoded, EncodedBehind, IsFunction, IsListing, IsNest, IsTail, IsTemplate, GoesOn, EnumeratorGoesOn, Owns, ParametersGoOn, Serves, Stands, qualifiers, extra_of, led_by, list_with, in_front_of_next}
+use Rattle.cpp_direct.specs.Holes.{Opened, StandsAt, Comes, Expects, IsReferable, IsTyped, TypeNamed, NestNamed, with_candidate}
+use Rattle.cpp_direct.specs.HolesOfFunctions.{SignatureGoesOn, plain_function, pointed, with_pointed}
+use Rattle.cpp_direct.specs.HolesOfTypes.{IsNamedKind, NoReference, TreeOpens}
+use Rattle.cpp_direct.specs.Prints.{Prints, IsElement, PrintAll, Shows, Encloses, sign_text}
+use Rattle.cpp_direct.specs.Stands.{AreCandidates, AwaitsItems, Encoded, EncodedBehind, IsFunction, IsListing, IsNest, IsTail, IsTemplate, GoesOn, EnumeratorGoesOn, Owns, ParametersGoOn, Serves, Stands, TakesFunction, opening_text, qualifiers, extra_of, led_by, list_with, in_front_of_next}
 
 -- what stands behind the parameters of a member function
 abbrev pub const_text : (is_const : Bool) → List ℕ
@@ -49,6 +50,7 @@ pub record AwaitsType (s : List ℕ) (w : Direct) : Type 0 where
   pub candidates : AreCandidates w.text.items w.candidates.items state.candidates
   pub kind : Kind
   pub typed : IsTyped kind
+  pub referable : IsReferable kind ⊎ NoReference s w.at
   pub around : Around
   pub outside : around.prefix ≡ outermost
   pub os : List Opened
@@ -262,6 +264,102 @@ pub record AwaitsEntity (s : List ℕ) (w : Direct) (is_internal : Bool) : Type 
   pub first : StandsAt s before (69 ∷ [])
   pub letter : is_internal ≡ true → StandsAt s (before + 1) (76 ∷ [])
   pub at_is : w.at ≡ before + 1 + cond is_internal 1 0
+
+-- ## Function types
+
+-- A type was read behind a text, as an element or a parameter of what is open.
+pub record IsElementRead (s : List ℕ) (w : Direct) (o : Open) : Type 0 where
+  pub state : State
+  pub candidates : AreCandidates w.text.items w.candidates.items state.candidates
+  pub rest : List Open
+  pub open_is : reverse w.waiting.items ≡ o ∷ rest
+  pub os : List Opened
+  pub own : Term
+  pub front : List ℕ
+  pub bytes : List ℕ
+  pub written : w.text.items ≡ front ++ bytes
+  pub element : (extra : ℕ) → IsElement extra own bytes
+  pub comes : Comes s os (tree own true) w.at state
+  pub stands : Stands s (o ∷ rest) os front
+
+-- Of a function type the return type was read, or a parameter.
+pub record AwaitsSignature (s : List ℕ) (w : Direct) (is_pointer is_first : Bool) : Type 0 where
+  pub state : State
+  pub candidates : AreCandidates w.text.items w.candidates.items state.candidates
+  pub rest : List Open
+  pub open_is : reverse w.waiting.items ≡ opens.Signature is_pointer ∷ rest
+  pub outer : List Opened
+  pub encoding : ℕ
+  pub front : List ℕ
+  pub returned : Term
+  pub bytes : List ℕ
+  pub is_reference : Bool
+  pub prints : Prints returned bytes is_reference
+  pub ts : List Term
+  pub none : is_first ≡ true → ts ≡ []
+  pub some : is_first ≡ false → ts ≢ []
+  pub texts : List ℕ
+  pub elements : PrintAll 0 ts texts
+  pub written : w.text.items ≡ front ++ (bytes ++ opening_text is_pointer) ++ texts
+  pub goes : SignatureGoesOn s outer encoding is_pointer (λ l. plain_function returned (list_with ts l)) w.at state
+  pub takes : TakesFunction rest
+  pub stands : Stands s rest outer front
+
+-- A parameter of a function type comes next.
+pub record AwaitsParameter (s : List ℕ) (w : Direct) (is_pointer : Bool) : Type 0 where
+  pub state : State
+  pub candidates : AreCandidates w.text.items w.candidates.items state.candidates
+  pub rest : List Open
+  pub open_is : reverse w.waiting.items ≡ opens.Signature is_pointer ∷ rest
+  pub outer : List Opened
+  pub encoding : ℕ
+  pub front : List ℕ
+  pub returned : Term
+  pub bytes : List ℕ
+  pub is_reference : Bool
+  pub prints : Prints returned bytes is_reference
+  pub ts : List Term
+  pub texts : List ℕ
+  pub elements : PrintAll 0 ts texts
+  pub written : w.text.items ≡ front ++ (bytes ++ opening_text is_pointer) ++ in_front_of_next ts texts
+  pub goes : SignatureGoesOn s outer encoding is_pointer (λ l. plain_function returned (list_with ts l)) w.at state
+  pub takes : TakesFunction rest
+  pub stands : Stands s rest outer front
+
+-- The return type of a function type was read.
+pub record IsReturned (s : List ℕ) (w : Direct) (is_pointer : Bool) : Type 0 where
+  pub state : State
+  pub candidates : AreCandidates w.text.items w.candidates.items state.candidates
+  pub rest : List Open
+  pub open_is : reverse w.waiting.items ≡ opens.Returned is_pointer ∷ rest
+  pub outer : List Opened
+  pub encoding : ℕ
+  pub front : List ℕ
+  pub returned : Term
+  pub bytes : List ℕ
+  pub is_reference : Bool
+  pub prints : Prints returned bytes is_reference
+  pub written : w.text.items ≡ front ++ bytes
+  pub goes : SignatureGoesOn s outer encoding is_pointer (λ l. plain_function returned l) w.at state
+  pub takes : TakesFunction rest
+  pub stands : Stands s rest outer front
+
+-- A function type was read, or a pointer to one, and written but for its last bracket.
+pub record IsFunctionRead (s : List ℕ) (w : Direct) (is_pointer : Bool) : Type 0 where
+  pub state : State
+  pub candidates : AreCandidates w.text.items w.candidates.items state.candidates
+  pub rest : List Open
+  pub open_is : reverse w.waiting.items ≡ opens.Signature is_pointer ∷ rest
+  pub outer : List Opened
+  pub encoding : ℕ
+  pub made : Term
+  pub front : List ℕ
+  pub bytes : List ℕ
+  pub written : w.text.items ≡ front ++ bytes
+  pub element : (extra : ℕ) → IsElement extra (pointed is_pointer made) (bytes ++ codes ")")
+  pub comes : Comes s outer (tree (pointed is_pointer made) true) w.at (with_pointed is_pointer encoding made state)
+  pub takes : TakesFunction rest
+  pub stands : Stands s rest outer front
 
 -- ## Literals
 

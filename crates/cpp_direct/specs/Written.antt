@@ -28,3 +28,12 @@ added w from is_reference = w.candidates.items ++ record { from = from; to = len
 abbrev pub added_unless : Direct → (is_listed : Bool) → (from : ℕ) → List Candidate
 added_unless w true from = w.candidates.items
 added_unless w false from = added w from false
+
+-- a candidate that ends before it begins
+abbrev pub hidden : Candidate
+hidden = record { from = 1; to = 0; is_reference = false }
+
+-- the candidates, and such a one for a function type and for the pointer to it
+abbrev pub with_hidden : Direct → (is_pointer : Bool) → List Candidate
+with_hidden w true = (w.candidates.items ++ hidden ∷ []) ++ hidden ∷ []
+with_hidden w false = w.candidates.items ++ hidden ∷ []

@@ -5,6 +5,7 @@
 #![tactic(auto)]
 
 mod direct;
+mod functions;
 mod lists;
 mod locals;
 mod nested;

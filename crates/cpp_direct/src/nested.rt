@@ -1,6 +1,6 @@
 // Nested names.
 
-ghost use Rattle.std.specs.Prelude.{◌≡◌, ℕ, ◌+◌, ◌∷◌, [], true};
+ghost use Rattle.std.specs.Prelude.{◌≡◌, ℕ, ◌+◌, ◌∷◌, [], true, false};
 ghost use Rattle.std.specs.Option.{IfSome};
 ghost use Rattle.sym_core.specs.Number.{FitsSymbol};
 ghost use Rattle.cpp_direct.specs.declared.open.Step.TheVariants as steps;
@@ -11,6 +11,22 @@ ghost use Rattle.cpp_direct.specs.Ways.{AwaitsNest, AwaitsClass, IsNestNamed};
 use crate::direct::Direct;
 use crate::open::{Nest, Open, Purpose, Step};
 use crate::tokens::byte_at;
+
+/// A first piece that is a candidate already, and names no class.
+#[inline(always)]
+fn listed_nest(from: usize, purpose: Purpose) -> Nest
+    ensures { result ≡ record { from = from; class_from = from; class_to = from; purpose = purpose; is_listed = true; has_class = false; is_instance = false } }
+{
+    Nest {
+        from,
+        class_from: from,
+        class_to: from,
+        purpose,
+        is_listed: true,
+        has_class: false,
+        is_instance: false,
+    }
+}
 
 impl Direct {
     /// Reads the first piece of a nested name.
@@ -57,28 +73,12 @@ impl Direct {
                 return None;
             }
             self.repeat(candidate.from, candidate.to)?;
-            self.nest = Nest {
-                from,
-                class_from: from,
-                class_to: from,
-                purpose,
-                is_listed: true,
-                has_class: false,
-                is_instance: false,
-            };
+            self.nest = listed_nest(from, purpose);
             return Some(Step::Rest);
         }
         self.at = self.at.checked_add(1)?;
         self.push(text)?;
-        self.nest = Nest {
-            from,
-            class_from: from,
-            class_to: from,
-            purpose,
-            is_listed: true,
-            has_class: false,
-            is_instance: false,
-        };
+        self.nest = listed_nest(from, purpose);
         Some(Step::Rest)
     }
 
@@ -218,7 +218,8 @@ impl Direct {
         self.at = self.at.checked_add(1)?;
         let second = byte_at(s, self.at);
         let text = cpp_layout::operator_text(first, second);
-        if text.is_empty() || cpp_layout::is_angle_code(first, second) {
+        let size = text.len();
+        if size == b"operator".len() || cpp_layout::is_angle_code(first, second) {
             return None;
         }
         self.at = self.at.checked_add(1)?;

@@ -51,6 +51,10 @@ pub enum Open {
     Parameters { is_const: bool },
     /// the name of a special symbol
     Special,
+    /// the return type of a function type, which is an element or a parameter itself or by a pointer to it
+    Returned { is_pointer: bool },
+    /// its parameters
+    Signature { is_pointer: bool },
     /// the elements of a pack, an argument of what was opened before
     Pack,
     /// the number of an enumerator, an element of what was opened before

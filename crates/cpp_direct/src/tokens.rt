@@ -90,12 +90,13 @@ impl Direct {
         self.push(cpp_layout::name_text(&s[place.from..place.to]))
     }
 
-    /// Reads the number of a substitution, and finds what it names.
+    /// Reads the number of a substitution, and finds what it names, where its text is kept.
     // <substitution> ::= S <seq-id> _ | S_
     pub(crate) fn substitution(&mut self, s: &[u8]) -> Option<Candidate>
         requires { FitsSymbol s.now }
         ensures is { IfSome result (λ candidate. (digits : List ℕ) × IsSeqAt s.now self.old.at digits self.new.at
             × (slice_get self.old.candidates.items (counted_value NumberKind.Seq36 digits) ≡ Some candidate)) }
+        ensures ordered { IfSome result (λ candidate. candidate.from ≤ candidate.to) }
         ensures same { OnSome result (Reads self.old self.new []) }
     {
         if self.at > s.len() {
@@ -105,6 +106,9 @@ impl Direct {
         let index = value36(&s[place.from..place.to])?;
         self.at = place.end;
         let candidate = self.candidates.get(index as usize)?;
+        if candidate.to < candidate.from {
+            return None;
+        }
         Some(*candidate)
     }
 }

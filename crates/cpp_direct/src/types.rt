@@ -22,7 +22,18 @@ impl Direct {
     {
         let from = self.text.len();
         match byte_at(s, self.at) {
-            b'P' => self.open_type(Open::Pointer { from }, Step::Type),
+            b'P' => {
+                if !is_plain && byte_at(s, self.at.checked_add(1)?) == b'F' {
+                    return self.begin_function(s, true);
+                }
+                self.open_type(Open::Pointer { from }, Step::Type)
+            }
+            b'F' => {
+                if is_plain {
+                    return None;
+                }
+                self.begin_function(s, false)
+            }
             b'R' => self.open_type(Open::Lvalue { from }, Step::Type),
             b'O' => self.open_type(Open::Rvalue { from }, Step::Type),
             b'K' => {
@@ -172,6 +183,8 @@ impl Direct {
                 self.mark(s, b" const", from, false)
             }
             Open::Parameters { is_const } => self.parameter_ended(s, is_const),
+            Open::Returned { is_pointer } => self.returned(s, is_pointer),
+            Open::Signature { is_pointer } => self.parameter_at(s, is_pointer, false),
             Open::Special => self.finish(s),
             Open::Enumerator => self.enumerator(s),
             _ => Some(Step::List { is_first: false }),

@@ -3,10 +3,17 @@
 ghost use Rattle.std.specs.Prelude.{◌≡◌, ◌+◌, ◌-◌, ◌≤◌, ◌∷◌, ◌++◌, [], length, take, drop, codes, true, if◌then◌else◌};
 ghost use Rattle.std.specs.Option.{OnSome, IfSome};
 ghost use Rattle.cpp_direct.specs.declared.open.Step.TheVariants as steps;
-ghost use Rattle.cpp_direct.specs.Written.{Writes, added, added_unless};
+ghost use Rattle.cpp_direct.specs.Written.{Writes, added, added_unless, with_hidden};
 
 use crate::direct::Direct;
 use crate::open::{Candidate, Open, Step};
+
+/// A candidate whose text is nowhere: it ends before it begins.
+const HIDDEN: Candidate = Candidate {
+    from: 1,
+    to: 0,
+    is_reference: false,
+};
 
 impl Direct {
     /// Writes a text.
@@ -52,6 +59,21 @@ impl Direct {
                 is_reference,
             })
             .ok()
+    }
+
+    /// A function type becomes a candidate, and so does the pointer to it, if it is one. Their texts are nowhere.
+    pub(crate) fn add_hidden(&mut self, is_pointer: bool) -> Option<()>
+        ensures candidates { OnSome result (self.new.candidates.items ≡ with_hidden self.old is_pointer) }
+        ensures text { self.new.text ≡ self.old.text }
+        ensures open { self.new.waiting ≡ self.old.waiting }
+        ensures nest { self.new.nest ≡ self.old.nest }
+        ensures at { self.new.at ≡ self.old.at }
+        ensures most { self.new.most ≡ self.old.most }
+    {
+        if is_pointer {
+            self.candidates.push(HIDDEN).ok()?;
+        }
+        self.candidates.push(HIDDEN).ok()
     }
 
     /// The same unless it is one already.

@@ -1,7 +1,7 @@
 // The texts of codes. A code that isn't in the tables has no text.
 #![tactic(auto)]
 
-ghost use Rattle.std.specs.Prelude.{◌≡◌, ◌≢◌, ◌<◌, ◌∷◌, ◌++◌, [], codes, drop, ◌||◌};
+ghost use Rattle.std.specs.Prelude.{◌≡◌, ◌<◌, ◌∷◌, ◌++◌, [], codes, drop, ◌||◌};
 ghost use Rattle.cpp_grammar.specs.Texts.{look_up, same_bytes, builtin_texts, operator_texts, abbreviation_texts, special_texts, literal_endings};
 ghost use Rattle.cpp_term.specs.Term.{builtin};
 ghost use Rattle.cpp_term.specs.Parts.{is_plain_integer};
@@ -253,16 +253,11 @@ pub fn abbreviation_text(letter: u8) -> &'static [u8]
     texts::fixed_text(abbreviation(letter))
 }
 
-/// The name of an operator, by the two letters of its code, or none.
+/// The name of an operator, by the two letters of its code; where no operator has it, `operator` alone.
 pub fn operator_text(first: u8, second: u8) -> &'static [u8]
-    ensures known { result.now ≢ [] → look_up (first ∷ second ∷ []) operator_texts ≢ [] }
-    ensures text { result.now ≢ [] → result.now ≡ codes "operator" ++ look_up (first ∷ second ∷ []) operator_texts }
+    ensures { result.now ≡ codes "operator" ++ look_up (first ∷ second ∷ []) operator_texts }
 {
-    let text = texts::fixed_text(operator(first, second));
-    if text.len() <= b"operator".len() {
-        return b"";
-    }
-    text
+    texts::fixed_text(operator(first, second))
 }
 
 /// The text before the type of a special name, by the letter behind its T, or none.

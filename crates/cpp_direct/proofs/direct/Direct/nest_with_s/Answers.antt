@@ -3,7 +3,9 @@ use Rattle.std.proofs.lemmas.Bool.{false≢true}
 use Rattle.std.specs.Bool.{◌==◌}
 use Rattle.sym_core.specs.declared.NumberKind.TheVariants.{Seq36}
 use Rattle.sym_core.specs.Value.{counted_value}
+use Rattle.cpp_direct.specs.declared.open.Step.TheVariants as steps
 use Rattle.cpp_direct.specs.Holes.{StandsAt, IsSeqAt}
+use Rattle.cpp_direct.specs.Stands.{IsWriting}
 use Rattle.cpp_direct.proofs.Moves.{stands-join}
 use Rattle.cpp_direct.proofs.Nesting.{byte-there, candidate-text, reference-begins, abbreviation-begins}
 use Rattle.cpp_direct.proofs.direct.Direct.nest_with_s.Goals as goal
@@ -23,13 +25,15 @@ nest_in_std-requires-clause-awaits c =
 pub repeat-requires-clause-from : goal.repeat-requires-clause-from
 repeat-requires-clause-from c =
     let is = c.in_ok-candidate.ensures.is in
-    (candidate-text c.args.s.now c.args.self.now c.args.purpose c.requires.awaits (counted_value Seq36 is.0) c.in_ok-candidate.candidate is.2).0
+    (candidate-text c.args.s.now c.args.self.now c.args.purpose c.requires.awaits (counted_value Seq36 is.0) c.in_ok-candidate.candidate
+    c.in_ok-candidate.ensures.ordered is.2).0
 
 pub repeat-requires-clause-to : goal.repeat-requires-clause-to
 repeat-requires-clause-to c =
     let is = c.in_ok-candidate.ensures.is in
     subst (λ l. c.in_ok-candidate.candidate.to ≤ length l) (sym (c.in_ok-candidate.ensures.same.text ∙ append-nil c.args.self.now.text.items))
-    (candidate-text c.args.s.now c.args.self.now c.args.purpose c.requires.awaits (counted_value Seq36 is.0) c.in_ok-candidate.candidate is.2).1
+    (candidate-text c.args.s.now c.args.self.now c.args.purpose c.requires.awaits (counted_value Seq36 is.0) c.in_ok-candidate.candidate
+    c.in_ok-candidate.ensures.ordered is.2).1
 
 pub returns-then-is_empty : goal.returns-then-is_empty
 returns-then-is_empty c =
@@ -40,10 +44,11 @@ returns-then-is_empty c =
     let same = c.in_ok-candidate.ensures.same in
     let wrote = c.in_ok-repeat.ensures in
     let plain : c.substitution.new.self.text.items ≡ old.text.items = same.text ∙ append-nil old.text.items in
-    reference-begins s old c.repeat.new.self c.args.purpose is.0 k c.requires.awaits c.requires.letter
+    subst (λ n. IsWriting s (record c.repeat.new.self { nest = n }) steps.Rest) (sym c.listed_nest-self.ensures)
+    (reference-begins s old c.repeat.new.self c.args.purpose is.0 k c.requires.awaits c.requires.letter
     (subst (λ n. IsSeqAt s (old.at + 1) is.0 n) (sym wrote.at) (subst (λ n. IsSeqAt s n is.0 c.substitution.new.self.at) c.in_ok-self.ensures.1 is.1))
-    is.2 c.if-candidate.false (wrote.text ∙ ap (λ l. l ++ take (k.to - k.from) (drop k.from l)) plain) (wrote.candidates ∙ same.candidates)
-    (wrote.waiting ∙ same.waiting) c.len-from.result (c.len-from.ensures ∙ old.text.ok.0)
+    c.in_ok-candidate.ensures.ordered is.2 c.if-candidate.false (wrote.text ∙ ap (λ l. l ++ take (k.to - k.from) (drop k.from l)) plain)
+    (wrote.candidates ∙ same.candidates) (wrote.waiting ∙ same.waiting) c.len-from.result (c.len-from.ensures ∙ old.text.ok.0))
 
 pub returns : goal.returns
 returns c =
@@ -51,8 +56,9 @@ returns c =
     let letter = c.byte_at-letter.result in
     let wrote = c.in_ok-push.ensures in
     let text_is = c.abbreviation_text-text.ensures in
-    abbreviation-begins c.args.s.now old c.push.new.self c.args.purpose letter c.requires.awaits c.requires.letter
+    subst (λ n. IsWriting c.args.s.now (record c.push.new.self { nest = n }) steps.Rest) (sym c.listed_nest-self-2.ensures)
+    (abbreviation-begins c.args.s.now old c.push.new.self c.args.purpose letter c.requires.awaits c.requires.letter
     (λ some. subst (λ n. StandsAt c.args.s.now n (letter ∷ [])) c.in_ok-self.ensures.1 (c.byte_at-letter.ensures some))
     (λ e. absurd (false≢true (c.if-is_empty.ensures ∙ ap (λ l. length l == 0) (text_is ∙ e))))
     (wrote.text ∙ ap (λ l. old.text.items ++ l) text_is) wrote.candidates wrote.waiting
-    (wrote.at ∙ c.in_ok-self-2.ensures.1 ∙ ap (λ n. n + 1) c.in_ok-self.ensures.1) c.len-from.result (c.len-from.ensures ∙ old.text.ok.0)
+    (wrote.at ∙ c.in_ok-self-2.ensures.1 ∙ ap (λ n. n + 1) c.in_ok-self.ensures.1) c.len-from.result (c.len-from.ensures ∙ old.text.ok.0))

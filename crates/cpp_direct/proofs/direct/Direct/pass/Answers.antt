@@ -4,7 +4,8 @@ use Rattle.cpp_direct.specs.declared.open.Open.TheVariants as opens
 use Rattle.cpp_direct.specs.Prints.{Prints}
 use Rattle.cpp_direct.specs.Stands.{qualifiers}
 use Rattle.cpp_direct.proofs.PrintedTypes.{pointer-prints, lvalue-prints, rvalue-prints, const-prints}
-use Rattle.cpp_direct.proofs.Listed.{waits-last, value-marked, value-parameter, value-special, value-enumerator, value-argument, takes-elements}
+use Rattle.cpp_direct.proofs.Listed.{waits-last}
+use Rattle.cpp_direct.proofs.Handed.{value-element, value-marked, value-returned, value-signature, value-special, value-enumerator, argument-read, parameter-read, takes-elements}
 use Rattle.cpp_direct.proofs.direct.Direct.pass.Goals as goal
 
 pub mark-requires : goal.mark-requires
@@ -34,8 +35,19 @@ mark-requires-in-Const c =
 
 pub parameter_ended-requires-clause-ended : goal.parameter_ended-requires-clause-ended
 parameter_ended-requires-clause-ended c =
-    value-parameter c.args.s.now c.args.self.now c.args.is_reference c.in-Parameters.is_const
-    c.requires.writing (waits-last _ _ _ _ c.deref.ensures.value c.in_ok-from.ensures.value c.in-Parameters.is)
+    parameter-read c.args.s.now c.args.self.now c.in-Parameters.is_const
+    (value-element c.args.s.now c.args.self.now c.args.is_reference (opens.Parameters c.in-Parameters.is_const) c.requires.writing
+    (waits-last _ _ _ _ c.deref.ensures.value c.in_ok-from.ensures.value c.in-Parameters.is))
+
+pub returned-requires-clause-returned : goal.returned-requires-clause-returned
+returned-requires-clause-returned c =
+    value-returned c.args.s.now c.args.self.now c.args.is_reference c.in-Returned.is_pointer
+    c.requires.writing (waits-last _ _ _ _ c.deref.ensures.value c.in_ok-from.ensures.value c.in-Returned.is)
+
+pub parameter_at-requires-clause-awaits : goal.parameter_at-requires-clause-awaits
+parameter_at-requires-clause-awaits c =
+    value-signature c.args.s.now c.args.self.now c.args.is_reference c.in-Signature.is_pointer
+    c.requires.writing (waits-last _ _ _ _ c.deref.ensures.value c.in_ok-from.ensures.value c.in-Signature.is)
 
 pub finish-requires : goal.finish-requires
 finish-requires c =
@@ -49,7 +61,9 @@ enumerator-requires-clause-awaits c =
 
 pub returns-in_default : goal.returns-in_default
 returns-in_default c =
-    value-argument c.args.s.now c.args.self.now c.args.is_reference c.in_ok-from.field-0.now
-    c.requires.writing (waits-last _ _ _ _ c.deref.ensures.value c.in_ok-from.ensures.value refl)
-    (takes-elements c.in_ok-from.field-0.now c.in_default.not-Pointer c.in_default.not-Lvalue c.in_default.not-Rvalue c.in_default.not-Const
-    c.in_default.not-Parameters c.in_default.not-Special c.in_default.not-Enumerator)
+    let o = c.in_ok-from.field-0.now in
+    argument-read c.args.s.now c.args.self.now o
+    (value-element c.args.s.now c.args.self.now c.args.is_reference o c.requires.writing
+    (waits-last _ _ _ _ c.deref.ensures.value c.in_ok-from.ensures.value refl))
+    (takes-elements o c.in_default.not-Pointer c.in_default.not-Lvalue c.in_default.not-Rvalue c.in_default.not-Const
+    c.in_default.not-Parameters c.in_default.not-Returned c.in_default.not-Signature c.in_default.not-Special c.in_default.not-Enumerator)

@@ -1,4 +1,6 @@
-use Rattle.std.proofs.Common.{◌∙◌, arith}
+use Rattle.std.proofs.Common.{◌≢◌, ◌+◌, ◌∷◌, [], subst, ◌∙◌, arith}
+use Rattle.cpp_direct.specs.Holes.{StandsAt}
+use Rattle.cpp_direct.proofs.Moves.{stands-join}
 use Rattle.cpp_direct.proofs.TypesRead.{awaits-type, names-awaited, there, pointer-opened, lvalue-opened, rvalue-opened, const-opened}
 use Rattle.cpp_direct.proofs.direct.Direct.type_at.Goals as goal
 
@@ -12,8 +14,17 @@ builtin_with_d-requires-clause-awaits c = awaits-type c.args.s.now c.args.self.n
 pub builtin-requires-clause-awaits : goal.builtin-requires-clause-awaits
 builtin-requires-clause-awaits c = awaits-type c.args.s.now c.args.self.now c.args.is_plain c.requires.writing
 
-pub returns-in-80 : goal.returns-in-80
-returns-in-80 c =
+pub begin_function-requires-clause-letters : goal.begin_function-requires-clause-letters
+begin_function-requires-clause-letters c =
+    let s = c.args.s.now in
+    let at = c.args.self.now.at in
+    let behind = c.byte_at-then-not-is_plain in
+    stands-join s at (80 ∷ []) (70 ∷ []) (there s at c.byte_at.result 80 c.in-80.is (omega arith) c.byte_at.ensures)
+    (there s (at + 1) behind.result 70 c.if-byte_at-eq70.true (omega arith)
+    (subst (λ n. behind.result ≢ 0 → StandsAt s n (behind.result ∷ [])) c.in_ok-checked_add-in-80.ensures.1 behind.ensures))
+
+pub returns-else-not-is_plain : goal.returns-else-not-is_plain
+returns-else-not-is_plain c =
     pointer-opened c.args.s.now c.args.self.now c.open_type.new.self c.open_type.result c.len-from.result
     (awaits-type c.args.s.now c.args.self.now c.args.is_plain c.requires.writing) (c.len-from.ensures ∙ c.args.self.now.text.ok.0)
     (there c.args.s.now c.args.self.now.at c.byte_at.result 80 c.in-80.is (omega arith) c.byte_at.ensures)
@@ -35,10 +46,10 @@ returns-in-79 c =
     (there c.args.s.now c.args.self.now.at c.byte_at.result 79 c.in-79.is (omega arith) c.byte_at.ensures)
     called.step called.open called.at called.text called.candidates
 
-pub returns-else-is_plain : goal.returns-else-is_plain
-returns-else-is_plain c =
+pub returns-else-is_plain-2 : goal.returns-else-is_plain-2
+returns-else-is_plain-2 c =
     let called = c.open_type-in-75.ensures in
     const-opened c.args.s.now c.args.self.now c.open_type-in-75.new.self c.open_type-in-75.result c.len-from.result c.args.is_plain
-    c.requires.writing c.if-is_plain.false (c.len-from.ensures ∙ c.args.self.now.text.ok.0)
+    c.requires.writing c.if-is_plain-2.false (c.len-from.ensures ∙ c.args.self.now.text.ok.0)
     (there c.args.s.now c.args.self.now.at c.byte_at.result 75 c.in-75.is (omega arith) c.byte_at.ensures)
     called.step called.open called.at called.text called.candidates

@@ -29,7 +29,8 @@ type_named-requires-then-not-is_empty c =
 pub repeat-requires-clause-from : goal.repeat-requires-clause-from
 repeat-requires-clause-from c =
     let got = c.in_ok-candidate.ensures.is in
-    (substitution-stands c.args.s.now c.args.self.now _ c.in_ok-candidate.candidate c.requires.awaits got.2).0
+    (substitution-stands c.args.s.now c.args.self.now _ c.in_ok-candidate.candidate c.requires.awaits
+    c.in_ok-candidate.ensures.ordered got.2).0
 
 pub repeat-requires-clause-to : goal.repeat-requires-clause-to
 repeat-requires-clause-to c =
@@ -37,7 +38,8 @@ repeat-requires-clause-to c =
     let same = c.in_ok-candidate.ensures.same in
     omega (
       arith,
-      (substitution-stands c.args.s.now c.args.self.now _ c.in_ok-candidate.candidate c.requires.awaits got.2).1,
+      (substitution-stands c.args.s.now c.args.self.now _ c.in_ok-candidate.candidate c.requires.awaits
+          c.in_ok-candidate.ensures.ordered got.2).1,
       ap length (same.text ∙ append-nil c.args.self.now.text.items),
     )
 
@@ -51,6 +53,6 @@ type_named-requires-2 c =
     c.requires.letter
     (subst (λ n. IsSeqAt c.args.s.now n got.0 c.repeat.new.self.at) c.in_ok-self.ensures.1
     (subst (λ n. IsSeqAt c.args.s.now c.in_ok-self.field-0 got.0 n) (sym wrote.at) got.1))
-    got.2
+    c.in_ok-candidate.ensures.ordered got.2
     (wrote.text ∙ ap (λ l. l ++ take (k.to - k.from) (drop k.from l)) (same.text ∙ append-nil c.args.self.now.text.items))
     (wrote.candidates ∙ same.candidates) (wrote.waiting ∙ same.waiting) (c.len-from.ensures ∙ c.args.self.now.text.ok.0)

@@ -1,0 +1,86 @@
+-- A writer reads the first bytes of a function type.
+use Rattle.std.proofs.Common.{◌≡◌, ◌⊎◌, inl, inr, ℕ, ◌+◌, ◌-◌, List, [], ◌∷◌, ◌++◌, length, reverse, slice_get, Bool, true, false, Some, refl, ap, sym, subst, ◌∙◌, if◌then◌else◌}
+use Rattle.cpp_grammar.specs.declared.kind.Kind.{Kind}
+use Rattle.cpp_grammar.specs.Values.{State, Around, outermost}
+use Rattle.cpp_direct.specs.declared.open.Open.{Open}
+use Rattle.cpp_direct.specs.declared.open.Open.TheVariants as opens
+use Rattle.cpp_direct.specs.declared.open.Step.TheVariants as steps
+use Rattle.cpp_direct.specs.declared.direct.Direct.{Direct}
+use Rattle.cpp_direct.specs.Holes.{Opened, StandsAt, Expects}
+use Rattle.cpp_direct.specs.HolesOfFunctions.{FunctionOpened}
+use Rattle.cpp_direct.specs.HolesOfTypes.{NoReference, IsQualifiable}
+use Rattle.cpp_direct.specs.Stands.{AreCandidates, TakesFunction, Stands, IsWriting}
+use Rattle.cpp_direct.proofs.Kept.{reverse-last}
+use Rattle.cpp_direct.proofs.Listed.{last-found}
+use Rattle.cpp_direct.proofs.MovesOfFunctions.{function-opens, pointed-function-opens}
+
+-- ## What waits
+
+-- what is none of those that take no function type
+pub takes-function : (o : Open) (rest : List Open) → ((x : ℕ) → o ≡ opens.Pointer x → ⊥) → ((x : ℕ) → o ≡ opens.Lvalue x → ⊥)
+    → ((x : ℕ) → o ≡ opens.Rvalue x → ⊥) → ((x : ℕ) → o ≡ opens.Const x → ⊥) → (o ≡ opens.Special → ⊥) → (o ≡ opens.Enumerator → ⊥)
+    → ((x : Bool) → o ≡ opens.Returned x → ⊥) → ((x : Bool) → o ≡ opens.Signature x → ⊥) → TakesFunction (o ∷ rest)
+takes-function (opens.Pointer x) rest p l r c z n f g = absurd (p x refl)
+takes-function (opens.Lvalue x) rest p l r c z n f g = absurd (l x refl)
+takes-function (opens.Rvalue x) rest p l r c z n f g = absurd (r x refl)
+takes-function (opens.Const x) rest p l r c z n f g = absurd (c x refl)
+takes-function opens.Special rest p l r c z n f g = absurd (z refl)
+takes-function opens.Enumerator rest p l r c z n f g = absurd (n refl)
+takes-function (opens.Returned x) rest p l r c z n f g = absurd (f x refl)
+takes-function (opens.Signature x) rest p l r c z n f g = absurd (g x refl)
+takes-function (opens.TypeArguments x) rest p l r c z n f g = tt
+takes-function (opens.NestArguments x) rest p l r c z n f g = tt
+takes-function (opens.FirstArguments x) rest p l r c z n f g = tt
+takes-function opens.NameArguments rest p l r c z n f g = tt
+takes-function (opens.Parameters x) rest p l r c z n f g = tt
+takes-function opens.Pack rest p l r c z n f g = tt
+
+-- ## The return type
+
+-- it is expected behind the letters
+return-opens : (s : List ℕ) (is_pointer : Bool) (kind : Kind) (os : List Opened) (around : Around) (at : ℕ) (st : State) → IsQualifiable kind
+    → around.prefix ≡ outermost → Expects s kind around os at st → StandsAt s at (if is_pointer then 80 ∷ 70 ∷ [] else 70 ∷ [])
+    → FunctionOpened s os around is_pointer (at + (if is_pointer then 2 else 1)) st
+return-opens s true kind os around at st whole outside expects stands = pointed-function-opens s kind os around at st whole outside expects stands
+return-opens s false kind os around at st whole outside expects stands = function-opens s kind os around at st whole outside expects stands
+
+-- a function type begins, where what was opened last takes one
+pub function-begins : (s : List ℕ) (old new : Direct) (is_pointer : Bool) (o : Open) → IsWriting s old steps.Type
+    → StandsAt s old.at (if is_pointer then 80 ∷ 70 ∷ [] else 70 ∷ []) → slice_get old.waiting.items (length old.waiting.items - 1) ≡ Some o
+    → ((rest : List Open) → TakesFunction (o ∷ rest)) → new.waiting.items ≡ old.waiting.items ++ opens.Returned is_pointer ∷ []
+    → new.at ≡ old.at + (if is_pointer then 2 else 1) → new.text ≡ old.text → new.candidates ≡ old.candidates → IsWriting s new steps.Type
+function-begins s old new is_pointer o p letters found takes waits at text candidates = go p.is_before.3
+  where
+    os : List Opened
+    os = p.is_before.0
+
+    around : Around
+    around = p.is_before.1
+
+    last : (rest : List Open) × (reverse old.waiting.items ≡ o ∷ rest)
+    last = last-found old.waiting.items o found
+
+    begun : (kind : Kind) → IsQualifiable kind → Expects s kind around os old.at p.state → IsWriting s new steps.Type
+    begun kind whole expects =
+        let f = return-opens s is_pointer kind os around old.at p.state whole p.is_before.2 expects letters in
+        record {
+          state = p.state;
+          candidates = subst (λ v. AreCandidates new.text.items v.items p.state.candidates) (sym candidates)
+              (subst (λ v. AreCandidates v.items old.candidates.items p.state.candidates) (sym text) p.candidates);
+          is_before = (
+            f.inner,
+            around,
+            p.is_before.2,
+            inl (subst (λ k. Expects s Kind.Type around f.inner k p.state) (sym at) f.awaits),
+            subst (λ l. Stands s l f.inner new.text.items)
+                (sym (ap reverse waits ∙ reverse-last old.waiting.items (opens.Returned is_pointer)))
+                (subst (λ v. Stands s (opens.Returned is_pointer ∷ reverse old.waiting.items) f.inner v.items) (sym text)
+                (os, around.encoding, f.onward, subst (λ l. TakesFunction l) (sym last.1) (takes last.0), p.is_before.4)),
+          );
+        }
+
+    go : Expects s Kind.Type around os old.at p.state ⊎ Expects s Kind.Item around os old.at p.state
+        ⊎ (Expects s Kind.ItemButRef around os old.at p.state × NoReference s old.at) → IsWriting s new steps.Type
+    go (inl expects) = begun Kind.Type tt expects
+    go (inr (inl expects)) = begun Kind.Item tt expects
+    go (inr (inr expects)) = begun Kind.ItemButRef tt expects.0

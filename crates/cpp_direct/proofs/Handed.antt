@@ -1,0 +1,290 @@
+-- A type was read, and is handed to what waits for it.
+use Rattle.std.proofs.Common.{◌≡◌, ℕ, ◌-◌, length, List, [], ◌∷◌, ◌++◌, reverse, slice_get, Bool, false, Some, refl, ap, sym, ◌∙◌, subst, codes, append_assoc}
+use Rattle.std.proofs.lemmas.Bool.{false≢true}
+use Rattle.cpp_grammar.specs.Term.{Term, special}
+use Rattle.cpp_direct.specs.declared.open.Open.{Open}
+use Rattle.cpp_direct.specs.declared.open.Open.TheVariants as opens
+use Rattle.cpp_direct.specs.declared.open.Step.TheVariants as steps
+use Rattle.cpp_direct.specs.declared.direct.Direct.{Direct}
+use Rattle.cpp_direct.specs.Holes.{Opened}
+use Rattle.cpp_direct.specs.Prints.{Prints, Shows}
+use Rattle.cpp_direct.specs.Stands.{IsTemplate, IsWriting, Marks, AwaitsEnumerator, Belongs, Listing, of_template, of_pack, Stands, TakesFunction, opening_text, extra_of, led_by, in_front_of_next}
+use Rattle.cpp_direct.specs.Ways.{AwaitsMark, AwaitsNumber, AwaitsSignature, IsElementRead, IsParameterEnded, IsReturned, IsSymbolEnded}
+use Rattle.cpp_direct.proofs.Listed.{TakesElements, last-found, list-waits, listing-at, some-elements}
+use Rattle.cpp_direct.proofs.PrintedLists.{next-prints, type-element}
+use Rattle.cpp_direct.proofs.PrintedSymbols.{special-shows}
+use Rattle.cpp_direct.proofs.Kept.{template-stays}
+
+-- it is marked
+pub value-marked : (s : List ℕ) (w : Direct) (is_reference marked_reference : Bool) (entry : Open) (from : ℕ) (made : Term → Term) (mark : List ℕ)
+    → IsWriting s w (steps.Value is_reference) → slice_get w.waiting.items (length w.waiting.items - 1) ≡ Some entry
+    → ((rest : List Open) (os : List Opened) (text : List ℕ) → Stands s (entry ∷ rest) os text → Marks s (Stands s rest) os text from made)
+    → ((t : Term) (b : List ℕ) → Prints t b is_reference → Prints (made t) (b ++ mark) marked_reference)
+    → AwaitsMark s w mark from marked_reference
+value-marked s w is_reference marked_reference entry from made mark p found stands_as prints_as =
+    let os = p.is_before.0 in
+    let t = p.is_before.1 in
+    let front = p.is_before.2 in
+    let bytes = p.is_before.3 in
+    let written = p.is_before.4 in
+    let prints = p.is_before.5 in
+    let comes = p.is_before.6 in
+    let stands = p.is_before.7 in
+    let last = last-found w.waiting.items entry found in
+    let marks = stands_as last.0 os front (subst (λ ws. Stands s ws os front) last.1 stands) in
+    record {
+      state = p.state;
+      candidates = p.candidates;
+      entry = entry;
+      rest = last.0;
+      open_is = last.1;
+      outer = marks.0;
+      encoding = marks.1;
+      made = made t;
+      comes = marks.3 t w.at p.state comes;
+      front = front;
+      bytes = bytes;
+      written = written;
+      from_is = marks.2;
+      prints = prints_as t bytes prints;
+      stands = marks.4;
+    }
+
+-- it is an element or a parameter
+pub value-element : (s : List ℕ) (w : Direct) (is_reference : Bool) (o : Open) → IsWriting s w (steps.Value is_reference)
+    → slice_get w.waiting.items (length w.waiting.items - 1) ≡ Some o → IsElementRead s w o
+value-element s w is_reference o p found =
+    let last = last-found w.waiting.items o found in
+    record {
+      state = p.state;
+      candidates = p.candidates;
+      rest = last.0;
+      open_is = last.1;
+      os = p.is_before.0;
+      own = p.is_before.1;
+      front = p.is_before.2;
+      bytes = p.is_before.3;
+      written = p.is_before.4;
+      element = λ extra. type-element extra p.is_before.1 p.is_before.3 is_reference p.is_before.5;
+      comes = p.is_before.6;
+      stands = subst (λ ws. Stands s ws p.is_before.0 p.is_before.2) last.1 p.is_before.7;
+    }
+
+-- a parameter was read
+pub parameter-read : (s : List ℕ) (w : Direct) (is_const : Bool) → IsElementRead s w (opens.Parameters is_const) → IsParameterEnded s w is_const
+parameter-read s w is_const p =
+    let waits = p.stands in
+    let lead = waits.0 in
+    let v = waits.1 in
+    let ts = waits.2 in
+    let name = waits.3 in
+    let parameters = waits.4 in
+    let is_function = waits.5 in
+    record {
+      state = p.state;
+      candidates = p.candidates;
+      rest = p.rest;
+      open_is = p.open_is;
+      v = v;
+      ts = ts ++ p.own ∷ [];
+      some = some-elements ts p.own;
+      lead = lead;
+      name = name;
+      parameters = in_front_of_next ts parameters ++ p.bytes;
+      is_function = record {
+        own = is_function.own;
+        tree_is = is_function.tree_is;
+        qualifiers_are = is_function.qualifiers_are;
+        mark_is = is_function.mark_is;
+        prints = is_function.prints;
+        no_return = is_function.no_return;
+        elements = next-prints 0 ts parameters p.own p.bytes is_function.elements (p.element 0);
+      };
+      written = p.written ∙ ap (λ l. l ++ p.bytes) waits.6 ∙ append_assoc (lead ++ name ++ codes "(") (in_front_of_next ts parameters) p.bytes;
+      goes = waits.7 p.own w.at p.state p.comes;
+    }
+
+-- it is what a special symbol is of
+pub value-special : (s : List ℕ) (w : Direct) (is_reference : Bool) → IsWriting s w (steps.Value is_reference)
+    → slice_get w.waiting.items (length w.waiting.items - 1) ≡ Some opens.Special → IsSymbolEnded s w
+value-special s w is_reference p found =
+    let os = p.is_before.0 in
+    let t = p.is_before.1 in
+    let front = p.is_before.2 in
+    let bytes = p.is_before.3 in
+    let written = p.is_before.4 in
+    let prints = p.is_before.5 in
+    let comes = p.is_before.6 in
+    let stands = p.is_before.7 in
+    let last = last-found w.waiting.items opens.Special found in
+    let waits : Stands s (opens.Special ∷ last.0) os front = subst (λ ws. Stands s ws os front) last.1 stands in
+    let letter = waits.0 in
+    let front_is = waits.1 in
+    let filled = waits.2 in
+    let onward = waits.3 in
+    record {
+      state = p.state;
+      candidates = p.candidates;
+      e = special letter t;
+      encoded = onward t w.at p.state comes;
+      shows = subst (λ l. Shows (special letter t) l) (sym (written ∙ ap (λ l. l ++ bytes) front_is))
+          (special-shows letter (λ e. filled (front_is ∙ e)) t bytes is_reference prints);
+    }
+
+-- it is the type of an enumerator
+pub value-enumerator : (s : List ℕ) (w : Direct) (is_reference : Bool) → IsWriting s w (steps.Value is_reference)
+    → slice_get w.waiting.items (length w.waiting.items - 1) ≡ Some opens.Enumerator → AwaitsNumber s w
+value-enumerator s w is_reference p found =
+    let last = last-found w.waiting.items opens.Enumerator found in
+    go last.0 last.1 (subst (λ ws. Stands s ws p.is_before.0 p.is_before.2) last.1 p.is_before.7)
+  where
+    number : (l : Listing) (opened : List Open) (owner : Open) (rest : List Open) → reverse w.waiting.items ≡ opens.Enumerator ∷ opened
+        → Belongs l opened owner rest → AwaitsEnumerator s l owner (Stands s rest) p.is_before.0 p.is_before.2 → AwaitsNumber s w
+    number l opened owner rest is belongs waits =
+        let t = p.is_before.1 in
+        let bytes = p.is_before.3 in
+        let written = p.is_before.4 in
+        record {
+          state = p.state;
+          candidates = p.candidates;
+          opened = opened;
+          open_is = is;
+          place = record {
+            listing = l;
+            owner = owner;
+            rest = rest;
+            belongs = belongs;
+            front = waits.0;
+            template = waits.1;
+            name = waits.2;
+            is_template = subst (λ k. IsTemplate owner waits.0 waits.1 waits.2 k) (sym written)
+                (template-stays owner waits.0 waits.1 waits.2 p.is_before.2 bytes waits.5);
+          };
+          ts = waits.3;
+          texts = waits.4;
+          elements = waits.6;
+          type = t;
+          bytes = bytes;
+          is_reference = is_reference;
+          prints = p.is_before.5;
+          written = written ∙ ap (λ k. k ++ bytes) waits.7;
+          goes = waits.8 t w.at p.state p.is_before.6;
+        }
+
+    go : (rest : List Open) → reverse w.waiting.items ≡ opens.Enumerator ∷ rest
+        → Stands s (opens.Enumerator ∷ rest) p.is_before.0 p.is_before.2 → AwaitsNumber s w
+    go [] is waits = absurd waits
+    go (opens.Pack ∷ []) is waits = absurd waits
+    go (opens.Pack ∷ owner ∷ rest) is waits = number (of_pack waits.0 waits.1) (opens.Pack ∷ owner ∷ rest) owner rest is (refl, waits.2) waits.3
+    go (owner ∷ rest) is waits = number of_template (owner ∷ rest) owner rest is refl waits
+
+-- what is none of those that wait for something else
+pub takes-elements : (o : Open) → ((x : ℕ) → o ≡ opens.Pointer x → ⊥) → ((x : ℕ) → o ≡ opens.Lvalue x → ⊥)
+    → ((x : ℕ) → o ≡ opens.Rvalue x → ⊥) → ((x : ℕ) → o ≡ opens.Const x → ⊥) → ((x : Bool) → o ≡ opens.Parameters x → ⊥)
+    → ((x : Bool) → o ≡ opens.Returned x → ⊥) → ((x : Bool) → o ≡ opens.Signature x → ⊥)
+    → (o ≡ opens.Special → ⊥) → (o ≡ opens.Enumerator → ⊥) → TakesElements o
+takes-elements (opens.Pointer x) p l r c f u g z n = absurd (p x refl)
+takes-elements (opens.Lvalue x) p l r c f u g z n = absurd (l x refl)
+takes-elements (opens.Rvalue x) p l r c f u g z n = absurd (r x refl)
+takes-elements (opens.Const x) p l r c f u g z n = absurd (c x refl)
+takes-elements (opens.Parameters x) p l r c f u g z n = absurd (f x refl)
+takes-elements (opens.Returned x) p l r c f u g z n = absurd (u x refl)
+takes-elements (opens.Signature x) p l r c f u g z n = absurd (g x refl)
+takes-elements opens.Special p l r c f u g z n = absurd (z refl)
+takes-elements opens.Enumerator p l r c f u g z n = absurd (n refl)
+takes-elements opens.Pack p l r c f u g z n = tt
+takes-elements (opens.TypeArguments x) p l r c f u g z n = tt
+takes-elements (opens.NestArguments x) p l r c f u g z n = tt
+takes-elements (opens.FirstArguments x) p l r c f u g z n = tt
+takes-elements opens.NameArguments p l r c f u g z n = tt
+
+-- an element was read
+pub argument-read : (s : List ℕ) (w : Direct) (o : Open) → IsElementRead s w o → TakesElements o → IsWriting s w (steps.List false)
+argument-read s w o p takes =
+    let waits = list-waits s o p.rest p.os p.front takes p.stands in
+    let place = waits.place in
+    let front = p.front in
+    record {
+      state = p.state;
+      candidates = p.candidates;
+      is_before = (
+        listing-at (o ∷ p.rest) front (reverse w.waiting.items) w.text.items place
+            (subst (λ ws. Belongs place.listing ws place.owner place.rest) (sym p.open_is) place.belongs)
+            (subst (λ l. IsTemplate place.owner place.front place.template place.name l) (sym p.written)
+            (template-stays place.owner place.front place.template place.name front p.bytes place.is_template)),
+        waits.ts ++ p.own ∷ [],
+        in_front_of_next waits.ts waits.texts ++ p.bytes,
+        next-prints (extra_of place.listing) waits.ts waits.texts p.own p.bytes waits.elements (p.element (extra_of place.listing)),
+        p.written ∙ ap (λ l. l ++ p.bytes) waits.written
+            ∙ append_assoc (led_by place.listing place.front place.name) (in_front_of_next waits.ts waits.texts) p.bytes,
+        λ e. absurd (false≢true e),
+        λ e. some-elements waits.ts p.own,
+        waits.onward p.own w.at p.state p.comes,
+      );
+    }
+
+-- ## Function types
+
+-- it is the return type of a function type
+pub value-returned : (s : List ℕ) (w : Direct) (is_reference is_pointer : Bool) → IsWriting s w (steps.Value is_reference)
+    → slice_get w.waiting.items (length w.waiting.items - 1) ≡ Some (opens.Returned is_pointer) → IsReturned s w is_pointer
+value-returned s w is_reference is_pointer p found =
+    let os = p.is_before.0 in
+    let t = p.is_before.1 in
+    let front = p.is_before.2 in
+    let last = last-found w.waiting.items (opens.Returned is_pointer) found in
+    let waits : Stands s (opens.Returned is_pointer ∷ last.0) os front = subst (λ ws. Stands s ws os front) last.1 p.is_before.7 in
+    record {
+      state = p.state;
+      candidates = p.candidates;
+      rest = last.0;
+      open_is = last.1;
+      outer = waits.0;
+      encoding = waits.1;
+      front = front;
+      returned = t;
+      bytes = p.is_before.3;
+      is_reference = is_reference;
+      prints = p.is_before.5;
+      written = p.is_before.4;
+      goes = waits.2 t w.at p.state p.is_before.6;
+      takes = waits.3;
+      stands = waits.4;
+    }
+
+-- it is a parameter of one
+pub value-signature : (s : List ℕ) (w : Direct) (is_reference is_pointer : Bool) → IsWriting s w (steps.Value is_reference)
+    → slice_get w.waiting.items (length w.waiting.items - 1) ≡ Some (opens.Signature is_pointer) → AwaitsSignature s w is_pointer false
+value-signature s w is_reference is_pointer p found =
+    let os = p.is_before.0 in
+    let t = p.is_before.1 in
+    let b = p.is_before.3 in
+    let last = last-found w.waiting.items (opens.Signature is_pointer) found in
+    let waits : Stands s (opens.Signature is_pointer ∷ last.0) os p.is_before.2 = subst (λ ws. Stands s ws os p.is_before.2) last.1 p.is_before.7 in
+    let front = waits.2 in
+    let bytes = waits.4 in
+    let ts = waits.6 in
+    let texts = waits.7 in
+    record {
+      state = p.state;
+      candidates = p.candidates;
+      rest = last.0;
+      open_is = last.1;
+      outer = waits.0;
+      encoding = waits.1;
+      front = front;
+      returned = waits.3;
+      bytes = bytes;
+      is_reference = waits.5;
+      prints = waits.8;
+      ts = ts ++ t ∷ [];
+      none = λ e. absurd (false≢true e);
+      some = λ e. some-elements ts t;
+      texts = in_front_of_next ts texts ++ b;
+      elements = next-prints 0 ts texts t b waits.9 (type-element 0 t b is_reference p.is_before.5);
+      written = p.is_before.4 ∙ ap (λ l. l ++ b) waits.10
+          ∙ append_assoc (front ++ (bytes ++ opening_text is_pointer)) (in_front_of_next ts texts) b;
+      goes = waits.11 t w.at p.state p.is_before.6;
+      takes = waits.12;
+      stands = waits.13;
+    }

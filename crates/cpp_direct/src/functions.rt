@@ -1,0 +1,128 @@
+// Function types, and pointers to them, as elements of lists and as parameters.
+
+ghost use Rattle.std.specs.Prelude.{◌≡◌, ◌≢◌, ◌∷◌, [], List, true, if◌then◌else◌};
+ghost use Rattle.std.specs.Option.{IfSome};
+ghost use Rattle.sym_core.specs.Number.{FitsSymbol};
+ghost use Rattle.cpp_grammar.specs.Term.{Term};
+ghost use Rattle.cpp_direct.specs.declared.open.Step.TheVariants as steps;
+ghost use Rattle.cpp_direct.specs.Holes.{StandsAt};
+ghost use Rattle.cpp_direct.specs.Stands.{IsWriting};
+ghost use Rattle.cpp_direct.specs.Ways.{AwaitsParameter, AwaitsSignature, IsFunctionRead, IsReturned};
+
+use crate::direct::Direct;
+use crate::open::{Open, Step};
+use crate::tokens::byte_at;
+
+impl Direct {
+    /// Begins a function type, or one that is pointed to, where it is an element or a parameter.
+    // <function-type> ::= F <return type> <parameter type>* E
+    #[inline(never)]
+    pub(crate) fn begin_function(&mut self, s: &[u8], is_pointer: bool) -> Option<Step>
+        requires fits { FitsSymbol s.now }
+        requires letters { StandsAt s.now self.old.at (if is_pointer then 80 ∷ 70 ∷ [] else 70 ∷ []) }
+        requires writing { IsWriting s.now self.old steps.Type }
+        ensures { IfSome result (IsWriting s.now self.new) }
+    {
+        match *self.waiting.last()? {
+            Open::Pointer { .. }
+            | Open::Lvalue { .. }
+            | Open::Rvalue { .. }
+            | Open::Const { .. }
+            | Open::Special
+            | Open::Enumerator
+            | Open::Returned { .. }
+            | Open::Signature { .. } => return None,
+            _ => {}
+        }
+        self.at = self.at.checked_add(if is_pointer { 2 } else { 1 })?;
+        self.waiting.push(Open::Returned { is_pointer }).ok()?;
+        Some(Step::Type)
+    }
+
+    /// The return type of a function type is read: its parameters follow.
+    pub(crate) fn returned(&mut self, s: &[u8], is_pointer: bool) -> Option<Step>
+        requires fits { FitsSymbol s.now }
+        requires returned { IsReturned s.now self.old is_pointer }
+        ensures { IfSome result (IsWriting s.now self.new) }
+    {
+        let _open = self.waiting.pop();
+        self.push(if is_pointer { b" (*)(" } else { b" (" })?;
+        self.waiting.push(Open::Signature { is_pointer }).ok()?;
+        self.first_parameter(s, is_pointer)
+    }
+
+    /// Reads the first parameter of a function type, unless it is a lone void, which is none.
+    fn first_parameter(&mut self, s: &[u8], is_pointer: bool) -> Option<Step>
+        requires fits { FitsSymbol s.now }
+        requires awaits { AwaitsSignature s.now self.old is_pointer true }
+        ensures { IfSome result (IsWriting s.now self.new) }
+    {
+        let behind = byte_at(s, self.at.checked_add(1)?);
+        if byte_at(s, self.at) == b'v' && behind == b'E' {
+            self.at = self.at.checked_add(2)?;
+            return self.function_ended(s, is_pointer);
+        }
+        self.parameter_at(s, is_pointer, true)
+    }
+
+    /// Reads a parameter of a function type up to the first type in it, or the end of the function type.
+    // <bare-function-type> ::= <signature type>+
+    pub(crate) fn parameter_at(
+        &mut self,
+        s: &[u8],
+        is_pointer: bool,
+        is_first: bool,
+    ) -> Option<Step>
+        requires fits { FitsSymbol s.now }
+        requires awaits { AwaitsSignature s.now self.old is_pointer is_first }
+        ensures { IfSome result (IsWriting s.now self.new) }
+    {
+        if byte_at(s, self.at) == b'E' {
+            // a lone void is no parameter
+            if self.text.ends_with(b"(void") {
+                return None;
+            }
+            self.at = self.at.checked_add(1)?;
+            return self.function_ended(s, is_pointer);
+        }
+        if !is_first {
+            self.push_pair(b',', b' ')?;
+        }
+        self.parameter(s, is_pointer)
+    }
+
+    /// Reads a parameter of a function type up to the first type in it.
+    // <function-type> ::= F <return type> <parameter type>* [<ref-qualifier>] E
+    fn parameter(&mut self, s: &[u8], _is_pointer: bool) -> Option<Step>
+        requires { AwaitsParameter s.now self.old _is_pointer }
+        ensures { IfSome result (IsWriting s.now self.new) }
+    {
+        let from = self.text.len();
+        let byte = byte_at(s, self.at);
+        if byte == b'R' {
+            return self.open_type(Open::Lvalue { from }, Step::Type);
+        }
+        if byte == b'O' {
+            return self.open_type(Open::Rvalue { from }, Step::Type);
+        }
+        if byte == 0 {
+            return None;
+        }
+        Some(Step::Type)
+    }
+
+    /// Writes the end of a function type, and hands it on.
+    fn function_ended(&mut self, s: &[u8], is_pointer: bool) -> Option<Step>
+        requires fits { FitsSymbol s.now }
+        requires ended { IsFunctionRead s.now self.old is_pointer }
+        ensures { IfSome result (IsWriting s.now self.new) }
+    {
+        self.push_byte(b')')?;
+        self.add_hidden(is_pointer)?;
+        let _open = self.waiting.pop();
+        match *self.waiting.last()? {
+            Open::Parameters { is_const } => self.parameter_ended(s, is_const),
+            _ => Some(Step::List { is_first: false }),
+        }
+    }
+}
