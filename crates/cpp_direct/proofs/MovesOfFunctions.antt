@@ -8,7 +8,7 @@ use Rattle.cpp_grammar.specs.declared.kind.Kind.{Kind}
 use Rattle.cpp_grammar.specs.declared.production.Production.{Production}
 use Rattle.cpp_grammar.specs.Grammar.{in_ranges, among, is_in, pick, number_of_kind, alternatives, choose, parts_of, is_chain, may_be_empty}
 use Rattle.cpp_grammar.specs.Table.{abi, rule_of}
-use Rattle.cpp_grammar.specs.Term.{Term, any_value, pointer, lvalue, rvalue, list, nil}
+use Rattle.cpp_grammar.specs.Term.{Term, any_value, lvalue, rvalue, list, nil}
 use Rattle.cpp_grammar.specs.Values.{State, Around, Value, outermost, nothing_there, tree, tree_of, ref_of, signature, is_there, part}
 use Rattle.cpp_grammar.specs.Between.{Going, between}
 use Rattle.cpp_grammar.specs.Meaning.{meaning, function_of, with_item, signature_or}
@@ -18,7 +18,7 @@ use Rattle.cpp_grammar.specs.Unfolding.{opening, close, byte_of}
 use Rattle.cpp_grammar.proofs.ClosedTrees.{at_number}
 use Rattle.cpp_direct.specs.Holes.{Opened, opened, ReadsRest, StandsAt, Comes, Expects, IsTyped, with_candidate}
 use Rattle.cpp_direct.specs.HolesOfTypes.{IsQualifiable}
-use Rattle.cpp_direct.specs.HolesOfFunctions.{plain_function, with_pointed, SignatureGoesOn, FunctionOpened, ParameterOpened, ReferenceOpened, reference_letter}
+use Rattle.cpp_direct.specs.HolesOfFunctions.{plain_function, SignatureGoesOn, FunctionOpened, ParameterOpened, ReferenceOpened, reference_letter}
 use Rattle.cpp_direct.proofs.Moves.{opens, opens-chain, first-of, first-of-chain, needs-next, next-of, last-of, ends, expects-empty, stands-split}
 use Rattle.cpp_direct.proofs.MovesOfTypes.{whole-opens, pointer-opens}
 

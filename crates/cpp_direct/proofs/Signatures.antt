@@ -1,9 +1,10 @@
 -- A writer within a function type: behind its return type, between its parameters, and behind it.
-use Rattle.std.proofs.Common.{◌≡◌, ◌≢◌, inl, inr, ℕ, ◌+◌, ◌-◌, ◌≤◌, length, List, [], ◌∷◌, ◌++◌, reverse, slice_get, Bool, true, false, Option, Some, refl, ap, sym, take, ◌∙◌, subst, arith, codes, append_assoc, append-nil, nat_eq}
+use Rattle.std.proofs.Common.{◌≡◌, ◌≢◌, inl, inr, ℕ, ◌+◌, ◌-◌, length, List, [], ◌∷◌, ◌++◌, reverse, slice_get, Bool, true, false, Option, Some, refl, ap, sym, take, ◌∙◌, subst, arith, codes, append_assoc, append-nil, nat_eq}
 use Rattle.std.specs.List.{ends_with}
 use Rattle.std.specs.Option.{OnSome, IfSome}
 use Rattle.std.proofs.lemmas.Bool.{false≢true}
-use Rattle.cpp_grammar.specs.Term.{Term, any_value, builtin, nil, list, pointer}
+use Rattle.cpp_grammar.specs.Grammar.{among}
+use Rattle.cpp_grammar.specs.Term.{Term, builtin, nil, list, pointer}
 use Rattle.cpp_grammar.specs.Values as values
 use Rattle.cpp_grammar.specs.Values.{State, tree, signature}
 use Rattle.cpp_grammar.specs.declared.kind.Kind.{Kind}
@@ -13,12 +14,11 @@ use Rattle.cpp_direct.specs.declared.open.Open.TheVariants as opens
 use Rattle.cpp_direct.specs.declared.open.Step.{Step}
 use Rattle.cpp_direct.specs.declared.open.Step.TheVariants as steps
 use Rattle.cpp_direct.specs.declared.direct.Direct.{Direct}
-use Rattle.cpp_grammar.specs.Grammar.{among}
 use Rattle.cpp_direct.specs.Bytes.{is_builtin}
 use Rattle.cpp_direct.specs.Holes.{Opened, StandsAt, Comes, Expects, with_candidate}
 use Rattle.cpp_direct.specs.HolesOfFunctions.{SignatureGoesOn, plain_function, pointed, with_pointed, reference, reference_letter}
 use Rattle.cpp_direct.specs.HolesOfTypes.{NoReference}
-use Rattle.cpp_direct.specs.Prints.{IsElement, PrintEach, PrintAll, joined}
+use Rattle.cpp_direct.specs.Prints.{PrintEach, PrintAll, joined}
 use Rattle.cpp_direct.specs.Stands.{AreCandidates, IsWriting, Marks, Stands, TakesFunction, opening_text, list_with, in_front_of_next}
 use Rattle.cpp_direct.specs.Ways.{AwaitsParameter, AwaitsSignature, IsElementRead, IsFunctionRead, IsReturned}
 use Rattle.cpp_direct.specs.Written.{Writes, hidden, with_hidden}

@@ -1,6 +1,6 @@
 // What stands open around what is being read, and what comes next.
 
-/// What a substitution may name: its text, by its place in the text so far.
+/// What a substitution may name: its text, by its place in the text so far. One that ends before it begins has none.
 #[derive(Clone, Copy)]
 pub struct Candidate {
     pub from: usize,

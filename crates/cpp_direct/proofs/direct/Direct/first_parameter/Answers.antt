@@ -1,4 +1,4 @@
-use Rattle.std.proofs.Common.{◌∷◌, [], arith, refl, sym, subst, ◌∙◌}
+use Rattle.std.proofs.Common.{◌∷◌, [], arith, refl, subst}
 use Rattle.cpp_direct.specs.Holes.{StandsAt}
 use Rattle.cpp_direct.proofs.Moves.{stands-join}
 use Rattle.cpp_direct.proofs.Signatures.{void-closed}

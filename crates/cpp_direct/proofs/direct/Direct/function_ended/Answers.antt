@@ -1,4 +1,4 @@
-use Rattle.std.proofs.Common.{refl, ap, sym, ◌∙◌, reverse}
+use Rattle.std.proofs.Common.{refl, ap, sym, ◌∙◌}
 use Rattle.cpp_direct.specs.declared.open.Open.TheVariants as opens
 use Rattle.cpp_direct.proofs.Handed.{argument-read, parameter-read}
 use Rattle.cpp_direct.proofs.Listed.{waits-last}

@@ -1,4 +1,4 @@
-use Rattle.std.proofs.Common.{◌∷◌, [], arith, refl, sym, subst, ap, ◌∙◌, codes, nat_eq}
+use Rattle.std.proofs.Common.{arith, refl, sym, subst, ap, ◌∙◌, codes, nat_eq}
 use Rattle.std.specs.List.{ends_with}
 use Rattle.cpp_direct.specs.Ways.{AwaitsParameter, AwaitsSignature}
 use Rattle.cpp_direct.proofs.Signatures.{another-next, first-next, signature-closed}
