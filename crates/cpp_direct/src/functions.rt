@@ -14,7 +14,7 @@ use crate::tokens::byte_at;
 
 impl Direct {
     /// Begins a function type, or one that is pointed to, where it is an element or a parameter.
-    // <function-type> ::= F <return type> <parameter type>* E
+    // <function-type> ::= F <bare-function-type> E
     #[inline(never)]
     pub(crate) fn begin_function(&mut self, s: &[u8], is_pointer: bool) -> Option<Step>
         requires fits { FitsSymbol s.now }
@@ -39,6 +39,7 @@ impl Direct {
     }
 
     /// The return type of a function type is read: its parameters follow.
+    // <bare-function-type> ::= <return type> <parameter type>+
     pub(crate) fn returned(&mut self, s: &[u8], is_pointer: bool) -> Option<Step>
         requires fits { FitsSymbol s.now }
         requires returned { IsReturned s.now self.old is_pointer }
@@ -51,6 +52,7 @@ impl Direct {
     }
 
     /// Reads the first parameter of a function type, unless it is a lone void, which is none.
+    // <bare-function-type> ::= <return type> v
     fn first_parameter(&mut self, s: &[u8], is_pointer: bool) -> Option<Step>
         requires fits { FitsSymbol s.now }
         requires awaits { AwaitsSignature s.now self.old is_pointer true }
@@ -65,7 +67,7 @@ impl Direct {
     }
 
     /// Reads a parameter of a function type up to the first type in it, or the end of the function type.
-    // <bare-function-type> ::= <signature type>+
+    // <bare-function-type> ::= <return type> <parameter type>+
     pub(crate) fn parameter_at(
         &mut self,
         s: &[u8],
@@ -91,7 +93,7 @@ impl Direct {
     }
 
     /// Reads a parameter of a function type up to the first type in it.
-    // <function-type> ::= F <return type> <parameter type>* [<ref-qualifier>] E
+    // <type> ::= R <type> | O <type>
     fn parameter(&mut self, s: &[u8], _is_pointer: bool) -> Option<Step>
         requires { AwaitsParameter s.now self.old _is_pointer }
         ensures { IfSome result (IsWriting s.now self.new) }
@@ -111,6 +113,7 @@ impl Direct {
     }
 
     /// Writes the end of a function type, and hands it on.
+    // <function-type> ::= F <bare-function-type> E
     fn function_ended(&mut self, s: &[u8], is_pointer: bool) -> Option<Step>
         requires fits { FitsSymbol s.now }
         requires ended { IsFunctionRead s.now self.old is_pointer }

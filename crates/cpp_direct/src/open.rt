@@ -51,7 +51,7 @@ pub enum Open {
     Parameters { is_const: bool },
     /// the name of a special symbol
     Special,
-    /// the return type of a function type, which is an element or a parameter itself or by a pointer to it
+    /// the return type of a function type that is an element or a parameter, by itself or behind a pointer
     Returned { is_pointer: bool },
     /// its parameters
     Signature { is_pointer: bool },
