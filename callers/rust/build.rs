@@ -1,17 +1,22 @@
-// Links the archive that `rt lib` makes of crates/symdemangle, and the kit's allocator for it.
+// Links the installed archive, or that of `rt lib` with the kit's allocator beside it.
+//
+// SYMDEMANGLE_DIR names the folder of libsymdemangle.a: /usr/local/lib where it isn't set. RATTLE_KIT names the kit, for an archive as
+// `rt lib` makes it; an installed one has the allocator in it.
 use std::env;
-
-fn folder(variable: &str, what: &str) -> String {
-    println!("cargo:rerun-if-env-changed={variable}");
-    env::var(variable).unwrap_or_else(|_| panic!("{variable} has to name {what}"))
-}
+use std::path::Path;
 
 fn main() {
-    let library = folder("SYMDEMANGLE_DIR", "the folder of libsymdemangle.a");
-    let kit = folder("RATTLE_KIT", "the folder of the kit");
+    for variable in ["SYMDEMANGLE_DIR", "RATTLE_KIT"] {
+        println!("cargo:rerun-if-env-changed={variable}");
+    }
+    let library = env::var("SYMDEMANGLE_DIR").unwrap_or_else(|_| "/usr/local/lib".to_string());
+    let archive = Path::new(&library).join("libsymdemangle.a");
+    assert!(archive.is_file(), "no {}: SYMDEMANGLE_DIR has to name the folder of libsymdemangle.a", archive.display());
     println!("cargo:rustc-link-search=native={library}");
     println!("cargo:rustc-link-lib=static=symdemangle");
-    println!("cargo:rustc-link-search=native={kit}/c");
-    println!("cargo:rustc-link-lib=static=libc_c");
-    println!("cargo:rerun-if-changed={library}/libsymdemangle.a");
+    println!("cargo:rerun-if-changed={}", archive.display());
+    if let Ok(kit) = env::var("RATTLE_KIT") {
+        println!("cargo:rustc-link-search=native={kit}/c");
+        println!("cargo:rustc-link-lib=static=libc_c");
+    }
 }

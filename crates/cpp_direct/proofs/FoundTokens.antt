@@ -111,7 +111,7 @@ pub reads-written : (old middle new : Direct) (bytes text : List ℕ) → Writes
     → middle.candidates ≡ old.candidates
     → middle.waiting ≡ old.waiting → middle.nest ≡ old.nest → middle.most ≡ old.most → bytes ≡ text → Reads old new text
 reads-written old middle new bytes text w same_text same_candidates same_waiting same_nest same_most is = record {
-  text = w.text ∙ ap (λ v. v.items ++ bytes) same_text ∙ ap (λ l. old.text.items ++ l) is;
+  text = w.text ∙ ap (λ v. v.bytes.items ++ bytes) same_text ∙ ap (λ l. old.text.bytes.items ++ l) is;
   candidates = w.candidates ∙ same_candidates;
   waiting = w.waiting ∙ same_waiting;
   nest = w.nest ∙ same_nest;
@@ -144,7 +144,7 @@ there-at ks slice index counted k same number inside is =
 -- what was read in two steps
 pub reads-then : (a b c : Direct) (x y : List ℕ) → Reads a b x → Reads b c y → Reads a c (x ++ y)
 reads-then a b c x y first second = record {
-  text = second.text ∙ ap (λ l. l ++ y) first.text ∙ append_assoc a.text.items x y;
+  text = second.text ∙ ap (λ l. l ++ y) first.text ∙ append_assoc a.text.bytes.items x y;
   candidates = second.candidates ∙ first.candidates;
   waiting = second.waiting ∙ first.waiting;
   nest = second.nest ∙ first.nest;
@@ -171,7 +171,7 @@ digits-read s old new place is_negative written h le there reads is =
 pub reads-begun : (a b : Direct) → b.text ≡ a.text → b.candidates ≡ a.candidates → b.waiting ≡ a.waiting → b.nest ≡ a.nest → b.most ≡ a.most
     → Reads a b []
 reads-begun a b same_text same_candidates same_waiting same_nest same_most = record {
-  text = ap (λ v. v.items) same_text ∙ sym (append-nil a.text.items);
+  text = ap (λ v. v.bytes.items) same_text ∙ sym (append-nil a.text.bytes.items);
   candidates = same_candidates;
   waiting = same_waiting;
   nest = same_nest;

@@ -65,16 +65,16 @@ function-begins s old new is_pointer o p letters found takes waits at text candi
         let f = return-opens s is_pointer kind os around old.at p.state whole p.is_before.2 expects letters in
         record {
           state = p.state;
-          candidates = subst (λ v. AreCandidates new.text.items v.items p.state.candidates) (sym candidates)
-              (subst (λ v. AreCandidates v.items old.candidates.items p.state.candidates) (sym text) p.candidates);
+          candidates = subst (λ v. AreCandidates new.text.bytes.items v.items p.state.candidates) (sym candidates)
+              (subst (λ v. AreCandidates v.bytes.items old.candidates.items p.state.candidates) (sym text) p.candidates);
           is_before = (
             f.inner,
             around,
             p.is_before.2,
             inl (subst (λ k. Expects s Kind.Type around f.inner k p.state) (sym at) f.awaits),
-            subst (λ l. Stands s l f.inner new.text.items)
+            subst (λ l. Stands s l f.inner new.text.bytes.items)
                 (sym (ap reverse waits ∙ reverse-last old.waiting.items (opens.Returned is_pointer)))
-                (subst (λ v. Stands s (opens.Returned is_pointer ∷ reverse old.waiting.items) f.inner v.items) (sym text)
+                (subst (λ v. Stands s (opens.Returned is_pointer ∷ reverse old.waiting.items) f.inner v.bytes.items) (sym text)
                 (os, around.encoding, f.onward, subst (λ l. TakesFunction l) (sym last.1) (takes last.0), p.is_before.4)),
           );
         }

@@ -208,7 +208,7 @@ argument-read s w o p takes =
       state = p.state;
       candidates = p.candidates;
       is_before = (
-        listing-at (o ∷ p.rest) front (reverse w.waiting.items) w.text.items place
+        listing-at (o ∷ p.rest) front (reverse w.waiting.items) w.text.bytes.items place
             (subst (λ ws. Belongs place.listing ws place.owner place.rest) (sym p.open_is) place.belongs)
             (subst (λ l. IsTemplate place.owner place.front place.template place.name l) (sym p.written)
             (template-stays place.owner place.front place.template place.name front p.bytes place.is_template)),

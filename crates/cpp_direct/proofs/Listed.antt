@@ -119,7 +119,7 @@ in-front (t ∷ ts) l false none some = refl
 -- The arguments of what was opened last are read and written.
 pub record IsClosed (s : List ℕ) (w : Direct) (owner : Open) : Type 0 where
   pub state : State
-  pub candidates : AreCandidates w.text.items w.candidates.items state.candidates
+  pub candidates : AreCandidates w.text.bytes.items w.candidates.items state.candidates
   pub front : List ℕ
   pub template : Term
   pub name : List ℕ
@@ -127,9 +127,9 @@ pub record IsClosed (s : List ℕ) (w : Direct) (owner : Open) : Type 0 where
   pub tail : Term
   pub is_tail : IsTail tail
   pub arguments : List ℕ
-  pub is_template : IsTemplate owner front template name w.text.items
+  pub is_template : IsTemplate owner front template name w.text.bytes.items
   pub elements : PrintAll 3 ts arguments
-  pub written : w.text.items ≡ front ++ (name ++ codes "<" ++ arguments ++ codes ">")
+  pub written : w.text.bytes.items ≡ front ++ (name ++ codes "<" ++ arguments ++ codes ">")
   pub owns : Owns s owner (Stands s (reverse w.waiting.items)) front (instance template (list_with ts tail)) w.at state
 
 closing : (a b d : List ℕ) → (a ++ b ++ codes "<" ++ d) ++ codes ">" ≡ a ++ (b ++ codes "<" ++ d ++ codes ">")
@@ -138,7 +138,7 @@ closing a b d =
     ∙ append_assoc a (b ++ codes "<" ++ d) (codes ">")
 
 -- the last bracket is written, and what was opened last is taken away
-pub closes : (s : List ℕ) (old new : Direct) (owner : Open) → IsListEnded s old → new.text.items ≡ old.text.items ++ codes ">"
+pub closes : (s : List ℕ) (old new : Direct) (owner : Open) → IsListEnded s old → new.text.bytes.items ≡ old.text.bytes.items ++ codes ">"
     → new.candidates.items ≡ old.candidates.items → new.at ≡ old.at → old.waiting.items ≡ new.waiting.items ++ owner ∷ [] → IsClosed s new owner
 closes s old new owner p text candidates at opened =
     let last = opened-last old.waiting.items new.waiting.items owner p.owner p.rest p.open_is opened in
@@ -146,8 +146,8 @@ closes s old new owner p text candidates at opened =
     record {
       state = p.state;
       candidates = subst (λ l. AreCandidates l new.candidates.items p.state.candidates) (sym text)
-          (subst (λ ks. AreCandidates (old.text.items ++ codes ">") ks p.state.candidates) (sym candidates)
-          (candidates-stay old.text.items (codes ">") old.candidates.items p.state.candidates p.candidates));
+          (subst (λ ks. AreCandidates (old.text.bytes.items ++ codes ">") ks p.state.candidates) (sym candidates)
+          (candidates-stay old.text.bytes.items (codes ">") old.candidates.items p.state.candidates p.candidates));
       front = p.front;
       template = p.template;
       name = p.name;
@@ -156,8 +156,8 @@ closes s old new owner p text candidates at opened =
       is_tail = p.is_tail;
       arguments = p.arguments;
       is_template = subst (λ l. IsTemplate owner p.front p.template p.name l) (sym text)
-          (subst (λ o. IsTemplate o p.front p.template p.name (old.text.items ++ codes ">")) last.0
-          (template-stays p.owner p.front p.template p.name old.text.items (codes ">") p.is_template));
+          (subst (λ o. IsTemplate o p.front p.template p.name (old.text.bytes.items ++ codes ">")) last.0
+          (template-stays p.owner p.front p.template p.name old.text.bytes.items (codes ">") p.is_template));
       elements = p.elements;
       written = text ∙ ap (λ l. l ++ codes ">") p.written ∙ closing p.front p.name p.arguments;
       owns = subst (λ n. Owns s owner (Stands s (reverse new.waiting.items)) p.front made n p.state) (sym at)
@@ -170,7 +170,7 @@ pub closed-by : (s : List ℕ) (old mid new : Direct) (x owner : Open) → IsLis
     → new.text ≡ mid.text → new.candidates ≡ mid.candidates → new.at ≡ mid.at → mid.waiting.items ≡ new.waiting.items ++ x ∷ [] → x ≡ owner
     → IsClosed s new owner
 closed-by s old mid new x owner p writes text candidates at items is =
-    closes s old new owner p (subst (λ v. v.items ≡ old.text.items ++ codes ">") (sym text) writes.text)
+    closes s old new owner p (subst (λ v. v.bytes.items ≡ old.text.bytes.items ++ codes ">") (sym text) writes.text)
     (subst (λ v. v.items ≡ old.candidates.items) (sym (candidates ∙ writes.candidates)) refl) (at ∙ writes.at)
     (subst (λ v. v.items ≡ new.waiting.items ++ owner ∷ []) writes.waiting (items ∙ ap (λ o. new.waiting.items ++ o ∷ []) is))
 
@@ -185,15 +185,15 @@ type-closed s w new from p candidates text waiting at =
     let prints = instance-prints p.template p.name p.is_template.1 p.ts p.tail p.arguments p.is_tail p.elements in
     record {
       state = state;
-      candidates = subst (λ v. AreCandidates v.items new.candidates.items state.candidates) (sym text)
-          (subst (λ ks. AreCandidates w.text.items ks state.candidates) (sym candidates)
+      candidates = subst (λ v. AreCandidates v.bytes.items new.candidates.items state.candidates) (sym text)
+          (subst (λ ks. AreCandidates w.text.bytes.items ks state.candidates) (sym candidates)
           (candidates-with w p.state p.front bytes from t p.owns.1 false p.candidates p.written p.is_template.0 prints));
       is_before = (
         outer,
         t,
         p.front,
         bytes,
-        subst (λ v. v.items ≡ p.front ++ bytes) (sym text) p.written,
+        subst (λ v. v.bytes.items ≡ p.front ++ bytes) (sym text) p.written,
         prints,
         subst (λ n. Comes s outer (tree t true) n state) (sym at) p.owns.2,
         subst (λ v. Stands s (reverse v.items) outer p.front) (sym waiting) p.owns.3,
@@ -238,7 +238,7 @@ nest-closed s w nest p =
           outer = p.owns.1;
           bytes = p.name ++ codes "<" ++ p.arguments ++ codes ">";
           written = p.written;
-          is_nest = instance-nest p.front p.name w.text.items nest false nest.has_class p.template p.ts p.tail p.arguments p.is_tail p.is_template.0
+          is_nest = instance-nest p.front p.name w.text.bytes.items nest false nest.has_class p.template p.ts p.tail p.arguments p.is_tail p.is_template.0
               p.elements p.written;
           goes = p.owns.2;
           serves = p.owns.3;
@@ -257,13 +257,13 @@ first-closed s w new nest p candidates text waiting at =
     let around = p.owns.0 in
     let outer = p.owns.1 in
     let state = with_candidate around.encoding t p.state in
-    let is_nest : IsNest p.front bytes w.text.items nest t
-    = instance-nest p.front p.name w.text.items nest nest.is_listed nest.is_instance p.template p.ts p.tail p.arguments p.is_tail p.is_template
+    let is_nest : IsNest p.front bytes w.text.bytes.items nest t
+    = instance-nest p.front p.name w.text.bytes.items nest nest.is_listed nest.is_instance p.template p.ts p.tail p.arguments p.is_tail p.is_template
     p.elements p.written in
     record {
       state = state;
-      candidates = subst (λ v. AreCandidates v.items new.candidates.items state.candidates) (sym text)
-          (subst (λ ks. AreCandidates w.text.items ks state.candidates) (sym candidates)
+      candidates = subst (λ v. AreCandidates v.bytes.items new.candidates.items state.candidates) (sym text)
+          (subst (λ ks. AreCandidates w.text.bytes.items ks state.candidates) (sym candidates)
           (candidates-with w p.state p.front bytes nest.from t around.encoding false p.candidates p.written p.is_template.from_is is_nest.prints));
       is_before = (
         t,
@@ -271,8 +271,8 @@ first-closed s w new nest p candidates text waiting at =
         bytes,
         around,
         outer,
-        subst (λ v. v.items ≡ p.front ++ bytes) (sym text) p.written,
-        subst (λ v. IsNest p.front bytes v.items nest t) (sym text) is_nest,
+        subst (λ v. v.bytes.items ≡ p.front ++ bytes) (sym text) p.written,
+        subst (λ v. IsNest p.front bytes v.bytes.items nest t) (sym text) is_nest,
         subst (λ n. AwaitsComponent s outer around t n state) (sym at) p.owns.2,
         subst (λ v. Serves s nest.purpose (Stands s (reverse v.items)) outer p.front) (sym waiting) p.owns.3,
       );
@@ -309,7 +309,7 @@ pub list-ends : (s : List ℕ) (w : Direct) (first : Bool) (owner : Open) → Is
 unfolding no_items may_be_empty
 list-ends s w first owner p stands found other = go p.is_before.0.listing refl
   where
-    place : IsListing (reverse w.waiting.items) w.text.items
+    place : IsListing (reverse w.waiting.items) w.text.bytes.items
     place = p.is_before.0
 
     last : (rest : List Open) × (reverse w.waiting.items ≡ owner ∷ rest)
@@ -340,7 +340,7 @@ list-ends s w first owner p stands found other = go p.is_before.0.listing refl
           arguments = texts;
           is_template = place.is_template;
           elements = subst (λ l. PrintAll (extra_of l) ts texts) is p.is_before.3;
-          written = subst (λ l. w.text.items ≡ led_by l place.front place.name ++ texts) is p.is_before.4;
+          written = subst (λ l. w.text.bytes.items ≡ led_by l place.front place.name ++ texts) is p.is_before.4;
           owns = goes.4 nothing_there w.at p.state (expects-empty s Kind.ArgumentList goes.0 goes.1 w.at p.state goes.3 refl) stands;
         }
 
@@ -386,7 +386,7 @@ empty-pack-ends s w first owner p stands found other = go p.is_before.0.listing 
           arguments = texts;
           is_template = place.is_template;
           elements = subst (λ l. PrintAll (extra_of l) ts texts) is p.is_before.3;
-          written = subst (λ l. w.text.items ≡ led_by l place.front place.name ++ texts) is p.is_before.4;
+          written = subst (λ l. w.text.bytes.items ≡ led_by l place.front place.name ++ texts) is p.is_before.4;
           owns = subst (λ k. Owns s place.owner (Stands s place.rest) place.front (instance place.template (list_with ts (list (pack nil) nil))) k p.state)
               (omega arith)
               (subst (λ l. Owns s place.owner (Stands s place.rest) place.front (instance place.template l) (w.at + 1 + 1 + 1) p.state)
@@ -411,8 +411,8 @@ pack-ends s w new p stands found text candidates at popped = go p.is_before.0.li
     go of_template is = absurd (no-template p.is_before.0.owner p.is_before.0.is_template
         (cc (sym last.1 ∙ subst (λ l. Belongs l (reverse w.waiting.items) p.is_before.0.owner p.is_before.0.rest) is p.is_before.0.belongs)))
       where
-        no-template : (o : Open) → IsTemplate o p.is_before.0.front p.is_before.0.template p.is_before.0.name w.text.items → opens.Pack ≡ o → ⊥
-        no-template o t e = subst (λ x. IsTemplate x p.is_before.0.front p.is_before.0.template p.is_before.0.name w.text.items) (sym e) t
+        no-template : (o : Open) → IsTemplate o p.is_before.0.front p.is_before.0.template p.is_before.0.name w.text.bytes.items → opens.Pack ≡ o → ⊥
+        no-template o t e = subst (λ x. IsTemplate x p.is_before.0.front p.is_before.0.template p.is_before.0.name w.text.bytes.items) (sym e) t
     go (of_pack before written) is =
         let place = p.is_before.0 in
         let us = p.is_before.1 in
@@ -420,13 +420,13 @@ pack-ends s w new p stands found text candidates at popped = go p.is_before.0.li
         let belongs = subst (λ l. Belongs l (reverse w.waiting.items) place.owner place.rest) is place.belongs in
         let goes = subst (λ l. GoesOn s l place.owner (Stands s place.rest) place.front place.template us w.at p.state) is p.is_before.7 in
         let us_print = subst (λ l. PrintAll (extra_of l) us texts) is p.is_before.3 in
-        let us_written = subst (λ l. w.text.items ≡ led_by l place.front place.name ++ texts) is p.is_before.4 in
+        let us_written = subst (λ l. w.text.bytes.items ≡ led_by l place.front place.name ++ texts) is p.is_before.4 in
         let made = pack (list_of us) in
-        let same : new.text.items ≡ w.text.items = ap (λ v. v.items) text in
+        let same : new.text.bytes.items ≡ w.text.bytes.items = ap (λ v. v.bytes.items) text in
         record {
           state = p.state;
-          candidates = subst (λ v. AreCandidates new.text.items v.items p.state.candidates) (sym candidates)
-              (subst (λ v. AreCandidates v.items w.candidates.items p.state.candidates) (sym text) p.candidates);
+          candidates = subst (λ v. AreCandidates new.text.bytes.items v.items p.state.candidates) (sym candidates)
+              (subst (λ v. AreCandidates v.bytes.items w.candidates.items p.state.candidates) (sym text) p.candidates);
           is_before = (
             record {
               listing = of_template;
@@ -436,7 +436,7 @@ pack-ends s w new p stands found text candidates at popped = go p.is_before.0.li
               front = place.front;
               template = place.template;
               name = place.name;
-              is_template = subst (λ v. IsTemplate place.owner place.front place.template place.name v.items) (sym text) place.is_template;
+              is_template = subst (λ v. IsTemplate place.owner place.front place.template place.name v.bytes.items) (sym text) place.is_template;
             },
             before ++ made ∷ [],
             in_front_of_next before written ++ texts,
@@ -453,7 +453,7 @@ pack-ends s w new p stands found text candidates at popped = go p.is_before.0.li
 
 -- one more element is expected, and a comma stands before it but at the first
 pub argument-expected : (s : List ℕ) (w new : Direct) (first : Bool) → IsWriting s w (steps.List first)
-    → new.text.items ≡ w.text.items ++ comma first → new.candidates.items ≡ w.candidates.items → new.waiting ≡ w.waiting → new.at ≡ w.at
+    → new.text.bytes.items ≡ w.text.bytes.items ++ comma first → new.candidates.items ≡ w.candidates.items → new.waiting ≡ w.waiting → new.at ≡ w.at
     → AwaitsNextArgument s new
 argument-expected s w new first p text candidates waiting at =
     let place = p.is_before.0 in
@@ -463,12 +463,12 @@ argument-expected s w new first p text candidates waiting at =
     record {
       state = p.state;
       candidates = subst (λ l. AreCandidates l new.candidates.items p.state.candidates) (sym text)
-          (subst (λ ks. AreCandidates (w.text.items ++ comma first) ks p.state.candidates) (sym candidates)
-          (candidates-stay w.text.items (comma first) w.candidates.items p.state.candidates p.candidates));
-      place = listing-at (reverse w.waiting.items) w.text.items (reverse new.waiting.items) new.text.items place
+          (subst (λ ks. AreCandidates (w.text.bytes.items ++ comma first) ks p.state.candidates) (sym candidates)
+          (candidates-stay w.text.bytes.items (comma first) w.candidates.items p.state.candidates p.candidates));
+      place = listing-at (reverse w.waiting.items) w.text.bytes.items (reverse new.waiting.items) new.text.bytes.items place
           (subst (λ v. Belongs place.listing (reverse v.items) place.owner place.rest) (sym waiting) place.belongs)
           (subst (λ l. IsTemplate place.owner place.front place.template place.name l) (sym text)
-          (template-stays place.owner place.front place.template place.name w.text.items (comma first) place.is_template));
+          (template-stays place.owner place.front place.template place.name w.text.bytes.items (comma first) place.is_template));
       ts = ts;
       texts = texts;
       elements = p.is_before.3;
@@ -490,7 +490,7 @@ pub first-expected : (s : List ℕ) (w self : Direct) (first : Bool) → IsWriti
     → self ≡ w → AwaitsNextArgument s self
 first-expected s w self first p is same =
     subst (λ d. AwaitsNextArgument s d) (sym same)
-    (argument-expected s w w true (subst (λ f. IsWriting s w (steps.List f)) is p) (sym (append-nil w.text.items)) refl refl refl)
+    (argument-expected s w w true (subst (λ f. IsWriting s w (steps.List f)) is p) (sym (append-nil w.text.bytes.items)) refl refl refl)
 
 -- a pack begins
 pub pack-begins : (s : List ℕ) (old new : Direct) (owner : Open) → AwaitsNextArgument s old → StandsAt s old.at (74 ∷ [])
@@ -511,11 +511,11 @@ pack-begins s old new owner a stands found other waits at text candidates = go a
         let opened = pack-opens s goes.1 goes.0 old.at a.state goes.3 stands in
         let belongs = subst (λ l. Belongs l (reverse old.waiting.items) p.owner p.rest) is p.belongs in
         let elements = subst (λ l. PrintAll (extra_of l) a.ts a.texts) is a.elements in
-        let written = subst (λ l. old.text.items ≡ led_by l p.front p.name ++ in_front_of_next a.ts a.texts) is a.written in
+        let written = subst (λ l. old.text.bytes.items ≡ led_by l p.front p.name ++ in_front_of_next a.ts a.texts) is a.written in
         record {
           state = a.state;
-          candidates = subst (λ v. AreCandidates new.text.items v.items a.state.candidates) (sym candidates)
-              (subst (λ v. AreCandidates v.items old.candidates.items a.state.candidates) (sym text) a.candidates);
+          candidates = subst (λ v. AreCandidates new.text.bytes.items v.items a.state.candidates) (sym candidates)
+              (subst (λ v. AreCandidates v.bytes.items old.candidates.items a.state.candidates) (sym text) a.candidates);
           is_before = (
             record {
               listing = of_pack a.ts a.texts;
@@ -528,12 +528,12 @@ pack-begins s old new owner a stands found other waits at text candidates = go a
               front = p.front;
               template = p.template;
               name = p.name;
-              is_template = subst (λ v. IsTemplate p.owner p.front p.template p.name v.items) (sym text) p.is_template;
+              is_template = subst (λ v. IsTemplate p.owner p.front p.template p.name v.bytes.items) (sym text) p.is_template;
             },
             [],
             [],
             none-print 0,
-            ap (λ v. v.items) text ∙ written ∙ sym (append-nil (p.front ++ p.name ++ codes "<" ++ in_front_of_next a.ts a.texts)),
+            ap (λ v. v.bytes.items) text ∙ written ∙ sym (append-nil (p.front ++ p.name ++ codes "<" ++ in_front_of_next a.ts a.texts)),
             (λ e. refl),
             (λ e. absurd (false≢true (sym e))),
             (
@@ -686,7 +686,7 @@ type-expected s w a =
         a.goes.0,
         a.goes.2,
         inr (inl element.awaits),
-        list-stands s (reverse w.waiting.items) element.inner w.text.items (record {
+        list-stands s (reverse w.waiting.items) element.inner w.text.bytes.items (record {
           place = p;
           ts = a.ts;
           texts = a.texts;

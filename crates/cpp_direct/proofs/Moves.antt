@@ -10,7 +10,7 @@ use Rattle.sym_core.specs.Token.{Token, bytes_of, IsName, IsNumberToken}
 use Rattle.sym_shape.specs.declared.rule.Sym.{Sym}
 use Rattle.sym_shape.specs.declared.rule.Sym.TheVariants.{Kind as OfKind, Name, Number, Byte}
 use Rattle.sym_shape.specs.Tree.{Forest, branch, empty, token, fixed, nothing, grown, AreTrees, TakesRule}
-use Rattle.sym_link.specs.Reading.{Open}
+use Rattle.sym_link.specs.Reading.{Open, Next}
 use Rattle.sym_link.specs.Unfold.{found, standing}
 use Rattle.cpp_grammar.specs.declared.kind.Kind.{Kind}
 use Rattle.cpp_grammar.specs.declared.production.Production.{Production}
@@ -21,7 +21,8 @@ use Rattle.cpp_grammar.specs.Between.{Going, between}
 use Rattle.cpp_grammar.specs.Unfolding.{cpp, opening, close, byte_of}
 use Rattle.cpp_grammar.proofs.Choosing.{rule_at_kind, empty_at_kind}
 use Rattle.cpp_grammar.proofs.ClosedTrees.{at_number, its_symbols}
-use Rattle.cpp_direct.specs.Holes.{Opened, opened, Reads, ReadsRest, StandsAt, Comes, Needs, ExpectsSym, Expects, IsNameAt, IsSeqAt}
+use Rattle.sym_direct.proofs.Moves as moves
+use Rattle.cpp_direct.specs.Holes.{cpp_language, Opened, opened, ReadsRest, StandsAt, Comes, Needs, ExpectsSym, Expects, IsNameAt, IsSeqAt}
 
 -- ## Kinds
 
@@ -44,23 +45,17 @@ takes-it kind p byte taken chosen small takes = record {
 
 -- ## Bytes at a place
 
-drop-more : (at : ℕ) (s a rest : List ℕ) → drop at s ≡ a ++ rest → drop (at + length a) s ≡ rest
-drop-more at s a rest e = sym (drop-drop (length a) at s) ∙ ap (λ l. drop (length a) l) e ∙ drop-append_seam a rest
-
 -- what stands in two pieces stands as one
 pub stands-join : (s : List ℕ) (at : ℕ) (a b : List ℕ) → StandsAt s at a → StandsAt s (at + length a) b → StandsAt s at (a ++ b)
-stands-join s at a b first second =
-    (second.0, first.1 ∙ ap (λ l. a ++ l) (sym (drop-more at s a first.0 first.1) ∙ second.1) ∙ sym (append_assoc a b second.0))
+stands-join s at a b first second = moves.stands-join s at a b first second
 
 -- what stands as one stands in two pieces
 pub stands-split : (s : List ℕ) (at : ℕ) (a b : List ℕ) → StandsAt s at (a ++ b) → StandsAt s at a × StandsAt s (at + length a) b
-stands-split s at a b whole =
-    let e = whole.1 ∙ append_assoc a b whole.0 in
-    ((b ++ whole.0, e), (whole.0, drop-more at s a (b ++ whole.0) e))
+stands-split s at a b whole = moves.stands-split s at a b whole
 
 -- nothing stands anywhere
 pub stands-none : (s : List ℕ) (at : ℕ) → StandsAt s at []
-stands-none s at = (drop at s, refl)
+stands-none s at = moves.stands-none s at
 
 -- places are compared
 pub stands-moved : (s : List ℕ) (at to : ℕ) (bytes : List ℕ) → at ≡ to → StandsAt s at bytes → StandsAt s to bytes
@@ -71,20 +66,10 @@ comes-moved s os v at to st same = subst (λ k. Comes s os v k st) same
 
 -- ## Rules
 
-reads-rule : (kind : Kind) (p : Production) (taken : List ℕ) (around : Around) (at : ℕ) (st inner after : State) (bytes : List ℕ) (vs : List Value)
-    (w : Value) → TakesRule abi (number_of_kind kind) (rule_of p) taken → ((f : Forest) → opening p f at st ≡ Ok st)
-    → ReadsRest (standing (rule_of p) taken at around st) [] (parts_of p) (at + length taken) bytes st vs inner
-    → cpp.close (standing (rule_of p) taken at around st) vs inner ≡ Ok (found w after)
-    → Reads (OfKind (number_of_kind kind)) around at (taken ++ bytes) st w after
+begins-so : (p : Production) (taken : List ℕ) (around : Around) (at : ℕ) (st : State) → ((f : Forest) → opening p f at st ≡ Ok st) → (f : Forest)
+    → cpp.begin (standing (rule_of p) taken at around st) f ≡ Ok st
 unfolding cpp
-reads-rule kind p taken around at st inner after bytes vs w takes opens rest closes =
-    let closes_it = sym (ap (λ q. close q (byte_of taken) around at st vs inner) (at_number p)) ∙ closes in
-    record {
-      shape = branch (rule_of p) taken rest.forest;
-      shaped = (takes, subst (λ l. AreTrees abi l rest.forest) (sym (its_symbols p)) rest.shaped);
-      spelled = ap (λ l. taken ++ l) rest.spelled;
-      unfolds = rw (at_number p, opens rest.forest, rest.unfolds, closes_it) refl;
-    }
+begins-so p taken around at st begins f = ap (λ q. opening q f at st) (at_number p) ∙ begins f
 
 -- a kind takes a production at its byte: the production's rule stands open
 pub opens : (s : List ℕ) (kind : Kind) (p : Production) (byte : ℕ) (taken : List ℕ) (around : Around) (os : List Opened) (at : ℕ) (st : State)
@@ -92,26 +77,16 @@ pub opens : (s : List ℕ) (kind : Kind) (p : Production) (byte : ℕ) (taken : 
     → ((f : Forest) → opening p f at st ≡ Ok st)
     → Expects s kind around os at st → StandsAt s at taken
     → Needs s os (standing (rule_of p) taken at around st) [] (parts_of p) (at + length taken) st
-opens s kind p byte taken around os at st chosen small takes begins expects stands bytes vs inner w after rest there closes =
-    comes-moved s os w (at + length (taken ++ bytes)) (at + length taken + length bytes) after
-    (omega (arith, length-append taken bytes))
-    (expects (taken ++ bytes) w after
-    (reads-rule kind p taken around at st inner after bytes vs w (takes-it kind p byte taken chosen small takes) begins rest closes)
-    (stands-join s at taken bytes stands there))
+opens s kind p byte taken around os at st chosen small takes begins expects stands =
+    subst (λ l. Needs s os (standing (rule_of p) taken at around st) [] l (at + length taken) st) (its_symbols p)
+    (moves.opens cpp_language s (number_of_kind kind) (rule_of p) taken around os at st st (takes-it kind p byte taken chosen small takes)
+    (begins-so p taken around at st begins) expects stands)
 
-joins : (p : Production) (taken : List ℕ) (at0 : ℕ) (around : Around) (before : State) (known : List Value) (x : Sym) (todo : List Sym) (at : ℕ)
-    (st : State) (context : Around) (values : List Value) (state after inner : State) (v : Value) (first more : List ℕ) (vs : List Value)
-    → ◌≡◌ {A = Going} (between p around at0 known st) (Ok (record { context = context; values = values; state = state }))
-    → Reads x context at first state v after
-    → ReadsRest (standing (rule_of p) taken at0 around before) (values ++ v ∷ []) todo (at + length first) more after vs inner
-    → ReadsRest (standing (rule_of p) taken at0 around before) known (x ∷ todo) at (first ++ more) st vs inner
+goes-so : (p : Production) (taken : List ℕ) (at0 : ℕ) (around : Around) (before : State) (known : List Value) (st : State) (next : Next Value State Around)
+    → ◌≡◌ {A = Going} (between p around at0 known st) (Ok next)
+    → cpp.between (standing (rule_of p) taken at0 around before) known st ≡ Ok next
 unfolding cpp
-joins p taken at0 around before known x todo at st context values state after inner v first more vs goes one rest = record {
-  forest = grown one.shape rest.forest;
-  shaped = (one.shaped, rest.shaped);
-  spelled = rw (one.spelled, rest.spelled) refl;
-  unfolds = rw (at_number p, goes, one.unfolds, one.spelled) rest.unfolds;
-}
+goes-so p taken at0 around before known st next goes = ap (λ q. between q around at0 known st) (at_number p) ∙ goes
 
 -- the next part of a rule is expected
 pub needs-next : (s : List ℕ) (p : Production) (taken : List ℕ) (at0 : ℕ) (around : Around) (before : State) (known : List Value) (x : Sym)
@@ -119,16 +94,10 @@ pub needs-next : (s : List ℕ) (p : Production) (taken : List ℕ) (at0 : ℕ) 
     → ◌≡◌ {A = Going} (between p around at0 known st) (Ok (record { context = context; values = values; state = state }))
     → Needs s os (standing (rule_of p) taken at0 around before) known (x ∷ todo) at st
     → ExpectsSym s x context (opened (standing (rule_of p) taken at0 around before) values todo ∷ os) at state
-needs-next s p taken at0 around before known x todo os at st context values state goes needs first v middle one here more vs inner w after rest
-    there closes =
-    comes-moved s os w (at + length (first ++ more)) (at + length first + length more) after
-    (omega (arith, length-append first more))
-    (needs (first ++ more) vs inner w after
-    (joins p taken at0 around before known x todo at st context values state middle inner v first more vs goes one rest)
-    (stands-join s at first more here there) closes)
-
-none-left : (rule : Open State Around) (known : List Value) (at : ℕ) (st : State) → ReadsRest rule known [] at [] st known st
-none-left rule known at st = record { forest = nothing; shaped = tt; spelled = refl; unfolds = refl }
+needs-next s p taken at0 around before known x todo os at st context values state goes needs =
+    moves.needs-next cpp_language s (standing (rule_of p) taken at0 around before) known x todo os at st
+    (record { context = context; values = values; state = state })
+    (goes-so p taken at0 around before known st (record { context = context; values = values; state = state }) goes) needs
 
 closed-so : (p : Production) (taken : List ℕ) (at0 : ℕ) (around : Around) (before : State) (known : List Value) (st : State) (w : Value)
     (after : State)
@@ -143,60 +112,41 @@ pub ends : (s : List ℕ) (p : Production) (taken : List ℕ) (at0 : ℕ) (aroun
     → Needs s os (standing (rule_of p) taken at0 around before) known [] at st
     → close p (byte_of taken) around at0 before known st ≡ Ok (found w after) → Comes s os w at after
 ends s p taken at0 around before known os at st w after needs closes =
-    comes-moved s os w (at + 0) at after (omega arith)
-    (needs [] known st w after (none-left (standing (rule_of p) taken at0 around before) known at st) (stands-none s at)
-    (closed-so p taken at0 around before known st w after closes))
+    moves.ends cpp_language s (standing (rule_of p) taken at0 around before) known os at st w after needs
+    (closed-so p taken at0 around before known st w after closes)
 
 -- ## Parts without a row, and tokens
-
-reads-empty : (kind : Kind) (around : Around) (at : ℕ) (st : State) → may_be_empty kind ≡ true
-    → Reads (OfKind (number_of_kind kind)) around at [] st nothing_there st
-unfolding cpp
-reads-empty kind around at st may = record {
-  shape = empty;
-  shaped = empty_at_kind (number_of_kind kind) kind (kind-at kind) ∙ may;
-  spelled = refl;
-  unfolds = refl;
-}
 
 -- nothing stands for a kind that may be empty
 pub expects-empty : (s : List ℕ) (kind : Kind) (around : Around) (os : List Opened) (at : ℕ) (st : State)
     → Expects s kind around os at st → may_be_empty kind ≡ true → Comes s os nothing_there at st
-expects-empty s kind around os at st expects may =
-    comes-moved s os nothing_there (at + 0) at st (omega arith)
-    (expects [] nothing_there st (reads-empty kind around at st may) (stands-none s at))
-
-reads-byte : (b : ℕ) (around : Around) (at : ℕ) (st : State) → Reads (Byte b) around at (b ∷ []) st nothing_there st
 unfolding cpp
-reads-byte b around at st = record { shape = fixed b; shaped = refl; spelled = refl; unfolds = refl }
+expects-empty s kind around os at st expects may =
+    moves.expects-empty cpp_language s (number_of_kind kind) around os at st expects
+    (empty_at_kind (number_of_kind kind) kind (kind-at kind) ∙ may)
 
 -- a byte that the rule has
 pub expects-byte : (s : List ℕ) (b : ℕ) (around : Around) (os : List Opened) (at : ℕ) (st : State)
     → ExpectsSym s (Byte b) around os at st → StandsAt s at (b ∷ []) → Comes s os nothing_there (at + 1) st
-expects-byte s b around os at st expects stands = expects (b ∷ []) nothing_there st (reads-byte b around at st) stands
-
-reads-name : (t : Token) (around : Around) (at : ℕ) (st : State) → IsName Cpp t → Reads Name around at (bytes_of t) st (text t.own) st
-unfolding cpp abi
-reads-name t around at st is = record { shape = token t; shaped = is; spelled = refl; unfolds = refl }
+unfolding cpp
+expects-byte s b around os at st expects stands = moves.expects-byte cpp_language s b around os at st expects stands
 
 -- a name
 pub expects-name : (s : List ℕ) (around : Around) (os : List Opened) (at : ℕ) (st : State) (name : List ℕ) (end : ℕ)
     → ExpectsSym s Name around os at st → IsNameAt s at name end → Comes s os (text name) end st
+unfolding cpp abi
 expects-name s around os at st name end expects is =
     subst (λ l. Comes s os (text l) end st) is.own
     (comes-moved s os (text is.token.own) (at + length (bytes_of is.token)) end st (sym is.ends)
-    (expects (bytes_of is.token) (text is.token.own) st (reads-name is.token around at st is.is_name) is.stands))
-
-reads-number : (kind : NumberKind) (t : Token) (around : Around) (at : ℕ) (st : State) → IsNumberToken kind t
-    → Reads (Number kind) around at (bytes_of t) st (text t.own) st
-unfolding cpp
-reads-number kind t around at st is = record { shape = token t; shaped = is; spelled = refl; unfolds = refl }
+    (moves.expects-token cpp_language s Name around os at st is.token (text is.token.own) st expects is.is_name refl is.stands))
 
 -- a number of a kind
 pub expects-number : (s : List ℕ) (kind : NumberKind) (around : Around) (os : List Opened) (at : ℕ) (st : State) (t : Token)
     → ExpectsSym s (Number kind) around os at st → IsNumberToken kind t → StandsAt s at (bytes_of t)
     → Comes s os (text t.own) (at + length (bytes_of t)) st
-expects-number s kind around os at st t expects is stands = expects (bytes_of t) (text t.own) st (reads-number kind t around at st is) stands
+unfolding cpp
+expects-number s kind around os at st t expects is stands =
+    moves.expects-token cpp_language s (Number kind) around os at st t (text t.own) st expects is refl stands
 
 -- the number of a substitution
 pub expects-seq : (s : List ℕ) (around : Around) (os : List Opened) (at : ℕ) (st : State) (digits : List ℕ) (end : ℕ)

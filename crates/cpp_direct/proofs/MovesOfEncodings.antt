@@ -23,7 +23,8 @@ use Rattle.cpp_grammar.specs.Between.{Going, between, after, in_name, in_types, 
 use Rattle.cpp_grammar.specs.Meaning.{meaning}
 use Rattle.cpp_grammar.specs.Unfolding as unfolding_
 use Rattle.cpp_grammar.specs.Unfolding.{opening, close, byte_of, first_around, first_state, first_tree, unfold_cpp}
-use Rattle.cpp_direct.specs.Holes.{Opened, opened, Reads, StandsAt, Comes, Needs, Expects, IsNameAt, Named}
+use Rattle.cpp_direct.specs.Holes.{cpp_language, Opened, opened, StandsAt, Comes, Needs, Expects, IsNameAt, Named}
+use Rattle.sym_direct.specs.Holes as direct
 use Rattle.cpp_direct.specs.ItemBytes.{one_of, is_special_letter, is_suffix_byte}
 use Rattle.cpp_direct.specs.HolesOfLists.{EncodingOpened, SpecialOpened, IsOffsetAt, ThunkOpened, nest_marks, NestOpened, IsSuffix, SymbolOpened}
 use Rattle.cpp_direct.proofs.Moves.{stands-split, comes-moved, opens, opens-chain, needs-next, ends, expects-empty, expects-byte, expects-name}
@@ -342,10 +343,11 @@ suffix-comes s (d ∷ b ∷ bs) os around at st is expects stands =
 
 -- a symbol is expected at the front
 symbol-expected : (s : List ℕ) → Expects s Kind.Symbol first_around [] 0 first_state
-symbol-expected s bytes v end reads stands =
+unfolding number_of_kind
+symbol-expected s bytes vs end reads stands =
     let front : take (0 + length bytes) s ≡ bytes =
     ap (λ n. take n s) (zero-add (length bytes)) ∙ ap (take (length bytes)) stands.1 ∙ take-append_seam bytes stands.0 in
-    subst (λ l. Reads (OfKind (number_of_kind Kind.Symbol)) first_around 0 l first_state v end) (sym front) reads
+    subst (λ l. direct.Reads cpp_language s (OfKind 0) first_around 0 l first_state vs end) (sym front) reads
 
 -- what was read is the symbol
 symbol-read : (s : List ℕ) (t : Term) (end : State) → Comes s [] (tree t true) (length s) end → StandsFor cpp_mangled s (Ok t)

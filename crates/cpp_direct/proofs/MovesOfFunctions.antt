@@ -112,16 +112,16 @@ signature-ends s outer encoding is_pointer made at st g stands =
 -- ## References as parameters
 
 -- Behind what a reference is to, the reader makes the reference, and goes on as behind another parameter.
-rests-alike : (item : Production) (made : Term → Term) (around : Around) (at0 : ℕ) (before : State) (t : Term) (at : ℕ) (st then_ : State)
+rests-alike : (s : List ℕ) (item : Production) (made : Term → Term) (around : Around) (at0 : ℕ) (before : State) (t : Term) (at : ℕ) (st then_ : State)
     (bytes : List ℕ) (vs : List Value) (inner : State) (x : Sym)
     → ◌≡◌ {A = Going} (between item around at0 (tree t true ∷ []) st)
     (Ok (record { values = tree (made t) true ∷ []; context = around; state = then_ }))
     → ◌≡◌ {A = Going} (between Production.RestItem around at0 (tree (made t) true ∷ []) then_)
     (Ok (record { values = tree (made t) true ∷ []; context = around; state = then_ }))
-    → ReadsRest (standing (rule_of Production.RestItem) [] at0 around before) (tree (made t) true ∷ []) (x ∷ []) at bytes then_ vs inner
-    → ReadsRest (standing (rule_of item) [] at0 around before) (tree t true ∷ []) (x ∷ []) at bytes st vs inner
+    → ReadsRest s (standing (rule_of Production.RestItem) [] at0 around before) (tree (made t) true ∷ []) (x ∷ []) at bytes then_ vs inner
+    → ReadsRest s (standing (rule_of item) [] at0 around before) (tree t true ∷ []) (x ∷ []) at bytes st vs inner
 unfolding unfolding_.cpp
-rests-alike item made around at0 before t at st then_ bytes vs inner x goes same rest = record {
+rests-alike s item made around at0 before t at st then_ bytes vs inner x goes same rest = record {
   forest = rest.forest;
   shaped = rest.shaped;
   spelled = rest.spelled;
@@ -147,7 +147,7 @@ alike : (s : List ℕ) (item : Production) (made : Term → Term) (around : Arou
     → Comes s (opened (standing (rule_of Production.RestItem) [] at0 around before) [] (x ∷ []) ∷ os) (tree (made t) true) at then_
 unfolding unfolding_.cpp byte_of
 alike s item made around at0 before os x t at st then_ goes same closes comes bytes vs inner w after rest there closed =
-    comes bytes vs inner w after (rests-alike item made around at0 before t at st then_ bytes vs inner x goes same rest) there
+    comes bytes vs inner w after (rests-alike s item made around at0 before t at st then_ bytes vs inner x goes same rest) there
     (ap (λ q. close q 0 around at0 before vs inner) (at_number item) ∙ closes vs inner
     ∙ sym (ap (λ q. close q 0 around at0 before vs inner) (at_number Production.RestItem)) ∙ closed)
 

@@ -35,15 +35,15 @@ use Rattle.cpp_direct.proofs.TypesRead.{by-step, given, popped}
 -- ## Behind the return type
 
 -- what is kept where a text is written
-kept : (old new : Direct) (more : List ℕ) (cs : List values.Candidate) → new.text.items ≡ old.text.items ++ more → new.candidates ≡ old.candidates
-    → AreCandidates old.text.items old.candidates.items cs → AreCandidates new.text.items new.candidates.items cs
+kept : (old new : Direct) (more : List ℕ) (cs : List values.Candidate) → new.text.bytes.items ≡ old.text.bytes.items ++ more → new.candidates ≡ old.candidates
+    → AreCandidates old.text.bytes.items old.candidates.items cs → AreCandidates new.text.bytes.items new.candidates.items cs
 kept old new more cs text same p =
     subst (λ l. AreCandidates l new.candidates.items cs) (sym text)
-    (subst (λ v. AreCandidates (old.text.items ++ more) v.items cs) (sym same) (candidates-stay old.text.items more old.candidates.items cs p))
+    (subst (λ v. AreCandidates (old.text.bytes.items ++ more) v.items cs) (sym same) (candidates-stay old.text.bytes.items more old.candidates.items cs p))
 
 -- the parameters come
 pub signature-begins : (s : List ℕ) (old new : Direct) (is_pointer : Bool) (p : IsReturned s old is_pointer)
-    → new.text.items ≡ old.text.items ++ opening_text is_pointer → new.candidates ≡ old.candidates
+    → new.text.bytes.items ≡ old.text.bytes.items ++ opening_text is_pointer → new.candidates ≡ old.candidates
     → reverse new.waiting.items ≡ opens.Signature is_pointer ∷ p.rest → new.at ≡ old.at → AwaitsSignature s new is_pointer true
 signature-begins s old new is_pointer p text candidates waits at =
     let opening = opening_text is_pointer in
@@ -146,7 +146,7 @@ one-more s outer encoding is_pointer returned ts t at st g = record {
 signature-stands : (s : List ℕ) (w : Direct) (is_pointer : Bool) (a : AwaitsParameter s w is_pointer) (os : List Opened)
     → ((t : Term) (at : ℕ) (st : State) → Comes s os (tree t true) at st
     → SignatureGoesOn s a.outer a.encoding is_pointer (λ l. plain_function a.returned (list_with a.ts (list t l))) at st)
-    → Stands s (opens.Signature is_pointer ∷ a.rest) os w.text.items
+    → Stands s (opens.Signature is_pointer ∷ a.rest) os w.text.bytes.items
 signature-stands s w is_pointer a os onward = (
   a.outer,
   a.encoding,
@@ -176,7 +176,7 @@ parameter-comes s w is_pointer a none =
         p.around,
         p.outside,
         inr (inr (p.awaits, none)),
-        subst (λ ws. Stands s ws p.inner w.text.items) (sym a.open_is) (signature-stands s w is_pointer a p.inner p.onward),
+        subst (λ ws. Stands s ws p.inner w.text.bytes.items) (sym a.open_is) (signature-stands s w is_pointer a p.inner p.onward),
       );
     }
 
@@ -200,7 +200,7 @@ reference-stands s false rest os text from marks = marks
 
 -- a parameter comes that is a reference
 pub reference-comes : (s : List ℕ) (old new : Direct) (o : Option Step) (is_pointer is_lvalue : Bool) (from : ℕ) → AwaitsParameter s old is_pointer
-    → from ≡ length old.text.items → StandsAt s old.at (reference_letter is_lvalue ∷ []) → IfSome o (λ next. next ≡ steps.Type)
+    → from ≡ length old.text.bytes.items → StandsAt s old.at (reference_letter is_lvalue ∷ []) → IfSome o (λ next. next ≡ steps.Type)
     → OnSome o (new.waiting.items ≡ old.waiting.items ++ reference_entry is_lvalue from ∷ []) → OnSome o (new.at ≡ old.at + 1)
     → new.text ≡ old.text → new.candidates ≡ old.candidates → IfSome o (IsWriting s new)
 reference-comes s old new o is_pointer is_lvalue from a begins stands is waits at text candidates =
@@ -216,16 +216,16 @@ reference-comes s old new o is_pointer is_lvalue from a begins stands is waits a
         let whole = signature-stands s old is_pointer a p.whole p.onward in
         record {
           state = a.state;
-          candidates = subst (λ v. AreCandidates v.items new.candidates.items a.state.candidates) (sym text)
-              (subst (λ v. AreCandidates old.text.items v.items a.state.candidates) (sym candidates) a.candidates);
+          candidates = subst (λ v. AreCandidates v.bytes.items new.candidates.items a.state.candidates) (sym text)
+              (subst (λ v. AreCandidates old.text.bytes.items v.items a.state.candidates) (sym candidates) a.candidates);
           is_before = (
             p.inner,
             p.around,
             p.outside,
             inl (subst (λ n. Expects s Kind.Type p.around p.inner n a.state) (sym at) p.awaits),
-            subst (λ v. Stands s (reverse new.waiting.items) p.inner v.items) (sym text)
-                (subst (λ ws. Stands s ws p.inner old.text.items) (sym turned)
-                (reference-stands s is_lvalue (opens.Signature is_pointer ∷ a.rest) p.inner old.text.items from
+            subst (λ v. Stands s (reverse new.waiting.items) p.inner v.bytes.items) (sym text)
+                (subst (λ ws. Stands s ws p.inner old.text.bytes.items) (sym turned)
+                (reference-stands s is_lvalue (opens.Signature is_pointer ∷ a.rest) p.inner old.text.bytes.items from
                 (p.whole, p.around.encoding, begins, p.passes, whole))),
           );
         }
@@ -234,15 +234,15 @@ reference-comes s old new o is_pointer is_lvalue from a begins stands is waits a
 
 -- an E ends a function type whose parameters aren't a lone void
 pub signature-closed : (s : List ℕ) (old new : Direct) (is_pointer is_first : Bool) (a : AwaitsSignature s old is_pointer is_first)
-    → StandsAt s old.at (69 ∷ []) → ends_with nat_eq old.text.items (codes "(void") ≡ false → new.text ≡ old.text → new.candidates ≡ old.candidates
+    → StandsAt s old.at (69 ∷ []) → ends_with nat_eq old.text.bytes.items (codes "(void") ≡ false → new.text ≡ old.text → new.candidates ≡ old.candidates
     → new.waiting ≡ old.waiting → new.at ≡ old.at + 1 → IsFunctionRead s new is_pointer
 signature-closed s old new is_pointer is_first a ends apart text candidates waits at =
     let opening = opening_text is_pointer in
     let made = plain_function a.returned (list_with a.ts nil) in
     record {
       state = a.state;
-      candidates = subst (λ v. AreCandidates v.items new.candidates.items a.state.candidates) (sym text)
-          (subst (λ v. AreCandidates old.text.items v.items a.state.candidates) (sym candidates) a.candidates);
+      candidates = subst (λ v. AreCandidates v.bytes.items new.candidates.items a.state.candidates) (sym text)
+          (subst (λ v. AreCandidates old.text.bytes.items v.items a.state.candidates) (sym candidates) a.candidates);
       rest = a.rest;
       open_is = ap (λ v. reverse v.items) waits ∙ a.open_is;
       outer = a.outer;
@@ -250,7 +250,7 @@ signature-closed s old new is_pointer is_first a ends apart text candidates wait
       made = made;
       front = a.front;
       bytes = (a.bytes ++ opening) ++ a.texts;
-      written = ap (λ v. v.items) text ∙ a.written ∙ append_assoc a.front (a.bytes ++ opening) a.texts;
+      written = ap (λ v. v.bytes.items) text ∙ a.written ∙ append_assoc a.front (a.bytes ++ opening) a.texts;
       element = λ extra. function-element extra is_pointer a.returned a.bytes a.is_reference a.ts a.texts a.prints a.elements (kept-apart is_pointer refl);
       comes = subst (λ n. Comes s a.outer (tree (pointed is_pointer made) true) n (with_pointed is_pointer a.encoding made a.state)) (sym at)
           (a.goes.passes nil (old.at + 1) a.state
@@ -259,15 +259,15 @@ signature-closed s old new is_pointer is_first a ends apart text candidates wait
       stands = a.stands;
     }
   where
-    apart-behind : (head : List ℕ) → old.text.items ≡ a.front ++ (a.bytes ++ (head ++ codes "(")) ++ a.texts → a.texts ≢ codes "void"
+    apart-behind : (head : List ℕ) → old.text.bytes.items ≡ a.front ++ (a.bytes ++ (head ++ codes "(")) ++ a.texts → a.texts ≢ codes "void"
     apart-behind head e =
-        no-void old.text.items (a.front ++ (a.bytes ++ head)) a.texts
+        no-void old.text.bytes.items (a.front ++ (a.bytes ++ head)) a.texts
         (e ∙ ap (λ l. l ++ a.texts) (ap (λ l. a.front ++ l) (sym (append_assoc a.bytes head (codes "(")))
         ∙ sym (append_assoc a.front (a.bytes ++ head) (codes "(")))) apart
 
     kept-apart : (b : Bool) → is_pointer ≡ b → a.texts ≢ codes "void"
-    kept-apart true e = apart-behind (codes " (*)") (subst (λ b. old.text.items ≡ a.front ++ (a.bytes ++ opening_text b) ++ a.texts) e a.written)
-    kept-apart false e = apart-behind (codes " ") (subst (λ b. old.text.items ≡ a.front ++ (a.bytes ++ opening_text b) ++ a.texts) e a.written)
+    kept-apart true e = apart-behind (codes " (*)") (subst (λ b. old.text.bytes.items ≡ a.front ++ (a.bytes ++ opening_text b) ++ a.texts) e a.written)
+    kept-apart false e = apart-behind (codes " ") (subst (λ b. old.text.bytes.items ≡ a.front ++ (a.bytes ++ opening_text b) ++ a.texts) e a.written)
 
 none-written : (l : List ℕ) → PrintAll 0 [] l → l ≡ []
 none-written l all = go all.0 all.1 all.2
@@ -293,8 +293,8 @@ void-closed s old new is_pointer a stands text candidates waits at =
     (builtin-comes s Kind.ItemButRef p.around p.inner old.at a.state 118 tt refl p.awaits both.0) in
     record {
       state = a.state;
-      candidates = subst (λ x. AreCandidates x.items new.candidates.items a.state.candidates) (sym text)
-          (subst (λ x. AreCandidates old.text.items x.items a.state.candidates) (sym candidates) a.candidates);
+      candidates = subst (λ x. AreCandidates x.bytes.items new.candidates.items a.state.candidates) (sym text)
+          (subst (λ x. AreCandidates old.text.bytes.items x.items a.state.candidates) (sym candidates) a.candidates);
       rest = a.rest;
       open_is = ap (λ x. reverse x.items) waits ∙ a.open_is;
       outer = a.outer;
@@ -302,7 +302,7 @@ void-closed s old new is_pointer a stands text candidates waits at =
       made = made;
       front = a.front;
       bytes = a.bytes ++ opening;
-      written = ap (λ x. x.items) text ∙ a.written
+      written = ap (λ x. x.bytes.items) text ∙ a.written
           ∙ ap (λ l. a.front ++ (a.bytes ++ opening) ++ l) (none-written a.texts (subst (λ ts. PrintAll 0 ts a.texts) none a.elements))
           ∙ append-nil (a.front ++ (a.bytes ++ opening));
       element = λ extra. void-function-element extra is_pointer a.returned a.bytes a.is_reference a.prints;
@@ -341,7 +341,7 @@ still-popped s old new is_pointer p left size same length_is is =
 
 -- a function type is an element or a parameter
 pub function-handed : (s : List ℕ) (old new : Direct) (is_pointer : Bool) (o : Open) (p : IsFunctionRead s old is_pointer)
-    → new.text.items ≡ old.text.items ++ codes ")" → new.candidates.items ≡ with_hidden old is_pointer → reverse new.waiting.items ≡ p.rest
+    → new.text.bytes.items ≡ old.text.bytes.items ++ codes ")" → new.candidates.items ≡ with_hidden old is_pointer → reverse new.waiting.items ≡ p.rest
     → new.at ≡ old.at → slice_get new.waiting.items (length new.waiting.items - 1) ≡ Some o → IsElementRead s new o
 function-handed s old new is_pointer o p text candidates waits at found =
     let last = last-found new.waiting.items o found in
@@ -350,9 +350,9 @@ function-handed s old new is_pointer o p text candidates waits at found =
     record {
       state = then_;
       candidates = subst (λ l. AreCandidates l new.candidates.items then_.candidates) (sym text)
-          (subst (λ l. AreCandidates (old.text.items ++ codes ")") l then_.candidates) (sym candidates)
-          (hidden-candidates old is_pointer (old.text.items ++ codes ")") p.encoding p.made p.state
-          (candidates-stay old.text.items (codes ")") old.candidates.items p.state.candidates p.candidates)));
+          (subst (λ l. AreCandidates (old.text.bytes.items ++ codes ")") l then_.candidates) (sym candidates)
+          (hidden-candidates old is_pointer (old.text.bytes.items ++ codes ")") p.encoding p.made p.state
+          (candidates-stay old.text.bytes.items (codes ")") old.candidates.items p.state.candidates p.candidates)));
       rest = last.0;
       open_is = last.1;
       os = p.outer;

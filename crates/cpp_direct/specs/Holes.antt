@@ -8,7 +8,8 @@ use Rattle.sym_shape.specs.declared.rule.Sym.{Sym}
 use Rattle.sym_shape.specs.declared.rule.Sym.TheVariants.{Kind as OfKind}
 use Rattle.sym_shape.specs.Tree.{Tree as Shape, Forest, IsTree, AreTrees, spell, spell_all}
 use Rattle.sym_link.specs.Reading.{Open}
-use Rattle.sym_link.specs.Unfold.{found, unfold_tree, unfold_forest}
+use Rattle.sym_direct.specs.Holes as direct
+use Rattle.sym_direct.specs.Holes.{Language}
 use Rattle.cpp_grammar.specs.declared.kind.Kind.{Kind}
 use Rattle.cpp_grammar.specs.Grammar.{number_of_kind}
 use Rattle.cpp_grammar.specs.Table.{abi}
@@ -18,57 +19,33 @@ use Rattle.cpp_grammar.specs.References.{is_function_type}
 use Rattle.cpp_grammar.specs.Between.{after, no_items}
 use Rattle.cpp_grammar.specs.Unfolding.{cpp, first_around, first_state}
 
--- an open rule, the values of its parts so far, and the symbols that are still to be read
-pub record Opened : Type 0 where
-  pub rule : Open State Around
-  pub known : List Value
-  pub todo : List Sym
+-- C++ as a language to be read so
+abbrev pub cpp_language : Language Value State Around
+cpp_language = record { table = abi; reading = λ s. cpp; first_context = first_around; first_state = first_state }
+
+abbrev pub Opened : Type 0
+Opened = direct.Opened Value State Around
 
 abbrev pub opened : Open State Around → (known : List Value) → (todo : List Sym) → Opened
-opened rule known todo = record { rule = rule; known = known; todo = todo }
+opened rule known todo = direct.opened rule known todo
 
--- A shape that spells these bytes at a place has this value, and this state stands behind it.
-pub record Reads (x : Sym) (around : Around) (at : ℕ) (bytes : List ℕ) (before : State) (v : Value) (after : State) : Type 0 where
-  pub shape : Shape
-  pub shaped : IsTree abi x shape
-  pub spelled : spell shape ≡ bytes
-  pub unfolds : unfold_tree cpp around at shape before ≡ Ok (found (v ∷ []) after)
+-- what is left of a rule's parts is read
+abbrev pub ReadsRest : (s : List ℕ) (rule : Open State Around) (known : List Value) (todo : List Sym) (at : ℕ) (bytes : List ℕ) (before : State)
+    (vs : List Value) (after : State) → Type 0
+ReadsRest s rule known todo at bytes before vs after = direct.ReadsRest cpp_language s rule known todo at bytes before vs after
 
--- the same of the parts of a rule that are left
-pub record ReadsRest (rule : Open State Around) (known : List Value) (todo : List Sym) (at : ℕ) (bytes : List ℕ) (before : State)
-    (vs : List Value) (after : State) : Type 0 where
-  pub forest : Forest
-  pub shaped : AreTrees abi todo forest
-  pub spelled : spell_all forest ≡ bytes
-  pub unfolds : unfold_forest cpp rule known at forest before ≡ Ok (found vs after)
-
--- the bytes stand in the symbol at the place
 abbrev pub StandsAt : (s : List ℕ) → (at : ℕ) → (bytes : List ℕ) → Type 0
-StandsAt s at bytes = (rest : List ℕ) × (drop at s ≡ bytes ++ rest)
+StandsAt s at bytes = direct.StandsAt s at bytes
 
--- The innermost of the open rules has the next one of its values, and this state stands there: whatever of the symbol is read from
--- here on as their parts, the whole of it is read.
+-- The innermost of the open rules has the next one of its values: each part has one in C++.
 abbrev pub Comes : (s : List ℕ) → List Opened → Value → (at : ℕ) → State → Type 0
-Comes s [] v at state = Reads (OfKind (number_of_kind Kind.Symbol)) first_around 0 (take at s) first_state v state
-Comes s (o ∷ os) v at state =
-    (bytes : List ℕ) (vs : List Value) (inner : State) (w : Value) (after : State)
-    → ReadsRest o.rule (o.known ++ v ∷ []) o.todo at bytes state vs inner → StandsAt s at bytes
-    → cpp.close o.rule vs inner ≡ Ok (found w after)
-    → Comes s os w (at + length bytes) after
+Comes s os v at state = direct.Comes cpp_language s os (v ∷ []) at state
 
--- The same where of a rule these values are known and these symbols are left.
 abbrev pub Needs : (s : List ℕ) → List Opened → Open State Around → (known : List Value) → (todo : List Sym) → (at : ℕ) → State → Type 0
-Needs s os rule known todo at state =
-    (bytes : List ℕ) (vs : List Value) (inner : State) (w : Value) (after : State)
-    → ReadsRest rule known todo at bytes state vs inner → StandsAt s at bytes
-    → cpp.close rule vs inner ≡ Ok (found w after)
-    → Comes s os w (at + length bytes) after
+Needs s os rule known todo at state = direct.Needs cpp_language s os rule known todo at state
 
--- The same where a symbol is expected next.
 abbrev pub ExpectsSym : (s : List ℕ) → Sym → Around → List Opened → (at : ℕ) → State → Type 0
-ExpectsSym s x around os at state =
-    (bytes : List ℕ) (v : Value) (after : State)
-    → Reads x around at bytes state v after → StandsAt s at bytes → Comes s os v (at + length bytes) after
+ExpectsSym s x around os at state = direct.Expects cpp_language s x around os at state
 
 abbrev pub Expects : (s : List ℕ) → Kind → Around → List Opened → (at : ℕ) → State → Type 0
 Expects s kind around os at state = ExpectsSym s (OfKind (number_of_kind kind)) around os at state

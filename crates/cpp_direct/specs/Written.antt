@@ -5,7 +5,7 @@ use Rattle.cpp_direct.specs.declared.direct.Direct.{Direct}
 
 -- a text was written, and nothing else changed
 pub record Writes (old new : Direct) (bytes : List ℕ) : Type 0 where
-  pub text : new.text.items ≡ old.text.items ++ bytes
+  pub text : new.text.bytes.items ≡ old.text.bytes.items ++ bytes
   pub candidates : new.candidates ≡ old.candidates
   pub waiting : new.waiting ≡ old.waiting
   pub nest : new.nest ≡ old.nest
@@ -14,7 +14,7 @@ pub record Writes (old new : Direct) (bytes : List ℕ) : Type 0 where
 
 -- the same, and the place is another one
 pub record Reads (old new : Direct) (bytes : List ℕ) : Type 0 where
-  pub text : new.text.items ≡ old.text.items ++ bytes
+  pub text : new.text.bytes.items ≡ old.text.bytes.items ++ bytes
   pub candidates : new.candidates ≡ old.candidates
   pub waiting : new.waiting ≡ old.waiting
   pub nest : new.nest ≡ old.nest
@@ -22,7 +22,7 @@ pub record Reads (old new : Direct) (bytes : List ℕ) : Type 0 where
 
 -- the candidates, and what is written from a place on
 abbrev pub added : Direct → (from : ℕ) → (is_reference : Bool) → List Candidate
-added w from is_reference = w.candidates.items ++ record { from = from; to = length w.text.items; is_reference = is_reference } ∷ []
+added w from is_reference = w.candidates.items ++ record { from = from; to = length w.text.bytes.items; is_reference = is_reference } ∷ []
 
 -- the same unless that is one already
 abbrev pub added_unless : Direct → (is_listed : Bool) → (from : ℕ) → List Candidate

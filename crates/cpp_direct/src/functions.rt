@@ -80,7 +80,7 @@ impl Direct {
     {
         if byte_at(s, self.at) == b'E' {
             // a lone void is no parameter
-            if self.text.ends_with(b"(void") {
+            if self.text.bytes.ends_with(b"(void") {
                 return None;
             }
             self.at = self.at.checked_add(1)?;
@@ -98,7 +98,7 @@ impl Direct {
         requires { AwaitsParameter s.now self.old _is_pointer }
         ensures { IfSome result (IsWriting s.now self.new) }
     {
-        let from = self.text.len();
+        let from = self.text.bytes.len();
         let byte = byte_at(s, self.at);
         if byte == b'R' {
             return self.open_type(Open::Lvalue { from }, Step::Type);

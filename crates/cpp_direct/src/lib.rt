@@ -10,6 +10,7 @@ mod lists;
 mod locals;
 mod nested;
 mod open;
+mod symbols;
 mod thunks;
 mod tokens;
 mod types;

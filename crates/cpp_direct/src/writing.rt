@@ -21,7 +21,10 @@ impl Direct {
     pub(crate) fn push(&mut self, text: &[u8]) -> Option<()>
         ensures { OnSome result (Writes self.old self.new text.now) }
     {
-        self.text.extend_from_slice(text).ok()
+        if text.len() > self.text.room - self.text.bytes.len() {
+            return None;
+        }
+        self.text.bytes.extend_from_slice(text).ok()
     }
 
     /// Writes a byte.
@@ -29,7 +32,10 @@ impl Direct {
     pub(crate) fn push_byte(&mut self, byte: u8) -> Option<()>
         ensures { OnSome result (Writes self.old self.new (byte ∷ [])) }
     {
-        self.text.push(byte).ok()
+        if self.text.bytes.len() >= self.text.room {
+            return None;
+        }
+        self.text.bytes.push(byte).ok()
     }
 
     /// Writes two bytes.
@@ -37,8 +43,11 @@ impl Direct {
     pub(crate) fn push_pair(&mut self, first: u8, second: u8) -> Option<()>
         ensures { OnSome result (Writes self.old self.new (first ∷ second ∷ [])) }
     {
-        self.text.push(first).ok()?;
-        self.text.push(second).ok()
+        if self.text.room - self.text.bytes.len() < 2 {
+            return None;
+        }
+        self.text.bytes.push(first).ok()?;
+        self.text.bytes.push(second).ok()
     }
 
     /// What is written from a place on becomes a candidate.
@@ -51,7 +60,7 @@ impl Direct {
         ensures at { self.new.at ≡ self.old.at }
         ensures most { self.new.most ≡ self.old.most }
     {
-        let to = self.text.len();
+        let to = self.text.bytes.len();
         self.candidates
             .push(Candidate {
                 from,
@@ -95,13 +104,13 @@ impl Direct {
     /// Writes what stands in the text once more.
     pub(crate) fn repeat(&mut self, from: usize, to: usize) -> Option<()>
         requires from { from ≤ to }
-        requires to { to ≤ length self.old.text.items }
-        ensures { OnSome result (Writes self.old self.new (take (to - from) (drop from self.old.text.items))) }
+        requires to { to ≤ length self.old.text.bytes.items }
+        ensures { OnSome result (Writes self.old self.new (take (to - from) (drop from self.old.text.bytes.items))) }
     {
-        if self.text.len() + (to - from) > self.most {
+        if to - from > self.text.room - self.text.bytes.len() {
             return None;
         }
-        self.text.extend_from_within(from..to).ok()
+        self.text.bytes.extend_from_within(from..to).ok()
     }
 
     /// Opens what waits for a type.
@@ -126,7 +135,7 @@ impl Direct {
         ensures step { IfSome result (λ next. next ≡ steps.List true) }
         ensures open { OnSome result (self.new.waiting.items ≡ self.old.waiting.items ++ entry ∷ []) }
         ensures at { OnSome result (self.new.at ≡ self.old.at + 1) }
-        ensures text { OnSome result (self.new.text.items ≡ self.old.text.items ++ codes "<") }
+        ensures text { OnSome result (self.new.text.bytes.items ≡ self.old.text.bytes.items ++ codes "<") }
         ensures candidates { OnSome result (self.new.candidates ≡ self.old.candidates) }
         ensures nest { OnSome result (self.new.nest ≡ self.old.nest) }
     {

@@ -7,7 +7,7 @@ use Rattle.sym_core.specs.declared.refusal.Refusal.{Refusal}
 use Rattle.sym_core.specs.declared.refusal.Refusal.TheVariants.{Malformed, BadReference, BadValue, TooLong, Memory}
 use Rattle.sym_print.specs.declared.detail.Detail.{Detail}
 use Rattle.sym_core.specs.declared.counts.Counts.{Counts}
-use Rattle.sym_filter.specs.Demangled.{IsDemangled}
+use Rattle.sym_filter.specs.Demangled.{IsAppended, IsDemangled}
 use Rattle.sym_filter.specs.declared.demangler.Demangled.{Demangled}
 use Rattle.sym_filter.specs.declared.demangler.Demangled.TheVariants as demangler
 use Rattle.sym_filter.specs.declared.kinds.Kind.{Kind}
@@ -80,3 +80,17 @@ count-ends symbol counts status length place kind (BadReference at) in_lang give
 count-ends symbol counts status length place kind (BadValue at) in_lang given found s p told =
     inr (refl, inr (inr (BadValue at, (λ e. cc), subst (λ l. answer_of 0 Detail.Full l symbol ≡ Err (BadValue at)) in_lang (given (λ e. cc)).0, rw (sym s, sym p) (sym (ap (λ t. bare t) told)))))
 count-ends symbol counts status length place kind TooLong in_lang given found s p told = absurd ((given (λ e. cc)).1 refl)
+
+-- a text that was appended to an empty list, and put into the room
+pub appended-ends : {A : Type 0} → (limit : ℕ) (detail : Detail) (kind : Kind) (symbol room old new : List ℕ) (result : Result A Refusal) (done : A) (found : Told) → kind ≡ symbol_kind symbol → old ≡ []
+    → result ≡ Ok done → IsAppended (answer_of limit detail kind symbol) old new result → found ≡ written new room → EndsAs (answered (answer_of limit detail (symbol_kind symbol) symbol) room) room found
+appended-ends limit detail kind symbol room old new result done found in_lang empty ok is put =
+    let here = subst (λ r. IsAppended (answer_of limit detail kind symbol) old new r) ok is in
+    text-ends _ room new found (subst (λ k. answer_of limit detail k symbol ≡ Ok new) in_lang (here.1 ∙ ap (λ t. Ok t) (ap (λ o. o ++ here.0) (sym empty) ∙ sym here.2))) put
+
+-- a symbol that has no text
+pub not-appended-ends : {A : Type 0} → (limit : ℕ) (detail : Detail) (kind : Kind) (symbol room old new : List ℕ) (result : Result A Refusal) (refusal : Refusal) (found : Told) → kind ≡ symbol_kind symbol
+    → result ≡ Err refusal → IsAppended (answer_of limit detail kind symbol) old new result → found ≡ refused refusal room → EndsAs (answered (answer_of limit detail (symbol_kind symbol) symbol) room) room found
+not-appended-ends limit detail kind symbol room old new result refusal found in_lang err is told =
+    let here = subst (λ r. IsAppended (answer_of limit detail kind symbol) old new r) err is in
+    refusal-ends refusal _ room found (λ other. subst (λ k. answer_of limit detail k symbol ≡ Err refusal) in_lang (here.0 other)) told

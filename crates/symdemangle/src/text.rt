@@ -2,7 +2,7 @@
 ghost use Rattle.std.specs.Prelude.{◌≡◌};
 ghost use Rattle.symdemangle.specs.Calls.{EndsAs, detail_of, filter_told, press_told, symbol_kind, text_told};
 
-use crate::room::{DETAIL, MEMORY, SIZE, SymdemangleAnswer, finish, tell, write};
+use crate::room::{DETAIL, MEMORY, SIZE, SymdemangleAnswer, finish, tell, tell_refusal, write};
 use std::alloc::Global;
 use sym_core::fits;
 use sym_filter::{Demangler, Kind, Lang, Languages, ListSink, Pressing, ReaderSource, filter_as};
@@ -58,8 +58,10 @@ pub extern "C" fn symdemangle_text_of(
         Err(_) => return tell(MEMORY, answer),
     };
     let mut text = Vec::new(alloc);
-    let demangled = languages.demangle(&mut lists, symbol_kind(symbol), symbol, &mut text);
-    finish(demangled, &text, room, answer)
+    match languages.append(&mut lists, symbol_kind(symbol), symbol, &mut text) {
+        Ok(()) => write(&text, room, answer),
+        Err(refusal) => tell_refusal(refusal, room, answer),
+    }
 }
 
 /// Writes a text to the front of the room with each word that is a symbol replaced by the symbol's text, where that costs at

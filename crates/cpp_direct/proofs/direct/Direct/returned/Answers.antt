@@ -20,7 +20,7 @@ first_parameter-requires-clause-awaits c =
       | else-is_pointer b ↦ ap (λ t. t.now) b.push-is ∙ ap (λ k. opening_text k) (sym b.if-is_pointer.false)
     ] in
     signature-begins s w _ c.args.is_pointer p
-    (c.in_ok-push.ensures.text ∙ ap (λ l. w.text.items ++ l) opening)
+    (c.in_ok-push.ensures.text ∙ ap (λ l. w.text.bytes.items ++ l) opening)
     c.in_ok-push.ensures.candidates
     (ap reverse (pushed _ c.push.new.self.waiting.items (c.push.new.self.waiting.items ++ entry ∷ []) _ c.push-2.ensures.items
     (sym c.ok.ensures.variant ∙ ap is_some c.in_ok-ok.was))

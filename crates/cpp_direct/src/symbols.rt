@@ -1,0 +1,296 @@
+// A symbol from its first byte to its last.
+
+ghost use Rattle.std.specs.Prelude.{◌≡◌, ◌≢◌, ◌≤◌, ◌+◌, ◌*◌, ◌∷◌, [], length, true, Ok};
+ghost use Rattle.std.specs.Option.{IfSome};
+ghost use Rattle.sym_core.specs.Number.{FitsSymbol};
+ghost use Rattle.sym_print.specs.declared.detail.Detail.TheVariants as details;
+ghost use Rattle.cpp_grammar.specs.Mangled.{IsAnswer};
+ghost use Rattle.cpp_direct.specs.Holes.{StandsAt};
+ghost use Rattle.cpp_direct.specs.Stands.{IsWriting};
+ghost use Rattle.cpp_direct.specs.Ways.{IsFresh, AwaitsEncoding, AwaitsSource, IsNameEnded, IsParameterEnded, IsEncodingEnded, IsSymbolEnded};
+
+use crate::direct::{Direct, Text};
+use crate::open::{Nest, Open, Purpose, Step};
+use crate::tokens::{byte_at, is_local, is_suffix, may_end};
+use std::alloc::Global;
+
+/// The longest symbol that is written so, in bytes: the lists stay small, and real symbols are shorter.
+const LONGEST: usize = 4_096;
+
+/// Before the first nested name.
+const NO_NEST: Nest = Nest {
+    from: 0,
+    class_from: 0,
+    class_to: 0,
+    purpose: Purpose::Type,
+    is_listed: false,
+    has_class: false,
+    is_instance: false,
+};
+
+impl Direct {
+    /// Lists that have no memory yet.
+    pub fn new(alloc: Global) -> Direct {
+        Direct {
+            text: Text {
+                bytes: Vec::new(alloc),
+                room: 0,
+            },
+            candidates: Vec::new(alloc),
+            waiting: Vec::new(alloc),
+            nest: NO_NEST,
+            at: 0,
+            most: 0,
+        }
+    }
+
+    /// The text that was written last.
+    pub fn text(&self) -> &[u8]
+        ensures { result.now ≡ self.now.text.bytes.items }
+    {
+        &self.text.bytes
+    }
+
+    /// Writes the text of a symbol in full, if the symbol is one that can be read so and the text costs at most a limit, and
+    /// answers whether it did. Where it didn't, nothing is known of the symbol. The text has never more than eight bytes for each
+    /// of the symbol's and a kilobyte, whatever is answered.
+    pub fn write(&mut self, s: &[u8], limit: u32) -> bool
+        requires { FitsSymbol s.now }
+        ensures answer { result ≡ true → IsAnswer details.Full s.now limit (Ok self.new.text.bytes.items) }
+        ensures bytes { length self.new.text.bytes.items ≤ 8 * length s.now + 1024 }
+    {
+        let room = 8 * s.len() + 1_024;
+        self.reset();
+        self.most = limit as usize / 4;
+        self.text.room = self.most.min(room);
+        let is_written = self.run(s, limit);
+        if self.text.room > room {
+            self.reset();
+            return false;
+        }
+        is_written
+    }
+
+    /// Empties the lists.
+    fn reset(&mut self)
+        ensures text { self.new.text.bytes.items ≡ [] }
+        ensures candidates { self.new.candidates.items ≡ [] }
+        ensures open { self.new.waiting.items ≡ [] }
+    {
+        self.text.bytes.clear();
+        self.candidates.clear();
+        self.waiting.clear();
+    }
+
+    /// Takes steps up to the end of a symbol.
+    fn run(&mut self, s: &[u8], limit: u32) -> bool
+        requires fits { FitsSymbol s.now }
+        requires fresh { IsFresh self.old }
+        ensures { result ≡ true → IsAnswer details.Full s.now limit (Ok self.new.text.bytes.items) }
+    {
+        let Some(first) = self.begin(s) else {
+            return false;
+        };
+        let mut step = first;
+        let mut left = s.len() * 8;
+        'steps: while left > 0 {
+            left -= 1;
+            if let Step::Ended = step {
+                return self.text.bytes.len() <= limit as usize / 4;
+            }
+            match self.take(s, step) {
+                Some(next) => step = next,
+                None => return false,
+            }
+        }
+        false
+    }
+
+    /// Takes a step.
+    #[inline(always)]
+    fn take(&mut self, s: &[u8], step: Step) -> Option<Step>
+        requires fits { FitsSymbol s.now }
+        requires writing { IsWriting s.now self.old step }
+        ensures { IfSome result (IsWriting s.now self.new) }
+    {
+        match step {
+            Step::Type => self.type_at(s, false),
+            Step::Plain => self.type_at(s, true),
+            Step::Value { is_reference } => self.pass(s, is_reference),
+            Step::List { is_first } => self.list_at(s, is_first),
+            Step::Rest => self.rest_at(s),
+            Step::Tail => self.tail_at(s),
+            Step::Component => self.component_at(s),
+            Step::Ended => None,
+        }
+    }
+
+    /// The first bytes of a symbol.
+    // <mangled-name> ::= _Z <encoding>
+    fn begin(&mut self, s: &[u8]) -> Option<Step>
+        requires fits { FitsSymbol s.now }
+        requires fresh { IsFresh self.old }
+        ensures { IfSome result (IsWriting s.now self.new) }
+    {
+        if s.len() > LONGEST || byte_at(s, 0) != b'_' || byte_at(s, 1) != b'Z' {
+            return None;
+        }
+        if is_local(s) {
+            return self.begin_local(s);
+        }
+        if byte_at(s, 2) != b'T' {
+            self.at = 2;
+            return self.begin_encoding(s);
+        }
+        match byte_at(s, 3) {
+            b'h' => self.begin_thunk(s),
+            b'v' => self.begin_virtual_thunk(s),
+            _ => self.begin_special(s),
+        }
+    }
+
+    /// The first bytes of an encoding.
+    // <encoding> ::= <function name> <bare-function-type> | <data name>
+    pub(crate) fn begin_encoding(&mut self, s: &[u8]) -> Option<Step>
+        requires fits { FitsSymbol s.now }
+        requires awaits { AwaitsEncoding s.now self.old }
+        ensures { IfSome result (IsWriting s.now self.new) }
+    {
+        match byte_at(s, self.at) {
+            b'N' => self.begin_nested(s),
+            b'L' => {
+                self.at = self.at.checked_add(1)?;
+                self.begin_name(s, true)
+            }
+            _ => self.begin_name(s, false),
+        }
+    }
+
+    // <special-name> ::= TV <type> | TT <type> | TI <type> | TS <type>
+    #[inline(never)]
+    fn begin_special(&mut self, s: &[u8]) -> Option<Step>
+        requires fits { FitsSymbol s.now }
+        requires fresh { IsFresh self.old }
+        requires starts { StandsAt s.now 0 (95 ∷ 90 ∷ []) }
+        requires letter { StandsAt s.now 2 (84 ∷ []) }
+        ensures { IfSome result (IsWriting s.now self.new) }
+    {
+        let text = cpp_layout::special_text(byte_at(s, 3));
+        if text.is_empty() {
+            return None;
+        }
+        self.push(text)?;
+        self.at = 4;
+        self.waiting.push(Open::Special).ok()?;
+        Some(Step::Type)
+    }
+
+    // <nested-name> ::= N [<CV-qualifiers>] [<ref-qualifier>] <prefix> <unqualified-name> E
+    fn begin_nested(&mut self, s: &[u8]) -> Option<Step>
+        requires fits { FitsSymbol s.now }
+        requires awaits { AwaitsEncoding s.now self.old }
+        requires letter { StandsAt s.now self.old.at (78 ∷ []) }
+        ensures { IfSome result (IsWriting s.now self.new) }
+    {
+        self.at = self.at.checked_add(1)?;
+        if byte_at(s, self.at) == b'K' {
+            self.at = self.at.checked_add(1)?;
+            return self.nest_at(s, Purpose::Name { is_const: true });
+        }
+        self.nest_at(s, Purpose::Name { is_const: false })
+    }
+
+    /// A name of its own, behind the L of internal linkage or without one.
+    // <unscoped-name> ::= <source-name>
+    fn begin_name(&mut self, s: &[u8], is_internal: bool) -> Option<Step>
+        requires fits { FitsSymbol s.now }
+        requires awaits { AwaitsSource s.now self.old is_internal }
+        ensures { IfSome result (IsWriting s.now self.new) }
+    {
+        let from = self.text.bytes.len();
+        self.name(s)?;
+        if byte_at(s, self.at) == b'I' {
+            self.add_candidate(from, false)?;
+            return self.open_arguments(Open::NameArguments);
+        }
+        self.name_ended(s, false, false)
+    }
+
+    /// The name of an encoding is read: nothing is left, or the function's parameters.
+    // <encoding> ::= <function name> <bare-function-type> | <data name>
+    pub(crate) fn name_ended(&mut self, s: &[u8], is_const: bool, is_instance: bool) -> Option<Step>
+        requires fits { FitsSymbol s.now }
+        requires ended { IsNameEnded s.now self.old is_const is_instance }
+        ensures { IfSome result (IsWriting s.now self.new) }
+    {
+        let byte = byte_at(s, self.at);
+        if may_end(byte) {
+            return self.end(s, is_const);
+        }
+        if is_instance {
+            return None;
+        }
+        self.push_byte(b'(')?;
+        let behind = byte_at(s, self.at.checked_add(1)?);
+        if byte == b'v' && may_end(behind) {
+            self.at = self.at.checked_add(1)?;
+            self.push_byte(b')')?;
+            return self.end(s, is_const);
+        }
+        self.waiting.push(Open::Parameters { is_const }).ok()?;
+        Some(Step::Type)
+    }
+
+    /// A parameter is read: another one follows, or the end of the encoding.
+    pub(crate) fn parameter_ended(&mut self, s: &[u8], is_const: bool) -> Option<Step>
+        requires fits { FitsSymbol s.now }
+        requires ended { IsParameterEnded s.now self.old is_const }
+        ensures { IfSome result (IsWriting s.now self.new) }
+    {
+        let byte = byte_at(s, self.at);
+        if !may_end(byte) {
+            self.push_pair(b',', b' ')?;
+            return Some(Step::Type);
+        }
+        // a lone void is no parameter
+        if self.text.bytes.ends_with(b"(void") {
+            return None;
+        }
+        self.push_byte(b')')?;
+        self.end(s, is_const)
+    }
+
+    /// The end of an encoding, behind its text but for its qualifier: a local entity follows, or the end of the symbol.
+    pub(crate) fn end(&mut self, s: &[u8], is_const: bool) -> Option<Step>
+        requires fits { FitsSymbol s.now }
+        requires ended { IsEncodingEnded s.now self.old is_const }
+        ensures { IfSome result (IsWriting s.now self.new) }
+    {
+        if is_const {
+            self.push(b" const")?;
+        }
+        if is_local(s) {
+            return self.entity(s);
+        }
+        self.finish(s)
+    }
+
+    /// The end of a symbol, behind the text of its encoding.
+    // <mangled-name> ::= _Z <encoding> . <vendor-specific suffix>
+    pub(crate) fn finish(&mut self, s: &[u8]) -> Option<Step>
+        requires { IsSymbolEnded s.now self.old }
+        ensures { IfSome result (IsWriting s.now self.new) }
+    {
+        let suffix = s.get(self.at..)?;
+        if suffix.is_empty() {
+            return Some(Step::Ended);
+        }
+        if !is_suffix(suffix) {
+            return None;
+        }
+        self.push(b" (")?;
+        self.push(suffix)?;
+        self.push(b")")?;
+        Some(Step::Ended)
+    }
+}
