@@ -1,5 +1,5 @@
 #!/usr/bin/env python3
-"""Writes the rows of crates cpp_grammar and cpp_press that compute their definitions at single symbols.
+"""Writes the rows of crates cpp_grammar and cpp_press_laws that compute their definitions at single symbols.
 usage: rows.py REFERENCE GENERATOR CRATES
 REFERENCE is a Python module with demangle(symbol, limit, brief) that answers (answer, at, text, cost), and press(symbol) that answers
 the pressed spelling; GENERATOR is one with symbols(seed, count, lang, mode, size=, wild=). CRATES is the folder of the crates. The
@@ -44,7 +44,7 @@ def generated(reference, generator, modes):
 # the definitions that rows compute with, by module
 READING = ["cpp_grammar.specs." + m for m in ("Grammar", "Table", "Values", "Scope", "References", "Between", "Meaning", "Unfolding", "Texts")]
 PRINTING = READING + ["cpp_grammar.specs." + m for m in ("Items", "Parts", "Ranks")] + ["cpp_grammar.proofs.Reader", "cpp_grammar.proofs.Row"]
-PRESSING = READING + ["cpp_grammar.proofs.Reader"] + ["cpp_press.specs." + m for m in ("Same", "Texts", "Components", "Pressing")] + ["cpp_press.proofs.Row"]
+PRESSING = READING + ["cpp_grammar.proofs.Reader"] + ["cpp_press_laws.specs." + m for m in ("Same", "Texts", "Components", "Pressing")] + ["cpp_press_laws.proofs.Row"]
 # names of those modules that no row needs
 UNPRESSED = ("look_up builtin_texts operator_texts abbreviation_texts special_texts literal_endings see seen_tree").split()
 UNUSED = ("sheet sheet_before blank abi abi_before sheet_with choice_of class_of ranges_of rule_taken choose_before").split()
@@ -120,6 +120,6 @@ def main():
     modes = [(21, 8000, 8, 60, 20), (22, 8000, 14, 50, 10)]
     for name, title, rows in (("ListedRows", "Pressed spellings by each rule.", listed_presses(reference)),
                               ("GeneratedRows", "Pressed spellings of symbols that a generator wrote.", generated_presses(reference, generator, modes))):
-        write(crates, "cpp_press", name, title, pressing, PRESSING, split(rows, 40), "are_pressed", UNUSED + UNPRESSED)
+        write(crates, "cpp_press_laws", name, title, pressing, PRESSING, split(rows, 40), "are_pressed", UNUSED + UNPRESSED)
 
 if __name__ == "__main__": main()

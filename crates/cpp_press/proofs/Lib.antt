@@ -1,100 +1,14 @@
-mod Row
-mod ListedRows
-mod GeneratedRows
-pub mod Sameness
-pub mod Growing
-pub mod ApartTrees
-pub mod RepeatedReasons
-pub mod Parts
-pub mod Known
-pub mod KnownTrees
-pub mod Complete
-pub mod Steps
-pub mod Packs
-pub mod NoneAdded
-pub mod Adding
-pub mod AddedWays
-pub mod AddedNames
-pub mod AddedTrees
-pub mod Again
-pub mod FunctionsStand
-pub mod ReadFits
-pub mod ReadFitsTypes
-pub mod ReadFitsLists
-pub mod ReadFitsReferences
-pub mod ReadFitsArguments
-pub mod ReadFitsSolids
-pub mod ReadFitsFound
-pub mod ReadFitsNames
-pub mod ReadFitsTemplates
-pub mod ReadFitsNests
-pub mod ReadFitsPieces
-pub mod ReadFitsEncodings
-pub mod ReadFitsSymbols
-pub mod ReadFitsLocals
-pub mod ReadFitsKinds
-pub mod ReadFitsTyped
-pub mod ReadFitsRests
-pub mod ReadFitsFirsts
-pub mod ReadFitsOwn
-pub mod Tokens
-pub mod Reading
-pub mod ReadingReferences
-pub mod ReadingTypes
-pub mod ReadingSolids
-pub mod ReadingFunctions
-mod LawRows
-pub mod PressLaw
-pub mod ReadingArguments
-pub mod ReadingLiterals
-pub mod ReadingNames
-pub mod ReadingNests
-pub mod ReadingEncodings
-pub mod ReadingSymbols
-pub mod ReadingPieces
-pub mod ReadingLocals
-pub mod ReadingParameters
-pub mod ReadingPrefixes
-pub mod Fit
-pub mod Keeping
-pub mod ReadingSlots
-pub mod ReadingNamed
-pub mod ReadingBetween
-pub mod ReadingTemplates
-pub mod Readings
-pub mod ReadingsOfTypes
-pub mod ReadingsOfNames
-pub mod ReadingsOfStd
-pub mod ReadingsOfWithin
-pub mod ReadingsOfInstances
-pub mod ReadingsOfParts
-pub mod ReadingsOfLists
-pub mod ReadingsOfEncodings
-pub mod FittingLaw
-pub mod Counting
-pub mod FewTrees
-pub mod FewComponents
-pub mod ReadRules
-pub mod ReadLeaves
-pub mod ReadFitsPlaces
-pub mod ReadPacks
-pub mod ReadSuffixes
-pub mod ReadKindsLeaves
-pub mod ReadPieces
-pub mod ReadKindsPieces
-pub mod ReadKindsArguments
-pub mod ReadLaw
-pub mod ReadKinds
-pub mod ReadKindsPieced
-pub mod ReadKindsEncodings
-pub mod ReadKindsEntities
-pub mod ReadKindsTypes
-pub mod ReadKindsSolids
-pub mod ReadKindsReferences
-pub mod ReadKindsEmpty
-pub mod ReadKindsRoot
-pub mod ReadKindsNests
-pub mod ReadKindsNames
-pub mod ReadShapes
-pub mod FewPressed
-mod FitRows
+mod Digits
+mod Pushed
+mod Entities
+mod Ways
+mod Open
+mod Placing
+mod Standing
+mod Weighing
+mod Templates
+mod NodesOfRead
+mod Counting
+mod Going
+mod Numbered
+mod Rebuilding

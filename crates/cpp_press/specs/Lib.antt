@@ -1,8 +1,9 @@
-pub mod Same
-pub mod Texts
-pub mod Components
-pub mod Pressing
-pub mod Apart
-pub mod Repeated
-pub mod PressLaws
-pub mod Few
+pub mod Bytes
+pub mod Weight
+pub mod Tasks
+pub mod Spelled
+pub mod Places
+pub mod OfRead
+pub mod Standings
+pub mod Fields
+pub mod Numbers

@@ -1,10 +1,14 @@
-//! C++ symbols spelled again with each repeated part as a reference, so that symbols of one thing have the same bytes. Here is what
-//! their pressed spelling is, and what holds of it; `cpp_spell` writes it.
+//! The pressed spelling of a C++ symbol: its tree written again, each repeated component a reference to the first one.
 #![tactic(auto)]
 
-mod laws;
+mod components;
+mod names;
+mod numbering;
+mod pressing;
+mod steps;
+mod task;
+mod texts;
+mod types;
+mod view;
 
-pub use laws::{
-    components_are_apart, pressed_is_read, pressed_once, pressed_tells_apart,
-    repeated_components_have_reasons, trees_are_compared,
-};
+pub use pressing::press_cpp;

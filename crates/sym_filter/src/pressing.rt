@@ -12,13 +12,13 @@ use crate::counted::Counted;
 use crate::demangler::{Demangled, Demangler};
 use crate::kinds::{Kind, Lang};
 use crate::languages::Lists;
-use cpp_spell::press_cpp;
+use cpp_press::press_cpp;
 use itanium::Abi;
 use rust_v0::V0;
 use std::alloc::{AllocError, Global};
 use sym_core::Refusal;
 use sym_demangle::Workspace;
-use sym_press::press_rust;
+use rust_press::press_rust;
 
 /// A mangling whose symbols are spelled again, with each repeated part as a reference.
 pub trait Pressable: Counted {
@@ -46,7 +46,7 @@ pub trait Pressable: Counted {
 impl Pressable for Abi {
     ghost use Rattle.cpp_grammar.specs.Mangled.{cpp_mangled};
     ghost use Rattle.cpp_layout.specs.Layout.{whole_of};
-    ghost use Rattle.cpp_press.specs.Pressing as cpp;
+    ghost use Rattle.cpp_press_laws.specs.Pressing as cpp;
     ghost use Rattle.sym_filter.specs.Pressed.{pressed_answer, reading_pressed};
 
     ghost answer = { pressed_answer cpp_mangled cpp.pressed };
@@ -64,7 +64,7 @@ impl Pressable for Abi {
 
 impl Pressable for V0 {
     ghost use Rattle.rust_v0.specs.Mangled.{v0_mangled, whole_of};
-    ghost use Rattle.sym_press.specs.Pressing as rust;
+    ghost use Rattle.rust_press.specs.Pressing as rust;
     ghost use Rattle.sym_filter.specs.Pressed.{pressed_answer, reading_pressed};
 
     ghost answer = { pressed_answer v0_mangled rust.pressed };

@@ -1,4 +1,4 @@
-use Rattle.sym_press.specs.OfRead.{pressed_symbol}
+use Rattle.rust_press.specs.OfRead.{pressed_symbol}
 use Rattle.sym_filter.proofs.pressing.V0Pressable.press.Goals as goal
 
 pub returns-clause-pressed : goal.returns-clause-pressed

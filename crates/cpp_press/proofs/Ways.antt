@@ -1,0 +1,548 @@
+-- Trees that are spelled out onto what stands behind them are spelled as their ways say.
+use Rattle.std.proofs.Common.{◌≡◌, ℕ, ◌-◌, List, [], ◌∷◌, ◌++◌, Bool, true, false, Option, Some, None, refl, ap, sym, ◌∙◌}
+use Rattle.std.specs.Prelude.{codes, cond}
+use Rattle.sym_spell.specs.Pressing.{◌and◌, text, nothing}
+use Rattle.sym_spell.proofs.Spellings.{and-assoc, nothing-and}
+use Rattle.cpp_grammar.specs.Term.{Qualifiers, RefQualifier, any_value, lvalue_only, rvalue_only, Term, symbol, function, object, special, thunk, guard, alone, in_std, within, instance, local, abbreviation, parameter, source, operator, literal_operator, constructor, destructor, lambda, unnamed, string_literal, builtin, vendor, pointer, lvalue, rvalue, array, member_pointer, function_type, qualified, vector, complex, expansion, integer, boolean, null_pointer, encoding_literal, address_of, pack, nil, list}
+use Rattle.cpp_grammar.specs.Values.{Candidate}
+use Rattle.cpp_tree.specs.Nodes.{qualifiers_of, mark_of}
+use Rattle.cpp_press_laws.specs.Texts.{counted, ordinal, signed_text, qualifier_letters, mark_letter, name_letters, thunk_text, discriminator_text}
+use Rattle.cpp_press_laws.specs.Components.{Spelling, first_equal, component, spelled_out, reference, ended}
+use Rattle.cpp_press_laws.specs.Pressing.{ways_of, no_ways, type_ways, name_ways, piece_ways, argument_ways, encoding_ways, begun, function_text, in_N_and_E, with_letters, local_text, entity_text, is_operator, is_one_piece}
+use Rattle.cpp_press.specs.declared.task.Way.{Way}
+use Rattle.cpp_press.specs.Tasks.{◌onto◌, written, in_way, in_name, before, bracketed, ending}
+use Rattle.cpp_press.specs.Spelled.{piece_onto, in_std_onto, within_onto, nested_onto, arguments_onto, between_onto, prefix_onto, plain_name_onto, lettered_onto, local_onto, has_letters, is_name, name_onto, compound_onto, class_onto, type_onto, argument_onto, more_parameters_onto, parameters_onto, elements_onto, encoding_onto, spelled_onto, is_component, is_function_type, is_compared}
+
+pub under : (f : Spelling) {g h : Spelling} → ◌≡◌ {A = Spelling} g h → ◌≡◌ {A = Spelling} (f and g) (f and h)
+under f same = ap {A = Spelling} {B = Spelling} (λ (x : Spelling). f and x) same
+
+two : (f g r : Spelling) → ◌≡◌ {A = Spelling} ((f and g) and r) (f and (g and r))
+two f g r = and-assoc f g r
+
+pub three : (f g h r : Spelling) → ◌≡◌ {A = Spelling} ((f and (g and h)) and r) (f and (g and (h and r)))
+three f g h r = and-assoc f (g and h) r ∙ under f (and-assoc g h r)
+
+four : (f g h i r : Spelling) → ◌≡◌ {A = Spelling} ((f and (g and (h and i))) and r) (f and (g and (h and (i and r))))
+four f g h i r = and-assoc f (g and (h and i)) r ∙ under f (three g h i r)
+
+five : (f g h i j r : Spelling) → ◌≡◌ {A = Spelling} ((f and (g and (h and (i and j)))) and r) (f and (g and (h and (i and (j and r)))))
+five f g h i j r = and-assoc f (g and (h and (i and j))) r ∙ under f (four g h i j r)
+
+true-false : true ≡ false → ⊥
+true-false bad = cc
+
+-- ## Names
+
+pub piece-is : (n : ℕ) (p : Term) (r : Spelling) → ◌≡◌ {A = Spelling} ((ways_of n p).as_piece and r) (piece_onto n p r)
+unfolding ways_of no_ways type_ways name_ways piece_ways argument_ways encoding_ways piece_onto ◌onto◌ written in_way
+piece-is n (source internal name) r = refl
+piece-is n (operator a b) r = refl
+piece-is n (literal_operator name) r = refl
+piece-is n (constructor digit) r = refl
+piece-is n (destructor digit) r = refl
+piece-is n (lambda parameters k) r = three (text (codes "Ul")) (ways_of n parameters).as_parameters (text (codes "E" ++ ordinal (k - 1))) r
+piece-is n (unnamed k) r = refl
+piece-is n string_literal r = refl
+piece-is n _ r = nothing-and r
+
+in-std-is : (n : ℕ) (p : Term) (r : Spelling) → ◌≡◌ {A = Spelling} ((text (codes "St") and (ways_of n p).as_piece) and r) (in_std_onto n p r)
+unfolding ◌onto◌ written
+in-std-is n p r = two (text (codes "St")) (ways_of n p).as_piece r ∙ under (text (codes "St")) (piece-is n p r)
+
+within-is : (n : ℕ) (prefix p : Term) (r : Spelling) → ◌≡◌ {A = Spelling} (((ways_of n prefix).as_prefix and (ways_of n p).as_piece) and r) (within_onto n prefix p r)
+unfolding ◌onto◌ in_way
+within-is n prefix p r = two (ways_of n prefix).as_prefix (ways_of n p).as_piece r ∙ under (ways_of n prefix).as_prefix (piece-is n p r)
+
+nested-is : (n : ℕ) (prefix p : Term) (r : Spelling) → ◌≡◌ {A = Spelling} (in_N_and_E [] ((ways_of n prefix).as_prefix and (ways_of n p).as_piece) and r) (nested_onto n prefix p r)
+unfolding in_N_and_E ◌onto◌ written
+nested-is n prefix p r =
+    three (text (codes "N")) ((ways_of n prefix).as_prefix and (ways_of n p).as_piece) (text (codes "E")) r
+    ∙ under (text (codes "N")) (within-is n prefix p (text (codes "E") and r))
+
+pub arguments-is : (n : ℕ) (a : Term) (r : Spelling) → ◌≡◌ {A = Spelling} ((text (codes "I") and ((ways_of n a).as_elements and text (codes "E"))) and r) (arguments_onto n a r)
+unfolding ◌onto◌ written in_way
+arguments-is n a r = three (text (codes "I")) (ways_of n a).as_elements (text (codes "E")) r
+
+pub between-is : (n : ℕ) (t : Term) (r : Spelling) → ◌≡◌ {A = Spelling} ((ways_of n t).between_N_and_E and r) (between_onto n t r)
+unfolding ways_of no_ways type_ways name_ways piece_ways argument_ways encoding_ways between_onto ◌onto◌ in_way ending
+between-is n (alone p) r = piece-is n p r
+between-is n (in_std p) r = in-std-is n p r
+between-is n (within prefix p) r = within-is n prefix p r
+between-is n (instance t a) r =
+    three (ways_of n t).between_N_and_E (ended n t) (text (codes "I") and ((ways_of n a).as_elements and text (codes "E"))) r
+    ∙ under (ways_of n t).between_N_and_E (under (ended n t) (arguments-is n a r))
+between-is n _ r = nothing-and r
+
+lettered-is : (n : ℕ) (letters : List ℕ) (t : Term) (r : Spelling) → ◌≡◌ {A = Spelling} (in_N_and_E letters (ways_of n t).between_N_and_E and r) (lettered_onto n (codes "N" ++ letters) t r)
+unfolding in_N_and_E ◌onto◌ written in_way
+lettered-is n letters t r = three (text (codes "N" ++ letters)) (ways_of n t).between_N_and_E (text (codes "E")) r
+
+local-is : (n : ℕ) (around entity : Term) (d : Option (List ℕ)) (letters : List ℕ) (r : Spelling)
+    → ◌≡◌ {A = Spelling} (local_text (ways_of n around).as_encoding entity (ways_of n entity).between_N_and_E d letters and r) (local_onto n around entity d (codes "N" ++ letters) r)
+unfolding local_text entity_text local_onto ◌onto◌ written in_way
+local-is n around entity d letters r =
+    five (text (codes "Z")) (ways_of n around).as_encoding (text (codes "E")) (entity_text entity letters (ways_of n entity).between_N_and_E) (text (discriminator_text d)) r
+    ∙ under (text (codes "Z")) (under (ways_of n around).as_encoding (under (text (codes "E")) (go (is_one_piece entity))))
+  where
+    rest : Spelling
+    rest = text (discriminator_text d) and r
+
+    go : (b : Bool) → ◌≡◌ {A = Spelling} ((elim b as (λ _. Spelling) [ true ↦ (ways_of n entity).between_N_and_E | false ↦ in_N_and_E letters (ways_of n entity).between_N_and_E ]) and rest)
+        (elim b as (λ _. Spelling) [ true ↦ (ways_of n entity).between_N_and_E and rest | false ↦ lettered_onto n (codes "N" ++ letters) entity rest ])
+    go true = refl
+    go false = lettered-is n letters entity rest
+
+lettered-or : (q : Qualifiers) (ref : RefQualifier) (own between : Spelling)
+    → ◌≡◌ {A = Spelling} (with_letters (name_letters q ref) own between) (elim (has_letters q ref) as (λ _. Spelling) [ true ↦ in_N_and_E (name_letters q ref) between | false ↦ own ])
+unfolding with_letters name_letters qualifier_letters mark_letter has_letters
+lettered-or q ref own between = go q.restrict q.volatile q.const ref
+  where
+    go : (r v k : Bool) (ref : RefQualifier)
+        → ◌≡◌ {A = Spelling} (with_letters (name_letters (record { restrict = r; volatile = v; const = k }) ref) own between)
+        (elim (has_letters (record { restrict = r; volatile = v; const = k }) ref) as (λ _. Spelling) [ true ↦ in_N_and_E (name_letters (record { restrict = r; volatile = v; const = k }) ref) between | false ↦ own ])
+    go false false false any_value = refl
+    go false false false lvalue_only = refl
+    go false false false rvalue_only = refl
+    go false false true any_value = refl
+    go false false true lvalue_only = refl
+    go false false true rvalue_only = refl
+    go false true k any_value = refl
+    go false true k lvalue_only = refl
+    go false true k rvalue_only = refl
+    go true v k any_value = refl
+    go true v k lvalue_only = refl
+    go true v k rvalue_only = refl
+
+own-name-is : (n : ℕ) (q : Qualifiers) (ref : RefQualifier) (t : Term) (own : Spelling) (r plain : Spelling) → ◌≡◌ {A = Spelling} (own and r) plain
+    → ◌≡◌ {A = Spelling} (with_letters (name_letters q ref) own (ways_of n t).between_N_and_E and r)
+    (elim (has_letters q ref) as (λ _. Spelling) [ true ↦ lettered_onto n (codes "N" ++ name_letters q ref) t r | false ↦ plain ])
+own-name-is n q ref t own r plain same = ap {A = Spelling} {B = Spelling} (λ (x : Spelling). x and r) (lettered-or q ref own (ways_of n t).between_N_and_E) ∙ go (has_letters q ref)
+  where
+    go : (b : Bool) → ◌≡◌ {A = Spelling} ((elim b as (λ _. Spelling) [ true ↦ in_N_and_E (name_letters q ref) (ways_of n t).between_N_and_E | false ↦ own ]) and r)
+        (elim b as (λ _. Spelling) [ true ↦ lettered_onto n (codes "N" ++ name_letters q ref) t r | false ↦ plain ])
+    go true = lettered-is n (name_letters q ref) t r
+    go false = same
+
+pub name-is : (n : ℕ) (q : Qualifiers) (ref : RefQualifier) (t : Term) (r : Spelling) → ◌≡◌ {A = Spelling} (in_name n q ref t and r) (name_onto n q ref t r)
+unfolding ways_of no_ways type_ways name_ways piece_ways argument_ways encoding_ways in_name name_onto plain_name_onto is_name before bracketed ◌onto◌ written in_way
+name-is n q ref (local around entity d) r = local-is n around entity d (name_letters q ref) r
+name-is n q ref (alone p) r = own-name-is n q ref (alone p) (ways_of n p).as_piece r (piece_onto n p r) (piece-is n p r)
+name-is n q ref (in_std p) r = own-name-is n q ref (in_std p) (text (codes "St") and (ways_of n p).as_piece) r (in_std_onto n p r) (in-std-is n p r)
+name-is n q ref (within prefix p) r = own-name-is n q ref (within prefix p) (in_N_and_E [] ((ways_of n prefix).as_prefix and (ways_of n p).as_piece)) r (nested_onto n prefix p r) (nested-is n prefix p r)
+name-is n q ref (instance t a) r = own-name-is n q ref (instance t a) (before n false t a) r (before n false t a and r) refl
+name-is n q ref _ r = nothing-and r
+
+-- ## Encodings, lists, arguments
+
+-- where an encoding is spelled doesn't depend on the encoding around it
+same-encoding : (n m : ℕ) (t : Term) → ◌≡◌ {A = Spelling} (ways_of n t).as_encoding (ways_of m t).as_encoding
+unfolding ways_of no_ways type_ways name_ways piece_ways argument_ways encoding_ways
+same-encoding n m (symbol e suffix) = ap {A = Spelling} {B = Spelling} (λ (f : Spelling). text (codes "_Z") and (f and text suffix)) (same-encoding n m e)
+same-encoding n m _ = refl
+
+pub encoding-is : (n here : ℕ) (t : Term) (r : Spelling) (cs : List Candidate) → (((ways_of n t).as_encoding) and r) here cs ≡ (encoding_onto here t r) here cs
+unfolding ways_of no_ways type_ways name_ways piece_ways argument_ways encoding_ways begun encoding_onto in_name ◌onto◌ written in_way
+encoding-is n here (function name q ref returned parameters) r cs =
+    ap {A = Spelling} (λ (f : Spelling). f here cs) (three ((ways_of here name).as_name (name_letters q ref)) (ways_of here returned).as_type (ways_of here parameters).as_parameters r)
+encoding-is n here (object name q ref) r cs = refl
+encoding-is n here (special letter t) r cs = ap {A = Spelling} (λ (f : Spelling). f here cs) (two (text (codes "T" ++ letter ∷ [])) (ways_of here t).as_type r)
+encoding-is n here (thunk kind e) r cs = ap {A = Spelling} (λ (f : Spelling). f here cs) (two (text (thunk_text kind)) (ways_of here e).as_encoding r)
+encoding-is n here (guard name q ref) r cs = ap {A = Spelling} (λ (f : Spelling). f here cs) (two (text (codes "GV")) ((ways_of here name).as_name (name_letters q ref)) r)
+encoding-is n here (symbol e suffix) r cs =
+    ap {A = Spelling} (λ (f : Spelling). f here cs) (three (text (codes "_Z")) (ways_of n e).as_encoding (text suffix) r)
+    ∙ ap {A = Spelling} (λ (f : Spelling). (text (codes "_Z") and (f and (text suffix and r))) here cs) (same-encoding n here e)
+encoding-is n here _ r cs = ap {A = Spelling} (λ (f : Spelling). f here cs) (nothing-and r)
+
+pub argument-rest : (n : ℕ) (t : Term) (r : Spelling) → is_component t ≡ false → ◌≡◌ {A = Spelling} (in_way n Way.Argument t and r) (argument_onto n t r)
+unfolding ways_of no_ways type_ways name_ways piece_ways argument_ways encoding_ways argument_onto type_onto class_onto compound_onto is_component ◌onto◌ written in_way
+argument-rest n (integer t value) r is = three (text (codes "L")) (ways_of n t).as_type (text (signed_text value ++ codes "E")) r
+argument-rest n (boolean truth) r is = refl
+argument-rest n null_pointer r is = refl
+argument-rest n (encoding_literal e) r is = three (text (codes "L_Z")) (ways_of n e).as_encoding (text (codes "E")) r
+argument-rest n (address_of e) r is = three (text (codes "XadL_Z")) (ways_of n e).as_encoding (text (codes "EE")) r
+argument-rest n (pack elements) r is = three (text (codes "J")) (ways_of n elements).as_elements (text (codes "E")) r
+argument-rest n (builtin code) r is = refl
+argument-rest n (abbreviation letter) r is = refl
+argument-rest n (alone p) r is = absurd (true-false is)
+argument-rest n (in_std p) r is = absurd (true-false is)
+argument-rest n (within prefix p) r is = absurd (true-false is)
+argument-rest n (instance t a) r is = absurd (true-false is)
+argument-rest n (local around entity d) r is = absurd (true-false is)
+argument-rest n (parameter k) r is = absurd (true-false is)
+argument-rest n (vendor name) r is = absurd (true-false is)
+argument-rest n (pointer t) r is = absurd (true-false is)
+argument-rest n (lvalue t) r is = absurd (true-false is)
+argument-rest n (rvalue t) r is = absurd (true-false is)
+argument-rest n (array digits t) r is = absurd (true-false is)
+argument-rest n (member_pointer c t) r is = absurd (true-false is)
+argument-rest n (function_type y e ref t p) r is = absurd (true-false is)
+argument-rest n (qualified q t) r is = absurd (true-false is)
+argument-rest n (vector digits t) r is = absurd (true-false is)
+argument-rest n (complex t) r is = absurd (true-false is)
+argument-rest n (expansion t) r is = absurd (true-false is)
+argument-rest n _ r is = nothing-and r
+
+pub type-rest : (n : ℕ) (t : Term) (r : Spelling) → is_component t ≡ false → ◌≡◌ {A = Spelling} (in_way n Way.Type t and r) (type_onto n t r)
+unfolding ways_of no_ways type_ways name_ways piece_ways argument_ways encoding_ways type_onto class_onto compound_onto is_component ◌onto◌ written in_way
+type-rest n (builtin code) r is = refl
+type-rest n (abbreviation letter) r is = refl
+type-rest n (alone p) r is = absurd (true-false is)
+type-rest n (in_std p) r is = absurd (true-false is)
+type-rest n (within prefix p) r is = absurd (true-false is)
+type-rest n (instance t a) r is = absurd (true-false is)
+type-rest n (local around entity d) r is = absurd (true-false is)
+type-rest n (parameter k) r is = absurd (true-false is)
+type-rest n (vendor name) r is = absurd (true-false is)
+type-rest n (pointer t) r is = absurd (true-false is)
+type-rest n (lvalue t) r is = absurd (true-false is)
+type-rest n (rvalue t) r is = absurd (true-false is)
+type-rest n (array digits t) r is = absurd (true-false is)
+type-rest n (member_pointer c t) r is = absurd (true-false is)
+type-rest n (function_type y e ref t p) r is = absurd (true-false is)
+type-rest n (qualified q t) r is = absurd (true-false is)
+type-rest n (vector digits t) r is = absurd (true-false is)
+type-rest n (complex t) r is = absurd (true-false is)
+type-rest n (expansion t) r is = absurd (true-false is)
+type-rest n _ r is = nothing-and r
+
+pub qualified-rest : (n : ℕ) (t : Term) (r : Spelling) → cond (is_function_type t) false (is_component t) ≡ false → ◌≡◌ {A = Spelling} (in_way n Way.UnderQualifiers t and r) (type_onto n t r)
+unfolding ways_of no_ways type_ways name_ways piece_ways argument_ways encoding_ways function_text type_onto class_onto compound_onto is_component is_function_type ◌onto◌ written in_way
+qualified-rest n (function_type y e ref t p) r is =
+    four (text (cond e (codes "Do") [] ++ codes "F" ++ cond y (codes "Y") [])) (ways_of n t).as_type (ways_of n p).as_parameters (text (mark_letter ref ++ codes "E")) r
+qualified-rest n (builtin code) r is = refl
+qualified-rest n (abbreviation letter) r is = refl
+qualified-rest n (alone p) r is = absurd (true-false is)
+qualified-rest n (in_std p) r is = absurd (true-false is)
+qualified-rest n (within prefix p) r is = absurd (true-false is)
+qualified-rest n (instance t a) r is = absurd (true-false is)
+qualified-rest n (local around entity d) r is = absurd (true-false is)
+qualified-rest n (parameter k) r is = absurd (true-false is)
+qualified-rest n (vendor name) r is = absurd (true-false is)
+qualified-rest n (pointer t) r is = absurd (true-false is)
+qualified-rest n (lvalue t) r is = absurd (true-false is)
+qualified-rest n (rvalue t) r is = absurd (true-false is)
+qualified-rest n (array digits t) r is = absurd (true-false is)
+qualified-rest n (member_pointer c t) r is = absurd (true-false is)
+qualified-rest n (qualified q t) r is = absurd (true-false is)
+qualified-rest n (vector digits t) r is = absurd (true-false is)
+qualified-rest n (complex t) r is = absurd (true-false is)
+qualified-rest n (expansion t) r is = absurd (true-false is)
+qualified-rest n _ r is = nothing-and r
+
+pub prefix-rest : (n : ℕ) (t : Term) (r : Spelling) → is_component t ≡ false
+    → ◌≡◌ {A = Spelling} (in_way n Way.Prefix t and r) (elim (is_name t) as (λ _. Spelling) [ true ↦ prefix_onto n t r | false ↦ type_onto n t r ])
+unfolding ways_of no_ways type_ways name_ways piece_ways argument_ways encoding_ways prefix_onto type_onto class_onto compound_onto is_component is_name ◌onto◌ written in_way
+prefix-rest n (builtin code) r is = refl
+prefix-rest n (abbreviation letter) r is = refl
+prefix-rest n (alone p) r is = absurd (true-false is)
+prefix-rest n (in_std p) r is = absurd (true-false is)
+prefix-rest n (within prefix p) r is = absurd (true-false is)
+prefix-rest n (instance t a) r is = absurd (true-false is)
+prefix-rest n (local around entity d) r is = absurd (true-false is)
+prefix-rest n (parameter k) r is = absurd (true-false is)
+prefix-rest n (vendor name) r is = absurd (true-false is)
+prefix-rest n (pointer t) r is = absurd (true-false is)
+prefix-rest n (lvalue t) r is = absurd (true-false is)
+prefix-rest n (rvalue t) r is = absurd (true-false is)
+prefix-rest n (array digits t) r is = absurd (true-false is)
+prefix-rest n (member_pointer c t) r is = absurd (true-false is)
+prefix-rest n (function_type y e ref t p) r is = absurd (true-false is)
+prefix-rest n (qualified q t) r is = absurd (true-false is)
+prefix-rest n (vector digits t) r is = absurd (true-false is)
+prefix-rest n (complex t) r is = absurd (true-false is)
+prefix-rest n (expansion t) r is = absurd (true-false is)
+prefix-rest n _ r is = nothing-and r
+
+pub more-is : (n : ℕ) (t : Term) (r : Spelling) → ◌≡◌ {A = Spelling} (in_way n Way.MoreParameters t and r) (more_parameters_onto n t r)
+unfolding ways_of no_ways type_ways name_ways piece_ways argument_ways encoding_ways more_parameters_onto ◌onto◌ written in_way
+more-is n (list first others) r = two (ways_of n first).as_type (ways_of n others).as_more_parameters r
+more-is n _ r = nothing-and r
+
+pub parameters-is : (n : ℕ) (t : Term) (r : Spelling) → ◌≡◌ {A = Spelling} (in_way n Way.Parameters t and r) (parameters_onto n t r)
+unfolding ways_of no_ways type_ways name_ways piece_ways argument_ways encoding_ways parameters_onto more_parameters_onto ◌onto◌ written in_way
+parameters-is n nil r = refl
+parameters-is n (list first others) r = two (ways_of n first).as_type (ways_of n others).as_more_parameters r
+parameters-is n _ r = nothing-and r
+
+pub elements-is : (n : ℕ) (t : Term) (r : Spelling) → ◌≡◌ {A = Spelling} (in_way n Way.Elements t and r) (elements_onto n t r)
+unfolding ways_of no_ways type_ways name_ways piece_ways argument_ways encoding_ways elements_onto ◌onto◌ written in_way
+elements-is n (list first others) r = two (ways_of n first).as_argument (ways_of n others).as_elements r
+elements-is n _ r = nothing-and r
+
+-- ## Components
+
+fresh : (n : ℕ) (t : Term) (s r : Spelling) (p : ℕ) (cs : List Candidate) → first_equal n t 0 cs ≡ None → (component n t s and r) p cs ≡ (s and (ended n t and r)) p cs
+unfolding component spelled_out
+fresh n t s r p cs none =
+    ap (λ o. ((λ (q : ℕ) (ds : List Candidate). elim o as (λ _. _) [ Some k ↦ reference k q ds | None ↦ (s and ended n t) q ds ]) and r) p cs) none
+    ∙ ap {A = Spelling} (λ (f : Spelling). f p cs) (and-assoc s (ended n t) r)
+
+known : (n : ℕ) (t : Term) (s r : Spelling) (k p : ℕ) (cs : List Candidate) → first_equal n t 0 cs ≡ Some k → (component n t s and r) p cs ≡ (reference k and r) p cs
+unfolding component
+known n t s r k p cs some =
+    ap (λ o. ((λ (q : ℕ) (ds : List Candidate). elim o as (λ _. _) [ Some k ↦ reference k q ds | None ↦ spelled_out n t s q ds ]) and r) p cs) some
+
+std-is : (n : ℕ) (p : Term) (r : Spelling)
+    → ◌≡◌ {A = Spelling} ((elim (is_operator p) as (λ _. Spelling) [ true ↦ in_N_and_E [] (text (codes "St") and (ways_of n p).as_piece) | false ↦ text (codes "St") and (ways_of n p).as_piece ]) and r)
+    (elim (is_operator p) as (λ _. Spelling) [ true ↦ written (codes "N") onto in_std_onto n p (written (codes "E") onto r) | false ↦ in_std_onto n p r ])
+unfolding in_N_and_E ◌onto◌ written
+std-is n p r = go (is_operator p)
+  where
+    go : (b : Bool)
+        → ◌≡◌ {A = Spelling} ((elim b as (λ _. Spelling) [ true ↦ in_N_and_E [] (text (codes "St") and (ways_of n p).as_piece) | false ↦ text (codes "St") and (ways_of n p).as_piece ]) and r)
+        (elim b as (λ _. Spelling) [ true ↦ written (codes "N") onto in_std_onto n p (written (codes "E") onto r) | false ↦ in_std_onto n p r ])
+    go true = three (text (codes "N")) (text (codes "St") and (ways_of n p).as_piece) (text (codes "E")) r ∙ under (text (codes "N")) (in-std-is n p (text (codes "E") and r))
+    go false = in-std-is n p r
+
+-- what a type is, where it isn't a reference
+content : (n : ℕ) → Term → Spelling
+content n (alone p) = (ways_of n p).as_piece
+content n (in_std p) = elim (is_operator p) [ true ↦ in_N_and_E [] (text (codes "St") and (ways_of n p).as_piece) | false ↦ text (codes "St") and (ways_of n p).as_piece ]
+content n (within prefix p) = in_N_and_E [] ((ways_of n prefix).as_prefix and (ways_of n p).as_piece)
+content n (instance t a) = before n true t a
+content n (local around entity d) = local_text (ways_of n around).as_encoding entity (ways_of n entity).between_N_and_E d []
+content n (parameter k) = text (codes "T" ++ ordinal k)
+content n (vendor name) = text (codes "u" ++ counted name)
+content n (pointer t) = text (codes "P") and (ways_of n t).as_type
+content n (lvalue t) = text (codes "R") and (ways_of n t).as_type
+content n (rvalue t) = text (codes "O") and (ways_of n t).as_type
+content n (array digits t) = text (codes "A" ++ digits ++ codes "_") and (ways_of n t).as_type
+content n (member_pointer c t) = text (codes "M") and ((ways_of n c).as_type and (ways_of n t).as_type)
+content n (function_type y x ref t p) = function_text y x ref (ways_of n t).as_type (ways_of n p).as_parameters
+content n (qualified q t) = text (qualifier_letters q) and (ways_of n t).under_qualifiers
+content n (vector digits t) = text (codes "Dv" ++ digits ++ codes "_") and (ways_of n t).as_type
+content n (complex t) = text (codes "C") and (ways_of n t).as_type
+content n (expansion t) = text (codes "Dp") and (ways_of n t).as_type
+content n _ = nothing
+
+content-is : (n : ℕ) (t : Term) (e : Spelling) → is_component t ≡ true → ◌≡◌ {A = Spelling} (content n t and e) (type_onto n t e)
+unfolding content is_component type_onto class_onto compound_onto function_text ◌onto◌ written in_way
+content-is n (alone p) e is = piece-is n p e
+content-is n (in_std p) e is = std-is n p e
+content-is n (within prefix p) e is = nested-is n prefix p e
+content-is n (instance t a) e is = refl
+content-is n (local around entity d) e is = local-is n around entity d [] e
+content-is n (parameter k) e is = refl
+content-is n (vendor name) e is = refl
+content-is n (pointer t) e is = two (text (codes "P")) (ways_of n t).as_type e
+content-is n (lvalue t) e is = two (text (codes "R")) (ways_of n t).as_type e
+content-is n (rvalue t) e is = two (text (codes "O")) (ways_of n t).as_type e
+content-is n (array digits t) e is = two (text (codes "A" ++ digits ++ codes "_")) (ways_of n t).as_type e
+content-is n (member_pointer c t) e is = three (text (codes "M")) (ways_of n c).as_type (ways_of n t).as_type e
+content-is n (function_type y x ref t p) e is = four (text (cond x (codes "Do") [] ++ codes "F" ++ cond y (codes "Y") [])) (ways_of n t).as_type (ways_of n p).as_parameters (text (mark_letter ref ++ codes "E")) e
+content-is n (qualified q t) e is = two (text (qualifier_letters q)) (ways_of n t).under_qualifiers e
+content-is n (vector digits t) e is = two (text (codes "Dv" ++ digits ++ codes "_")) (ways_of n t).as_type e
+content-is n (complex t) e is = two (text (codes "C")) (ways_of n t).as_type e
+content-is n (expansion t) e is = two (text (codes "Dp")) (ways_of n t).as_type e
+content-is n _ e is = absurd (true-false (sym is))
+
+typed-is : (n : ℕ) (t : Term) → is_component t ≡ true → ◌≡◌ {A = Spelling} (in_way n Way.Type t) (component n t (content n t))
+unfolding ways_of no_ways type_ways name_ways piece_ways argument_ways encoding_ways content is_component before bracketed ◌onto◌ written in_way
+typed-is n (alone p) is = refl
+typed-is n (in_std p) is = refl
+typed-is n (within prefix p) is = refl
+typed-is n (instance t a) is = refl
+typed-is n (local around entity d) is = refl
+typed-is n (parameter k) is = refl
+typed-is n (vendor name) is = refl
+typed-is n (pointer t) is = refl
+typed-is n (lvalue t) is = refl
+typed-is n (rvalue t) is = refl
+typed-is n (array digits t) is = refl
+typed-is n (member_pointer c t) is = refl
+typed-is n (function_type y x ref t p) is = refl
+typed-is n (qualified q t) is = refl
+typed-is n (vector digits t) is = refl
+typed-is n (complex t) is = refl
+typed-is n (expansion t) is = refl
+typed-is n _ is = absurd (true-false (sym is))
+
+argued-is : (n : ℕ) (t : Term) → is_component t ≡ true → ◌≡◌ {A = Spelling} (in_way n Way.Argument t) (component n t (content n t))
+unfolding ways_of no_ways type_ways name_ways piece_ways argument_ways encoding_ways content is_component before bracketed ◌onto◌ written in_way
+argued-is n (alone p) is = refl
+argued-is n (in_std p) is = refl
+argued-is n (within prefix p) is = refl
+argued-is n (instance t a) is = refl
+argued-is n (local around entity d) is = refl
+argued-is n (parameter k) is = refl
+argued-is n (vendor name) is = refl
+argued-is n (pointer t) is = refl
+argued-is n (lvalue t) is = refl
+argued-is n (rvalue t) is = refl
+argued-is n (array digits t) is = refl
+argued-is n (member_pointer c t) is = refl
+argued-is n (function_type y x ref t p) is = refl
+argued-is n (qualified q t) is = refl
+argued-is n (vector digits t) is = refl
+argued-is n (complex t) is = refl
+argued-is n (expansion t) is = refl
+argued-is n _ is = absurd (true-false (sym is))
+
+under-is : (n : ℕ) (t : Term) → cond (is_function_type t) false (is_component t) ≡ true → ◌≡◌ {A = Spelling} (in_way n Way.UnderQualifiers t) (component n t (content n t))
+unfolding ways_of no_ways type_ways name_ways piece_ways argument_ways encoding_ways content is_component is_function_type before bracketed ◌onto◌ written in_way
+under-is n (function_type y x ref t p) is = absurd (true-false (sym is))
+under-is n (alone p) is = refl
+under-is n (in_std p) is = refl
+under-is n (within prefix p) is = refl
+under-is n (instance t a) is = refl
+under-is n (local around entity d) is = refl
+under-is n (parameter k) is = refl
+under-is n (vendor name) is = refl
+under-is n (pointer t) is = refl
+under-is n (lvalue t) is = refl
+under-is n (rvalue t) is = refl
+under-is n (array digits t) is = refl
+under-is n (member_pointer c t) is = refl
+under-is n (qualified q t) is = refl
+under-is n (vector digits t) is = refl
+under-is n (complex t) is = refl
+under-is n (expansion t) is = refl
+under-is n _ is = absurd (true-false (sym is))
+
+under-component : (t : Term) → cond (is_function_type t) false (is_component t) ≡ true → is_component t ≡ true
+under-component t is = go (is_function_type t) is
+  where
+    go : (b : Bool) → cond b false (is_component t) ≡ true → is_component t ≡ true
+    go true h = absurd (true-false (sym h))
+    go false h = h
+
+-- what a prefix is, where it isn't a reference
+prefix_content : (n : ℕ) → Term → Spelling
+prefix_content n (in_std p) = text (codes "St") and (ways_of n p).as_piece
+prefix_content n (within prefix p) = (ways_of n prefix).as_prefix and (ways_of n p).as_piece
+prefix_content n (instance t a) = (ways_of n t).as_prefix and (text (codes "I") and ((ways_of n a).as_elements and text (codes "E")))
+prefix_content n t = content n t
+
+prefixed-is : (n : ℕ) (t : Term) → is_component t ≡ true → ◌≡◌ {A = Spelling} (in_way n Way.Prefix t) (component n t (prefix_content n t))
+unfolding ways_of no_ways type_ways name_ways piece_ways argument_ways encoding_ways content prefix_content is_component in_way
+prefixed-is n (alone p) is = refl
+prefixed-is n (in_std p) is = refl
+prefixed-is n (within prefix p) is = refl
+prefixed-is n (instance t a) is = refl
+prefixed-is n (local around entity d) is = refl
+prefixed-is n (parameter k) is = refl
+prefixed-is n (vendor name) is = refl
+prefixed-is n (pointer t) is = refl
+prefixed-is n (lvalue t) is = refl
+prefixed-is n (rvalue t) is = refl
+prefixed-is n (array digits t) is = refl
+prefixed-is n (member_pointer c t) is = refl
+prefixed-is n (function_type y x ref t p) is = refl
+prefixed-is n (qualified q t) is = refl
+prefixed-is n (vector digits t) is = refl
+prefixed-is n (complex t) is = refl
+prefixed-is n (expansion t) is = refl
+prefixed-is n _ is = absurd (true-false (sym is))
+
+argument-content-is : (n : ℕ) (t : Term) (e : Spelling) → is_component t ≡ true → ◌≡◌ {A = Spelling} (content n t and e) (argument_onto n t e)
+unfolding argument_onto is_component
+argument-content-is n (alone p) e is = content-is n (alone p) e is
+argument-content-is n (in_std p) e is = content-is n (in_std p) e is
+argument-content-is n (within prefix p) e is = content-is n (within prefix p) e is
+argument-content-is n (instance t a) e is = content-is n (instance t a) e is
+argument-content-is n (local around entity d) e is = content-is n (local around entity d) e is
+argument-content-is n (parameter k) e is = content-is n (parameter k) e is
+argument-content-is n (vendor name) e is = content-is n (vendor name) e is
+argument-content-is n (pointer t) e is = content-is n (pointer t) e is
+argument-content-is n (lvalue t) e is = content-is n (lvalue t) e is
+argument-content-is n (rvalue t) e is = content-is n (rvalue t) e is
+argument-content-is n (array digits t) e is = content-is n (array digits t) e is
+argument-content-is n (member_pointer c t) e is = content-is n (member_pointer c t) e is
+argument-content-is n (function_type y x ref t p) e is = content-is n (function_type y x ref t p) e is
+argument-content-is n (qualified q t) e is = content-is n (qualified q t) e is
+argument-content-is n (vector digits t) e is = content-is n (vector digits t) e is
+argument-content-is n (complex t) e is = content-is n (complex t) e is
+argument-content-is n (expansion t) e is = content-is n (expansion t) e is
+argument-content-is n _ e is = absurd (true-false (sym is))
+
+prefix-content-is : (n : ℕ) (t : Term) (e : Spelling) → is_component t ≡ true
+    → ◌≡◌ {A = Spelling} (prefix_content n t and e) (elim (is_name t) as (λ _. Spelling) [ true ↦ prefix_onto n t e | false ↦ type_onto n t e ])
+unfolding prefix_content content is_component is_name prefix_onto between_onto ◌onto◌ in_way
+prefix-content-is n (alone p) e is = piece-is n p e
+prefix-content-is n (in_std p) e is = in-std-is n p e
+prefix-content-is n (within prefix p) e is = within-is n prefix p e
+prefix-content-is n (instance t a) e is =
+    and-assoc (ways_of n t).as_prefix (text (codes "I") and ((ways_of n a).as_elements and text (codes "E"))) e ∙ under (ways_of n t).as_prefix (arguments-is n a e)
+prefix-content-is n (local around entity d) e is = content-is n (local around entity d) e is
+prefix-content-is n (parameter k) e is = content-is n (parameter k) e is
+prefix-content-is n (vendor name) e is = content-is n (vendor name) e is
+prefix-content-is n (pointer t) e is = content-is n (pointer t) e is
+prefix-content-is n (lvalue t) e is = content-is n (lvalue t) e is
+prefix-content-is n (rvalue t) e is = content-is n (rvalue t) e is
+prefix-content-is n (array digits t) e is = content-is n (array digits t) e is
+prefix-content-is n (member_pointer c t) e is = content-is n (member_pointer c t) e is
+prefix-content-is n (function_type y x ref t p) e is = content-is n (function_type y x ref t p) e is
+prefix-content-is n (qualified q t) e is = content-is n (qualified q t) e is
+prefix-content-is n (vector digits t) e is = content-is n (vector digits t) e is
+prefix-content-is n (complex t) e is = content-is n (complex t) e is
+prefix-content-is n (expansion t) e is = content-is n (expansion t) e is
+prefix-content-is n _ e is = absurd (true-false (sym is))
+
+-- ## A tree as it stands to the components before it
+
+fresh-way : (n : ℕ) (t : Term) (way s r after : Spelling) (p : ℕ) (cs : List Candidate) → ◌≡◌ {A = Spelling} way (component n t s)
+    → ◌≡◌ {A = Spelling} (s and (ended n t and r)) after → first_equal n t 0 cs ≡ None → (way and r) p cs ≡ after p cs
+fresh-way n t way s r after p cs is onto_is none =
+    ap {A = Spelling} (λ (f : Spelling). (f and r) p cs) is ∙ fresh n t s r p cs none ∙ ap {A = Spelling} (λ (f : Spelling). f p cs) onto_is
+
+known-way : (n : ℕ) (t : Term) (way s r : Spelling) (k p : ℕ) (cs : List Candidate) → ◌≡◌ {A = Spelling} way (component n t s)
+    → first_equal n t 0 cs ≡ Some k → (way and r) p cs ≡ (reference k and r) p cs
+known-way n t way s r k p cs is some = ap {A = Spelling} (λ (f : Spelling). (f and r) p cs) is ∙ known n t s r k p cs some
+
+pub fresh-tree : (n p : ℕ) (way : Way) (t : Term) (r : Spelling) (cs : List Candidate) → is_compared way t ≡ true → first_equal n t 0 cs ≡ None
+    → (in_way n way t and r) p cs ≡ (spelled_onto n p way t (ended n t and r)) p cs
+fresh-tree n p Way.Type t r cs is none = fresh-way n t (in_way n Way.Type t) (content n t) r (type_onto n t (ended n t and r)) p cs (typed-is n t is) (content-is n t (ended n t and r) is) none
+fresh-tree n p Way.UnderQualifiers t r cs is none =
+    fresh-way n t (in_way n Way.UnderQualifiers t) (content n t) r (type_onto n t (ended n t and r)) p cs (under-is n t is) (content-is n t (ended n t and r) (under-component t is)) none
+fresh-tree n p Way.Prefix t r cs is none =
+    fresh-way n t (in_way n Way.Prefix t) (prefix_content n t) r (elim (is_name t) as (λ _. Spelling) [ true ↦ prefix_onto n t (ended n t and r) | false ↦ type_onto n t (ended n t and r) ]) p cs
+    (prefixed-is n t is) (prefix-content-is n t (ended n t and r) is) none
+fresh-tree n p Way.Argument t r cs is none =
+    fresh-way n t (in_way n Way.Argument t) (content n t) r (argument_onto n t (ended n t and r)) p cs (argued-is n t is) (argument-content-is n t (ended n t and r) is) none
+fresh-tree n p _ t r cs is none = absurd (true-false (sym is))
+
+pub known-tree : (n p k : ℕ) (way : Way) (t : Term) (r : Spelling) (cs : List Candidate) → is_compared way t ≡ true → first_equal n t 0 cs ≡ Some k
+    → (in_way n way t and r) p cs ≡ (reference k and r) p cs
+known-tree n p k Way.Type t r cs is some = known-way n t (in_way n Way.Type t) (content n t) r k p cs (typed-is n t is) some
+known-tree n p k Way.UnderQualifiers t r cs is some = known-way n t (in_way n Way.UnderQualifiers t) (content n t) r k p cs (under-is n t is) some
+known-tree n p k Way.Prefix t r cs is some = known-way n t (in_way n Way.Prefix t) (prefix_content n t) r k p cs (prefixed-is n t is) some
+known-tree n p k Way.Argument t r cs is some = known-way n t (in_way n Way.Argument t) (content n t) r k p cs (argued-is n t is) some
+known-tree n p k _ t r cs is some = absurd (true-false (sym is))
+
+pub apart-tree : (n p : ℕ) (way : Way) (t : Term) (r : Spelling) (cs : List Candidate) → is_compared way t ≡ false → (in_way n way t and r) p cs ≡ (spelled_onto n p way t r) p cs
+unfolding in_way
+apart-tree n p Way.Type t r cs is = ap {A = Spelling} (λ (f : Spelling). f p cs) (type-rest n t r is)
+apart-tree n p Way.UnderQualifiers t r cs is = ap {A = Spelling} (λ (f : Spelling). f p cs) (qualified-rest n t r is)
+apart-tree n p Way.Prefix t r cs is = ap {A = Spelling} (λ (f : Spelling). f p cs) (prefix-rest n t r is)
+apart-tree n p Way.Between t r cs is = ap {A = Spelling} (λ (f : Spelling). f p cs) (between-is n t r)
+apart-tree n p Way.Encoding t r cs is = encoding-is n p t r cs
+apart-tree n p (Way.Name q m) t r cs is = ap {A = Spelling} (λ (f : Spelling). f p cs) (name-is n (qualifiers_of q) (mark_of m) t r)
+apart-tree n p Way.Argument t r cs is = ap {A = Spelling} (λ (f : Spelling). f p cs) (argument-rest n t r is)
+apart-tree n p Way.Parameters t r cs is = ap {A = Spelling} (λ (f : Spelling). f p cs) (parameters-is n t r)
+apart-tree n p Way.MoreParameters t r cs is = ap {A = Spelling} (λ (f : Spelling). f p cs) (more-is n t r)
+apart-tree n p Way.Elements t r cs is = ap {A = Spelling} (λ (f : Spelling). f p cs) (elements-is n t r)
+
+-- ## Template names
+
+pub apart-template : (n : ℕ) (b : Bool) (t a : Term) (r : Spelling) → is_name t ≡ false → ◌≡◌ {A = Spelling} (before n b t a and r) (in_way n Way.Type t and arguments_onto n a r)
+unfolding ways_of no_ways type_ways name_ways piece_ways argument_ways encoding_ways is_name before bracketed ◌onto◌ written in_way
+apart-template n b (alone p) x r is = absurd (true-false is)
+apart-template n b (in_std p) x r is = absurd (true-false is)
+apart-template n b (within prefix p) x r is = absurd (true-false is)
+apart-template n b (instance t a) x r is = absurd (true-false is)
+apart-template n b (local around entity d) a r is = and-assoc (ways_of n (local around entity d)).as_type (text (codes "I") and ((ways_of n a).as_elements and text (codes "E"))) r ∙ under (ways_of n (local around entity d)).as_type (arguments-is n a r)
+apart-template n b (abbreviation letter) a r is = and-assoc (ways_of n (abbreviation letter)).as_type (text (codes "I") and ((ways_of n a).as_elements and text (codes "E"))) r ∙ under (ways_of n (abbreviation letter)).as_type (arguments-is n a r)
+apart-template n b (parameter k) a r is = and-assoc (ways_of n (parameter k)).as_type (text (codes "I") and ((ways_of n a).as_elements and text (codes "E"))) r ∙ under (ways_of n (parameter k)).as_type (arguments-is n a r)
+apart-template n b (builtin code) a r is = and-assoc (ways_of n (builtin code)).as_type (text (codes "I") and ((ways_of n a).as_elements and text (codes "E"))) r ∙ under (ways_of n (builtin code)).as_type (arguments-is n a r)
+apart-template n b (vendor name) a r is = and-assoc (ways_of n (vendor name)).as_type (text (codes "I") and ((ways_of n a).as_elements and text (codes "E"))) r ∙ under (ways_of n (vendor name)).as_type (arguments-is n a r)
+apart-template n b (pointer u) a r is = and-assoc (ways_of n (pointer u)).as_type (text (codes "I") and ((ways_of n a).as_elements and text (codes "E"))) r ∙ under (ways_of n (pointer u)).as_type (arguments-is n a r)
+apart-template n b (lvalue u) a r is = and-assoc (ways_of n (lvalue u)).as_type (text (codes "I") and ((ways_of n a).as_elements and text (codes "E"))) r ∙ under (ways_of n (lvalue u)).as_type (arguments-is n a r)
+apart-template n b (rvalue u) a r is = and-assoc (ways_of n (rvalue u)).as_type (text (codes "I") and ((ways_of n a).as_elements and text (codes "E"))) r ∙ under (ways_of n (rvalue u)).as_type (arguments-is n a r)
+apart-template n b (array digits u) a r is = and-assoc (ways_of n (array digits u)).as_type (text (codes "I") and ((ways_of n a).as_elements and text (codes "E"))) r ∙ under (ways_of n (array digits u)).as_type (arguments-is n a r)
+apart-template n b (member_pointer c u) a r is = and-assoc (ways_of n (member_pointer c u)).as_type (text (codes "I") and ((ways_of n a).as_elements and text (codes "E"))) r ∙ under (ways_of n (member_pointer c u)).as_type (arguments-is n a r)
+apart-template n b (function_type y x ref u p) a r is = and-assoc (ways_of n (function_type y x ref u p)).as_type (text (codes "I") and ((ways_of n a).as_elements and text (codes "E"))) r ∙ under (ways_of n (function_type y x ref u p)).as_type (arguments-is n a r)
+apart-template n b (qualified q u) a r is = and-assoc (ways_of n (qualified q u)).as_type (text (codes "I") and ((ways_of n a).as_elements and text (codes "E"))) r ∙ under (ways_of n (qualified q u)).as_type (arguments-is n a r)
+apart-template n b (vector digits u) a r is = and-assoc (ways_of n (vector digits u)).as_type (text (codes "I") and ((ways_of n a).as_elements and text (codes "E"))) r ∙ under (ways_of n (vector digits u)).as_type (arguments-is n a r)
+apart-template n b (complex u) a r is = and-assoc (ways_of n (complex u)).as_type (text (codes "I") and ((ways_of n a).as_elements and text (codes "E"))) r ∙ under (ways_of n (complex u)).as_type (arguments-is n a r)
+apart-template n b (expansion u) a r is = and-assoc (ways_of n (expansion u)).as_type (text (codes "I") and ((ways_of n a).as_elements and text (codes "E"))) r ∙ under (ways_of n (expansion u)).as_type (arguments-is n a r)
+apart-template n b _ a r is = arguments-is n a r ∙ sym (nothing-and (arguments_onto n a r))

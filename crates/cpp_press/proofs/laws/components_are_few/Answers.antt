@@ -1,5 +1,0 @@
-use Rattle.cpp_press.proofs.FewPressed.{components-few}
-use Rattle.cpp_press.proofs.laws.components_are_few.Goals as goal
-
-pub returns : goal.returns
-returns c = components-few

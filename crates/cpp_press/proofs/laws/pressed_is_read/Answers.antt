@@ -1,5 +1,0 @@
-use Rattle.cpp_press.proofs.ReadLaw.{pressed-is-read}
-use Rattle.cpp_press.proofs.laws.pressed_is_read.Goals as goal
-
-pub returns : goal.returns
-returns c = pressed-is-read

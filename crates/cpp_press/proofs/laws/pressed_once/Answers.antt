@@ -1,6 +1,0 @@
-use Rattle.cpp_press.proofs.PressLaw.{once-if-read}
-use Rattle.cpp_press.proofs.ReadLaw.{pressed-is-read}
-use Rattle.cpp_press.proofs.laws.pressed_once.Goals as goal
-
-pub returns : goal.returns
-returns c = once-if-read pressed-is-read

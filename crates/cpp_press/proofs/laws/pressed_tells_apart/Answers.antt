@@ -1,6 +1,0 @@
-use Rattle.cpp_press.proofs.PressLaw.{apart-if-read}
-use Rattle.cpp_press.proofs.ReadLaw.{pressed-is-read}
-use Rattle.cpp_press.proofs.laws.pressed_tells_apart.Goals as goal
-
-pub returns : goal.returns
-returns c = apart-if-read pressed-is-read

@@ -1,5 +1,0 @@
-use Rattle.cpp_press.proofs.RepeatedReasons.{repeated-reasons}
-use Rattle.cpp_press.proofs.laws.repeated_components_have_reasons.Goals as goal
-
-pub returns : goal.returns
-returns c = repeated-reasons

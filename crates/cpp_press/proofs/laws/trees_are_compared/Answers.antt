@@ -1,8 +1,0 @@
-use Rattle.cpp_press.proofs.Sameness.{equal-tree, tree-itself}
-use Rattle.cpp_press.proofs.laws.trees_are_compared.Goals as goal
-
-pub returns-clause-equal : goal.returns-clause-equal
-returns-clause-equal c = equal-tree
-
-pub returns-clause-itself : goal.returns-clause-itself
-returns-clause-itself c = tree-itself

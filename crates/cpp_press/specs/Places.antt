@@ -1,0 +1,53 @@
+-- The components so far, as the writer knows them.
+use Rattle.std.specs.Prelude.{◌≡◌, ℕ, ◌+◌, ◌<◌, List, [], ◌∷◌, ◌++◌, length, Bool, cond, ◌&&◌, nat_eq, Option, Some, None, get_or}
+use Rattle.sym_spell.specs.Pressing.{Pressed}
+use Rattle.cpp_grammar.specs.Term.{Term}
+use Rattle.cpp_grammar.specs.Scope.{is_open}
+use Rattle.cpp_grammar.specs.Values.{Candidate}
+use Rattle.cpp_layout.specs.Layout.{ReadSymbol}
+use Rattle.cpp_press_laws.specs.Components.{first_equal}
+use Rattle.cpp_press_laws.specs.Pressing.{ways_of}
+use Rattle.cpp_press.specs.declared.components.Likeness.{Likeness}
+use Rattle.cpp_press.specs.declared.task.Task.{Task}
+use Rattle.cpp_press.specs.Tasks.{plain_at, press_tasks, AreTasks}
+
+abbrev pub like : Likeness → Likeness → Bool
+like a b = nat_eq a.number b.number && nat_eq a.encoding b.encoding
+
+-- what is known of first components behind one more
+abbrev pub noted : (Likeness → Option ℕ) → (one : Likeness) → (count : ℕ) → Likeness → Option ℕ
+noted first one count q = elim (first one) [ Some number ↦ first q | None ↦ cond (like one q) (Some count) (first q) ]
+
+-- what a node's tree is like as a component of an encoding
+abbrev pub likeness_of : ReadSymbol → (numbers : List ℕ) → (node encoding : ℕ) → Likeness
+likeness_of y numbers node encoding = record { number = get_or numbers node 0; encoding = cond (is_open (plain_at y node)) encoding 0 }
+
+-- By likeness the number of the first component is that of the definition.
+abbrev pub ArePlaces : ReadSymbol → (numbers : List ℕ) → (Likeness → Option ℕ) → List Candidate → Type 0
+ArePlaces y numbers first cs =
+    (node encoding : ℕ) → node < length y.table.nodes → first (likeness_of y numbers node encoding) ≡ first_equal encoding (plain_at y node) 0 cs
+
+-- Nodes have one number where their trees are equal, and nowhere else.
+pub record AreNumbers (y : ReadSymbol) (numbers : List ℕ) : Type 0 where
+  pub long : length numbers ≡ length y.table.nodes
+  pub same : (i j : ℕ) → i < length numbers → j < length numbers → get_or numbers i 0 ≡ get_or numbers j 0 → plain_at y i ≡ plain_at y j
+  pub equal : (i j : ℕ) → i < length numbers → j < length numbers → plain_at y i ≡ plain_at y j → get_or numbers i 0 ≡ get_or numbers j 0
+
+-- Each component is the tree of a node.
+abbrev pub AreOfNodes : ReadSymbol → List Candidate → Type 0
+AreOfNodes y [] = Unit {0}
+AreOfNodes y (c ∷ cs) = ((node : ℕ) × (node < length y.table.nodes) × (plain_at y node ≡ c.tree)) × AreOfNodes y cs
+
+-- what is written, and a spelling behind it
+abbrev pub behind : List ℕ → Pressed Candidate → Pressed Candidate
+behind out one = record { bytes = out ++ one.bytes; components = one.components }
+
+-- What is written, and what the tasks will write behind it, are the spelling of a symbol's tree; the components so far are trees of
+-- nodes.
+pub record Goes (y : ReadSymbol) (numbers : List ℕ) (whole : Term) (first : Likeness → Option ℕ) (count : ℕ) (tasks : List Task) (out : List ℕ) : Type 0 where
+  pub components : List Candidate
+  pub places : ArePlaces y numbers first components
+  pub counted : count ≡ length components
+  pub own : AreOfNodes y components
+  pub tasks_are : AreTasks y tasks
+  pub spelled : behind out (press_tasks y tasks (length out) components) ≡ (ways_of 0 whole).as_encoding 0 []

@@ -1,0 +1,145 @@
+// A C++ symbol spelled again, each repeated component a reference to the first one.
+#![tactic(auto)]
+
+ghost use Rattle.std.specs.Prelude.{◌≡◌, ◌<◌, length, IfOk, IfErr};
+ghost use Rattle.sym_core.specs.declared.Refusal.TheVariants.{Memory};
+ghost use Rattle.indexmap.specs.IndexMap.{get};
+ghost use Rattle.cpp_tree.specs.Nodes.{IsTable};
+ghost use Rattle.cpp_layout.specs.Layout.{table_of, whole_of};
+ghost use Rattle.cpp_press_laws.specs.Pressing.{pressed};
+ghost use Rattle.cpp_press.specs.Tasks.{plain_at};
+ghost use Rattle.cpp_press.specs.Places.{like, likeness_of, AreNumbers};
+ghost use Rattle.cpp_press.specs.OfRead.{HasFewComponents};
+ghost use Rattle.cpp_press.specs.Standings.{standing_of, template_standing_of};
+
+use crate::components::{Components, Likeness};
+use crate::names::is_name;
+use crate::numbering::Numbering;
+use crate::steps::{Standing, compared, step_template, step_tree};
+use crate::task::{Task, Way, then_tree};
+use crate::texts::push_text;
+use crate::types::is_compared;
+use cpp_layout::Symbol;
+use std::alloc::Global;
+use sym_core::Refusal;
+
+/// What a node's tree is like as a component of an encoding: one with free parameters is compared with those of its encoding
+/// alone.
+fn likeness_of(symbol: &Symbol, numbering: &Numbering, node: u32, encoding: u64) -> Likeness
+    requires table { IsTable (table_of symbol.now) }
+    requires node { node < length symbol.now.table.nodes }
+    requires number { node < length numbering.now }
+    ensures { result ≡ likeness_of symbol.now numbering.now node encoding }
+{
+    let number = numbering.number_of(node);
+    if symbol.entry(node).is_open {
+        Likeness { number, encoding }
+    } else {
+        Likeness {
+            number,
+            encoding: 0,
+        }
+    }
+}
+
+/// How a tree stands to the components before it.
+fn standing_of(
+    symbol: &Symbol,
+    numbering: &Numbering,
+    components: &Components,
+    node: u32,
+    way: Way,
+    encoding: u64,
+) -> Standing
+    requires table { IsTable (table_of symbol.now) }
+    requires node { node < length symbol.now.table.nodes }
+    requires number { node < length numbering.now }
+    ensures { result ≡ standing_of way (plain_at symbol.now node) (get like components.now.first (likeness_of symbol.now numbering.now node encoding)) }
+{
+    if is_compared(way, symbol.stored(node)) {
+        compared(components.first(likeness_of(symbol, numbering, node, encoding)))
+    } else {
+        Standing::Apart
+    }
+}
+
+/// How a template name stands to the components before it.
+fn template_standing_of(
+    symbol: &Symbol,
+    numbering: &Numbering,
+    components: &Components,
+    name: u32,
+    encoding: u64,
+) -> Standing
+    requires table { IsTable (table_of symbol.now) }
+    requires node { name < length symbol.now.table.nodes }
+    requires number { name < length numbering.now }
+    ensures { result ≡ template_standing_of (plain_at symbol.now name) (get like components.now.first (likeness_of symbol.now numbering.now name encoding)) }
+{
+    if is_name(symbol.stored(name)) {
+        compared(components.first(likeness_of(symbol, numbering, name, encoding)))
+    } else {
+        Standing::Apart
+    }
+}
+
+/// The pressed spelling of a C++ symbol, by the numbers of its nodes.
+fn press_tasks(alloc: Global, symbol: &Symbol, numbering: &Numbering) -> Result<Vec<u8>, Refusal>
+    requires numbers { AreNumbers symbol.now numbering.now }
+    ensures pressed { IfOk result (λ out. out.items ≡ pressed (whole_of symbol.now)) }
+    ensures components { IfOk result (λ _. HasFewComponents symbol.now) }
+    ensures memory { IfErr result (λ e. e ≡ Memory) }
+{
+    let mut components = Components::new(alloc);
+    let mut tasks = Vec::new(alloc);
+    let mut out = Vec::new(alloc);
+    then_tree(symbol, symbol.root_node(), Way::Encoding, 0, &mut tasks)?;
+    'tasks: while let Some(task) = tasks.pop() {
+        match task {
+            Task::Text(text) => push_text(symbol, text, &mut out)?,
+            Task::Ended { node, encoding } => {
+                components.push(likeness_of(symbol, numbering, node, encoding))?;
+            }
+            Task::Template {
+                name,
+                arguments,
+                in_type,
+                encoding,
+            } => {
+                let standing = template_standing_of(symbol, numbering, &components, name, encoding);
+                step_template(
+                    symbol, standing, name, arguments, in_type, encoding, &mut tasks,
+                )?;
+            }
+            Task::Tree {
+                node,
+                way,
+                encoding,
+            } => {
+                let here = out.len() as u64;
+                let standing = standing_of(symbol, numbering, &components, node, way, encoding);
+                step_tree(symbol, standing, node, way, encoding, here, &mut tasks)?;
+            }
+        }
+    }
+    Ok(out)
+}
+
+/// The pressed spelling of a C++ symbol (Itanium C++ ABI 5.1): its tree in its order, in which each component that is equal
+/// to an earlier one is a reference to the first such one (ABI 5.1.10), and numbers and names have their shortest form.
+/// Symbols of one tree have one pressed spelling; the suffix is part of the tree.
+///
+/// Components are compared by their numbers, and each repeated one is spelled out at most once where a reference can stand,
+/// however large the tree is.
+///
+/// # Errors
+///
+/// `Memory` alone.
+pub fn press_cpp(alloc: Global, symbol: &Symbol) -> Result<Vec<u8>, Refusal>
+    ensures pressed { IfOk result (λ out. out.items ≡ pressed (whole_of symbol.now)) }
+    ensures components { IfOk result (λ _. HasFewComponents symbol.now) }
+    ensures memory { IfErr result (λ e. e ≡ Memory) }
+{
+    let numbering = Numbering::cpp(alloc, symbol)?;
+    press_tasks(alloc, symbol, &numbering)
+}

@@ -1,0 +1,187 @@
+// What is still to be written, the next one last.
+#![tactic(auto)]
+
+ghost use Rattle.std.specs.Prelude.{◌≡◌, ◌+◌, ◌<◌, length, OnOk, IfErr};
+ghost use Rattle.sym_core.specs.declared.Refusal.TheVariants.{Memory};
+ghost use Rattle.cpp_press.specs.Bytes.{text_bytes, IsThere};
+ghost use Rattle.cpp_press.specs.Weight.{weight};
+ghost use Rattle.cpp_press.specs.Tasks.{◌onto◌, written, in_way, ending, before, plain_at, press_task, press_tasks, IsTask, AreTasks, way_weight, task_weight, tasks_weight};
+ghost use Rattle.cpp_press.specs.Spelled.{arguments_onto};
+
+use crate::texts::Text;
+use cpp_layout::Symbol;
+use cpp_tree::node::{Mark, Qualifiers};
+use sym_core::Refusal;
+
+/// How a tree is spelled, by the place where it stands.
+#[derive(Clone, Copy)]
+pub enum Way {
+    Type,
+    UnderQualifiers,
+    Prefix,
+    /// A name between N and E.
+    Between,
+    Encoding,
+    /// An encoding's own name, with what is said of its function.
+    Name(Qualifiers, Mark),
+    Argument,
+    Parameters,
+    MoreParameters,
+    Elements,
+}
+
+/// What is still to be written, in the encoding that begins at a place.
+#[derive(Clone, Copy)]
+pub enum Task {
+    Text(Text),
+    /// The tree of a node.
+    Tree {
+        node: u32,
+        way: Way,
+        encoding: u64,
+    },
+    /// A template name and its arguments.
+    Template {
+        name: u32,
+        arguments: u32,
+        in_type: bool,
+        encoding: u64,
+    },
+    /// The tree of a node is a component from here on.
+    Ended {
+        node: u32,
+        encoding: u64,
+    },
+}
+
+/// Puts a task before the others.
+fn then_task(symbol: &Symbol, task: Task, tasks: &mut Vec<Task>) -> Result<(), Refusal>
+    requires task { IsTask symbol.now task }
+    requires tasks { AreTasks symbol.now tasks.old.items }
+    ensures presses { OnOk result (press_tasks symbol.now tasks.new.items ≡ press_task symbol.now task onto press_tasks symbol.now tasks.old.items) }
+    ensures weight { OnOk result (tasks_weight symbol.now tasks.new.items ≡ task_weight symbol.now task + tasks_weight symbol.now tasks.old.items) }
+    ensures tasks { OnOk result (AreTasks symbol.now tasks.new.items) }
+    ensures memory { IfErr result (λ e. e ≡ Memory) }
+{
+    tasks.push(task)?;
+    Ok(())
+}
+
+/// Puts a text before the tasks.
+pub fn then_text(symbol: &Symbol, text: Text, tasks: &mut Vec<Task>) -> Result<(), Refusal>
+    requires text { IsThere symbol.now text }
+    requires tasks { AreTasks symbol.now tasks.old.items }
+    ensures presses { OnOk result (press_tasks symbol.now tasks.new.items ≡ written (text_bytes symbol.now text) onto press_tasks symbol.now tasks.old.items) }
+    ensures weight { OnOk result (tasks_weight symbol.now tasks.new.items ≡ 1 + tasks_weight symbol.now tasks.old.items) }
+    ensures tasks { OnOk result (AreTasks symbol.now tasks.new.items) }
+    ensures memory { IfErr result (λ e. e ≡ Memory) }
+{
+    then_task(symbol, Task::Text(text), tasks)?;
+    Ok(())
+}
+
+/// Puts fixed bytes before the tasks.
+#[tactic(auto, unfolding(crate::specs::Bytes::text_bytes))]
+pub fn then_fixed(
+    symbol: &Symbol,
+    bytes: &'static [u8],
+    tasks: &mut Vec<Task>,
+) -> Result<(), Refusal>
+    requires tasks { AreTasks symbol.now tasks.old.items }
+    ensures presses { OnOk result (press_tasks symbol.now tasks.new.items ≡ written bytes.now onto press_tasks symbol.now tasks.old.items) }
+    ensures weight { OnOk result (tasks_weight symbol.now tasks.new.items ≡ 1 + tasks_weight symbol.now tasks.old.items) }
+    ensures tasks { OnOk result (AreTasks symbol.now tasks.new.items) }
+    ensures memory { IfErr result (λ e. e ≡ Memory) }
+{
+    then_task(symbol, Task::Text(Text::Fixed(bytes)), tasks)?;
+    Ok(())
+}
+
+/// Puts a tree before the tasks.
+pub fn then_tree(
+    symbol: &Symbol,
+    node: u32,
+    way: Way,
+    encoding: u64,
+    tasks: &mut Vec<Task>,
+) -> Result<(), Refusal>
+    requires node { node < length symbol.now.table.nodes }
+    requires tasks { AreTasks symbol.now tasks.old.items }
+    ensures presses { OnOk result (press_tasks symbol.now tasks.new.items ≡ in_way encoding way (plain_at symbol.now node) onto press_tasks symbol.now tasks.old.items) }
+    ensures weight { OnOk result (tasks_weight symbol.now tasks.new.items ≡ way_weight way + weight (plain_at symbol.now node) + tasks_weight symbol.now tasks.old.items) }
+    ensures tasks { OnOk result (AreTasks symbol.now tasks.new.items) }
+    ensures memory { IfErr result (λ e. e ≡ Memory) }
+{
+    let task = Task::Tree {
+        node,
+        way,
+        encoding,
+    };
+    then_task(symbol, task, tasks)?;
+    Ok(())
+}
+
+/// Puts the end of a component before the tasks.
+pub fn then_ended(
+    symbol: &Symbol,
+    node: u32,
+    encoding: u64,
+    tasks: &mut Vec<Task>,
+) -> Result<(), Refusal>
+    requires node { node < length symbol.now.table.nodes }
+    requires tasks { AreTasks symbol.now tasks.old.items }
+    ensures presses { OnOk result (press_tasks symbol.now tasks.new.items ≡ ending encoding (plain_at symbol.now node) onto press_tasks symbol.now tasks.old.items) }
+    ensures weight { OnOk result (tasks_weight symbol.now tasks.new.items ≡ 1 + tasks_weight symbol.now tasks.old.items) }
+    ensures tasks { OnOk result (AreTasks symbol.now tasks.new.items) }
+    ensures memory { IfErr result (λ e. e ≡ Memory) }
+{
+    then_task(symbol, Task::Ended { node, encoding }, tasks)?;
+    Ok(())
+}
+
+/// Puts a template name with its arguments before the tasks.
+pub fn then_template(
+    symbol: &Symbol,
+    name: u32,
+    arguments: u32,
+    in_type: bool,
+    encoding: u64,
+    tasks: &mut Vec<Task>,
+) -> Result<(), Refusal>
+    requires name { name < length symbol.now.table.nodes }
+    requires arguments { arguments < length symbol.now.table.nodes }
+    requires tasks { AreTasks symbol.now tasks.old.items }
+    ensures presses { OnOk result (press_tasks symbol.now tasks.new.items ≡ before encoding in_type (plain_at symbol.now name) (plain_at symbol.now arguments) onto press_tasks symbol.now tasks.old.items) }
+    ensures weight { OnOk result (tasks_weight symbol.now tasks.new.items ≡ 8 + weight (plain_at symbol.now name) + weight (plain_at symbol.now arguments) + tasks_weight symbol.now tasks.old.items) }
+    ensures tasks { OnOk result (AreTasks symbol.now tasks.new.items) }
+    ensures memory { IfErr result (λ e. e ≡ Memory) }
+{
+    let task = Task::Template {
+        name,
+        arguments,
+        in_type,
+        encoding,
+    };
+    then_task(symbol, task, tasks)?;
+    Ok(())
+}
+
+/// Puts the arguments of a template before the tasks (ABI 5.1.5.8, `<template-args> ::= I <template-arg>+ E`).
+pub fn then_arguments(
+    symbol: &Symbol,
+    arguments: u32,
+    encoding: u64,
+    tasks: &mut Vec<Task>,
+) -> Result<(), Refusal>
+    requires arguments { arguments < length symbol.now.table.nodes }
+    requires tasks { AreTasks symbol.now tasks.old.items }
+    ensures presses { OnOk result (press_tasks symbol.now tasks.new.items ≡ arguments_onto encoding (plain_at symbol.now arguments) (press_tasks symbol.now tasks.old.items)) }
+    ensures weight { OnOk result (tasks_weight symbol.now tasks.new.items ≡ 2 + weight (plain_at symbol.now arguments) + tasks_weight symbol.now tasks.old.items) }
+    ensures tasks { OnOk result (AreTasks symbol.now tasks.new.items) }
+    ensures memory { IfErr result (λ e. e ≡ Memory) }
+{
+    then_fixed(symbol, b"E", tasks)?;
+    then_tree(symbol, arguments, Way::Elements, encoding, tasks)?;
+    then_fixed(symbol, b"I", tasks)?;
+    Ok(())
+}

@@ -1,0 +1,36 @@
+-- Pressing twice is once, and pressed bytes tell trees apart, where what is pressed is read as it was.
+use Rattle.std.proofs.Common.{◌≡◌, Ok, ap, arith, sym, ◌∙◌}
+use Rattle.std.specs.Prelude.{Result, length, ◌≤◌}
+use Rattle.sym_core.specs.declared.refusal.Refusal.{Refusal}
+use Rattle.sym_shape.specs.declared.rule.Sym.TheVariants.{Kind}
+use Rattle.sym_shape.specs.Tree.{Tree as Shape, spell, IsTree}
+use Rattle.sym_shape.proofs.Uniqueness.{one_tree}
+use Rattle.cpp_grammar.specs.Table.{abi}
+use Rattle.cpp_grammar.specs.TableLaws.{lawful}
+use Rattle.cpp_grammar.specs.Term.{Term}
+use Rattle.cpp_grammar.specs.Unfolding.{unfold_cpp}
+use Rattle.cpp_press_laws.specs.Pressing.{pressed}
+use Rattle.cpp_press_laws.specs.PressLaws.{AreReadAs, PressedIsRead, PressedOnce, PressedTellsApart}
+
+one-result : (a b : Term) → ◌≡◌ {A = Result Term Refusal} (Ok a) (Ok b) → a ≡ b
+one-result a b h = cc
+
+-- One shape that is read so is enough: the grammar has no other that spells the same.
+pub read-by-one : (t : Term) (shape : Shape) → IsTree abi (Kind 0) shape → spell shape ≡ pressed t → unfold_cpp shape ≡ Ok t → AreReadAs (pressed t) t
+read-by-one t shape is spelled reads = record {
+  shape = shape;
+  shaped = is;
+  spelled = spelled;
+  each = λ other other-is also. ap unfold_cpp (one_tree abi lawful other shape other-is is (also ∙ sym spelled)) ∙ reads;
+}
+
+pub once-if-read : PressedIsRead → PressedOnce
+once-if-read law shape t from fits other again (other-is, reads) spelled =
+    ap pressed (one-result again t (sym reads ∙ (law shape t from fits).each other other-is spelled))
+
+pub apart-if-read : PressedIsRead → PressedTellsApart
+apart-if-read law shape other t u from also fits same =
+    let a = law shape t from fits in
+    let small : length (pressed u) ≤ 18446744073709551615 = omega (arith, fits, ap length same) in
+    let b = law other u also small in
+    one-result t u (sym (a.each a.shape a.shaped a.spelled) ∙ b.each a.shape a.shaped (a.spelled ∙ same))

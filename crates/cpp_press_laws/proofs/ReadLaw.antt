@@ -1,0 +1,16 @@
+-- What is pressed is read as the tree, since each tree that was read fits.
+use Rattle.std.proofs.Common.{◌≤◌, length, arith}
+use Rattle.cpp_press_laws.specs.Pressing.{pressed}
+use Rattle.cpp_press_laws.specs.Apart.{spelled_components}
+use Rattle.cpp_press_laws.specs.PressLaws.{PressedIsRead}
+use Rattle.cpp_press_laws.proofs.FittingLaw.{fitting-symbol}
+use Rattle.cpp_press_laws.proofs.Counting.{arguments-counted}
+use Rattle.cpp_press_laws.proofs.FewComponents.{fitting-few}
+use Rattle.cpp_press_laws.proofs.ReadShapes.{symbol-read-fits}
+
+pub pressed-is-read : PressedIsRead
+unfolding pressed spelled_components
+pressed-is-read shape t from bound =
+    let f = symbol-read-fits shape t from in
+    let few : length (spelled_components t) ≤ length (pressed t) = fitting-few t f in
+    fitting-symbol arguments-counted t f (record { short = bound; few = omega (arith, few, bound) })

@@ -1,0 +1,30 @@
+-- Rows of symbols with their pressed spellings, and a test of them that computes.
+use Rattle.std.specs.Prelude.{ℕ, List, [], ◌∷◌, Bool, true, ◌&&◌, codes, Some, None, Result, Ok, Err}
+use Prim.Native.String.{String}
+use Rattle.sym_core.specs.declared.refusal.Refusal.{Refusal}
+use Rattle.cpp_grammar.specs.Term.{Term}
+use Rattle.cpp_grammar.specs.Texts.{same_bytes}
+use Rattle.cpp_grammar.specs.Unfolding.{unfold_cpp}
+use Rattle.cpp_grammar.proofs.Reader.{shape_of}
+use Rattle.cpp_press_laws.specs.Pressing.{pressed}
+
+-- a symbol, and what pressing makes of it
+pub record Row : Type 0 where
+  pub symbol : List ℕ
+  pub wanted : List ℕ
+
+abbrev pub presses : String → String → Row
+presses symbol wanted = record { symbol = codes symbol; wanted = codes wanted }
+
+-- nothing where a symbol isn't read
+unfoldable pub pressed_if_read : Result Term Refusal → List ℕ
+pressed_if_read (Ok t) = pressed t
+pressed_if_read (Err r) = []
+
+unfoldable pub press : List ℕ → List ℕ
+press s = elim (shape_of s) [ None ↦ [] | Some tree ↦ pressed_if_read (unfold_cpp tree) ]
+
+-- each is pressed so, and what was pressed is pressed again unchanged
+unfoldable pub are_pressed : List Row → Bool
+are_pressed [] = true
+are_pressed (row ∷ rows) = same_bytes (press row.symbol) row.wanted && same_bytes (press row.wanted) row.wanted && are_pressed rows

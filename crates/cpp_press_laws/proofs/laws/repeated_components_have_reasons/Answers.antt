@@ -1,0 +1,5 @@
+use Rattle.cpp_press_laws.proofs.RepeatedReasons.{repeated-reasons}
+use Rattle.cpp_press_laws.proofs.laws.repeated_components_have_reasons.Goals as goal
+
+pub returns : goal.returns
+returns c = repeated-reasons

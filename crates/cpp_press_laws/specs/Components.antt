@@ -1,0 +1,48 @@
+-- Components and the references to them (ABI 5.1.10). A component is what a substitution may name; components are numbered from 0
+-- in the order in which their spellings end. Each is kept with the place where the encoding begins that it was spelled in.
+use Rattle.std.specs.Prelude.{ℕ, zero, suc, ◌+◌, List, [], ◌∷◌, ◌++◌, Bool, true, false, not, ◌&&◌, ◌||◌, nat_eq, codes, Option, Some, None}
+use Rattle.sym_spell.specs.Pressing as spell
+use Rattle.sym_spell.specs.Pressing.{◌and◌, text, letter}
+use Rattle.sym_spell.specs.Digits.{digits_in, digit36}
+use Rattle.cpp_grammar.specs.Term.{Term}
+use Rattle.cpp_grammar.specs.Scope.{is_open}
+use Rattle.cpp_grammar.specs.Values.{Candidate}
+use Rattle.cpp_press_laws.specs.Same.{same_tree}
+
+-- spellings, whose components stand in the order of their numbers
+abbrev pub Spelling : Type 0
+Spelling = spell.Pressing Candidate
+
+-- A free parameter stands for an argument of its encoding, so a tree that has one is compared with those of its encoding alone.
+unfoldable pub is_same : (encoding : ℕ) → Term → Candidate → Bool
+is_same encoding own c = same_tree own c.tree && (not (is_open own) || nat_eq c.encoding encoding)
+
+-- the number of the first component that is equal to a tree, where these are numbered from here on
+unfoldable pub first_equal : (encoding : ℕ) → Term → (from : ℕ) → List Candidate → Option ℕ
+first_equal encoding own from [] = None
+first_equal encoding own from (c ∷ cs) = elim (is_same encoding own c) [ true ↦ Some from | false ↦ first_equal encoding own (from + 1) cs ]
+
+-- The number in a reference (ABI 5.1, `<seq-id>`): the first has no digits, and digits of value v in base 36 stand for v + 1.
+unfoldable pub seq_id : ℕ → List ℕ
+seq_id zero = []
+seq_id (suc n) = digits_in 36 digit36 40 n
+
+unfoldable pub reference : (number : ℕ) → Spelling
+reference number = text (codes "S" ++ seq_id number ++ codes "_")
+
+-- the tree is a component from here on
+unfoldable pub ended : (encoding : ℕ) → Term → Spelling
+ended encoding own place components = record { bytes = []; components = components ++ record { tree = own; encoding = encoding } ∷ [] }
+
+unfoldable pub spelled_out : (encoding : ℕ) → Term → Spelling → Spelling
+spelled_out encoding own spelling = spelling and ended encoding own
+
+-- one spelling behind a reference to the tree where an equal component stands before, or else another
+unfoldable pub referred : (encoding : ℕ) → Term → (behind other : Spelling) → Spelling
+referred encoding own behind other place components =
+    elim (first_equal encoding own 0 components) [ Some number ↦ (reference number and behind) place components | None ↦ other place components ]
+
+-- a reference to the first component that is equal to the tree, or its spelling
+unfoldable pub component : (encoding : ℕ) → Term → Spelling → Spelling
+component encoding own spelling place components =
+    elim (first_equal encoding own 0 components) [ Some number ↦ reference number place components | None ↦ spelled_out encoding own spelling place components ]

@@ -1,0 +1,50 @@
+// What holds of pressed spellings, and of the test by which pressing compares trees.
+ghost use Rattle.std.specs.Prelude.{◌≡◌, true};
+ghost use Rattle.cpp_grammar.specs.Term.{Term};
+ghost use Rattle.cpp_press_laws.specs.Apart.{ComponentsAreApart};
+ghost use Rattle.cpp_press_laws.specs.Few.{ComponentsAreFew};
+ghost use Rattle.cpp_press_laws.specs.PressLaws.{PressedIsRead, PressedOnce, PressedTellsApart};
+ghost use Rattle.cpp_press_laws.specs.Repeated.{RepeatedComponentsHaveReasons};
+ghost use Rattle.cpp_press_laws.specs.Same.{same_tree};
+
+/// What some C++ symbol is read as, pressed, is well shaped, and every shape that spells it is read as the same: no qualifier, no
+/// discriminator and no suffix is lost. The pressed bytes are at most 2^64 - 1, as those of any list.
+pub fn pressed_is_read()
+    ensures { PressedIsRead }
+{}
+
+/// What a pressed spelling is read as is pressed to the same bytes.
+pub fn pressed_once()
+    ensures { PressedOnce }
+{}
+
+/// What symbols with the same pressed bytes are read as is the same.
+pub fn pressed_tells_apart()
+    ensures { PressedTellsApart }
+{}
+
+/// Pressing takes two trees for the same where they are equal, and nowhere else: no mark, number, name or discriminator is left
+/// out.
+pub fn trees_are_compared()
+    ensures equal { (one other : Term) → same_tree one other ≡ true → one ≡ other }
+    ensures itself { (tree : Term) → same_tree tree tree ≡ true }
+{}
+
+/// A component that is spelled out is equal to none before it; where it has free parameters, to none of its own encoding. The law
+/// says nothing of a component that is equal to a template name for which, somewhere in the tree, no reference can stand: the
+/// exception goes by the tree of the component, and not by the place where it stands.
+pub fn components_are_apart()
+    ensures { ComponentsAreApart }
+{}
+
+/// A component whose tree is spelled out already, in whatever encoding, has free parameters or is a template name that stands
+/// somewhere in the symbol where no reference can.
+pub fn repeated_components_have_reasons()
+    ensures { RepeatedComponentsHaveReasons }
+{}
+
+/// Of what a symbol is read as at most as many components are spelled out as the symbol has candidates: what it names by a reference
+/// is a reference again, and what it spells out is spelled out once at most.
+pub fn components_are_few()
+    ensures { ComponentsAreFew }
+{}

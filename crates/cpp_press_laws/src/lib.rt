@@ -1,0 +1,10 @@
+//! C++ symbols spelled again with each repeated part as a reference, so that symbols of one thing have the same bytes. Here is what
+//! their pressed spelling is, and what holds of it; `cpp_press` writes it.
+#![tactic(auto)]
+
+mod laws;
+
+pub use laws::{
+    components_are_apart, pressed_is_read, pressed_once, pressed_tells_apart,
+    repeated_components_have_reasons, trees_are_compared,
+};

@@ -1,0 +1,187 @@
+-- Pressed spellings of symbols, computed from their bytes.
+use Rattle.std.specs.Prelude.{◌≡◌, ℕ, refl, codes, List, [], ◌∷◌, Bool, true, ◌&&◌}
+use Prim.Native.String.{String}
+use Rattle.rust_tree.specs.Need.{need, need_of_arguments, need_of_type, need_of_types, need_of_bounds, need_of_bindings}
+use Rattle.rust_tree.specs.Hexadecimal.{hexadecimal, hexadecimal_before}
+use Rattle.rust_press.specs.Same.{same_bytes}
+use Rattle.rust_press.proofs.Reader.{front_digits, number_at, name_from, separated, length_digits, read_sym, read_all, press_read, press}
+
+-- a symbol, and what pressing makes of it
+pub record Row : Type 0 where
+  pub symbol : List ℕ
+  pub wanted : List ℕ
+
+abbrev presses : String → String → Row
+presses symbol wanted = record { symbol = codes symbol; wanted = codes wanted }
+
+-- each is pressed so, and what was pressed is pressed again unchanged
+unfoldable are_pressed : List Row → Bool
+are_pressed [] = true
+are_pressed (row ∷ rows) = same_bytes (press row.symbol) row.wanted && same_bytes (press row.wanted) row.wanted && are_pressed rows
+
+abbrev rows_0 : List Row
+rows_0 =
+    presses "_RINvC3foo3barNtC3foo1ANtC3foo1AE" "_RINvC3foo3barNtB2_1ABb_E" ∷
+    presses "_RNvXC3fooNtC3foo1ANtC3foo1B3baz" "_RNvXC3fooNtB2_1ANtB2_1B3baz" ∷
+    presses "_RINvC3foo3barRL_hE" "_RINvC3foo3barRhE" ∷
+    presses "_RINvC3foo3barKj03_Kj_E" "_RINvC3foo3barKj3_Kj0_E" ∷
+    presses "_RINvC3foo3barThhETBb_Bb_ETBf_Bf_EE" "_RINvC3foo3barThhETBb_Bb_ETBf_Bf_EE" ∷
+    presses "_RINvC3foo3barThhETBb_Bb_ETBf_Bf_ETBn_Bn_ETBv_Bv_EE" "_RINvC3foo3barThhETBb_Bb_ETBf_Bf_ETBn_Bn_ETBv_Bv_EE" ∷
+    presses "_RNvC3foo3bar.llvm.1" "_RNvC3foo3bar.llvm.1" ∷
+    presses "_RINvC3foo3barNtC3foo1AE.llvm.$a_Z1" "_RINvC3foo3barNtB2_1AE.llvm.$a_Z1" ∷
+    presses "_RINvC3foo3barNtC3foo1AEC3foo.x" "_RINvC3foo3barNtB2_1AEB2_.x" ∷
+    presses "_RINCNCC3std3foo1__FTC2__xEESDG_NvC3foos0_2__xNzBt_0Bt_EL_L_DG_BN_p1xpp3stdpEL_eE" "_RINCNCC3std3foo1__FTC2__xEESDG_NvC3foos0_2__xNzBt_0Bt_EL_L_DG_Bt_p1xpp3stdpEL_eE" ∷
+    presses "_RMNANtXC3stdTB5_EINABb_3barANtNvBi_s_3bar1BpTEhEu1__3fooBu_" "_RMNANtXC3stdTB5_EINAB5_3barANtNvB5_s_3bar1BpTEhEu1__3fooB5_" ∷
+    presses "_RYRL_RQL_OAhodeadbeef_NvIC3barEs3d6_1__" "_RYRRQOAhodeadbeef_NvIC3barEs3d6_1__" ∷
+    presses "_RNSNZNCIINSC3foo2_1aQDG0_NzXCs_3fooSAQL_Spanf_B7_s_3foop0FG_aRphEepu7caf_dmaRFRTEERL1_hBn_p3_fooB1d_pu8gdel_5qayMs_C2_1aSfEL_EROfE2_1a3std2_1a" "_RNSNZNCIINSC3foo2_1aQDG0_NzXCs_3fooSAQSpanf_B7_s_3foop0FG_aRphEepu7caf_dmaRFRTEERL1_hBn_p3fooB1b_pu8gdel_5qayMs_C2_1aSfEL_EROfE2_1a3std2_1a" ∷
+    presses "_RNSC1_01BIINzXYCs1_u1zNvNtBd_03barBm_Cs3d6_1x1_0afL_Bo_EE" "_RNSC1_01BIINzXYCs1_u1zNvNtBd_03barBm_Cs3d6_1x1_0afL_Bd_EE" ∷
+    presses "_RNzINZNAINACs3d6_4_cores_3stdB7_Est_1x0L_Kh1_hL_E2_1a" "_RNzINZNAINACs3d6_4cores_3stdB7_Est_1x0L_Kh1_hL_E2_1a" ∷
+    presses "_RINCC3stdu1_0FKCQfRMs1_NvIIB00_FG1_ERL1_yAIIB2_EEc7f_EKb0_OPB2_E3barTERL_DEL_EBh_KBL_Kb1_NtB2_s3d6_4coreE" "_RINCC3stdu1_0FKCQfRMs1_NvIIB0_FG1_ERL1_yAIIB2_EEc7f_EKb0_OPB2_E3barTERDEL_EBh_KBK_Kb1_NtB2_s3d6_4coreE" ∷
+    presses "_RIXC2_1aB1_Mst_B1_hB9_DXNCIC1_0Kb0_B9_Kc10ffff_B1_E1__AFDG0_B6_p1BeC1xp1AeEL_EBg_BB_NvIIB06_B1o_EEs3d6_1BEL_E" "_RIXC2_1aB1_Mst_B1_hB9_DXNCIC1_0Kb0_B9_Kc10ffff_B1_E1__AFDG0_B1_p1BeC1xp1AeEL_EhBB_NvIIB1_B1_EEs3d6_1BEL_E" ∷
+    presses "_RMINtC1B1__zNzNvC2_1as_u1a3stdTEKc0041_EB1_" "_RMINtC1B1__zNzNvC2_1as_u1a3stdTEKc41_EB1_" ∷
+    presses "_RXCu7caf_dmaB0_IBa_umRL_Bh_NzBe_u8gdel_5qaE" "_RXCu7caf_dmaB0_IB0_umRuNzB0_u8gdel_5qaE" ∷
+    presses "_RNANSYDG_XYeMC2__xBb_FG_KCAhy_ECs_3stdBt_C1_0EL_C3stds0_3std1A" "_RNANSYDG_XYeMC2__xBb_FG_KCAhy0_ECs_3stdBu_C1_0EL_C3stds0_3std1A" ∷
+    []
+
+right_0 : are_pressed rows_0 ≡ true
+unfolding are_pressed front_digits number_at name_from separated length_digits read_sym read_all press_read press hexadecimal hexadecimal_before need need_of_arguments need_of_type need_of_types need_of_bounds need_of_bindings
+right_0 = refl
+
+abbrev rows_1 : List Row
+rows_1 =
+    presses "_RINvXNvYvMYDG1_XIIYB6_Cs_1BEEBg_Bf_EL_Bu_C1A3stdB5_Be_4coreE" "_RINvXNvYvMYDG1_XIIYvCs_1BEEBg_Bf_EL_Bf_C1A3stdB5_Be_4coreE" ∷
+    presses "_RIICs0_3fooDG_B1_p3fooB1_EL_EL_Bc_ACs_4corea03_E" "_RIICs0_3fooDG_B1_p3fooB1_EL_EL_B1_ACs_4corea3_E" ∷
+    presses "_RNtNCMst_NANtIMNtNtXNvNtC4cores1_1xu7caf_dmaFEBm_NzNtIIBk_EL_Kt03_Eu1as_3foo3foo0TEE3bar1_0o1B4coreNCIB_SBf_eC3barlE0" "_RNtNCMst_NANtIMNtNtXNvNtC4cores1_1xu7caf_dmaFEBm_NzNtIIBk_EL_Kt3_Eu1as_3foo3foo0TEE3bar1_0o1B4coreNCIB_SBf_eC3barlE0" ∷
+    presses "_RNSINSMXs3d6_C3stdhNzNCNvYBg_NANtXBb_Bb_Bz_3bar4cores_3foo3bar2_1au1ABo_B4_B18_B2_Es1_2__x" "_RNSINSMXs3d6_C3stdhNzNCNvYhNANtXBb_Bb_Bb_3bar4cores_3foo3bar2_1au1AhB4_B4_B2_Es1_2__x" ∷
+    presses "_RNCYAFASOSuan1_INvIC2__xE1__Be_QL_Bg_nEOINCBq_s_3baruEBC_EuB9_NCINtC1__3_barEst_1_02_1a" "_RNCYAFASOSuan1_INvIC2__xE1__Be_QBg_nEOINCBe_s_3baruEBA_EuB9_NCINtC1__3barEst_1_02_1a" ∷
+    presses "_RNtNSNCMXCu1_0zIMNZNZXB7_C1xNtCs1_3stds1_3stds3d6_u8_999999992_1aRFUBh_TEFG_Bh_eEueEuTXC3fooB12_B14_vhuEhKh1_B1k_EBd_s3d6_4core3std2_1a" "_RNtNSNCMXCu1_0zIMNZNZXB7_C1xNtCs1_3stds1_3stds3d6_u8_999999992_1aRFUBh_TEFG_Bh_eEueEuTXC3fooB12_Bh_vhuEhKh1_uEBd_s3d6_4core3std2_1a" ∷
+    presses "_RNtXXC1ARL_C1ANAB9_u3tdaFG_UABe_b1_neEbCs1_3foost_1B" "_RNtXXC1ARB3_NAB3_u3tdaFG_UAB3_b1_neEbCs1_3foost_1B" ∷
+    presses "_RNzNAIIYIIC4coreEDCs0_2_1aC3barEL_EINSNzBg_3baru3tdaEFG_C1_0EFG_KCuFKCQL0_uEQL_TCu2a_BA_EhuECs0_1BeBP_EE2__x3bar" "_RNzNAIIYIIC4coreEDCs0_2_1aC3barEL_EINSNzBg_3baru3tdaEFG_C1_0EFG_KCuFKCQL0_uEQTCu2a_BA_EhuECs0_1BeBP_EE2__x3bar" ∷
+    presses "_RNtNCIMNvC1_0s_3stdDMs_YC3stdCs_2__xRL_PBl_EL_E4core2__x" "_RNtNCIMNvC1_0s_3stdDMs_YC3stdCs_2__xRPBl_EL_E4core2__x" ∷
+    presses "_RNSIINvNAC1_02__xu8_99999999L_EL_QL_RRL_QDG_C3stdEL_E2__x" "_RNSIINvNAC1_02__xu8_99999999L_EL_QRRQDG_C3stdEL_E2__x" ∷
+    presses "_RNtIYAAuc_B6_Mst_C4coreeKc1f600_KB6_hBy_E0" "_RNtIYAAuc0_B6_Mst_C4coreeKc1f600_KB6_hhE0" ∷
+    presses "_RIIYDCs_1Apu9Bcher_kvaIB3_L_Cs_3stdQFhDB3_p1__BB_C3foop2__xSQRBL_EL_EuEEL_IINzBI_3fooEL_EAB1e_b1_hB1q_L_EL_FG_EuKc1f600_eE" "_RIIYDCs_1Apu9Bcher_kvaIB3_L_Cs_3stdQFhDB3_p1__B3_C3foop2__xSQRBL_EL_EuEEL_IINzB3_3fooEL_EAB3_b1_hB3_L_EL_FG_EuKc1f600_eE" ∷
+    presses "_RINSMs1_C1__B6_3barIB0_ONAC1_0s_4coreRL_TDNSB0_1AINCBG_1AEp1xRL_TIBE_TmQQL_fEETdQB11_BM_B1h_EEp4coreB1e_Bi_EL_C1__EKh0_uEE" "_RINSMs1_C1__B6_3barIB0_ONAC1_0s_4coreRTDNSB0_1AINCB0_1AEp1xRTIBC_TmQQfEETdQBX_BK_BX_EEp4coreB18_B0_EL_B6_EKh0_uEE" ∷
+    presses "_RNCINZXNvIXNvNvIIICs_0iEEEs_1B1_0hBg_Es3d6_1BB5_BH_1AE1ABd_" "_RNCINZXNvIXNvNvIIICs_0iEEEs_1B1_0hBg_Es3d6_1BB5_B5_1AE1ABd_" ∷
+    presses "_RNtXNSINCYdNvCu3_tda3std4coreEu1zFG_AB4_y03_EPyB4_0" "_RNtXNSINCYdNvCu3tda3std4coreEu1zFG_AB4_y3_EPyB4_0" ∷
+    presses "_RXINCXMC3barQL_FG1_EuB4_B5_1ABm_Kc1f600_FG0_EBi_B3_EeB0_" "_RXINCXMC3barQFG1_EuB4_B5_1AB5_Kc1f600_FG0_EuB3_EeB0_" ∷
+    presses "_RNZINzNtINSMMNtINtC1x1xL_E0RRQL_DCu8_99999999NSIYBv_BL_E1_0pu1_0hB0H_EL_Ba_4coreKif_E0s0_3barE0" "_RNZINzNtINSMMNtINtC1x1xL_E0RRQDCu8_99999999NSIYBt_Bt_E1_0pu1_0hBF_EL_Ba_4coreKif_E0s0_3barE0" ∷
+    presses "_RNZNvXs1_INSC1__1BeDG_EL_TQL_oEEhB7_1A1x" "_RNZNvXs1_INSC1__1BeDG_EL_TQoEEhB7_1A1x" ∷
+    presses "_RNzINtINtNvC2_1as_2__x1__FG0_EB5_RL_mKb0_B9_Es1_3barE1x" "_RNzINtINtNvC2_1as_2__x1__FG0_EB5_RmKb0_B9_Es1_3barE1x" ∷
+    presses "_RIC2__xTIINtB0_1xL_FG0_vEuB0_PBn_EhEhEKb0_E" "_RIC2__xTIINtB0_1xL_FG0_vEuB0_PuEhEhEKb0_E" ∷
+    []
+
+right_1 : are_pressed rows_1 ≡ true
+unfolding are_pressed front_digits number_at name_from separated length_digits read_sym read_all press_read press hexadecimal hexadecimal_before need need_of_arguments need_of_type need_of_types need_of_bounds need_of_bindings
+right_1 = refl
+
+abbrev rows_2 : List Row
+rows_2 =
+    presses "_RNvNANANANCXIYQL_iNCC3foo3fooL_EeBi_s_4core02_1a1_B3bar" "_RNvNANANANCXIYQiNCC3foo3fooL_EeBg_s_4core02_1a1B3bar" ∷
+    presses "_RIC4coreL_Kc0041_B0_RL_ODG_MNANAC3std4coreu1zINtXs_Bs_TFBs_EuBs_EINSIMCs0_1__FG0_EABN_B9_E4coreB1d_DG0_EL0_B12_Es3d6_1xECs_1Ap1__SQBI_C2__xEL_E" "_RIC4coreL_Kc41_B0_RODG_MNANAC3std4coreu1zINtXs_Bo_TFBo_EuBo_EINSIMCs0_1__FG0_EABo_B9_E4coreB19_DG0_EL0_BY_Es3d6_1xECs_1Ap1__SQBE_C2__xEL_E" ∷
+    presses "_RXNtC3std3stdSRL_RRL_B2_INvC3bar1__Cs3d6_3foouBn_E" "_RXNtC3std3stdSRRRB2_INvC3bar1__Cs3d6_3foouBj_E" ∷
+    presses "_RNzMs_MC2_1aFRL_DG1_INSMCs1_3barBm_3stdonEBi_Bi_EL_Euhs_1__" "_RNzMs_MC2_1aFRDG1_INSMCs1_3barBk_3stdonEBg_Bg_EL_Euhs_1__" ∷
+    presses "_RMNCXst_NANtCu10mnchen_3yas_3bar3fooeIYTENtIB8_E4coreCu1aE1__TE" "_RMNCXst_NANtCu10mnchen_3yas_3bar3fooeIYTENtIB8_E4coreCu1aE1__BB_" ∷
+    presses "_RYNtNZCs_4_cores_3foos0_1__NCC1__1_0B0_" "_RYNtNZCs_4cores_3foos0_1__NCC1__1_0B0_" ∷
+    presses "_RNzNtINzNzINCCu7caf_dma1BKsn0_Bb_uE1x1AB4_Es3d6_1Bs0_1x" "_RNzNtINzNzINCCu7caf_dma1BKs0_Bb_uE1x1AB4_Es3d6_1Bs0_1x" ∷
+    presses "_RNzINvCu8gdel_5qa3stdB2_Ka_B4_FG1_EQC1xEs3d6_1__" "_RNzINvCu8gdel_5qa3stdB2_Ka0_B4_FG1_EQC1xEs3d6_1__" ∷
+    presses "_RXNvIC4coreFG0_KCFG_UEC0TEEuBf_DC3_fooEL_Eu8_gdel_5qaOFG_EQL0_uBu_Bk_" "_RXNvIC4coreFG0_KCFG_UEC0TEEuBf_DC3fooEL_Eu8gdel_5qaOFG_EQL0_uBu_Bk_" ∷
+    presses "_RCs1_4coreINtMIIB_POQeBh_KpEETeOBk_Es3d6_1__hE.0" "_RCs1_4coreINtMIIB_POQeBh_KpEETeOBh_Es3d6_1__hE.0" ∷
+    presses "_RNtIMINzXC2__xuCst_1_01BNSYeC1Bs3d6_1xEB6_B2_Knn0111111111111111111111111111111_INSNSYOBE_C3std4coreu10mnchen_3yaKpEDEL_E1B" "_RNtIMINzXC2__xuCst_1_01BNSYeC1Bs3d6_1xEB6_B2_Knn111111111111111111111111111111_INSNSYOB2_C3std4coreu10mnchen_3yaKpEDEL_E1B" ∷
+    presses "_RMNtNtIC4coreE1x1xINzNSC3foo4core3fooKc7e_QL_Cs1_1BBj_BE_E" "_RMNtNtIC4coreE1x1xINzNSC3foo4core3fooKc7e_QCs1_1BBj_BE_E" ∷
+    presses "_RNtXs_C3stdDNvIYB4_Be_Kc5c_eE2__xpu8gdel_5qaBc_NtCu2a_3stdBa_EL_C3foo0Ba_" "_RNtXs_C3stdDNvIYB4_B4_Kc5c_eE2__xpu8gdel_5qaBc_NtCu2a_3stdBa_EL_C3foo0Ba_" ∷
+    presses "_RIICs0_1_0EB0_Kadeadbeef_C3_fooKcd7ff_EB0_" "_RIICs0_1_0EB0_Kadeadbeef_C3fooKcd7ff_EB0_" ∷
+    presses "_RMIINCNvNANtC2__xs0_2__x01xs3d6_4coreKc_L_L_B02_EEB0_" "_RMIINCNvNANtC2__xs0_2__x01xs3d6_4coreKc0_L_L_B2_EEB0_" ∷
+    presses "_RNvNtXC4coreFG_KCvEfMst_NZC2_1a4_coreNZNANZBo_3foo2__xu8_999999991__3foo" "_RNvNtXC4coreFG_KCvEfMst_NZC2_1a4coreNZNANZBo_3foo2__xu8_999999991__3foo" ∷
+    presses "_RNCXCs3d6_2_1aB2_IBc_TB2_vTNtBk_0iFeRL_hEBg_BB_EpEKan1_C0Kb1_Eu2a_" "_RNCXCs3d6_2_1aB2_IB2_TB2_vTNtB2_0iFeRhEB2_hEpEKan1_C0Kb1_Eu2a_" ∷
+    presses "_RNzIINSNSNACs_3foo1Au8_999999994coreKnnff_QL_uB3_hEEst_3std" "_RNzIINSNSNACs_3foo1Au8_999999994coreKnnff_QuB3_hEEst_3std" ∷
+    presses "_RINtMNAC3stdst_2__xFG_KCFB5_ADEL_pohEQL_B5_Eust_1AE" "_RINtMNAC3stdst_2__xFG_KCFB5_ADEL_pohEQB5_Eust_1AE" ∷
+    presses "_RMCs1_1AFG0_UDINtC4core1__Ep4coreSC3barp2_1aRL0_ARL_NtC1A3stdnn1_EL1_Bd_Eu" "_RMCs1_1AFG0_UDINtC4core1__Ep4coreSC3barp2_1aRL0_ARNtC1A3stdnn1_EL1_Bd_Eu" ∷
+    []
+
+right_2 : are_pressed rows_2 ≡ true
+unfolding are_pressed front_digits number_at name_from separated length_digits read_sym read_all press_read press hexadecimal hexadecimal_before need need_of_arguments need_of_type need_of_types need_of_bounds need_of_bindings
+right_2 = refl
+
+abbrev rows_3 : List Row
+rows_3 =
+    presses "_RNtYTueOB4_vEXIC3fooKtff_SFeB6_B2_uEB9_B9_EuBc_s_3bar" "_RNtYTueOevEXIC3fooKtff_SFeeB2_uEvvEuBa_s_3bar" ∷
+    presses "_RIYINtNCNCC1A3bars1_1_02_1aENvNzIB6_E1__3stdBs_QL_FG0_EB8_OjB6_E" "_RIYINtNCNCC1A3bars1_1_02_1aENvNzIB6_E1__3stdBs_QFG0_EB8_OjB6_E" ∷
+    presses "_RMIIC3barKxndeadbeef_NzNZC2__xs_2__x1__EQL_Bl_Eh" "_RMIIC3barKxndeadbeef_NzNZC2__xs_2__x1__EQBl_Eh" ∷
+    presses "_RINAINvC3foos3d6_1AB3_eL_E2_1aBk_QOuSBh_E" "_RINAINvC3foos3d6_1AB3_eL_E2_1aeQOuSB3_E" ∷
+    presses "_RNvYjIINSNzYTDG_C1Ap3fooB2_p1xhC1BBe_EL_EBt_1_0s3d6_u9Bcher_kvaEEst_1B" "_RNvYjIINSNzYTDG_C1Ap3foojp1xhC1BBe_EL_EBr_1_0s3d6_u9Bcher_kvaEEst_1B" ∷
+    presses "_RCs_3fooMINtB_s_3barBa_ADG_EL_l03_Kc5c_Ba_Eu.llvm.1" "_RCs_3fooMINtB_s_3barB_ADG_EL_l3_Kc5c_B_Eu.llvm.1" ∷
+    presses "_RMYRL_FG0_NCMYOeNZINzCs1_1xs0_3fooL0_Eu9Bcher_kvaBb_s_3fooBc_B8_EFEuC1_0DEL_" "_RMYRFG0_NCMYOeNZINzCs1_1xs0_3fooL0_Eu9Bcher_kvaB9_s_3fooBa_B6_EFEuC1_0DEL_" ∷
+    presses "_RXIIINvINSCs_4core1ARL_Cs3d6_1BE2_1aEuEEBz_Cs1_1_0" "_RXIIINvINSCs_4core1ARCs3d6_1BE2_1aEuEEuCs1_1_0" ∷
+    presses "_RINtNSYTTEECs0_1x1__1ATERB5_PFKCECu8_99999999Br_E" "_RINtNSYTTEECs0_1x1__1AB6_RB5_PFKCECu8_99999999Bs_E" ∷
+    presses "_RIIINvXNtIXNtCs_3_std4coreTEYTEIB9_EE3fooB9_NvNABD_st_3std1x4coreL_L_L_eENZINtB7_s0_0E4coreKan0_lKB1s_EDIB0_EC1__EL_ECs1_1__" "_RIIINvXNtIXNtCs_3std4coreTEYBn_IB9_EE3fooB9_NvNAB9_st_3std1x4coreL_L_L_eENZINtB7_s0_0E4coreKa0_lKB1s_EDIB0_EC1__EL_ECs1_1__" ∷
+    presses "_RNzMC1xFTEB6_DNCCs_2_1a4corep3barB8_EL_IC3stdKtf_Bv_RL_Auc1f600_EEASC4corece9_3bar" "_RNzMC1xFTEB6_DNCCs_2_1a4corep3barB6_EL_IC3stdKtf_B6_RAuc1f600_EEASC4corece9_3bar" ∷
+    presses "_RNANSXIC2__xQL_RRL_SAB5_ce9_EPDNzBj_1Apu3tdaBa_INtINSYeC1x2__xE3stdEp2_1aSeNAC3foo1Bp0OOOQL_yEL_NSCs_u8_99999999s1_1B2__x1x" "_RNANSXIC2__xQRRSAB5_ce9_EPDNzB5_1Apu3tdaBa_INtINSYeC1x2__xE3stdEp2_1aSeNAC3foo1Bp0OOOQyEL_NSCs_u8_99999999s1_1B2__x1x" ∷
+    presses "_RXIINSC1_01__EB1_L_pDCst_1xp1_0B4_p1BFuEQL_fB4_BG_EL_EbBj_" "_RXIINSC1_01__EB1_L_pDCst_1xp1_0B4_p1BFuEQfB4_B4_EL_EbBj_" ∷
+    presses "_RNzNCNtNvIXNzNtC3foos0_4corest_u7caf_dmaDG_EL_MNvBb_s_1xINANtNvNCIBd_E2__x3foo4core1_0Km03_EE03foo1B0" "_RNzNCNtNvIXNzNtC3foos0_4corest_u7caf_dmaDG_EL_MNvBb_s_1xINANtNvNCIBd_E2__x3foo4core1_0Km3_EE03foo1B0" ∷
+    presses "_RYDG_MCu2a_ORFUK0B4_C4coreERDXBf_Cs3d6_3fooC1xEL0_Cs0_1BEL_C1_0BV_" "_RYDG_MCu2a_ORFUK0B4_C4coreERDXB4_Cs3d6_3fooC1xEL0_Cs0_1BEL_C1_0BV_" ∷
+    presses "_RXs_NtMC4coreIB5_Kb1_B5_RL_RL_Bj_SuEst_2_1aNvC3bar1_0NtIC3fooRL_DBS_NvCst_3stdu1_0IIB16_EEEL_KBg_DMs3d6_B1k_BX_B11_Cs1_3fooEL_B1y_Es_u4__5qa" "_RXs_NtMC4coreIB5_Kb1_B5_RRB5_SuEst_2_1aNvC3bar1_0NtIC3fooRDBO_NvCst_3stdu1_0IIB10_EEEL_KBg_DMs3d6_B10_BT_BO_Cs1_3fooEL_B1s_Es_u4__5qa" ∷
+    presses "_RMst_IC3barIC2__xRL_B4_Ky_Kn0_EYeXB4_Bw_IIIB9_EL_lvEKb1_EEFKCEFG_EbNzC3foo1_0" "_RMst_IC3barIC2__xRB4_Ky0_Kn0_EYeXB4_B4_IIIB9_EL_lvEKb1_EEFKCEFG_EbNzC3foo1_0" ∷
+    presses "_RIIC2__xKxn1_NCINSCs0_4core2__xEs3d6_1xETBd_RTBb_RL_BD_B0_nEEuRNvBD_u1_0Ktffffffffffffffffffffffffffffffff_E" "_RIIC2__xKxn1_NCINSCs0_4core2__xEs3d6_1xETBd_RTBb_RBd_B0_nEEuRNvBd_u1_0Ktffffffffffffffffffffffffffffffff_E" ∷
+    presses "_RIC1xQeRL_SuuFKCODNvB0_2_1ap3foooEL_EuE" "_RIC1xQeRSuuFKCODNvB0_2_1ap3foooEL_EuE" ∷
+    presses "_RINCC1xs0_1xKln1_Kadeadbeef_RL_FG_EQL_RB0_SBt_E" "_RINCC1xs0_1xKln1_Kadeadbeef_RFG_EQRB0_SBr_E" ∷
+    []
+
+right_3 : are_pressed rows_3 ≡ true
+unfolding are_pressed front_digits number_at name_from separated length_digits read_sym read_all press_read press hexadecimal hexadecimal_before need need_of_arguments need_of_type need_of_types need_of_bounds need_of_bindings
+right_3 = refl
+
+abbrev rows_4 : List Row
+rows_4 =
+    presses "_RNCNvMs3d6_NvNZIC4coreRL_FEuKc27_Es3d6_01BQL_NvC1Ast_3foo2_1au4__5qa" "_RNCNvMs3d6_NvNZIC4coreRFEuKc27_Es3d6_01BQNvC1Ast_3foo2_1au4__5qa" ∷
+    presses "_RXC1xRL_iIC1xDG0_C1__EL_Cu3tdaRL_DG0_EL_RhE" "_RXC1xRiIB0_DG0_C1__EL_Cu3tdaRDG0_EL_RhE" ∷
+    presses "_RNtIC3stdB2_DG0_YDG0_NtB2_1Apu1_0B7_p0PFG_UxRTEENCIINtNzNzINvBj_1__IBl_BG_EB14_E3foo1__1BEEu1__EL0_BN_EL_Kmffffffffffffffffffffffffffffffff_E1xC4core" "_RNtIC3stdB2_DG0_YDG0_NtB2_1Apu1_0B2_p0PFG_UxRTEENCIINtNzNzINvBj_1__IB2_BG_EB2_E3foo1__1BEEu1__EL0_BN_EL_Kmffffffffffffffffffffffffffffffff_E1xC4core" ∷
+    presses "_RNvMICs0_1BKif_RL_eBd_FG_EuENANSB2_02__x1x" "_RNvMICs0_1BKif_ReBd_FG_EuENANSB2_02__x1x" ∷
+    presses "_RXs3d6_NzIMC0DYB9_NvCst_2_1a4coreMIINvBi_1__Kb0_By_RNzBc_u2a_L_ExBx_Bg_KpEARL_eb1_NAB11_0p3foomp1__B1i_EL_E1__vC3foo" "_RXs3d6_NzIMC0DYB9_NvCst_2_1a4coreMIINvBi_1__Kb0_By_RNzBc_u2a_L_ExBx_Bg_KpEAReb1_NABx_0p3foomp1__B1g_EL_E1__vC3foo" ∷
+    presses "_RMNvNvNSNtMst_NvNANtC01x01_0APNCNAC03foo3barnn1_st_2__x1__st_1A1Ae" "_RMNvNvNSNtMst_NvNANtC01x01_0APNCNABi_3foo3barnn1_st_2__x1__st_1A1Ae" ∷
+    presses "_RXNZNSICu1__L_uKc1f_Kb0_Est_1Au8gdel_5qaDB2_B2_p1__FBc_xB5_bEhBG_EL_Cs0_3bar" "_RXNZNSICu1__L_uKc1f_Kb0_Est_1Au8gdel_5qaDB2_B2_p1__FuxB5_bEhB2_EL_Cs0_3bar" ∷
+    presses "_RINvC2_1as0_1_BRL_B2_FEaKt03_NtINtYDG0_B2_IB2_L0_Ep1BB0_EL_IXs3d6_IYRL_Bj_NCC2__x1xKBn_EhB12_E3fooBW_Es3d6_1BE" "_RINvC2_1as0_1BRB2_FEaKt3_NtINtYDG0_B2_IB2_L0_Ep1BB0_EL_IXs3d6_IYRBg_NCC2__x1xKBk_EhBY_E3fooBS_Es3d6_1BE" ∷
+    presses "_RXNvC3_foo1__B2_IB0_PeeFSfFG1_UuEBt_EC2__xBf_E" "_RXNvC3foo1__B2_IB0_PeeFSfFG1_UuEuEC2__xB0_E" ∷
+    presses "_RMCs0_0FERFG_KCDNSNtB0_3std3barNZB0_3barIC1_0hOBD_fEp2__xpp2_1aOBe_EL_ERB0C_" "_RMCs0_0FERFG_KCDNSNtB0_3std3barNZB0_3barIC1_0hOBD_fEp2__xpp2_1aOBe_EL_ERBC_" ∷
+    presses "_RNtNAXNvNtXICs0_1xESRL_B9_Bl_1x1_0QL_TyC2__xC1AEC1B3bars1_1_0XYB_B3_hIC2__xL_E" "_RNtNAXNvNtXICs0_1xESRB9_B9_1x1_0QTyC2__xC1AEC1B3bars1_1_0XYB_B3_hIBx_L_E" ∷
+    presses "_RNSNZNtMMIC1BL_Kandeadbeef_FG_UK3fooB8_DG0_EL_DG0_By_p1xdBy_BM_EL_uEuECs3d6_2_1aB6_st_u3tdas_1Bs3d6_u8_99999999" "_RNSNZNtMMIC1BL_Kandeadbeef_FG_UK3fooB8_DG0_EL_DG0_B8_p1xdB8_B8_EL_uEuECs3d6_2_1aB6_st_u3tdas_1Bs3d6_u8_99999999" ∷
+    presses "_RIXYvCu10mnchen_3yaC1BC3stdL_ENCNCC1Bs3d6_3bar2_1a" "_RIXYvCu10mnchen_3yaC1BC3stdL_ENCNCBh_s3d6_3bar2_1a" ∷
+    presses "_RINCCs_1B3stdKxn1_TFEXs3d6_IIB2_TvBv_NvIICs0_1xuKb0_FG0_EBv_Cst_3barETiSDG0_EL_EKc0041_SReEu2a_uEoEaEB1x_BW_EBh_E.$_" "_RINCCs_1B3stdKxn1_TFEXs3d6_IIB2_TvvNvIICs0_1xuKb0_FG0_EvCst_3barETiSDG0_EL_EKc41_SReEu2a_uEoEaEoBS_EBh_E.$_" ∷
+    presses "_RXs1_XMIINvC0s0_1xEEB7_IMB06_C3fooFG_B4_uTEEuKc1f600_L_ENtNZC2__x3std1__ATEoff_NvBS_s1_1ACs1_1A" "_RXs1_XMIINvC0s0_1xEEB7_IMB6_C3fooFG_B4_uTEEuKc1f600_L_ENtNZC2__x3std1__ABC_off_NvBR_s1_1ACs1_1A" ∷
+    presses "_RNtNtIC1xFG0_IB4_Kh03_NzMBc_ABn_c10ffff_2_1aL1_EEDG1_NvBm_1xC1_0p1AuEL0_RL_zKphE3std1x" "_RNtNtIC1xFG0_IB4_Kh3_NzMB4_AB4_c10ffff_2_1aL1_EEDG1_NvBl_1xC1_0p1AuEL0_RzKphE3std1x" ∷
+    presses "_RYSYNtC02_1aNSB2_1xMNzNzBc_2__xu1_0TSQDEL_RL_Bi_ouE" "_RYSYNtC02_1aNSB2_1xMNzNzB2_2__xu1_0TSQDEL_RBi_ouE" ∷
+    presses "_RMNvIIINSMNtNZC3foost_3std2__xB8_2__xEFG0_FKCeEhhENtXMIB7_Kc27_FKCEB0J_RL0_BR_RL0_B5_EfINvBs_3fooFG0_EuB1x_Kc0041_Cs_1AENCB1O_3bar1xEEst_2__xPc" "_RMNvIIINSMNtNZC3foost_3std2__xB8_2__xEFG0_FKCeEhhENtXMIB7_Kc27_FKCEhRL0_B7_RL0_B5_EfINvB8_3fooFG0_EuB1u_Kc41_Cs_1AENCB1J_3bar1xEEst_2__xPc" ∷
+    presses "_RNSNtICs_0Kc7f_NtNvB4_3bars0_3barORAPC1xB9_Ksn_E3foost_1x" "_RNSNtICs_0Kc7f_NtNvB4_3bars0_3barORAPC1xB9_Ks0_E3foost_1x" ∷
+    presses "_RYQIIC1xKpB3_EeEYQL_Xs0_NZNZCu2a_s_u3tda3barBm_IC1ABG_QL_B0_EB3_" "_RYQIIC1xKpB3_EeEYQXs0_NZNZCu2a_s_u3tda3barBk_IC1ABk_QB0_EB3_" ∷
+    []
+
+right_4 : are_pressed rows_4 ≡ true
+unfolding are_pressed front_digits number_at name_from separated length_digits read_sym read_all press_read press hexadecimal hexadecimal_before need need_of_arguments need_of_type need_of_types need_of_bounds need_of_bindings
+right_4 = refl
+
+abbrev rows_5 : List Row
+rows_5 =
+    presses "_RIC1_0INvNZINvYRL_AB0_b0_NzMB0_Bh_s0_4core3fooAoc_B0_hE0s0_1BEKhff_EB7_" "_RIC1_0INvNZINvYRAB0_b0_NzMB0_B0_s0_4core3fooAoc0_B0_hE0s0_1BEKhff_EB7_" ∷
+    presses "_RIXNvIXC2__xB5_B5_OuBg_uE2__xBa_MYBr_B5_eE" "_RIXNvIXC2__xB5_B5_OuBg_uE2__xB5_MYB5_B5_eE" ∷
+    presses "_RC3stdIIMNZYB_IC4coreL_Es3d6_1xFEvEB5_QL_hE" "_RC3stdIIMNZYB_IC4coreL_Es3d6_1xFEvEB5_QhE" ∷
+    presses "_RIXs3d6_IC1_0Kc7f_ESOAFTEEPec27_Ms1_B6_PNvNvNvCs_3bars1_2_1a4core1_0Bu_QL_TEKc7f_L_E" "_RIXs3d6_IC1_0Kc7f_ESOAFTEEPec27_Ms1_B6_PNvNvNvCs_3bars1_2_1a4core1_0Bu_QBl_KBc_L_E" ∷
+    presses "_RNtINAICst_4coresB5_TEFEPFEDXCs1_1__IIBf_uEEBz_EL_E1BtKpBk_Kc5c_E1B" "_RNtINAICst_4coresB5_TEFEPFEDXCs1_1__IIB5_uEEBz_EL_E1BtKpBk_Kc5c_E1B" ∷
+    presses "_RNSINtINCIC1__ARL_ub0_Es0_1ABd_E2_1aKs1_KBz_B7_E1__" "_RNSINtINCIC1__ARub0_Es0_1ABd_E2_1aKs1_KBx_B7_E1__" ∷
+    presses "_RIYRRL_xC1_0RTDEL_EDNtC1__u2a_p3bareBk_C2__xEL_B6_C1AE" "_RIYRRxC1_0RTDEL_EDNtC1__u2a_p3bareBi_C2__xEL_B4_C1AE" ∷
+    presses "_RXNvIC0L_C3stdKl0_RL_B7_E2_1aOSPRL_Bg_NSB3_3_foo" "_RXNvIC0L_C3stdKl0_RB7_E2_1aOSPRBg_NSB3_3foo" ∷
+    presses "_RNzXIXC0Aly_B4_cSSnL_EDG0_C3barB03_EL_C3stdst_1x" "_RNzXIXC0Aly0_B4_cSSnL_EDG0_C3barB3_EL_C3stdst_1x" ∷
+    presses "_RNSNvINvC2_1au8_gdel_5qaKc1f_Est_1Ast_1B" "_RNSNvINvC2_1au8gdel_5qaKc1f_Est_1Ast_1B" ∷
+    presses "_RMINZINAXC2_1aYTECs_3barNzICs0_1BE1_xs1_0Est_1_0EB0d_B6_" "_RMINZINAXC2_1aYTECs_3barNzICs0_1BE1xs1_0Est_1_0EBd_B6_" ∷
+    presses "_RXNZIYNzIC0E1xB6_FG0_UEuNvNCBc_3foos0_1ABc_KpE3fooRL_uYRuINAMC2_1aBR_3barBf_ENCIBU_L_E4core" "_RXNZIYNzIC0E1xB6_FG0_UEuNvNCB6_3foos0_1AB6_KpE3fooRuYBM_INAMC2_1aBM_3barBf_ENCIBT_L_E4core" ∷
+    presses "_RNtICs0_3fooKb0_Kadeadbeef_Kb0_B2_E1ABt_" "_RNtICs0_3fooKb0_Kadeadbeef_KBb_B2_E1AB2_" ∷
+    presses "_RNSNZNvMINtC1A1BKodeadbeef_B9_B9_ERDG0_IIC3fooERL1_INzC2_1a1BFEuERL0_FG0_YuNtNCINCBQ_1__Eu8gdel_5qas0_1AvuB19_EuhB1M_ECu10mnchen_3yaEL_st_3std1x1x" "_RNSNZNvMINtC1A1BKodeadbeef_B9_B9_ERDG0_IIC3fooERL1_INzC2_1a1BFEuERL0_FG0_YuNtNCINCBQ_1__Eu8gdel_5qas0_1AvuB19_EuhhECu10mnchen_3yaEL_st_3std1x1x" ∷
+    presses "_RNSXs0_NzYsCst_2__x0SFGs_EuIMB09_B9_L_Bq_QL_Br_DG0_EL_E0" "_RNSXs0_NzYsCst_2__x0SFGs_EuIMB9_B9_L_Bq_QB9_DG0_EL_E0" ∷
+    presses "_RNtIC1ADIB2_dBa_IB2_RfBi_Cs_3foopEEB2_C4coreEL_L_Ks03_uEs_3_bar" "_RNtIC1ADIB2_ddIB2_RfBg_Cs_3foopEEB2_C4coreEL_L_Ks3_uEs_3bar" ∷
+    presses "_RIXNtIC2_1aYRB4_XBb_Bb_NvIMB4_Bp_uEs3d6_3barEs_3baruBe_E" "_RIXNtIC2_1aYRB4_XB4_B4_NvIMB4_B4_uEs3d6_3barEs_3baruBe_E" ∷
+    presses "_RCs3d6_3fooNtNAIIB_OhOScEKlf_TFKCoYQQBk_B_FUFG1_EFG_deEhNSNSBw_u8gdel_5qau10mnchen_3yaEuuEC3barB1o_EKBo_C0E2__x2__x" "_RCs3d6_3fooNtNAIIB_OhOScEKlf_TFKCoYQQBk_B_FUFG1_EFG_deEhNSNSBw_u8gdel_5qau10mnchen_3yaEuuEC3baruEKBo_C0E2__x2__x" ∷
+    presses "_RINZC3foo3barSINZNZIXst_INtC1xu1__Knffffffffffffffffffffffffffffffff_EBp_C1_0E1_01_0EL_Bf_B16_EC1__" "_RINZC3foo3barSINZNZIXst_INtC1xu1__Knffffffffffffffffffffffffffffffff_EBp_C1_0E1_01_0EL_Bf_Bp_EC1__" ∷
+    []
+
+right_5 : are_pressed rows_5 ≡ true
+unfolding are_pressed front_digits number_at name_from separated length_digits read_sym read_all press_read press hexadecimal hexadecimal_before need need_of_arguments need_of_type need_of_types need_of_bounds need_of_bindings
+right_5 = refl

@@ -1,0 +1,74 @@
+-- A small reader over a table, to compute the definitions at single symbols.
+use Rattle.std.specs.Prelude.{ℕ, zero, suc, List, [], ◌∷◌, ◌++◌, length, take, drop, true, false, nat_eq, Option, Some, None, Ok, Err}
+use Rattle.sym_core.specs.declared.NumberKind.{NumberKind}
+use Rattle.sym_core.specs.declared.NumberKind.TheVariants.{Length}
+use Rattle.sym_core.specs.Number.{is_digit_of}
+use Rattle.sym_core.specs.Value.{value_of}
+use Rattle.sym_shape.specs.declared.rule.Sym.{Sym}
+use Rattle.sym_shape.specs.declared.rule.Sym.TheVariants.{Kind, Name, Number, Byte}
+use Rattle.sym_shape.specs.Table.{symbols_of}
+use Rattle.sym_shape.specs.Tree.{Tree, Forest, branch, empty, token, fixed, nothing, grown}
+use Rattle.rust_v0.specs.Rules.{v0_table}
+use Rattle.rust_v0.specs.Unfold.{unfolded}
+use Rattle.rust_press.specs.Pressing.{pressed}
+
+infixl 10 ◌and_then◌
+abbrev ◌and_then◌ : {A B : Type 0} → Option A → (A → Option B) → Option B
+(Some x) and_then f = f x
+None and_then f = None
+
+-- the digits at the front, and what is behind them
+unfoldable pub front_digits : NumberKind → List ℕ → List ℕ
+front_digits kind [] = []
+front_digits kind (b ∷ bytes) = elim (is_digit_of kind b) [ true ↦ b ∷ front_digits kind bytes | false ↦ [] ]
+
+unfoldable pub number_at : List ℕ → List ℕ → Option (Tree × List ℕ)
+number_at digits [] = None
+number_at digits (b ∷ rest) = elim (nat_eq b 95) [ true ↦ Some (token (record { before = []; own = digits; behind = 95 ∷ [] }), rest) | false ↦ None ]
+
+unfoldable pub name_from : List ℕ → List ℕ → Option (Tree × List ℕ)
+name_from digits tail = Some (token (record { before = digits; own = take (value_of Length digits) tail; behind = [] }), drop (value_of Length digits) tail)
+
+-- an underscore straight behind the length is the separator
+unfoldable pub separated : List ℕ → List ℕ → Option (Tree × List ℕ)
+separated digits [] = name_from digits []
+separated digits (b ∷ tail) = elim (nat_eq b 95) [
+  | true ↦ Some (token (record { before = digits ++ 95 ∷ []; own = take (value_of Length digits) tail; behind = [] }), drop (value_of Length digits) tail)
+  | false ↦ name_from digits (b ∷ tail)
+]
+
+-- a length is 0 alone, or all digits
+unfoldable pub length_digits : List ℕ → List ℕ
+length_digits [] = []
+length_digits (b ∷ bytes) = elim (nat_eq b 48) [ true ↦ b ∷ [] | false ↦ front_digits Length (b ∷ bytes) ]
+
+unfoldable mutual
+  pub read_sym : ℕ → Sym → List ℕ → Option (Tree × List ℕ)
+  read_sym zero s bytes = None
+  read_sym (suc n) Name bytes = separated (length_digits bytes) (drop (length (length_digits bytes)) bytes)
+  read_sym (suc n) (Number kind) bytes = number_at (front_digits kind bytes) (drop (length (front_digits kind bytes)) bytes)
+  read_sym (suc n) (Byte b) [] = None
+  read_sym (suc n) (Byte b) (c ∷ bytes) = elim (nat_eq b c) [ true ↦ Some (fixed c, bytes) | false ↦ None ]
+  read_sym (suc n) (Kind k) [] = elim (v0_table.may_be_empty k) [ true ↦ Some (empty, []) | false ↦ None ]
+  read_sym (suc n) (Kind k) (b ∷ bytes) = elim (v0_table.rule k b) [
+    | None ↦ elim (v0_table.may_be_empty k) [ true ↦ Some (empty, b ∷ bytes) | false ↦ None ]
+    | Some rule ↦ elim rule.eats [
+      | true ↦ read_all n (symbols_of rule) bytes and_then λ r. Some (branch rule (b ∷ []) r.0, r.1)
+      | false ↦ read_all n (symbols_of rule) (b ∷ bytes) and_then λ r. Some (branch rule [] r.0, r.1)
+    ]
+  ]
+
+  pub read_all : ℕ → List Sym → List ℕ → Option (Forest × List ℕ)
+  read_all zero ss bytes = None
+  read_all (suc n) [] bytes = Some (nothing, bytes)
+  read_all (suc n) (s ∷ ss) bytes =
+      read_sym n s bytes and_then λ one. read_all n ss one.1 and_then λ more. Some (grown one.0 more.0, more.1)
+
+unfoldable pub press_read : Option (Tree × List ℕ) → List ℕ
+press_read None = []
+press_read (Some (shape, [])) = elim (unfolded shape) [ Ok symbol ↦ pressed symbol | Err refusal ↦ [] ]
+press_read (Some (shape, more)) = []
+
+-- a symbol pressed; no bytes where it isn't read
+unfoldable pub press : List ℕ → List ℕ
+press bytes = press_read (read_sym 2000 (Kind 0) bytes)

@@ -1,0 +1,18 @@
+use Rattle.std.proofs.Common.{◌≡◌, ◌++◌, length, Some, slice_get, rules, ap, subst, ◌∙◌}
+use Rattle.rust_tree.specs.Tree.{of_symbol}
+use Rattle.rust_tree.specs.Layout.{trees_of}
+use Rattle.rust_tree.specs.Views.{fields_at, IsView}
+use Rattle.rust_press.proofs.WriterSteps.{symbol-bytes}
+use Rattle.rust_press.proofs.pressing.press_rust.Goals as goal
+
+pub returns-clause-pressed : goal.returns-clause-pressed
+returns-clause-pressed c =
+    let y = c.args.symbol.now in
+    let view = c.node-view.result in
+    let root = c.root_node.ensures.root in
+    let whole = c.root_node.ensures.root_is.0 in
+    let long : length view.texts ≡ 2 = search rules in
+    symbol-bytes y whole view c.bytes_of.result.now c.extend_from_slice.new.self.items
+    (subst (λ m. slice_get (trees_of y) m ≡ Some (of_symbol whole)) root c.root_node.ensures.root_is.1) long
+    (subst (λ m. IsView y.bytes view (fields_at y m)) root c.node-view.ensures.fields) c.bytes_of.ensures
+    (c.in_ok-extend_from_slice.ensures.items ∙ ap (λ l. l ++ c.bytes_of.result.now) c.in_ok-out.ensures.pressed)

@@ -1,0 +1,14 @@
+-- What is pressed of a symbol that was read.
+use Rattle.std.specs.Prelude.{ℕ, ◌≤◌, List, length}
+use Rattle.rust_tree.specs.Layout.{ReadSymbol}
+use Rattle.rust_v0.specs.Mangled.{whole_of}
+use Rattle.rust_press.specs.Pressing.{pressed}
+use Rattle.rust_press.specs.Apart.{spelled_components}
+
+-- the pressed spelling of its tree
+unfoldable pub pressed_symbol : ReadSymbol → List ℕ
+pressed_symbol y = pressed (whole_of y)
+
+-- The components that are spelled out are at most as many as the nodes.
+abbrev pub HasFewComponents : ReadSymbol → Type 0
+HasFewComponents y = length (spelled_components (whole_of y)) ≤ length y.table.nodes

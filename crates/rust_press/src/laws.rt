@@ -1,0 +1,19 @@
+// What holds of pressed spellings, whatever spelling they were read from.
+ghost use Rattle.rust_press.specs.PressLaws.{PressedIsRead, PressedOnce};
+ghost use Rattle.rust_press.specs.Apart.{ComponentsAreApart};
+
+/// What some Rust symbol stands for, pressed, is well shaped, and every shape that spells it stands for the same: no part, no
+/// disambiguator and no suffix is lost. The pressed bytes are at most 2^64 - 1, as those of any list.
+pub fn pressed_is_read()
+    ensures { PressedIsRead }
+{}
+
+/// What a pressed spelling is read as is pressed to the same bytes.
+pub fn pressed_once()
+    ensures { PressedOnce }
+{}
+
+/// No two paths, types or constants that pressing spells out are the same.
+pub fn components_are_apart()
+    ensures { ComponentsAreApart }
+{}

@@ -1,0 +1,151 @@
+// A Rust symbol spelled again, each repeated component a reference to the first one.
+#![tactic(auto)]
+
+ghost use Rattle.std.specs.Prelude.{◌≡◌, ℕ, ◌<◌, ◌++◌, length, slice_get, Some, None, OnOk, IfOk, IfErr};
+ghost use Rattle.sym_core.specs.declared.Refusal.TheVariants.{Memory};
+ghost use Rattle.rust_tree.specs.Layout.{trees_of};
+ghost use Rattle.rust_tree.specs.Views.{fields_at};
+ghost use Rattle.rust_press.specs.Numbers.{AreNumbers, number_at};
+ghost use Rattle.rust_press.specs.Spelled.{end};
+ghost use Rattle.rust_press.specs.Tasks.{ArePushed, IsNodeStep, placed, pressed_root};
+ghost use Rattle.rust_press.specs.OfRead.{HasFewComponents, pressed_symbol};
+
+use crate::numbering::Numbering;
+use crate::spelling::{is_component, push_end, push_front, push_reference};
+use rust_v0::Symbol;
+use std::alloc::Global;
+use sym_core::Refusal;
+
+/// What is still to be spelled.
+#[derive(Clone, Copy)]
+enum Task {
+    /// The tree of a node.
+    Node(u32),
+    /// The end of a component that began at this place.
+    Ended { node: u32, place: u64 },
+}
+
+/// The parts of a node are still to be spelled, the last of which goes on the list first.
+fn push_parts(symbol: &Symbol, node: u32, count: u32, tasks: &mut Vec<Task>) -> Result<(), Refusal>
+    requires node { node < length symbol.now.table.nodes }
+    requires count { count ≡ length (fields_at symbol.now node).parts }
+    ensures pushed { OnOk result (ArePushed symbol.now (fields_at symbol.now node).parts tasks.old.items tasks.new.items) }
+    ensures memory { IfErr result (λ e. e ≡ Memory) }
+{
+    let mut left = count;
+    while left > 0 {
+        left -= 1;
+        tasks.push(Task::Node(symbol.part(node, left)))?;
+    }
+    Ok(())
+}
+
+/// A node is spelled up to its parts, or as a reference where one like it is spelled out already.
+fn press_node(
+    symbol: &Symbol,
+    numbering: &Numbering,
+    places: &[Option<u64>],
+    node: u32,
+    tasks: &mut Vec<Task>,
+    out: &mut Vec<u8>,
+) -> Result<(), Refusal>
+    requires node { node < length symbol.now.table.nodes }
+    requires numbers { node < length numbering.now }
+    requires places { number_at numbering.now node < length places.now }
+    ensures step { OnOk result (IsNodeStep symbol.now node (number_at numbering.now node) places.now tasks.old.items out.old.items tasks.new.items out.new.items) }
+    ensures memory { IfErr result (λ e. e ≡ Memory) }
+{
+    let view = symbol.node(node);
+    if is_component(view.production) {
+        let number = numbering.number_of(node);
+        if let Some(place) = places[number as usize] {
+            push_reference(place, out)?;
+            return Ok(());
+        }
+        let place = out.len() as u64;
+        tasks.push(Task::Ended { node, place })?;
+    }
+    let text = symbol.bytes_of(view.texts[0]);
+    push_front(view.production, view.numbers, text, out)?;
+    push_parts(symbol, node, view.parts, tasks)?;
+    Ok(())
+}
+
+/// A component has ended: where it began is known from now on.
+fn end_component(
+    symbol: &Symbol,
+    number: u32,
+    node: u32,
+    place: u64,
+    places: &mut Vec<Option<u64>>,
+    out: &mut Vec<u8>,
+) -> Result<(), Refusal>
+    requires node { node < length symbol.now.table.nodes }
+    requires places { number < length places.old.items }
+    ensures bytes { OnOk result (out.new.items ≡ out.old.items ++ end (fields_at symbol.now node)) }
+    ensures places { OnOk result (places.new.items ≡ placed places.old.items number place) }
+    ensures memory { IfErr result (λ e. e ≡ Memory) }
+{
+    let view = symbol.node(node);
+    let text = symbol.bytes_of(view.texts[0]);
+    push_end(view.production, view.numbers[1], text, out)?;
+    if places[number as usize].is_none() {
+        places[number as usize] = Some(place);
+    }
+    Ok(())
+}
+
+/// As many places as there are numbers, none known.
+fn no_places(alloc: Global, count: u32) -> Result<Vec<Option<u64>>, Refusal>
+    ensures places { IfOk result (λ made. (k : ℕ) → k < count → slice_get made.items k ≡ Some None) }
+    ensures long { IfOk result (λ made. length made.items ≡ count) }
+    ensures memory { IfErr result (λ e. e ≡ Memory) }
+{
+    Ok(vec![in alloc; None; count as usize]?)
+}
+
+/// The pressed spelling of a symbol without its suffix, by the numbers of its nodes.
+fn press_tasks(alloc: Global, symbol: &Symbol, numbering: &Numbering) -> Result<Vec<u8>, Refusal>
+    requires { AreNumbers (trees_of symbol.now) numbering.now }
+    ensures pressed { IfOk result (λ out. out.items ≡ pressed_root symbol.now) }
+    ensures components { IfOk result (λ _. HasFewComponents symbol.now) }
+    ensures memory { IfErr result (λ e. e ≡ Memory) }
+{
+    let mut places = no_places(alloc, numbering.looks())?;
+    let mut tasks = Vec::new(alloc);
+    let mut out = Vec::new(alloc);
+    tasks.push(Task::Node(symbol.root_node()))?;
+    'tasks: while let Some(task) = tasks.pop() {
+        match task {
+            Task::Node(node) => {
+                press_node(symbol, numbering, &places, node, &mut tasks, &mut out)?;
+            }
+            Task::Ended { node, place } => {
+                let number = numbering.number_of(node);
+                end_component(symbol, number, node, place, &mut places, &mut out)?;
+            }
+        }
+    }
+    Ok(out)
+}
+
+/// The pressed spelling of a Rust symbol (RFC 2603): its tree in its order, in which each path, type or constant that is
+/// equal to an earlier one is a reference to the first such one, and numbers and names have their shortest form. Symbols of
+/// one tree have one pressed spelling; disambiguators, the instantiating crate and the suffix are part of the tree.
+///
+/// Each repeated part is compared by its number and spelled out at most once, however large the tree is.
+///
+/// # Errors
+///
+/// `Memory` alone.
+pub fn press_rust(alloc: Global, symbol: &Symbol) -> Result<Vec<u8>, Refusal>
+    ensures pressed { IfOk result (λ out. out.items ≡ pressed_symbol symbol.now) }
+    ensures components { IfOk result (λ _. HasFewComponents symbol.now) }
+    ensures memory { IfErr result (λ e. e ≡ Memory) }
+{
+    let numbering = Numbering::rust(alloc, symbol)?;
+    let mut out = press_tasks(alloc, symbol, &numbering)?;
+    let view = symbol.node(symbol.root_node());
+    out.extend_from_slice(symbol.bytes_of(view.texts[0]))?;
+    Ok(out)
+}
