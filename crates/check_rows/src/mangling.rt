@@ -3,13 +3,12 @@
 ghost use Rattle.sym_core.specs.Number.{FitsSymbol};
 
 use crate::feeding::fed;
-use cpp_press::press_cpp;
 use itanium::Abi;
 use rust_v0::V0;
 use std::alloc::Global;
 use sym_core::{Counts, Refusal};
 use sym_demangle::Mangling;
-use rust_press::press_rust;
+use sym_press::{press_cpp, press_rust};
 use sym_print::Detail;
 
 /// A mangling with its crate's calls.

@@ -12,13 +12,12 @@ use crate::counted::Counted;
 use crate::demangler::{Demangled, Demangler};
 use crate::kinds::{Kind, Lang};
 use crate::languages::Lists;
-use cpp_press::press_cpp;
 use itanium::Abi;
 use rust_v0::V0;
 use std::alloc::{AllocError, Global};
 use sym_core::Refusal;
 use sym_demangle::Workspace;
-use rust_press::press_rust;
+use sym_press::{press_cpp, press_rust};
 
 /// A mangling whose symbols are spelled again, with each repeated part as a reference.
 pub trait Pressable: Counted {
