@@ -23,7 +23,7 @@ pub use codes::{
 };
 pub use context::Context;
 pub use cpp_tree::node::{Adjustment, Signed, Thunk};
-pub use cpp_views::{Node, equal_trees_have_equal_views, fields_make_the_tree, tree_production};
+pub use cpp_tree::{Node, equal_trees_have_equal_views, fields_make_the_tree, tree_production};
 pub use names::name_text;
 pub use sym_print::Detail;
 pub use symbol::Symbol;

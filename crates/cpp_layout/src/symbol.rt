@@ -8,14 +8,13 @@ ghost use Rattle.cpp_term.specs.Items as items;
 ghost use Rattle.cpp_term.specs.Items.{indexed};
 ghost use Rattle.cpp_tree.specs.Nodes.{tree_at, trees, tree_of, bytes_at, IsBelow, IsTable, IsWithin, entry_at};
 ghost use Rattle.cpp_layout.specs.Layout.{table_of, context_of, IsRead};
-ghost use Rattle.cpp_views.specs.Fields.{offsets_of, tree_from};
-ghost use Rattle.cpp_views.specs.Views.{plain_tree, fields_at, seen_fields, offsets_in, IsView, AreBelow, AreWithin, IsKnownThunk};
+ghost use Rattle.cpp_tree.specs.Fields.{offsets_of, tree_from};
+ghost use Rattle.cpp_tree.specs.Views.{plain_tree, fields_at, seen_fields, offsets_in, IsView, AreBelow, AreWithin, IsKnownThunk};
 
 use crate::context::Context;
-use cpp_tree::Nodes;
 use cpp_tree::node::{Entry, Node, Thunk};
-use cpp_views::Node as View;
-use cpp_views::view::{NodeView, offsets_of, view_of};
+use cpp_tree::view::{NodeView, offsets_of, view_of};
+use cpp_tree::{Node as View, Nodes};
 use std::alloc::Global;
 use std::marker::Model;
 use sym_core::{Counts, Span};

@@ -1,6 +1,6 @@
 // What a node says beside its parts, in numbers and texts.
 //
-// The views that callers have (`cpp_views`) hold two numbers and two texts, and leave the offsets of some thunks to a call of
+// The views that callers have (`cpp_tree`) hold two numbers and two texts, and leave the offsets of some thunks to a call of
 // their own. A key of the map (`numbering`) holds all that a node says, in one form for each node, so it is made from these.
 //
 // A production has a number here, its place in the list `tree_of_fields` (`specs/Fields.antt`, which names them all): 0 is no

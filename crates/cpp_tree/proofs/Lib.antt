@@ -2,3 +2,5 @@ pub mod Trees
 pub mod Pushed
 pub mod Noting
 pub mod Compacting
+pub mod Rebuilding
+mod FieldRows

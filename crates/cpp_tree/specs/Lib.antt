@@ -1,3 +1,5 @@
 pub mod Compact
 pub mod Nodes
 pub mod Notes
+pub mod Fields
+pub mod Views

@@ -1,11 +1,17 @@
-//! What a C++ symbol stands for: its nodes, which share their parts, and what is noted of their trees.
+//! What a C++ symbol stands for: its nodes, which share their parts, what is noted of their trees, and how they are seen: a
+//! production, numbers, texts and parts.
 #![tactic(auto)]
 
 mod compact;
 mod elements;
 mod heads;
+mod laws;
 pub mod node;
 pub mod nodes;
 mod notes;
+pub mod tree_production;
+pub mod view;
 
+pub use laws::{equal_trees_have_equal_views, fields_make_the_tree};
 pub use nodes::Nodes;
+pub use view::Node;

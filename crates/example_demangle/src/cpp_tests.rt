@@ -2,7 +2,7 @@
 #![tactic(auto)]
 
 ghost use Rattle.std.specs.Prelude.{◌<◌, length};
-ghost use Rattle.cpp_views.specs.Views.{IsKnownThunk};
+ghost use Rattle.cpp_tree.specs.Views.{IsKnownThunk};
 
 use itanium::tree_production::WIDE_THUNK;
 use itanium::{Adjustment, Symbol, Thunk, read};

@@ -1,9 +1,9 @@
 // What holds of trees, their fields and their views.
 ghost use Rattle.std.specs.Prelude.{◌≡◌, ℕ, List};
 ghost use Rattle.cpp_grammar.specs.Term.{Term};
-ghost use Rattle.cpp_views.specs.Fields.{fields_of, offsets_of, tree_from};
-ghost use Rattle.cpp_views.specs.Views.{IsView, AreAlike};
-ghost use Rattle.cpp_views.specs.declared.view.Node.{Node};
+ghost use Rattle.cpp_tree.specs.Fields.{fields_of, offsets_of, tree_from};
+ghost use Rattle.cpp_tree.specs.Views.{IsView, AreAlike};
+ghost use Rattle.cpp_tree.specs.declared.view.Node.{Node};
 
 /// A tree is its production over its numbers, its texts and the trees of its parts, and where it is a thunk of more than two
 /// offsets, these.

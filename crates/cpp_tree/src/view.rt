@@ -5,9 +5,10 @@ ghost use Rattle.std.specs.Prelude.{◌≡◌, ℕ, ◌≤◌, [], ◌∷◌, le
 ghost use Rattle.cpp_term.specs.Erased.{erase};
 ghost use Rattle.cpp_grammar.specs.Term.{Term};
 ghost use Rattle.cpp_tree.specs.Nodes.{over, trees, tree_of, piece_of, qualifiers_of, mark_of, thunk_of, discriminator_of, IsSpan, IsBelow, IsPieceBelow, IsTable};
-ghost use Rattle.cpp_views.specs.Fields.{bit, mark_number, qualifiers_number, linkage_number, name_fields, local_fields, thunk_fields, fields_of, offsets_of};
-ghost use Rattle.cpp_views.specs.Views.{plain_tree, prefix_trees, seen_of, seen_behind, seen_fields, no_text, offsets_in, AreBelow, IsSlotBelow, AreWithin, IsKnownThunk};
+ghost use Rattle.cpp_tree.specs.Fields.{bit, mark_number, qualifiers_number, linkage_number, name_fields, local_fields, thunk_fields, fields_of, offsets_of};
+ghost use Rattle.cpp_tree.specs.Views.{plain_tree, prefix_trees, seen_of, seen_behind, seen_fields, no_text, offsets_in, AreBelow, IsSlotBelow, AreWithin, IsKnownThunk};
 
+use crate::node::{Adjustment, Mark, Piece, Qualifiers, Signed, Thunk};
 use crate::tree_production::{
     ABBREVIATION, ABSENT, ADDRESS_OF, ARRAY, BOOLEAN, BUILTIN, BUILTIN_WITH_D, COMPLEX,
     CONSTRUCTOR, COVARIANT_THUNK, DESTRUCTOR, ENCODING_LITERAL, EXPANSION, FUNCTION, FUNCTION_TYPE,
@@ -19,8 +20,7 @@ use crate::tree_production::{
     STD_NO_PIECE, STD_OPERATOR, STD_SOURCE, STD_STRING_LITERAL, STD_UNNAMED, STRING_LITERAL,
     SYMBOL, TABLE_THUNK, THUNK, UNNAMED, VECTOR, VENDOR, WIDE_THUNK,
 };
-use cpp_tree::node::{Adjustment, Mark, Piece, Qualifiers, Signed, Thunk};
-use cpp_tree::{Nodes, node};
+use crate::{Nodes, node};
 use sym_core::Span;
 
 /// The view of a node. What its numbers, texts and parts are stands at its production in `tree_production`.
@@ -182,7 +182,7 @@ fn linkage_number(c_linkage: bool, noexcept: bool) -> u64
 }
 
 /// The view of a name of a piece, behind a prefix if there is one.
-#[tactic(auto, unfolding(crate::specs::Fields::name_fields, cpp_term::specs::Erased::erase, cpp_tree::specs::Nodes::piece_of))]
+#[tactic(auto, unfolding(crate::specs::Fields::name_fields, cpp_term::specs::Erased::erase, crate::specs::Nodes::piece_of))]
 fn view_of_name(
     symbol: &[u8],
     nodes: &Nodes,
@@ -250,7 +250,7 @@ fn offsets(production: u16, first: Signed, second: Signed, encoding: u32) -> Nod
 }
 
 /// The view of a thunk.
-#[tactic(auto, unfolding(crate::specs::Fields::thunk_fields, crate::specs::Fields::bit, cpp_tree::specs::Nodes::thunk_of, cpp_tree::specs::Nodes::adjustment_of))]
+#[tactic(auto, unfolding(crate::specs::Fields::thunk_fields, crate::specs::Fields::bit, crate::specs::Nodes::thunk_of, crate::specs::Nodes::adjustment_of))]
 fn view_of_thunk(symbol: &[u8], nodes: &Nodes, thunk: Option<Thunk>, encoding: u32) -> NodeView
     requires thunk { IsKnownThunk symbol.now thunk }
     ensures fields { seen_fields (over symbol.now nodes.now) result ≡ thunk_fields (thunk_of symbol.now thunk) (plain_tree (over symbol.now nodes.now) encoding) }
@@ -279,7 +279,7 @@ fn view_of_thunk(symbol: &[u8], nodes: &Nodes, thunk: Option<Thunk>, encoding: u
 }
 
 /// The view of a node, and its parts.
-#[tactic(auto, unfolding(crate::specs::Fields::fields_of, cpp_term::specs::Erased::erase, cpp_tree::specs::Nodes::tree_of))]
+#[tactic(auto, unfolding(crate::specs::Fields::fields_of, cpp_term::specs::Erased::erase, crate::specs::Nodes::tree_of))]
 pub fn view_of(symbol: &[u8], nodes: &Nodes, node: node::Node) -> NodeView
     requires table { IsTable (over symbol.now nodes.now) }
     requires node { IsBelow symbol.now (length nodes.now.thunks) (length nodes.now.nodes) node }
@@ -381,7 +381,7 @@ pub fn view_of(symbol: &[u8], nodes: &Nodes, node: node::Node) -> NodeView
 }
 
 /// The offsets of a node that is a thunk.
-#[tactic(auto, unfolding(crate::specs::Fields::offsets_of, cpp_term::specs::Erased::erase, cpp_tree::specs::Nodes::tree_of))]
+#[tactic(auto, unfolding(crate::specs::Fields::offsets_of, cpp_term::specs::Erased::erase, crate::specs::Nodes::tree_of))]
 pub fn offsets_of(symbol: &[u8], nodes: &Nodes, node: node::Node) -> Option<Thunk>
     requires table { IsTable (over symbol.now nodes.now) }
     requires node { IsBelow symbol.now (length nodes.now.thunks) (length nodes.now.nodes) node }

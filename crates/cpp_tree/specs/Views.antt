@@ -7,10 +7,10 @@ use Rattle.cpp_grammar.specs.Term.{Term}
 use Rattle.cpp_term.specs.Erased.{erase}
 use Rattle.cpp_tree.specs.Nodes.{Table, trees, tree_at, bytes_at, thunk_of, IsWithin, IsThunkWithin}
 use Rattle.cpp_tree.specs.declared.node.Thunk.{Thunk}
-use Rattle.cpp_views.specs.declared.tree_production.TheConstants.{WIDE_THUNK}
-use Rattle.cpp_views.specs.Fields.{Fields, fields_of, offsets_of}
-use Rattle.cpp_views.specs.declared.view.Node.{Node}
-use Rattle.cpp_views.specs.declared.view.NodeView.{NodeView}
+use Rattle.cpp_tree.specs.declared.tree_production.TheConstants.{WIDE_THUNK}
+use Rattle.cpp_tree.specs.Fields.{Fields, fields_of, offsets_of}
+use Rattle.cpp_tree.specs.declared.view.Node.{Node}
+use Rattle.cpp_tree.specs.declared.view.NodeView.{NodeView}
 
 -- the tree of a node, in which parameters are their numbers alone
 abbrev pub plain_tree : Table → (node : ℕ) → Term

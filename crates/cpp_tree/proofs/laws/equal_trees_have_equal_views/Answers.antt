@@ -1,5 +1,5 @@
-use Rattle.cpp_views.proofs.Rebuilding.{equal-trees, equal-views}
-use Rattle.cpp_views.proofs.laws.equal_trees_have_equal_views.Goals as goal
+use Rattle.cpp_tree.proofs.Rebuilding.{equal-trees, equal-views}
+use Rattle.cpp_tree.proofs.laws.equal_trees_have_equal_views.Goals as goal
 
 pub returns-clause-equal : goal.returns-clause-equal
 returns-clause-equal c s t first second one other is also_is alike = equal-trees s t first second one other is also_is alike

@@ -3,11 +3,11 @@ use Rattle.std.proofs.Common.{◌≡◌, ℕ, suc, ◌<◌, List, [], ◌∷◌,
 use Rattle.std.specs.Prelude.{◌==◌, if◌then◌else◌}
 use Rattle.std.proofs.lemmas.Bool.{eqb-true}
 use Rattle.cpp_grammar.specs.Term.{Qualifiers, RefQualifier, any_value, lvalue_only, rvalue_only, non_virtual, by_table, Thunk, adjusting, covariant, Term, function, object, thunk, guard, alone, in_std, within, local, source, builtin, function_type, qualified, integer, boolean}
-use Rattle.cpp_views.specs.declared.view.Node.{Node}
-use Rattle.cpp_views.specs.declared.view.TheConstants.{ALONE, IN_STD, NESTED}
-use Rattle.cpp_views.specs.declared.tree_production.TheConstants.{WIDE_THUNK, BUILTIN_WITH_D}
-use Rattle.cpp_views.specs.Fields.{Fields, fields, bit, mark_number, mark_in, qualifiers_number, qualifiers_in, linkage_number, c_linkage_in, noexcept_in, no_node, name_fields, local_fields, thunk_fields, fields_of, offsets_of, tree_from}
-use Rattle.cpp_views.specs.Views.{IsView, AreAlike}
+use Rattle.cpp_tree.specs.declared.view.Node.{Node}
+use Rattle.cpp_tree.specs.declared.view.TheConstants.{ALONE, IN_STD, NESTED}
+use Rattle.cpp_tree.specs.declared.tree_production.TheConstants.{WIDE_THUNK, BUILTIN_WITH_D}
+use Rattle.cpp_tree.specs.Fields.{Fields, fields, bit, mark_number, mark_in, qualifiers_number, qualifiers_in, linkage_number, c_linkage_in, noexcept_in, no_node, name_fields, local_fields, thunk_fields, fields_of, offsets_of, tree_from}
+use Rattle.cpp_tree.specs.Views.{IsView, AreAlike}
 
 -- ## What numbers say
 

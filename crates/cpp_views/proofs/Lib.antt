@@ -1,2 +1,0 @@
-pub mod Rebuilding
-mod FieldRows
