@@ -12,7 +12,7 @@ use Rattle.cpp_layout.specs.Layout.{ReadSymbol, whole_of}
 use Rattle.cpp_press_laws.specs.Same.{same_tree}
 use Rattle.cpp_press_laws.specs.Apart.{spelled_components}
 use Rattle.cpp_press_laws.specs.Repeated.{is_spelled, repeated}
-use Rattle.cpp_press_laws.proofs.Sameness.{tree-itself}
+use Rattle.cpp_press_laws.proofs.Components.Sameness.{tree-itself}
 use Rattle.cpp_press.specs.Tasks.{plain_at}
 use Rattle.cpp_press.specs.Places.{AreOfNodes}
 use Rattle.cpp_press.specs.OfRead.{HasFewComponents}

@@ -12,7 +12,7 @@ use Rattle.cpp_grammar.specs.Term.{Term}
 use Rattle.cpp_grammar.specs.Unfolding.{cpp, first_around, first_state, first_tree, unfold_cpp}
 use Rattle.cpp_grammar.proofs.ClosedStates.{behind_bind}
 use Rattle.cpp_press_laws.specs.Apart.{spelled_components}
-use Rattle.cpp_press_laws.proofs.FewPressed.{components-few}
+use Rattle.cpp_press_laws.proofs.Components.FewPressed.{components-few}
 use Rattle.cpp_link.specs.NodeCount.{are_nodes}
 use Rattle.cpp_link.proofs.CandidatesTrees.{candidates-few}
 

@@ -8,7 +8,7 @@ use Rattle.cpp_grammar.specs.Values.{Candidate}
 use Rattle.cpp_layout.specs.Layout.{ReadSymbol}
 use Rattle.cpp_press_laws.specs.Same.{same_tree}
 use Rattle.cpp_press_laws.specs.Components.{is_same, first_equal}
-use Rattle.cpp_press_laws.proofs.Sameness.{equal-tree, tree-itself}
+use Rattle.cpp_press_laws.proofs.Components.Sameness.{equal-tree, tree-itself}
 use Rattle.cpp_press.specs.declared.components.Likeness.{Likeness}
 use Rattle.cpp_press.specs.Tasks.{plain_at}
 use Rattle.cpp_press.specs.Places.{like, noted, likeness_of, ArePlaces, AreNumbers}

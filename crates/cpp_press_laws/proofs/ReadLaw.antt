@@ -3,10 +3,10 @@ use Rattle.std.proofs.Common.{◌≤◌, length, arith}
 use Rattle.cpp_press_laws.specs.Pressing.{pressed}
 use Rattle.cpp_press_laws.specs.Apart.{spelled_components}
 use Rattle.cpp_press_laws.specs.PressLaws.{PressedIsRead}
-use Rattle.cpp_press_laws.proofs.FittingLaw.{fitting-symbol}
-use Rattle.cpp_press_laws.proofs.Counting.{arguments-counted}
-use Rattle.cpp_press_laws.proofs.FewComponents.{fitting-few}
-use Rattle.cpp_press_laws.proofs.ReadShapes.{symbol-read-fits}
+use Rattle.cpp_press_laws.proofs.EveryWay.Law.{fitting-symbol}
+use Rattle.cpp_press_laws.proofs.Components.Counting.{arguments-counted}
+use Rattle.cpp_press_laws.proofs.Components.FewComponents.{fitting-few}
+use Rattle.cpp_press_laws.proofs.ByKind.Shapes.{symbol-read-fits}
 
 pub pressed-is-read : PressedIsRead
 unfolding pressed spelled_components

@@ -1,4 +1,4 @@
-use Rattle.cpp_press_laws.proofs.Sameness.{equal-tree, tree-itself}
+use Rattle.cpp_press_laws.proofs.Components.Sameness.{equal-tree, tree-itself}
 use Rattle.cpp_press_laws.proofs.laws.trees_are_compared.Goals as goal
 
 pub returns-clause-equal : goal.returns-clause-equal

@@ -1,0 +1,270 @@
+-- Arguments of templates that were read, of each kind: lists of them, packs, literals and addresses.
+use Rattle.std.proofs.Common.{◌≡◌, ℕ, inl, inr, [], ◌∷◌, true, refl, sym, subst, ◌∙◌}
+use Rattle.cpp_grammar.specs.declared.kind.Kind.{Kind}
+use Rattle.cpp_grammar.specs.declared.production.Production.{Production}
+use Rattle.cpp_grammar.specs.Grammar.{alternatives, is_chain, number_of_kind, parts_of}
+use Rattle.cpp_grammar.specs.Term.{Term, pack}
+use Rattle.cpp_grammar.specs.Values.{State, outermost, Around, Value, tree, tree_of}
+use Rattle.cpp_grammar.specs.Between.{between, no_items}
+use Rattle.cpp_grammar.specs.Unfolding as unfolding_
+use Rattle.cpp_grammar.specs.Unfolding.{byte_of}
+use Rattle.cpp_press_laws.proofs.Fits.Fit.{literal_type, IsBuiltin}
+use Rattle.cpp_press_laws.proofs.Fits.Symbols.{WholeFits}
+use Rattle.cpp_press_laws.proofs.Fits.Sorts.{KindFits, Meant}
+use Rattle.cpp_press_laws.proofs.Fits.Typed as step
+use Rattle.cpp_press_laws.proofs.Fits.Places.{behind-bytes}
+use Rattle.cpp_press_laws.proofs.ByKind.Rules.{OneOf}
+use Rattle.cpp_press_laws.proofs.ByKind.LeafKinds.{own-byte}
+use Rattle.cpp_press_laws.proofs.ByKind.Known.{OpenedRead, opened-read, comes-as, BranchRead}
+
+-- ## Literals
+
+null-literal : (around : Around) (at : ℕ) (old : State) (v : Value) (new : State)
+    → OpenedRead Kind.LiteralAfterD around at old v new Production.NullLiteral → KindFits Kind.LiteralAfterD around v old new
+unfolding parts_of between unfolding_.behind number_of_kind
+null-literal around at old v new o =
+    let a = o.goes tt in
+    let byte : ℕ = byte_of o.taken in
+    let vs = a.value ∷ [] in
+    comes-as (λ w s. KindFits Kind.LiteralAfterD around w old s) Production.NullLiteral tt byte around at old vs a.after v new a.onward
+    (subst (KindFits Kind.LiteralAfterD around (Meant Production.NullLiteral byte around vs) old) (sym (a.read Kind.MaybeZero refl))
+    (step.null-literal around byte old a.value old))
+
+char-literal : (around : Around) (at : ℕ) (old : State) (v : Value) (new : State)
+    → OpenedRead Kind.LiteralAfterD around at old v new Production.CharLiteral → KindFits Kind.LiteralAfterD around v old new
+unfolding parts_of is_chain between unfolding_.behind number_of_kind
+char-literal around at old v new o =
+    let a = o.goes tt in
+    let byte : ℕ = byte_of o.taken in
+    let vs = a.value ∷ [] in
+    let number = a.read Kind.Integer refl in
+    let builtin_ : IsBuiltin literal_type (68 ∷ byte ∷ []) =
+    subst (λ b. IsBuiltin literal_type (68 ∷ b ∷ [])) (sym (own-byte Production.CharLiteral o.taken o.byte o.takes refl))
+    (refl, o.small, o.chosen) in
+    comes-as (λ w s. KindFits Kind.LiteralAfterD around w old s) Production.CharLiteral tt byte around at old vs a.after v new a.onward
+    (subst (KindFits Kind.LiteralAfterD around (Meant Production.CharLiteral byte around vs) old) (sym number.0)
+    (step.char-literal around byte old a.value old builtin_ number.1))
+
+pub literal-after-d-branch : BranchRead Kind.LiteralAfterD
+unfolding alternatives
+literal-after-d-branch rule taken parts all around at old v new front is e =
+    λ outer. go (opened-read Kind.LiteralAfterD rule taken parts all around at old v new front is e)
+  where
+    go : OneOf (alternatives Kind.LiteralAfterD) (OpenedRead Kind.LiteralAfterD around at old v new)
+        → KindFits Kind.LiteralAfterD around v old new
+    go (inl o) = null-literal around at old v new o
+    go (inr (inl o)) = char-literal around at old v new o
+    go (inr (inr none)) = absurd none
+
+encoding-literal : (around : Around) (at : ℕ) (old : State) (v : Value) (new : State)
+    → OpenedRead Kind.Literal around at old v new Production.EncodingLiteral → KindFits Kind.Literal around v old new
+unfolding parts_of between number_of_kind
+encoding-literal around at old v new o =
+    let a = o.goes tt in
+    let b = a.onward in
+    let byte : ℕ = byte_of o.taken in
+    let e : Term = tree_of b.value in
+    let one : WholeFits around e old b.after = subst (λ s. WholeFits around e s b.after) a.read.0 (b.read Kind.Encoding refl).fits in
+    comes-as (λ w s. KindFits Kind.Literal around w old s) Production.EncodingLiteral tt byte around at old (a.value ∷ b.value ∷ [])
+    b.after v
+    new b.onward
+    (step.encoding-literal around byte old a.value b.value old b.after (behind-bytes around e old b.after one))
+
+bool-literal : (around : Around) (at : ℕ) (old : State) (v : Value) (new : State)
+    → OpenedRead Kind.Literal around at old v new Production.BoolLiteral → KindFits Kind.Literal around v old new
+unfolding parts_of between unfolding_.behind number_of_kind
+bool-literal around at old v new o =
+    let a = o.goes tt in
+    let byte : ℕ = byte_of o.taken in
+    let vs = a.value ∷ [] in
+    comes-as (λ w s. KindFits Kind.Literal around w old s) Production.BoolLiteral tt byte around at old vs a.after v new a.onward
+    (subst (KindFits Kind.Literal around (Meant Production.BoolLiteral byte around vs) old) (sym (a.read Kind.Bit refl))
+    (step.bool-literal around byte old a.value old))
+
+literal-with-d : (around : Around) (at : ℕ) (old : State) (v : Value) (new : State) → around.prefix ≡ outermost
+    → OpenedRead Kind.Literal around at old v new Production.LiteralWithD → KindFits Kind.Literal around v old new
+unfolding parts_of between number_of_kind
+literal-with-d around at old v new outer o =
+    let a = o.goes tt in
+    let byte : ℕ = byte_of o.taken in
+    comes-as (λ w s. KindFits Kind.Literal around w old s) Production.LiteralWithD tt byte around at old (a.value ∷ []) a.after v new
+    a.onward
+    (step.literal-with-d around byte old a.value old a.after (a.read Kind.LiteralAfterD refl outer))
+
+-- the type is a candidate before the number
+integer-literal : (around : Around) (at : ℕ) (old : State) (v : Value) (new : State) → around.prefix ≡ outermost
+    → OpenedRead Kind.Literal around at old v new Production.IntegerLiteral → KindFits Kind.Literal around v old new
+unfolding parts_of between unfolding_.behind number_of_kind
+integer-literal around at old v new outer o =
+    let a = o.goes tt in
+    let b = a.onward in
+    let byte : ℕ = byte_of o.taken in
+    let vs = a.value ∷ b.value ∷ [] in
+    let number = b.read Kind.Integer refl in
+    comes-as (λ w s. KindFits Kind.Literal around w old s) Production.IntegerLiteral tt byte around at old vs b.after v new b.onward
+    (subst (KindFits Kind.Literal around (Meant Production.IntegerLiteral byte around vs) old) (sym number.0)
+    (step.integer-literal around byte old a.value b.value old a.after (a.read Kind.LiteralType refl outer) number.1))
+
+pub literal-branch : BranchRead Kind.Literal
+unfolding alternatives
+literal-branch rule taken parts all around at old v new front is e =
+    λ outer. go outer (opened-read Kind.Literal rule taken parts all around at old v new front is e)
+  where
+    go : around.prefix ≡ outermost → OneOf (alternatives Kind.Literal) (OpenedRead Kind.Literal around at old v new)
+        → KindFits Kind.Literal around v old new
+    go outer (inl o) = encoding-literal around at old v new o
+    go outer (inr (inl o)) = bool-literal around at old v new o
+    go outer (inr (inr (inl o))) = literal-with-d around at old v new outer o
+    go outer (inr (inr (inr (inl o)))) = integer-literal around at old v new outer o
+    go outer (inr (inr (inr (inr none)))) = absurd none
+
+-- ## Addresses
+
+address : (around : Around) (at : ℕ) (old : State) (v : Value) (new : State)
+    → OpenedRead Kind.Address around at old v new Production.Address → KindFits Kind.Address around v old new
+unfolding parts_of between unfolding_.behind number_of_kind
+address around at old v new o =
+    let a = o.goes tt in
+    let b = a.onward in
+    let c = b.onward in
+    let d = c.onward in
+    let end = d.onward in
+    let byte : ℕ = byte_of o.taken in
+    let vs = a.value ∷ b.value ∷ c.value ∷ d.value ∷ end.value ∷ [] in
+    let e : Term = tree_of c.value in
+    let one : WholeFits around e old c.after =
+    subst (λ s. WholeFits around e s c.after) (b.read.0 ∙ a.read.0) (c.read Kind.Encoding refl).fits in
+    comes-as (λ w s. KindFits Kind.Address around w old s) Production.Address tt byte around at old vs end.after v new end.onward
+    (subst (KindFits Kind.Address around (Meant Production.Address byte around vs) old) (sym (end.read.0 ∙ d.read.0))
+    (step.address-literal around byte old a.value b.value c.value d.value end.value old c.after (behind-bytes around e old c.after one)))
+
+pub address-branch : BranchRead Kind.Address
+unfolding alternatives
+address-branch rule taken parts all around at old v new front is e =
+    λ outer. go (opened-read Kind.Address rule taken parts all around at old v new front is e)
+  where
+    go : OneOf (alternatives Kind.Address) (OpenedRead Kind.Address around at old v new) → KindFits Kind.Address around v old new
+    go (inl o) = address around at old v new o
+    go (inr none) = absurd none
+
+-- ## Lists
+
+pack-argument : (around : Around) (at : ℕ) (old : State) (v : Value) (new : State) → around.prefix ≡ outermost
+    → OpenedRead Kind.ArgumentList around at old v new Production.PackArgument → KindFits Kind.ArgumentList around v old new
+unfolding parts_of between number_of_kind
+pack-argument around at old v new outer o =
+    let a = o.goes tt in
+    let b = a.onward in
+    let c = b.onward in
+    let byte : ℕ = byte_of o.taken in
+    let t : Term = no_items a.value in
+    comes-as (λ w s. KindFits Kind.ArgumentList around w old s) Production.PackArgument tt byte around at old
+    (tree (pack t) true ∷ b.value ∷ c.value ∷ []) c.after v new c.onward
+    (step.pack-argument around byte old t b.value c.value old a.after c.after (a.read Kind.PackList refl outer)
+    (subst (λ s. KindFits Kind.ArgumentList around c.value s c.after) b.read.0 (c.read Kind.ArgumentList refl outer)))
+
+literal-argument : (around : Around) (at : ℕ) (old : State) (v : Value) (new : State) → around.prefix ≡ outermost
+    → OpenedRead Kind.ArgumentList around at old v new Production.LiteralArgument → KindFits Kind.ArgumentList around v old new
+unfolding parts_of between number_of_kind
+literal-argument around at old v new outer o =
+    let a = o.goes tt in
+    let b = a.onward in
+    let c = b.onward in
+    let byte : ℕ = byte_of o.taken in
+    comes-as (λ w s. KindFits Kind.ArgumentList around w old s) Production.LiteralArgument tt byte around at old
+    (a.value ∷ b.value ∷ c.value ∷ []) c.after v new c.onward
+    (step.literal-argument around byte old a.value b.value c.value old a.after c.after (a.read Kind.Literal refl outer)
+    (subst (λ s. KindFits Kind.ArgumentList around c.value s c.after) b.read.0 (c.read Kind.ArgumentList refl outer)))
+
+literal-element : (around : Around) (at : ℕ) (old : State) (v : Value) (new : State) → around.prefix ≡ outermost
+    → OpenedRead Kind.PackList around at old v new Production.LiteralElement → KindFits Kind.PackList around v old new
+unfolding parts_of between number_of_kind
+literal-element around at old v new outer o =
+    let a = o.goes tt in
+    let b = a.onward in
+    let c = b.onward in
+    let byte : ℕ = byte_of o.taken in
+    comes-as (λ w s. KindFits Kind.PackList around w old s) Production.LiteralElement tt byte around at old
+    (a.value ∷ b.value ∷ c.value ∷ []) c.after v new c.onward
+    (step.literal-element around byte old a.value b.value c.value old a.after c.after (a.read Kind.Literal refl outer)
+    (subst (λ s. KindFits Kind.PackList around c.value s c.after) b.read.0 (c.read Kind.PackList refl outer)))
+
+address-argument : (around : Around) (at : ℕ) (old : State) (v : Value) (new : State) → around.prefix ≡ outermost
+    → OpenedRead Kind.ArgumentList around at old v new Production.AddressArgument → KindFits Kind.ArgumentList around v old new
+unfolding parts_of between number_of_kind
+address-argument around at old v new outer o =
+    let a = o.goes tt in
+    let b = a.onward in
+    let c = b.onward in
+    let d = c.onward in
+    let byte : ℕ = byte_of o.taken in
+    comes-as (λ w s. KindFits Kind.ArgumentList around w old s) Production.AddressArgument tt byte around at old
+    (a.value ∷ b.value ∷ c.value ∷ d.value ∷ []) d.after v new d.onward
+    (step.address-argument around byte old a.value b.value c.value d.value old c.after d.after
+    (subst (λ s. KindFits Kind.Address around c.value s c.after) (b.read.0 ∙ a.read.0) (c.read Kind.Address refl outer))
+    (d.read Kind.ArgumentList refl outer))
+
+address-element : (around : Around) (at : ℕ) (old : State) (v : Value) (new : State) → around.prefix ≡ outermost
+    → OpenedRead Kind.PackList around at old v new Production.AddressElement → KindFits Kind.PackList around v old new
+unfolding parts_of between number_of_kind
+address-element around at old v new outer o =
+    let a = o.goes tt in
+    let b = a.onward in
+    let c = b.onward in
+    let d = c.onward in
+    let byte : ℕ = byte_of o.taken in
+    comes-as (λ w s. KindFits Kind.PackList around w old s) Production.AddressElement tt byte around at old
+    (a.value ∷ b.value ∷ c.value ∷ d.value ∷ []) d.after v new d.onward
+    (step.address-element around byte old a.value b.value c.value d.value old c.after d.after
+    (subst (λ s. KindFits Kind.Address around c.value s c.after) (b.read.0 ∙ a.read.0) (c.read Kind.Address refl outer))
+    (d.read Kind.PackList refl outer))
+
+type-argument : (around : Around) (at : ℕ) (old : State) (v : Value) (new : State) → around.prefix ≡ outermost
+    → OpenedRead Kind.ArgumentList around at old v new Production.TypeArgument → KindFits Kind.ArgumentList around v old new
+unfolding parts_of between number_of_kind
+type-argument around at old v new outer o =
+    let a = o.goes tt in
+    let b = a.onward in
+    let byte : ℕ = byte_of o.taken in
+    comes-as (λ w s. KindFits Kind.ArgumentList around w old s) Production.TypeArgument tt byte around at old (a.value ∷ b.value ∷ [])
+    b.after v
+    new b.onward
+    (step.type-argument-read around byte old a.value b.value old a.after b.after (a.read Kind.Item refl outer)
+    (b.read Kind.ArgumentList refl outer))
+
+type-element : (around : Around) (at : ℕ) (old : State) (v : Value) (new : State) → around.prefix ≡ outermost
+    → OpenedRead Kind.PackList around at old v new Production.TypeElement → KindFits Kind.PackList around v old new
+unfolding parts_of between number_of_kind
+type-element around at old v new outer o =
+    let a = o.goes tt in
+    let b = a.onward in
+    let byte : ℕ = byte_of o.taken in
+    comes-as (λ w s. KindFits Kind.PackList around w old s) Production.TypeElement tt byte around at old (a.value ∷ b.value ∷ []) b.after v
+    new
+    b.onward
+    (step.type-element around byte old a.value b.value old a.after b.after (a.read Kind.Item refl outer) (b.read Kind.PackList refl outer))
+
+pub argument-list-branch : BranchRead Kind.ArgumentList
+unfolding alternatives
+argument-list-branch rule taken parts all around at old v new front is e =
+    λ outer. go outer (opened-read Kind.ArgumentList rule taken parts all around at old v new front is e)
+  where
+    go : around.prefix ≡ outermost → OneOf (alternatives Kind.ArgumentList) (OpenedRead Kind.ArgumentList around at old v new)
+        → KindFits Kind.ArgumentList around v old new
+    go outer (inl o) = pack-argument around at old v new outer o
+    go outer (inr (inl o)) = literal-argument around at old v new outer o
+    go outer (inr (inr (inl o))) = address-argument around at old v new outer o
+    go outer (inr (inr (inr (inl o)))) = type-argument around at old v new outer o
+    go outer (inr (inr (inr (inr none)))) = absurd none
+
+pub pack-list-branch : BranchRead Kind.PackList
+unfolding alternatives
+pack-list-branch rule taken parts all around at old v new front is e =
+    λ outer. go outer (opened-read Kind.PackList rule taken parts all around at old v new front is e)
+  where
+    go : around.prefix ≡ outermost → OneOf (alternatives Kind.PackList) (OpenedRead Kind.PackList around at old v new)
+        → KindFits Kind.PackList around v old new
+    go outer (inl o) = literal-element around at old v new outer o
+    go outer (inr (inl o)) = address-element around at old v new outer o
+    go outer (inr (inr (inl o))) = type-element around at old v new outer o
+    go outer (inr (inr (inr none))) = absurd none

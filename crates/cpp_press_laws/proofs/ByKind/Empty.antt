@@ -1,0 +1,46 @@
+-- What is read where nothing stands, as a kind that may be empty.
+use Rattle.std.proofs.Common.{◌≡◌, [], ◌∷◌, inl, true, false, refl, subst, sym, ◌∙◌}
+use Rattle.std.proofs.lemmas.Bool.{false≢true}
+use Rattle.sym_shape.specs.Tree.{empty}
+use Rattle.sym_link.specs.Unfold.{found}
+use Rattle.cpp_grammar.specs.declared.kind.Kind.{Kind}
+use Rattle.cpp_grammar.specs.Grammar.{number_of_kind, may_be_empty}
+use Rattle.cpp_grammar.specs.Values.{State, Around, nothing_there, text_of}
+use Rattle.cpp_grammar.specs.Between.{no_items}
+use Rattle.cpp_grammar.specs.Meaning.{discriminator_of}
+use Rattle.cpp_grammar.specs.Unfolding.{cpp}
+use Rattle.cpp_grammar.proofs.Choosing.{empty_at_kind}
+use Rattle.cpp_grammar.proofs.ClosedStates.{ok_same}
+use Rattle.cpp_press_laws.proofs.Fits.Fit.{item_type}
+use Rattle.cpp_press_laws.proofs.ByKind.Rules.{kind-at}
+use Rattle.cpp_press_laws.proofs.ByKind.Leaves.{leaf-same}
+use Rattle.cpp_press_laws.proofs.Fits.Lists.{nil-fits}
+use Rattle.cpp_press_laws.proofs.Fits.Typed.{no-arguments}
+use Rattle.cpp_press_laws.proofs.ByKind.Known.{KindRead, ShapeRead}
+
+-- what nothing is read as
+nothing-read : (kind : Kind) → may_be_empty kind ≡ true → (around : Around) (state : State) → KindRead kind around nothing_there state state
+unfolding may_be_empty no_items discriminator_of text_of
+nothing-read Kind.MaybeSuffix may around state = (refl, tt)
+nothing-read Kind.SuffixMore may around state = tt
+nothing-read Kind.MaybeRestrict may around state = refl
+nothing-read Kind.MaybeVolatile may around state = refl
+nothing-read Kind.MaybeConst may around state = refl
+nothing-read Kind.MaybeRef may around state = refl
+nothing-read Kind.MaybeDiscriminator may around state = (refl, tt)
+nothing-read Kind.MaybeCLinkage may around state = refl
+nothing-read Kind.Items may around state = λ outer. (tt, nil-fits around item_type state)
+nothing-read Kind.MaybeArguments may around state = inl (refl, refl)
+nothing-read Kind.ArgumentList may around state = λ outer. no-arguments around false state
+nothing-read Kind.PackList may around state = λ outer. no-arguments around true state
+nothing-read Kind.MaybeZero may around state = refl
+nothing-read _ may around state = absurd (false≢true may)
+
+-- the empty shape is read as nothing
+pub empty-read : ShapeRead empty
+unfolding cpp
+empty-read kind around at state v new front is e =
+    let may : may_be_empty kind ≡ true = sym (empty_at_kind (number_of_kind kind) kind (kind-at kind)) ∙ is in
+    let r = leaf-same (λ w. KindRead kind around w state state) v nothing_there state new
+    (sym (ok_same (found (nothing_there ∷ []) state) (found (v ∷ []) new) e)) (nothing-read kind may around state) in
+    subst (KindRead kind around v state) (sym r.0) r.1

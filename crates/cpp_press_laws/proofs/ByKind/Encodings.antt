@@ -1,0 +1,340 @@
+-- Encodings that were read fit: their names and types are read in surroundings of their own.
+use Rattle.std.proofs.Common.{◌≡◌, ℕ, ◌+◌, ◌<◌, ◌≤◌, inl, inr, length, List, [], ◌∷◌, ◌++◌, Bool, true, false, Some, Ok, refl, ap, sym, subst, ◌∙◌, arith, lit≤}
+use Rattle.std.proofs.lemmas.Bool.{false≢true}
+use Rattle.std.proofs.lemmas.List.{append_assoc}
+use Rattle.sym_shape.specs.declared.rule.Sym.{Sym}
+use Rattle.sym_shape.specs.declared.rule.Sym.TheVariants.{Kind as OfKind}
+use Rattle.sym_shape.specs.Law.{IsSymbol}
+use Rattle.sym_shape.specs.Tree.{Tree as Shape, spell, IsTree}
+use Rattle.sym_link.specs.Unfold.{found, unfold_tree}
+use Rattle.cpp_grammar.specs.declared.kind.Kind.{Kind}
+use Rattle.cpp_grammar.specs.declared.production.Production.{Production}
+use Rattle.cpp_grammar.specs.Grammar.{alternatives, choose, is_chain, number_of_kind, parts_of}
+use Rattle.cpp_grammar.specs.Table.{abi}
+use Rattle.cpp_grammar.specs.Term.{Thunk, Term, adjusting, covariant, non_virtual, by_table, symbol, function, thunk, nil, list, absent}
+use Rattle.cpp_grammar.specs.Scope.{has_return_type}
+use Rattle.cpp_grammar.specs.Values.{Candidate, State, Around, Value, tree, tree_of, qualifiers_of, ref_of, signed_of, adjustment_of, part}
+use Rattle.cpp_grammar.specs.Between.{in_name, in_types, no_items, between}
+use Rattle.cpp_grammar.specs.Meaning.{encoding_of, meaning, parameters}
+use Rattle.cpp_grammar.specs.Unfolding as unfolding_
+use Rattle.cpp_grammar.specs.Unfolding.{close, byte_of, cpp}
+use Rattle.cpp_grammar.proofs.ClosedValues.{Good, held}
+use Rattle.cpp_grammar.proofs.ClosedStates.{Bare, AllOld, AllNew, Grows, old_later, old_grows, ok_same}
+use Rattle.cpp_grammar.proofs.ClosedTrees.{is_encoding as holds_encoding, old_inner, old_types, known, tree_good}
+use Rattle.cpp_press_laws.specs.Pressing.{is_encoding}
+use Rattle.cpp_press_laws.proofs.Components.Complete.{AllBefore}
+use Rattle.cpp_press_laws.proofs.Fits.Fit.{item_type, IsSpellableThunk}
+use Rattle.cpp_press_laws.proofs.ByKind.Rules.{OneOf, Opened, opened}
+use Rattle.cpp_press_laws.proofs.Fits.Lists.{IsList, ListFits}
+use Rattle.cpp_press_laws.proofs.Fits.Nests.{OwnNameFits}
+use Rattle.cpp_press_laws.proofs.Fits.Encodings.{AllAfter, AllShut}
+use Rattle.cpp_press_laws.proofs.Fits.Symbols.{StaysBehind, WholeFits, guard-fits, special-fits, thunk-fits, returning-fits, plain-function-fits, object-fits}
+use Rattle.cpp_press_laws.proofs.Fits.Sorts.{Meant, Later}
+use Rattle.cpp_press_laws.proofs.Fits.Places.{Ended, ended-as}
+use Rattle.cpp_press_laws.proofs.ByKind.LeafKinds.{byte-read, own-byte}
+use Rattle.cpp_press_laws.proofs.ByKind.Known.{EncodingRead, SpecialRead, KindRead, BranchRead, InFront, ShapeRead, OpenedRead, opened-read, kind-comes}
+
+-- ## Candidates around an encoding and in it
+
+all-before : (around : Around) (at : ℕ) (cs : List Candidate) → around.encoding < at → AllOld around at cs → AllBefore at cs
+all-before around at [] less old = tt
+all-before around at (c ∷ cs) less old = (
+  elim old.0.place [ inl same ↦ omega (arith, same, less) | inr before ↦ before ],
+  all-before around at cs less old.1,
+)
+
+all-after : (around inner : Around) (end : ℕ) (cs : List Candidate) → around.encoding < inner.encoding → AllNew inner end cs
+    → AllAfter around.encoding cs
+all-after around inner end [] less new = tt
+all-after around inner end (c ∷ cs) less new = (
+  elim new.0.place [ inl here ↦ omega (arith, here.0, less) | inr deep ↦ omega (arith, deep.0, less) ],
+  all-after around inner end cs less new.1,
+)
+
+all-shut : (at end : ℕ) (cs : List Candidate) → AllOld (in_name at) end cs → AllShut at cs
+unfolding in_name
+all-shut at end [] old = tt
+all-shut at end (c ∷ cs) old = (λ same. old.0.closed refl refl same, all-shut at end cs old.1)
+
+after-append : (encoding : ℕ) (cs ds : List Candidate) → AllAfter encoding cs → AllAfter encoding ds → AllAfter encoding (cs ++ ds)
+after-append encoding [] ds one other = other
+after-append encoding (c ∷ cs) ds one other = (one.0, after-append encoding cs ds one.1 other)
+
+-- what was read inside an encoding stays behind where it begins
+stays-behind : (around inner : Around) (at end : ℕ) (old new : State) → around.encoding < at → inner.encoding ≡ at
+    → AllOld around at old.candidates → Grows inner end old new → StaysBehind around at old new
+stays-behind around inner at end old new less is before grows = record {
+  more = grows.more;
+  grows = grows.is;
+  before = all-before around at old.candidates less before;
+  later = all-after around inner end grows.more (omega (arith, is, less)) grows.each;
+}
+
+stays-further : (around inner : Around) (at end : ℕ) (old mid new : State) → around.encoding < at → inner.encoding ≡ at
+    → StaysBehind around at old mid → Grows inner end mid new → StaysBehind around at old new
+stays-further around inner at end old mid new less is one grows = record {
+  more = one.more ++ grows.more;
+  grows = grows.is ∙ ap (λ cs. cs ++ grows.more) one.grows ∙ append_assoc old.candidates one.more grows.more;
+  before = one.before;
+  later = after-append around.encoding one.more grows.more one.later
+      (all-after around inner end grows.more (omega (arith, is, less)) grows.each);
+}
+
+-- ## Parts of an encoding
+
+-- in front of a part of an encoding's name
+name-front : (x : Sym) (around : Around) (at from : ℕ) (state : State) → around.encoding < at → at ≤ from → holds_encoding x ≡ false
+    → AllOld around at state.candidates → InFront x (in_name at) from state
+unfolding in_name
+name-front x around at from state less le other old = record {
+  placed = record {
+    lambda = λ is. refl;
+    encoding = le;
+    old = old_later (in_name at) at from state.candidates le (old_inner around at state.candidates less old);
+  };
+  opening = λ opens. absurd (false≢true (sym other ∙ opens));
+  prefix = tt;
+}
+
+-- what a part has come to
+record PartCame (around : Around) (later : ℕ) (state : State) (v : Value) (new : State) : Type 0 where
+  pub grows : Grows around later state new
+  pub good : Good (Bare around) (held v)
+  pub old : AllOld around later new.candidates
+
+first-of : List Value → Value → Value
+first-of [] d = d
+first-of (v ∷ vs) d = v
+
+part-came : (x : Sym) (around : Around) (from : ℕ) (state : State) (shape : Shape) (v : Value) (new : State) → IsSymbol abi x
+    → InFront x around from state → IsTree abi x shape → unfold_tree cpp around from shape state ≡ Ok (found (v ∷ []) new)
+    → PartCame around (from + length (spell shape)) state v new
+unfolding first-of
+part-came x around from state shape v new small front is e =
+    let later : ℕ = from + length (spell shape) in
+    let came = tree_good shape x around from state (found (v ∷ []) new) small is front.placed.encoding front.opening front.prefix
+    front.placed.old e in
+    let same : v ≡ came.value = ap (λ vs. first-of vs v) came.is in
+    record {
+      grows = came.grows;
+      good = subst (λ w. Good (Bare around) (held w)) (sym same) came.good;
+      old = old_grows around from later state new (omega arith) front.placed.old came.grows;
+    }
+
+-- what holds of a production's meaning, and the state behind it, holds of what it came to
+ended-read : (P : Value → State → Type 0) (p : Production) (byte : ℕ) (around : Around) (old : State) (vs : List Value) (mid : State)
+    (v : Value) (new : State) → Ended p byte around old vs mid v new → P (Meant p byte around vs) (Later p byte around old vs mid) → P v new
+ended-read P p byte around old vs mid v new e one = subst (λ w. P w new) (sym e.comes) (subst (P (Meant p byte around vs)) (sym e.ends) one)
+
+-- ## Functions and data
+
+items-read : (around : Around) (at : ℕ) (name : Value) (t : Term) (old mid new : State) → IsList t → StaysBehind around at old new
+    → AllShut at mid.candidates → OwnNameFits (in_name at) (tree_of name) (qualifiers_of name) (ref_of name) old mid
+    → ListFits (in_types at (tree_of name)) item_type t mid new → EncodingRead around (tree (encoding_of name t) true) old new
+unfolding encoding_of is_encoding tree_of
+items-read around at name nil old mid new is stays shut one other = record {
+  is = refl;
+  value = refl;
+  fits = object-fits around at (tree_of name) (qualifiers_of name) (ref_of name) old mid new stays shut one other;
+}
+items-read around at name (list first rest) old mid new is stays shut one other = go (has_return_type (tree_of name)) refl
+  where
+    go : (b : Bool) → has_return_type (tree_of name) ≡ b → EncodingRead around (tree (elim b as (λ _. Term) [
+      | true ↦ function (tree_of name) (qualifiers_of name) (ref_of name) first (parameters rest)
+      | false ↦ function (tree_of name) (qualifiers_of name) (ref_of name) absent (parameters (list first rest))
+    ]) true) old new
+    go true returns = record {
+      is = refl;
+      value = refl;
+      fits = returning-fits around at (tree_of name) first rest (qualifiers_of name) (ref_of name) old mid new returns stays shut one other;
+    }
+    go false none = record {
+      is = refl;
+      value = refl;
+      fits =
+          plain-function-fits around at (tree_of name) (list first rest) (qualifiers_of name) (ref_of name) old mid new none stays shut one
+          other;
+    }
+items-read around at name (symbol e suffix) old mid new is stays shut one other = absurd is
+items-read around at name _ old mid new is stays shut one other = absurd is
+
+function-read : (around : Around) (at : ℕ) (old : State) (v : Value) (new : State) → InFront (OfKind 4) around at old
+    → Opened ShapeRead Kind.Encoding around at old (found (v ∷ []) new) Production.Encoding → EncodingRead around v old new
+unfolding parts_of between close in_name in_types number_of_kind holds_encoding meaning unfolding_.behind part
+function-read around at old v new front o =
+    let less : around.encoding < at = front.opening refl in
+    let byte : ℕ = byte_of o.taken in
+    let from : ℕ = at + length o.taken in
+    let g = o.goes in
+    let f = name-front (OfKind 8) around at from old less (omega arith) refl front.placed.old in
+    let own = g.holds Kind.CompleteName (in_name at) from old g.value g.after f g.is g.unfolds refl in
+    let c = part-came (OfKind 8) (in_name at) from old g.shape g.value g.after (known 8 (lit≤ tt)) f g.is g.unfolds in
+    let name : Term = tree_of g.value in
+    let later : ℕ = from + length (spell g.shape) in
+    let h = g.onward in
+    let s : InFront (OfKind 41) (in_types at name) later g.after = record {
+      placed = record {
+        lambda = λ is. absurd (false≢true is);
+        encoding = omega arith;
+        old = old_types at later name g.after.candidates c.old;
+      };
+      opening = λ opens. absurd (false≢true opens);
+      prefix = tt;
+    } in
+    let items = h.holds Kind.Items (in_types at name) later g.after h.value h.after s h.is h.unfolds refl in
+    let d = part-came (OfKind 41) (in_types at name) later g.after h.shape h.value h.after (known 41 (lit≤ tt)) s h.is h.unfolds in
+    let stays = stays-further around (in_types at name) at (later + length (spell h.shape)) old g.after h.after less refl
+    (stays-behind around (in_name at) at later old g.after less refl front.placed.old c.grows) d.grows in
+    ended-read (λ w t. EncodingRead around w old t) Production.Encoding byte around old (g.value ∷ h.value ∷ []) h.after v new
+    (ended-as Production.Encoding byte around old o.inner o.one (g.value ∷ h.value ∷ []) h.after v new (ok_same _ o.one o.closes) h.onward
+    o.comes)
+    (items-read around at g.value (no_items h.value) old g.after h.after items.0 stays (all-shut at later g.after.candidates c.old) own
+    items.1)
+
+-- ## Guards and special encodings
+
+guard-read : (around : Around) (at : ℕ) (old : State) (v : Value) (new : State) → InFront (OfKind 4) around at old
+    → Opened ShapeRead Kind.Encoding around at old (found (v ∷ []) new) Production.Guard → EncodingRead around v old new
+unfolding parts_of between close in_name number_of_kind holds_encoding meaning unfolding_.behind part is_encoding tree_of
+guard-read around at old v new front o =
+    let less : around.encoding < at = front.opening refl in
+    let byte : ℕ = byte_of o.taken in
+    let from : ℕ = at + length o.taken in
+    let g = o.goes in
+    let b = byte-read 86 g.shape (in_name at) from old g.after g.value g.is g.unfolds in
+    let later : ℕ = from + length (spell g.shape) in
+    let h = g.onward in
+    let f = name-front (OfKind 8) around at later g.after less (omega arith) refl
+    (subst (λ s. AllOld around at (State.candidates s)) (sym b.0) front.placed.old) in
+    let own = h.holds Kind.CompleteName (in_name at) later g.after h.value h.after f h.is h.unfolds refl in
+    let c = part-came (OfKind 8) (in_name at) later g.after h.shape h.value h.after (known 8 (lit≤ tt)) f h.is h.unfolds in
+    let whole = guard-fits around at (tree_of h.value) (qualifiers_of h.value) (ref_of h.value) old h.after
+    (stays-behind around (in_name at) at (later + length (spell h.shape)) old h.after less refl front.placed.old
+    (subst (λ s. Grows (in_name at) (later + length (spell h.shape)) s h.after) b.0 c.grows))
+    (subst (λ s. OwnNameFits (in_name at) (tree_of h.value) (qualifiers_of h.value) (ref_of h.value) s h.after) b.0 own) in
+    ended-read (λ w t. EncodingRead around w old t) Production.Guard byte around old (g.value ∷ h.value ∷ []) h.after v new
+    (ended-as Production.Guard byte around old o.inner o.one (g.value ∷ h.value ∷ []) h.after v new (ok_same _ o.one o.closes) h.onward
+    o.comes)
+    (record { is = refl; value = refl; fits = whole })
+
+-- what stands behind a T is an encoding
+special-encoding : (around : Around) (at : ℕ) (v : Value) (old new : State) → StaysBehind around at old new
+    → SpecialRead (in_name at) v old new → EncodingRead around v old new
+unfolding is_encoding tree_of
+special-encoding around at v old new stays (inl (l, type, is, small, chosen, fits)) =
+    subst (λ w. EncodingRead around w old new) (sym is)
+    (record { is = refl; value = refl; fits = special-fits around at l type old new small chosen stays fits })
+special-encoding around at v old new stays (inr (kind, e, is, good, fits)) =
+    subst (λ w. EncodingRead around w old new) (sym is)
+    (record { is = refl; value = refl; fits = thunk-fits around at kind e old new good stays fits })
+
+special-read : (around : Around) (at : ℕ) (old : State) (v : Value) (new : State) → InFront (OfKind 4) around at old
+    → Opened ShapeRead Kind.Encoding around at old (found (v ∷ []) new) Production.Special → EncodingRead around v old new
+unfolding parts_of between close in_name number_of_kind holds_encoding meaning unfolding_.behind part
+special-read around at old v new front o =
+    let less : around.encoding < at = front.opening refl in
+    let byte : ℕ = byte_of o.taken in
+    let from : ℕ = at + length o.taken in
+    let g = o.goes in
+    let f = name-front (OfKind 5) around at from old less (omega arith) refl front.placed.old in
+    let one = g.holds Kind.Special (in_name at) from old g.value g.after f g.is g.unfolds refl in
+    let c = part-came (OfKind 5) (in_name at) from old g.shape g.value g.after (known 5 (lit≤ tt)) f g.is g.unfolds in
+    let stays = stays-behind around (in_name at) at (from + length (spell g.shape)) old g.after less refl front.placed.old c.grows in
+    ended-read (λ w t. EncodingRead around w old t) Production.Special byte around old (g.value ∷ []) g.after v new
+    (ended-as Production.Special byte around old o.inner o.one (g.value ∷ []) g.after v new (ok_same _ o.one o.closes) g.onward o.comes)
+    (special-encoding around at g.value old g.after stays one)
+
+-- an encoding, where its parts were read so
+pub encoding-branch : BranchRead Kind.Encoding
+unfolding alternatives number_of_kind
+encoding-branch rule taken parts all around at old v new front is e =
+    go (opened ShapeRead Kind.Encoding rule taken parts all around at old (found (v ∷ []) new) is e)
+  where
+    go : OneOf (alternatives Kind.Encoding) (Opened ShapeRead Kind.Encoding around at old (found (v ∷ []) new))
+        → EncodingRead around v old new
+    go (inl o) = special-read around at old v new front o
+    go (inr (inl o)) = guard-read around at old v new front o
+    go (inr (inr (inl o))) = function-read around at old v new front o
+    go (inr (inr (inr none))) = absurd none
+
+-- ## What stands behind a T
+
+-- a type's table and the like
+special-type-read : (around : Around) (at : ℕ) (old : State) (v : Value) (new : State)
+    → OpenedRead Kind.Special around at old v new Production.SpecialType → KindRead Kind.Special around v old new
+unfolding parts_of between number_of_kind meaning part unfolding_.behind is_chain
+special-type-read around at old v new o outer =
+    let g = o.goes tt in
+    let byte : ℕ = byte_of o.taken in
+    let same : byte ≡ o.byte = own-byte Production.SpecialType o.taken o.byte o.takes refl in
+    kind-comes Kind.Special Production.SpecialType tt byte around at old (g.value ∷ []) g.after v new g.onward
+    (λ out. inl (
+      byte,
+      tree_of g.value,
+      refl,
+      subst (λ b. b < 256) (sym same) o.small,
+      subst (λ b. choose Kind.Special b ≡ Some Production.SpecialType) (sym same) o.chosen,
+      g.read Kind.Type refl out,
+    )) outer
+
+-- an encoding behind offsets, which leave the state as it is
+thunk-read : (around : Around) (kind : Thunk) (v : Value) (old mid new : State) → IsSpellableThunk kind → mid ≡ old
+    → EncodingRead around v mid new → SpecialRead around (tree (thunk kind (tree_of v)) true) old new
+thunk-read around kind v old mid new good same one =
+    inr (kind, tree_of v, refl, good, subst (λ s. WholeFits around (tree_of v) s new) same one.fits)
+
+non-virtual-read : (around : Around) (at : ℕ) (old : State) (v : Value) (new : State)
+    → OpenedRead Kind.Special around at old v new Production.NonVirtualThunk → KindRead Kind.Special around v old new
+unfolding parts_of between number_of_kind meaning part unfolding_.behind
+non-virtual-read around at old v new o outer =
+    let n = o.goes tt in
+    let b = n.onward in
+    let e = b.onward in
+    let offset = n.read Kind.Integer refl in
+    kind-comes Kind.Special Production.NonVirtualThunk tt (byte_of o.taken) around at old (n.value ∷ b.value ∷ e.value ∷ []) e.after v new
+    e.onward
+    (λ out. thunk-read around (adjusting (non_virtual (signed_of n.value))) e.value old b.after e.after offset.1 (b.read.0 ∙ offset.0)
+    (e.read Kind.Encoding refl)) outer
+
+virtual-read : (around : Around) (at : ℕ) (old : State) (v : Value) (new : State)
+    → OpenedRead Kind.Special around at old v new Production.VirtualThunk → KindRead Kind.Special around v old new
+unfolding parts_of between number_of_kind meaning part unfolding_.behind
+virtual-read around at old v new o outer =
+    let n = o.goes tt in
+    let b = n.onward in
+    let m = b.onward in
+    let c = m.onward in
+    let e = c.onward in
+    let offset = n.read Kind.Integer refl in
+    let table = m.read Kind.Integer refl in
+    kind-comes Kind.Special Production.VirtualThunk tt (byte_of o.taken) around at old
+    (n.value ∷ b.value ∷ m.value ∷ c.value ∷ e.value ∷ []) e.after v new e.onward
+    (λ out. thunk-read around (adjusting (by_table (signed_of n.value) (signed_of m.value))) e.value old c.after e.after (offset.1, table.1)
+    (c.read.0 ∙ table.0 ∙ b.read.0 ∙ offset.0) (e.read Kind.Encoding refl)) outer
+
+covariant-read : (around : Around) (at : ℕ) (old : State) (v : Value) (new : State)
+    → OpenedRead Kind.Special around at old v new Production.CovariantThunk → KindRead Kind.Special around v old new
+unfolding parts_of between number_of_kind meaning part unfolding_.behind
+covariant-read around at old v new o outer =
+    let a = o.goes tt in
+    let b = a.onward in
+    let e = b.onward in
+    let this = a.read Kind.CallOffset refl in
+    let result = b.read Kind.CallOffset refl in
+    kind-comes Kind.Special Production.CovariantThunk tt (byte_of o.taken) around at old (a.value ∷ b.value ∷ e.value ∷ []) e.after v new
+    e.onward
+    (λ out. thunk-read around (covariant (adjustment_of a.value) (adjustment_of b.value)) e.value old b.after e.after (this.1, result.1)
+    (result.0 ∙ this.0) (e.read Kind.Encoding refl)) outer
+
+-- what stands behind a T, where its parts were read so
+pub special-branch : BranchRead Kind.Special
+unfolding alternatives
+special-branch rule taken parts all around at old v new front is e =
+    go (opened-read Kind.Special rule taken parts all around at old v new front is e)
+  where
+    go : OneOf (alternatives Kind.Special) (OpenedRead Kind.Special around at old v new) → KindRead Kind.Special around v old new
+    go (inl o) = special-type-read around at old v new o
+    go (inr (inl o)) = non-virtual-read around at old v new o
+    go (inr (inr (inl o))) = virtual-read around at old v new o
+    go (inr (inr (inr (inl o)))) = covariant-read around at old v new o
+    go (inr (inr (inr (inr none)))) = absurd none

@@ -1,0 +1,239 @@
+-- Entities in the scope of an encoding that were read fit, and the names and types that they are.
+use Rattle.std.proofs.Common.{◌≡◌, inl, inr, ℕ, [], ◌∷◌, Bool, true, false, refl, ap, sym, subst, ◌∙◌}
+use Rattle.sym_shape.specs.declared.rule.Sym.TheVariants.{Kind as OfKind}
+use Rattle.cpp_grammar.specs.declared.kind.Kind.{Kind}
+use Rattle.cpp_grammar.specs.declared.production.Production.{Production}
+use Rattle.cpp_grammar.specs.Grammar.{alternatives, number_of_kind, parts_of}
+use Rattle.cpp_grammar.specs.Term.{Qualifiers, RefQualifier, any_value, Term, local, within, string_literal}
+use Rattle.cpp_grammar.specs.Values.{State, outermost, behind, Around, Value, unqualified, tree, tree_of, qualifiers_of, ref_of, mark_of, is_there, is_listed, part}
+use Rattle.cpp_grammar.specs.References.{is_function_type, with_type, with_unqualified}
+use Rattle.cpp_grammar.specs.Between.{after, extended, applied, between}
+use Rattle.cpp_grammar.specs.Meaning.{discriminator_of, meaning}
+use Rattle.cpp_grammar.specs.Unfolding as unfolding_
+use Rattle.cpp_grammar.specs.Unfolding.{byte_of}
+use Rattle.cpp_press_laws.specs.Texts.{qualifier_letters, mark_letter, name_letters}
+use Rattle.cpp_press_laws.specs.Pressing.{no_ways, type_ways, is_encoding, ways_of}
+use Rattle.cpp_press_laws.proofs.Fits.Fit.{Slot, bare_type, Role, in_type, in_name_with, letters_of, begins_name, names_type, names_entity, names_in, IsSpellableDiscriminator}
+use Rattle.cpp_press_laws.proofs.Fits.Types.{SolidFits}
+use Rattle.cpp_press_laws.proofs.Fits.Names.{PieceFits}
+use Rattle.cpp_press_laws.proofs.Fits.Nests.{OwnNameFits, EntityFits}
+use Rattle.cpp_press_laws.proofs.Fits.Pieces.{local-entity}
+use Rattle.cpp_press_laws.proofs.Fits.Locals.{local-typed, local-own}
+use Rattle.cpp_press_laws.proofs.Fits.Sorts.{KindFits}
+use Rattle.cpp_press_laws.proofs.Fits.Own.{piece-entity}
+use Rattle.cpp_press_laws.proofs.ByKind.Pieces.{string-literal-fits, type-begins, begins-entity}
+use Rattle.cpp_press_laws.proofs.ByKind.Rules.{OneOf}
+use Rattle.cpp_press_laws.proofs.ByKind.Known.{EncodingRead, KindRead, BranchRead, InFront, OpenedRead, opened-read, comes-as, kind-comes}
+use Rattle.cpp_press_laws.proofs.ByKind.Pieced.{PieceRead, renamed, source-comes, internal-comes, local-type-comes}
+
+-- ## Entities and their discriminators
+
+-- an entity behind its encoding, with a discriminator or none, which leave the state as it is
+local-name : (around : Around) (e entity d : Value) (old mid from late new : State) → EncodingRead around e old mid → from ≡ mid
+    → EntityFits (after (tree_of e) true around) (tree_of entity) (in_name_with (qualifiers_of entity) (ref_of entity)) from late
+    → new ≡ late → IsSpellableDiscriminator (discriminator_of d)
+    → OwnNameFits around (local (tree_of e) (tree_of entity) (discriminator_of d)) (qualifiers_of entity) (ref_of entity) old new
+local-name around e entity d old mid from late new one same other still good =
+    let E : Term = tree_of entity in
+    let role : Role = in_name_with (qualifiers_of entity) (ref_of entity) in
+    let inner : Around = after (tree_of e) true around in
+    local-own around (tree_of e) E (discriminator_of d) (qualifiers_of entity) (ref_of entity) old mid new good one.fits
+    (subst (λ s. EntityFits inner E role mid s) (sym still) (subst (λ s. EntityFits inner E role s late) same other))
+
+local-solid : (takes : Slot → Bool) (around : Around) (e entity d : Value) (old mid from late new : State) → EncodingRead around e old mid
+    → from ≡ mid → EntityFits (after (tree_of e) true around) (tree_of entity) in_type from late → new ≡ late
+    → IsSpellableDiscriminator (discriminator_of d)
+    → SolidFits takes around (tree (local (tree_of e) (tree_of entity) (discriminator_of d)) false) old new
+unfolding ways_of type_ways no_ways with_type with_unqualified is_function_type tree_of is_listed
+local-solid takes around e entity d old mid from late new one same other still good =
+    let E : Term = tree_of entity in
+    let inner : Around = after (tree_of e) true around in
+    let whole : EntityFits inner E in_type mid new =
+    subst (λ s. EntityFits inner E in_type mid s) (sym still) (subst (λ s. EntityFits inner E in_type s late) same other) in
+    record {
+      types = λ slot not_bare take. local-typed around (tree_of e) E (discriminator_of d) slot old mid new good one.fits whole;
+      bare = λ take. local-typed around (tree_of e) E (discriminator_of d) bare_type old mid new good one.fits whole;
+    }
+
+-- ## Local names and types
+
+pub local-name-read : (around : Around) (at : ℕ) (old : State) (v : Value) (new : State)
+    → OpenedRead Kind.CompleteName around at old v new Production.LocalName → KindRead Kind.CompleteName around v old new
+unfolding parts_of between number_of_kind meaning part unfolding_.behind tree_of qualifiers_of ref_of after
+local-name-read around at old v new o outer =
+    let g = o.goes tt in
+    let b = g.onward in
+    let n = b.onward in
+    let d = n.onward in
+    let e = g.read Kind.Encoding refl in
+    let entity = n.read Kind.Entity refl (tree_of g.value) e.is refl in
+    let number = d.read Kind.MaybeDiscriminator refl in
+    kind-comes Kind.CompleteName Production.LocalName tt (byte_of o.taken) around at old (g.value ∷ b.value ∷ n.value ∷ d.value ∷ [])
+    d.after v new d.onward
+    (λ out. local-name around g.value n.value d.value old g.after b.after n.after d.after e b.read.0 entity number.0 number.1) outer
+
+pub local-type-solid : (takes : Slot → Bool) (kind : Kind) (around : Around) (at : ℕ) (old : State) (v : Value) (new : State)
+    → InFront (OfKind (number_of_kind kind)) around at old → around.prefix ≡ outermost
+    → OpenedRead kind around at old v new Production.LocalType → SolidFits takes around v old new
+unfolding parts_of between number_of_kind meaning part unfolding_.behind after
+local-type-solid takes kind around at old v new front outer o =
+    let g = o.goes tt in
+    let b = g.onward in
+    let n = b.onward in
+    let d = n.onward in
+    let e = g.read Kind.Encoding refl in
+    let entity = n.read Kind.TypeEntity refl (tree_of g.value) e.is refl in
+    let number = d.read Kind.MaybeDiscriminator refl in
+    comes-as (λ w s. SolidFits takes around w old s) Production.LocalType tt (byte_of o.taken) around at old
+    (g.value ∷ b.value ∷ n.value ∷ d.value ∷ []) d.after v new d.onward
+    (local-solid takes around g.value n.value d.value old g.after b.after n.after d.after e b.read.0 entity number.0 number.1)
+
+-- ## Names between N and E
+
+pub nested-name-read : (around : Around) (at : ℕ) (old : State) (v : Value) (new : State)
+    → OpenedRead Kind.CompleteName around at old v new Production.NestedName → KindRead Kind.CompleteName around v old new
+unfolding parts_of between number_of_kind meaning part unfolding_.behind tree_of qualifiers_of ref_of
+nested-name-read around at old v new o outer =
+    let r = o.goes tt in
+    let w = r.onward in
+    let c = w.onward in
+    let m = c.onward in
+    let n = m.onward in
+    let still : m.after ≡ old = m.read Kind.MaybeRef refl ∙ c.read Kind.MaybeConst refl ∙ w.read Kind.MaybeVolatile refl
+    ∙ r.read Kind.MaybeRestrict refl in
+    let q : Qualifiers = record { restrict = is_there r.value; volatile = is_there w.value; const = is_there c.value } in
+    let ref : RefQualifier = mark_of m.value in
+    kind-comes Kind.CompleteName Production.NestedName tt (byte_of o.taken) around at old
+    (r.value ∷ w.value ∷ c.value ∷ m.value ∷ n.value ∷ []) n.after v new n.onward
+    (λ out. subst (λ s. OwnNameFits around (tree_of n.value) q ref s n.after) still ((n.read Kind.Nest refl (inl out)).1.own q ref)) outer
+
+nested-entity-read : (around : Around) (at : ℕ) (old : State) (v : Value) (new : State)
+    → OpenedRead Kind.Entity around at old v new Production.NestedName → KindRead Kind.Entity around v old new
+unfolding parts_of between number_of_kind meaning part unfolding_.behind tree_of qualifiers_of ref_of
+nested-entity-read around at old v new o e is scoped =
+    let r = o.goes tt in
+    let w = r.onward in
+    let c = w.onward in
+    let m = c.onward in
+    let n = m.onward in
+    let still : m.after ≡ old = m.read Kind.MaybeRef refl ∙ c.read Kind.MaybeConst refl ∙ w.read Kind.MaybeVolatile refl
+    ∙ r.read Kind.MaybeRestrict refl in
+    let q : Qualifiers = record { restrict = is_there r.value; volatile = is_there w.value; const = is_there c.value } in
+    let ref : RefQualifier = mark_of m.value in
+    kind-comes Kind.Entity Production.NestedName tt (byte_of o.taken) around at old
+    (r.value ∷ w.value ∷ c.value ∷ m.value ∷ n.value ∷ []) n.after v new n.onward
+    (λ f own here. subst (λ s. EntityFits around (tree_of n.value) (in_name_with q ref) s n.after) still
+    ((n.read Kind.Nest refl (inr (f, own, here))).1.entity (in_name_with q ref))) e is scoped
+
+nested-type-read : (around : Around) (at : ℕ) (old : State) (v : Value) (new : State)
+    → OpenedRead Kind.TypeEntity around at old v new Production.NestedType → KindRead Kind.TypeEntity around v old new
+unfolding parts_of between number_of_kind meaning part unfolding_.behind
+nested-type-read around at old v new o e is scoped =
+    let n = o.goes tt in
+    kind-comes Kind.TypeEntity Production.NestedType tt (byte_of o.taken) around at old (n.value ∷ []) n.after v new n.onward
+    (λ f own here. (n.read Kind.Nest refl (inr (f, own, here))).1.entity in_type) e is scoped
+
+-- ## String literals
+
+-- as the own name of an encoding, without letters
+abbrev plain_name : Role
+plain_name = in_name_with unqualified any_value
+
+string-read : (around : Around) (at : ℕ) (old : State) (v : Value) (new : State)
+    → OpenedRead Kind.Entity around at old v new Production.StringLiteral → KindRead Kind.Entity around v old new
+unfolding parts_of meaning unfolding_.behind tree_of qualifiers_of ref_of extended letters_of name_letters qualifier_letters mark_letter names_in names_entity
+string-read around at old v new o e is scoped =
+    kind-comes Kind.Entity Production.StringLiteral tt (byte_of o.taken) around at old [] old v new (o.goes tt)
+    (λ f own here. subst (λ prefix. EntityFits around (extended prefix string_literal) plain_name old old) (sym here)
+    (local-entity around f string_literal plain_name old old own here refl refl (string-literal-fits around old))) e is scoped
+
+-- ## Entities of one piece
+
+-- a role in which names of one piece stand
+record TakesPieces (role : Role) : Type 0 where
+  pub none : letters_of role ≡ []
+  pub takes : (p : Term) → begins_name p ≡ true → names_in role p ≡ true
+
+-- an entity that was read in the scope of some encoding
+abbrev EntityRead : Around → Term → Role → (old new : State) → Type 0
+EntityRead around t role old new =
+    (e : Term) → is_encoding e ≡ true → around.prefix ≡ behind e true → EntityFits around t role old new
+
+scoped-piece : (around : Around) (p : Term) (w : Value) (role : Role) (old mid new : State) → TakesPieces role → begins_name p ≡ true
+    → PieceFits around p old mid → KindFits Kind.MaybeArguments (after (extended around.prefix p) false around) w mid new
+    → EntityRead around (applied (extended around.prefix p) w) role old new
+unfolding extended
+scoped-piece around p w role old mid new takes begins one arguments e is scoped =
+    let same : extended around.prefix p ≡ within e p = ap (λ prefix. extended prefix p) scoped in
+    subst (λ t. EntityFits around (applied t w) role old new) (sym same)
+    (piece-entity around e p w role old mid new is scoped begins (takes.takes p begins) takes.none one
+    (subst (λ t. KindFits Kind.MaybeArguments (after t false around) w mid new) same arguments))
+
+-- of a kind that reads entities in a role
+abbrev Reads : Kind → Role → Type 0
+Reads kind role =
+    (around : Around) (t : Term) (old new : State) → EntityRead around t role old new → KindRead kind around (tree t false) old new
+
+entity-piece : (kind : Kind) (role : Role) → TakesPieces role → Reads kind role → (around : Around) (v : Value) (old new : State)
+    → PieceRead begins_name around v old new → KindRead kind around v old new
+entity-piece kind role takes reads around v old new o =
+    subst (λ w. KindRead kind around w old new) (sym o.value)
+    (reads around (applied (extended around.prefix o.piece) o.arguments) old new
+    (scoped-piece around o.piece o.arguments role old o.mid new takes o.named o.fits o.later))
+
+-- ## The kinds of entities
+
+name-pieces : TakesPieces plain_name
+unfolding letters_of name_letters qualifier_letters mark_letter names_in
+name-pieces = record { none = refl; takes = begins-entity }
+
+type-pieces : TakesPieces in_type
+unfolding letters_of names_in
+type-pieces = record { none = refl; takes = λ p begins. begins }
+
+name-reads : Reads Kind.Entity plain_name
+unfolding tree_of qualifiers_of ref_of
+name-reads around t old new one = one
+
+type-reads : Reads Kind.TypeEntity in_type
+unfolding tree_of
+type-reads around t old new one = one
+
+-- an entity that a name ends in, where its parts were read so
+pub entity-branch : BranchRead Kind.Entity
+unfolding alternatives
+entity-branch rule taken parts all around at old v new front is e =
+    go (opened-read Kind.Entity rule taken parts all around at old v new front is e)
+  where
+    piece : PieceRead begins_name around v old new → KindRead Kind.Entity around v old new
+    piece o = entity-piece Kind.Entity plain_name name-pieces name-reads around v old new o
+
+    typed : PieceRead names_type around v old new → KindRead Kind.Entity around v old new
+    typed o = piece (renamed names_type begins_name around v old new type-begins o)
+
+    go : OneOf (alternatives Kind.Entity) (OpenedRead Kind.Entity around at old v new) → KindRead Kind.Entity around v old new
+    go (inl o) = string-read around at old v new o
+    go (inr (inl o)) = nested-entity-read around at old v new o
+    go (inr (inr (inl o))) = piece (internal-comes Kind.Entity around at old v new o)
+    go (inr (inr (inr (inl o)))) = typed (local-type-comes Kind.Entity around at old v new o)
+    go (inr (inr (inr (inr (inl o))))) = typed (source-comes Kind.Entity around at old v new o)
+    go (inr (inr (inr (inr (inr none))))) = absurd none
+
+-- a type in the scope of an encoding, where its parts were read so
+pub type-entity-branch : BranchRead Kind.TypeEntity
+unfolding alternatives
+type-entity-branch rule taken parts all around at old v new front is e =
+    go (opened-read Kind.TypeEntity rule taken parts all around at old v new front is e)
+  where
+    piece : PieceRead begins_name around v old new → KindRead Kind.TypeEntity around v old new
+    piece o = entity-piece Kind.TypeEntity in_type type-pieces type-reads around v old new o
+
+    typed : PieceRead names_type around v old new → KindRead Kind.TypeEntity around v old new
+    typed o = piece (renamed names_type begins_name around v old new type-begins o)
+
+    go : OneOf (alternatives Kind.TypeEntity) (OpenedRead Kind.TypeEntity around at old v new) → KindRead Kind.TypeEntity around v old new
+    go (inl o) = nested-type-read around at old v new o
+    go (inr (inl o)) = piece (internal-comes Kind.TypeEntity around at old v new o)
+    go (inr (inr (inl o))) = typed (local-type-comes Kind.TypeEntity around at old v new o)
+    go (inr (inr (inr (inl o)))) = typed (source-comes Kind.TypeEntity around at old v new o)
+    go (inr (inr (inr (inr none)))) = absurd none

@@ -1,0 +1,252 @@
+-- Names that were read, with or without arguments: as types, and as an encoding's own name.
+use Rattle.std.proofs.Common.{◌≡◌, ℕ, ◌+◌, inl, inr, length, [], ◌∷◌, Bool, true, false, refl, ap, sym, subst}
+use Rattle.sym_shape.specs.declared.rule.Sym.TheVariants.{Kind as OfKind}
+use Rattle.sym_shape.specs.Tree.{spell}
+use Rattle.cpp_grammar.specs.declared.kind.Kind.{Kind}
+use Rattle.cpp_grammar.specs.declared.production.Production.{Production}
+use Rattle.cpp_grammar.specs.Grammar.{alternatives, number_of_kind, parts_of}
+use Rattle.cpp_grammar.specs.Term.{Term, in_std, instance, parameter}
+use Rattle.cpp_grammar.specs.Values.{State, outermost, Around, prefix_tree, prefix_listed, Value, tree, tree_of, piece_of, is_listed, is_there, qualifiers_of, ref_of, part}
+use Rattle.cpp_grammar.specs.References.{appended, with_prefix}
+use Rattle.cpp_grammar.specs.Between.{after, inside, extended, applied, no_items, named_so_far, listed_so_far, index_of, between}
+use Rattle.cpp_grammar.specs.Meaning.{meaning}
+use Rattle.cpp_grammar.specs.Unfolding as unfolding_
+use Rattle.cpp_grammar.specs.Unfolding.{byte_of}
+use Rattle.cpp_press_laws.proofs.Fits.Fit.{Slot, begins_name, names_type, names_function}
+use Rattle.cpp_press_laws.proofs.Fits.Types.{SolidFits}
+use Rattle.cpp_press_laws.proofs.Fits.Names.{PieceFits, std-between}
+use Rattle.cpp_press_laws.proofs.Fits.Templates.{std-template}
+use Rattle.cpp_press_laws.proofs.Fits.Nests.{std-nest}
+use Rattle.cpp_press_laws.proofs.Fits.Solids.{ParameterNamed}
+use Rattle.cpp_press_laws.proofs.Fits.Sorts.{NameRead, KindFits}
+use Rattle.cpp_press_laws.proofs.Fits.Typed.{abbreviated-type, name-type, parameter-name, type-with-s, arguments-read}
+use Rattle.cpp_press_laws.proofs.Fits.Own.{piece-solid, piece-own, nest-solid, std-own, named-own}
+use Rattle.cpp_press_laws.proofs.ByKind.Pieces.{type-begins, begins-function}
+use Rattle.cpp_press_laws.proofs.ByKind.Rules.{OneOf}
+use Rattle.cpp_press_laws.proofs.ByKind.Known.{OwnNameRead, InFront, PartRead, PartsRead, OpenedRead, opened-read, comes-as, BranchRead}
+use Rattle.cpp_press_laws.proofs.ByKind.Pieced.{PieceRead, renamed, source-comes, internal-comes, local-type-comes, operator-comes}
+use Rattle.cpp_press_laws.proofs.ByKind.Nests.{parameter-goes}
+
+-- ## Arguments
+
+-- with their I and E
+arguments-come : (kind : Kind) (around : Around) (at : ℕ) (old : State) (v : Value) (new : State)
+    → OpenedRead kind around at old v new Production.Arguments → (is_there v ≡ true) × KindFits Kind.Arguments around v old new
+unfolding parts_of number_of_kind between inside is_there meaning part unfolding_.behind
+arguments-come kind around at old v new o =
+    let a = o.goes tt in
+    let b = a.onward in
+    let byte : ℕ = byte_of o.taken in
+    comes-as (λ w s. (is_there w ≡ true) × KindFits Kind.Arguments around w old s) Production.Arguments tt byte around at old
+    (a.value ∷ b.value ∷ []) b.after v new b.onward (
+      refl,
+      subst (λ s. KindFits Kind.Arguments around (tree (no_items a.value) true) old s) (sym b.read.0)
+          (arguments-read around byte old a.value b.value old a.after (a.read Kind.ArgumentList refl refl)),
+    )
+
+pub arguments-branch : BranchRead Kind.Arguments
+unfolding alternatives
+arguments-branch rule taken parts all around at old v new front is e =
+    go (opened-read Kind.Arguments rule taken parts all around at old v new front is e)
+  where
+    go : OneOf (alternatives Kind.Arguments) (OpenedRead Kind.Arguments around at old v new)
+        → (is_there v ≡ true) × KindFits Kind.Arguments around v old new
+    go (inl o) = arguments-come Kind.Arguments around at old v new o
+    go (inr none) = absurd none
+
+pub maybe-arguments-branch : BranchRead Kind.MaybeArguments
+unfolding alternatives
+maybe-arguments-branch rule taken parts all around at old v new front is e =
+    go (opened-read Kind.MaybeArguments rule taken parts all around at old v new front is e)
+  where
+    go : OneOf (alternatives Kind.MaybeArguments) (OpenedRead Kind.MaybeArguments around at old v new)
+        → KindFits Kind.MaybeArguments around v old new
+    go (inl o) = inr (arguments-come Kind.MaybeArguments around at old v new o)
+    go (inr none) = absurd none
+
+-- ## Types behind an S
+
+std-name : (around : Around) (p : Term) (old new : State) → names_function p ≡ true → PieceFits around p old new
+    → NameRead around (tree (in_std p) false) old new
+unfolding with_prefix after prefix_tree prefix_listed tree_of is_listed appended
+std-name around p old new names one =
+    let between_ = std-between around p old new names one in
+    record {
+      solid = nest-solid (λ slot. true) around (tree (in_std p) false) old new (refl, std-nest around p old new between_);
+      before = λ a now other. (std-template around p old new between_).before true a now other;
+    }
+
+std-type : (around : Around) (at : ℕ) (old : State) (v : Value) (new : State)
+    → OpenedRead Kind.TypeAfterS around at old v new Production.StdType → NameRead around v old new
+unfolding parts_of number_of_kind between meaning part unfolding_.behind
+std-type around at old v new o =
+    let a = o.goes tt in
+    let p : Term = piece_of a.value in
+    let one = a.read Kind.SourceOrLocal refl in
+    comes-as (λ w s. NameRead around w old s) Production.StdType tt (byte_of o.taken) around at old (a.value ∷ []) a.after v new a.onward
+    (std-name around p old a.after (begins-function p one.0) one.1)
+
+abbreviated : (around : Around) (at : ℕ) (old : State) (v : Value) (new : State)
+    → OpenedRead Kind.TypeAfterS around at old v new Production.AbbreviatedType → NameRead around v old new
+unfolding parts_of number_of_kind between
+abbreviated around at old v new o =
+    let a = o.goes tt in
+    let byte : ℕ = byte_of o.taken in
+    comes-as (λ w s. NameRead around w old s) Production.AbbreviatedType tt byte around at old (a.value ∷ []) a.after v new a.onward
+    (abbreviated-type around byte old a.value old a.after (a.read Kind.Abbreviation refl))
+
+pub type-after-s-branch : BranchRead Kind.TypeAfterS
+unfolding alternatives
+type-after-s-branch rule taken parts all around at old v new front is e outer =
+    go (opened-read Kind.TypeAfterS rule taken parts all around at old v new front is e)
+  where
+    go : OneOf (alternatives Kind.TypeAfterS) (OpenedRead Kind.TypeAfterS around at old v new) → NameRead around v old new
+    go (inl o) = std-type around at old v new o
+    go (inr (inl o)) = abbreviated around at old v new o
+    go (inr (inr none)) = absurd none
+
+-- ## Names as types
+
+pub with-s-solid : (takes : Slot → Bool) (kind : Kind) (around : Around) (at : ℕ) (old : State) (v : Value) (new : State)
+    → InFront (OfKind (number_of_kind kind)) around at old → around.prefix ≡ outermost
+    → OpenedRead kind around at old v new Production.TypeWithS → SolidFits takes around v old new
+unfolding parts_of number_of_kind between
+with-s-solid takes kind around at old v new front outer o =
+    let a = o.goes tt in
+    let b = a.onward in
+    let byte : ℕ = byte_of o.taken in
+    comes-as (λ w s. SolidFits takes around w old s) Production.TypeWithS tt byte around at old (a.value ∷ b.value ∷ []) b.after v new
+    b.onward
+    (type-with-s takes around byte old a.value b.value old a.after b.after (a.read Kind.TypeAfterS refl outer)
+    (b.read Kind.MaybeArguments refl))
+
+pub parameter-solid : (takes : Slot → Bool) (kind : Kind) (around : Around) (at : ℕ) (old : State) (v : Value) (new : State)
+    → InFront (OfKind (number_of_kind kind)) around at old → around.prefix ≡ outermost
+    → OpenedRead kind around at old v new Production.Parameter → SolidFits takes around v old new
+unfolding parts_of number_of_kind between tree_of is_listed meaning part unfolding_.behind
+parameter-solid takes kind around at old v new front outer o =
+    let a = o.goes tt in
+    let k : ℕ = index_of a.value in
+    parameter-goes around at k a.after (λ next. PartRead (OfKind 42) a.others (at + length o.taken + length (spell a.shape)) next
+    (PartsRead Production.Parameter (byte_of o.taken) around at old v new [])) (SolidFits takes around v old new)
+    (λ s named b. comes-as (λ w u. SolidFits takes around w old u) Production.Parameter tt (byte_of o.taken) around at old
+    (tree (parameter k) true ∷ b.value ∷ []) b.after v new b.onward
+    (name-type takes around (tree (parameter k) true) b.value old s b.after
+    (parameter-name around k old s (subst (λ u. ParameterNamed around k u s) a.read.0 named) front.placed.lambda)
+    (b.read Kind.MaybeArguments refl)))
+    a.onward
+
+pub nested-solid : (takes : Slot → Bool) (kind : Kind) (around : Around) (at : ℕ) (old : State) (v : Value) (new : State)
+    → InFront (OfKind (number_of_kind kind)) around at old → around.prefix ≡ outermost
+    → OpenedRead kind around at old v new Production.NestedType → SolidFits takes around v old new
+unfolding parts_of number_of_kind between meaning part unfolding_.behind
+nested-solid takes kind around at old v new front outer o =
+    let a = o.goes tt in
+    comes-as (λ w s. SolidFits takes around w old s) Production.NestedType tt (byte_of o.taken) around at old (a.value ∷ []) a.after v new
+    a.onward
+    (nest-solid takes around a.value old a.after (a.read Kind.Nest refl (inl outer)))
+
+-- a name of one piece
+read-solid : (takes : Slot → Bool) (around : Around) (v : Value) (old new : State) → around.prefix ≡ outermost
+    → PieceRead names_type around v old new → SolidFits takes around v old new
+unfolding extended
+read-solid takes around v old new outer o =
+    subst (λ w. SolidFits takes around w old new) (sym o.value)
+    (subst (λ q. SolidFits takes around (tree (applied (extended q o.piece) o.arguments) false) old new) (sym outer)
+    (piece-solid takes around o.piece o.arguments old o.mid new outer o.named o.fits
+    (subst (λ q. KindFits Kind.MaybeArguments (after (extended q o.piece) false around) o.arguments o.mid new) outer o.later)))
+
+pub source-solid : (takes : Slot → Bool) (kind : Kind) (around : Around) (at : ℕ) (old : State) (v : Value) (new : State)
+    → InFront (OfKind (number_of_kind kind)) around at old → around.prefix ≡ outermost
+    → OpenedRead kind around at old v new Production.SourceName → SolidFits takes around v old new
+source-solid takes kind around at old v new front outer o =
+    read-solid takes around v old new outer (source-comes kind around at old v new o)
+
+pub local-type-name-solid : (takes : Slot → Bool) (kind : Kind) (around : Around) (at : ℕ) (old : State) (v : Value) (new : State)
+    → InFront (OfKind (number_of_kind kind)) around at old → around.prefix ≡ outermost
+    → OpenedRead kind around at old v new Production.LocalTypeName → SolidFits takes around v old new
+local-type-name-solid takes kind around at old v new front outer o =
+    read-solid takes around v old new outer (local-type-comes kind around at old v new o)
+
+-- ## An encoding's own name
+
+-- a name of one piece
+read-own : (around : Around) (v : Value) (old new : State) → around.prefix ≡ outermost → PieceRead names_function around v old new
+    → OwnNameRead around v old new
+unfolding extended tree_of qualifiers_of ref_of
+read-own around v old new outer o =
+    subst (λ w. OwnNameRead around w old new) (sym o.value)
+    (subst (λ q. OwnNameRead around (tree (applied (extended q o.piece) o.arguments) false) old new) (sym outer)
+    (piece-own around o.piece o.arguments old o.mid new outer o.named o.fits
+    (subst (λ q. KindFits Kind.MaybeArguments (after (extended q o.piece) false around) o.arguments o.mid new) outer o.later)))
+
+type-function : (p : Term) → names_type p ≡ true → names_function p ≡ true
+type-function p names = begins-function p (type-begins p names)
+
+pub source-own : (around : Around) (at : ℕ) (old : State) (v : Value) (new : State) → around.prefix ≡ outermost
+    → OpenedRead Kind.CompleteName around at old v new Production.SourceName → OwnNameRead around v old new
+source-own around at old v new outer o =
+    read-own around v old new outer
+    (renamed names_type names_function around v old new type-function (source-comes Kind.CompleteName around at old v new o))
+
+pub internal-own : (around : Around) (at : ℕ) (old : State) (v : Value) (new : State) → around.prefix ≡ outermost
+    → OpenedRead Kind.CompleteName around at old v new Production.InternalName → OwnNameRead around v old new
+internal-own around at old v new outer o =
+    read-own around v old new outer
+    (renamed begins_name names_function around v old new begins-function (internal-comes Kind.CompleteName around at old v new o))
+
+pub local-type-own : (around : Around) (at : ℕ) (old : State) (v : Value) (new : State) → around.prefix ≡ outermost
+    → OpenedRead Kind.CompleteName around at old v new Production.LocalTypeName → OwnNameRead around v old new
+local-type-own around at old v new outer o =
+    read-own around v old new outer
+    (renamed names_type names_function around v old new type-function (local-type-comes Kind.CompleteName around at old v new o))
+
+pub operator-own : (around : Around) (at : ℕ) (old : State) (v : Value) (new : State) → around.prefix ≡ outermost
+    → OpenedRead Kind.CompleteName around at old v new Production.OperatorName → OwnNameRead around v old new
+operator-own around at old v new outer o = read-own around v old new outer (operator-comes Kind.CompleteName around at old v new o)
+
+pub with-s-own : (around : Around) (at : ℕ) (old : State) (v : Value) (new : State) → around.prefix ≡ outermost
+    → OpenedRead Kind.CompleteName around at old v new Production.NameWithS → OwnNameRead around v old new
+unfolding parts_of number_of_kind between meaning part unfolding_.behind
+with-s-own around at old v new outer o =
+    let a = o.goes tt in
+    comes-as (λ w s. OwnNameRead around w old s) Production.NameWithS tt (byte_of o.taken) around at old (a.value ∷ []) a.after v new
+    a.onward
+    (a.read Kind.NameAfterS refl outer)
+
+-- behind an S
+std-name-own : (around : Around) (at : ℕ) (old : State) (v : Value) (new : State)
+    → OpenedRead Kind.NameAfterS around at old v new Production.StdName → OwnNameRead around v old new
+unfolding parts_of number_of_kind between named_so_far tree_of qualifiers_of ref_of meaning part unfolding_.behind
+std-name-own around at old v new o =
+    let a = o.goes tt in
+    let b = a.onward in
+    let p : Term = piece_of a.value in
+    let one = a.read Kind.Unqualified refl in
+    comes-as (λ w s. OwnNameRead around w old s) Production.StdName tt (byte_of o.taken) around at old
+    (tree (in_std p) false ∷ b.value ∷ []) b.after v new b.onward
+    (std-own around p b.value old a.after b.after one.0 one.1 (b.read Kind.MaybeArguments refl))
+
+abbreviated-own : (around : Around) (at : ℕ) (old : State) (v : Value) (new : State)
+    → OpenedRead Kind.NameAfterS around at old v new Production.AbbreviatedName → OwnNameRead around v old new
+unfolding parts_of number_of_kind between listed_so_far applied tree_of qualifiers_of ref_of meaning part unfolding_.behind
+abbreviated-own around at old v new o =
+    let a = o.goes tt in
+    let b = a.onward in
+    let behind_ = b.read Kind.Arguments refl in
+    let whole : instance (tree_of a.value) (tree_of b.value) ≡ applied (tree_of a.value) b.value =
+    sym (ap (λ c. elim c as (λ _. Term) [ true ↦ instance (tree_of a.value) (tree_of b.value) | false ↦ tree_of a.value ]) behind_.0) in
+    comes-as (λ w s. OwnNameRead around w old s) Production.AbbreviatedName tt (byte_of o.taken) around at old
+    (tree (tree_of a.value) true ∷ b.value ∷ []) b.after v new b.onward
+    (subst (λ t. OwnNameRead around (tree t false) old b.after) whole
+    (named-own around a.value b.value old a.after b.after (a.read Kind.Abbreviation refl) behind_.1))
+
+pub name-after-s-branch : BranchRead Kind.NameAfterS
+unfolding alternatives
+name-after-s-branch rule taken parts all around at old v new front is e outer =
+    go (opened-read Kind.NameAfterS rule taken parts all around at old v new front is e)
+  where
+    go : OneOf (alternatives Kind.NameAfterS) (OpenedRead Kind.NameAfterS around at old v new) → OwnNameRead around v old new
+    go (inl o) = std-name-own around at old v new o
+    go (inr (inl o)) = abbreviated-own around at old v new o
+    go (inr (inr none)) = absurd none

@@ -1,0 +1,262 @@
+-- Names between N and E that were read, part by part: what is read behind the name so far makes a name that fits in each of its ways.
+use Rattle.std.proofs.Common.{◌≡◌, ℕ, ◌+◌, inl, inr, length, [], ◌∷◌, Bool, true, false, Result, Ok, Err, refl, sym, subst}
+use Rattle.sym_core.specs.declared.refusal.Refusal.{Refusal}
+use Rattle.sym_shape.specs.declared.rule.Sym.TheVariants.{Kind as OfKind}
+use Rattle.sym_shape.specs.Tree.{spell}
+use Rattle.sym_link.specs.Reading.{Next, ◌>>=◌}
+use Rattle.cpp_grammar.specs.declared.kind.Kind.{Kind}
+use Rattle.cpp_grammar.specs.declared.production.Production.{Production}
+use Rattle.cpp_grammar.specs.Grammar.{alternatives, number_of_kind, parts_of}
+use Rattle.cpp_grammar.specs.Term.{Term, in_std, instance, parameter, source}
+use Rattle.cpp_grammar.specs.Values.{State, Around, prefix_tree, prefix_listed, Value, tree, tree_of, piece_of, text_of, part}
+use Rattle.cpp_grammar.specs.References.{appended, with_prefix, parameter_named}
+use Rattle.cpp_grammar.specs.Between.{after, inside, extended, applied, no_items, named_so_far, listed_so_far, piece_so_far, parameter_so_far, index_of, between}
+use Rattle.cpp_grammar.specs.Meaning.{meaning}
+use Rattle.cpp_grammar.specs.Unfolding as unfolding_
+use Rattle.cpp_grammar.specs.Unfolding.{byte_of}
+use Rattle.cpp_press_laws.specs.Pressing.{is_encoding}
+use Rattle.cpp_press_laws.proofs.Fits.Fit.{begins_name, names_type, names_function, names_member}
+use Rattle.cpp_press_laws.proofs.Fits.Read.{Wherever}
+use Rattle.cpp_press_laws.proofs.Fits.Names.{PrefixFits, PieceFits}
+use Rattle.cpp_press_laws.proofs.Fits.Nests.{NestFits}
+use Rattle.cpp_press_laws.proofs.Fits.Solids.{LambdasAreBare, ParameterNamed, parameter-names}
+use Rattle.cpp_press_laws.proofs.Fits.Rests.{NestRead, SoFarFits, component-read, std-read}
+use Rattle.cpp_press_laws.proofs.Fits.Firsts.{BeginsName, named-so-far, parameter-so-far, piece-so-far, arguments-so-far}
+use Rattle.cpp_press_laws.proofs.ByKind.Pieces.{type-begins, begins-function, function-member}
+use Rattle.cpp_press_laws.proofs.ByKind.Rules.{OneOf, OnGoing}
+use Rattle.cpp_press_laws.proofs.ByKind.Known.{KindRead, PartRead, PartsRead, OpenedRead, opened-read, comes-as, BranchRead}
+use Rattle.cpp_press_laws.proofs.ByKind.Pieced.{PieceRead, renamed, name-piece, source-comes, internal-comes, local-type-comes, operator-comes, constructor-comes, destructor-comes}
+
+-- ## Behind a name
+
+-- nothing more
+nest-end : (outer : Around) (t : Term) (start : State) (at : ℕ) (old : State) (v : Value) (new : State) → NestFits outer t start old
+    → OpenedRead Kind.NestTail (after t false outer) at old v new Production.NestEnd → NestRead outer v start new
+unfolding parts_of after prefix_tree prefix_listed tree_of meaning unfolding_.behind
+nest-end outer t start at old v new nest o =
+    comes-as (λ w s. NestRead outer w start s) Production.NestEnd tt (byte_of o.taken) (after t false outer) at old [] old v new (o.goes tt)
+    (refl, nest)
+
+-- a further piece behind what fits as a prefix
+nest-next : (kind : Kind) (outer : Around) (t : Term) (listed : Bool) (start : State) (at : ℕ) (old : State) (v : Value) (new : State)
+    → Wherever outer start (is_encoding t ≡ false) → PrefixFits outer t start (with_prefix (after t listed outer) old)
+    → OpenedRead kind (after t listed outer) at old v new Production.NestNext → NestRead outer v start new
+unfolding parts_of number_of_kind between after prefix_tree meaning part unfolding_.behind
+nest-next kind outer t listed start at old v new apart prefix o =
+    let c = o.goes tt in
+    let one : NestRead outer c.value start c.after = c.read Kind.Component refl outer t start refl apart prefix in
+    let d = c.onward in
+    let two : NestRead outer d.value start d.after = d.read Kind.NestTail refl outer (tree_of c.value) start refl one.1 in
+    comes-as (λ w s. NestRead outer w start s) Production.NestNext tt (byte_of o.taken) (after t listed outer) at old
+    (c.value ∷ d.value ∷ []) d.after v new d.onward two
+
+-- arguments, which end a prefix, and a further piece
+nest-arguments : (outer : Around) (t : Term) (listed : Bool) (start : State) (at : ℕ) (old : State) (v : Value) (new : State)
+    → SoFarFits outer t listed start old → OpenedRead Kind.NestRest (after t listed outer) at old v new Production.NestArguments
+    → NestRead outer v start new
+unfolding parts_of number_of_kind between listed_so_far after inside prefix_tree is_encoding meaning part unfolding_.behind
+nest-arguments outer t listed start at old v new so_far o =
+    let a = o.goes tt in
+    let b = a.onward in
+    let c = b.onward in
+    let d = c.onward in
+    let own : Term = instance t (no_items a.value) in
+    let prefix : PrefixFits outer own start (appended (after t listed outer) own b.after) =
+    subst (λ s. PrefixFits outer own start (appended (after t listed outer) own s)) (sym b.read.0)
+    (arguments-so-far outer t listed a.value start old a.after so_far (a.read Kind.ArgumentList refl refl)) in
+    let one : NestRead outer c.value start c.after = c.read Kind.Component refl outer own start refl (λ n place cs front. refl) prefix in
+    let two : NestRead outer d.value start d.after = d.read Kind.NestTail refl outer (tree_of c.value) start refl one.1 in
+    comes-as (λ w s. NestRead outer w start s) Production.NestArguments tt (byte_of o.taken) (after t listed outer) at old
+    (tree own true ∷ b.value ∷ c.value ∷ d.value ∷ []) d.after v new d.onward two
+
+pub nest-tail-branch : BranchRead Kind.NestTail
+unfolding alternatives with_prefix after prefix_tree prefix_listed appended
+nest-tail-branch rule taken parts all around at old v new front is e outer t start same nest =
+    go (subst (λ r. OneOf (alternatives Kind.NestTail) (OpenedRead Kind.NestTail r at old v new)) same
+    (opened-read Kind.NestTail rule taken parts all around at old v new front is e))
+  where
+    go : OneOf (alternatives Kind.NestTail) (OpenedRead Kind.NestTail (after t false outer) at old v new) → NestRead outer v start new
+    go (inl o) = nest-end outer t start at old v new nest o
+    go (inr (inl o)) = nest-next Kind.NestTail outer t false start at old v new (λ n place cs front. nest.apart) nest.prefix o
+    go (inr (inr none)) = absurd none
+
+pub nest-rest-branch : BranchRead Kind.NestRest
+unfolding alternatives
+nest-rest-branch rule taken parts all around at old v new front is e outer t listed start same so_far =
+    go (subst (λ r. OneOf (alternatives Kind.NestRest) (OpenedRead Kind.NestRest r at old v new)) same
+    (opened-read Kind.NestRest rule taken parts all around at old v new front is e))
+  where
+    go : OneOf (alternatives Kind.NestRest) (OpenedRead Kind.NestRest (after t listed outer) at old v new) → NestRead outer v start new
+    go (inl o) = nest-arguments outer t listed start at old v new so_far o
+    go (inr (inl o)) = nest-next Kind.NestRest outer t listed start at old v new so_far.apart so_far.prefix o
+    go (inr (inr none)) = absurd none
+
+-- ## A piece behind a prefix
+
+component-piece : (outer : Around) (t : Term) (start old : State) (v : Value) (new : State) → Wherever outer start (is_encoding t ≡ false)
+    → PrefixFits outer t start old → PieceRead names_member (after t true outer) v old new → NestRead outer v start new
+unfolding extended after
+component-piece outer t start old v new apart prefix o =
+    subst (λ w. NestRead outer w start new) (sym o.value)
+    (component-read outer t o.piece o.arguments start old o.mid new apart o.named prefix o.fits o.later)
+
+pub component-branch : BranchRead Kind.Component
+unfolding alternatives
+component-branch rule taken parts all around at old v new front is e outer t start same apart prefix =
+    go (subst (λ r. OneOf (alternatives Kind.Component) (OpenedRead Kind.Component r at old v new)) same
+    (opened-read Kind.Component rule taken parts all around at old v new front is e))
+  where
+    inner : Around
+    inner = after t true outer
+
+    piece : PieceRead names_member inner v old new → NestRead outer v start new
+    piece o = component-piece outer t start old v new apart prefix o
+
+    begun : (p : Term) → begins_name p ≡ true → names_member p ≡ true
+    begun p begins = function-member p (begins-function p begins)
+
+    typed : PieceRead names_type inner v old new → NestRead outer v start new
+    typed o = piece (renamed names_type names_member inner v old new (λ p names. begun p (type-begins p names)) o)
+
+    go : OneOf (alternatives Kind.Component) (OpenedRead Kind.Component inner at old v new) → NestRead outer v start new
+    go (inl o) = piece (constructor-comes Kind.Component inner at old v new o)
+    go (inr (inl o)) = piece (destructor-comes Kind.Component inner at old v new o)
+    go (inr (inr (inl o))) =
+        piece (renamed begins_name names_member inner v old new begun (internal-comes Kind.Component inner at old v new o))
+    go (inr (inr (inr (inl o)))) = typed (local-type-comes Kind.Component inner at old v new o)
+    go (inr (inr (inr (inr (inl o))))) =
+        piece (renamed names_function names_member inner v old new function-member (operator-comes Kind.Component inner at old v new o))
+    go (inr (inr (inr (inr (inr (inl o)))))) = typed (source-comes Kind.Component inner at old v new o)
+    go (inr (inr (inr (inr (inr (inr none)))))) = absurd none
+
+-- ## The first part
+
+-- behind a piece: the name so far
+nest-piece : (around : Around) (p : Term) (old mid : State) (w : Value) (new : State) → BeginsName around → begins_name p ≡ true
+    → PieceFits around p old mid → KindRead Kind.NestRest (after (extended around.prefix p) false around) w mid new
+    → NestRead around w old new
+nest-piece around p old mid w new begins names one rest =
+    rest around (extended around.prefix p) false old refl (piece-so-far around p old mid begins names one)
+
+nest-with-s : (around : Around) (at : ℕ) (old : State) (v : Value) (new : State) → BeginsName around
+    → OpenedRead Kind.Nest around at old v new Production.NestWithS → NestRead around v old new
+unfolding parts_of number_of_kind between meaning part unfolding_.behind
+nest-with-s around at old v new begins o =
+    let a = o.goes tt in
+    comes-as (λ w s. NestRead around w old s) Production.NestWithS tt (byte_of o.taken) around at old (a.value ∷ []) a.after v new a.onward
+    (a.read Kind.NestAfterS refl begins)
+
+nest-internal : (around : Around) (at : ℕ) (old : State) (v : Value) (new : State) → BeginsName around
+    → OpenedRead Kind.Nest around at old v new Production.NestInternal → NestRead around v old new
+unfolding parts_of number_of_kind between piece_so_far named_so_far begins_name meaning part unfolding_.behind
+nest-internal around at old v new begins o =
+    let a = o.goes tt in
+    let b = a.onward in
+    let p : Term = source true (text_of a.value) in
+    comes-as (λ w s. NestRead around w old s) Production.NestInternal tt (byte_of o.taken) around at old
+    (tree (extended around.prefix p) false ∷ b.value ∷ []) b.after v new b.onward
+    (nest-piece around p old a.after b.value b.after begins refl (name-piece around true a.value old a.after a.read)
+    (b.read Kind.NestRest refl))
+
+nest-source : (around : Around) (at : ℕ) (old : State) (v : Value) (new : State) → BeginsName around
+    → OpenedRead Kind.Nest around at old v new Production.NestSource → NestRead around v old new
+unfolding parts_of number_of_kind between piece_so_far named_so_far begins_name meaning part unfolding_.behind
+nest-source around at old v new begins o =
+    let a = o.goes tt in
+    let b = a.onward in
+    let p : Term = source false (text_of a.value) in
+    comes-as (λ w s. NestRead around w old s) Production.NestSource tt (byte_of o.taken) around at old
+    (tree (extended around.prefix p) false ∷ b.value ∷ []) b.after v new b.onward
+    (nest-piece around p old a.after b.value b.after begins refl (name-piece around false a.value old a.after a.read)
+    (b.read Kind.NestRest refl))
+
+nest-local-type : (around : Around) (at : ℕ) (old : State) (v : Value) (new : State) → BeginsName around
+    → OpenedRead Kind.Nest around at old v new Production.NestLocalType → NestRead around v old new
+unfolding parts_of number_of_kind between piece_so_far named_so_far meaning part unfolding_.behind
+nest-local-type around at old v new begins o =
+    let a = o.goes tt in
+    let b = a.onward in
+    let p : Term = piece_of a.value in
+    let one = a.read Kind.Anonymous refl in
+    comes-as (λ w s. NestRead around w old s) Production.NestLocalType tt (byte_of o.taken) around at old
+    (tree (extended around.prefix p) false ∷ b.value ∷ []) b.after v new b.onward
+    (nest-piece around p old a.after b.value b.after begins one.1 one.2 (b.read Kind.NestRest refl))
+
+-- what follows behind a parameter, which was named
+pub parameter-goes : (around : Around) (at k : ℕ) (state : State) (rest : Next Value State Around → Type 0) (R : Type 0)
+    → ((s : State) → ParameterNamed around k state s
+    → rest (record { values = tree (parameter k) true ∷ []; context = after (parameter k) true around; state = s }) → R)
+    → OnGoing (parameter_so_far around at k [] state) rest → R
+unfolding parameter_so_far listed_so_far
+parameter-goes around at k state rest R further goes = go (parameter_named around at k state) refl goes
+  where
+    go : (r : Result State Refusal) → parameter_named around at k state ≡ r
+        → OnGoing (r >>= λ s. listed_so_far around (parameter k) [] s) rest → R
+    go (Ok s) is h = further s (parameter-names around at k state s is) h
+    go (Err d) is h = absurd h
+
+-- a parameter that wasn't refused
+nest-parameter : (around : Around) (at : ℕ) (old : State) (v : Value) (new : State) → LambdasAreBare around
+    → OpenedRead Kind.Nest around at old v new Production.NestParameter → NestRead around v old new
+unfolding parts_of number_of_kind between parameter_so_far listed_so_far meaning part unfolding_.behind
+nest-parameter around at old v new bare o =
+    let a = o.goes tt in
+    let k : ℕ = index_of a.value in
+    parameter-goes around at k a.after (λ next. PartRead (OfKind 17) a.others (at + length o.taken + length (spell a.shape)) next
+    (PartsRead Production.NestParameter (byte_of o.taken) around at old v new [])) (NestRead around v old new)
+    (λ s named b. comes-as (λ w u. NestRead around w old u) Production.NestParameter tt (byte_of o.taken) around at old
+    (tree (parameter k) true ∷ b.value ∷ []) b.after v new b.onward
+    (b.read Kind.NestRest refl around (parameter k) true old refl
+    (parameter-so-far around k old s (subst (λ u. ParameterNamed around k u s) a.read.0 named) bare)))
+    a.onward
+
+pub nest-branch : BranchRead Kind.Nest
+unfolding alternatives
+nest-branch rule taken parts all around at old v new front is e begins =
+    go (opened-read Kind.Nest rule taken parts all around at old v new front is e)
+  where
+    go : OneOf (alternatives Kind.Nest) (OpenedRead Kind.Nest around at old v new) → NestRead around v old new
+    go (inl o) = nest-with-s around at old v new begins o
+    go (inr (inl o)) = nest-parameter around at old v new front.placed.lambda o
+    go (inr (inr (inl o))) = nest-internal around at old v new begins o
+    go (inr (inr (inr (inl o)))) = nest-local-type around at old v new begins o
+    go (inr (inr (inr (inr (inl o))))) = nest-source around at old v new begins o
+    go (inr (inr (inr (inr (inr none))))) = absurd none
+
+-- ## Behind an S
+
+nest-std : (around : Around) (at : ℕ) (old : State) (v : Value) (new : State)
+    → OpenedRead Kind.NestAfterS around at old v new Production.NestStd → NestRead around v old new
+unfolding parts_of number_of_kind between named_so_far tree_of meaning part unfolding_.behind
+nest-std around at old v new o =
+    let a = o.goes tt in
+    let b = a.onward in
+    let c = b.onward in
+    let p : Term = piece_of a.value in
+    let one = a.read Kind.Unqualified refl in
+    let name : Term = applied (in_std p) b.value in
+    comes-as (λ w s. NestRead around w old s) Production.NestStd tt (byte_of o.taken) around at old
+    (tree name false ∷ b.value ∷ c.value ∷ []) c.after v new c.onward
+    (c.read Kind.NestTail refl around name old refl
+    (std-read around p b.value old a.after b.after one.0 one.1 (b.read Kind.MaybeArguments refl)).1)
+
+nest-abbreviated : (around : Around) (at : ℕ) (old : State) (v : Value) (new : State)
+    → OpenedRead Kind.NestAfterS around at old v new Production.NestAbbreviated → NestRead around v old new
+unfolding parts_of number_of_kind between listed_so_far meaning part unfolding_.behind
+nest-abbreviated around at old v new o =
+    let a = o.goes tt in
+    let b = a.onward in
+    comes-as (λ w s. NestRead around w old s) Production.NestAbbreviated tt (byte_of o.taken) around at old
+    (tree (tree_of a.value) true ∷ b.value ∷ []) b.after v new b.onward
+    (b.read Kind.NestRest refl around (tree_of a.value) true old refl
+    (named-so-far around a.value old a.after (a.read Kind.Abbreviation refl)))
+
+pub nest-after-s-branch : BranchRead Kind.NestAfterS
+unfolding alternatives
+nest-after-s-branch rule taken parts all around at old v new front is e begins =
+    go (opened-read Kind.NestAfterS rule taken parts all around at old v new front is e)
+  where
+    go : OneOf (alternatives Kind.NestAfterS) (OpenedRead Kind.NestAfterS around at old v new) → NestRead around v old new
+    go (inl o) = nest-std around at old v new o
+    go (inr (inl o)) = nest-abbreviated around at old v new o
+    go (inr (inr none)) = absurd none

@@ -1,0 +1,513 @@
+-- The pieces of names that were read, of each kind, and the leaves, as it is known of their kinds.
+use Rattle.std.proofs.Common.{◌≡◌, ℕ, ◌-◌, inl, inr, List, [], ◌∷◌, Bool, true, false, slice_get, Some, Result, Ok, Err, refl, ap, arith, lit≤, sym, subst, ◌∙◌}
+use Rattle.std.specs.Prelude.{nat_lt, ◌^◌}
+use Rattle.sym_core.specs.declared.refusal.Refusal.{Refusal}
+use Rattle.sym_core.specs.declared.refusal.Refusal.TheVariants.{BadValue}
+use Rattle.sym_core.specs.declared.NumberKind.TheVariants.{Decimal}
+use Rattle.sym_shape.specs.declared.rule.Sym.{Sym}
+use Rattle.sym_shape.specs.declared.rule.Sym.TheVariants.{Kind as OfKind, Number}
+use Rattle.sym_shape.specs.Tree.{Tree as Shape, Forest, branch, empty, token, fixed, nothing, grown, IsTree, AreTrees}
+use Rattle.sym_link.specs.Unfold.{found, unfold_tree}
+use Rattle.cpp_grammar.specs.declared.kind.Kind.{Kind}
+use Rattle.cpp_grammar.specs.declared.production.Production.{Production}
+use Rattle.cpp_grammar.specs.Grammar.{alternatives, choose, kinds, may_be_empty, is_chain, number_of_kind, parts_of}
+use Rattle.cpp_grammar.specs.Table.{abi, sheet, sheet_with}
+use Rattle.cpp_grammar.specs.Term.{Term, operator, literal_operator, source, lambda, unnamed, list}
+use Rattle.cpp_grammar.specs.Values.{Candidate, State, Around, Value, letter, text, piece, tree_of, piece_of, letter_of, text_of, local_number, part}
+use Rattle.cpp_grammar.specs.Between.{Going, between, in_signature, no_items}
+use Rattle.cpp_grammar.specs.Meaning.{meaning, parameters, operator_or_literal}
+use Rattle.cpp_grammar.specs.Unfolding as unfolding_
+use Rattle.cpp_grammar.specs.Unfolding.{last_token, number_tested, opening, close, byte_of, cpp}
+use Rattle.cpp_grammar.proofs.ClosedStates.{AllNew, grows_then, ok_same}
+use Rattle.cpp_grammar.proofs.ClosedTrees.{known, tree_good}
+use Rattle.cpp_press_laws.proofs.ReadBack.Pieces.{IsOperator}
+use Rattle.cpp_press_laws.proofs.Fits.Fit.{item_type, begins_name, names_type, names_function, IsLocalNumber}
+use Rattle.cpp_press_laws.proofs.Fits.Lists.{list-fits, parameters-fit}
+use Rattle.cpp_press_laws.proofs.Fits.Names.{PieceFits}
+use Rattle.cpp_press_laws.proofs.ByKind.Rules.{OneOf}
+use Rattle.cpp_press_laws.proofs.ByKind.Leaves.{leaf-same}
+use Rattle.cpp_press_laws.proofs.ByKind.Pieces.{source-fits, operator-fits, literal-operator-fits, unnamed-fits, ShutOrInside, lambda-fits, begins-function}
+use Rattle.cpp_press_laws.proofs.ByKind.LeafKinds.{own-byte, LetterRead, mark-read, letter-read, literal-letter-read, integer-read, offset-read, discriminator-read, discriminator-rest-read}
+use Rattle.cpp_press_laws.proofs.ByKind.Known.{MarkRead, OpenedRead, opened-read, comes-as, BranchRead}
+
+-- a piece of a name, of the sort that stands there
+abbrev PieceAs : (names : Term → Bool) → Around → Value → (old new : State) → Type 0
+PieceAs names around v old new = (names (piece_of v) ≡ true) × PieceFits around (piece_of v) old new
+
+-- ## Names and local types
+
+internal-piece : (kind : Kind) (around : Around) (at : ℕ) (old : State) (v : Value) (new : State)
+    → OpenedRead kind around at old v new Production.InternalPiece → PieceAs begins_name around v old new
+unfolding parts_of between meaning part unfolding_.behind piece_of begins_name
+internal-piece kind around at old v new o =
+    let g = o.goes tt in
+    comes-as (λ w s. PieceAs begins_name around w old s) Production.InternalPiece tt (byte_of o.taken) around at old (g.value ∷ [])
+    g.after v new
+    g.onward (
+      refl,
+      subst (PieceFits around (source true (text_of g.value)) old) (sym g.read.0)
+          (source-fits around true (text_of g.value) old g.read.2),
+    )
+
+source-piece : (kind : Kind) (around : Around) (at : ℕ) (old : State) (v : Value) (new : State)
+    → OpenedRead kind around at old v new Production.SourcePiece → PieceAs begins_name around v old new
+unfolding parts_of between meaning part unfolding_.behind piece_of begins_name
+source-piece kind around at old v new o =
+    let g = o.goes tt in
+    comes-as (λ w s. PieceAs begins_name around w old s) Production.SourcePiece tt (byte_of o.taken) around at old (g.value ∷ []) g.after
+    v new
+    g.onward (
+      refl,
+      subst (PieceFits around (source false (text_of g.value)) old) (sym g.read.0)
+          (source-fits around false (text_of g.value) old g.read.2),
+    )
+
+local-type-piece : (kind : Kind) (around : Around) (at : ℕ) (old : State) (v : Value) (new : State)
+    → OpenedRead kind around at old v new Production.LocalTypePiece → PieceAs begins_name around v old new
+unfolding parts_of between meaning part unfolding_.behind
+local-type-piece kind around at old v new o =
+    let g = o.goes tt in
+    let one = g.read Kind.Anonymous refl in
+    comes-as (λ w s. PieceAs begins_name around w old s) Production.LocalTypePiece tt (byte_of o.taken) around at old (g.value ∷ [])
+    g.after v
+    new g.onward (one.1, one.2)
+
+operator-piece : (kind : Kind) (around : Around) (at : ℕ) (old : State) (v : Value) (new : State)
+    → OpenedRead kind around at old v new Production.OperatorPiece → PieceAs names_function around v old new
+unfolding parts_of between meaning part unfolding_.behind
+operator-piece kind around at old v new o =
+    let g = o.goes tt in
+    comes-as (λ w s. PieceAs names_function around w old s) Production.OperatorPiece tt (byte_of o.taken) around at old (g.value ∷ [])
+    g.after v
+    new g.onward (g.read Kind.Operator refl)
+
+pub source-or-local-branch : BranchRead Kind.SourceOrLocal
+unfolding alternatives
+source-or-local-branch rule taken parts all around at old v new front is e =
+    go (opened-read Kind.SourceOrLocal rule taken parts all around at old v new front is e)
+  where
+    go : OneOf (alternatives Kind.SourceOrLocal) (OpenedRead Kind.SourceOrLocal around at old v new)
+        → PieceAs begins_name around v old new
+    go (inl o) = internal-piece Kind.SourceOrLocal around at old v new o
+    go (inr (inl o)) = local-type-piece Kind.SourceOrLocal around at old v new o
+    go (inr (inr (inl o))) = source-piece Kind.SourceOrLocal around at old v new o
+    go (inr (inr (inr none))) = absurd none
+
+pub unqualified-branch : BranchRead Kind.Unqualified
+unfolding alternatives
+unqualified-branch rule taken parts all around at old v new front is e =
+    go (opened-read Kind.Unqualified rule taken parts all around at old v new front is e)
+  where
+    named : PieceAs begins_name around v old new → PieceAs names_function around v old new
+    named one = (begins-function (piece_of v) one.0, one.1)
+
+    go : OneOf (alternatives Kind.Unqualified) (OpenedRead Kind.Unqualified around at old v new) → PieceAs names_function around v old new
+    go (inl o) = named (internal-piece Kind.Unqualified around at old v new o)
+    go (inr (inl o)) = named (local-type-piece Kind.Unqualified around at old v new o)
+    go (inr (inr (inl o))) = named (source-piece Kind.Unqualified around at old v new o)
+    go (inr (inr (inr (inl o)))) = operator-piece Kind.Unqualified around at old v new o
+    go (inr (inr (inr (inr none)))) = absurd none
+
+-- ## Operators
+
+-- a production of operators of two letters, and the kind of the second
+record TwoLetters (p : Production) (kind : Kind) : Type 0 where
+  pub at : slice_get kinds (number_of_kind kind) ≡ Some kind
+  pub parts : parts_of p ≡ OfKind (number_of_kind kind) ∷ []
+  pub own : is_chain p ≡ false
+  pub goes : (around : Around) (place : ℕ) (s : State) → ◌≡◌ {A = Going} (between p around place [] s)
+      (Ok (record { context = around; values = []; state = s }))
+  pub opens : (place : ℕ) (f : Forest) (s : State) → opening p f place s ≡ Ok s
+  pub means : (first second : ℕ) (around : Around) (place : ℕ) (began s : State)
+      → close p first around place began (letter second ∷ []) s ≡ Ok (found (piece (operator first second)) s)
+
+letters-come : (p : Production) (kind : Kind) → TwoLetters p kind → (around : Around) (at : ℕ) (old : State) (v : Value) (new : State)
+    → (o : OpenedRead Kind.Operator around at old v new p) (w : Value) (mid : State) → MarkRead kind w old mid
+    → close p (byte_of o.taken) around at old (w ∷ []) mid ≡ Ok (found v new) → PieceAs names_function around v old new
+unfolding names_function piece_of
+letters-come p kind two around at old v new o w mid mark e =
+    let first : ℕ = byte_of o.taken in
+    let second : ℕ = letter_of w in
+    let eaten : first ≡ o.byte = own-byte p o.taken o.byte o.takes two.own in
+    let means : found (piece (operator first second)) mid ≡ found v new =
+    ok_same (found (piece (operator first second)) mid) (found v new)
+    (sym (two.means first second around at old mid) ∙ ap (λ u. close p first around at old (u ∷ []) mid) (sym mark.1) ∙ e) in
+    let is : IsOperator first second =
+    record {
+      production = p;
+      kind = kind;
+      number = number_of_kind kind;
+      at = two.at;
+      chosen = ap (choose Kind.Operator) eaten ∙ o.chosen;
+      parts = two.parts;
+      marked = mark.3;
+      own = two.own;
+      goes = two.goes;
+      opens = two.opens;
+      means = λ inner place began s. two.means first second inner place began s;
+    } in
+    let fits : PieceFits around (operator first second) old mid =
+    subst (PieceFits around (operator first second) old) (sym mark.0)
+    (operator-fits around first second old (omega (arith, eaten, o.small)) mark.2 is) in
+    subst (λ r. PieceAs names_function around r.value old r.state) means (refl, fits)
+
+-- behind an l a literal operator may stand
+operator-l : (around : Around) (at : ℕ) (old : State) (v : Value) (new : State)
+    → OpenedRead Kind.Operator around at old v new Production.OperatorL
+    → PieceAs names_function around v old new
+unfolding kinds parts_of is_chain between opening close meaning operator_or_literal part letter_of piece_of unfolding_.behind number_of_kind names_function
+operator-l around at old v new o =
+    let g = o.goes tt in
+    let byte : ℕ = byte_of o.taken in
+    elim (g.read Kind.OperatorAfterL refl) [
+      | inl mark ↦ letters-come Production.OperatorL Kind.OperatorAfterL
+          (record { at = refl; parts = refl; own = refl; goes = λ a p s. refl; opens = λ p f s. refl; means = λ x y a p b s. refl })
+          around at old v new o g.value g.after mark g.onward
+      | inr literal ↦ comes-as (λ w s. PieceAs names_function around w old s) Production.OperatorL tt byte around at old (g.value ∷ [])
+          g.after v new
+          g.onward
+          (subst (λ w. PieceAs names_function around (operator_or_literal byte w) old g.after) (sym literal.2) (
+            refl,
+            subst (PieceFits around (literal_operator literal.0) old) (sym literal.1)
+                (literal-operator-fits around literal.0 old literal.3),
+          ))
+    ]
+
+pub operator-branch : BranchRead Kind.Operator
+unfolding alternatives kinds parts_of is_chain between opening close meaning part letter_of unfolding_.behind number_of_kind
+operator-branch rule taken parts all around at old v new front is e =
+    go (opened-read Kind.Operator rule taken parts all around at old v new front is e)
+  where
+    go : OneOf (alternatives Kind.Operator) (OpenedRead Kind.Operator around at old v new) → PieceAs names_function around v old new
+    go (inl o) =
+        let g = o.goes tt in
+        letters-come Production.OperatorN Kind.OperatorAfterN
+        (record { at = refl; parts = refl; own = refl; goes = λ a p s. refl; opens = λ p f s. refl; means = λ x y a p b s. refl })
+        around at old v new o g.value g.after (g.read Kind.OperatorAfterN refl) g.onward
+    go (inr (inl o)) =
+        let g = o.goes tt in
+        letters-come Production.OperatorD Kind.OperatorAfterD
+        (record { at = refl; parts = refl; own = refl; goes = λ a p s. refl; opens = λ p f s. refl; means = λ x y a p b s. refl })
+        around at old v new o g.value g.after (g.read Kind.OperatorAfterD refl) g.onward
+    go (inr (inr (inl o))) =
+        let g = o.goes tt in
+        letters-come Production.OperatorA Kind.OperatorAfterA
+        (record { at = refl; parts = refl; own = refl; goes = λ a p s. refl; opens = λ p f s. refl; means = λ x y a p b s. refl })
+        around at old v new o g.value g.after (g.read Kind.OperatorAfterA refl) g.onward
+    go (inr (inr (inr (inl o)))) =
+        let g = o.goes tt in
+        letters-come Production.OperatorP Kind.OperatorAfterP
+        (record { at = refl; parts = refl; own = refl; goes = λ a p s. refl; opens = λ p f s. refl; means = λ x y a p b s. refl })
+        around at old v new o g.value g.after (g.read Kind.OperatorAfterP refl) g.onward
+    go (inr (inr (inr (inr (inl o))))) =
+        let g = o.goes tt in
+        letters-come Production.OperatorC Kind.OperatorAfterC
+        (record { at = refl; parts = refl; own = refl; goes = λ a p s. refl; opens = λ p f s. refl; means = λ x y a p b s. refl })
+        around at old v new o g.value g.after (g.read Kind.OperatorAfterC refl) g.onward
+    go (inr (inr (inr (inr (inr (inl o)))))) =
+        let g = o.goes tt in
+        letters-come Production.OperatorM Kind.OperatorAfterM
+        (record { at = refl; parts = refl; own = refl; goes = λ a p s. refl; opens = λ p f s. refl; means = λ x y a p b s. refl })
+        around at old v new o g.value g.after (g.read Kind.OperatorAfterM refl) g.onward
+    go (inr (inr (inr (inr (inr (inr (inl o))))))) =
+        let g = o.goes tt in
+        letters-come Production.OperatorR Kind.OperatorAfterR
+        (record { at = refl; parts = refl; own = refl; goes = λ a p s. refl; opens = λ p f s. refl; means = λ x y a p b s. refl })
+        around at old v new o g.value g.after (g.read Kind.OperatorAfterR refl) g.onward
+    go (inr (inr (inr (inr (inr (inr (inr (inl o)))))))) =
+        let g = o.goes tt in
+        letters-come Production.OperatorO Kind.OperatorAfterO
+        (record { at = refl; parts = refl; own = refl; goes = λ a p s. refl; opens = λ p f s. refl; means = λ x y a p b s. refl })
+        around at old v new o g.value g.after (g.read Kind.OperatorAfterO refl) g.onward
+    go (inr (inr (inr (inr (inr (inr (inr (inr (inl o))))))))) =
+        let g = o.goes tt in
+        letters-come Production.OperatorE Kind.OperatorAfterE
+        (record { at = refl; parts = refl; own = refl; goes = λ a p s. refl; opens = λ p f s. refl; means = λ x y a p b s. refl })
+        around at old v new o g.value g.after (g.read Kind.OperatorAfterE refl) g.onward
+    go (inr (inr (inr (inr (inr (inr (inr (inr (inr (inl o)))))))))) = operator-l around at old v new o
+    go (inr (inr (inr (inr (inr (inr (inr (inr (inr (inr (inl o))))))))))) =
+        let g = o.goes tt in
+        letters-come Production.OperatorS Kind.OperatorAfterS
+        (record { at = refl; parts = refl; own = refl; goes = λ a p s. refl; opens = λ p f s. refl; means = λ x y a p b s. refl })
+        around at old v new o g.value g.after (g.read Kind.OperatorAfterS refl) g.onward
+    go (inr (inr (inr (inr (inr (inr (inr (inr (inr (inr (inr (inl o)))))))))))) =
+        let g = o.goes tt in
+        letters-come Production.OperatorI Kind.OperatorAfterI
+        (record { at = refl; parts = refl; own = refl; goes = λ a p s. refl; opens = λ p f s. refl; means = λ x y a p b s. refl })
+        around at old v new o g.value g.after (g.read Kind.OperatorAfterI refl) g.onward
+    go (inr (inr (inr (inr (inr (inr (inr (inr (inr (inr (inr (inr (inl o))))))))))))) =
+        let g = o.goes tt in
+        letters-come Production.OperatorG Kind.OperatorAfterG
+        (record { at = refl; parts = refl; own = refl; goes = λ a p s. refl; opens = λ p f s. refl; means = λ x y a p b s. refl })
+        around at old v new o g.value g.after (g.read Kind.OperatorAfterG refl) g.onward
+    go (inr (inr (inr (inr (inr (inr (inr (inr (inr (inr (inr (inr (inr none))))))))))))) = absurd none
+
+-- ## Lambdas and unnamed types
+
+-- the number was tested at the U
+tested-number : (place : ℕ) (digits : List ℕ) (state : State) → number_tested place digits state ≡ Ok state
+    → IsLocalNumber (local_number digits)
+unfolding number_tested local_number
+tested-number place digits state e = (omega arith, go (nat_lt (local_number digits) (2 ^ 64)) refl e)
+  where
+    go : (b : Bool) → nat_lt (local_number digits) (2 ^ 64) ≡ b
+        → elim b as (λ _. Result State Refusal) [ true ↦ Ok state | false ↦ Err (BadValue place) ] ≡ Ok state
+        → nat_lt (local_number digits) (2 ^ 64) ≡ true
+    go true is h = is
+    go false is h = absurd cc
+
+-- it is that of the last token
+last-digits : (t : Shape) (f : Forest) (around : Around) (at : ℕ) (state : State) (v : Value) (new : State) → IsTree abi (Number Decimal) t
+    → AreTrees abi [] f → unfold_tree cpp around at t state ≡ Ok (found (v ∷ []) new) → (digits : List ℕ)
+    → last_token (grown t f) digits ≡ text_of v
+unfolding last_token cpp text_of
+last-digits (token t) nothing around at state v new is trees e digits =
+    (leaf-same (λ w. t.own ≡ text_of w) v (text t.own) state new (sym (ok_same (found (text t.own ∷ []) state) (found (v ∷ []) new) e))
+    refl).1
+last-digits (token t) (grown u f) around at state v new is trees e digits = absurd trees
+last-digits (branch rule taken parts) f around at state v new is trees e digits = absurd is
+last-digits empty f around at state v new is trees e digits = absurd is
+last-digits (fixed b) f around at state v new is trees e digits = absurd is
+
+-- other parts before it don't count
+digits-behind : (t : Shape) (f : Forest) (own : List ℕ) → ((digits : List ℕ) → last_token f digits ≡ own) → (digits : List ℕ)
+    → last_token (grown t f) digits ≡ own
+unfolding last_token
+digits-behind (token t) f own last digits = last t.own
+digits-behind (branch rule taken parts) f own last digits = last digits
+digits-behind empty f own last digits = last digits
+digits-behind (fixed b) f own last digits = last digits
+
+-- the same of the parts as they stand in front of the rest
+digits-split : (f : Forest) (t : Shape) (others : Forest) (own : List ℕ) → f ≡ grown t others
+    → ((digits : List ℕ) → last_token (grown t others) digits ≡ own) → (digits : List ℕ) → last_token f digits ≡ own
+digits-split f t others own same last digits = ap (λ g. last_token g digits) same ∙ last digits
+
+others-are : (x : Sym) (xs : List Sym) (f : Forest) (t : Shape) (others : Forest) → f ≡ grown t others → AreTrees abi (x ∷ xs) f
+    → AreTrees abi xs others
+others-are x xs f t others same trees = (subst (AreTrees abi (x ∷ xs)) same trees).1
+
+abbrev AnonymousRead : Around → Value → (old new : State) → Type 0
+AnonymousRead around v old new =
+    (names_type (piece_of v) ≡ true) × (begins_name (piece_of v) ≡ true) × PieceFits around (piece_of v) old new
+
+unnamed-type : (around : Around) (at : ℕ) (old : State) (v : Value) (new : State)
+    → OpenedRead Kind.Anonymous around at old v new Production.Unnamed → AnonymousRead around v old new
+unfolding parts_of between opening meaning part unfolding_.behind piece_of names_type begins_name
+unnamed-type around at old v new o =
+    let g = o.goes tt in
+    let k : ℕ = local_number (text_of g.value) in
+    let trees = others-are (Number Decimal) [] o.parts g.shape g.others g.splits o.trees in
+    let told : last_token o.parts [] ≡ text_of g.value =
+    digits-split o.parts g.shape g.others (text_of g.value) g.splits
+    (last-digits g.shape g.others around _ old g.value g.after g.is trees g.unfolds) [] in
+    let good : IsLocalNumber k =
+    subst (λ ds. IsLocalNumber (local_number ds)) told (tested-number (at - 1) (last_token o.parts []) old o.opens) in
+    comes-as (λ w s. AnonymousRead around w old s) Production.Unnamed tt (byte_of o.taken) around at old (g.value ∷ []) g.after v new
+    g.onward
+    (refl, refl, subst (PieceFits around (unnamed k) old) (sym g.read.0) (unnamed-fits around k old good))
+
+new-shut : (around : Around) (end : ℕ) (more : List Candidate) → AllNew (in_signature around) end more → ShutOrInside around.encoding more
+unfolding in_signature
+new-shut around end [] each = tt
+new-shut around end (c ∷ cs) each = (
+  elim each.0.place [ inl here ↦ inl (here.1 refl) | inr inner ↦ inr inner.0 ],
+  new-shut around end cs each.1,
+)
+
+lambda-type : (around : Around) (at : ℕ) (old : State) (v : Value) (new : State)
+    → OpenedRead Kind.Anonymous around at old v new Production.Lambda → AnonymousRead around v old new
+unfolding parts_of between number_of_kind opening meaning part unfolding_.behind piece_of names_type begins_name in_signature
+lambda-type around at old v new o =
+    let inner : Around = in_signature around in
+    let g = o.goes tt in
+    let h = g.onward in
+    let i = h.onward in
+    let j = i.onward in
+    let k : ℕ = local_number (text_of j.value) in
+    let a : Term = tree_of g.value in
+    let b : Term = no_items h.value in
+    let trees1 = others-are _ _ o.parts g.shape g.others g.splits o.trees in
+    let trees2 = others-are _ _ g.others h.shape h.others h.splits trees1 in
+    let trees3 = others-are _ _ h.others i.shape i.others i.splits trees2 in
+    let trees4 = others-are _ _ i.others j.shape j.others j.splits trees3 in
+    let own : List ℕ = text_of j.value in
+    let told : (digits : List ℕ) → last_token o.parts digits ≡ own =
+    digits-split o.parts g.shape g.others own g.splits (digits-behind g.shape g.others own
+    (digits-split g.others h.shape h.others own h.splits (digits-behind h.shape h.others own
+    (digits-split h.others i.shape i.others own i.splits (digits-behind i.shape i.others own
+    (digits-split i.others j.shape j.others own j.splits
+    (last-digits j.shape j.others inner _ i.after j.value j.after j.is trees4 j.unfolds))))))) in
+    let good : IsLocalNumber k =
+    subst (λ ds. IsLocalNumber (local_number ds)) (told []) (tested-number (at - 1) (last_token o.parts []) old o.opens) in
+    let first = tree_good g.shape (OfKind 30) inner _ old (found (g.value ∷ []) g.after) (known 30 (lit≤ tt)) g.is g.front.placed.encoding
+    g.front.opening g.front.prefix g.front.placed.old g.unfolds in
+    let rest =
+    tree_good h.shape (OfKind 41) inner _ g.after (found (h.value ∷ []) h.after) (known 41 (lit≤ tt)) h.is h.front.placed.encoding
+    h.front.opening h.front.prefix h.front.placed.old h.unfolds in
+    let grows = grows_then inner _ _ old g.after h.after (omega arith) first.grows rest.grows in
+    let items = h.read Kind.Items refl refl in
+    let one = parameters-fit inner item_type (list a b) old h.after tt
+    (list-fits inner item_type a b old g.after h.after (g.read Kind.Item refl refl) items.1) in
+    let fits : PieceFits around (lambda (parameters (list a b)) k) old h.after =
+    lambda-fits around (parameters (list a b)) k old h.after grows.more grows.is (new-shut around _ grows.more grows.each) good one in
+    let ends : h.after ≡ j.after = sym (j.read.0 ∙ i.read.0) in
+    comes-as (λ w s. AnonymousRead around w old s) Production.Lambda tt (byte_of o.taken) around at old
+    (g.value ∷ h.value ∷ i.value ∷ j.value ∷ []) j.after v new j.onward
+    (refl, refl, subst (PieceFits around (lambda (parameters (list a b)) k) old) ends fits)
+
+pub anonymous-branch : BranchRead Kind.Anonymous
+unfolding alternatives
+anonymous-branch rule taken parts all around at old v new front is e =
+    go (opened-read Kind.Anonymous rule taken parts all around at old v new front is e)
+  where
+    go : OneOf (alternatives Kind.Anonymous) (OpenedRead Kind.Anonymous around at old v new) → AnonymousRead around v old new
+    go (inl o) = lambda-type around at old v new o
+    go (inr (inl o)) = unnamed-type around at old v new o
+    go (inr (inr none)) = absurd none
+
+-- ## Leaves
+
+pub integer-branch : BranchRead Kind.Integer
+integer-branch rule taken parts all around at old v new front is e = integer-read (branch rule taken parts) around at old new v is e
+
+pub call-offset-branch : BranchRead Kind.CallOffset
+call-offset-branch rule taken parts all around at old v new front is e = offset-read (branch rule taken parts) around at old new v is e
+
+pub discriminator-branch : BranchRead Kind.MaybeDiscriminator
+discriminator-branch rule taken parts all around at old v new front is e =
+    discriminator-read (branch rule taken parts) around at old new v is e
+
+pub discriminator-rest-branch : BranchRead Kind.DiscriminatorRest
+discriminator-rest-branch rule taken parts all around at old v new front is e =
+    discriminator-rest-read (branch rule taken parts) around at old new v is e
+
+pub restrict-branch : BranchRead Kind.MaybeRestrict
+unfolding alternatives
+restrict-branch rule taken parts all around at old v new front is e =
+    (mark-read Kind.MaybeRestrict (refl, tt) (branch rule taken parts) around at old new v is e).0
+
+pub volatile-branch : BranchRead Kind.MaybeVolatile
+unfolding alternatives
+volatile-branch rule taken parts all around at old v new front is e =
+    (mark-read Kind.MaybeVolatile (refl, tt) (branch rule taken parts) around at old new v is e).0
+
+pub const-branch : BranchRead Kind.MaybeConst
+unfolding alternatives
+const-branch rule taken parts all around at old v new front is e =
+    (mark-read Kind.MaybeConst (refl, tt) (branch rule taken parts) around at old new v is e).0
+
+pub ref-branch : BranchRead Kind.MaybeRef
+unfolding alternatives
+ref-branch rule taken parts all around at old v new front is e =
+    (mark-read Kind.MaybeRef (refl, tt) (branch rule taken parts) around at old new v is e).0
+
+pub c-linkage-branch : BranchRead Kind.MaybeCLinkage
+unfolding alternatives
+c-linkage-branch rule taken parts all around at old v new front is e =
+    (mark-read Kind.MaybeCLinkage (refl, tt) (branch rule taken parts) around at old new v is e).0
+
+pub zero-branch : BranchRead Kind.MaybeZero
+unfolding alternatives
+zero-branch rule taken parts all around at old v new front is e =
+    (mark-read Kind.MaybeZero (refl, tt) (branch rule taken parts) around at old new v is e).0
+
+pub bit-branch : BranchRead Kind.Bit
+unfolding alternatives
+bit-branch rule taken parts all around at old v new front is e =
+    (mark-read Kind.Bit (refl, tt) (branch rule taken parts) around at old new v is e).0
+
+marked : (kind : Kind) (v : Value) (old new : State) → (new ≡ old) × LetterRead kind v → MarkRead kind v old new
+marked kind v old new one = (one.0, one.1.0, one.1.1.0, one.1.1.1)
+
+pub constructor-digit-branch : BranchRead Kind.ConstructorDigit
+unfolding alternatives abi sheet sheet_with may_be_empty kinds number_of_kind
+constructor-digit-branch rule taken parts all around at old v new front is e =
+    marked Kind.ConstructorDigit v old new
+    (letter-read Kind.ConstructorDigit (refl, tt) refl (branch rule taken parts) around at old new v is e)
+
+pub destructor-digit-branch : BranchRead Kind.DestructorDigit
+unfolding alternatives abi sheet sheet_with may_be_empty kinds number_of_kind
+destructor-digit-branch rule taken parts all around at old v new front is e =
+    marked Kind.DestructorDigit v old new
+    (letter-read Kind.DestructorDigit (refl, tt) refl (branch rule taken parts) around at old new v is e)
+
+pub operator-after-n-branch : BranchRead Kind.OperatorAfterN
+unfolding alternatives abi sheet sheet_with may_be_empty kinds number_of_kind
+operator-after-n-branch rule taken parts all around at old v new front is e =
+    marked Kind.OperatorAfterN v old new
+    (letter-read Kind.OperatorAfterN (refl, tt) refl (branch rule taken parts) around at old new v is e)
+
+pub operator-after-d-branch : BranchRead Kind.OperatorAfterD
+unfolding alternatives abi sheet sheet_with may_be_empty kinds number_of_kind
+operator-after-d-branch rule taken parts all around at old v new front is e =
+    marked Kind.OperatorAfterD v old new
+    (letter-read Kind.OperatorAfterD (refl, tt) refl (branch rule taken parts) around at old new v is e)
+
+pub operator-after-a-branch : BranchRead Kind.OperatorAfterA
+unfolding alternatives abi sheet sheet_with may_be_empty kinds number_of_kind
+operator-after-a-branch rule taken parts all around at old v new front is e =
+    marked Kind.OperatorAfterA v old new
+    (letter-read Kind.OperatorAfterA (refl, tt) refl (branch rule taken parts) around at old new v is e)
+
+pub operator-after-p-branch : BranchRead Kind.OperatorAfterP
+unfolding alternatives abi sheet sheet_with may_be_empty kinds number_of_kind
+operator-after-p-branch rule taken parts all around at old v new front is e =
+    marked Kind.OperatorAfterP v old new
+    (letter-read Kind.OperatorAfterP (refl, tt) refl (branch rule taken parts) around at old new v is e)
+
+pub operator-after-c-branch : BranchRead Kind.OperatorAfterC
+unfolding alternatives abi sheet sheet_with may_be_empty kinds number_of_kind
+operator-after-c-branch rule taken parts all around at old v new front is e =
+    marked Kind.OperatorAfterC v old new
+    (letter-read Kind.OperatorAfterC (refl, tt) refl (branch rule taken parts) around at old new v is e)
+
+pub operator-after-m-branch : BranchRead Kind.OperatorAfterM
+unfolding alternatives abi sheet sheet_with may_be_empty kinds number_of_kind
+operator-after-m-branch rule taken parts all around at old v new front is e =
+    marked Kind.OperatorAfterM v old new
+    (letter-read Kind.OperatorAfterM (refl, tt) refl (branch rule taken parts) around at old new v is e)
+
+pub operator-after-r-branch : BranchRead Kind.OperatorAfterR
+unfolding alternatives abi sheet sheet_with may_be_empty kinds number_of_kind
+operator-after-r-branch rule taken parts all around at old v new front is e =
+    marked Kind.OperatorAfterR v old new
+    (letter-read Kind.OperatorAfterR (refl, tt) refl (branch rule taken parts) around at old new v is e)
+
+pub operator-after-o-branch : BranchRead Kind.OperatorAfterO
+unfolding alternatives abi sheet sheet_with may_be_empty kinds number_of_kind
+operator-after-o-branch rule taken parts all around at old v new front is e =
+    marked Kind.OperatorAfterO v old new
+    (letter-read Kind.OperatorAfterO (refl, tt) refl (branch rule taken parts) around at old new v is e)
+
+pub operator-after-e-branch : BranchRead Kind.OperatorAfterE
+unfolding alternatives abi sheet sheet_with may_be_empty kinds number_of_kind
+operator-after-e-branch rule taken parts all around at old v new front is e =
+    marked Kind.OperatorAfterE v old new
+    (letter-read Kind.OperatorAfterE (refl, tt) refl (branch rule taken parts) around at old new v is e)
+
+pub operator-after-s-branch : BranchRead Kind.OperatorAfterS
+unfolding alternatives abi sheet sheet_with may_be_empty kinds number_of_kind
+operator-after-s-branch rule taken parts all around at old v new front is e =
+    marked Kind.OperatorAfterS v old new
+    (letter-read Kind.OperatorAfterS (refl, tt) refl (branch rule taken parts) around at old new v is e)
+
+pub operator-after-i-branch : BranchRead Kind.OperatorAfterI
+unfolding alternatives abi sheet sheet_with may_be_empty kinds number_of_kind
+operator-after-i-branch rule taken parts all around at old v new front is e =
+    marked Kind.OperatorAfterI v old new
+    (letter-read Kind.OperatorAfterI (refl, tt) refl (branch rule taken parts) around at old new v is e)
+
+pub operator-after-g-branch : BranchRead Kind.OperatorAfterG
+unfolding alternatives abi sheet sheet_with may_be_empty kinds number_of_kind
+operator-after-g-branch rule taken parts all around at old v new front is e =
+    marked Kind.OperatorAfterG v old new
+    (letter-read Kind.OperatorAfterG (refl, tt) refl (branch rule taken parts) around at old new v is e)
+
+pub operator-after-l-branch : BranchRead Kind.OperatorAfterL
+operator-after-l-branch rule taken parts all around at old v new front is e =
+    let one = literal-letter-read (branch rule taken parts) around at old new v is e in
+    elim one.1 [
+      | inl letter_ ↦ inl (marked Kind.OperatorAfterL v old new (one.0, letter_))
+      | inr name ↦ inr (name.0, one.0, name.1, name.2)
+    ]

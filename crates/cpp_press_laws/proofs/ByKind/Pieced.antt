@@ -1,0 +1,164 @@
+-- What is read as a further piece of a name, with or without arguments behind it.
+use Rattle.std.proofs.Common.{◌≡◌, ℕ, [], ◌∷◌, Bool, true, false, refl, sym, subst}
+use Rattle.sym_shape.specs.declared.rule.Sym.TheVariants.{Name}
+use Rattle.cpp_grammar.specs.declared.kind.Kind.{Kind}
+use Rattle.cpp_grammar.specs.declared.production.Production.{Production}
+use Rattle.cpp_grammar.specs.Grammar.{number_of_kind, parts_of}
+use Rattle.cpp_grammar.specs.Term.{Term, source, constructor, destructor}
+use Rattle.cpp_grammar.specs.Values.{State, Around, Value, tree, tree_of, piece_of, letter_of, text_of, part}
+use Rattle.cpp_grammar.specs.Between.{after, extended, applied, named_so_far, piece_so_far, between}
+use Rattle.cpp_grammar.specs.Meaning.{meaning}
+use Rattle.cpp_grammar.specs.Unfolding as unfolding_
+use Rattle.cpp_grammar.specs.Unfolding.{byte_of}
+use Rattle.cpp_press_laws.proofs.Fits.Fit.{begins_name, names_type, names_function, names_member}
+use Rattle.cpp_press_laws.proofs.Fits.Names.{PieceFits}
+use Rattle.cpp_press_laws.proofs.Fits.Sorts.{KindFits}
+use Rattle.cpp_press_laws.proofs.ByKind.Pieces.{source-fits, constructor-fits, destructor-fits}
+use Rattle.cpp_press_laws.proofs.ByKind.Known.{SymbolRead, OpenedRead, comes-as}
+
+-- a piece of this sort behind the name so far, and what stands behind it
+pub record PieceRead (names : Term → Bool) (around : Around) (v : Value) (old new : State) : Type 0 where
+  pub piece : Term
+  pub named : names piece ≡ true
+  pub arguments : Value
+  pub mid : State
+  pub value : v ≡ tree (applied (extended around.prefix piece) arguments) false
+  pub fits : PieceFits around piece old mid
+  pub later : KindFits Kind.MaybeArguments (after (extended around.prefix piece) false around) arguments mid new
+
+-- a piece of another sort
+pub renamed : (names others : Term → Bool) (around : Around) (v : Value) (old new : State)
+    → ((p : Term) → names p ≡ true → others p ≡ true) → PieceRead names around v old new → PieceRead others around v old new
+renamed names others around v old new more read = record {
+  piece = read.piece;
+  named = more read.piece read.named;
+  arguments = read.arguments;
+  mid = read.mid;
+  value = read.value;
+  fits = read.fits;
+  later = read.later;
+}
+
+-- a name that was read, as a piece
+pub name-piece : (around : Around) (internal : Bool) (v : Value) (old new : State) → SymbolRead Name around v old new
+    → PieceFits around (source internal (text_of v)) old new
+name-piece around internal v old new read =
+    subst (λ s. PieceFits around (source internal (text_of v)) old s) (sym read.0) (source-fits around internal (text_of v) old read.2)
+
+pub source-comes : (kind : Kind) (around : Around) (at : ℕ) (old : State) (v : Value) (new : State)
+    → OpenedRead kind around at old v new Production.SourceName → PieceRead names_type around v old new
+unfolding parts_of number_of_kind between piece_so_far named_so_far names_type begins_name tree_of meaning part unfolding_.behind
+source-comes kind around at old v new o =
+    let a = o.goes tt in
+    let b = a.onward in
+    let p : Term = source false (text_of a.value) in
+    comes-as (λ w s. PieceRead names_type around w old s) Production.SourceName tt (byte_of o.taken) around at old
+    (tree (extended around.prefix p) false ∷ b.value ∷ []) b.after v new b.onward
+    (record {
+      piece = p;
+      named = refl;
+      arguments = b.value;
+      mid = a.after;
+      value = refl;
+      fits = name-piece around false a.value old a.after a.read;
+      later = b.read Kind.MaybeArguments refl;
+    })
+
+pub internal-comes : (kind : Kind) (around : Around) (at : ℕ) (old : State) (v : Value) (new : State)
+    → OpenedRead kind around at old v new Production.InternalName → PieceRead begins_name around v old new
+unfolding parts_of number_of_kind between piece_so_far named_so_far begins_name tree_of meaning part unfolding_.behind
+internal-comes kind around at old v new o =
+    let a = o.goes tt in
+    let b = a.onward in
+    let p : Term = source true (text_of a.value) in
+    comes-as (λ w s. PieceRead begins_name around w old s) Production.InternalName tt (byte_of o.taken) around at old
+    (tree (extended around.prefix p) false ∷ b.value ∷ []) b.after v new b.onward
+    (record {
+      piece = p;
+      named = refl;
+      arguments = b.value;
+      mid = a.after;
+      value = refl;
+      fits = name-piece around true a.value old a.after a.read;
+      later = b.read Kind.MaybeArguments refl;
+    })
+
+pub local-type-comes : (kind : Kind) (around : Around) (at : ℕ) (old : State) (v : Value) (new : State)
+    → OpenedRead kind around at old v new Production.LocalTypeName → PieceRead names_type around v old new
+unfolding parts_of number_of_kind between piece_so_far named_so_far tree_of meaning part unfolding_.behind
+local-type-comes kind around at old v new o =
+    let a = o.goes tt in
+    let b = a.onward in
+    let p : Term = piece_of a.value in
+    comes-as (λ w s. PieceRead names_type around w old s) Production.LocalTypeName tt (byte_of o.taken) around at old
+    (tree (extended around.prefix p) false ∷ b.value ∷ []) b.after v new b.onward
+    (record {
+      piece = p;
+      named = (a.read Kind.Anonymous refl).0;
+      arguments = b.value;
+      mid = a.after;
+      value = refl;
+      fits = (a.read Kind.Anonymous refl).2;
+      later = b.read Kind.MaybeArguments refl;
+    })
+
+pub operator-comes : (kind : Kind) (around : Around) (at : ℕ) (old : State) (v : Value) (new : State)
+    → OpenedRead kind around at old v new Production.OperatorName → PieceRead names_function around v old new
+unfolding parts_of number_of_kind between piece_so_far named_so_far tree_of meaning part unfolding_.behind
+operator-comes kind around at old v new o =
+    let a = o.goes tt in
+    let b = a.onward in
+    let p : Term = piece_of a.value in
+    comes-as (λ w s. PieceRead names_function around w old s) Production.OperatorName tt (byte_of o.taken) around at old
+    (tree (extended around.prefix p) false ∷ b.value ∷ []) b.after v new b.onward
+    (record {
+      piece = p;
+      named = (a.read Kind.Operator refl).0;
+      arguments = b.value;
+      mid = a.after;
+      value = refl;
+      fits = (a.read Kind.Operator refl).1;
+      later = b.read Kind.MaybeArguments refl;
+    })
+
+pub constructor-comes : (kind : Kind) (around : Around) (at : ℕ) (old : State) (v : Value) (new : State)
+    → OpenedRead kind around at old v new Production.Constructor → PieceRead names_member around v old new
+unfolding parts_of number_of_kind between piece_so_far named_so_far names_member tree_of meaning part unfolding_.behind
+constructor-comes kind around at old v new o =
+    let a = o.goes tt in
+    let b = a.onward in
+    let p : Term = constructor (letter_of a.value) in
+    comes-as (λ w s. PieceRead names_member around w old s) Production.Constructor tt (byte_of o.taken) around at old
+    (tree (extended around.prefix p) false ∷ b.value ∷ []) b.after v new b.onward
+    (record {
+      piece = p;
+      named = refl;
+      arguments = b.value;
+      mid = a.after;
+      value = refl;
+      fits = (
+          let mark = a.read Kind.ConstructorDigit refl in
+          subst (λ s. PieceFits around p old s) (sym mark.0) (constructor-fits around (letter_of a.value) old mark.2 mark.3));
+      later = b.read Kind.MaybeArguments refl;
+    })
+
+pub destructor-comes : (kind : Kind) (around : Around) (at : ℕ) (old : State) (v : Value) (new : State)
+    → OpenedRead kind around at old v new Production.Destructor → PieceRead names_member around v old new
+unfolding parts_of number_of_kind between piece_so_far named_so_far names_member tree_of meaning part unfolding_.behind
+destructor-comes kind around at old v new o =
+    let a = o.goes tt in
+    let b = a.onward in
+    let p : Term = destructor (letter_of a.value) in
+    comes-as (λ w s. PieceRead names_member around w old s) Production.Destructor tt (byte_of o.taken) around at old
+    (tree (extended around.prefix p) false ∷ b.value ∷ []) b.after v new b.onward
+    (record {
+      piece = p;
+      named = refl;
+      arguments = b.value;
+      mid = a.after;
+      value = refl;
+      fits = (
+          let mark = a.read Kind.DestructorDigit refl in
+          subst (λ s. PieceFits around p old s) (sym mark.0) (destructor-fits around (letter_of a.value) old mark.2 mark.3));
+      later = b.read Kind.MaybeArguments refl;
+    })

@@ -1,0 +1,48 @@
+-- What is read behind an S: an abbreviation, or what a substitution names.
+use Rattle.std.proofs.Common.{ℕ, ◌-◌, inl, inr, [], refl, sym, subst}
+use Rattle.sym_core.specs.declared.NumberKind.TheVariants.{Seq36}
+use Rattle.sym_core.specs.Value.{counted_value}
+use Rattle.sym_link.specs.Unfold.{found}
+use Rattle.cpp_grammar.specs.declared.kind.Kind.{Kind}
+use Rattle.cpp_grammar.specs.declared.production.Production.{Production}
+use Rattle.cpp_grammar.specs.Grammar.{alternatives, parts_of, is_chain}
+use Rattle.cpp_grammar.specs.Values.{State, Around, Value, text_of, part}
+use Rattle.cpp_grammar.specs.Between.{between}
+use Rattle.cpp_grammar.specs.Unfolding.{close, byte_of}
+use Rattle.cpp_press_laws.proofs.ByKind.Rules.{OneOf}
+use Rattle.cpp_press_laws.proofs.Fits.References.{substitution-refers}
+use Rattle.cpp_press_laws.proofs.Fits.Sorts.{KindFits, Meant, Later}
+use Rattle.cpp_press_laws.proofs.Fits.Typed.{abbreviation-read, substitution-read}
+use Rattle.cpp_press_laws.proofs.ByKind.LeafKinds.{own-byte}
+use Rattle.cpp_press_laws.proofs.ByKind.Known.{OpenedRead, opened-read, comes-as, BranchRead}
+
+letter-arm : (around : Around) (at : ℕ) (old : State) (v : Value) (new : State)
+    → OpenedRead Kind.Abbreviation around at old v new Production.Abbreviation → KindFits Kind.Abbreviation around v old new
+unfolding parts_of is_chain
+letter-arm around at old v new o =
+    let byte = byte_of o.taken in
+    comes-as (λ w s. KindFits Kind.Abbreviation around w old s) Production.Abbreviation tt byte around at old [] old v new (o.goes tt)
+    (subst (λ b. KindFits Kind.Abbreviation around (Meant Production.Abbreviation b around []) old
+    (Later Production.Abbreviation b around old [] old))
+    (sym (own-byte Production.Abbreviation o.taken o.byte o.takes refl)) (abbreviation-read around o.byte old old o.small o.chosen))
+
+-- a substitution that wasn't refused
+reference-arm : (around : Around) (at : ℕ) (old : State) (v : Value) (new : State)
+    → OpenedRead Kind.Abbreviation around at old v new Production.Substitution → KindFits Kind.Abbreviation around v old new
+unfolding parts_of between close part
+reference-arm around at old v new o =
+    let a = o.goes tt in
+    subst (λ s. KindFits Kind.Abbreviation around v s new) a.read.0
+    (substitution-read around a.after (found v new)
+    (substitution-refers around (at - 1) (counted_value Seq36 (text_of a.value)) a.after (found v new) a.onward))
+
+pub abbreviation-branch : BranchRead Kind.Abbreviation
+unfolding alternatives
+abbreviation-branch rule taken parts all around at old v new front is e =
+    go (opened-read Kind.Abbreviation rule taken parts all around at old v new front is e)
+  where
+    go : OneOf (alternatives Kind.Abbreviation) (OpenedRead Kind.Abbreviation around at old v new)
+        → KindFits Kind.Abbreviation around v old new
+    go (inl o) = letter-arm around at old v new o
+    go (inr (inl o)) = reference-arm around at old v new o
+    go (inr (inr none)) = absurd none

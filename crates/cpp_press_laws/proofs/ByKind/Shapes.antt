@@ -1,0 +1,174 @@
+-- What every shape of the grammar is read as fits, whatever kind it is read as.
+use Rattle.std.proofs.Common.{inl, inr, List}
+use Rattle.std.specs.Prelude.{ℕ}
+use Rattle.sym_shape.specs.declared.rule.Rule.{Rule}
+use Rattle.sym_shape.specs.Tree.{Tree as Shape, Forest, branch}
+use Rattle.cpp_grammar.specs.declared.kind.Kind.{Kind}
+use Rattle.cpp_grammar.specs.Grammar.{alternatives, number_of_kind}
+use Rattle.cpp_grammar.specs.Term.{Term}
+use Rattle.cpp_press_laws.specs.PressLaws.{IsReadFrom}
+use Rattle.cpp_press_laws.proofs.Fits.Fit.{takes_all, SymbolFits}
+use Rattle.cpp_press_laws.proofs.Fits.Sorts.{KindFits, takes_literals}
+use Rattle.cpp_press_laws.proofs.ByKind.Rules.{AllOf, OneOf, every-shape}
+use Rattle.cpp_press_laws.proofs.ByKind.Suffixes.{suffix-read}
+use Rattle.cpp_press_laws.proofs.ByKind.Known.{OwnNameRead, ShapeRead, OpenedRead, opened-read, BranchRead}
+use Rattle.cpp_press_laws.proofs.ByKind.Types.{type-branch, plain-branch, item-branch, parameter-branch, item-d-branch, after-d-branch}
+use Rattle.cpp_press_laws.proofs.ByKind.Solids.{builtin-arm, literal-arm, vendor-arm, array-arm, function-arm, complex-arm, pointer-arm, member-arm, function-rest-branch, after-r-branch, after-o-branch, items-branch}
+use Rattle.cpp_press_laws.proofs.ByKind.References.{abbreviation-branch}
+use Rattle.cpp_press_laws.proofs.ByKind.Empty.{empty-read}
+use Rattle.cpp_press_laws.proofs.ByKind.Root.{read-fits}
+use Rattle.cpp_press_laws.proofs.ByKind.PieceKinds.{source-or-local-branch, unqualified-branch, operator-branch, anonymous-branch, integer-branch, call-offset-branch, discriminator-branch, discriminator-rest-branch, restrict-branch, volatile-branch, const-branch, ref-branch, c-linkage-branch, zero-branch, bit-branch, constructor-digit-branch, destructor-digit-branch, operator-after-n-branch, operator-after-d-branch, operator-after-a-branch, operator-after-p-branch, operator-after-c-branch, operator-after-m-branch, operator-after-r-branch, operator-after-o-branch, operator-after-e-branch, operator-after-s-branch, operator-after-i-branch, operator-after-g-branch, operator-after-l-branch}
+use Rattle.cpp_press_laws.proofs.ByKind.Arguments.{argument-list-branch, pack-list-branch, literal-branch, literal-after-d-branch, address-branch}
+use Rattle.cpp_press_laws.proofs.ByKind.Nests.{nest-branch, nest-after-s-branch, nest-rest-branch, nest-tail-branch, component-branch}
+use Rattle.cpp_press_laws.proofs.ByKind.Names.{arguments-branch, maybe-arguments-branch, type-after-s-branch, name-after-s-branch, with-s-solid, parameter-solid, nested-solid, source-solid, local-type-name-solid, source-own, internal-own, local-type-own, operator-own, with-s-own}
+use Rattle.cpp_press_laws.proofs.ByKind.Encodings.{encoding-branch, special-branch}
+use Rattle.cpp_press_laws.proofs.ByKind.Entities.{entity-branch, type-entity-branch, local-type-solid, local-name-read, nested-name-read}
+
+-- ## Types by their own letters, and names as types
+
+solid-branch : BranchRead Kind.Solid
+unfolding alternatives
+solid-branch rule taken parts all around at old v new front is e outer =
+    go (opened-read Kind.Solid rule taken parts all around at old v new front is e)
+  where
+    go : OneOf (alternatives Kind.Solid) (OpenedRead Kind.Solid around at old v new) → KindFits Kind.Solid around v old new
+    go (inl o) = builtin-arm around at old v new o
+    go (inr (inl o)) = vendor-arm around at old v new o
+    go (inr (inr (inl o))) = array-arm around at old v new outer o
+    go (inr (inr (inr (inl o)))) = function-arm around at old v new outer o
+    go (inr (inr (inr (inr (inl o))))) = complex-arm around at old v new outer o
+    go (inr (inr (inr (inr (inr (inl o)))))) = pointer-arm takes_all Kind.Solid around at old v new outer o
+    go (inr (inr (inr (inr (inr (inr (inl o))))))) = member-arm takes_all Kind.Solid around at old v new outer o
+    go (inr (inr (inr (inr (inr (inr (inr (inl o)))))))) = parameter-solid takes_all Kind.Solid around at old v new front outer o
+    go (inr (inr (inr (inr (inr (inr (inr (inr (inl o))))))))) = with-s-solid takes_all Kind.Solid around at old v new front outer o
+    go (inr (inr (inr (inr (inr (inr (inr (inr (inr (inl o)))))))))) = nested-solid takes_all Kind.Solid around at old v new front outer o
+    go (inr (inr (inr (inr (inr (inr (inr (inr (inr (inr (inl o))))))))))) =
+        local-type-solid takes_all Kind.Solid around at old v new front outer o
+    go (inr (inr (inr (inr (inr (inr (inr (inr (inr (inr (inr (inl o)))))))))))) =
+        local-type-name-solid takes_all Kind.Solid around at old v new front outer o
+    go (inr (inr (inr (inr (inr (inr (inr (inr (inr (inr (inr (inr (inl o))))))))))))) =
+        source-solid takes_all Kind.Solid around at old v new front outer o
+    go (inr (inr (inr (inr (inr (inr (inr (inr (inr (inr (inr (inr (inr none))))))))))))) = absurd none
+
+-- the type of a literal
+literal-type-branch : BranchRead Kind.LiteralType
+unfolding alternatives
+literal-type-branch rule taken parts all around at old v new front is e outer =
+    go (opened-read Kind.LiteralType rule taken parts all around at old v new front is e)
+  where
+    go : OneOf (alternatives Kind.LiteralType) (OpenedRead Kind.LiteralType around at old v new)
+        → KindFits Kind.LiteralType around v old new
+    go (inl o) = literal-arm around at old v new o
+    go (inr (inl o)) = pointer-arm takes_literals Kind.LiteralType around at old v new outer o
+    go (inr (inr (inl o))) = member-arm takes_literals Kind.LiteralType around at old v new outer o
+    go (inr (inr (inr (inl o)))) = parameter-solid takes_literals Kind.LiteralType around at old v new front outer o
+    go (inr (inr (inr (inr (inl o))))) = with-s-solid takes_literals Kind.LiteralType around at old v new front outer o
+    go (inr (inr (inr (inr (inr (inl o)))))) = nested-solid takes_literals Kind.LiteralType around at old v new front outer o
+    go (inr (inr (inr (inr (inr (inr (inl o))))))) = local-type-solid takes_literals Kind.LiteralType around at old v new front outer o
+    go (inr (inr (inr (inr (inr (inr (inr (inl o)))))))) =
+        local-type-name-solid takes_literals Kind.LiteralType around at old v new front outer o
+    go (inr (inr (inr (inr (inr (inr (inr (inr (inl o))))))))) =
+        source-solid takes_literals Kind.LiteralType around at old v new front outer o
+    go (inr (inr (inr (inr (inr (inr (inr (inr (inr none))))))))) = absurd none
+
+-- ## Names of encodings, and suffixes
+
+complete-name-branch : BranchRead Kind.CompleteName
+unfolding alternatives
+complete-name-branch rule taken parts all around at old v new front is e outer =
+    go (opened-read Kind.CompleteName rule taken parts all around at old v new front is e)
+  where
+    go : OneOf (alternatives Kind.CompleteName) (OpenedRead Kind.CompleteName around at old v new) → OwnNameRead around v old new
+    go (inl o) = nested-name-read around at old v new o outer
+    go (inr (inl o)) = with-s-own around at old v new outer o
+    go (inr (inr (inl o))) = local-name-read around at old v new o outer
+    go (inr (inr (inr (inl o)))) = internal-own around at old v new outer o
+    go (inr (inr (inr (inr (inl o))))) = local-type-own around at old v new outer o
+    go (inr (inr (inr (inr (inr (inl o)))))) = operator-own around at old v new outer o
+    go (inr (inr (inr (inr (inr (inr (inl o))))))) = source-own around at old v new outer o
+    go (inr (inr (inr (inr (inr (inr (inr none))))))) = absurd none
+
+suffix-branch : BranchRead Kind.MaybeSuffix
+unfolding number_of_kind
+suffix-branch rule taken parts all around at old v new front is e = suffix-read (branch rule taken parts) around at old new v is e
+
+-- ## All kinds
+
+kind-branch : (kind : Kind) → BranchRead kind
+kind-branch Kind.Symbol = λ rule taken parts all around at old v new front is e. tt
+kind-branch Kind.MaybeSuffix = suffix-branch
+kind-branch Kind.SuffixFirst = λ rule taken parts all around at old v new front is e. tt
+kind-branch Kind.SuffixMore = λ rule taken parts all around at old v new front is e. tt
+kind-branch Kind.Encoding = encoding-branch
+kind-branch Kind.Special = special-branch
+kind-branch Kind.CallOffset = call-offset-branch
+kind-branch Kind.Integer = integer-branch
+kind-branch Kind.CompleteName = complete-name-branch
+kind-branch Kind.MaybeRestrict = restrict-branch
+kind-branch Kind.MaybeVolatile = volatile-branch
+kind-branch Kind.MaybeConst = const-branch
+kind-branch Kind.MaybeRef = ref-branch
+kind-branch Kind.NameAfterS = name-after-s-branch
+kind-branch Kind.Unqualified = unqualified-branch
+kind-branch Kind.Nest = nest-branch
+kind-branch Kind.NestAfterS = nest-after-s-branch
+kind-branch Kind.NestRest = nest-rest-branch
+kind-branch Kind.NestTail = nest-tail-branch
+kind-branch Kind.Component = component-branch
+kind-branch Kind.ConstructorDigit = constructor-digit-branch
+kind-branch Kind.DestructorDigit = destructor-digit-branch
+kind-branch Kind.Abbreviation = abbreviation-branch
+kind-branch Kind.Entity = entity-branch
+kind-branch Kind.TypeEntity = type-entity-branch
+kind-branch Kind.MaybeDiscriminator = discriminator-branch
+kind-branch Kind.DiscriminatorRest = discriminator-rest-branch
+kind-branch Kind.Anonymous = anonymous-branch
+kind-branch Kind.Type = type-branch
+kind-branch Kind.Plain = plain-branch
+kind-branch Kind.Item = item-branch
+kind-branch Kind.ItemButRef = parameter-branch
+kind-branch Kind.ItemAfterD = item-d-branch
+kind-branch Kind.AfterD = after-d-branch
+kind-branch Kind.Solid = solid-branch
+kind-branch Kind.MaybeCLinkage = c-linkage-branch
+kind-branch Kind.TypeAfterS = type-after-s-branch
+kind-branch Kind.SourceOrLocal = source-or-local-branch
+kind-branch Kind.FunctionRest = function-rest-branch
+kind-branch Kind.AfterR = after-r-branch
+kind-branch Kind.AfterO = after-o-branch
+kind-branch Kind.Items = items-branch
+kind-branch Kind.MaybeArguments = maybe-arguments-branch
+kind-branch Kind.Arguments = arguments-branch
+kind-branch Kind.ArgumentList = argument-list-branch
+kind-branch Kind.PackList = pack-list-branch
+kind-branch Kind.Address = address-branch
+kind-branch Kind.Literal = literal-branch
+kind-branch Kind.Bit = bit-branch
+kind-branch Kind.LiteralAfterD = literal-after-d-branch
+kind-branch Kind.MaybeZero = zero-branch
+kind-branch Kind.LiteralType = literal-type-branch
+kind-branch Kind.Operator = operator-branch
+kind-branch Kind.OperatorAfterN = operator-after-n-branch
+kind-branch Kind.OperatorAfterD = operator-after-d-branch
+kind-branch Kind.OperatorAfterA = operator-after-a-branch
+kind-branch Kind.OperatorAfterP = operator-after-p-branch
+kind-branch Kind.OperatorAfterC = operator-after-c-branch
+kind-branch Kind.OperatorAfterM = operator-after-m-branch
+kind-branch Kind.OperatorAfterR = operator-after-r-branch
+kind-branch Kind.OperatorAfterO = operator-after-o-branch
+kind-branch Kind.OperatorAfterE = operator-after-e-branch
+kind-branch Kind.OperatorAfterL = operator-after-l-branch
+kind-branch Kind.OperatorAfterS = operator-after-s-branch
+kind-branch Kind.OperatorAfterI = operator-after-i-branch
+kind-branch Kind.OperatorAfterG = operator-after-g-branch
+
+branch-read : (rule : Rule) (taken : List ℕ) (parts : Forest) → AllOf ShapeRead parts → ShapeRead (branch rule taken parts)
+branch-read rule taken parts all kind around at old v new front is e = kind-branch kind rule taken parts all around at old v new front is e
+
+pub shape-read : (t : Shape) → ShapeRead t
+shape-read = every-shape ShapeRead branch-read empty-read (λ t kind around at old v new front is e. absurd is)
+    (λ b kind around at old v new front is e. absurd is)
+
+-- what a symbol is read as fits
+pub symbol-read-fits : (shape : Shape) (t : Term) → IsReadFrom shape t → SymbolFits t
+symbol-read-fits = read-fits shape-read

@@ -1,0 +1,467 @@
+-- The components that names add or find, in each of their ways.
+use Rattle.std.proofs.Common.{◌≡◌, ℕ, ◌+◌, ◌⊎◌, inl, inr, length, List, [], ◌∷◌, ◌++◌, Option, Bool, true, false, refl, arith, sym, subst}
+use Rattle.std.specs.Prelude.{◌&&◌, codes}
+use Rattle.std.proofs.lemmas.Bool.{true≢false, false≢true}
+use Rattle.sym_spell.specs.Pressing as spell
+use Rattle.sym_spell.specs.Pressing.{◌and◌, text, nothing}
+use Rattle.cpp_grammar.specs.Term.{Term, symbol, function, object, special, thunk, guard, alone, in_std, within, instance, local}
+use Rattle.cpp_grammar.specs.Values.{Candidate, outermost, behind, Around}
+use Rattle.cpp_grammar.specs.Between.{after, inside}
+use Rattle.cpp_press_laws.specs.Texts.{name_letters}
+use Rattle.cpp_press_laws.specs.Components.{Spelling, ended, component}
+use Rattle.cpp_press_laws.specs.Pressing.{no_ways, type_ways, in_N_and_E, with_letters, name_ways, template_before, is_operator, is_encoding, is_one_piece, entity_text, local_text, encoding_ways, ways_of}
+use Rattle.cpp_press_laws.proofs.Components.Parts.{PrefixOr, Inside, Whole, prefix-whole}
+use Rattle.cpp_press_laws.proofs.Components.Complete.{Complete}
+use Rattle.cpp_press_laws.proofs.Fits.Fit.{Standing, Fitting, Behind, as_component, as_template, behind_bytes, one_piece, Slot, names_type, names_function, begins_name, Role, in_type, in_name_with, letters_of, names_in, fits_nowhere, type_fits, piece_fits, argument_fits, encoding_fits, fits_of, names_member, IsSpellableDiscriminator}
+use Rattle.cpp_press_laws.proofs.Components.Adding.{AddsParts, Adds, Either, both-added, fewer-added, behind-and, at-once, and-adds, whole-adds, letters-add, no-letters-add}
+use Rattle.cpp_press_laws.proofs.Components.AddedWays.{way_at, AtSlot, WaysAdd, in-component, reference-adds, found-and-adds, in-template, in-nested-template, component-at}
+
+-- ## Names
+
+-- under an encoding as a prefix nothing is spelled, and no prefix of it fits
+pub encoding-prefix : (e : Term) (n : ℕ) → is_encoding e ≡ true → (ways_of n e).as_prefix ≡ nothing
+unfolding is_encoding ways_of encoding_ways no_ways
+encoding-prefix (function name q ref returned parameters) n is = refl
+encoding-prefix (object name q ref) n is = refl
+encoding-prefix (special l type) n is = refl
+encoding-prefix (thunk kind e) n is = refl
+encoding-prefix (guard name q ref) n is = refl
+encoding-prefix (symbol e suffix) n is = absurd (false≢true is)
+encoding-prefix _ n is = absurd (false≢true is)
+
+pub no-encoding-fits : (e : Term) (around : Around) (allowed : Option ℕ) (place : ℕ) (cs : List Candidate) → is_encoding e ≡ true
+    → (fits_of e).as_prefix around allowed place cs → ⊥
+unfolding is_encoding fits_of encoding_fits fits_nowhere
+no-encoding-fits (function name q ref returned parameters) around allowed place cs is fits = fits
+no-encoding-fits (object name q ref) around allowed place cs is fits = fits
+no-encoding-fits (special l type) around allowed place cs is fits = fits
+no-encoding-fits (thunk kind e) around allowed place cs is fits = fits
+no-encoding-fits (guard name q ref) around allowed place cs is fits = fits
+no-encoding-fits (symbol e suffix) around allowed place cs is fits = absurd (false≢true is)
+no-encoding-fits _ around allowed place cs is fits = absurd (false≢true is)
+
+pub no-encoding-inside : (e x : Term) (inside : Type 0) → is_encoding e ≡ true → PrefixOr e inside x → ⊥
+unfolding is_encoding
+no-encoding-inside (function name q ref returned parameters) x inside is none = none
+no-encoding-inside (object name q ref) x inside is none = none
+no-encoding-inside (special l type) x inside is none = none
+no-encoding-inside (thunk kind e) x inside is none = none
+no-encoding-inside (guard name q ref) x inside is none = none
+no-encoding-inside (symbol e suffix) x inside is w = absurd (false≢true is)
+no-encoding-inside _ x inside is w = absurd (false≢true is)
+
+pub alone-add : (p : Term) → WaysAdd p (fits_of p) (λ n. ways_of n p) → WaysAdd (alone p) (fits_of (alone p)) (λ n. ways_of n (alone p))
+unfolding fits_of fits_nowhere ways_of name_ways no_ways
+alone-add p a = record {
+  as_type = λ slot around allowed. component-at slot around.encoding (alone p)
+      (as_component (alone p) (one_piece outermost (names_type p) (fits_of p).as_piece) around allowed)
+      (ways_of around.encoding (alone p)) (λ x w. w) (whole around allowed (names_type p)) (whole around allowed (names_type p));
+  as_prefix = λ around allowed. whole around allowed (begins_name p);
+  as_prefix_template = λ around allowed. whole around allowed (begins_name p);
+  between = λ around allowed place cs fits complete. absurd fits;
+  between_template = λ around allowed place cs fits complete. absurd fits;
+  as_entity = λ role around allowed place cs fits complete. absurd fits;
+  as_entity_template = λ around allowed place cs fits complete. absurd fits;
+  as_piece = λ around allowed place cs fits complete. absurd fits;
+  as_encoding = λ allowed n m place cs fits complete. absurd fits;
+  as_name = λ q ref around allowed. no-letters-add (name_letters q ref) around.encoding (Inside (alone p))
+      (one_piece outermost (names_function p) (fits_of p).as_piece around allowed) (ways_of around.encoding p).as_piece
+      (ways_of around.encoding p).as_piece (spelled around allowed (names_function p));
+  before = λ typed around allowed G arguments Q more. in-template around allowed (alone p)
+      (one_piece outermost (elim typed [ true ↦ names_type p | false ↦ names_function p ]) (fits_of p).as_piece) (λ n.
+      (ways_of n p).as_piece) G
+      arguments Q (spelled around allowed (elim typed [ true ↦ names_type p | false ↦ names_function p ])) more;
+  as_argument = λ in_pack around allowed. whole around allowed (names_type p);
+  as_parameters = λ slot other around allowed place cs fits complete. absurd fits;
+  as_more_parameters = λ slot other around allowed place cs fits complete. absurd fits;
+  as_elements = λ in_pack around allowed place cs fits complete. absurd fits;
+}
+  where
+    spelled : (around : Around) (allowed : Option ℕ) (may : Bool)
+        → Adds around.encoding (Inside p) (one_piece outermost may (fits_of p).as_piece around allowed) (ways_of around.encoding p).as_piece
+    spelled around allowed may place cs fits complete = a.as_piece around allowed place cs fits.2 complete
+
+    whole : (around : Around) (allowed : Option ℕ) (may : Bool)
+        → Adds around.encoding (Whole (alone p)) (as_component (alone p) (one_piece outermost may (fits_of p).as_piece) around allowed)
+        (component around.encoding (alone p) (ways_of around.encoding p).as_piece)
+    whole around allowed may = in-component around allowed (alone p) (one_piece outermost may (fits_of p).as_piece)
+        (ways_of around.encoding p).as_piece (spelled around allowed may)
+
+pub front-none : (s : Spelling) (n : ℕ) (own : Term) (G : Standing) (place : ℕ) (cs : List Candidate)
+    → Behind ((text [] and s) and ended n own) G place cs → Behind (s and ended n own) G place cs
+unfolding ended
+front-none s n own G place cs fits =
+    let same : place + 0 ≡ place = omega arith in
+    subst (λ q. G (place + length ((s q cs).bytes ++ [])) ((s q cs).components ++ record { tree = own; encoding = n } ∷ [])) same fits
+
+pub in-std-add : (p : Term) → WaysAdd p (fits_of p) (λ n. ways_of n p) → WaysAdd (in_std p) (fits_of (in_std p)) (λ n. ways_of n (in_std p))
+unfolding fits_of fits_nowhere ways_of name_ways no_ways entity_text is_one_piece in_N_and_E
+in-std-add p a = record {
+  as_type = λ slot around allowed. component-at slot around.encoding (in_std p) (as_component (in_std p) (behind_bytes (elim (is_operator p)
+      [ true ↦ codes "N" | false ↦ [] ]) std) around allowed) (ways_of around.encoding (in_std p)) (λ x w. w) (whole around allowed)
+      (whole around allowed);
+  as_prefix = λ around allowed. in-component around allowed (in_std p) std (spelling around.encoding) (spelled around allowed);
+  as_prefix_template = λ around allowed. in-component around allowed (in_std p) std (spelling around.encoding) (spelled around allowed);
+  between = spelled;
+  between_template = spelled;
+  as_entity = λ role around allowed place cs fits complete. spelled around allowed (place + length
+      (codes "N" ++ letters_of role)) cs fits complete;
+  as_entity_template = λ around allowed place cs fits complete. absurd fits;
+  as_piece = λ around allowed place cs fits complete. absurd fits;
+  as_encoding = λ allowed n m place cs fits complete. absurd fits;
+  as_name = λ q ref around allowed. letters-add (name_letters q ref) around.encoding (Inside (in_std p)) around allowed std std
+      (spelling around.encoding) (spelling around.encoding) (spelled around allowed) (spelled around allowed);
+  before = λ typed around allowed G arguments Q more. befores typed (is_operator p) around allowed G arguments Q more;
+  as_argument = λ in_pack around allowed. whole around allowed;
+  as_parameters = λ slot other around allowed place cs fits complete. absurd fits;
+  as_more_parameters = λ slot other around allowed place cs fits complete. absurd fits;
+  as_elements = λ in_pack around allowed place cs fits complete. absurd fits;
+}
+  where
+    std : Fitting
+    std around allowed place cs = (names_function p ≡ true) × (fits_of p).as_piece around allowed (place + 2) cs
+
+    spelling : ℕ → Spelling
+    spelling n = text (codes "St") and (ways_of n p).as_piece
+
+    typed_spelling : Bool → ℕ → Spelling
+    typed_spelling b n = elim b as (λ _. Spelling) [ true ↦ in_N_and_E [] (spelling n) | false ↦ spelling n ]
+
+    spelled : (around : Around) (allowed : Option ℕ) → Adds around.encoding (Inside p) (std around allowed) (spelling around.encoding)
+    spelled around allowed place cs fits complete = a.as_piece around allowed (place + 2) cs fits.1 complete
+
+    typed : (b : Bool) (around : Around) (allowed : Option ℕ)
+        → Adds around.encoding (Inside p) (behind_bytes (elim b [ true ↦ codes "N" | false ↦ [] ]) std around allowed)
+        (typed_spelling b around.encoding)
+    typed true around allowed place cs fits complete = spelled around allowed (place + 1) cs fits complete
+    typed false around allowed place cs fits complete = spelled around allowed place cs (at-once (std around allowed) place cs fits) complete
+
+    whole : (around : Around) (allowed : Option ℕ) → Adds around.encoding (Whole (in_std p)) (as_component (in_std p) (behind_bytes
+        (elim (is_operator p) [ true ↦ codes "N" | false ↦ [] ]) std) around allowed)
+        (component around.encoding (in_std p) (typed_spelling (is_operator p) around.encoding))
+    whole around allowed = in-component around allowed (in_std p) (behind_bytes (elim (is_operator p) [ true ↦ codes "N" | false ↦ [] ]) std)
+        (typed_spelling (is_operator p) around.encoding) (typed (is_operator p) around allowed)
+
+    bare : (spelled_at : Fitting) (around : Around) (allowed : Option ℕ) (G : Fitting) (arguments : Spelling) (Q : Term → Type 0)
+        → Adds around.encoding (Inside p) (spelled_at around allowed) (spelling around.encoding)
+        → Adds around.encoding Q (G around allowed) arguments
+        → Adds around.encoding (Either (Whole (in_std p)) Q) (as_template (in_std p) spelled_at
+        (λ n. text [] and spelling n) G around allowed)
+        (template_before around.encoding (in_std p) false (spelling around.encoding) arguments)
+    bare spelled_at around allowed G arguments Q one more place cs fits complete =
+        in-template around allowed (in_std p) spelled_at spelling G arguments Q one more place cs (
+          fits.0,
+          fits.1,
+          λ none. (
+            (fits.2 none).0,
+            front-none (spelling around.encoding) around.encoding (in_std p) (G around allowed) place cs
+                (fits.2 none).1,
+          ),
+        ) complete
+
+    befores : (typed_ b : Bool) (around : Around) (allowed : Option ℕ) (G : Fitting) (arguments : Spelling) (Q : Term → Type 0)
+        → Adds around.encoding Q (G around allowed) arguments
+        → Adds around.encoding (Either (Whole (in_std p)) Q)
+        (as_template (in_std p) (elim typed_ [ true ↦ behind_bytes (elim b [ true ↦ codes "N" | false ↦ [] ]) std | false ↦ std ])
+        (λ n. text (elim (typed_ && b) [ true ↦ codes "N" | false ↦ [] ]) and text (codes "St") and (ways_of n p).as_piece) G around allowed)
+        (template_before around.encoding (in_std p) (typed_ && b) (spelling around.encoding) arguments)
+    befores false b around allowed G arguments Q more = bare std around allowed G arguments Q (spelled around allowed) more
+    befores true false around allowed G arguments Q more =
+        bare (behind_bytes [] std) around allowed G arguments Q (typed false around allowed) more
+    befores true true around allowed G arguments Q more =
+        in-nested-template around allowed (in_std p) std spelling G arguments Q (spelled around allowed) more
+
+-- the one form of an entity or the other
+pub entity-adds : (b : Bool) (n : ℕ) (P : Term → Type 0) (letters : List ℕ) (between : Spelling) (place : ℕ) (cs : List Candidate)
+    → ((b ≡ true) × AddsParts n P cs (between place cs).components)
+    ⊎ ((b ≡ false) × AddsParts n P cs (between (place + length (codes "N" ++ letters)) cs).components)
+    → AddsParts n P cs ((elim b as (λ _. Spelling) [ true ↦ between | false ↦ in_N_and_E letters between ]) place cs).components
+unfolding in_N_and_E
+entity-adds true n P letters between place cs (inl one) = one.1
+entity-adds true n P letters between place cs (inr other) = absurd (true≢false other.0)
+entity-adds false n P letters between place cs (inl one) = absurd (false≢true one.0)
+entity-adds false n P letters between place cs (inr other) = other.1
+
+pub is-not : (b : Bool) → (b ≡ true → ⊥) → b ≡ false
+is-not true never = absurd (never refl)
+is-not false never = refl
+
+pub at-none : (G : Standing) (place : ℕ) (cs : List Candidate) → G place cs → G (place + 0) cs
+at-none G place cs fits = let same : place ≡ place + 0 = omega arith in subst (λ p. G p cs) same fits
+
+-- a name that stands between N and E with letters or without
+pub nested-letters-add : (letters : List ℕ) (n : ℕ) (P : Term → Type 0) (F : Standing) (between : Spelling) → Adds n P F between
+    → Adds n P (λ place cs. F (place + length (codes "N" ++ letters)) cs) (with_letters letters (in_N_and_E [] between) between)
+unfolding with_letters in_N_and_E
+nested-letters-add [] n P F between one place cs fits complete = one (place + 1) cs fits complete
+nested-letters-add (l ∷ ls) n P F between one place cs fits complete = one (place + length (codes "N" ++ l ∷ ls)) cs fits complete
+
+pub within-add : (prefix p : Term) → WaysAdd prefix (fits_of prefix) (λ n. ways_of n prefix) → WaysAdd p (fits_of p) (λ n. ways_of n p)
+    → WaysAdd (within prefix p) (fits_of (within prefix p)) (λ n. ways_of n (within prefix p))
+unfolding fits_of fits_nowhere ways_of name_ways no_ways entity_text is_one_piece after in_N_and_E
+within-add prefix p a b = record {
+  as_type = λ slot around allowed. component-at slot around.encoding (within prefix p) (as_component (within prefix p) (behind_bytes
+      (codes "N") joined)
+      around allowed) (ways_of around.encoding (within prefix p)) (λ x w. w) (whole around allowed) (whole around allowed);
+  as_prefix = λ around allowed. in-component around allowed (within prefix p) begun_ (spelling around.encoding) (begins around allowed);
+  as_prefix_template = λ around allowed. in-component around allowed (within prefix p) begun_ (spelling around.encoding)
+      (begins around allowed);
+  between = joins;
+  between_template = joins;
+  as_entity = λ role around allowed place cs fits complete. entity-adds (is_encoding prefix) around.encoding (Inside (within prefix p))
+      (letters_of role)
+      (spelling around.encoding) place cs (elim fits [
+        | inl one ↦ inl (one.1.0, pieces (names_in role p) around allowed place cs one.1 complete)
+        | inr other ↦ inr (
+          is-not (is_encoding prefix) (λ is. no-encoding-fits prefix around allowed (place + length
+              (codes "N" ++ letters_of role)) cs is other.0),
+          joins around allowed (place + length (codes "N" ++ letters_of role)) cs other complete,
+        )
+      ]);
+  as_entity_template = pieces (begins_name p);
+  as_piece = λ around allowed place cs fits complete. absurd fits;
+  as_encoding = λ allowed n m place cs fits complete. absurd fits;
+  as_name = λ q ref around allowed. nested-letters-add (name_letters q ref) around.encoding (Inside (within prefix p))
+      (joined around allowed)
+      (spelling around.encoding) (joins around allowed);
+  before = λ typed around allowed G arguments Q more. in-nested-template around allowed (within prefix p) joined spelling G arguments Q
+      (joins around allowed) more;
+  as_argument = λ in_pack around allowed. whole around allowed;
+  as_parameters = λ slot other around allowed place cs fits complete. absurd fits;
+  as_more_parameters = λ slot other around allowed place cs fits complete. absurd fits;
+  as_elements = λ in_pack around allowed place cs fits complete. absurd fits;
+}
+  where
+    joined : Fitting
+    joined around allowed place cs =
+        (fits_of prefix).as_prefix around allowed place cs
+        × (names_member p ≡ true)
+        × Behind (ways_of around.encoding prefix).as_prefix ((fits_of p).as_piece (after prefix true around) allowed) place cs
+
+    local_piece : Bool → Fitting
+    local_piece may around allowed place cs =
+        (is_encoding prefix ≡ true) × one_piece (behind prefix true) may (fits_of p).as_piece around allowed place cs
+
+    begun_ : Fitting
+    begun_ around allowed place cs = local_piece (begins_name p) around allowed place cs ⊎ joined around allowed place cs
+
+    spelling : ℕ → Spelling
+    spelling n = (ways_of n prefix).as_prefix and (ways_of n p).as_piece
+
+    joins : (around : Around) (allowed : Option ℕ) → Adds around.encoding (Inside (within prefix p)) (joined around allowed)
+        (spelling around.encoding)
+    joins around allowed place cs fits complete =
+        let f : spell.Pressed Candidate = (ways_of around.encoding prefix).as_prefix place cs in
+        let later : ℕ = place + length f.bytes in
+        let one = a.as_prefix around allowed place cs fits.0 complete in
+        fewer-added around.encoding (Either (Whole prefix) (Inside p)) (Inside (within prefix p)) cs
+        (spelling around.encoding place cs).components
+        (λ x i. elim i [ inl w ↦ inl (prefix-whole prefix x (Inside prefix x) w) | inr j ↦ inr j ])
+        (both-added around.encoding (Whole prefix) (Inside p) cs f.components (spelling around.encoding place cs).components one
+        (b.as_piece (after prefix true around) allowed later f.components fits.2 one.complete))
+
+    pieces : (may : Bool) (around : Around) (allowed : Option ℕ)
+        → Adds around.encoding (Inside (within prefix p)) (local_piece may around allowed) (spelling around.encoding)
+    pieces may around allowed place cs fits complete =
+        let n : ℕ = around.encoding in
+        let piece : Spelling = (ways_of n p).as_piece in
+        let one = b.as_piece around allowed (place + 0) cs (at-none ((fits_of p).as_piece around allowed) place cs fits.1.2) complete in
+        let more = fewer-added n (Inside p) (Inside (within prefix p)) cs (piece (place + 0) cs).components
+        (λ x i. elim i [ inl w ↦ absurd (no-encoding-inside prefix x (Inside prefix x) fits.0 w) | inr j ↦ j ]) one in
+        subst (λ s. AddsParts n (Inside (within prefix p)) cs ((s and piece) place cs).components) (sym
+        (encoding-prefix prefix n fits.0)) more
+
+    begins : (around : Around) (allowed : Option ℕ) → Adds around.encoding (Inside (within prefix p)) (begun_ around allowed)
+        (spelling around.encoding)
+    begins around allowed place cs (inl one) complete = pieces (begins_name p) around allowed place cs one complete
+    begins around allowed place cs (inr other) complete = joins around allowed place cs other complete
+
+    whole : (around : Around) (allowed : Option ℕ) → Adds around.encoding (Whole (within prefix p)) (as_component (within prefix p)
+        (behind_bytes (codes "N") joined) around allowed) (component around.encoding (within prefix p) (in_N_and_E []
+        (spelling around.encoding)))
+    whole around allowed =
+        in-component around allowed (within prefix p) (behind_bytes (codes "N") joined) (in_N_and_E [] (spelling around.encoding))
+        (λ place cs fits complete. joins around allowed (place + 1) cs fits complete)
+
+pub entity-piece : (template arguments : Term) (around : Around) (allowed : Option ℕ) (place : ℕ) (cs : List Candidate)
+    → (fits_of template).as_entity_template around allowed place cs → is_one_piece (instance template arguments) ≡ true
+unfolding fits_of fits_nowhere type_fits piece_fits argument_fits encoding_fits is_one_piece
+entity-piece (within prefix p) arguments around allowed place cs fits = fits.0
+entity-piece (symbol e suffix) arguments around allowed place cs fits = absurd fits
+entity-piece _ arguments around allowed place cs fits = absurd fits
+
+pub nest-piece : (template arguments : Term) (around : Around) (allowed : Option ℕ) (place : ℕ) (cs : List Candidate)
+    → (fits_of template).between_template around allowed place cs → is_one_piece (instance template arguments) ≡ false
+unfolding fits_of is_one_piece
+nest-piece (within prefix p) arguments around allowed place cs fits =
+    is-not (is_encoding prefix) (λ is. no-encoding-fits prefix around allowed place cs is fits.0)
+nest-piece (symbol e suffix) arguments around allowed place cs fits = refl
+nest-piece _ arguments around allowed place cs fits = refl
+
+pub instance-add : (template arguments : Term) → WaysAdd template (fits_of template) (λ n. ways_of n template)
+    → WaysAdd arguments (fits_of arguments) (λ n. ways_of n arguments)
+    → WaysAdd (instance template arguments) (fits_of (instance template arguments)) (λ n. ways_of n (instance template arguments))
+unfolding fits_of fits_nowhere ways_of name_ways no_ways entity_text inside
+instance-add template arguments a b = record {
+  as_type = λ slot around allowed. component-at slot around.encoding own (as_component own
+      ((fits_of template).before true elements) around allowed)
+      (ways_of around.encoding own) (λ x w. w) (whole around allowed) (whole around allowed);
+  as_prefix = λ around allowed. in-component around allowed own prefixed
+      ((ways_of around.encoding template).as_prefix and listed around.encoding) (prefixes around allowed);
+  as_prefix_template = λ around allowed. reference-adds around allowed own
+      ((ways_of around.encoding template).as_prefix and listed around.encoding);
+  between = joins;
+  between_template = λ around allowed place cs fits complete. absurd fits;
+  as_entity = λ role around allowed place cs fits complete. entity-adds (is_one_piece own) around.encoding (Inside own) (letters_of role)
+      (spelling around.encoding) place cs (elim fits [
+        | inl one ↦ inl (
+          entity-piece template arguments around allowed place cs one.1,
+          pieces around allowed place cs one.1 one.2 complete,
+        )
+        | inr other ↦ inr (
+          nest-piece template arguments around allowed (place + length (codes "N" ++ letters_of role)) cs other.0,
+          joins around allowed (place + length (codes "N" ++ letters_of role)) cs other complete,
+        )
+      ]);
+  as_entity_template = λ around allowed place cs fits complete. absurd fits;
+  as_piece = λ around allowed place cs fits complete. absurd fits;
+  as_encoding = λ allowed n m place cs fits complete. absurd fits;
+  as_name = λ q ref around allowed. letters-add (name_letters q ref) around.encoding (Inside own) around allowed
+      ((fits_of template).before false elements) joined ((ways_of around.encoding template).before false (listed around.encoding))
+      (spelling around.encoding) (befores false around allowed) (joins around allowed);
+  before = λ typed around allowed G more_arguments Q more. found-and-adds around allowed own (λ n. text []) G nothing more_arguments Q more;
+  as_argument = λ in_pack around allowed. whole around allowed;
+  as_parameters = λ slot other around allowed place cs fits complete. absurd fits;
+  as_more_parameters = λ slot other around allowed place cs fits complete. absurd fits;
+  as_elements = λ in_pack around allowed place cs fits complete. absurd fits;
+}
+  where
+    own : Term
+    own = instance template arguments
+
+    elements : Fitting
+    elements around allowed place cs = (fits_of arguments).as_elements false (inside around) allowed (place + 1) cs
+
+    listed : ℕ → Spelling
+    listed n = text (codes "I") and (ways_of n arguments).as_elements and text (codes "E")
+
+    elements-add : (around : Around) (allowed : Option ℕ)
+        → Adds around.encoding (Inside arguments) (elements around allowed) (listed around.encoding)
+    elements-add around allowed place cs fits complete = b.as_elements false (inside around) allowed (place + 1) cs fits complete
+
+    joined : Fitting
+    joined around allowed place cs =
+        (fits_of template).between_template around allowed place cs
+        × Behind ((ways_of around.encoding template).between_N_and_E and ended around.encoding template) (elements around allowed) place cs
+
+    spelling : ℕ → Spelling
+    spelling n = (ways_of n template).between_N_and_E and ended n template and listed n
+
+    joins : (around : Around) (allowed : Option ℕ) → Adds around.encoding (Inside own) (joined around allowed) (spelling around.encoding)
+    joins around allowed place cs fits complete =
+        let n : ℕ = around.encoding in
+        let between : Spelling = (ways_of n template).between_N_and_E in
+        whole-adds n template (Inside arguments) ((fits_of template).between_template around allowed) (elements around allowed) between
+        (listed n)
+        (a.between_template around allowed) (elements-add around allowed) place cs fits.0
+        (behind-and between (ended n template) (elements around allowed) place cs fits.1) complete
+
+    pieces : (around : Around) (allowed : Option ℕ) (place : ℕ) (cs : List Candidate)
+        → (fits_of template).as_entity_template around allowed place cs
+        → Behind ((ways_of around.encoding template).between_N_and_E and ended around.encoding template) (elements around allowed) place cs
+        → Complete cs → AddsParts around.encoding (Inside own) cs (spelling around.encoding place cs).components
+    pieces around allowed place cs fits more complete =
+        let n : ℕ = around.encoding in
+        let between : Spelling = (ways_of n template).between_N_and_E in
+        whole-adds n template (Inside arguments) ((fits_of template).as_entity_template around allowed)
+        (elements around allowed) between (listed n)
+        (a.as_entity_template around allowed) (elements-add around allowed) place cs fits
+        (behind-and between (ended n template) (elements around allowed) place cs more) complete
+
+    befores : (typed : Bool) (around : Around) (allowed : Option ℕ)
+        → Adds around.encoding (Inside own) ((fits_of template).before typed elements around allowed)
+        ((ways_of around.encoding template).before typed (listed around.encoding))
+    befores typed around allowed =
+        a.before typed around allowed elements (listed around.encoding) (Inside arguments) (elements-add around allowed)
+
+    prefixed : Fitting
+    prefixed around allowed place cs =
+        (fits_of template).as_prefix_template around allowed place cs
+        × Behind (ways_of around.encoding template).as_prefix (elements around allowed) place cs
+
+    prefixes : (around : Around) (allowed : Option ℕ) → Adds around.encoding (Inside own) (prefixed around allowed)
+        ((ways_of around.encoding template).as_prefix and listed around.encoding)
+    prefixes around allowed place cs fits complete =
+        and-adds around.encoding (Whole template) (Inside arguments) ((fits_of template).as_prefix_template around allowed)
+        (elements around allowed) (ways_of around.encoding template).as_prefix (listed around.encoding)
+        (a.as_prefix_template around allowed) (elements-add around allowed) place cs (fits.0, fits.1) complete
+
+    whole : (around : Around) (allowed : Option ℕ) → Adds around.encoding (Whole own) (as_component own
+        ((fits_of template).before true elements)
+        around allowed) (component around.encoding own ((ways_of around.encoding template).before true (listed around.encoding)))
+    whole around allowed = in-component around allowed own ((fits_of template).before true elements)
+        ((ways_of around.encoding template).before true (listed around.encoding)) (befores true around allowed)
+
+pub local-add : (e entity : Term) (discriminator : Option (List ℕ)) → WaysAdd e (fits_of e) (λ n. ways_of n e)
+    → WaysAdd entity (fits_of entity) (λ n. ways_of n entity)
+    → WaysAdd (local e entity discriminator) (fits_of (local e entity discriminator)) (λ n. ways_of n (local e entity discriminator))
+unfolding fits_of fits_nowhere type_fits ways_of type_ways no_ways local_text after letters_of
+local-add e entity discriminator a b = record {
+  as_type = λ slot around allowed. component-slots slot around allowed;
+  as_prefix = λ around allowed. reference-adds around allowed own (spelling in_type around.encoding);
+  as_prefix_template = λ around allowed. reference-adds around allowed own (spelling in_type around.encoding);
+  between = λ around allowed place cs fits complete. absurd fits;
+  between_template = λ around allowed place cs fits complete. absurd fits;
+  as_entity = λ role around allowed place cs fits complete. absurd fits;
+  as_entity_template = λ around allowed place cs fits complete. absurd fits;
+  as_piece = λ around allowed place cs fits complete. absurd fits;
+  as_encoding = λ allowed n m place cs fits complete. absurd fits;
+  as_name = λ q ref around allowed. spelled-adds (in_name_with q ref) around allowed;
+  before = λ typed around allowed G arguments Q more. found-and-adds around allowed own (λ n. text []) G
+      (spelling in_type around.encoding) arguments Q
+      more;
+  as_argument = λ in_pack around allowed. whole around allowed;
+  as_parameters = λ slot other around allowed place cs fits complete. absurd fits;
+  as_more_parameters = λ slot other around allowed place cs fits complete. absurd fits;
+  as_elements = λ in_pack around allowed place cs fits complete. absurd fits;
+}
+  where
+    own : Term
+    own = local e entity discriminator
+
+    spelled : Role → Fitting
+    spelled role around allowed place cs =
+        (fits_of e).as_encoding allowed (place + 1) cs
+        × Behind (text (codes "Z") and (ways_of around.encoding e).as_encoding and text (codes "E"))
+        ((fits_of entity).as_entity role (after e true around) allowed) place cs
+        × IsSpellableDiscriminator discriminator
+
+    spelling : Role → ℕ → Spelling
+    spelling role n = local_text (ways_of n e).as_encoding entity (ways_of n entity).between_N_and_E discriminator (letters_of role)
+
+    spelled-adds : (role : Role) (around : Around) (allowed : Option ℕ)
+        → Adds around.encoding (Inside own) (spelled role around allowed) (spelling role around.encoding)
+    spelled-adds role around allowed place cs fits complete =
+        let n : ℕ = around.encoding in
+        let scope : Spelling = (ways_of n e).as_encoding in
+        let f : spell.Pressed Candidate = scope (place + 1) cs in
+        let inner : Around = after e true around in
+        let G : Standing = (fits_of entity).as_entity role inner allowed in
+        let later : ℕ = place + 1 + length f.bytes + 1 in
+        let one = a.as_encoding allowed n n (place + 1) cs fits.0 complete in
+        let behind_ : G later f.components = behind-and scope (text (codes "E")) G (place + 1) cs
+        (behind-and (text (codes "Z")) (scope and text (codes "E")) G place cs fits.1) in
+        fewer-added n (Either (Inside e) (Inside entity)) (Inside own) cs (spelling role n place cs).components
+        (λ x i. elim i [ inl s ↦ inl s.1 | inr j ↦ inr j ])
+        (both-added n (Inside e) (Inside entity) cs f.components (spelling role n place cs).components one
+        (b.as_entity role inner allowed later f.components behind_ one.complete))
+
+    whole : (around : Around) (allowed : Option ℕ) → Adds around.encoding (Whole own) (as_component own (spelled in_type) around allowed)
+        (component around.encoding own (spelling in_type around.encoding))
+    whole around allowed = in-component around allowed own (spelled in_type) (spelling in_type around.encoding)
+        (spelled-adds in_type around allowed)
+
+    component-slots : (slot : Slot) (around : Around) (allowed : Option ℕ) → Adds around.encoding (AtSlot slot own)
+        (as_component own (spelled in_type) around allowed) (way_at slot (ways_of around.encoding own))
+    component-slots slot around allowed = component-at slot around.encoding own (as_component own (spelled in_type) around allowed)
+        (ways_of around.encoding own) (λ x w. w) (whole around allowed) (whole around allowed)

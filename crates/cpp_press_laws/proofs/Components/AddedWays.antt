@@ -1,0 +1,265 @@
+-- What a tree that fits adds or finds in each of its ways, by sorts of trees.
+use Rattle.std.proofs.Common.{◌≡◌, ℕ, ◌+◌, inl, inr, length, List, [], ◌++◌, Option, Some, None, Bool, true, false, refl}
+use Rattle.std.specs.Prelude.{codes}
+use Rattle.sym_spell.specs.Pressing as spell
+use Rattle.sym_spell.specs.Pressing.{◌and◌, text}
+use Rattle.cpp_grammar.specs.Term.{Qualifiers, RefQualifier, Term}
+use Rattle.cpp_grammar.specs.Values.{Candidate, Around}
+use Rattle.cpp_press_laws.specs.Texts.{name_letters}
+use Rattle.cpp_press_laws.specs.Components.{Spelling, first_equal, reference, ended, spelled_out, component}
+use Rattle.cpp_press_laws.specs.Pressing.{Ways, no_ways, type_ways, template_before, entity_text, begun, encoding_ways, piece_ways, argument_ways}
+use Rattle.cpp_press_laws.proofs.Components.Parts.{IsComponent, Shut, Inside, Whole, Unqualified}
+use Rattle.cpp_press_laws.proofs.Components.KnownTrees.{In}
+use Rattle.cpp_press_laws.proofs.Components.Complete.{Complete}
+use Rattle.cpp_press_laws.proofs.Fits.Fit.{Standing, Fitting, as_component, as_reference, as_template, behind_bytes, Slot, any_type, bare_type, item_type, parameter_type, literal_type, Role, letters_of, Fits, nowhere, fits_nowhere, type_fits, piece_fits, argument_fits, encoding_fits}
+use Rattle.cpp_press_laws.proofs.Components.Adding.{AddsParts, Adds, Either, No, both-added, fewer-added, tree-found, outside-added, text-adds, component-adds, template-adds, nested-template-adds}
+
+-- right under qualifiers a type has a way of its own
+unfoldable pub way_at : Slot → Ways → Spelling
+way_at bare_type w = w.under_qualifiers
+way_at _ w = w.as_type
+
+abbrev pub AtSlot : Slot → Term → (x : Term) → Type 0
+AtSlot bare_type t x = Unqualified t x
+AtSlot _ t x = Whole t x
+
+-- no item of a list stands right under qualifiers
+abbrev pub IsNotBare : Slot → Type 0
+IsNotBare bare_type = ⊥
+IsNotBare _ = Unit {0}
+
+-- what a tree adds or finds in each of its ways, where it fits
+pub record WaysAdd (t : Term) (f : Fits) (w : ℕ → Ways) : Type 1 where
+  pub as_type : (slot : Slot) (around : Around) (allowed : Option ℕ)
+      → Adds around.encoding (AtSlot slot t) (f.as_type slot around allowed) (way_at slot (w around.encoding))
+  pub as_prefix : (around : Around) (allowed : Option ℕ)
+      → Adds around.encoding (Whole t) (f.as_prefix around allowed) (w around.encoding).as_prefix
+  pub as_prefix_template : (around : Around) (allowed : Option ℕ)
+      → Adds around.encoding (Whole t) (f.as_prefix_template around allowed) (w around.encoding).as_prefix
+  pub between : (around : Around) (allowed : Option ℕ)
+      → Adds around.encoding (Inside t) (f.between around allowed) (w around.encoding).between_N_and_E
+  pub between_template : (around : Around) (allowed : Option ℕ)
+      → Adds around.encoding (Inside t) (f.between_template around allowed) (w around.encoding).between_N_and_E
+  pub as_entity : (role : Role) (around : Around) (allowed : Option ℕ)
+      → Adds around.encoding (Inside t) (f.as_entity role around allowed) (entity_text t (letters_of role)
+      (w around.encoding).between_N_and_E)
+  pub as_entity_template : (around : Around) (allowed : Option ℕ)
+      → Adds around.encoding (Inside t) (f.as_entity_template around allowed) (w around.encoding).between_N_and_E
+  pub as_piece : (around : Around) (allowed : Option ℕ)
+      → Adds around.encoding (Inside t) (f.as_piece around allowed) (w around.encoding).as_piece
+  pub as_encoding : (allowed : Option ℕ) (n m : ℕ) → Adds m (Inside t) (f.as_encoding allowed) (w n).as_encoding
+  pub as_name : (q : Qualifiers) (ref : RefQualifier) (around : Around) (allowed : Option ℕ)
+      → Adds around.encoding (Inside t) (f.as_name q ref around allowed) ((w around.encoding).as_name (name_letters q ref))
+  pub before : (typed : Bool) (around : Around) (allowed : Option ℕ) (G : Fitting) (arguments : Spelling) (Q : Term → Type 0)
+      → Adds around.encoding Q (G around allowed) arguments
+      → Adds around.encoding (Either (Whole t) Q) (f.before typed G around allowed) ((w around.encoding).before typed arguments)
+  pub as_argument : (in_pack : Bool) (around : Around) (allowed : Option ℕ)
+      → Adds around.encoding (Whole t) (f.as_argument in_pack around allowed) (w around.encoding).as_argument
+  pub as_parameters : (slot : Slot) → IsNotBare slot → (around : Around) (allowed : Option ℕ)
+      → Adds around.encoding (Inside t) (f.as_parameters slot around allowed) (w around.encoding).as_parameters
+  pub as_more_parameters : (slot : Slot) → IsNotBare slot → (around : Around) (allowed : Option ℕ)
+      → Adds around.encoding (Inside t) (f.as_more_parameters slot around allowed) (w around.encoding).as_more_parameters
+  pub as_elements : (in_pack : Bool) (around : Around) (allowed : Option ℕ)
+      → Adds around.encoding (Inside t) (f.as_elements in_pack around allowed) (w around.encoding).as_elements
+
+-- ## Parts
+
+-- a component that fits
+pub in-component : (around : Around) (allowed : Option ℕ) (own : Term) (spelled : Fitting) (s : Spelling)
+    → Adds around.encoding (Inside own) (spelled around allowed) s
+    → Adds around.encoding (Whole own) (as_component own spelled around allowed) (component around.encoding own s)
+in-component around allowed own spelled s one place cs fits complete =
+    component-adds around.encoding own (spelled around allowed) s one place cs fits.1 complete
+
+pub nowhere-adds : (n : ℕ) (P : Term → Type 0) (s : Spelling) → Adds n P (λ place cs. ⊥) s
+nowhere-adds n P s place cs fits complete = absurd fits
+
+pub reference-adds : (around : Around) (allowed : Option ℕ) (own : Term) (s : Spelling)
+    → Adds around.encoding (Whole own) (as_reference own around allowed) (component around.encoding own s)
+reference-adds around allowed own s =
+    in-component around allowed own (λ around allowed place cs. ⊥) s (nowhere-adds around.encoding (Inside own) s)
+
+-- fewer trees
+pub fewer-adds : (n : ℕ) (P Q : Term → Type 0) (F : Standing) (s : Spelling) → In Q P → Adds n P F s → Adds n Q F s
+fewer-adds n P Q F s more one place cs fits complete = fewer-added n P Q cs (s place cs).components more (one place cs fits complete)
+
+-- a spelling that adds nothing of a tree in which nothing is
+pub leaf-adds : (n : ℕ) (P : Term → Type 0) (F : Standing) (bytes : List ℕ) → In P No → Adds n P F (text bytes)
+leaf-adds n P F bytes none = fewer-adds n No P F (text bytes) none (text-adds n F bytes)
+
+pub no-whole : (t : Term) → (IsComponent t → ⊥) → In (Inside t) No → In (Whole t) No
+no-whole t never none x (inl same) = never same.0
+no-whole t never none x (inr i) = none x i
+
+abbrev followed_by : Spelling → (place : ℕ) → spell.Pressed Candidate → spell.Pressed Candidate
+followed_by rest place w =
+    let g = rest (place + length w.bytes) w.components in record { bytes = w.bytes ++ g.bytes; components = g.components }
+
+-- a template name that stands before, and its arguments
+pub found-and-adds : (around : Around) (allowed : Option ℕ) (own : Term) (front : ℕ → Spelling) (G : Fitting) (s arguments : Spelling)
+    (Q : Term → Type 0) → Adds around.encoding Q (G around allowed) arguments
+    → Adds around.encoding (Either (Whole own) Q) (as_template own nowhere front G around allowed)
+    (component around.encoding own s and arguments)
+unfolding component reference spelled_out ended
+found-and-adds around allowed own front G s arguments Q more place cs fits complete = go (first_equal around.encoding own 0 cs) refl
+  where
+    go : (o : Option ℕ) → first_equal around.encoding own 0 cs ≡ o
+        → AddsParts around.encoding (Either (Whole own) Q) cs (followed_by arguments place (elim o as (λ _. spell.Pressed Candidate)
+        [ Some number ↦ reference number place cs | None ↦ spelled_out around.encoding own s place cs ])).components
+    go (Some number) is =
+        let r : spell.Pressed Candidate = reference number place cs in
+        both-added around.encoding (Whole own) Q cs cs (arguments (place + length r.bytes) cs).components
+        (tree-found around.encoding number own cs is complete)
+        (more (place + length r.bytes) cs (fits.1 number is) complete)
+    go None is = absurd (fits.2 is).0
+
+pub in-template : (around : Around) (allowed : Option ℕ) (own : Term) (spelled : Fitting) (between : ℕ → Spelling) (G : Fitting)
+    (arguments : Spelling) (Q : Term → Type 0) → Adds around.encoding (Inside own) (spelled around allowed) (between around.encoding)
+    → Adds around.encoding Q (G around allowed) arguments
+    → Adds around.encoding (Either (Whole own) Q) (as_template own spelled between G around allowed)
+    (template_before around.encoding own false (between around.encoding) arguments)
+in-template around allowed own spelled between G arguments Q one more place cs fits complete =
+    template-adds around.encoding own Q (spelled around allowed) (G around allowed) (between around.encoding) arguments one more place cs
+    (fits.1, fits.2) complete
+
+pub in-nested-template : (around : Around) (allowed : Option ℕ) (own : Term) (spelled : Fitting) (between : ℕ → Spelling) (G : Fitting)
+    (arguments : Spelling) (Q : Term → Type 0) → Adds around.encoding (Inside own) (spelled around allowed) (between around.encoding)
+    → Adds around.encoding Q (G around allowed) arguments
+    → Adds around.encoding (Either (Whole own) Q) (as_template own (behind_bytes (codes "N") spelled) (λ n. text
+    (codes "N") and between n) G around allowed)
+    (template_before around.encoding own true (between around.encoding) arguments)
+in-nested-template around allowed own spelled between G arguments Q one more place cs fits complete =
+    nested-template-adds around.encoding own Q (spelled around allowed) (G around allowed)
+    (between around.encoding) arguments one more place cs
+    (fits.1, fits.2) complete
+
+-- ## The ways of each sort
+
+pub component-at : (slot : Slot) (n : ℕ) (t : Term) (F : Standing) (w : Ways) → In (Unqualified t) (Whole t) → Adds n (Whole t) F w.as_type
+    → Adds n (Whole t) F w.under_qualifiers → Adds n (AtSlot slot t) F (way_at slot w)
+unfolding way_at
+component-at any_type n t F w same one other = one
+component-at bare_type n t F w same one other = fewer-adds n (Whole t) (Unqualified t) F w.under_qualifiers same other
+component-at item_type n t F w same one other = one
+component-at parameter_type n t F w same one other = one
+component-at literal_type n t F w same one other = one
+
+pub type-ways-add : (t : Term) (spelled : Slot → Fitting) (s : ℕ → Spelling) → In (Unqualified t) (Whole t)
+    → ((slot : Slot) (around : Around) (allowed : Option ℕ)
+    → Adds around.encoding (Inside t) (spelled slot around allowed) (s around.encoding))
+    → WaysAdd t (type_fits t spelled) (λ n. type_ways (component n t (s n)))
+unfolding type_fits fits_nowhere type_ways no_ways
+type-ways-add t spelled s same one = record {
+  as_type = λ slot around allowed. component-at slot around.encoding t (as_component t (spelled slot) around allowed)
+      (type_ways (component around.encoding t (s around.encoding))) same
+      (in-component around allowed t (spelled slot) (s around.encoding) (one slot around allowed))
+      (in-component around allowed t (spelled slot) (s around.encoding) (one slot around allowed));
+  as_prefix = λ around allowed. reference-adds around allowed t (s around.encoding);
+  as_prefix_template = λ around allowed. reference-adds around allowed t (s around.encoding);
+  between = λ around allowed place cs fits complete. absurd fits;
+  between_template = λ around allowed place cs fits complete. absurd fits;
+  as_entity = λ role around allowed place cs fits complete. absurd fits;
+  as_entity_template = λ around allowed place cs fits complete. absurd fits;
+  as_piece = λ around allowed place cs fits complete. absurd fits;
+  as_encoding = λ allowed n m place cs fits complete. absurd fits;
+  as_name = λ q ref around allowed place cs fits complete. absurd fits;
+  before = λ typed around allowed G arguments Q more. found-and-adds around allowed t (λ n. text []) G (s around.encoding) arguments Q more;
+  as_argument = λ in_pack around allowed. in-component around allowed t (spelled item_type) (s around.encoding)
+      (one item_type around allowed);
+  as_parameters = λ slot other around allowed place cs fits complete. absurd fits;
+  as_more_parameters = λ slot other around allowed place cs fits complete. absurd fits;
+  as_elements = λ in_pack around allowed place cs fits complete. absurd fits;
+}
+
+pub piece-ways-add : (t : Term) (fitting : Fitting) (s : ℕ → Spelling)
+    → ((around : Around) (allowed : Option ℕ) → Adds around.encoding (Inside t) (fitting around allowed) (s around.encoding))
+    → WaysAdd t (piece_fits fitting) (λ n. piece_ways (s n))
+unfolding piece_fits fits_nowhere piece_ways no_ways
+piece-ways-add t fitting s one = record {
+  as_type = λ slot around allowed place cs fits complete. absurd fits;
+  as_prefix = λ around allowed place cs fits complete. absurd fits;
+  as_prefix_template = λ around allowed place cs fits complete. absurd fits;
+  between = λ around allowed place cs fits complete. absurd fits;
+  between_template = λ around allowed place cs fits complete. absurd fits;
+  as_entity = λ role around allowed place cs fits complete. absurd fits;
+  as_entity_template = λ around allowed place cs fits complete. absurd fits;
+  as_piece = one;
+  as_encoding = λ allowed n m place cs fits complete. absurd fits;
+  as_name = λ q ref around allowed place cs fits complete. absurd fits;
+  before = λ typed around allowed G arguments Q more place cs fits complete. absurd fits;
+  as_argument = λ in_pack around allowed place cs fits complete. absurd fits;
+  as_parameters = λ slot other around allowed place cs fits complete. absurd fits;
+  as_more_parameters = λ slot other around allowed place cs fits complete. absurd fits;
+  as_elements = λ in_pack around allowed place cs fits complete. absurd fits;
+}
+
+pub argument-ways-add : (t : Term) (fitting : Bool → Fitting) (s : ℕ → Spelling) → In (Whole t) (Inside t)
+    → ((in_pack : Bool) (around : Around) (allowed : Option ℕ)
+    → Adds around.encoding (Inside t) (fitting in_pack around allowed) (s around.encoding))
+    → WaysAdd t (argument_fits fitting) (λ n. argument_ways (s n))
+unfolding argument_fits fits_nowhere argument_ways no_ways
+argument-ways-add t fitting s same one = record {
+  as_type = λ slot around allowed place cs fits complete. absurd fits;
+  as_prefix = λ around allowed place cs fits complete. absurd fits;
+  as_prefix_template = λ around allowed place cs fits complete. absurd fits;
+  between = λ around allowed place cs fits complete. absurd fits;
+  between_template = λ around allowed place cs fits complete. absurd fits;
+  as_entity = λ role around allowed place cs fits complete. absurd fits;
+  as_entity_template = λ around allowed place cs fits complete. absurd fits;
+  as_piece = λ around allowed place cs fits complete. absurd fits;
+  as_encoding = λ allowed n m place cs fits complete. absurd fits;
+  as_name = λ q ref around allowed place cs fits complete. absurd fits;
+  before = λ typed around allowed G arguments Q more place cs fits complete. absurd fits;
+  as_argument = λ in_pack around allowed. fewer-adds around.encoding (Inside t) (Whole t) (fitting in_pack around allowed)
+      (s around.encoding) same
+      (one in_pack around allowed);
+  as_parameters = λ slot other around allowed place cs fits complete. absurd fits;
+  as_more_parameters = λ slot other around allowed place cs fits complete. absurd fits;
+  as_elements = λ in_pack around allowed place cs fits complete. absurd fits;
+}
+
+pub encoding-ways-add : (t : Term) (standing : (allowed : Option ℕ) → Standing) (s : (encoding : ℕ) → Spelling) (raw : Term → Type 0)
+    → In (Inside t) (λ x. Shut (raw x) x)
+    → ((allowed : Option ℕ) (place : ℕ) (cs : List Candidate) → standing allowed place cs → Complete cs
+    → AddsParts place raw cs (s place place cs).components)
+    → WaysAdd t (encoding_fits standing) (λ n. encoding_ways s)
+unfolding encoding_fits fits_nowhere encoding_ways no_ways begun
+encoding-ways-add t standing s raw same one = record {
+  as_type = λ slot around allowed place cs fits complete. absurd fits;
+  as_prefix = λ around allowed place cs fits complete. absurd fits;
+  as_prefix_template = λ around allowed place cs fits complete. absurd fits;
+  between = λ around allowed place cs fits complete. absurd fits;
+  between_template = λ around allowed place cs fits complete. absurd fits;
+  as_entity = λ role around allowed place cs fits complete. absurd fits;
+  as_entity_template = λ around allowed place cs fits complete. absurd fits;
+  as_piece = λ around allowed place cs fits complete. absurd fits;
+  as_encoding = λ allowed n m place cs fits complete. fewer-added m (λ x. Shut (raw x) x) (Inside t) cs (s place place cs).components same
+      (outside-added place m raw cs (s place place cs).components (one allowed place cs fits complete));
+  as_name = λ q ref around allowed place cs fits complete. absurd fits;
+  before = λ typed around allowed G arguments Q more place cs fits complete. absurd fits;
+  as_argument = λ in_pack around allowed place cs fits complete. absurd fits;
+  as_parameters = λ slot other around allowed place cs fits complete. absurd fits;
+  as_more_parameters = λ slot other around allowed place cs fits complete. absurd fits;
+  as_elements = λ in_pack around allowed place cs fits complete. absurd fits;
+}
+
+-- what stands nowhere
+pub nowhere-ways-add : (t : Term) (w : ℕ → Ways) → WaysAdd t fits_nowhere w
+unfolding fits_nowhere
+nowhere-ways-add t w = record {
+  as_type = λ slot around allowed place cs fits complete. absurd fits;
+  as_prefix = λ around allowed place cs fits complete. absurd fits;
+  as_prefix_template = λ around allowed place cs fits complete. absurd fits;
+  between = λ around allowed place cs fits complete. absurd fits;
+  between_template = λ around allowed place cs fits complete. absurd fits;
+  as_entity = λ role around allowed place cs fits complete. absurd fits;
+  as_entity_template = λ around allowed place cs fits complete. absurd fits;
+  as_piece = λ around allowed place cs fits complete. absurd fits;
+  as_encoding = λ allowed n m place cs fits complete. absurd fits;
+  as_name = λ q ref around allowed place cs fits complete. absurd fits;
+  before = λ typed around allowed G arguments Q more place cs fits complete. absurd fits;
+  as_argument = λ in_pack around allowed place cs fits complete. absurd fits;
+  as_parameters = λ slot other around allowed place cs fits complete. absurd fits;
+  as_more_parameters = λ slot other around allowed place cs fits complete. absurd fits;
+  as_elements = λ in_pack around allowed place cs fits complete. absurd fits;
+}

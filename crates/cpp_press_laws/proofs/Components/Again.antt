@@ -1,0 +1,164 @@
+-- A function type right under qualifiers is spelled out even where it stands among the components: there it fits, since its parts
+-- stand there too.
+use Rattle.std.proofs.Common.{◌≡◌, ℕ, ◌+◌, ◌⊎◌, inl, inr, length, List, [], ◌++◌, Option, None, Bool, true, false, refl, subst, sym}
+use Rattle.std.specs.Prelude.{◌&&◌, ◌||◌, codes, cond}
+use Rattle.sym_spell.specs.Pressing as spell
+use Rattle.sym_spell.specs.Pressing.{◌and◌, text}
+use Rattle.cpp_grammar.specs.Term.{RefQualifier, Term, symbol, function, object, special, thunk, guard, abbreviation, source, operator, literal_operator, constructor, destructor, lambda, unnamed, string_literal, builtin, function_type, integer, boolean, null_pointer, encoding_literal, address_of, pack, nil, list, absent}
+use Rattle.cpp_grammar.specs.Scope.{is_open}
+use Rattle.cpp_grammar.specs.Values.{Candidate, Around}
+use Rattle.cpp_grammar.specs.References.{packs_in}
+use Rattle.cpp_grammar.specs.Meaning.{is_void, is_nil}
+use Rattle.cpp_press_laws.specs.Pressing.{ways_of}
+use Rattle.cpp_press_laws.proofs.ReadBack.References.{PacksFit, MayBeReferred}
+use Rattle.cpp_press_laws.proofs.Components.Parts.{IsComponent, Inside, Whole, Has, stands-found}
+use Rattle.cpp_press_laws.proofs.Components.KnownTrees.{In}
+use Rattle.cpp_press_laws.proofs.Components.Complete.{Complete, complete-has}
+use Rattle.cpp_press_laws.proofs.Fits.Fit.{Slot, any_type, bare_type, item_type, parameter_type, literal_type, IsBuiltin, IsAbbreviation, type_fits, piece_fits, argument_fits, encoding_fits, fits_nowhere, fits_of}
+use Rattle.cpp_press_laws.proofs.Components.Adding.{AddsParts}
+use Rattle.cpp_press_laws.proofs.Components.AddedWays.{IsNotBare, way_at}
+use Rattle.cpp_press_laws.proofs.Components.AddedTrees.{adds}
+
+-- a type in a function type: it's no component, or one whose packs are those of the whole
+abbrev pub ItemStands : Slot → (scope : Option Term) → (packs : Option ℕ) → Term → Type 0
+ItemStands slot scope packs (builtin code) = IsBuiltin slot code
+ItemStands slot scope packs (abbreviation l) = IsAbbreviation l
+ItemStands slot scope packs t = IsComponent t × ((packs_in scope t ≡ None) ⊎ (packs_in scope t ≡ packs))
+
+abbrev pub ItemsStand : (scope : Option Term) → (packs : Option ℕ) → Term → Type 0
+ItemsStand scope packs nil = Unit {0}
+ItemsStand scope packs (list first rest) = ItemStands parameter_type scope packs first × ItemsStand scope packs rest
+ItemsStand scope packs _ = ⊥
+
+abbrev pub IsNoVoid : Term → Type 0
+IsNoVoid (list first rest) = is_void first && is_nil rest ≡ false
+IsNoVoid _ = Unit {0}
+
+-- what is known of a candidate that is a function type, where its scope is this
+abbrev pub FunctionStands : (scope : Option Term) → Term → Type 0
+FunctionStands scope (function_type c_linkage noexcept ref returned parameters) =
+    ItemStands any_type scope (packs_in scope (function_type c_linkage noexcept ref returned parameters)) returned
+    × ItemsStand scope (packs_in scope (function_type c_linkage noexcept ref returned parameters)) parameters
+    × IsNoVoid parameters
+FunctionStands scope _ = Unit {0}
+
+-- ## Types that stand
+
+same-packs : (around : Around) (allowed packs own : Option ℕ) → PacksFit around allowed packs → (own ≡ None) ⊎ (own ≡ packs)
+    → PacksFit around allowed own
+same-packs around allowed packs own fits (inl none) = inl none
+same-packs around allowed packs own fits (inr same) = subst (PacksFit around allowed) (sym same) fits
+
+-- a type that stands may be referred to
+pub item-again : (t : Term) (slot : Slot) → IsNotBare slot → (around : Around) (allowed packs : Option ℕ)
+    → ItemStands slot around.scope packs t
+    → PacksFit around allowed packs → is_open t && around.in_lambda ≡ false → (place : ℕ) (cs : List Candidate)
+    → In (Whole t) (λ x. Has around.encoding x cs) → (fits_of t).as_type slot around allowed place cs
+unfolding fits_of type_fits piece_fits argument_fits encoding_fits fits_nowhere
+item-again (builtin code) slot other around allowed packs item fits shut place cs has = item
+item-again (abbreviation l) slot other around allowed packs item fits shut place cs has = item
+item-again (symbol e suffix) slot other around allowed packs item fits shut place cs has = absurd item.0
+item-again (function name q ref returned parameters) slot other around allowed packs item fits shut place cs has = absurd item.0
+item-again (object name q ref) slot other around allowed packs item fits shut place cs has = absurd item.0
+item-again (special l type) slot other around allowed packs item fits shut place cs has = absurd item.0
+item-again (thunk kind e) slot other around allowed packs item fits shut place cs has = absurd item.0
+item-again (guard name q ref) slot other around allowed packs item fits shut place cs has = absurd item.0
+item-again (source internal name) slot other around allowed packs item fits shut place cs has = absurd item.0
+item-again (operator a b) slot other around allowed packs item fits shut place cs has = absurd item.0
+item-again (literal_operator name) slot other around allowed packs item fits shut place cs has = absurd item.0
+item-again (constructor digit) slot other around allowed packs item fits shut place cs has = absurd item.0
+item-again (destructor digit) slot other around allowed packs item fits shut place cs has = absurd item.0
+item-again (lambda parameters k) slot other around allowed packs item fits shut place cs has = absurd item.0
+item-again (unnamed k) slot other around allowed packs item fits shut place cs has = absurd item.0
+item-again string_literal slot other around allowed packs item fits shut place cs has = absurd item.0
+item-again (integer type value) slot other around allowed packs item fits shut place cs has = absurd item.0
+item-again (boolean truth) slot other around allowed packs item fits shut place cs has = absurd item.0
+item-again null_pointer slot other around allowed packs item fits shut place cs has = absurd item.0
+item-again (encoding_literal e) slot other around allowed packs item fits shut place cs has = absurd item.0
+item-again (address_of e) slot other around allowed packs item fits shut place cs has = absurd item.0
+item-again (pack elements) slot other around allowed packs item fits shut place cs has = absurd item.0
+item-again nil slot other around allowed packs item fits shut place cs has = absurd item.0
+item-again (list first rest) slot other around allowed packs item fits shut place cs has = absurd item.0
+item-again absent slot other around allowed packs item fits shut place cs has = absurd item.0
+item-again (function_type c_linkage noexcept ref returned parameters) slot other around allowed packs item fits shut place cs has = go slot other
+  where
+    own : Term
+    own = function_type c_linkage noexcept ref returned parameters
+
+    may : MayBeReferred around allowed own
+    may = record { lambda = shut; packs = same-packs around allowed packs (packs_in around.scope own) fits item.1 }
+
+    go : (slot : Slot) → IsNotBare slot → (fits_of own).as_type slot around allowed place cs
+    go any_type h = (may, λ first. absurd (stands-found around.encoding own 0 cs (has own (inl (tt, refl))) first))
+    go bare_type h = absurd h
+    go item_type h = (may, λ first. absurd (stands-found around.encoding own 0 cs (has own (inl (tt, refl))) first))
+    go parameter_type h = (may, λ first. absurd (stands-found around.encoding own 0 cs (has own (inl (tt, refl))) first))
+    go literal_type h = (may, λ first. absurd (stands-found around.encoding own 0 cs (has own (inl (tt, refl))) first))
+item-again t slot other around allowed packs item fits shut place cs has = (
+  record { lambda = shut; packs = same-packs around allowed packs (packs_in around.scope t) fits item.1 },
+  λ first. absurd (stands-found around.encoding t 0 cs (has t (inl (item.0, refl))) first),
+)
+
+left-shut : (a b c : Bool) → (a || b) && c ≡ false → a && c ≡ false
+left-shut true b c h = h
+left-shut false b c h = refl
+
+right-shut : (a b c : Bool) → (a || b) && c ≡ false → b && c ≡ false
+right-shut true true c h = h
+right-shut true false c h = refl
+right-shut false b c h = h
+
+-- parameters that stand
+items-again : (t : Term) (around : Around) (allowed packs : Option ℕ) → ItemsStand around.scope packs t → PacksFit around allowed packs
+    → is_open t && around.in_lambda ≡ false → (place : ℕ) (cs : List Candidate) → Complete cs → In (Inside t) (λ x. Has around.encoding x cs)
+    → (fits_of t).as_more_parameters parameter_type around allowed place cs
+unfolding fits_of fits_nowhere is_open way_at
+items-again nil around allowed packs items fits shut place cs complete has = tt
+items-again (list first rest) around allowed packs items fits shut place cs complete has =
+    let n : ℕ = around.encoding in
+    let one = item-again first parameter_type tt around allowed packs items.0 fits (left-shut (is_open first)
+    (is_open rest) around.in_lambda shut)
+    place cs (λ x w. has x (inl w)) in
+    let w : spell.Pressed Candidate = (ways_of n first).as_type place cs in
+    let a : AddsParts n (Whole first) cs w.components = (adds first).as_type parameter_type around allowed place cs one complete in (
+      one,
+      items-again rest around allowed packs items.1 fits (right-shut (is_open first) (is_open rest) around.in_lambda shut)
+          (place + length w.bytes) w.components a.complete (λ x i. a.keeps n x (has x (inr i))),
+    )
+items-again (symbol e suffix) around allowed packs items fits shut place cs complete has = absurd items
+items-again _ around allowed packs items fits shut place cs complete has = absurd items
+
+parameters-again : (t : Term) (around : Around) (allowed packs : Option ℕ) → ItemsStand around.scope packs t → IsNoVoid t
+    → PacksFit around allowed packs → is_open t && around.in_lambda ≡ false → (place : ℕ) (cs : List Candidate) → Complete cs
+    → In (Inside t) (λ x. Has around.encoding x cs) → (fits_of t).as_parameters parameter_type around allowed place cs
+unfolding fits_of fits_nowhere
+parameters-again nil around allowed packs items void fits shut place cs complete has = tt
+parameters-again (list first rest) around allowed packs items void fits shut place cs complete has =
+    (void, items-again (list first rest) around allowed packs items fits shut place cs complete has)
+parameters-again (symbol e suffix) around allowed packs items void fits shut place cs complete has = absurd items
+parameters-again _ around allowed packs items void fits shut place cs complete has = absurd items
+
+-- A function type that may be referred to and stands among complete components fits under qualifiers.
+pub function-again : (c_linkage noexcept : Bool) (ref : RefQualifier) (returned parameters : Term) (around : Around) (allowed : Option ℕ)
+    → FunctionStands around.scope (function_type c_linkage noexcept ref returned parameters)
+    → MayBeReferred around allowed (function_type c_linkage noexcept ref returned parameters)
+    → (place : ℕ) (cs : List Candidate) → Complete cs → Has around.encoding (function_type c_linkage noexcept ref returned parameters) cs
+    → (fits_of (function_type c_linkage noexcept ref returned parameters)).as_type bare_type around allowed place cs
+unfolding fits_of is_open way_at
+function-again c_linkage noexcept ref returned parameters around allowed stands may place cs complete has =
+    let own : Term = function_type c_linkage noexcept ref returned parameters in
+    let n : ℕ = around.encoding in
+    let packs : Option ℕ = packs_in around.scope own in
+    let marks : List ℕ = cond noexcept (codes "Do") [] ++ codes "F" ++ cond c_linkage (codes "Y") [] in
+    let all : In (Whole own) (λ x. Has n x cs) = complete-has n own cs complete has in
+    let one = item-again returned any_type tt around allowed packs stands.0 may.packs
+    (left-shut (is_open returned) (is_open parameters) around.in_lambda may.lambda) (place + length marks) cs (λ x w. all x (inr (inl w))) in
+    let w : spell.Pressed Candidate = (ways_of n returned).as_type (place + length marks) cs in
+    let a : AddsParts n (Whole returned) cs w.components = (adds returned).as_type any_type around allowed
+    (place + length marks) cs one complete in (
+      one,
+      parameters-again parameters around allowed packs stands.1 stands.2 may.packs
+          (right-shut (is_open returned) (is_open parameters) around.in_lambda may.lambda) (place + length
+          (marks ++ w.bytes)) w.components a.complete
+          (λ x i. a.keeps n x (all x (inr (inr i)))),
+    )

@@ -1,0 +1,119 @@
+-- Where a component stands already, its spelling adds none, nor does that of a function type right under qualifiers.
+use Rattle.std.proofs.Common.{◌≡◌, ℕ, ◌+◌, inl, inr, length, List, [], ◌++◌, Option, Some, None, refl, sym, subst}
+use Rattle.std.specs.Prelude.{cond, codes}
+use Rattle.sym_spell.specs.Pressing as spell
+use Rattle.sym_spell.specs.Pressing.{◌and◌}
+use Rattle.cpp_grammar.specs.Term.{Term, alone, in_std, within, instance, local, parameter, vendor, pointer, lvalue, rvalue, array, member_pointer, function_type, qualified, vector, complex, expansion, list}
+use Rattle.cpp_grammar.specs.Values.{Candidate}
+use Rattle.cpp_press_laws.specs.Components.{Spelling, first_equal, reference, spelled_out, component}
+use Rattle.cpp_press_laws.specs.Pressing.{ways_of, no_ways, type_ways, name_ways, piece_ways, argument_ways, encoding_ways, function_text}
+use Rattle.cpp_press_laws.proofs.Components.Parts.{IsComponent, Inside, Has, stands-found}
+use Rattle.cpp_press_laws.proofs.Components.Complete.{Complete, complete-has}
+
+component-none : (n : ℕ) (t : Term) (s : Spelling) (place : ℕ) (cs : List Candidate) → Has n t cs →
+    (component n t s place cs).components ≡ cs
+unfolding component reference
+component-none n t s place cs has = go (first_equal n t 0 cs) refl
+  where
+    go : (o : Option ℕ) → first_equal n t 0 cs ≡ o → spell.Pressed.components (elim o as (λ _. spell.Pressed Candidate)
+        [ Some number ↦ reference number place cs | None ↦ spelled_out n t s place cs ]) ≡ cs
+    go (Some number) is = refl
+    go None is = absurd (stands-found n t 0 cs has is)
+
+-- as a type
+pub type-none : (t : Term) (n place : ℕ) (cs : List Candidate) → (IsComponent t → Has n t cs) →
+    ((ways_of n t).as_type place cs).components ≡ cs
+unfolding ways_of no_ways type_ways name_ways piece_ways argument_ways encoding_ways
+type-none (alone p) n place cs has = component-none n (alone p) _ place cs (has tt)
+type-none (in_std p) n place cs has = component-none n (in_std p) _ place cs (has tt)
+type-none (within x p) n place cs has = component-none n (within x p) _ place cs (has tt)
+type-none (instance t a) n place cs has = component-none n (instance t a) _ place cs (has tt)
+type-none (local e entity d) n place cs has = component-none n (local e entity d) _ place cs (has tt)
+type-none (parameter k) n place cs has = component-none n (parameter k) _ place cs (has tt)
+type-none (vendor name) n place cs has = component-none n (vendor name) _ place cs (has tt)
+type-none (pointer t) n place cs has = component-none n (pointer t) _ place cs (has tt)
+type-none (lvalue t) n place cs has = component-none n (lvalue t) _ place cs (has tt)
+type-none (rvalue t) n place cs has = component-none n (rvalue t) _ place cs (has tt)
+type-none (array digits t) n place cs has = component-none n (array digits t) _ place cs (has tt)
+type-none (member_pointer c t) n place cs has = component-none n (member_pointer c t) _ place cs (has tt)
+type-none (function_type c x ref returned parameters) n place cs has = component-none n
+    (function_type c x ref returned parameters) _ place cs (has tt)
+type-none (qualified q t) n place cs has = component-none n (qualified q t) _ place cs (has tt)
+type-none (vector digits t) n place cs has = component-none n (vector digits t) _ place cs (has tt)
+type-none (complex t) n place cs has = component-none n (complex t) _ place cs (has tt)
+type-none (expansion t) n place cs has = component-none n (expansion t) _ place cs (has tt)
+type-none _ n place cs has = refl
+
+-- as a prefix
+pub prefix-none : (t : Term) (n place : ℕ) (cs : List Candidate) → IsComponent t → Has n t cs →
+    ((ways_of n t).as_prefix place cs).components ≡ cs
+unfolding ways_of no_ways type_ways name_ways piece_ways argument_ways encoding_ways
+prefix-none (alone p) n place cs is has = component-none n (alone p) _ place cs has
+prefix-none (in_std p) n place cs is has = component-none n (in_std p) _ place cs has
+prefix-none (within x p) n place cs is has = component-none n (within x p) _ place cs has
+prefix-none (instance t a) n place cs is has = component-none n (instance t a) _ place cs has
+prefix-none (local e entity d) n place cs is has = component-none n (local e entity d) _ place cs has
+prefix-none (parameter k) n place cs is has = component-none n (parameter k) _ place cs has
+prefix-none (vendor name) n place cs is has = component-none n (vendor name) _ place cs has
+prefix-none (pointer t) n place cs is has = component-none n (pointer t) _ place cs has
+prefix-none (lvalue t) n place cs is has = component-none n (lvalue t) _ place cs has
+prefix-none (rvalue t) n place cs is has = component-none n (rvalue t) _ place cs has
+prefix-none (array digits t) n place cs is has = component-none n (array digits t) _ place cs has
+prefix-none (member_pointer c t) n place cs is has = component-none n (member_pointer c t) _ place cs has
+prefix-none (function_type c x ref returned parameters) n place cs is has = component-none n
+    (function_type c x ref returned parameters) _ place cs has
+prefix-none (qualified q t) n place cs is has = component-none n (qualified q t) _ place cs has
+prefix-none (vector digits t) n place cs is has = component-none n (vector digits t) _ place cs has
+prefix-none (complex t) n place cs is has = component-none n (complex t) _ place cs has
+prefix-none (expansion t) n place cs is has = component-none n (expansion t) _ place cs has
+prefix-none _ n place cs is has = absurd is
+
+-- parameters, of which each that is a component stands
+parameters-none : (t : Term) (n place : ℕ) (cs : List Candidate) → ((x : Term) → Inside t x → Has n x cs)
+    → ((ways_of n t).as_more_parameters place cs).components ≡ cs
+unfolding ways_of no_ways type_ways name_ways piece_ways argument_ways encoding_ways
+parameters-none (list first rest) n place cs has =
+    let later : ℕ = place + length ((ways_of n first).as_type place cs).bytes in
+    subst (λ ds. ((ways_of n rest).as_more_parameters later ds).components ≡ cs)
+    (sym (type-none first n place cs (λ is. has first (inl (inl (is, refl))))))
+    (parameters-none rest n later cs (λ x i. has x (inr i)))
+parameters-none (alone p) n place cs has = refl
+parameters-none _ n place cs has = refl
+
+all-parameters-none : (t : Term) (n place : ℕ) (cs : List Candidate) → ((x : Term) → Inside t x → Has n x cs)
+    → ((ways_of n t).as_parameters place cs).components ≡ cs
+unfolding ways_of no_ways type_ways name_ways piece_ways argument_ways encoding_ways
+all-parameters-none (list first rest) n place cs has = parameters-none (list first rest) n place cs has
+all-parameters-none (alone p) n place cs has = refl
+all-parameters-none _ n place cs has = refl
+
+-- right under qualifiers
+pub bare-none : (t : Term) (n place : ℕ) (cs : List Candidate) → IsComponent t → Complete cs → Has n t cs
+    → ((ways_of n t).under_qualifiers place cs).components ≡ cs
+unfolding ways_of no_ways type_ways name_ways piece_ways argument_ways encoding_ways function_text
+bare-none (function_type c x ref returned parameters) n place cs is complete has =
+    let inner : (y : Term) → Inside (function_type c x ref returned parameters) y → Has n y cs =
+    λ y i. complete-has n (function_type c x ref returned parameters) cs complete has y (inr i) in
+    let marks : List ℕ = cond x (codes "Do") [] ++ codes "F" ++ cond c (codes "Y") [] in
+    let from : ℕ = place + length marks in
+    let later : ℕ = from + length ((ways_of n returned).as_type from cs).bytes in
+    subst (λ ds. ((ways_of n parameters).as_parameters later ds).components ≡ cs)
+    (sym (type-none returned n from cs (λ own. inner returned (inl (inl (own, refl))))))
+    (all-parameters-none parameters n later cs (λ y i. inner y (inr i)))
+bare-none (alone p) n place cs is complete has = component-none n (alone p) _ place cs has
+bare-none (in_std p) n place cs is complete has = component-none n (in_std p) _ place cs has
+bare-none (within x p) n place cs is complete has = component-none n (within x p) _ place cs has
+bare-none (instance t a) n place cs is complete has = component-none n (instance t a) _ place cs has
+bare-none (local e entity d) n place cs is complete has = component-none n (local e entity d) _ place cs has
+bare-none (parameter k) n place cs is complete has = component-none n (parameter k) _ place cs has
+bare-none (vendor name) n place cs is complete has = component-none n (vendor name) _ place cs has
+bare-none (pointer t) n place cs is complete has = component-none n (pointer t) _ place cs has
+bare-none (lvalue t) n place cs is complete has = component-none n (lvalue t) _ place cs has
+bare-none (rvalue t) n place cs is complete has = component-none n (rvalue t) _ place cs has
+bare-none (array digits t) n place cs is complete has = component-none n (array digits t) _ place cs has
+bare-none (member_pointer c t) n place cs is complete has = component-none n (member_pointer c t) _ place cs has
+bare-none (qualified q t) n place cs is complete has = component-none n (qualified q t) _ place cs has
+bare-none (vector digits t) n place cs is complete has = component-none n (vector digits t) _ place cs has
+bare-none (complex t) n place cs is complete has = component-none n (complex t) _ place cs has
+bare-none (expansion t) n place cs is complete has = component-none n (expansion t) _ place cs has
+bare-none _ n place cs is complete has = absurd is

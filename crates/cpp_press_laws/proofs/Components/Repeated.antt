@@ -1,0 +1,45 @@
+-- Why the tree of a component is spelled out again.
+use Rattle.std.proofs.Common.{◌≡◌, ℕ, List, [], ◌∷◌, ◌++◌, ◌⊎◌, inl, inr, Bool, true, false, refl}
+use Rattle.std.specs.Prelude.{not, ◌&&◌, ◌||◌, nat_eq}
+use Rattle.cpp_grammar.specs.Term.{Term}
+use Rattle.cpp_grammar.specs.Scope.{is_open}
+use Rattle.cpp_grammar.specs.Values.{Candidate}
+use Rattle.cpp_press_laws.specs.Same.{same_tree}
+use Rattle.cpp_press_laws.specs.Components.{is_same}
+use Rattle.cpp_press_laws.specs.Apart.{IsNeverReferred, IsNew, AreApartBehind, spelled_components}
+use Rattle.cpp_press_laws.specs.Repeated.{is_spelled, repeated, HaveReasons, RepeatedComponentsHaveReasons}
+use Rattle.cpp_press_laws.proofs.Components.Apart.{components-apart}
+
+-- a tree that isn't compared as equal with one that it is equal to has free parameters
+open-by : (same free other : Bool) → same && (not free || other) ≡ false → same ≡ true → free ≡ true
+open-by true true other differ is = refl
+open-by true false other differ is = cc
+open-by false free other differ is = cc
+
+new-open : (n : ℕ) (own : Term) (before : List Candidate) → IsNew n own before → is_spelled own before ≡ true → is_open own ≡ true
+unfolding is_same is_spelled
+new-open n own [] new is = cc
+new-open n own (c ∷ cs) new is = go (same_tree own c.tree) refl is (new-open n own cs new.1)
+  where
+    go : (b : Bool) → same_tree own c.tree ≡ b → b || is_spelled own cs ≡ true → (is_spelled own cs ≡ true → is_open own ≡ true)
+        → is_open own ≡ true
+    go true same is more = open-by (same_tree own c.tree) (is_open own) (nat_eq c.encoding n) new.0 same
+    go false same is more = more is
+
+reasons : (tree : Term) (before cs : List Candidate) → AreApartBehind tree before cs → HaveReasons tree (repeated before cs)
+unfolding repeated
+reasons tree before [] apart = tt
+reasons tree before (c ∷ cs) apart = go (is_spelled c.tree before) refl (reasons tree (before ++ c ∷ []) cs apart.1)
+  where
+    why : IsNew c.encoding c.tree before ⊎ IsNeverReferred c.tree tree → is_spelled c.tree before ≡ true
+        → (is_open c.tree ≡ true) ⊎ IsNeverReferred c.tree tree
+    why (inl new) is = inl (new-open c.encoding c.tree before new is)
+    why (inr never) is = inr never
+
+    go : (b : Bool) → is_spelled c.tree before ≡ b → HaveReasons tree (repeated (before ++ c ∷ []) cs)
+        → HaveReasons tree (elim b as (λ _. List Candidate) [ true ↦ c ∷ repeated (before ++ c ∷ []) cs | false ↦ repeated (before ++ c ∷ []) cs ])
+    go true is more = (why apart.0 is, more)
+    go false is more = more
+
+pub repeated-reasons : RepeatedComponentsHaveReasons
+repeated-reasons t = reasons t [] (spelled_components t) (components-apart t)

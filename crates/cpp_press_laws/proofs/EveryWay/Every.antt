@@ -1,0 +1,332 @@
+-- What each way in which a tree is spelled is read as, where it fits.
+use Rattle.std.proofs.Common.{◌≡◌, ℕ, ◌+◌, ◌≤◌, length, List, [], ◌∷◌, ◌++◌, Option, Some, None, Bool, true, false, refl, ap, arith, subst}
+use Rattle.std.specs.Prelude.{codes, ◌&&◌}
+use Rattle.sym_shape.specs.declared.rule.Sym.TheVariants.{Kind as OfKind}
+use Rattle.sym_spell.specs.Pressing.{◌and◌, text}
+use Rattle.cpp_grammar.specs.Term.{Qualifiers, RefQualifier, any_value, Term, instance, list}
+use Rattle.cpp_grammar.specs.Values.{Candidate, Around, Value, tree, tree_of, qualifiers_of, ref_of, unqualified}
+use Rattle.cpp_grammar.specs.References.{is_function_type}
+use Rattle.cpp_grammar.specs.Between.{no_items}
+use Rattle.cpp_grammar.specs.Meaning.{parameters}
+use Rattle.cpp_press_laws.specs.Texts.{name_letters, mark_letter}
+use Rattle.cpp_press_laws.specs.Components.{Spelling, first_equal, seq_id, reference, spelled_out, component}
+use Rattle.cpp_press_laws.specs.Pressing.{Ways, no_ways, type_ways, is_one_piece, entity_text}
+use Rattle.cpp_press_laws.proofs.ReadBack.Tokens.{greatest}
+use Rattle.cpp_press_laws.proofs.ReadBack.Reading.{Written, written, ReadsAt}
+use Rattle.cpp_press_laws.proofs.ReadBack.References.{found-first, number-refers}
+use Rattle.cpp_press_laws.proofs.ReadBack.Types.{Is, more}
+use Rattle.cpp_press_laws.proofs.ReadBack.Arguments.{items_value, type-argument, type-element}
+use Rattle.cpp_press_laws.proofs.ReadBack.Names.{SoFar, Extends}
+use Rattle.cpp_press_laws.proofs.ReadBack.Parameters.{RestReads}
+use Rattle.cpp_press_laws.proofs.Components.Keeping.{Keeps, keeps-component, keeps-and}
+use Rattle.cpp_press_laws.proofs.ReadBack.Slots.{HasRoom, IsSmall, few-before, ReadsAs, is_bare, in-slot, fitting-in}
+use Rattle.cpp_press_laws.proofs.ReadBack.Named.{PieceReads, ItemsRead}
+use Rattle.cpp_press_laws.proofs.ReadBack.Between.{Named, SoFarWith, ExtendsWith, extends-with-behind-s, prefix-behind-s}
+use Rattle.cpp_press_laws.proofs.ReadBack.Templates.{TemplateKind, InstancedAt, instanced-behind-s, of_elements, ReadElements, elements-room}
+use Rattle.cpp_press_laws.proofs.Fits.Fit.{Slot, any_type, bare_type, item_type, parameter_type, literal_type, Standing, Fitting, as_component, as_template, Role, in_type, in_name_with, letters_of, Fits, nowhere, fits_nowhere, type_fits, piece_fits, argument_fits, encoding_fits}
+
+-- ## What is read
+
+-- as a name with qualifiers and a mark
+pub record NameReads (around : Around) (allowed : Option ℕ) (k : ℕ) (t : Term) (q : Qualifiers) (ref : RefQualifier) (place : ℕ)
+    (cs : List Candidate) (w : Written) : Type 0 where
+  pub value : Value
+  pub tree_is : tree_of value ≡ t
+  pub qualifiers_are : qualifiers_of value ≡ q
+  pub ref_is : ref_of value ≡ ref
+  pub reads : ReadsAt around allowed (OfKind k) (Is value) place cs w
+
+-- an instance in a type, or as an encoding's own name without letters
+abbrev pub TemplateReads : (typed : Bool) → Around → Option ℕ → (k : ℕ) → Term → (place : ℕ) → List Candidate → Written → Type 0
+TemplateReads true around allowed k t place cs w = ReadsAt around allowed (OfKind k) (Is (tree t false)) place cs w
+TemplateReads false around allowed k t place cs w = NameReads around allowed k t unqualified any_value place cs w
+
+pub template-value : (typed : Bool) (around : Around) (allowed : Option ℕ) (k : ℕ) (t : Term) (place : ℕ) (cs : List Candidate) (w : Written)
+    → ReadsAt around allowed (OfKind k) (Is (tree t false)) place cs w → TemplateReads typed around allowed k t place cs w
+unfolding tree_of qualifiers_of ref_of
+template-value true around allowed k t place cs w one = one
+template-value false around allowed k t place cs w one =
+    record { value = tree t false; tree_is = refl; qualifiers_are = refl; ref_is = refl; reads = one }
+
+-- as the entity of a local name
+abbrev pub EntityReads : Role → Around → Option ℕ → Term → (place : ℕ) → List Candidate → Written → Type 0
+EntityReads in_type around allowed t place cs w = ReadsAt around allowed (OfKind 24) (Is (tree t false)) place cs w
+EntityReads (in_name_with q ref) around allowed t place cs w = NameReads around allowed 23 t q ref place cs w
+
+-- elements of a pack, or arguments
+abbrev pub list_kind : (in_pack : Bool) → ℕ
+list_kind true = 45
+list_kind false = 44
+
+-- as one more element in front of others
+abbrev pub ArgumentReads : Bool → Around → Option ℕ → Term → (place : ℕ) → List Candidate → Written → Type 0
+ArgumentReads in_pack around allowed t place cs w =
+    (items : Term) (last : Value) (rest : Written) → no_items last ≡ items
+    → ReadsAt around allowed (OfKind (list_kind in_pack)) (Is last) (place + length w.bytes) w.components rest
+    → ReadsAt around allowed (OfKind (list_kind in_pack)) (Is (tree (list t items) true)) place cs
+    (written (w.bytes ++ rest.bytes) rest.components)
+
+-- as a list of a kind
+abbrev pub ListReads : ℕ → Around → Option ℕ → Term → (place : ℕ) → List Candidate → Written → Type 0
+ListReads k around allowed t place cs w =
+    (no_items (items_value t) ≡ t) × ReadsAt around allowed (OfKind k) (Is (items_value t)) place cs w
+
+-- as the parameters of a function type, with its mark and its end
+abbrev pub with_end : RefQualifier → Written → Written
+with_end ref w = written (w.bytes ++ (mark_letter ref ++ codes "E")) w.components
+
+abbrev pub ParametersRead : RefQualifier → Around → Option ℕ → Term → (place : ℕ) → List Candidate → Written → Type 0
+ParametersRead ref around allowed t place cs w =
+    (items : Term) × (parameters items ≡ t) × RestReads around allowed items ref place cs (with_end ref w)
+
+-- an entity that is one piece
+pub record OnePiece (around : Around) (allowed : Option ℕ) (t : Term) (place : ℕ) (cs : List Candidate) (w : Written) : Type 0 where
+  pub is : (arguments : Term) → is_one_piece (instance t arguments) ≡ true
+  pub in_name : Named around allowed 23 t place cs w
+  pub in_a_type : Named around allowed 24 t place cs w
+
+-- ## The ways of a tree
+
+-- where it fits, and has room, what is spelled is read
+abbrev pub Leads : (ℕ → Spelling) → Fitting → (Around → Option ℕ → (place : ℕ) → List Candidate → Written → Type 0) → Type 0
+Leads spelled fits reads =
+    (around : Around) (allowed : Option ℕ) (place : ℕ) (cs : List Candidate) → IsSmall around → HasRoom (spelled around.encoding place cs)
+    → fits around allowed place cs → reads around allowed place cs (spelled around.encoding place cs)
+
+-- right under qualifiers a type has a way of its own
+abbrev pub slot_way : Slot → Ways → Spelling
+slot_way bare_type w = w.under_qualifiers
+slot_way any_type w = w.as_type
+slot_way item_type w = w.as_type
+slot_way parameter_type w = w.as_type
+slot_way literal_type w = w.as_type
+
+pub record ReadsAll (t : Term) (ways : ℕ → Ways) (fits : Fits) : Type 1 where
+  pub as_type : (slot : Slot) → Leads (λ n. slot_way slot (ways n)) (fits.as_type slot) (λ around allowed. ReadsAs slot around allowed t)
+  pub as_prefix : Leads (λ n. (ways n).as_prefix) fits.as_prefix (λ around allowed. Extends around allowed t)
+  pub as_prefix_template : Leads (λ n. (ways n).as_prefix) fits.as_prefix_template (λ around allowed. ExtendsWith around allowed t)
+  pub between : Leads (λ n. (ways n).between_N_and_E) fits.between (λ around allowed. SoFar around allowed t false 18)
+  pub between_template : Leads (λ n. (ways n).between_N_and_E) fits.between_template (λ around allowed. SoFarWith around allowed t)
+  pub as_entity : (role : Role) → Leads (λ n. entity_text t (letters_of role) (ways n).between_N_and_E) (fits.as_entity role)
+      (λ around allowed. EntityReads role around allowed t)
+  pub as_entity_template : Leads (λ n. (ways n).between_N_and_E) fits.as_entity_template (λ around allowed. OnePiece around allowed t)
+  pub as_piece : Leads (λ n. (ways n).as_piece) fits.as_piece (λ around allowed. PieceReads around allowed t)
+  pub as_encoding : Leads (λ n. (ways n).as_encoding) (λ around. fits.as_encoding)
+      (λ around allowed. ReadsAt around allowed (OfKind 4) (Is (tree t true)))
+  pub as_name : (q : Qualifiers) (ref : RefQualifier) → Leads (λ n. (ways n).as_name (name_letters q ref)) (fits.as_name q ref)
+      (λ around allowed. NameReads around allowed 8 t q ref)
+  pub before : (typed : Bool) (k : ℕ) → TemplateKind typed k → (around : Around) (allowed : Option ℕ) (place : ℕ) (cs : List Candidate)
+      (arguments : Fitting) (elements : Spelling) (items : Term) (last : Value) → no_items last ≡ items
+      → ReadElements around allowed last arguments elements → Keeps (of_elements elements) → IsSmall around
+      → HasRoom ((ways around.encoding).before typed (of_elements elements) place cs) → fits.before typed arguments around allowed place cs
+      → TemplateReads typed around allowed k (instance t items) place cs ((ways around.encoding).before typed (of_elements elements) place cs)
+  pub as_argument : (in_pack : Bool) → Leads (λ n. (ways n).as_argument) (fits.as_argument in_pack)
+      (λ around allowed. ArgumentReads in_pack around allowed t)
+  pub as_items : Leads (λ n. (ways n).as_parameters) (fits.as_parameters item_type) (λ around allowed. ItemsRead around allowed t)
+  pub as_more_items : Leads (λ n. (ways n).as_more_parameters) (fits.as_more_parameters item_type)
+      (λ around allowed. ListReads 41 around allowed t)
+  pub as_parameters : (ref : RefQualifier) → Leads (λ n. (ways n).as_parameters) (fits.as_parameters parameter_type)
+      (λ around allowed. ParametersRead ref around allowed t)
+  pub as_more_parameters : (ref : RefQualifier) → Leads (λ n. (ways n).as_more_parameters) (fits.as_more_parameters parameter_type)
+      (λ around allowed place cs w. RestReads around allowed t ref place cs (with_end ref w))
+  pub as_elements : (in_pack : Bool) → Leads (λ n. (ways n).as_elements) (fits.as_elements in_pack)
+      (λ around allowed. ListReads (list_kind in_pack) around allowed t)
+
+-- ## Trees of one way
+
+pub reads-nowhere : (t : Term) (ways : ℕ → Ways) → ReadsAll t ways fits_nowhere
+unfolding fits_nowhere
+reads-nowhere t ways = record {
+  as_type = λ slot around allowed place cs small room h. absurd h;
+  as_prefix = λ around allowed place cs small room h. absurd h;
+  as_prefix_template = λ around allowed place cs small room h. absurd h;
+  between = λ around allowed place cs small room h. absurd h;
+  between_template = λ around allowed place cs small room h. absurd h;
+  as_entity = λ role around allowed place cs small room h. absurd h;
+  as_entity_template = λ around allowed place cs small room h. absurd h;
+  as_piece = λ around allowed place cs small room h. absurd h;
+  as_encoding = λ around allowed place cs small room h. absurd h;
+  as_name = λ q ref around allowed place cs small room h. absurd h;
+  before = λ typed k kind around allowed place cs arguments elements items last are read keeps small room h. absurd h;
+  as_argument = λ in_pack around allowed place cs small room h. absurd h;
+  as_items = λ around allowed place cs small room h. absurd h;
+  as_more_items = λ around allowed place cs small room h. absurd h;
+  as_parameters = λ ref around allowed place cs small room h. absurd h;
+  as_more_parameters = λ ref around allowed place cs small room h. absurd h;
+  as_elements = λ in_pack around allowed place cs small room h. absurd h;
+}
+
+pub reads-piece : (t : Term) (ways : ℕ → Ways) (fitting : Fitting)
+    → Leads (λ n. (ways n).as_piece) fitting (λ around allowed. PieceReads around allowed t) → ReadsAll t ways (piece_fits fitting)
+unfolding piece_fits fits_nowhere
+reads-piece t ways fitting one = record {
+  as_type = λ slot around allowed place cs small room h. absurd h;
+  as_prefix = λ around allowed place cs small room h. absurd h;
+  as_prefix_template = λ around allowed place cs small room h. absurd h;
+  between = λ around allowed place cs small room h. absurd h;
+  between_template = λ around allowed place cs small room h. absurd h;
+  as_entity = λ role around allowed place cs small room h. absurd h;
+  as_entity_template = λ around allowed place cs small room h. absurd h;
+  as_piece = one;
+  as_encoding = λ around allowed place cs small room h. absurd h;
+  as_name = λ q ref around allowed place cs small room h. absurd h;
+  before = λ typed k kind around allowed place cs arguments elements items last are read keeps small room h. absurd h;
+  as_argument = λ in_pack around allowed place cs small room h. absurd h;
+  as_items = λ around allowed place cs small room h. absurd h;
+  as_more_items = λ around allowed place cs small room h. absurd h;
+  as_parameters = λ ref around allowed place cs small room h. absurd h;
+  as_more_parameters = λ ref around allowed place cs small room h. absurd h;
+  as_elements = λ in_pack around allowed place cs small room h. absurd h;
+}
+
+pub reads-argument : (t : Term) (ways : ℕ → Ways) (fitting : (in_pack : Bool) → Fitting)
+    → ((in_pack : Bool) → Leads (λ n. (ways n).as_argument) (fitting in_pack) (λ around allowed. ArgumentReads in_pack around allowed t))
+    → ReadsAll t ways (argument_fits fitting)
+unfolding argument_fits fits_nowhere
+reads-argument t ways fitting one = record {
+  as_type = λ slot around allowed place cs small room h. absurd h;
+  as_prefix = λ around allowed place cs small room h. absurd h;
+  as_prefix_template = λ around allowed place cs small room h. absurd h;
+  between = λ around allowed place cs small room h. absurd h;
+  between_template = λ around allowed place cs small room h. absurd h;
+  as_entity = λ role around allowed place cs small room h. absurd h;
+  as_entity_template = λ around allowed place cs small room h. absurd h;
+  as_piece = λ around allowed place cs small room h. absurd h;
+  as_encoding = λ around allowed place cs small room h. absurd h;
+  as_name = λ q ref around allowed place cs small room h. absurd h;
+  before = λ typed k kind around allowed place cs arguments elements items last are read keeps small room h. absurd h;
+  as_argument = one;
+  as_items = λ around allowed place cs small room h. absurd h;
+  as_more_items = λ around allowed place cs small room h. absurd h;
+  as_parameters = λ ref around allowed place cs small room h. absurd h;
+  as_more_parameters = λ ref around allowed place cs small room h. absurd h;
+  as_elements = λ in_pack around allowed place cs small room h. absurd h;
+}
+
+pub reads-encoding : (t : Term) (ways : ℕ → Ways) (standing : (allowed : Option ℕ) → Standing)
+    → Leads (λ n. (ways n).as_encoding) (λ around. standing) (λ around allowed. ReadsAt around allowed (OfKind 4) (Is (tree t true)))
+    → ReadsAll t ways (encoding_fits standing)
+unfolding encoding_fits fits_nowhere
+reads-encoding t ways standing one = record {
+  as_type = λ slot around allowed place cs small room h. absurd h;
+  as_prefix = λ around allowed place cs small room h. absurd h;
+  as_prefix_template = λ around allowed place cs small room h. absurd h;
+  between = λ around allowed place cs small room h. absurd h;
+  between_template = λ around allowed place cs small room h. absurd h;
+  as_entity = λ role around allowed place cs small room h. absurd h;
+  as_entity_template = λ around allowed place cs small room h. absurd h;
+  as_piece = λ around allowed place cs small room h. absurd h;
+  as_encoding = one;
+  as_name = λ q ref around allowed place cs small room h. absurd h;
+  before = λ typed k kind around allowed place cs arguments elements items last are read keeps small room h. absurd h;
+  as_argument = λ in_pack around allowed place cs small room h. absurd h;
+  as_items = λ around allowed place cs small room h. absurd h;
+  as_more_items = λ around allowed place cs small room h. absurd h;
+  as_parameters = λ ref around allowed place cs small room h. absurd h;
+  as_more_parameters = λ ref around allowed place cs small room h. absurd h;
+  as_elements = λ in_pack around allowed place cs small room h. absurd h;
+}
+
+-- ## Types
+
+-- a type as an argument
+pub typed-argument : (in_pack : Bool) (around : Around) (allowed : Option ℕ) (t : Term) (place : ℕ) (cs : List Candidate) (w : Written)
+    → ReadsAs item_type around allowed t place cs w → ArgumentReads in_pack around allowed t place cs w
+typed-argument true around allowed t place cs w one items last rest are two =
+    type-element around allowed t items last place cs w rest are
+    (subst (λ q. ReadsAt around allowed (OfKind 30) (Is (tree t true)) q cs w) (omega arith) one)
+    (subst (λ q. ReadsAt around allowed (OfKind 45) (Is last) q w.components rest) (omega arith) two)
+typed-argument false around allowed t place cs w one items last rest are two =
+    type-argument around allowed t items last place cs w rest are
+    (subst (λ q. ReadsAt around allowed (OfKind 30) (Is (tree t true)) q cs w) (omega arith) one)
+    (subst (λ q. ReadsAt around allowed (OfKind 44) (Is last) q w.components rest) (omega arith) two)
+
+-- a component before its arguments, of which only a reference stands there
+pub referred-before : (typed : Bool) (k : ℕ) (around : Around) (allowed : Option ℕ) (t : Term) → TemplateKind typed k → (place : ℕ)
+    (cs : List Candidate) (spelling : Spelling) (arguments : Fitting) (elements : Spelling) (items : Term) (last : Value)
+    → no_items last ≡ items
+    → ReadElements around allowed last arguments elements → Keeps spelling → Keeps (of_elements elements)
+    → HasRoom ((component around.encoding t spelling and of_elements elements) place cs)
+    → as_template t nowhere (λ n. text []) arguments around allowed place cs
+    → ReadsAt around allowed (OfKind k) (Is (tree (instance t items) false)) place cs
+    ((component around.encoding t spelling and of_elements elements) place cs)
+unfolding component reference
+referred-before typed k around allowed t kind place cs spelling arguments elements items last are read keeps kept room fits =
+    go (first_equal around.encoding t 0 cs) refl room
+    (few-before (component around.encoding t spelling and of_elements elements) place cs
+    (keeps-and (component around.encoding t spelling) (of_elements elements) (keeps-component around.encoding t spelling keeps) kept) room)
+  where
+    go : (o : Option ℕ) → first_equal around.encoding t 0 cs ≡ o
+        → (let w = elim o as (λ _. Written) [
+          | Some number ↦ reference number place cs
+          | None ↦ spelled_out around.encoding t spelling
+              place cs
+        ] in
+        let rest = of_elements elements (place + length w.bytes) w.components in HasRoom (written (w.bytes ++ rest.bytes) rest.components)
+        → length cs ≤ greatest
+        → ReadsAt around allowed (OfKind k) (Is (tree (instance t items) false)) place cs (written (w.bytes ++ rest.bytes) rest.components))
+    go (Some number) is enough few =
+        let f = found-first around.encoding t 0 number cs is in
+        let named : f.0 ≡ number = omega (arith, f.1) in
+        let args : Written = elements (place + length (reference number place cs).bytes + 1) cs in
+        subst (λ n. InstancedAt around allowed k t place cs (reference n place cs)) named
+        (instanced-behind-s typed k around allowed t kind place cs (written (seq_id f.0 ++ 95 ∷ []) cs)
+        (number-refers around allowed t f.0 (place + 1) cs few fits.0 f.2))
+        items last args are
+        (read (place + length (reference number place cs).bytes) cs (fits.1 number is)
+        (elements-room (reference number) elements place cs enough))
+    go None is enough few = absurd (fits.2 is).0
+
+-- a type that is a component, from its spelling in each slot
+pub reads-type : (t : Term) (spelling : ℕ → Spelling) (spelled : Slot → Fitting) → is_function_type t ≡ false
+    → ((n : ℕ) → Keeps (spelling n))
+    → ((slot : Slot) → Leads spelling (spelled slot) (λ around allowed place cs w. ReadsAs slot around allowed t place cs
+    (written w.bytes (more around w.components t))))
+    → ReadsAll t (λ n. type_ways (component n t (spelling n))) (type_fits t spelled)
+unfolding type_ways no_ways type_fits fits_nowhere
+reads-type t spelling spelled other keeps out = record {
+  as_type = as_types;
+  as_prefix = λ around allowed place cs small room h.
+      fitting-in around allowed t (Extends around allowed t) place cs (spelling around.encoding) nowhere (prefix-behind-s around allowed t)
+      (keeps around.encoding) room h (λ none enough. absurd none);
+  as_prefix_template = λ around allowed place cs small room h.
+      fitting-in around allowed t (ExtendsWith around allowed t) place cs (spelling around.encoding) nowhere
+      (extends-with-behind-s around allowed t) (keeps around.encoding) room h (λ none enough. absurd none);
+  between = λ around allowed place cs small room h. absurd h;
+  between_template = λ around allowed place cs small room h. absurd h;
+  as_entity = λ role around allowed place cs small room h. absurd h;
+  as_entity_template = λ around allowed place cs small room h. absurd h;
+  as_piece = λ around allowed place cs small room h. absurd h;
+  as_encoding = λ around allowed place cs small room h. absurd h;
+  as_name = λ q ref around allowed place cs small room h. absurd h;
+  before = λ typed k kind around allowed place cs arguments elements items last are read kept small room h.
+      template-value typed around allowed k (instance t items) place cs _
+      (referred-before typed k around allowed t kind place cs (spelling around.encoding) arguments elements items last are read
+      (keeps around.encoding) kept room h);
+  as_argument = λ in_pack around allowed place cs small room h.
+      typed-argument in_pack around allowed t place cs (component around.encoding t (spelling around.encoding) place cs)
+      (as_types item_type around allowed place cs small room h);
+  as_items = λ around allowed place cs small room h. absurd h;
+  as_more_items = λ around allowed place cs small room h. absurd h;
+  as_parameters = λ ref around allowed place cs small room h. absurd h;
+  as_more_parameters = λ ref around allowed place cs small room h. absurd h;
+  as_elements = λ in_pack around allowed place cs small room h. absurd h;
+}
+  where
+    bare : (slot : Slot) → is_function_type t && is_bare slot ≡ false
+    bare slot = ap (λ b. b && is_bare slot) other
+
+    whole : (slot : Slot) → Leads (λ n. component n t (spelling n)) (as_component t (spelled slot))
+        (λ around allowed. ReadsAs slot around allowed t)
+    whole slot around allowed place cs small room h =
+        let s = in-slot slot around allowed t (bare slot) in
+        fitting-in around allowed t (ReadsAs slot around allowed t) place cs (spelling around.encoding) (spelled slot) s.behind_s
+        (keeps around.encoding) room h (λ fits enough. out slot around allowed place cs small enough fits)
+
+    as_types : (slot : Slot) → Leads (λ n. slot_way slot (type_ways (component n t (spelling n)))) (as_component t (spelled slot))
+        (λ around allowed. ReadsAs slot around allowed t)
+    as_types any_type = whole any_type
+    as_types bare_type = whole bare_type
+    as_types item_type = whole item_type
+    as_types parameter_type = whole parameter_type
+    as_types literal_type = whole literal_type

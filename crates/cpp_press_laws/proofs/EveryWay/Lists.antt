@@ -1,0 +1,379 @@
+-- Lists, function types and local names are read in each of their ways.
+use Rattle.std.proofs.Common.{◌≡◌, ℕ, ◌+◌, length, List, [], ◌∷◌, ◌++◌, Option, Some, Bool, true, false, refl, ap, arith, sym, subst, append_assoc, length-append}
+use Rattle.std.specs.Prelude.{slice_get, cond, codes, ◌&&◌}
+use Rattle.sym_shape.specs.declared.rule.Sym.TheVariants.{Kind as OfKind}
+use Rattle.sym_spell.specs.Pressing.{◌and◌, text}
+use Rattle.cpp_grammar.specs.declared.kind.Kind.{Kind}
+use Rattle.cpp_grammar.specs.declared.production.Production.{Production}
+use Rattle.cpp_grammar.specs.Grammar.{in_ranges, among, is_in, pick, alternatives, choose, kinds, is_chain, may_be_empty}
+use Rattle.cpp_grammar.specs.Term.{RefQualifier, Term, builtin, function_type, nil, list, instance}
+use Rattle.cpp_grammar.specs.Values.{Candidate, Around, nothing_there, tree}
+use Rattle.cpp_grammar.specs.References.{is_function_type}
+use Rattle.cpp_grammar.specs.Between.{no_items}
+use Rattle.cpp_grammar.specs.Meaning.{is_void, is_nil, parameters}
+use Rattle.cpp_press_laws.specs.Texts.{mark_letter}
+use Rattle.cpp_press_laws.specs.Components.{Spelling, component}
+use Rattle.cpp_press_laws.specs.Pressing.{ways_of, no_ways, type_ways, function_text}
+use Rattle.cpp_press_laws.proofs.ReadBack.Reading.{Written, written, ReadsAt, takes-byte, empty-reads}
+use Rattle.cpp_press_laws.proofs.ReadBack.Types.{Is, more, function-under-qualifiers, noexcept-under-qualifiers}
+use Rattle.cpp_press_laws.proofs.ReadBack.Solids.{builtin-solid}
+use Rattle.cpp_press_laws.proofs.ReadBack.Functions.{function-solid, noexcept-behind-d}
+use Rattle.cpp_press_laws.proofs.ReadBack.Arguments.{items_value, items-more}
+use Rattle.cpp_press_laws.proofs.ReadBack.Names.{Extends}
+use Rattle.cpp_press_laws.proofs.ReadBack.Parameters.{RestReads, end-reads, none-read}
+use Rattle.cpp_press_laws.proofs.Components.Keeping.{Keeps, keeps-text, keeps-and, keeps-front, keeps-behind, keeps}
+use Rattle.cpp_press_laws.proofs.ReadBack.Slots.{HasRoom, IsSmall, room-first, room-rest, ReadsAs, is_bare, in-slot, fitting-in}
+use Rattle.cpp_press_laws.proofs.ReadBack.Between.{ExtendsWith, extends-with-behind-s, prefix-behind-s}
+use Rattle.cpp_press_laws.proofs.EveryWay.Every.{template-value, ListReads, list_kind, with_end, Leads, slot_way, typed-argument, referred-before}
+use Rattle.cpp_press_laws.proofs.EveryWay.Types.{Reading, solid-in-all, with-d-in-all}
+use Rattle.cpp_press_laws.proofs.EveryWay.Instances.{items-kept}
+use Rattle.cpp_press_laws.proofs.Fits.Fit.{takes_all, Slot, any_type, bare_type, item_type, parameter_type, literal_type, takes_all, Fitting, as_component, nowhere, Behind, type_fits, fits_nowhere, fits_of}
+
+-- ## Lists
+
+-- no parameters are spelled as a void
+void-item : (around : Around) (allowed : Option ℕ) (place : ℕ) (cs : List Candidate)
+    → ReadsAt around allowed (OfKind 30) (Is (tree (builtin (118 ∷ [])) true)) place cs (written (118 ∷ []) cs)
+unfolding choose alternatives pick is_in in_ranges among kinds is_chain is_function_type
+void-item around allowed place cs =
+    (in-slot item_type around allowed (builtin (118 ∷ [])) refl).keeps place cs (written (118 ∷ []) cs)
+    (builtin-solid 34 around allowed 118 place cs (takes-byte 34 Kind.Solid Production.Builtin 118 refl refl (omega arith) refl))
+
+empty-list : (k : ℕ) (kind : Kind) (around : Around) (allowed : Option ℕ) (place : ℕ) (cs : List Candidate) → slice_get kinds k ≡ Some kind
+    → may_be_empty kind ≡ true → ListReads k around allowed nil place cs (written [] cs)
+empty-list k kind around allowed place cs at may = (items-kept nil, empty-reads around allowed k kind place cs at may)
+
+pub reads-nil : Reading nil
+unfolding ways_of fits_of fits_nowhere no_ways parameters is_void is_nil no_items kinds may_be_empty
+reads-nil = record {
+  as_type = λ slot around allowed place cs small room h. absurd h;
+  as_prefix = λ around allowed place cs small room h. absurd h;
+  as_prefix_template = λ around allowed place cs small room h. absurd h;
+  between = λ around allowed place cs small room h. absurd h;
+  between_template = λ around allowed place cs small room h. absurd h;
+  as_entity = λ role around allowed place cs small room h. absurd h;
+  as_entity_template = λ around allowed place cs small room h. absurd h;
+  as_piece = λ around allowed place cs small room h. absurd h;
+  as_encoding = λ around allowed place cs small room h. absurd h;
+  as_name = λ q ref around allowed place cs small room h. absurd h;
+  before = λ typed k kind around allowed place cs arguments elements items last are read kept small room h. absurd h;
+  as_argument = λ in_pack around allowed place cs small room h. absurd h;
+  as_items = λ around allowed place cs small room h. record {
+    first = builtin (118 ∷ []);
+    items = nil;
+    last = nothing_there;
+    one = written (118 ∷ []) cs;
+    rest = written [] cs;
+    are = refl;
+    means = refl;
+    split = refl;
+    components = refl;
+    reads_one = void-item around allowed place cs;
+    reads_rest = empty-reads around allowed 41 Kind.Items (place + 1) cs refl refl;
+  };
+  as_more_items = λ around allowed place cs small room h. empty-list 41 Kind.Items around allowed place cs refl refl;
+  as_parameters = λ ref around allowed place cs small room h.
+      (list (builtin (118 ∷ [])) nil, refl, none-read around allowed ref place cs);
+  as_more_parameters = λ ref around allowed place cs small room h. end-reads around allowed ref place cs;
+  as_elements = λ in_pack around allowed place cs small room h. none in_pack around allowed place cs;
+}
+  where
+    none : (in_pack : Bool) (around : Around) (allowed : Option ℕ) (place : ℕ) (cs : List Candidate)
+        → ListReads (list_kind in_pack) around allowed nil place cs (written [] cs)
+    none true around allowed place cs = empty-list 45 Kind.PackList around allowed place cs refl refl
+    none false around allowed place cs = empty-list 44 Kind.ArgumentList around allowed place cs refl refl
+
+-- parameters that aren't a lone void are those
+kept-parameters : (first rest : Term) → is_void first && is_nil rest ≡ false → parameters (list first rest) ≡ list first rest
+unfolding parameters
+kept-parameters first rest h = go (is_void first && is_nil rest) h
+  where
+    go : (b : Bool) → b ≡ false → elim b as (λ _. Term) [ true ↦ nil | false ↦ list first rest ] ≡ list first rest
+    go true k = absurd (let e : true ≡ false = k in cc)
+    go false k = refl
+
+more-with-end : (ref : RefQualifier) (w rest : Written) → with_end ref (written (w.bytes ++ rest.bytes) rest.components)
+    ≡ written (w.bytes ++ (with_end ref rest).bytes) rest.components
+more-with-end ref w rest = ap (λ l. written l rest.components) (append_assoc w.bytes rest.bytes (mark_letter ref ++ codes "E"))
+
+pub reads-list : (f r : Term) → Reading f → Reading r → Reading (list f r)
+unfolding ways_of fits_of fits_nowhere no_ways
+reads-list f r rf rr = record {
+  as_type = λ slot around allowed place cs small room h. absurd h;
+  as_prefix = λ around allowed place cs small room h. absurd h;
+  as_prefix_template = λ around allowed place cs small room h. absurd h;
+  between = λ around allowed place cs small room h. absurd h;
+  between_template = λ around allowed place cs small room h. absurd h;
+  as_entity = λ role around allowed place cs small room h. absurd h;
+  as_entity_template = λ around allowed place cs small room h. absurd h;
+  as_piece = λ around allowed place cs small room h. absurd h;
+  as_encoding = λ around allowed place cs small room h. absurd h;
+  as_name = λ q ref around allowed place cs small room h. absurd h;
+  before = λ typed k kind around allowed place cs arguments elements items last are read kept small room h. absurd h;
+  as_argument = λ in_pack around allowed place cs small room h. absurd h;
+  as_items = λ around allowed place cs small room h.
+      let n : ℕ = around.encoding in
+      let one : Written = (ways_of n f).as_type place cs in
+      let m = rr.as_more_items around allowed (place + length one.bytes) one.components small
+      (room-rest (ways_of n f).as_type (ways_of n r).as_more_parameters place cs room) h.1.1 in
+      record {
+        first = f;
+        items = r;
+        last = items_value r;
+        one = one;
+        rest = (ways_of n r).as_more_parameters (place + length one.bytes) one.components;
+        are = m.0;
+        means = kept-parameters f r h.0;
+        split = refl;
+        components = refl;
+        reads_one = rf.as_type item_type around allowed place cs small
+            (room-first (ways_of n f).as_type (ways_of n r).as_more_parameters place cs (keeps r n).as_more_parameters room) h.1.0;
+        reads_rest = m.1;
+      };
+  as_more_items = λ around allowed place cs small room h.
+      let n : ℕ = around.encoding in
+      let one : Written = (ways_of n f).as_type place cs in
+      let rest : Written = (ways_of n r).as_more_parameters (place + length one.bytes) one.components in
+      let m = rr.as_more_items around allowed (place + length one.bytes) one.components small
+      (room-rest (ways_of n f).as_type (ways_of n r).as_more_parameters place cs room) h.1 in (
+        items-kept (list f r),
+        items-more around allowed f r (items_value r) place cs one rest m.0
+            (subst (λ q. ReadsAt around allowed (OfKind 30) (Is (tree f true)) q cs one) (omega arith)
+            (rf.as_type item_type around allowed place cs small
+            (room-first (ways_of n f).as_type (ways_of n r).as_more_parameters place cs (keeps r n).as_more_parameters room) h.0))
+            (subst (λ q. ReadsAt around allowed (OfKind 41) (Is (items_value r)) q one.components rest) (omega arith) m.1),
+      );
+  as_parameters = λ ref around allowed place cs small room h.
+      (list f r, kept-parameters f r h.0, rest-more ref around allowed place cs small room h.1);
+  as_more_parameters = rest-more;
+  as_elements = λ in_pack around allowed place cs small room h.
+      let n : ℕ = around.encoding in
+      let one : Written = (ways_of n f).as_argument place cs in
+      let rest : Written = (ways_of n r).as_elements (place + length one.bytes) one.components in
+      let m = rr.as_elements in_pack around allowed (place + length one.bytes) one.components small
+      (room-rest (ways_of n f).as_argument (ways_of n r).as_elements place cs room) h.1 in (
+        items-kept (list f r),
+        rf.as_argument in_pack around allowed place cs small
+            (room-first (ways_of n f).as_argument (ways_of n r).as_elements place cs (keeps r n).as_elements room) h.0 r
+            (items_value r) rest m.0 m.1,
+      );
+}
+  where
+    rest-more : (ref : RefQualifier) → Leads (λ n. (ways_of n f).as_type and (ways_of n r).as_more_parameters)
+        (λ around allowed place cs. (fits_of f).as_type parameter_type around allowed place cs
+        × Behind (ways_of around.encoding f).as_type ((fits_of r).as_more_parameters parameter_type around allowed) place cs)
+        (λ around allowed place cs w. RestReads around allowed (list f r) ref place cs (with_end ref w))
+    rest-more ref around allowed place cs small room h =
+        let n : ℕ = around.encoding in
+        let one : Written = (ways_of n f).as_type place cs in
+        let rest : Written = (ways_of n r).as_more_parameters (place + length one.bytes) one.components in
+        subst (RestReads around allowed (list f r) ref place cs) (sym (more-with-end ref one rest))
+        (rf.as_type parameter_type around allowed place cs small
+        (room-first (ways_of n f).as_type (ways_of n r).as_more_parameters place cs (keeps r n).as_more_parameters room) h.0 r ref
+        (with_end ref rest)
+        (rr.as_more_parameters ref around allowed (place + length one.bytes) one.components small
+        (room-rest (ways_of n f).as_type (ways_of n r).as_more_parameters place cs room) h.1))
+
+-- ## Function types
+
+abbrev marks_of : (c_linkage noexcept : Bool) → List ℕ
+marks_of c_linkage noexcept = cond noexcept (codes "Do") [] ++ codes "F" ++ cond c_linkage (codes "Y") []
+
+abbrev function_spelling : ℕ → (c_linkage noexcept : Bool) → RefQualifier → (a ps : Term) → Spelling
+function_spelling n c_linkage noexcept ref a ps =
+    text (marks_of c_linkage noexcept) and (ways_of n a).as_type and (ways_of n ps).as_parameters and text (mark_letter ref ++ codes "E")
+
+abbrev function_fits : (c_linkage noexcept : Bool) → (a ps : Term) → Fitting
+function_fits c_linkage noexcept a ps around allowed place cs =
+    (fits_of a).as_type any_type around allowed (place + length (marks_of c_linkage noexcept)) cs
+    × Behind (text (marks_of c_linkage noexcept) and (ways_of around.encoding a).as_type)
+    ((fits_of ps).as_parameters parameter_type around allowed) place cs
+
+keeps-function : (n : ℕ) (c_linkage noexcept : Bool) (ref : RefQualifier) (a ps : Term)
+    → Keeps (function_spelling n c_linkage noexcept ref a ps)
+keeps-function n c_linkage noexcept ref a ps =
+    keeps-front (marks_of c_linkage noexcept) ((ways_of n a).as_type and (ways_of n ps).as_parameters and text (mark_letter ref ++ codes "E"))
+    (keeps-and (ways_of n a).as_type ((ways_of n ps).as_parameters and text (mark_letter ref ++ codes "E")) (keeps a n).as_type
+    (keeps-behind (ways_of n ps).as_parameters (mark_letter ref ++ codes "E") (keeps ps n).as_parameters))
+
+-- the return type, and the parameters with the end
+record FunctionParts (around : Around) (allowed : Option ℕ) (ref : RefQualifier) (a ps : Term) (at : ℕ) (cs : List Candidate)
+    (one rest : Written) : Type 0 where
+  items : Term
+  means : parameters items ≡ ps
+  reads_one : ReadsAt around allowed (OfKind 28) (Is (tree a true)) at cs one
+  reads_rest : RestReads around allowed items ref (at + length one.bytes) one.components (with_end ref rest)
+
+function-parts : (c_linkage noexcept : Bool) (ref : RefQualifier) (a ps : Term) → Reading a → Reading ps
+    → (around : Around) (allowed : Option ℕ)
+    (place : ℕ) (cs : List Candidate) → IsSmall around → HasRoom (function_spelling around.encoding c_linkage noexcept ref a ps place cs)
+    → function_fits c_linkage noexcept a ps around allowed place cs
+    → (let at = place + length (marks_of c_linkage noexcept) in
+    let one = (ways_of around.encoding a).as_type at cs in
+    FunctionParts around allowed ref a ps at cs one ((ways_of around.encoding ps).as_parameters (at + length one.bytes) one.components))
+function-parts c_linkage noexcept ref a ps ra rp around allowed place cs small room h =
+    let n : ℕ = around.encoding in
+    let front : List ℕ = marks_of c_linkage noexcept in
+    let end : Spelling = text (mark_letter ref ++ codes "E") in
+    let at : ℕ = place + length front in
+    let one : Written = (ways_of n a).as_type at cs in
+    let inner = room-rest (text front) ((ways_of n a).as_type and (ways_of n ps).as_parameters and end) place cs room in
+    let p = rp.as_parameters ref around allowed (at + length one.bytes) one.components small
+    (room-first (ways_of n ps).as_parameters end (at + length one.bytes) one.components (keeps-text _)
+    (room-rest (ways_of n a).as_type ((ways_of n ps).as_parameters and end) at cs inner))
+    (subst (λ q. (fits_of ps).as_parameters parameter_type around allowed q one.components)
+    (omega (arith, length-append front one.bytes)) h.1) in
+    record {
+      items = p.0;
+      means = p.1;
+      reads_one = ra.as_type any_type around allowed at cs small
+          (room-first (ways_of n a).as_type ((ways_of n ps).as_parameters and end) at cs
+          (keeps-behind (ways_of n ps).as_parameters (mark_letter ref ++ codes "E") (keeps ps n).as_parameters) inner) h.0;
+      reads_rest = p.2;
+    }
+
+-- what is read behind no byte, or behind the D of a noexcept
+abbrev FunctionReads : (noexcept : Bool) → Around → Option ℕ → Term → ℕ → List Candidate → Written → Type 0
+FunctionReads false around allowed t place cs w = ReadsAt around allowed (OfKind 34) (Is (tree t false)) place cs w
+FunctionReads true around allowed t place cs w =
+    (inner : Written) × (w ≡ written (68 ∷ inner.bytes) inner.components)
+    × ReadsAt around allowed (OfKind 33) (Is (tree t false)) (place + 1) cs inner
+
+function-reads : (c_linkage noexcept : Bool) (ref : RefQualifier) (a ps : Term) → Reading a → Reading ps
+    → (around : Around) (allowed : Option ℕ)
+    (place : ℕ) (cs : List Candidate) → IsSmall around → HasRoom (function_spelling around.encoding c_linkage noexcept ref a ps place cs)
+    → function_fits c_linkage noexcept a ps around allowed place cs
+    → FunctionReads noexcept around allowed (function_type c_linkage noexcept ref a ps) place cs
+    (function_spelling around.encoding c_linkage noexcept ref a ps place cs)
+function-reads true false ref a ps ra rp around allowed place cs small room h =
+    let p = function-parts true false ref a ps ra rp around allowed place cs small room h in
+    let one : Written = (ways_of around.encoding a).as_type (place + 2) cs in
+    let rest : Written = (ways_of around.encoding ps).as_parameters (place + 2 + length one.bytes) one.components in
+    subst (λ x. ReadsAt around allowed (OfKind 34) (Is (tree (function_type true false ref a x) false)) place cs
+    (function_spelling around.encoding true false ref a ps place cs)) p.means
+    (function-solid around allowed true a p.items ref place cs one (with_end ref rest)
+    (subst (λ q. ReadsAt around allowed (OfKind 28) (Is (tree a true)) q cs one) (omega arith) p.reads_one)
+    (subst (λ q. RestReads around allowed p.items ref q one.components (with_end ref rest)) (omega arith) p.reads_rest))
+function-reads false false ref a ps ra rp around allowed place cs small room h =
+    let p = function-parts false false ref a ps ra rp around allowed place cs small room h in
+    let one : Written = (ways_of around.encoding a).as_type (place + 1) cs in
+    let rest : Written = (ways_of around.encoding ps).as_parameters (place + 1 + length one.bytes) one.components in
+    subst (λ x. ReadsAt around allowed (OfKind 34) (Is (tree (function_type false false ref a x) false)) place cs
+    (function_spelling around.encoding false false ref a ps place cs)) p.means
+    (function-solid around allowed false a p.items ref place cs one (with_end ref rest)
+    (subst (λ q. ReadsAt around allowed (OfKind 28) (Is (tree a true)) q cs one) (omega arith) p.reads_one)
+    (subst (λ q. RestReads around allowed p.items ref q one.components (with_end ref rest)) (omega arith) p.reads_rest))
+function-reads true true ref a ps ra rp around allowed place cs small room h =
+    let p = function-parts true true ref a ps ra rp around allowed place cs small room h in
+    let one : Written = (ways_of around.encoding a).as_type (place + 4) cs in
+    let rest : Written = (ways_of around.encoding ps).as_parameters (place + 4 + length one.bytes) one.components in
+    let inner : Written = written (111 ∷ 70 ∷ 89 ∷ (one.bytes ++ (with_end ref rest).bytes)) rest.components in (
+      inner,
+      refl,
+      subst (λ x. ReadsAt around allowed (OfKind 33) (Is (tree (function_type true true ref a x) false)) (place + 1) cs inner) p.means
+          (noexcept-behind-d around allowed true a p.items ref (place + 1) cs one (with_end ref rest)
+          (subst (λ q. ReadsAt around allowed (OfKind 28) (Is (tree a true)) q cs one) (omega arith) p.reads_one)
+          (subst (λ q. RestReads around allowed p.items ref q one.components (with_end ref rest)) (omega arith) p.reads_rest)),
+    )
+function-reads false true ref a ps ra rp around allowed place cs small room h =
+    let p = function-parts false true ref a ps ra rp around allowed place cs small room h in
+    let one : Written = (ways_of around.encoding a).as_type (place + 3) cs in
+    let rest : Written = (ways_of around.encoding ps).as_parameters (place + 3 + length one.bytes) one.components in
+    let inner : Written = written (111 ∷ 70 ∷ (one.bytes ++ (with_end ref rest).bytes)) rest.components in (
+      inner,
+      refl,
+      subst (λ x. ReadsAt around allowed (OfKind 33) (Is (tree (function_type false true ref a x) false)) (place + 1) cs inner) p.means
+          (noexcept-behind-d around allowed false a p.items ref (place + 1) cs one (with_end ref rest)
+          (subst (λ q. ReadsAt around allowed (OfKind 28) (Is (tree a true)) q cs one) (omega arith) p.reads_one)
+          (subst (λ q. RestReads around allowed p.items ref q one.components (with_end ref rest)) (omega arith) p.reads_rest)),
+    )
+
+-- a function type as a component
+function-in : (noexcept : Bool) (slot : Slot) (around : Around) (allowed : Option ℕ) (t : Term) (place : ℕ) (cs : List Candidate)
+    (w : Written)
+    → takes_all slot ≡ true → is_function_type t && is_bare slot ≡ false → FunctionReads noexcept around allowed t place cs w
+    → ReadsAs slot around allowed t place cs (written w.bytes (more around w.components t))
+function-in false slot around allowed t place cs w all bare one = solid-in-all slot around allowed t place cs w all bare one
+function-in true slot around allowed t place cs w all bare (inner, is, one) =
+    subst (λ v. ReadsAs slot around allowed t place cs (written v.bytes (more around v.components t))) (sym is)
+    (with-d-in-all slot around allowed t place cs inner all bare one)
+
+-- and right under qualifiers
+function-bare : (noexcept : Bool) (around : Around) (allowed : Option ℕ) (t : Term) (place : ℕ) (cs : List Candidate) (w : Written)
+    → is_function_type t ≡ true → FunctionReads noexcept around allowed t place cs w
+    → ReadsAt around allowed (OfKind 29) (Is (tree t true)) place cs w
+function-bare false around allowed t place cs w is one =
+    function-under-qualifiers around allowed t place cs w is
+    (subst (λ q. ReadsAt around allowed (OfKind 34) (Is (tree t false)) q cs w) (omega arith) one)
+function-bare true around allowed t place cs w is (inner, same, one) =
+    subst (λ v. ReadsAt around allowed (OfKind 29) (Is (tree t true)) place cs v) (sym same)
+    (noexcept-under-qualifiers around allowed t place cs inner is one)
+
+pub reads-function-type : (c_linkage noexcept : Bool) (ref : RefQualifier) (a ps : Term) → Reading a → Reading ps
+    → Reading (function_type c_linkage noexcept ref a ps)
+unfolding ways_of fits_of fits_nowhere type_fits type_ways no_ways function_text is_function_type takes_all is_bare
+reads-function-type c_linkage noexcept ref a ps ra rp = record {
+  as_type = as_types;
+  as_prefix = λ around allowed place cs small room h.
+      let t : Term = function_type c_linkage noexcept ref a ps in
+      fitting-in around allowed t (Extends around allowed t) place cs (function_spelling around.encoding c_linkage noexcept ref a ps) nowhere
+      (prefix-behind-s around allowed t) (keeps-function around.encoding c_linkage noexcept ref a ps) room h (λ fits enough. absurd fits);
+  as_prefix_template = λ around allowed place cs small room h.
+      let t : Term = function_type c_linkage noexcept ref a ps in
+      fitting-in around allowed t (ExtendsWith around allowed t) place cs
+      (function_spelling around.encoding c_linkage noexcept ref a ps) nowhere
+      (extends-with-behind-s around allowed t) (keeps-function around.encoding c_linkage noexcept ref a ps) room h
+      (λ fits enough. absurd fits);
+  between = λ around allowed place cs small room h. absurd h;
+  between_template = λ around allowed place cs small room h. absurd h;
+  as_entity = λ role around allowed place cs small room h. absurd h;
+  as_entity_template = λ around allowed place cs small room h. absurd h;
+  as_piece = λ around allowed place cs small room h. absurd h;
+  as_encoding = λ around allowed place cs small room h. absurd h;
+  as_name = λ q ref around allowed place cs small room h. absurd h;
+  before = λ typed k kind around allowed place cs arguments elements items last are read kept small room h.
+      let t : Term = function_type c_linkage noexcept ref a ps in
+      template-value typed around allowed k (instance t items) place cs _
+      (referred-before typed k around allowed t kind place cs
+      (function_spelling around.encoding c_linkage noexcept ref a ps) arguments elements
+      items last are read (keeps-function around.encoding c_linkage noexcept ref a ps) kept room h);
+  as_argument = λ in_pack around allowed place cs small room h.
+      typed-argument in_pack around allowed (function_type c_linkage noexcept ref a ps) place cs _
+      (whole item_type refl refl around allowed place cs small room (h.0, λ none. (h.1 none).1));
+  as_items = λ around allowed place cs small room h. absurd h;
+  as_more_items = λ around allowed place cs small room h. absurd h;
+  as_parameters = λ ref around allowed place cs small room h. absurd h;
+  as_more_parameters = λ ref around allowed place cs small room h. absurd h;
+  as_elements = λ in_pack around allowed place cs small room h. absurd h;
+}
+  where
+    whole : (slot : Slot) → takes_all slot ≡ true → is_bare slot ≡ false
+        → Leads (λ n. component n (function_type c_linkage noexcept ref a ps) (function_spelling n c_linkage noexcept ref a ps))
+        (as_component (function_type c_linkage noexcept ref a ps) (function_fits c_linkage noexcept a ps))
+        (λ around allowed. ReadsAs slot around allowed (function_type c_linkage noexcept ref a ps))
+    whole slot all bare around allowed place cs small room h =
+        let t : Term = function_type c_linkage noexcept ref a ps in
+        let n : ℕ = around.encoding in
+        let s = in-slot slot around allowed t bare in
+        fitting-in around allowed t (ReadsAs slot around allowed t) place cs (function_spelling n c_linkage noexcept ref a ps)
+        (function_fits c_linkage noexcept a ps) s.behind_s (keeps-function n c_linkage noexcept ref a ps) room h
+        (λ fits enough. function-in noexcept slot around allowed t place cs
+        (function_spelling n c_linkage noexcept ref a ps place cs) all bare
+        (function-reads c_linkage noexcept ref a ps ra rp around allowed place cs small enough fits))
+
+    as_types : (slot : Slot) → Leads (λ n. slot_way slot (ways_of n (function_type c_linkage noexcept ref a ps)))
+        ((fits_of (function_type c_linkage noexcept ref a ps)).as_type slot)
+        (λ around allowed. ReadsAs slot around allowed (function_type c_linkage noexcept ref a ps))
+    as_types any_type = whole any_type refl refl
+    as_types bare_type = λ around allowed place cs small room h.
+        function-bare noexcept around allowed (function_type c_linkage noexcept ref a ps) place cs
+        (function_spelling around.encoding c_linkage noexcept ref a ps place cs) refl
+        (function-reads c_linkage noexcept ref a ps ra rp around allowed place cs small room h)
+    as_types item_type = whole item_type refl refl
+    as_types parameter_type = whole parameter_type refl refl
+    as_types literal_type = λ around allowed place cs small room h.
+        let t : Term = function_type c_linkage noexcept ref a ps in
+        let s = in-slot literal_type around allowed t refl in
+        fitting-in around allowed t (ReadsAs literal_type around allowed t) place cs
+        (function_spelling around.encoding c_linkage noexcept ref a ps)
+        nowhere s.behind_s (keeps-function around.encoding c_linkage noexcept ref a ps) room h (λ fits enough. absurd fits)

@@ -1,0 +1,278 @@
+-- Names of a piece, alone and behind St, are read in each of their ways.
+use Rattle.std.proofs.Common.{◌≡◌, ℕ, ◌+◌, length, List, [], ◌∷◌, ◌++◌, Option, Bool, true, false, refl, ap, arith, sym, subst, ◌∙◌, append-nil, append_assoc, length-append}
+use Rattle.std.specs.Prelude.{cond, codes}
+use Rattle.sym_shape.specs.declared.rule.Sym.TheVariants.{Kind as OfKind}
+use Rattle.sym_shape.specs.Tree.{TakesRule}
+use Rattle.sym_spell.specs.Pressing.{◌and◌, text}
+use Rattle.cpp_grammar.specs.declared.kind.Kind.{Kind}
+use Rattle.cpp_grammar.specs.declared.production.Production.{Production}
+use Rattle.cpp_grammar.specs.Grammar.{in_ranges, among, is_in, pick, alternatives, choose, kinds, is_chain}
+use Rattle.cpp_grammar.specs.Table.{abi, rule_of}
+use Rattle.cpp_grammar.specs.Term.{Qualifiers, RefQualifier, any_value, lvalue_only, rvalue_only, Term, alone, instance}
+use Rattle.cpp_grammar.specs.Values.{Candidate, outermost, Around, Value, tree, named, tree_of, qualifiers_of, ref_of, unqualified}
+use Rattle.cpp_grammar.specs.References.{is_function_type}
+use Rattle.cpp_grammar.specs.Between.{extended, inside}
+use Rattle.cpp_press_laws.specs.Texts.{qualifier_letters, mark_letter, name_letters}
+use Rattle.cpp_press_laws.specs.Components.{Spelling, ended, component}
+use Rattle.cpp_press_laws.specs.Pressing.{ways_of, no_ways, name_ways, with_letters, in_N_and_E, template_before}
+use Rattle.cpp_press_laws.proofs.ReadBack.Reading.{Written, written, ReadsAt, takes-byte}
+use Rattle.cpp_press_laws.proofs.ReadBack.Types.{Is, more}
+use Rattle.cpp_press_laws.proofs.ReadBack.Functions.{mark_bytes}
+use Rattle.cpp_press_laws.proofs.ReadBack.Names.{SoFar, Extends, nest-whole}
+use Rattle.cpp_press_laws.proofs.ReadBack.Encodings.{ref_bytes, nested-name}
+use Rattle.cpp_press_laws.proofs.Components.Keeping.{keeps-text, keeps-and, keeps-ended, keeps}
+use Rattle.cpp_press_laws.proofs.ReadBack.Slots.{HasRoom, room-first, room-rest, ReadsAs, solid_kind, in-slot, fitting-in}
+use Rattle.cpp_press_laws.proofs.ReadBack.Named.{NameRule, own-rule}
+use Rattle.cpp_press_laws.proofs.ReadBack.Between.{ElementsRead, named-piece, ExtendsWith, extends-with-behind-s, prefix-behind-s, prefix-piece, prefix-with-piece}
+use Rattle.cpp_press_laws.proofs.ReadBack.Templates.{slot-rules, TemplateKind, of_elements, ReadElements, elements-room, template-reads}
+use Rattle.cpp_press_laws.proofs.EveryWay.Every.{NameReads, TemplateReads, template-value, Leads, slot_way, typed-argument}
+use Rattle.cpp_press_laws.proofs.EveryWay.Types.{Reading}
+use Rattle.cpp_press_laws.proofs.Fits.Fit.{Slot, any_type, bare_type, item_type, parameter_type, literal_type, Fitting, as_component, one_piece, names_type, names_function, begins_name, IsWithoutLetters, by_letters, fits_nowhere, fits_of}
+
+-- ## Letters
+
+mark-letters : (b : Bool) (byte : ℕ) → mark_bytes b byte ≡ cond b (byte ∷ []) []
+mark-letters true byte = refl
+mark-letters false byte = refl
+
+ref-letters : (ref : RefQualifier) → ref_bytes ref ≡ mark_letter ref
+unfolding mark_letter
+ref-letters any_value = refl
+ref-letters lvalue_only = refl
+ref-letters rvalue_only = refl
+
+letters-joined : (a b c d x : List ℕ) → a ++ (b ++ (c ++ (d ++ x))) ≡ ((a ++ b ++ c) ++ d) ++ x
+letters-joined a b c d x =
+    sym (append_assoc a b (c ++ (d ++ x))) ∙ sym (append_assoc (a ++ b) c (d ++ x)) ∙ sym (append_assoc ((a ++ b) ++ c) d x)
+
+-- the letters of a name between N and E
+letters-are : (q : Qualifiers) (ref : RefQualifier) (x : List ℕ)
+    → mark_bytes q.restrict 114 ++ (mark_bytes q.volatile 86 ++ (mark_bytes q.const 75 ++ (ref_bytes ref ++ x))) ≡ name_letters q ref ++ x
+unfolding name_letters qualifier_letters
+letters-are q ref x =
+    letters-joined (mark_bytes q.restrict 114) (mark_bytes q.volatile 86) (mark_bytes q.const 75) (ref_bytes ref) x
+    ∙ ap (λ l. ((l ++ mark_bytes q.volatile 86 ++ mark_bytes q.const 75) ++ ref_bytes ref) ++ x) (mark-letters q.restrict 114)
+    ∙ ap (λ l. ((cond q.restrict (114 ∷ []) [] ++ l ++ mark_bytes q.const 75) ++ ref_bytes ref) ++ x) (mark-letters q.volatile 86)
+    ∙ ap (λ l. ((cond q.restrict (114 ∷ []) [] ++ cond q.volatile (86 ∷ []) [] ++ l) ++ ref_bytes ref) ++ x) (mark-letters q.const 75)
+    ∙ ap (λ l. ((cond q.restrict (114 ∷ []) [] ++ cond q.volatile (86 ∷ []) [] ++ cond q.const (75 ∷ []) []) ++ l) ++ x) (ref-letters ref)
+
+-- a name between N and E, behind the letters of its encoding
+pub letters-nested : (k : ℕ) (around : Around) (allowed : Option ℕ) (t : Term) (q : Qualifiers) (ref : RefQualifier) (place : ℕ)
+    (cs : List Candidate) (w : Written) → TakesRule abi k (rule_of Production.NestedName) (78 ∷ [])
+    → SoFar around allowed t false 18 (place + length (78 ∷ name_letters q ref)) cs w
+    → NameReads around allowed k t q ref place cs (written ((78 ∷ name_letters q ref) ++ (w.bytes ++ (69 ∷ []))) w.components)
+unfolding tree_of qualifiers_of ref_of
+letters-nested k around allowed t q ref place cs w takes so_far =
+    let whole : Written = written (w.bytes ++ (69 ∷ [])) w.components in
+    let at : ℕ = place + length (78 ∷ name_letters q ref) in
+    record {
+      value = named t q ref;
+      tree_is = refl;
+      qualifiers_are = refl;
+      ref_is = refl;
+      reads = subst (λ l. ReadsAt around allowed (OfKind k) (Is (named t q ref)) place cs (written (78 ∷ l) w.components))
+          (letters-are q ref whole.bytes)
+          (nested-name k around allowed t false q.restrict q.volatile q.const ref place cs whole takes
+          (subst (λ p. ReadsAt around allowed (OfKind 15) (Is (tree t false)) p cs whole) (there whole.bytes)
+          (nest-whole around allowed t at cs w so_far)));
+    }
+  where
+    there : (x : List ℕ) → place + length (78 ∷ name_letters q ref) ≡ place + 1 + length (mark_bytes q.restrict 114)
+        + length (mark_bytes q.volatile 86) + length (mark_bytes q.const 75) + length (ref_bytes ref)
+    there x = omega (
+      arith,
+      ap length (letters-are q ref []),
+      ap length (append-nil (name_letters q ref)),
+      length-append (mark_bytes q.restrict 114) (mark_bytes q.volatile 86 ++ (mark_bytes q.const 75 ++ (ref_bytes ref ++ []))),
+      length-append (mark_bytes q.volatile 86) (mark_bytes q.const 75 ++ (ref_bytes ref ++ [])),
+      length-append (mark_bytes q.const 75) (ref_bytes ref ++ []),
+      length-append (ref_bytes ref) [],
+    )
+
+-- without letters there are no qualifiers and no mark
+pub without-letters : (q : Qualifiers) (ref : RefQualifier) → name_letters q ref ≡ [] → (unqualified ≡ q) × (any_value ≡ ref)
+unfolding name_letters qualifier_letters mark_letter
+without-letters q ref none = go q.restrict q.volatile q.const ref none
+  where
+    go : (r v c : Bool) (m : RefQualifier)
+        → (cond r (codes "r") [] ++ cond v (codes "V") [] ++ cond c (codes "K") []) ++ mark_letter m ≡ []
+        → (unqualified ≡ record { restrict = r; volatile = v; const = c }) × (any_value ≡ m)
+    go false false false any_value h = (refl, refl)
+    go false false false lvalue_only h = cc
+    go false false false rvalue_only h = cc
+    go true v c m h = cc
+    go false true c m h = cc
+    go false false true m h = cc
+
+pub no-letters : (ls : List ℕ) → IsWithoutLetters ls → ls ≡ []
+no-letters [] h = refl
+no-letters (l ∷ ls) h = absurd h
+
+-- a tree as a name without letters
+pub plain-name : (k : ℕ) (around : Around) (allowed : Option ℕ) (t : Term) (q : Qualifiers) (ref : RefQualifier) (place : ℕ)
+    (cs : List Candidate)
+    (w : Written) → name_letters q ref ≡ [] → ReadsAt around allowed (OfKind k) (Is (tree t false)) place cs w
+    → NameReads around allowed k t q ref place cs w
+unfolding tree_of qualifiers_of ref_of
+plain-name k around allowed t q ref place cs w none one =
+    let same = without-letters q ref none in
+    record { value = tree t false; tree_is = refl; qualifiers_are = same.0; ref_is = same.1; reads = one }
+
+-- one without qualifiers is a name with none
+pub no-qualifiers : (k : ℕ) (around : Around) (allowed : Option ℕ) (t : Term) (q : Qualifiers) (ref : RefQualifier) (place : ℕ)
+    (cs : List Candidate)
+    (w : Written) → name_letters q ref ≡ [] → NameReads around allowed k t unqualified any_value place cs w
+    → NameReads around allowed k t q ref place cs w
+no-qualifiers k around allowed t q ref place cs w none one =
+    let same = without-letters q ref none in
+    record {
+      value = one.value;
+      tree_is = one.tree_is;
+      qualifiers_are = one.qualifiers_are ∙ same.0;
+      ref_is = one.ref_is ∙ same.1;
+      reads = one.reads;
+    }
+
+takes-nested-name : TakesRule abi 8 (rule_of Production.NestedName) (78 ∷ [])
+unfolding choose alternatives pick is_in in_ranges among kinds is_chain
+takes-nested-name = takes-byte 8 Kind.CompleteName Production.NestedName 78 refl refl (omega arith) refl
+
+-- the room of a name behind letters
+pub nested-room : (letters : List ℕ) (name : Spelling) (place : ℕ) (cs : List Candidate) → HasRoom (in_N_and_E letters name place cs)
+    → HasRoom (name (place + length (codes "N" ++ letters)) cs)
+unfolding in_N_and_E
+nested-room letters name place cs room =
+    room-first name (text (codes "E")) (place + length (codes "N" ++ letters)) cs (keeps-text _)
+    (room-rest (text (codes "N" ++ letters)) (name and text (codes "E")) place cs room)
+
+-- an encoding's own name: without letters it is spelled out, and behind letters between N and E
+pub name-by-letters : (around : Around) (allowed : Option ℕ) (t : Term) (q : Qualifiers) (ref : RefQualifier) (place : ℕ)
+    (cs : List Candidate)
+    (own between : Spelling) (fit_own fit_between : Fitting) → HasRoom (with_letters (name_letters q ref) own between place cs)
+    → by_letters (name_letters q ref) fit_own fit_between around allowed place cs
+    → (fit_own around allowed place cs → HasRoom (own place cs) → NameReads around allowed 8 t unqualified any_value place cs (own place cs))
+    → ((at : ℕ) → fit_between around allowed at cs → HasRoom (between at cs) → SoFar around allowed t false 18 at cs (between at cs))
+    → NameReads around allowed 8 t q ref place cs (with_letters (name_letters q ref) own between place cs)
+unfolding with_letters by_letters in_N_and_E
+name-by-letters around allowed t q ref place cs own between fit_own fit_between room fits bare nested = go (name_letters q ref) refl room fits
+  where
+    go : (ls : List ℕ) → name_letters q ref ≡ ls → HasRoom (with_letters ls own between place cs)
+        → by_letters ls fit_own fit_between around allowed place cs
+        → NameReads around allowed 8 t q ref place cs (with_letters ls own between place cs)
+    go [] none enough h = no-qualifiers 8 around allowed t q ref place cs (own place cs) none (bare h enough)
+    go (l ∷ ls) are enough h =
+        let at : ℕ = place + length (78 ∷ l ∷ ls) in
+        let w : Written = between at cs in
+        subst (λ x. NameReads around allowed 8 t q ref place cs (written ((78 ∷ x) ++ (w.bytes ++ (69 ∷ []))) w.components)) are
+        (letters-nested 8 around allowed t q ref place cs w takes-nested-name
+        (subst (λ x. SoFar around allowed t false 18 (place + length (78 ∷ x)) cs w) (sym are)
+        (nested at h (nested-room (l ∷ ls) between place cs enough))))
+
+-- ## A piece alone
+
+outermost-alone : (around : Around) (p : Term) → around.prefix ≡ outermost → extended around.prefix p ≡ alone p
+unfolding extended
+outermost-alone around p is = ap (λ x. extended x p) is
+
+alone-rule : (typed : Bool) (k : ℕ) (p : Term) → TemplateKind typed k
+    → elim typed as (λ _. Bool) [ true ↦ names_type p | false ↦ names_function p ] ≡ true
+    → NameRule k p
+alone-rule true k p rules h = rules.names p h
+alone-rule false k p eight h = subst (λ j. NameRule j p) (sym eight) (own-rule p h)
+
+-- arguments behind a name of which a component is made, at the place where they are spelled
+pub elements-behind : (around : Around) (allowed : Option ℕ) (last : Value) (arguments : Fitting) (elements : Spelling) (own : Term)
+    (w : Written)
+    (place at : ℕ) → ReadElements around allowed last arguments elements
+    → HasRoom ((ended around.encoding own and of_elements elements) (place + length w.bytes) w.components)
+    → at ≡ place + length w.bytes → arguments around allowed at (more around w.components own)
+    → ElementsRead around allowed last (place + length w.bytes) (more around w.components own)
+    (elements (place + length w.bytes + 0 + 1) (more around w.components own))
+unfolding ended
+elements-behind around allowed last arguments elements own w place at read room there fits =
+    let from : ℕ = place + length w.bytes + 0 in
+    let made : List Candidate = more around w.components own in
+    subst (λ q. ReadsAt (inside around) allowed (OfKind 44) (Is last) (q + 1) made (elements (from + 1) made)) (omega arith)
+    (read from made (subst (λ q. arguments around allowed q made) (omega (arith, there)) fits)
+    (elements-room (ended around.encoding own) elements (place + length w.bytes) w.components room))
+
+pub reads-alone : (p : Term) → Reading p → Reading (alone p)
+unfolding ways_of fits_of fits_nowhere name_ways no_ways with_letters template_before is_function_type ended
+reads-alone p r = record {
+  as_type = as_types;
+  as_prefix = λ around allowed place cs small room h.
+      fitting-in around allowed (alone p) (Extends around allowed (alone p)) place cs (ways_of around.encoding p).as_piece
+      (one_piece outermost (begins_name p) (fits_of p).as_piece)
+      (prefix-behind-s around allowed (alone p)) (keeps p around.encoding).as_piece room h
+      (λ fits enough. prefix-piece around allowed p (alone p) place cs ((ways_of around.encoding p).as_piece place cs)
+      ((r.as_piece around allowed place cs small enough fits.2).begins fits.1) (outermost-alone around p fits.0));
+  as_prefix_template = λ around allowed place cs small room h.
+      fitting-in around allowed (alone p) (ExtendsWith around allowed (alone p)) place cs (ways_of around.encoding p).as_piece
+      (one_piece outermost (begins_name p) (fits_of p).as_piece)
+      (extends-with-behind-s around allowed (alone p)) (keeps p around.encoding).as_piece room h
+      (λ fits enough. prefix-with-piece around allowed p (alone p) place cs ((ways_of around.encoding p).as_piece place cs)
+      ((r.as_piece around allowed place cs small enough fits.2).begins fits.1) (outermost-alone around p fits.0));
+  between = λ around allowed place cs small room h. absurd h;
+  between_template = λ around allowed place cs small room h. absurd h;
+  as_entity = λ role around allowed place cs small room h. absurd h;
+  as_entity_template = λ around allowed place cs small room h. absurd h;
+  as_piece = λ around allowed place cs small room h. absurd h;
+  as_encoding = λ around allowed place cs small room h. absurd h;
+  as_name = λ q ref around allowed place cs small room h.
+      let own : Spelling = (ways_of around.encoding p).as_piece in
+      let none : name_letters q ref ≡ [] = no-letters (name_letters q ref) h.0 in
+      subst (λ ls. NameReads around allowed 8 (alone p) q ref place cs (with_letters ls own own place cs)) (sym none)
+      (plain-name 8 around allowed (alone p) q ref place cs (own place cs) none
+      (named-piece around allowed 8 p (alone p) place cs (own place cs)
+      (r.as_piece around allowed place cs small (subst (λ ls. HasRoom (with_letters ls own own place cs)) none room) h.1.2)
+      (own-rule p h.1.1) (outermost-alone around p h.1.0)).bare);
+  before = λ typed k kind around allowed place cs arguments elements items last are read kept small room h.
+      let n : ℕ = around.encoding in
+      let own : Spelling = (ways_of n p).as_piece in
+      let w : Written = own place cs in
+      template-reads typed k around allowed (alone p) kind place cs
+      (one_piece outermost (elim typed as (λ _. Bool) [ true ↦ names_type p | false ↦ names_function p ]) (fits_of p).as_piece)
+      (λ m. (ways_of m p).as_piece) arguments elements
+      (own and ended n (alone p) and of_elements elements) items last
+      (TemplateReads typed around allowed k (instance (alone p) items) place cs)
+      (template-value typed around allowed k (instance (alone p) items) place cs) are read kept
+      (keeps-and own (ended n (alone p) and of_elements elements) (keeps p n).as_piece
+      (keeps-and (ended n (alone p)) (of_elements elements) (keeps-ended n (alone p)) kept)) room h
+      (λ none enough.
+      let f = h.2 none in
+      template-value typed around allowed k (instance (alone p) items) place cs _
+      ((named-piece around allowed k p (alone p) place cs w
+      (r.as_piece around allowed place cs small (room-first own (ended n (alone p) and of_elements elements) place cs
+      (keeps-and (ended n (alone p)) (of_elements elements) (keeps-ended n (alone p)) kept) enough) f.0.2)
+      (alone-rule typed k p kind f.0.1) (outermost-alone around p f.0.0)).instanced items last
+      (elements (place + length w.bytes + 0 + 1) (more around w.components (alone p))) are
+      (elements-behind around allowed last arguments elements (alone p) w place (place + length (w.bytes ++ [])) read
+      (room-rest own (ended n (alone p) and of_elements elements) place cs enough) (omega (arith, length-append w.bytes [])) f.1)));
+  as_argument = λ in_pack around allowed place cs small room h.
+      typed-argument in_pack around allowed (alone p) place cs _ (whole item_type around allowed place cs small room h);
+  as_items = λ around allowed place cs small room h. absurd h;
+  as_more_items = λ around allowed place cs small room h. absurd h;
+  as_parameters = λ ref around allowed place cs small room h. absurd h;
+  as_more_parameters = λ ref around allowed place cs small room h. absurd h;
+  as_elements = λ in_pack around allowed place cs small room h. absurd h;
+}
+  where
+    whole : (slot : Slot) → Leads (λ n. component n (alone p) (ways_of n p).as_piece)
+        (as_component (alone p) (one_piece outermost (names_type p) (fits_of p).as_piece))
+        (λ around allowed. ReadsAs slot around allowed (alone p))
+    whole slot around allowed place cs small room h =
+        let s = in-slot slot around allowed (alone p) refl in
+        fitting-in around allowed (alone p) (ReadsAs slot around allowed (alone p)) place cs (ways_of around.encoding p).as_piece
+        (one_piece outermost (names_type p) (fits_of p).as_piece) s.behind_s
+        (keeps p around.encoding).as_piece room h
+        (λ fits enough. s.adds place cs ((ways_of around.encoding p).as_piece place cs)
+        (named-piece around allowed (solid_kind slot) p (alone p) place cs ((ways_of around.encoding p).as_piece place cs)
+        (r.as_piece around allowed place cs small enough fits.2) ((slot-rules slot).names p fits.1) (outermost-alone around p fits.0)).bare)
+
+    as_types : (slot : Slot) → Leads (λ n. slot_way slot (ways_of n (alone p))) ((fits_of (alone p)).as_type slot)
+        (λ around allowed. ReadsAs slot around allowed (alone p))
+    as_types any_type = whole any_type
+    as_types bare_type = whole bare_type
+    as_types item_type = whole item_type
+    as_types parameter_type = whole parameter_type
+    as_types literal_type = whole literal_type

@@ -1,0 +1,26 @@
+-- What a reader reads fits: it can be spelled so that it is read again, wherever the reader's candidates stand.
+-- `Fit` says what fits, and what keeps it; `Read` what it means that what was read does. The others take the productions by sorts:
+-- a tree that was made from parts that fit fits in each place where its rule may stand. `ByKind` takes these one by one.
+pub mod Packs
+pub mod FunctionsStand
+pub mod Read
+pub mod Types
+pub mod Lists
+pub mod References
+pub mod Arguments
+pub mod Solids
+pub mod Found
+pub mod Names
+pub mod Templates
+pub mod Nests
+pub mod Pieces
+pub mod Encodings
+pub mod Symbols
+pub mod Locals
+pub mod Sorts
+pub mod Typed
+pub mod Rests
+pub mod Firsts
+pub mod Own
+pub mod Fit
+pub mod Places

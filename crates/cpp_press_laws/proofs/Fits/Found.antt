@@ -1,0 +1,167 @@
+-- A template name that was named by a reference fits before its arguments, which stand behind the reference.
+use Rattle.std.proofs.Common.{◌≡◌, ℕ, ◌+◌, length, List, Option, Some, None, Bool, refl, ap, arith, sym, subst, ◌∙◌}
+use Rattle.sym_spell.specs.Pressing as spell
+use Rattle.sym_spell.specs.Pressing.{◌and◌, text}
+use Rattle.cpp_grammar.specs.Term.{Term, symbol, function, object, special, thunk, guard, alone, in_std, within, instance, abbreviation, parameter, source, operator, literal_operator, constructor, destructor, lambda, unnamed, string_literal, builtin, integer, boolean, null_pointer, encoding_literal, address_of, pack, nil, list, absent}
+use Rattle.cpp_grammar.specs.Values.{Candidate, State, Around}
+use Rattle.cpp_press_laws.specs.Components.{Spelling, first_equal, reference, spelled_out, referred, component}
+use Rattle.cpp_press_laws.specs.Pressing.{type_ways, name_ways, no_ways, template_before, ways_of}
+use Rattle.cpp_press_laws.proofs.ReadBack.References.{MayBeReferred}
+use Rattle.cpp_press_laws.proofs.Components.Parts.{IsComponent, Has, stands-found}
+use Rattle.cpp_press_laws.proofs.Components.Complete.{Complete, StandAmong}
+use Rattle.cpp_press_laws.proofs.Components.Steps.{named-stands}
+use Rattle.cpp_press_laws.proofs.Fits.Fit.{Standing, Fitting, Behind, type_fits, fits_nowhere, fits_of}
+use Rattle.cpp_press_laws.proofs.Fits.Read.{pressed_at, FunctionsStand, Front, Fitted, allows-before}
+use Rattle.cpp_press_laws.proofs.Fits.Names.{ElementsFit, arguments_standing, arguments_text, arguments-fitted, instance-may}
+use Rattle.cpp_press_laws.proofs.Fits.References.{Referred, referred-may}
+
+referred-found : (n number : ℕ) (own : Term) (behind other : Spelling) (place : ℕ) (cs : List Candidate) → first_equal n own 0 cs ≡ Some number
+    → referred n own behind other place cs ≡ (reference number and behind) place cs
+unfolding referred
+referred-found n number own behind other place cs is =
+    ap (λ o. elim o as (λ _. spell.Pressed Candidate) [ Some k ↦ (reference k and behind) place cs | None ↦ other place cs ]) is
+
+-- a component that stands before is a reference
+component-is : (n number : ℕ) (own : Term) (s : Spelling) (place : ℕ) (cs : List Candidate) → first_equal n own 0 cs ≡ Some number
+    → component n own s place cs ≡ reference number place cs
+unfolding component
+component-is n number own s place cs is =
+    ap (λ o. elim o as (λ _. spell.Pressed Candidate) [ Some k ↦ reference k place cs | None ↦ spelled_out n own s place cs ]) is
+
+component-found : (n number : ℕ) (own : Term) (s behind : Spelling) (place : ℕ) (cs : List Candidate) → first_equal n own 0 cs ≡ Some number
+    → (component n own s and behind) place cs ≡ (reference number and behind) place cs
+component-found n number own s behind place cs is =
+    let first : spell.Pressed Candidate → Spelling = λ w later ds. w in
+    ap (λ w. (first w and behind) place cs) (component-is n number own s place cs is)
+
+-- behind a component that stands before, as behind the reference to it
+named-behind : (n number : ℕ) (own : Term) (s : Spelling) (G : Standing) (place : ℕ) (cs : List Candidate) → first_equal n own 0 cs ≡ Some number
+    → Behind (reference number) G place cs → Behind (component n own s) G place cs
+named-behind n number own s G place cs is fits =
+    subst (λ w. G (place + length (spell.Pressed.bytes w)) (spell.Pressed.components w)) (sym (component-is n number own s place cs is)) fits
+
+some-one : {a b : ℕ} → Some a ≡ Some b → a ≡ b
+some-one h = cc
+
+same-reference : (number other : ℕ) (G : Standing) (place : ℕ) (cs : List Candidate) → Some number ≡ Some other
+    → Behind (reference number) G place cs → Behind (reference other) G place cs
+same-reference number other G place cs same fits = subst (λ k. Behind (reference k) G place cs) (some-one same) fits
+
+-- the number of what stands
+record FoundAt (n : ℕ) (own : Term) (cs : List Candidate) : Type 0 where
+  pub number : ℕ
+  pub is : first_equal n own 0 cs ≡ Some number
+
+found-number : (n : ℕ) (own : Term) (cs : List Candidate) → Has n own cs → FoundAt n own cs
+found-number n own cs has = go (first_equal n own 0 cs) refl
+  where
+    go : (o : Option ℕ) → first_equal n own 0 cs ≡ o → FoundAt n own cs
+    go (Some number) is = record { number = number; is = is }
+    go None is = absurd (stands-found n own 0 cs has is)
+
+-- where a template name stands, a reference to it is spelled before its arguments
+before-spelled : (t : Term) → IsComponent t → (n number : ℕ) (typed : Bool) (arguments : Spelling) (place : ℕ) (cs : List Candidate)
+    → first_equal n t 0 cs ≡ Some number → (ways_of n t).before typed arguments place cs ≡ (reference number and arguments) place cs
+unfolding ways_of type_ways name_ways no_ways template_before
+before-spelled (alone p) c n number typed arguments place cs is = referred-found n number (alone p) arguments _ place cs is
+before-spelled (in_std p) c n number typed arguments place cs is = referred-found n number (in_std p) arguments _ place cs is
+before-spelled (within prefix p) c n number typed arguments place cs is = referred-found n number (within prefix p) arguments _ place cs is
+before-spelled (symbol e suffix) c n number typed arguments place cs is = absurd c
+before-spelled (function name q ref returned parameters) c n number typed arguments place cs is = absurd c
+before-spelled (object name q ref) c n number typed arguments place cs is = absurd c
+before-spelled (special l type) c n number typed arguments place cs is = absurd c
+before-spelled (thunk kind e) c n number typed arguments place cs is = absurd c
+before-spelled (guard name q ref) c n number typed arguments place cs is = absurd c
+before-spelled (abbreviation l) c n number typed arguments place cs is = absurd c
+before-spelled (source internal name) c n number typed arguments place cs is = absurd c
+before-spelled (operator a b) c n number typed arguments place cs is = absurd c
+before-spelled (literal_operator name) c n number typed arguments place cs is = absurd c
+before-spelled (constructor digit) c n number typed arguments place cs is = absurd c
+before-spelled (destructor digit) c n number typed arguments place cs is = absurd c
+before-spelled (lambda parameters k) c n number typed arguments place cs is = absurd c
+before-spelled (unnamed k) c n number typed arguments place cs is = absurd c
+before-spelled string_literal c n number typed arguments place cs is = absurd c
+before-spelled (builtin code) c n number typed arguments place cs is = absurd c
+before-spelled (integer type value) c n number typed arguments place cs is = absurd c
+before-spelled (boolean truth) c n number typed arguments place cs is = absurd c
+before-spelled null_pointer c n number typed arguments place cs is = absurd c
+before-spelled (encoding_literal e) c n number typed arguments place cs is = absurd c
+before-spelled (address_of e) c n number typed arguments place cs is = absurd c
+before-spelled (pack elements) c n number typed arguments place cs is = absurd c
+before-spelled nil c n number typed arguments place cs is = absurd c
+before-spelled (list first rest) c n number typed arguments place cs is = absurd c
+before-spelled absent c n number typed arguments place cs is = absurd c
+before-spelled t c n number typed arguments place cs is = component-found n number t _ arguments place cs is
+
+-- and there it fits
+before-found : (t : Term) → IsComponent t → (around : Around) (allowed : Option ℕ) (number : ℕ) (typed : Bool) (G : Fitting) (place : ℕ)
+    (cs : List Candidate) → MayBeReferred around allowed t → Has around.encoding t cs → first_equal around.encoding t 0 cs ≡ Some number
+    → Behind (reference number) (G around allowed) place cs → (fits_of t).before typed G around allowed place cs
+unfolding fits_of type_fits fits_nowhere ways_of type_ways no_ways component
+before-found (parameter k) c around allowed number typed G place cs may has is fits = (
+  (may, λ first. absurd (stands-found around.encoding (parameter k) 0 cs has first)),
+  named-behind around.encoding number (parameter k) _ (G around allowed) place cs is fits,
+)
+before-found (symbol e suffix) c around allowed number typed G place cs may has is fits = absurd c
+before-found (function name q ref returned parameters) c around allowed number typed G place cs may has is fits = absurd c
+before-found (object name q ref) c around allowed number typed G place cs may has is fits = absurd c
+before-found (special l type) c around allowed number typed G place cs may has is fits = absurd c
+before-found (thunk kind e) c around allowed number typed G place cs may has is fits = absurd c
+before-found (guard name q ref) c around allowed number typed G place cs may has is fits = absurd c
+before-found (abbreviation l) c around allowed number typed G place cs may has is fits = absurd c
+before-found (source internal name) c around allowed number typed G place cs may has is fits = absurd c
+before-found (operator a b) c around allowed number typed G place cs may has is fits = absurd c
+before-found (literal_operator name) c around allowed number typed G place cs may has is fits = absurd c
+before-found (constructor digit) c around allowed number typed G place cs may has is fits = absurd c
+before-found (destructor digit) c around allowed number typed G place cs may has is fits = absurd c
+before-found (lambda parameters k) c around allowed number typed G place cs may has is fits = absurd c
+before-found (unnamed k) c around allowed number typed G place cs may has is fits = absurd c
+before-found string_literal c around allowed number typed G place cs may has is fits = absurd c
+before-found (builtin code) c around allowed number typed G place cs may has is fits = absurd c
+before-found (integer type value) c around allowed number typed G place cs may has is fits = absurd c
+before-found (boolean truth) c around allowed number typed G place cs may has is fits = absurd c
+before-found null_pointer c around allowed number typed G place cs may has is fits = absurd c
+before-found (encoding_literal e) c around allowed number typed G place cs may has is fits = absurd c
+before-found (address_of e) c around allowed number typed G place cs may has is fits = absurd c
+before-found (pack elements) c around allowed number typed G place cs may has is fits = absurd c
+before-found nil c around allowed number typed G place cs may has is fits = absurd c
+before-found (list first rest) c around allowed number typed G place cs may has is fits = absurd c
+before-found absent c around allowed number typed G place cs may has is fits = absurd c
+before-found t c around allowed number typed G place cs may has is fits = (
+  may,
+  λ other same. same-reference number other (G around allowed) place cs (sym is ∙ same) fits,
+  λ first. absurd (stands-found around.encoding t 0 cs has first),
+)
+
+-- a name that was referred to, with arguments in a type or in an encoding's own name
+pub referred-before : (around : Around) (typed : Bool) (c : Candidate) (a : Term) (old mid new : State) → Referred around old mid c
+    → ElementsFit around a mid new
+    → Fitted around ((fits_of c.tree).before typed (arguments_standing a)) (λ n. (ways_of n c.tree).before typed (arguments_text a n))
+    (instance c.tree a) old new
+unfolding reference
+referred-before around typed c a old mid new r other = record {
+  stay = λ m is. behind_.stay m (r.packs.stay m is);
+  fits = λ n place cs allowed front allows. (
+      let named = named-stands around.encoding n r.number c old.candidates cs front.among r.there r.named in
+      let f = found-number n c.tree cs named.1 in
+      let later : ℕ = place + length (reference f.number place cs).bytes in
+      let before : Front around n later cs mid = record {
+        later = omega (arith, front.later);
+        complete = front.complete;
+        among = subst (λ l. StandAmong around.encoding n l cs) (sym r.candidates) front.among;
+        functions = subst (FunctionsStand around.scope around.encoding) (sym r.candidates) front.functions;
+      } in
+      let may = referred-may around n allowed old mid c r (allows-before allowed mid new behind_.stay allows) in
+      let p = behind_.fits n later cs allowed before allows in
+      let spelled = before-spelled c.tree named.0 n f.number typed (arguments_text a n) place cs f.is in
+      record {
+        fits = before-found c.tree named.0 (pressed_at n around) allowed f.number typed (arguments_standing a) place cs may named.1 f.is p.fits;
+        may = instance-may around c.tree a n allowed may p.may;
+        complete = subst (λ w. Complete (spell.Pressed.components w)) (sym spelled) p.complete;
+        among = subst (λ w. StandAmong around.encoding n new.candidates (spell.Pressed.components w)) (sym spelled) p.among;
+        functions = p.functions;
+      });
+}
+  where
+    behind_ : Fitted around (arguments_standing a) (arguments_text a) a mid new
+    behind_ = arguments-fitted around a mid new other

@@ -1,0 +1,194 @@
+-- A function type whose parts fit where it was read stands again wherever they stand.
+use Rattle.std.proofs.Common.{◌≡◌, ℕ, ◌+◌, ◌⊎◌, inl, inr, length, List, Option, Some, None, Bool, refl, subst, sym, ◌∙◌}
+use Rattle.sym_spell.specs.Pressing as spell
+use Rattle.cpp_grammar.specs.Term.{RefQualifier, Term, symbol, function, object, special, thunk, guard, abbreviation, source, operator, literal_operator, constructor, destructor, lambda, unnamed, string_literal, builtin, function_type, integer, boolean, null_pointer, encoding_literal, address_of, pack, nil, list, absent}
+use Rattle.cpp_grammar.specs.Scope.{first_of, pack_length}
+use Rattle.cpp_grammar.specs.Values.{Candidate, Around}
+use Rattle.cpp_grammar.specs.References.{packs_in}
+use Rattle.cpp_press_laws.specs.Pressing.{ways_of}
+use Rattle.cpp_press_laws.proofs.ReadBack.References.{PacksFit}
+use Rattle.cpp_press_laws.proofs.Fits.Fit.{Slot, any_type, bare_type, item_type, parameter_type, literal_type, type_fits, piece_fits, argument_fits, encoding_fits, fits_nowhere, fits_of}
+use Rattle.cpp_press_laws.proofs.Components.AddedWays.{IsNotBare}
+use Rattle.cpp_press_laws.proofs.Components.Again.{ItemStands, ItemsStand, IsNoVoid, FunctionStands}
+
+-- of a part: no packs, or those of the whole
+abbrev pub PacksOf : (packs own : Option ℕ) → Type 0
+PacksOf packs own = (own ≡ None) ⊎ (own ≡ packs)
+
+-- a type that fits stands again
+pub item-stands : (t : Term) (slot : Slot) → IsNotBare slot → (around : Around) (allowed packs : Option ℕ) (place : ℕ) (cs : List Candidate)
+    → (fits_of t).as_type slot around allowed place cs → PacksOf packs (packs_in around.scope t) → ItemStands slot around.scope packs t
+unfolding fits_of type_fits piece_fits argument_fits encoding_fits fits_nowhere
+item-stands (builtin code) slot other around allowed packs place cs fits own = fits
+item-stands (abbreviation l) slot other around allowed packs place cs fits own = fits
+item-stands (symbol e suffix) slot other around allowed packs place cs fits own = absurd fits
+item-stands (function name q ref returned parameters) slot other around allowed packs place cs fits own = absurd fits
+item-stands (object name q ref) slot other around allowed packs place cs fits own = absurd fits
+item-stands (special l type) slot other around allowed packs place cs fits own = absurd fits
+item-stands (thunk kind e) slot other around allowed packs place cs fits own = absurd fits
+item-stands (guard name q ref) slot other around allowed packs place cs fits own = absurd fits
+item-stands (source internal name) slot other around allowed packs place cs fits own = absurd fits
+item-stands (operator a b) slot other around allowed packs place cs fits own = absurd fits
+item-stands (literal_operator name) slot other around allowed packs place cs fits own = absurd fits
+item-stands (constructor digit) slot other around allowed packs place cs fits own = absurd fits
+item-stands (destructor digit) slot other around allowed packs place cs fits own = absurd fits
+item-stands (lambda parameters k) slot other around allowed packs place cs fits own = absurd fits
+item-stands (unnamed k) slot other around allowed packs place cs fits own = absurd fits
+item-stands (integer type value) slot other around allowed packs place cs fits own = absurd fits
+item-stands (boolean truth) slot other around allowed packs place cs fits own = absurd fits
+item-stands (encoding_literal e) slot other around allowed packs place cs fits own = absurd fits
+item-stands (address_of e) slot other around allowed packs place cs fits own = absurd fits
+item-stands (pack elements) slot other around allowed packs place cs fits own = absurd fits
+item-stands (list first rest) slot other around allowed packs place cs fits own = absurd fits
+item-stands string_literal slot other around allowed packs place cs fits own = absurd fits
+item-stands null_pointer slot other around allowed packs place cs fits own = absurd fits
+item-stands nil slot other around allowed packs place cs fits own = absurd fits
+item-stands absent slot other around allowed packs place cs fits own = absurd fits
+item-stands t slot other around allowed packs place cs fits own = (tt, own)
+
+-- its packs are allowed
+no-packs : (scope : Option Term) (t : Term) → ((arguments : Term) → pack_length arguments t ≡ None) → packs_in scope t ≡ None
+unfolding packs_in
+no-packs None t none = refl
+no-packs (Some arguments) t none = none arguments
+
+pub item-packs : (t : Term) (slot : Slot) → IsNotBare slot → (around : Around) (allowed : Option ℕ) (place : ℕ) (cs : List Candidate)
+    → (fits_of t).as_type slot around allowed place cs → PacksFit around allowed (packs_in around.scope t)
+unfolding fits_of type_fits piece_fits argument_fits encoding_fits fits_nowhere pack_length
+item-packs (builtin code) slot other around allowed place cs fits = inl (no-packs around.scope (builtin code) (λ arguments. refl))
+item-packs (abbreviation l) slot other around allowed place cs fits = inl (no-packs around.scope (abbreviation l) (λ arguments. refl))
+item-packs (symbol e suffix) slot other around allowed place cs fits = absurd fits
+item-packs (function name q ref returned parameters) slot other around allowed place cs fits = absurd fits
+item-packs (object name q ref) slot other around allowed place cs fits = absurd fits
+item-packs (special l type) slot other around allowed place cs fits = absurd fits
+item-packs (thunk kind e) slot other around allowed place cs fits = absurd fits
+item-packs (guard name q ref) slot other around allowed place cs fits = absurd fits
+item-packs (source internal name) slot other around allowed place cs fits = absurd fits
+item-packs (operator a b) slot other around allowed place cs fits = absurd fits
+item-packs (literal_operator name) slot other around allowed place cs fits = absurd fits
+item-packs (constructor digit) slot other around allowed place cs fits = absurd fits
+item-packs (destructor digit) slot other around allowed place cs fits = absurd fits
+item-packs (lambda parameters k) slot other around allowed place cs fits = absurd fits
+item-packs (unnamed k) slot other around allowed place cs fits = absurd fits
+item-packs (integer type value) slot other around allowed place cs fits = absurd fits
+item-packs (boolean truth) slot other around allowed place cs fits = absurd fits
+item-packs (encoding_literal e) slot other around allowed place cs fits = absurd fits
+item-packs (address_of e) slot other around allowed place cs fits = absurd fits
+item-packs (pack elements) slot other around allowed place cs fits = absurd fits
+item-packs (list first rest) slot other around allowed place cs fits = absurd fits
+item-packs string_literal slot other around allowed place cs fits = absurd fits
+item-packs null_pointer slot other around allowed place cs fits = absurd fits
+item-packs nil slot other around allowed place cs fits = absurd fits
+item-packs absent slot other around allowed place cs fits = absurd fits
+item-packs (function_type c_linkage noexcept ref returned parameters) slot other around allowed place cs fits = go slot other fits
+  where
+    own : Term
+    own = function_type c_linkage noexcept ref returned parameters
+
+    go : (slot : Slot) → IsNotBare slot → (fits_of own).as_type slot around allowed place cs → PacksFit around allowed
+        (packs_in around.scope own)
+    go any_type h f = f.0.packs
+    go bare_type h f = absurd h
+    go item_type h f = f.0.packs
+    go parameter_type h f = f.0.packs
+    go literal_type h f = f.0.packs
+item-packs t slot other around allowed place cs fits = fits.0.packs
+
+-- ## Lists
+
+-- the packs of a whole that has two parts
+first-is : (around : Around) (allowed a b : Option ℕ) → PacksFit around allowed a → PacksFit around allowed b
+    → PacksOf (first_of a b) a × PacksOf (first_of a b) b
+unfolding first_of
+first-is around allowed None b one other = (inl refl, inr refl)
+first-is around allowed (Some m) b one other = (inr refl, go one other)
+  where
+    clash : Some m ≡ None → ⊥
+    clash h = cc
+
+    go : PacksFit around allowed (Some m) → PacksFit around allowed b → PacksOf (Some m) b
+    go (inl none) other = absurd (clash none)
+    go (inr named) (inl none) = inl none
+    go (inr named) (inr same) = inr (same.1 ∙ sym named.1)
+
+pub first-fits : (around : Around) (allowed a b : Option ℕ) → PacksFit around allowed a → PacksFit around allowed b
+    → PacksFit around allowed (first_of a b)
+unfolding first_of
+first-fits around allowed None b one other = other
+first-fits around allowed (Some m) b one other = one
+
+part-of : (p q r : Option ℕ) → PacksOf p q → PacksOf q r → PacksOf p r
+part-of p q r one (inl none) = inl none
+part-of p q r (inl none) (inr same) = inl (same ∙ none)
+part-of p q r (inr equal) (inr same) = inr (same ∙ equal)
+
+packs-list : (scope : Option Term) (first rest : Term) → packs_in scope (list first rest) ≡ first_of (packs_in scope first)
+    (packs_in scope rest)
+unfolding packs_in pack_length first_of
+packs-list None first rest = refl
+packs-list (Some arguments) first rest = refl
+
+packs-function : (scope : Option Term) (c_linkage noexcept : Bool) (ref : RefQualifier) (returned parameters : Term)
+    → packs_in scope (function_type c_linkage noexcept ref returned parameters) ≡ first_of (packs_in scope returned)
+    (packs_in scope parameters)
+unfolding packs_in pack_length first_of
+packs-function None c_linkage noexcept ref returned parameters = refl
+packs-function (Some arguments) c_linkage noexcept ref returned parameters = refl
+
+items-packs : (t : Term) (around : Around) (allowed : Option ℕ) (place : ℕ) (cs : List Candidate)
+    → (fits_of t).as_more_parameters parameter_type around allowed place cs → PacksFit around allowed (packs_in around.scope t)
+unfolding fits_of type_fits piece_fits argument_fits encoding_fits fits_nowhere pack_length
+items-packs nil around allowed place cs fits = inl (no-packs around.scope nil (λ arguments. refl))
+items-packs (list first rest) around allowed place cs fits =
+    let w : spell.Pressed Candidate = (ways_of around.encoding first).as_type place cs in
+    subst (PacksFit around allowed) (sym (packs-list around.scope first rest))
+    (first-fits around allowed (packs_in around.scope first) (packs_in around.scope rest)
+    (item-packs first parameter_type tt around allowed place cs fits.0)
+    (items-packs rest around allowed (place + length w.bytes) w.components fits.1))
+items-packs (symbol e suffix) around allowed place cs fits = absurd fits
+items-packs _ around allowed place cs fits = absurd fits
+
+items-stand : (t : Term) (around : Around) (allowed packs : Option ℕ) (place : ℕ) (cs : List Candidate)
+    → (fits_of t).as_more_parameters parameter_type around allowed place cs → PacksOf packs (packs_in around.scope t)
+    → ItemsStand around.scope packs t
+unfolding fits_of type_fits piece_fits argument_fits encoding_fits fits_nowhere
+items-stand nil around allowed packs place cs fits own = tt
+items-stand (list first rest) around allowed packs place cs fits own =
+    let w : spell.Pressed Candidate = (ways_of around.encoding first).as_type place cs in
+    let a : Option ℕ = packs_in around.scope first in
+    let b : Option ℕ = packs_in around.scope rest in
+    let whole : PacksOf packs (first_of a b) = subst (PacksOf packs) (packs-list around.scope first rest) own in
+    let parts = first-is around allowed a b (item-packs first parameter_type tt around allowed place cs fits.0)
+    (items-packs rest around allowed (place + length w.bytes) w.components fits.1) in (
+      item-stands first parameter_type tt around allowed packs place cs fits.0 (part-of packs (first_of a b) a whole parts.0),
+      items-stand rest around allowed packs (place + length w.bytes) w.components fits.1 (part-of packs (first_of a b) b whole parts.1),
+    )
+items-stand (symbol e suffix) around allowed packs place cs fits own = absurd fits
+items-stand _ around allowed packs place cs fits own = absurd fits
+
+more-parameters : (t : Term) (around : Around) (allowed : Option ℕ) (place : ℕ) (cs : List Candidate)
+    → (fits_of t).as_parameters parameter_type around allowed place cs
+    → (fits_of t).as_more_parameters parameter_type around allowed place cs × IsNoVoid t
+unfolding fits_of type_fits piece_fits argument_fits encoding_fits fits_nowhere
+more-parameters nil around allowed place cs fits = (tt, tt)
+more-parameters (list first rest) around allowed place cs fits = (fits.1, fits.0)
+more-parameters (symbol e suffix) around allowed place cs fits = absurd fits
+more-parameters _ around allowed place cs fits = absurd fits
+
+-- A function type whose return type and parameters fit stands again.
+pub function-stands : (c_linkage noexcept : Bool) (ref : RefQualifier) (returned parameters : Term) (around : Around) (allowed : Option ℕ)
+    (place later : ℕ) (cs ds : List Candidate) → (fits_of returned).as_type any_type around allowed place cs
+    → (fits_of parameters).as_parameters parameter_type around allowed later ds
+    → FunctionStands around.scope (function_type c_linkage noexcept ref returned parameters)
+function-stands c_linkage noexcept ref returned parameters around allowed place later cs ds one two =
+    let own : Option ℕ = packs_in around.scope (function_type c_linkage noexcept ref returned parameters) in
+    let a : Option ℕ = packs_in around.scope returned in
+    let b : Option ℕ = packs_in around.scope parameters in
+    let more = more-parameters parameters around allowed later ds two in
+    let whole : PacksOf own (first_of a b) = inr (sym (packs-function around.scope c_linkage noexcept ref returned parameters)) in
+    let parts = first-is around allowed a b (item-packs returned any_type tt around allowed place cs one)
+    (items-packs parameters around allowed later ds more.0) in (
+      item-stands returned any_type tt around allowed own place cs one (part-of own (first_of a b) a whole parts.0),
+      items-stand parameters around allowed own later ds more.0 (part-of own (first_of a b) b whole parts.1),
+      more.1,
+    )

@@ -1,0 +1,273 @@
+-- Names that were read piece by piece fit: where what stands before a piece fits, and the piece behind it, so does the longer name.
+use Rattle.std.proofs.Common.{◌≡◌, ℕ, ◌+◌, inl, inr, List, [], ◌∷◌, Option, true, false, refl, subst}
+use Rattle.std.specs.Prelude.{codes}
+use Rattle.std.proofs.lemmas.Bool.{false≢true}
+use Rattle.sym_spell.specs.Pressing as spell
+use Rattle.sym_spell.specs.Pressing.{◌and◌, text, nothing}
+use Rattle.sym_spell.proofs.Spellings.{and-assoc-at}
+use Rattle.cpp_grammar.specs.Term.{Term, symbol, function, object, special, thunk, guard, alone, in_std, within, instance}
+use Rattle.cpp_grammar.specs.Scope.{is_open, pack_length}
+use Rattle.cpp_grammar.specs.Values.{Candidate, State, Prefix, outermost, behind, Around}
+use Rattle.cpp_grammar.specs.References.{appended}
+use Rattle.cpp_grammar.specs.Between.{after, inside}
+use Rattle.cpp_press_laws.specs.Components.{Spelling, ended, component}
+use Rattle.cpp_press_laws.specs.Pressing.{no_ways, name_ways, encoding_ways, is_encoding, ways_of}
+use Rattle.cpp_press_laws.proofs.ReadBack.References.{MayBeReferred}
+use Rattle.cpp_press_laws.proofs.Components.Parts.{IsComponent, Inside, Whole, prefix-whole}
+use Rattle.cpp_press_laws.proofs.Components.Known.{KeepsTo, text-keeps, and-keeps}
+use Rattle.cpp_press_laws.proofs.Components.KnownTrees.{In, keeps}
+use Rattle.cpp_press_laws.proofs.Components.Complete.{Complete, StandAmong, among-ended}
+use Rattle.cpp_press_laws.proofs.Components.Again.{FunctionStands}
+use Rattle.cpp_press_laws.proofs.Fits.Fit.{Fitting, Behind, as_component, one_piece, begins_name, names_function, names_member, fits_of}
+use Rattle.cpp_press_laws.proofs.Components.Adding.{AddsParts, tree-ended}
+use Rattle.cpp_press_laws.proofs.Components.AddedTrees.{adds}
+use Rattle.cpp_press_laws.proofs.Fits.Read.{pressed_at, functions-append, Fitted, refitted, and-fitted, bytes-fitted, fitted-bytes, component-fitted}
+use Rattle.cpp_press_laws.proofs.Fits.Types.{may-as, may-as-two}
+
+-- ## Surroundings and spellings
+
+-- the same surroundings behind another prefix
+abbrev pub having : Prefix → Around → Around
+having prefix around = record {
+  scope = around.scope;
+  encoding = around.encoding;
+  in_lambda = around.in_lambda;
+  in_expansion = around.in_expansion;
+  prefix = prefix;
+}
+
+-- what fits behind another prefix
+pub moved : (around : Around) (prefix : Prefix) (F : Fitting) (s : ℕ → Spelling) (t : Term) (old new : State)
+    → Fitted (having prefix around) F s t old new → Fitted around (λ inner. F (having prefix inner)) s t old new
+moved around prefix F s t old new one = record {
+  stay = one.stay;
+  fits = λ n place cs allowed front allows. (
+      let p = one.fits n place cs allowed (record {
+        later = front.later;
+        complete = front.complete;
+        among = front.among;
+        functions = front.functions;
+      }) allows in
+      record {
+        fits = p.fits;
+        may = record { lambda = p.may.lambda; packs = p.may.packs };
+        complete = p.complete;
+        among = p.among;
+        functions = p.functions;
+      });
+}
+
+-- the same spelling
+pub respelled : (around : Around) (F : Fitting) (s r : ℕ → Spelling) (t : Term) (old new : State)
+    → ((n place : ℕ) (cs : List Candidate) → s n place cs ≡ r n place cs) → Fitted around F s t old new → Fitted around F r t old new
+respelled around F s r t old new same one = record {
+  stay = one.stay;
+  fits = λ n place cs allowed front allows. (
+      let p = one.fits n place cs allowed front allows in
+      record {
+        fits = p.fits;
+        may = p.may;
+        complete = subst (λ w. Complete (spell.Pressed.components w)) (same n place cs) p.complete;
+        among = subst (λ w. StandAmong around.encoding n new.candidates (spell.Pressed.components w)) (same n place cs) p.among;
+        functions = p.functions;
+      });
+}
+
+-- what fits becomes a component without more bytes, and a candidate
+pub ended-fitted : (around : Around) (t : Term) (F : Fitting) (s : ℕ → Spelling) (old new : State) → IsComponent t
+    → FunctionStands around.scope t
+    → ((n : ℕ) (allowed : Option ℕ) (place : ℕ) (cs : List Candidate) → F (pressed_at n around) allowed place cs → Complete cs
+    → AddsParts n (Inside t) cs (s n place cs).components)
+    → Fitted around F s t old new → Fitted around F (λ n. s n and ended n t) t old (appended around t new)
+unfolding ended appended
+ended-fitted around t F s old new is stands whole one = record {
+  stay = one.stay;
+  fits = λ n place cs allowed front allows. (
+      let p = one.fits n place cs allowed front allows in
+      record {
+        fits = p.fits;
+        may = p.may;
+        complete = (tree-ended n t cs (s n place cs).components (whole n allowed place cs p.fits front.complete)).complete;
+        among = among-ended around.encoding n t new.candidates (s n place cs).components is p.among;
+        functions = functions-append around.scope around.encoding new.candidates (record { tree = t; encoding = around.encoding } ∷ [])
+            p.functions (λ may. stands, tt);
+      });
+}
+
+-- ## The ways of names
+
+abbrev pub PrefixFits : Around → Term → (old now : State) → Type 0
+PrefixFits around t old now = Fitted around (fits_of t).as_prefix (λ n. (ways_of n t).as_prefix) t old now
+
+-- a prefix to which arguments are added
+abbrev pub TemplatePrefixFits : Around → Term → (old now : State) → Type 0
+TemplatePrefixFits around t old now = Fitted around (fits_of t).as_prefix_template (λ n. (ways_of n t).as_prefix) t old now
+
+abbrev pub BetweenFits : Around → Term → (old now : State) → Type 0
+BetweenFits around t old now = Fitted around (fits_of t).between (λ n. (ways_of n t).between_N_and_E) t old now
+
+abbrev pub TemplateBetweenFits : Around → Term → (old now : State) → Type 0
+TemplateBetweenFits around t old now = Fitted around (fits_of t).between_template (λ n. (ways_of n t).between_N_and_E) t old now
+
+abbrev pub PieceFits : Around → Term → (old now : State) → Type 0
+PieceFits around p old now = Fitted around (fits_of p).as_piece (λ n. (ways_of n p).as_piece) p old now
+
+-- the arguments of a template, without their I and E
+abbrev pub ElementsFit : Around → Term → (old now : State) → Type 0
+ElementsFit around a old now = Fitted (inside around) ((fits_of a).as_elements false) (λ n. (ways_of n a).as_elements) a old now
+
+-- the arguments with their I and E, where the name so far doesn't count
+abbrev pub arguments_standing : Term → Fitting
+arguments_standing a around allowed place cs = (fits_of a).as_elements false (inside around) allowed (place + 1) cs
+
+abbrev pub arguments_text : Term → ℕ → Spelling
+arguments_text a n = text (codes "I") and (ways_of n a).as_elements and text (codes "E")
+
+pub arguments-fitted : (around : Around) (a : Term) (old now : State) → ElementsFit around a old now
+    → Fitted around (arguments_standing a) (arguments_text a) a old now
+unfolding inside
+arguments-fitted around a old now one =
+    let F : Fitting = λ inner. (fits_of a).as_elements false (inside inner) in
+    let s : ℕ → Spelling = λ n. (ways_of n a).as_elements and text (codes "E") in
+    bytes-fitted around F (codes "I") s a old now
+    (fitted-bytes around F (λ n. (ways_of n a).as_elements) (codes "E") a old now
+    (moved around outermost ((fits_of a).as_elements false) (λ n. (ways_of n a).as_elements) a old now one))
+
+-- ## A piece behind a prefix
+
+pub within-may : (around : Around) (t p : Term) (n : ℕ) (allowed : Option ℕ) → MayBeReferred (pressed_at n around) allowed t
+    → MayBeReferred (pressed_at n around) allowed p → MayBeReferred (pressed_at n around) allowed (within t p)
+unfolding is_open pack_length
+within-may around t p n allowed one other =
+    may-as-two (pressed_at n around) allowed t p (within t p) refl (λ arguments. refl) one other
+
+-- a piece behind a prefix
+pub within-joined : (around : Around) (t p : Term) (old mid now : State) → names_member p ≡ true → PrefixFits around t old mid
+    → PieceFits (after t true around) p mid now → BetweenFits around (within t p) old now
+unfolding after fits_of ways_of name_ways no_ways
+within-joined around t p old mid now names one other =
+    let G : Fitting = λ inner. (fits_of p).as_piece (after t true inner) in
+    let s : ℕ → Spelling = λ n. (ways_of n t).as_prefix in
+    let r : ℕ → Spelling = λ n. (ways_of n p).as_piece in
+    refitted around (λ inner allowed place cs. (fits_of t).as_prefix inner allowed place cs × Behind (s inner.encoding) (G inner allowed) place cs)
+    (fits_of (within t p)).between (λ n. s n and r n) (within t p) (within t p) old now
+    (λ n allowed place cs both. (both.0, names, both.1)) (λ n allowed may. may)
+    (and-fitted around (fits_of t).as_prefix G s r t p (within t p) old mid now (within-may around t p) one
+    (moved around (behind t true) (fits_of p).as_piece r p mid now other))
+
+-- A name between N and E that is a component as a prefix.
+pub prefix-component : (around : Around) (t : Term) (F G : Fitting) (old now : State) → IsComponent t → FunctionStands around.scope t
+    → ((n : ℕ) (allowed : Option ℕ) (place : ℕ) (cs : List Candidate) → F (pressed_at n around) allowed place cs
+    → G (pressed_at n around) allowed place cs)
+    → ((n : ℕ) (allowed : Option ℕ) (place : ℕ) (cs : List Candidate) → as_component t G (pressed_at n around) allowed place cs → Complete cs
+    → Complete (component n t (ways_of n t).between_N_and_E place cs).components)
+    → Fitted around F (λ n. (ways_of n t).between_N_and_E) t old now
+    → Fitted around (as_component t G) (λ n. component n t (ways_of n t).between_N_and_E) t old (appended around t now)
+prefix-component around t F G old now is stands more whole one =
+    component-fitted around t G (λ n. (ways_of n t).between_N_and_E) old now is
+    (λ n. (keeps t Unit n (Whole t)).between_N_and_E (λ x i. inr i))
+    (λ n allowed place cs fits. stands) whole
+    (refitted around F G (λ n. (ways_of n t).between_N_and_E) t t old now more (λ n allowed may. may) one)
+
+-- as a prefix it is a component
+pub within-prefix : (around : Around) (t p : Term) (old now : State) → BetweenFits around (within t p) old now
+    → PrefixFits around (within t p) old (appended around (within t p) now)
+unfolding fits_of ways_of name_ways no_ways
+within-prefix around t p old now one =
+    prefix-component around (within t p) (fits_of (within t p)).between _ old now tt tt (λ n allowed place cs joined. inr joined)
+    (λ n allowed place cs fits complete. ((adds (within t p)).as_prefix (pressed_at n around) allowed place cs fits complete).complete) one
+
+pub within-prefix-template : (around : Around) (t p : Term) (old now : State) → BetweenFits around (within t p) old now
+    → TemplatePrefixFits around (within t p) old (appended around (within t p) now)
+unfolding fits_of ways_of name_ways no_ways
+within-prefix-template around t p old now one =
+    prefix-component around (within t p) (fits_of (within t p)).between _ old now tt tt (λ n allowed place cs joined. inr joined)
+    (λ n allowed place cs fits complete. ((adds (within t p)).as_prefix_template (pressed_at n around) allowed place cs fits complete).complete) one
+
+-- ## A piece behind St
+
+pub std-between : (around : Around) (p : Term) (old now : State) → names_function p ≡ true → PieceFits around p old now
+    → BetweenFits around (in_std p) old now
+unfolding fits_of ways_of name_ways no_ways is_open pack_length
+std-between around p old now names one =
+    refitted around (λ inner allowed place cs. (fits_of p).as_piece inner allowed (place + 2) cs) (fits_of (in_std p)).between
+    (λ n. text (codes "St") and (ways_of n p).as_piece) p (in_std p) old now (λ n allowed place cs fits. (names, fits))
+    (λ n allowed may. may-as (pressed_at n around) allowed p (in_std p) refl (λ arguments. refl) may)
+    (bytes-fitted around (fits_of p).as_piece (codes "St") (λ n. (ways_of n p).as_piece) p old now one)
+
+pub std-prefix : (around : Around) (p : Term) (old now : State) → BetweenFits around (in_std p) old now
+    → PrefixFits around (in_std p) old (appended around (in_std p) now)
+unfolding fits_of ways_of name_ways no_ways
+std-prefix around p old now one =
+    prefix-component around (in_std p) (fits_of (in_std p)).between _ old now tt tt (λ n allowed place cs fits. fits)
+    (λ n allowed place cs fits complete. ((adds (in_std p)).as_prefix (pressed_at n around) allowed place cs fits complete).complete) one
+
+-- ## Arguments behind a template name
+
+pub instance-may : (around : Around) (t a : Term) (n : ℕ) (allowed : Option ℕ) → MayBeReferred (pressed_at n around) allowed t
+    → MayBeReferred (pressed_at n around) allowed a → MayBeReferred (pressed_at n around) allowed (instance t a)
+unfolding is_open pack_length
+instance-may around t a n allowed one other =
+    may-as-two (pressed_at n around) allowed t a (instance t a) refl (λ arguments. refl) one other
+
+-- between N and E
+pub instance-between : (around : Around) (t a : Term) (old mid now : State) → IsComponent t → FunctionStands around.scope t
+    → TemplateBetweenFits around t old mid → ElementsFit around a (appended around t mid) now → BetweenFits around (instance t a) old now
+unfolding fits_of ways_of name_ways no_ways
+instance-between around t a old mid now is stands one other =
+    let s : ℕ → Spelling = λ n. (ways_of n t).between_N_and_E in
+    respelled around (fits_of (instance t a)).between (λ n. (s n and ended n t) and arguments_text a n)
+    (λ n. (ways_of n (instance t a)).between_N_and_E) (instance t a) old now
+    (λ n place cs. and-assoc-at (s n) (ended n t) (arguments_text a n) place cs)
+    (and-fitted around (fits_of t).between_template (arguments_standing a) (λ n. s n and ended n t) (arguments_text a) t a (instance t a)
+    old (appended around t mid) now (instance-may around t a)
+    (ended-fitted around t (fits_of t).between_template s old mid is stands
+    (λ n allowed place cs fits complete. (adds t).between_template (pressed_at n around) allowed place cs fits complete) one)
+    (arguments-fitted around a (appended around t mid) now other))
+
+-- arguments add nothing but what is in them
+pub arguments-keep : (n : ℕ) (R : Term → Type 0) (a : Term) → In (Inside a) R → KeepsTo Unit n R (arguments_text a n)
+arguments-keep n R a inside =
+    and-keeps Unit n R (text (codes "I")) ((ways_of n a).as_elements and text (codes "E")) (text-keeps Unit n R (codes "I"))
+    (and-keeps Unit n R (ways_of n a).as_elements (text (codes "E")) ((keeps a Unit n R).as_elements inside) (text-keeps Unit n R (codes "E")))
+
+-- as a prefix
+pub instance-prefix : (around : Around) (t a : Term) (old mid now : State) → TemplatePrefixFits around t old mid
+    → ElementsFit around a mid now → PrefixFits around (instance t a) old (appended around (instance t a) now)
+unfolding fits_of ways_of name_ways no_ways
+instance-prefix around t a old mid now one other =
+    let own : Term = instance t a in
+    let s : ℕ → Spelling = λ n. (ways_of n t).as_prefix in
+    component-fitted around own (λ inner allowed place cs. (fits_of t).as_prefix_template inner allowed place cs
+    × Behind (s inner.encoding) (arguments_standing a inner allowed) place cs) (λ n. s n and arguments_text a n) old now tt
+    (λ n. and-keeps Unit n (Whole own) (s n) (arguments_text a n)
+    ((keeps t Unit n (Whole own)).as_prefix (λ x w. inr (inl (prefix-whole t x (Inside t x) w))))
+    (arguments-keep n (Whole own) a (λ x i. inr (inr i))))
+    (λ n allowed place cs fits. tt)
+    (λ n allowed place cs fits complete. ((adds own).as_prefix (pressed_at n around) allowed place cs fits complete).complete)
+    (and-fitted around (fits_of t).as_prefix_template (arguments_standing a) s (arguments_text a) t a own old mid now (instance-may around t a) one
+    (arguments-fitted around a mid now other))
+
+-- ## First pieces
+
+-- a piece alone as a prefix
+pub alone-prefix : (around : Around) (p : Term) (old now : State) → around.prefix ≡ outermost → begins_name p ≡ true
+    → PieceFits around p old now → PrefixFits around (alone p) old (appended around (alone p) now)
+unfolding fits_of ways_of name_ways no_ways is_open pack_length
+alone-prefix around p old now outer begins one =
+    prefix-component around (alone p) (fits_of p).as_piece (one_piece outermost (begins_name p) (fits_of p).as_piece) old now tt tt
+    (λ n allowed place cs fits. (outer, begins, fits))
+    (λ n allowed place cs fits complete. ((adds (alone p)).as_prefix (pressed_at n around) allowed place cs fits complete).complete)
+    (refitted around (fits_of p).as_piece (fits_of p).as_piece (λ n. (ways_of n p).as_piece) p (alone p) old now (λ n allowed place cs fits. fits)
+    (λ n allowed may. may-as (pressed_at n around) allowed p (alone p) refl (λ arguments. refl) may) one)
+
+-- an encoding is no prefix of its own: its piece stands alone
+pub prefix-of-encoding : (n : ℕ) (e : Term) → is_encoding e ≡ true → ◌≡◌ {A = Spelling} (ways_of n e).as_prefix nothing
+unfolding is_encoding ways_of encoding_ways no_ways
+prefix-of-encoding n (function name q ref returned parameters) is = refl
+prefix-of-encoding n (object name q ref) is = refl
+prefix-of-encoding n (special l type) is = refl
+prefix-of-encoding n (thunk kind e) is = refl
+prefix-of-encoding n (guard name q ref) is = refl
+prefix-of-encoding n (symbol e suffix) is = absurd (false≢true is)
+prefix-of-encoding n _ is = absurd (false≢true is)

@@ -1,0 +1,210 @@
+-- What it means that what a reader reads is fit: it fits, and is spelled, wherever the reader's candidates stand among components.
+use Rattle.std.proofs.Common.{◌≡◌, ℕ, ◌+◌, ◌≤◌, ◌⊎◌, length, List, [], ◌∷◌, ◌++◌, Option, false, arith, subst, length-append}
+use Rattle.sym_spell.specs.Pressing as spell
+use Rattle.sym_spell.specs.Pressing.{◌and◌, text}
+use Rattle.cpp_grammar.specs.Term.{Term}
+use Rattle.cpp_grammar.specs.Scope.{is_open}
+use Rattle.cpp_grammar.specs.Values.{Candidate, State, Around}
+use Rattle.cpp_grammar.specs.References.{appended}
+use Rattle.cpp_press_laws.specs.Components.{Spelling, component}
+use Rattle.cpp_press_laws.proofs.ReadBack.References.{MayBeReferred}
+use Rattle.cpp_press_laws.proofs.Components.Parts.{IsComponent, Whole}
+use Rattle.cpp_press_laws.proofs.Components.Known.{KeepsTo}
+use Rattle.cpp_press_laws.proofs.Components.Complete.{Complete, StandAmong}
+use Rattle.cpp_press_laws.proofs.Components.Steps.{Allows, component-among}
+use Rattle.cpp_press_laws.proofs.Fits.Packs.{StayNamed}
+use Rattle.cpp_press_laws.proofs.Components.Again.{FunctionStands}
+use Rattle.cpp_press_laws.proofs.Fits.Fit.{Standing, Fitting, Behind, as_component}
+
+-- the same surroundings in pressed bytes
+abbrev pub pressed_at : (encoding : ℕ) → Around → Around
+pressed_at n around = record {
+  scope = around.scope;
+  encoding = n;
+  in_lambda = around.in_lambda;
+  in_expansion = around.in_expansion;
+  prefix = around.prefix;
+}
+
+-- each function type that may be named in an encoding stands again in its scope
+abbrev pub FunctionsStand : (scope : Option Term) → (read : ℕ) → List Candidate → Type 0
+FunctionsStand scope read [] = Unit {0}
+FunctionsStand scope read (c ∷ cs) =
+    ((is_open c.tree ≡ false) ⊎ (c.encoding ≡ read) → FunctionStands scope c.tree) × FunctionsStand scope read cs
+
+-- complete components in an encoding, among which the candidates stand in front of a part
+pub record Front (around : Around) (n place : ℕ) (cs : List Candidate) (old : State) : Type 0 where
+  pub later : n ≤ place
+  pub complete : Complete cs
+  pub among : StandAmong around.encoding n old.candidates cs
+  pub functions : FunctionsStand around.scope around.encoding old.candidates
+
+-- a part with this tree fits there, and behind its spelling the candidates stand among the components
+pub record PartFits (around : Around) (F : Fitting) (spelled : ℕ → Spelling) (t : Term) (n : ℕ) (allowed : Option ℕ) (place : ℕ)
+    (cs : List Candidate) (new : State) : Type 0 where
+  pub fits : F (pressed_at n around) allowed place cs
+  pub may : MayBeReferred (pressed_at n around) allowed t
+  pub complete : Complete (spelled n place cs).components
+  pub among : StandAmong around.encoding n new.candidates (spelled n place cs).components
+  pub functions : FunctionsStand around.scope around.encoding new.candidates
+
+-- What was read from one state to another fits, where its packs are allowed.
+pub record Fitted (around : Around) (F : Fitting) (spelled : ℕ → Spelling) (t : Term) (old new : State) : Type 0 where
+  pub stay : StayNamed old new
+  pub fits : (n place : ℕ) (cs : List Candidate) (allowed : Option ℕ) → Front around n place cs old → Allows allowed new.packs
+      → PartFits around F spelled t n allowed place cs new
+
+-- what is so wherever components stand in front of what was read from this state
+abbrev pub Wherever : Around → State → Type 0 → Type 0
+Wherever around old So = (n place : ℕ) (cs : List Candidate) → Front around n place cs old → So
+
+pub fitted-wherever : (around : Around) (F : Fitting) (s : ℕ → Spelling) (t : Term) (old new : State) (So : Type 0) → StayNamed old new
+    → Wherever around old So → (So → Fitted around F s t old new) → Fitted around F s t old new
+fitted-wherever around F s t old new So stay so one = record {
+  stay = stay;
+  fits = λ n place cs allowed front allows. (one (so n place cs front)).fits n place cs allowed front allows;
+}
+
+-- ## Candidates
+
+pub functions-append : (scope : Option Term) (read : ℕ) (cs ds : List Candidate) → FunctionsStand scope read cs → FunctionsStand scope read ds
+    → FunctionsStand scope read (cs ++ ds)
+functions-append scope read [] ds one other = other
+functions-append scope read (c ∷ cs) ds one other = (one.0, functions-append scope read cs ds one.1 other)
+
+-- ## Surroundings of parts
+
+-- behind a part that fits
+pub front-behind : (around : Around) (F : Fitting) (s : ℕ → Spelling) (t : Term) (n : ℕ) (allowed : Option ℕ) (place : ℕ)
+    (cs : List Candidate) (old new : State) → Front around n place cs old → PartFits around F s t n allowed place cs new
+    → Front around n (place + length (s n place cs).bytes) (s n place cs).components new
+front-behind around F s t n allowed place cs old new front part = record {
+  later = omega (arith, front.later);
+  complete = part.complete;
+  among = part.among;
+  functions = part.functions;
+}
+
+-- where packs are allowed that stay named, those before are
+pub allows-before : (allowed : Option ℕ) (old new : State) → StayNamed old new → Allows allowed new.packs → Allows allowed old.packs
+allows-before allowed old new stay allows m is = allows m (stay m is)
+
+-- ## What is read in turn
+
+-- a place behind two spellings
+pub behind-both : (first rest : Spelling) (G : Standing) (place : ℕ) (cs : List Candidate) → Behind first (Behind rest G) place cs
+    → Behind (first and rest) G place cs
+behind-both first rest G place cs fits =
+    let f : spell.Pressed Candidate = first place cs in
+    let g : spell.Pressed Candidate = rest (place + length f.bytes) f.components in
+    let same : place + length f.bytes + length g.bytes ≡ place + length (f.bytes ++ g.bytes) = omega
+    (arith, length-append f.bytes g.bytes) in
+    subst (λ p. G p g.components) same fits
+
+-- another standing that follows, of a tree that may be referred to as well
+pub refitted : (around : Around) (F G : Fitting) (s : ℕ → Spelling) (a t : Term) (old new : State)
+    → ((n : ℕ) (allowed : Option ℕ) (place : ℕ) (cs : List Candidate) → F (pressed_at n around) allowed place cs
+    → G (pressed_at n around) allowed place cs)
+    → ((n : ℕ) (allowed : Option ℕ) → MayBeReferred (pressed_at n around) allowed a → MayBeReferred (pressed_at n around) allowed t)
+    → Fitted around F s a old new → Fitted around G s t old new
+refitted around F G s a t old new more may one = record {
+  stay = one.stay;
+  fits = λ n place cs allowed front allows. (
+      let p = one.fits n place cs allowed front allows in
+      record {
+        fits = more n allowed place cs p.fits;
+        may = may n allowed p.may;
+        complete = p.complete;
+        among = p.among;
+        functions = p.functions;
+      });
+}
+
+-- bytes that name nothing
+pub text-fitted : (around : Around) (F : Fitting) (bytes : List ℕ) (t : Term) (state : State)
+    → ((n : ℕ) (allowed : Option ℕ) (place : ℕ) (cs : List Candidate) → F (pressed_at n around) allowed place cs)
+    → ((n : ℕ) (allowed : Option ℕ) → MayBeReferred (pressed_at n around) allowed t)
+    → Fitted around F (λ n. text bytes) t state state
+text-fitted around F bytes t state fits may = record {
+  stay = λ m is. is;
+  fits = λ n place cs allowed front allows. record {
+    fits = fits n allowed place cs;
+    may = may n allowed;
+    complete = front.complete;
+    among = front.among;
+    functions = front.functions;
+  };
+}
+
+-- one part behind another
+pub and-fitted : (around : Around) (F G : Fitting) (s r : ℕ → Spelling) (a b t : Term) (old mid new : State)
+    → ((n : ℕ) (allowed : Option ℕ) → MayBeReferred (pressed_at n around) allowed a → MayBeReferred (pressed_at n around) allowed b
+    → MayBeReferred (pressed_at n around) allowed t)
+    → Fitted around F s a old mid → Fitted around G r b mid new
+    → Fitted around (λ inner allowed place cs. F inner allowed place cs × Behind (s inner.encoding) (G inner allowed) place cs)
+    (λ n. s n and r n) t old new
+and-fitted around F G s r a b t old mid new may one other = record {
+  stay = λ m is. other.stay m (one.stay m is);
+  fits = λ n place cs allowed front allows. (
+      let p = one.fits n place cs allowed front (allows-before allowed mid new other.stay allows) in
+      let q = other.fits n (place + length (s n place cs).bytes) (s n place cs).components allowed
+      (front-behind around F s a n allowed place cs old mid front p) allows in
+      record {
+        fits = (p.fits, q.fits);
+        may = may n allowed p.may q.may;
+        complete = q.complete;
+        among = q.among;
+        functions = q.functions;
+      });
+}
+
+-- behind bytes that name nothing
+pub bytes-fitted : (around : Around) (F : Fitting) (bytes : List ℕ) (s : ℕ → Spelling) (t : Term) (old new : State)
+    → Fitted around F s t old new
+    → Fitted around (λ inner allowed place cs. F inner allowed (place + length bytes) cs) (λ n. text bytes and s n) t old new
+bytes-fitted around F bytes s t old new one = record {
+  stay = one.stay;
+  fits = λ n place cs allowed front allows. (
+      let p = one.fits n (place + length bytes) cs allowed (record {
+        later = omega (arith, front.later);
+        complete = front.complete;
+        among = front.among;
+        functions = front.functions;
+      }) allows in
+      record { fits = p.fits; may = p.may; complete = p.complete; among = p.among; functions = p.functions });
+}
+
+-- before bytes that name nothing
+pub fitted-bytes : (around : Around) (F : Fitting) (s : ℕ → Spelling) (bytes : List ℕ) (t : Term) (old new : State)
+    → Fitted around F s t old new → Fitted around F (λ n. s n and text bytes) t old new
+fitted-bytes around F s bytes t old new one = record {
+  stay = one.stay;
+  fits = λ n place cs allowed front allows. (
+      let p = one.fits n place cs allowed front allows in
+      record { fits = p.fits; may = p.may; complete = p.complete; among = p.among; functions = p.functions });
+}
+
+-- ## Components
+
+-- What is spelled out of parts that fit becomes a component, and a candidate.
+pub component-fitted : (around : Around) (t : Term) (F : Fitting) (s : ℕ → Spelling) (old new : State) → IsComponent t
+    → ((n : ℕ) → KeepsTo Unit n (Whole t) (s n))
+    → ((n : ℕ) (allowed : Option ℕ) (place : ℕ) (cs : List Candidate) → F (pressed_at n around) allowed place cs
+    → FunctionStands around.scope t)
+    → ((n : ℕ) (allowed : Option ℕ) (place : ℕ) (cs : List Candidate) → as_component t F (pressed_at n around) allowed place cs → Complete cs
+    → Complete (component n t (s n) place cs).components)
+    → Fitted around F s t old new → Fitted around (as_component t F) (λ n. component n t (s n)) t old (appended around t new)
+unfolding appended
+component-fitted around t F s old new is keeps function whole one = record {
+  stay = one.stay;
+  fits = λ n place cs allowed front allows. (
+      let p = one.fits n place cs allowed front allows in
+      record {
+        fits = (p.may, λ first. p.fits);
+        may = p.may;
+        complete = whole n allowed place cs (p.may, λ first. p.fits) front.complete;
+        among = component-among around.encoding n t (s n) is (keeps n) place cs new.candidates front.later front.complete p.among;
+        functions = functions-append around.scope around.encoding new.candidates (record { tree = t; encoding = around.encoding } ∷ [])
+            p.functions (λ may. function n allowed place cs p.fits, tt);
+      });
+}

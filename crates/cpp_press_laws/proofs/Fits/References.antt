@@ -1,0 +1,230 @@
+-- What a reader names by a reference fits, since it stands among the components, and what has no parts fits as it was read.
+use Rattle.std.proofs.Common.{◌≡◌, ℕ, zero, suc, ◌⊎◌, inl, inr, List, [], ◌∷◌, Option, Some, None, Bool, true, false, Result, Ok, Err, refl, ap, sym, subst, ◌∙◌}
+use Rattle.std.specs.Prelude.{◌&&◌, ◌||◌, not, nat_eq, slice_get}
+use Rattle.std.proofs.lemmas.Bool.{eqb-true}
+use Rattle.sym_core.specs.declared.refusal.Refusal.{Refusal}
+use Rattle.sym_core.specs.declared.refusal.Refusal.TheVariants.{BadReference}
+use Rattle.sym_link.specs.Reading.{Found, ◌>>=◌}
+use Rattle.sym_link.specs.Unfold.{found}
+use Rattle.cpp_grammar.specs.Term.{Term, symbol, function, object, special, thunk, guard, abbreviation, source, operator, literal_operator, constructor, destructor, lambda, unnamed, string_literal, builtin, function_type, integer, boolean, null_pointer, encoding_literal, address_of, pack, nil, list, absent}
+use Rattle.cpp_grammar.specs.Scope.{is_open}
+use Rattle.cpp_grammar.specs.Values.{Candidate, State, Around, Value, tree, tree_of, is_listed}
+use Rattle.cpp_grammar.specs.References.{is_function_type, with_type, with_unqualified, with_packs, packs_in, substituted}
+use Rattle.cpp_grammar.proofs.ClosedStates.{ok_same, behind_bind}
+use Rattle.cpp_press_laws.specs.Components.{Spelling}
+use Rattle.cpp_press_laws.specs.Pressing.{ways_of}
+use Rattle.cpp_press_laws.proofs.ReadBack.References.{PacksFit, MayBeReferred}
+use Rattle.cpp_press_laws.proofs.Components.Parts.{IsComponent, Whole, Unqualified, Has, stands-found}
+use Rattle.cpp_press_laws.proofs.Components.Complete.{Complete, StandAmong, complete-has}
+use Rattle.cpp_press_laws.proofs.Components.Steps.{Allows, named-stands}
+use Rattle.cpp_press_laws.proofs.Fits.Packs.{PacksNamed, packs-named}
+use Rattle.cpp_press_laws.proofs.Components.Again.{ItemStands, FunctionStands, item-again, function-again}
+use Rattle.cpp_press_laws.proofs.Fits.Fit.{Fitting, Slot, any_type, bare_type, item_type, parameter_type, literal_type, type_fits, piece_fits, argument_fits, encoding_fits, fits_nowhere, fits_of}
+use Rattle.cpp_press_laws.proofs.Components.AddedWays.{way_at, IsNotBare}
+use Rattle.cpp_press_laws.proofs.Components.AddedTrees.{adds}
+use Rattle.cpp_press_laws.proofs.Components.Adding.{Adds, AddsParts}
+use Rattle.cpp_press_laws.proofs.Fits.Read.{pressed_at, FunctionsStand, Fitted}
+use Rattle.cpp_press_laws.proofs.Components.NoneAdded.{type-none, bare-none}
+use Rattle.cpp_press_laws.proofs.Fits.Types.{BareFits, SolidFits}
+
+-- ## What a substitution stands for
+
+-- a candidate that was named: where it may be named, its packs, and the state behind it
+pub record Referred (around : Around) (old new : State) (c : Candidate) : Type 0 where
+  pub number : ℕ
+  pub there : slice_get old.candidates number ≡ Some c
+  pub named : (is_open c.tree ≡ false) ⊎ (c.encoding ≡ around.encoding)
+  pub lambda : is_open c.tree && around.in_lambda ≡ false
+  pub candidates : new.candidates ≡ old.candidates
+  pub packs : PacksNamed around.in_expansion (packs_in around.scope c.tree) old new
+
+pub named-packs : (around : Around) (allowed packs : Option ℕ) (old new : State) → PacksNamed around.in_expansion packs old new
+    → Allows allowed new.packs → PacksFit around allowed packs
+named-packs around allowed packs old new named allows = go packs named.are
+  where
+    go : (o : Option ℕ) → (o ≡ None) ⊎ ((around.in_expansion ≡ true) × (o ≡ new.packs)) → PacksFit around allowed o
+    go o (inl none) = inl none
+    go None (inr here) = inl refl
+    go (Some m) (inr here) = inr (here.0, sym (allows m (sym here.1)))
+
+-- what was named may be referred to in pressed bytes
+pub referred-may : (around : Around) (n : ℕ) (allowed : Option ℕ) (old new : State) (c : Candidate) → Referred around old new c
+    → Allows allowed new.packs → MayBeReferred (pressed_at n around) allowed c.tree
+referred-may around n allowed old new c r allows = record {
+  lambda = r.lambda;
+  packs = named-packs around allowed (packs_in around.scope c.tree) old new r.packs allows;
+}
+
+-- a function type that was named stands again
+pub functions-get : (scope : Option Term) (read number : ℕ) (c : Candidate) (cs : List Candidate) → FunctionsStand scope read cs
+    → slice_get cs number ≡ Some c → (is_open c.tree ≡ false) ⊎ (c.encoding ≡ read) → FunctionStands scope c.tree
+functions-get scope read number c [] all at may = absurd cc
+functions-get scope read zero c (d ∷ ds) all at may =
+    let same : d ≡ c = cc in
+    subst (λ x. (is_open x.tree ≡ false) ⊎ (x.encoding ≡ read) → FunctionStands scope x.tree) same all.0 may
+functions-get scope read (suc number) c (d ∷ ds) all at may = functions-get scope read number c ds all.1 at may
+
+-- ## What stands fits again
+
+component-stands : (t : Term) (slot : Slot) (scope : Option Term) → IsComponent t → ItemStands slot scope (packs_in scope t) t
+component-stands (builtin code) slot scope is = absurd is
+component-stands (abbreviation l) slot scope is = absurd is
+component-stands (symbol e suffix) slot scope is = absurd is
+component-stands t slot scope is = (is, inr refl)
+
+-- a component that stands among complete ones fits as a type
+pub type-again : (t : Term) (slot : Slot) → IsNotBare slot → IsComponent t → (around : Around) (allowed : Option ℕ)
+    → MayBeReferred around allowed t → (place : ℕ) (cs : List Candidate) → Complete cs → Has around.encoding t cs
+    → (fits_of t).as_type slot around allowed place cs
+type-again t slot other is around allowed may place cs complete has =
+    item-again t slot other around allowed (packs_in around.scope t) (component-stands t slot around.scope is) may.packs may.lambda place cs
+    (complete-has around.encoding t cs complete has)
+
+-- right under qualifiers as well, also a function type, which is spelled out there
+pub bare-again : (t : Term) → IsComponent t → (around : Around) (allowed : Option ℕ) → FunctionStands around.scope t
+    → MayBeReferred around allowed t → (place : ℕ) (cs : List Candidate) → Complete cs → Has around.encoding t cs
+    → (fits_of t).as_type bare_type around allowed place cs
+unfolding fits_of type_fits piece_fits argument_fits encoding_fits fits_nowhere
+bare-again (function_type c_linkage noexcept ref returned parameters) is around allowed stands may place cs complete has =
+    function-again c_linkage noexcept ref returned parameters around allowed stands may place cs complete has
+bare-again (symbol e suffix) is around allowed stands may place cs complete has = absurd is
+bare-again (function name q ref returned parameters) is around allowed stands may place cs complete has = absurd is
+bare-again (object name q ref) is around allowed stands may place cs complete has = absurd is
+bare-again (special l type) is around allowed stands may place cs complete has = absurd is
+bare-again (thunk kind e) is around allowed stands may place cs complete has = absurd is
+bare-again (guard name q ref) is around allowed stands may place cs complete has = absurd is
+bare-again (abbreviation l) is around allowed stands may place cs complete has = absurd is
+bare-again (source internal name) is around allowed stands may place cs complete has = absurd is
+bare-again (operator a b) is around allowed stands may place cs complete has = absurd is
+bare-again (literal_operator name) is around allowed stands may place cs complete has = absurd is
+bare-again (constructor digit) is around allowed stands may place cs complete has = absurd is
+bare-again (destructor digit) is around allowed stands may place cs complete has = absurd is
+bare-again (lambda parameters k) is around allowed stands may place cs complete has = absurd is
+bare-again (unnamed k) is around allowed stands may place cs complete has = absurd is
+bare-again string_literal is around allowed stands may place cs complete has = absurd is
+bare-again (builtin code) is around allowed stands may place cs complete has = absurd is
+bare-again (integer type value) is around allowed stands may place cs complete has = absurd is
+bare-again (boolean truth) is around allowed stands may place cs complete has = absurd is
+bare-again null_pointer is around allowed stands may place cs complete has = absurd is
+bare-again (encoding_literal e) is around allowed stands may place cs complete has = absurd is
+bare-again (address_of e) is around allowed stands may place cs complete has = absurd is
+bare-again (pack elements) is around allowed stands may place cs complete has = absurd is
+bare-again nil is around allowed stands may place cs complete has = absurd is
+bare-again (list first rest) is around allowed stands may place cs complete has = absurd is
+bare-again absent is around allowed stands may place cs complete has = absurd is
+bare-again t is around allowed stands may place cs complete has =
+    (may, λ first. absurd (stands-found around.encoding t 0 cs has first))
+
+-- ## References
+
+-- What was named is spelled where it stands: nothing is added.
+pub referred-fitted : (around : Around) (F : Fitting) (s : ℕ → Spelling) (old new : State) (c : Candidate) (P : Term → Type 0)
+    → Referred around old new c
+    → ((n : ℕ) (allowed : Option ℕ) → Adds n P (F (pressed_at n around) allowed) (s n))
+    → ((n : ℕ) (allowed : Option ℕ) (place : ℕ) (cs : List Candidate) → MayBeReferred (pressed_at n around) allowed c.tree
+    → FunctionStands around.scope c.tree → IsComponent c.tree → Complete cs → Has n c.tree cs → F (pressed_at n around) allowed place cs)
+    → ((n place : ℕ) (cs : List Candidate) → IsComponent c.tree → Complete cs → Has n c.tree cs → (s n place cs).components ≡ cs)
+    → Fitted around F s c.tree old new
+referred-fitted around F s old new c P r adding again none = record {
+  stay = r.packs.stay;
+  fits = λ n place cs allowed front allows. (
+      let named = named-stands around.encoding n r.number c old.candidates cs front.among r.there r.named in
+      let may = referred-may around n allowed old new c r allows in
+      let fits = again n allowed place cs may (functions-get around.scope around.encoding r.number c old.candidates front.functions r.there
+      r.named) named.0 front.complete named.1 in
+      let a : AddsParts n P cs (s n place cs).components = adding n allowed place cs fits front.complete in
+      record {
+        fits = fits;
+        may = may;
+        complete = a.complete;
+        among = subst (λ l. StandAmong around.encoding n l (s n place cs).components) (sym r.candidates)
+            (subst (StandAmong around.encoding n old.candidates) (sym (none n place cs named.0 front.complete named.1)) front.among);
+        functions = subst (FunctionsStand around.scope around.encoding) (sym r.candidates) front.functions;
+      });
+}
+
+pub unlisted : (around : Around) (t : Term) (state : State) → with_unqualified around (tree t true) state ≡ state
+unfolding with_unqualified with_type tree_of is_listed
+unlisted around t state = go (is_function_type t)
+  where
+    go : (b : Bool) → elim b as (λ _. State) [ true ↦ state | false ↦ state ] ≡ state
+    go true = refl
+    go false = refl
+
+-- a type that was named by a reference
+pub referred-solid : (takes : Slot → Bool) (around : Around) (old new : State) (c : Candidate) → Referred around old new c
+    → SolidFits takes around (tree c.tree true) old new
+unfolding with_type tree_of is_listed way_at
+referred-solid takes around old new c r = record {
+  types = λ slot other take. referred-fitted around ((fits_of c.tree).as_type slot) (λ n. (ways_of n c.tree).as_type) old new c (Whole c.tree) r
+      (λ n allowed. typed slot other n allowed)
+      (λ n allowed place cs may stands is complete has.
+      type-again c.tree slot other is (pressed_at n around) allowed may place cs complete has)
+      (λ n place cs is complete has. type-none c.tree n place cs (λ _. has));
+  bare = λ take. subst (λ s. BareFits around c.tree old s) (sym (unlisted around c.tree new))
+      (referred-fitted around ((fits_of c.tree).as_type bare_type) (λ n. (ways_of n c.tree).under_qualifiers) old new c (Unqualified c.tree) r
+      (λ n allowed. (adds c.tree).as_type bare_type (pressed_at n around) allowed)
+      (λ n allowed place cs may stands is complete has.
+      bare-again c.tree is (pressed_at n around) allowed stands may place cs complete has)
+      (λ n place cs is complete has. bare-none c.tree n place cs is complete has));
+}
+  where
+    typed : (slot : Slot) → IsNotBare slot → (n : ℕ) (allowed : Option ℕ)
+        → Adds n (Whole c.tree) ((fits_of c.tree).as_type slot (pressed_at n around) allowed) (ways_of n c.tree).as_type
+    typed any_type h n allowed = (adds c.tree).as_type any_type (pressed_at n around) allowed
+    typed bare_type h n allowed = absurd h
+    typed item_type h n allowed = (adds c.tree).as_type item_type (pressed_at n around) allowed
+    typed parameter_type h n allowed = (adds c.tree).as_type parameter_type (pressed_at n around) allowed
+    typed literal_type h n allowed = (adds c.tree).as_type literal_type (pressed_at n around) allowed
+
+-- ## Substitutions that aren't refused
+
+-- the candidate that one stands for
+pub record Substituted (around : Around) (old : State) (r : Found Value State) : Type 0 where
+  pub candidate : Candidate
+  pub value : r.value ≡ tree candidate.tree true
+  pub referred : Referred around old r.state candidate
+
+pub substitution-refers : (around : Around) (place number : ℕ) (state : State) (r : Found Value State)
+    → substituted around place (slice_get state.candidates number) state ≡ Ok r → Substituted around state r
+unfolding substituted
+substitution-refers around place number state r e = go (slice_get state.candidates number) refl e
+  where
+    answered : (c : Candidate) → slice_get state.candidates number ≡ Some c → (is_open c.tree ≡ false) ⊎ (c.encoding ≡ around.encoding)
+        → is_open c.tree && around.in_lambda ≡ false
+        → (with_packs place around.in_expansion (packs_in around.scope c.tree) state >>= λ s. Ok (found (tree c.tree true) s)) ≡ Ok r
+        → Substituted around state r
+    answered c is named lambda_ h =
+        let b = behind_bind (with_packs place around.in_expansion (packs_in around.scope c.tree) state)
+        (λ s. Ok (found (tree c.tree true) s)) r h in
+        let same : found (tree c.tree true) b.value ≡ r = ok_same (found (tree c.tree true) b.value) r b.next in
+        let named_packs = packs-named place around.in_expansion (packs_in around.scope c.tree) state b.value b.is in
+        subst (λ x. Substituted around state x) same
+        (record {
+          candidate = c;
+          value = refl;
+          referred = record {
+            number = number;
+            there = is;
+            named = named;
+            lambda = lambda_;
+            candidates = named_packs.candidates;
+            packs = named_packs;
+          };
+        })
+
+    tested : (c : Candidate) → slice_get state.candidates number ≡ Some c → (open_ lambda_ same : Bool) → is_open c.tree ≡ open_
+        → around.in_lambda ≡ lambda_ → nat_eq c.encoding around.encoding ≡ same
+        → ◌≡◌ {A = Result (Found Value State) Refusal} (elim (open_ && (lambda_ || not same)) [
+          | true ↦ Err (BadReference place)
+          | false ↦ with_packs place around.in_expansion (packs_in around.scope c.tree) state >>= λ s. Ok (found (tree c.tree true) s)
+        ]) (Ok r) → Substituted around state r
+    tested c is false lambda_ same is-open is-lambda is-same h = answered c is (inl is-open) (ap (λ b. b && around.in_lambda) is-open) h
+    tested c is true true same is-open is-lambda is-same h = absurd cc
+    tested c is true false false is-open is-lambda is-same h = absurd cc
+    tested c is true false true is-open is-lambda is-same h =
+        answered c is (inr (eqb-true c.encoding around.encoding is-same)) (ap (λ b. b && around.in_lambda) is-open ∙ is-lambda) h
+
+    go : (o : Option Candidate) → slice_get state.candidates number ≡ o → substituted around place o state ≡ Ok r → Substituted around state r
+    go None is h = let clash : ◌≡◌ {A = Result (Found Value State) Refusal} (Err (BadReference place)) (Ok r) = h in absurd cc
+    go (Some c) is h = tested c is (is_open c.tree) around.in_lambda (nat_eq c.encoding around.encoding) refl refl refl h

@@ -1,0 +1,252 @@
+-- A template name that was read with arguments fits before them: as a reference, or spelled out.
+use Rattle.std.proofs.Common.{◌≡◌, ℕ, ◌+◌, length, List, [], Option, Some, None, Bool, true, false, refl, ap, sym, subst, ◌∙◌, arith}
+use Rattle.std.specs.Prelude.{codes, ◌&&◌}
+use Rattle.sym_spell.specs.Pressing as spell
+use Rattle.sym_spell.specs.Pressing.{◌and◌, text}
+use Rattle.sym_spell.proofs.Spellings.{and-assoc-at}
+use Rattle.cpp_grammar.specs.Term.{Term, in_std, within, instance}
+use Rattle.cpp_grammar.specs.Values.{Candidate, State, Around}
+use Rattle.cpp_grammar.specs.References.{appended}
+use Rattle.cpp_press_laws.specs.Components.{Spelling, first_equal, reference, ended, spelled_out, referred, component}
+use Rattle.cpp_press_laws.specs.Pressing.{no_ways, name_ways, in_N_and_E, template_before, is_operator, is_encoding, is_one_piece, ways_of}
+use Rattle.cpp_press_laws.proofs.Components.Parts.{IsComponent, Inside}
+use Rattle.cpp_press_laws.proofs.Components.Adding.{AddsParts}
+use Rattle.cpp_press_laws.proofs.Components.AddedTrees.{adds}
+use Rattle.cpp_press_laws.proofs.Components.Again.{FunctionStands}
+use Rattle.cpp_press_laws.proofs.Components.Complete.{Complete, StandAmong}
+use Rattle.cpp_press_laws.proofs.Fits.Fit.{Standing, Fitting, Behind, as_component, as_template, fits_of}
+use Rattle.cpp_press_laws.proofs.Fits.Read.{pressed_at, Fitted, Wherever, refitted, behind-both, and-fitted, bytes-fitted, fitted-bytes}
+use Rattle.cpp_press_laws.proofs.Fits.Names.{respelled, ended-fitted, BetweenFits, TemplateBetweenFits, TemplatePrefixFits, within-prefix, within-prefix-template, std-prefix, ElementsFit, arguments_standing, arguments_text, arguments-fitted, instance-may}
+
+-- a component and what stands behind it, where an equal one stands before
+behind-found : (n number : ℕ) (own : Term) (s : Spelling) (G : Standing) (place : ℕ) (cs : List Candidate) → first_equal n own 0 cs ≡ Some number
+    → Behind (component n own s) G place cs → Behind (reference number) G place cs
+unfolding component
+behind-found n number own s G place cs is fits = go (first_equal n own 0 cs) is fits
+  where
+    go : (o : Option ℕ) → o ≡ Some number
+        → (let w : spell.Pressed Candidate = elim o as (λ _. spell.Pressed Candidate) [ Some k ↦ reference k place cs | None ↦ spelled_out n own s place cs ] in
+        G (place + length w.bytes) w.components)
+        → Behind (reference number) G place cs
+    go (Some k) same h = let equal : k ≡ number = cc in subst (λ j. Behind (reference j) G place cs) equal h
+    go None same h = absurd cc
+
+-- where an equal one stands before, the components are those behind a reference, or else those behind the whole spelling
+components-before : (n : ℕ) (own : Term) (needs_N : Bool) (s between arguments : Spelling) (place : ℕ) (cs : List Candidate)
+    (P : List Candidate → Type 0) → P ((component n own s and arguments) place cs).components
+    → P ((elim needs_N as (λ _. Spelling) [
+      | true ↦ in_N_and_E [] (between and ended n own and arguments)
+      | false ↦ between and ended n own and arguments
+    ]) place cs).components
+    → P (template_before n own needs_N between arguments place cs).components
+unfolding template_before referred component
+components-before n own needs_N s between arguments place cs P found new = go (first_equal n own 0 cs) found
+  where
+    go : (o : Option ℕ)
+        → P (let w : spell.Pressed Candidate = elim o as (λ _. spell.Pressed Candidate) [ Some k ↦ reference k place cs | None ↦ spelled_out n own s place cs ] in
+        (arguments (place + length w.bytes) w.components).components)
+        → P (spell.Pressed.components (elim o as (λ _. spell.Pressed Candidate) [
+          | Some number ↦ (reference number and arguments) place cs
+          | None ↦ (elim needs_N as (λ _. Spelling) [
+            | true ↦ in_N_and_E [] (between and ended n own and arguments)
+            | false ↦ between and ended n own and arguments
+          ]) place cs
+        ]))
+    go (Some k) h = h
+    go None h = new
+
+-- a template name before its arguments, from where it fits as a component and where it is spelled out before them
+pub template-fitted : (around : Around) (own a : Term) (needs_N : Bool) (F H : Fitting) (s front between : ℕ → Spelling) (old mid now : State)
+    → Fitted around (as_component own F) (λ n. component n own (s n)) own old (appended around own mid)
+    → Fitted around (λ inner allowed place cs. H inner allowed place cs
+    × Behind (front inner.encoding and ended inner.encoding own) (arguments_standing a inner allowed) place cs)
+    (λ n. elim needs_N as (λ _. Spelling) [
+      | true ↦ in_N_and_E [] (between n and ended n own and arguments_text a n)
+      | false ↦ between n and ended n own and arguments_text a n
+    ])
+    (instance own a) old now
+    → ElementsFit around a (appended around own mid) now
+    → Fitted around (as_template own H front (arguments_standing a)) (λ n. template_before n own needs_N (between n) (arguments_text a n))
+    (instance own a) old now
+template-fitted around own a needs_N F H s front between old mid now one whole other = record {
+  stay = whole.stay;
+  fits = λ n place cs allowed before allows. (
+      let both = and-fitted around (as_component own F) (arguments_standing a) (λ n. component n own (s n)) (arguments_text a) own a
+      (instance own a) old (appended around own mid) now (instance-may around own a) one
+      (arguments-fitted around a (appended around own mid) now other) in
+      let p = both.fits n place cs allowed before allows in
+      let q = whole.fits n place cs allowed before allows in
+      record {
+        fits = (
+          p.fits.0.0,
+          λ number is. behind-found n number own (s n) (arguments_standing a (pressed_at n around) allowed) place cs is p.fits.1,
+          λ first. q.fits,
+        );
+        may = p.may;
+        complete = components-before n own needs_N (s n) (between n) (arguments_text a n) place cs Complete p.complete q.complete;
+        among = components-before n own needs_N (s n) (between n) (arguments_text a n) place cs
+            (StandAmong around.encoding n now.candidates) p.among q.among;
+        functions = p.functions;
+      });
+}
+
+-- ## Spelled out
+
+-- nothing before a spelling
+pub nothing-and : (s : Spelling) (place : ℕ) (cs : List Candidate) → (text [] and s) place cs ≡ s place cs
+nothing-and s place cs = let same : place + 0 ≡ place = omega arith in ap (λ q. s q cs) same
+
+behind-same : (s r : Spelling) (G : Standing) (place : ℕ) (cs : List Candidate) → s place cs ≡ r place cs → Behind s G place cs
+    → Behind r G place cs
+behind-same s r G place cs same fits = subst (λ w. G (place + length (spell.Pressed.bytes w)) (spell.Pressed.components w)) same fits
+
+abbrev pub SpelledBefore : Around → (own a : Term) → (H : Fitting) → (front whole : ℕ → Spelling) → (old now : State) → Type 0
+SpelledBefore around own a H front whole old now =
+    Fitted around (λ inner allowed place cs. H inner allowed place cs
+    × Behind (front inner.encoding and ended inner.encoding own) (arguments_standing a inner allowed) place cs) whole (instance own a) old now
+
+-- a template name that is spelled out, and its arguments
+pub spelled-before : (around : Around) (own a : Term) (F : Fitting) (between : ℕ → Spelling) (old mid now : State) → IsComponent own
+    → FunctionStands around.scope own
+    → ((n : ℕ) (allowed : Option ℕ) (place : ℕ) (cs : List Candidate) → F (pressed_at n around) allowed place cs → Complete cs
+    → AddsParts n (Inside own) cs (between n place cs).components)
+    → Fitted around F between own old mid → ElementsFit around a (appended around own mid) now
+    → SpelledBefore around own a F between (λ n. between n and ended n own and arguments_text a n) old now
+spelled-before around own a F between old mid now is stands whole one other =
+    respelled around _ (λ n. (between n and ended n own) and arguments_text a n) (λ n. between n and ended n own and arguments_text a n)
+    (instance own a) old now (λ n place cs. and-assoc-at (between n) (ended n own) (arguments_text a n) place cs)
+    (and-fitted around F (arguments_standing a) (λ n. between n and ended n own) (arguments_text a) own a (instance own a) old
+    (appended around own mid) now (instance-may around own a) (ended-fitted around own F between old mid is stands whole one)
+    (arguments-fitted around a (appended around own mid) now other))
+
+-- the same between N and E
+pub nested-before : (around : Around) (own a : Term) (F : Fitting) (between whole : ℕ → Spelling) (old now : State)
+    → SpelledBefore around own a F between whole old now
+    → SpelledBefore around own a (λ inner allowed place cs. F inner allowed (place + 1) cs) (λ n. text (codes "N") and between n)
+    (λ n. in_N_and_E [] (whole n)) old now
+unfolding in_N_and_E
+nested-before around own a F between whole old now one =
+    let G : Fitting = arguments_standing a in
+    let both : Fitting = λ inner allowed place cs. F inner allowed place cs × Behind (between inner.encoding and ended inner.encoding own)
+    (G inner allowed) place cs in
+    refitted around (λ inner allowed place cs. both inner allowed (place + 1) cs)
+    (λ inner allowed place cs. F inner allowed (place + 1) cs
+    × Behind ((text (codes "N") and between inner.encoding) and ended inner.encoding own) (G inner allowed) place cs)
+    (λ n. text (codes "N") and whole n and text (codes "E")) (instance own a) (instance own a) old now
+    (λ n allowed place cs fits. (
+      fits.0,
+      behind-same (text (codes "N") and between n and ended n own) ((text (codes "N") and between n) and ended n own)
+          (G (pressed_at n around) allowed) place cs (sym (and-assoc-at (text (codes "N")) (between n) (ended n own) place cs))
+          (behind-both (text (codes "N")) (between n and ended n own) (G (pressed_at n around) allowed) place cs fits.1),
+    ))
+    (λ n allowed may. may)
+    (bytes-fitted around both (codes "N") (λ n. whole n and text (codes "E")) (instance own a) old now
+    (fitted-bytes around both whole (codes "E") (instance own a) old now one))
+
+-- ## Template names
+
+-- a template name that was read from one state to another, before arguments
+pub record TemplateFits (around : Around) (t : Term) (old mid : State) : Type 0 where
+  pub is : IsComponent t
+  pub stands : FunctionStands around.scope t
+  pub pieces : (a : Term) → Wherever around old (is_one_piece (instance t a) ≡ false)
+  pub between : TemplateBetweenFits around t old mid
+  pub prefix : TemplatePrefixFits around t old (appended around t mid)
+  pub before : (typed : Bool) (a : Term) (now : State) → ElementsFit around a (appended around t mid) now
+      → Fitted around ((fits_of t).before typed (arguments_standing a)) (λ n. (ways_of n t).before typed (arguments_text a n)) (instance t a) old
+      now
+
+-- a piece behind a prefix that isn't an encoding
+pub within-template : (around : Around) (t p : Term) (old mid : State) → Wherever around old (is_encoding t ≡ false)
+    → BetweenFits around (within t p) old mid → TemplateFits around (within t p) old mid
+unfolding fits_of ways_of name_ways no_ways is_one_piece
+within-template around t p old mid apart one = record {
+  is = tt;
+  stands = tt;
+  pieces = λ a. apart;
+  between = one;
+  prefix = within-prefix-template around t p old mid one;
+  before = λ typed a now other. (
+      let own : Term = within t p in
+      let between : ℕ → Spelling = λ n. (ways_of n (within t p)).between_N_and_E in
+      template-fitted around own a true _ _ between (λ n. text (codes "N") and between n) between old mid now
+      (within-prefix around t p old mid one)
+      (nested-before around own a (fits_of own).between between _ old now
+      (spelled-before around own a (fits_of own).between between old mid now tt tt
+      (λ n allowed place cs fits complete. (adds own).between (pressed_at n around) allowed place cs fits complete) one other))
+      other);
+}
+
+-- a piece behind St, which an N stands before where it is an operator of a type
+pub std-template : (around : Around) (p : Term) (old mid : State) → BetweenFits around (in_std p) old mid
+    → TemplateFits around (in_std p) old mid
+unfolding fits_of ways_of name_ways no_ways is_one_piece
+std-template around p old mid one = record {
+  is = tt;
+  stands = tt;
+  pieces = λ a n place cs front. refl;
+  between = one;
+  prefix = std-prefix around p old mid one;
+  before = λ typed a now other. by typed (is_operator p) a now other;
+}
+  where
+    own : Term
+    own = in_std p
+
+    std : Fitting
+    std = (fits_of (in_std p)).between
+
+    between : ℕ → Spelling
+    between n = text (codes "St") and (ways_of n p).as_piece
+
+    front : Bool → ℕ → Spelling
+    front b n = text (elim b as (λ _. List ℕ) [ true ↦ codes "N" | false ↦ [] ]) and between n
+
+    plain : (H : Fitting)
+        → ((n : ℕ) (allowed : Option ℕ) (place : ℕ) (cs : List Candidate) → std (pressed_at n around) allowed place cs
+        → H (pressed_at n around) allowed place cs)
+        → (a : Term) (now : State) → ElementsFit around a (appended around own mid) now
+        → Fitted around (as_template own H (front false) (arguments_standing a))
+        (λ n. template_before n own false (between n) (arguments_text a n)) (instance own a) old now
+    plain H more a now other =
+        template-fitted around own a false std H between (front false) between old mid now (std-prefix around p old mid one)
+        (refitted around (λ inner allowed place cs. std inner allowed place cs
+        × Behind (between inner.encoding and ended inner.encoding own) (arguments_standing a inner allowed) place cs)
+        (λ inner allowed place cs. H inner allowed place cs
+        × Behind (front false inner.encoding and ended inner.encoding own) (arguments_standing a inner allowed) place cs)
+        (λ n. between n and ended n own and arguments_text a n) (instance own a) (instance own a) old now
+        (λ n allowed place cs fits. (
+          more n allowed place cs fits.0,
+          behind-same (between n and ended n own) (front false n and ended n own) (arguments_standing a (pressed_at n around) allowed) place cs
+              (sym (and-assoc-at (text []) (between n) (ended n own) place cs ∙ nothing-and (between n and ended n own) place cs)) fits.1,
+        ))
+        (λ n allowed may. may)
+        (spelled-before around own a std between old mid now tt tt
+        (λ n allowed place cs fits complete. (adds own).between (pressed_at n around) allowed place cs fits complete) one other))
+        other
+
+    nested : (a : Term) (now : State) → ElementsFit around a (appended around own mid) now
+        → Fitted around (as_template own (λ inner allowed place cs. std inner allowed (place + 1) cs) (front true) (arguments_standing a))
+        (λ n. template_before n own true (between n) (arguments_text a n)) (instance own a) old now
+    nested a now other =
+        template-fitted around own a true std _ between (front true) between old mid now (std-prefix around p old mid one)
+        (nested-before around own a std between _ old now
+        (spelled-before around own a std between old mid now tt tt
+        (λ n allowed place cs fits complete. (adds own).between (pressed_at n around) allowed place cs fits complete) one other))
+        other
+
+    at-once : (n : ℕ) (allowed : Option ℕ) (place : ℕ) (cs : List Candidate) → std (pressed_at n around) allowed place cs
+        → std (pressed_at n around) allowed (place + 0) cs
+    at-once n allowed place cs fits = let same : place ≡ place + 0 = omega arith in subst (λ q. std (pressed_at n around) allowed q cs) same fits
+
+    by : (typed operator_ : Bool) (a : Term) (now : State) → ElementsFit around a (appended around own mid) now
+        → Fitted around (as_template own (elim typed as (λ _. Fitting) [
+          | true ↦ (λ inner allowed place cs. std inner allowed
+              (place + length (elim operator_ as (λ _. List ℕ) [ true ↦ codes "N" | false ↦ [] ])) cs)
+          | false ↦ std
+        ]) (front (typed && operator_)) (arguments_standing a))
+        (λ n. template_before n own (typed && operator_) (between n) (arguments_text a n)) (instance own a) old now
+    by true true a now other = nested a now other
+    by true false a now other = plain (λ inner allowed place cs. std inner allowed (place + 0) cs) at-once a now other
+    by false true a now other = plain std (λ n allowed place cs fits. fits) a now other
+    by false false a now other = plain std (λ n allowed place cs fits. fits) a now other

@@ -1,0 +1,282 @@
+-- The productions of names as types, of arguments and of literals keep to what is fit.
+use Rattle.std.proofs.Common.{◌≡◌, ℕ, ◌<◌, Some, inl, inr, [], ◌∷◌, Bool, true, false, refl, sym, subst}
+use Rattle.std.specs.Prelude.{◌&&◌, not, nat_eq}
+use Rattle.std.proofs.lemmas.Bool.{false≢true}
+use Rattle.cpp_grammar.specs.declared.kind.Kind.{Kind}
+use Rattle.cpp_grammar.specs.Grammar.{choose}
+use Rattle.cpp_grammar.specs.declared.production.Production.{Production}
+use Rattle.cpp_grammar.specs.Term.{Term, abbreviation, parameter, instance, lvalue, rvalue, builtin, pack}
+use Rattle.cpp_grammar.specs.Values.{Candidate, State, Around, prefix_listed, Value, nothing_there, tree, tree_of, is_listed, is_there, letter_of, signed_of, part, text_of}
+use Rattle.cpp_grammar.specs.References.{appended, with_type, with_unqualified, with_prefix}
+use Rattle.cpp_grammar.specs.Between.{after, applied, inside, no_items}
+use Rattle.cpp_grammar.specs.Meaning.{signature_or, meaning, with_item}
+use Rattle.cpp_grammar.specs.Unfolding as unfolding_
+use Rattle.sym_link.specs.Reading.{Found}
+use Rattle.cpp_press_laws.proofs.ReadBack.Tokens.{IsSpellableName}
+use Rattle.cpp_press_laws.proofs.ReadBack.Arguments.{IsSpellableNumber}
+use Rattle.cpp_press_laws.proofs.Fits.Fit.{Slot, any_type, bare_type, item_type, parameter_type, literal_type, takes_all, IsBuiltin, IsAbbreviation}
+use Rattle.cpp_press_laws.proofs.Fits.Types.{TypeFits, SolidFits, lvalue-fits, rvalue-fits}
+use Rattle.cpp_press_laws.proofs.Fits.Lists.{list-fits}
+use Rattle.cpp_press_laws.proofs.Fits.References.{Referred, referred-solid, Substituted}
+use Rattle.cpp_press_laws.proofs.Fits.Solids.{LambdasAreBare, ParameterNamed, abbreviation-fits, abbreviation-before, builtin-fits, parameter-fits, parameter-before, instance-fits, vendor-fits}
+use Rattle.cpp_press_laws.proofs.Fits.Found.{referred-before}
+use Rattle.cpp_press_laws.proofs.Fits.Arguments.{ArgumentsFit, EncodingFits, type-argument, no-arguments-fit, arguments-fit, pack-fits, integer-fits, boolean-fits, null-fits, encoding-literal-fits, address-fits}
+use Rattle.cpp_press_laws.proofs.Fits.Sorts.{takes_literals, NameRead, KindFits, Meant, Later}
+
+-- ## Names that arguments may follow
+
+abbreviation-name : (around : Around) (l : ℕ) (state : State) → IsAbbreviation l → NameRead around (tree (abbreviation l) true) state state
+unfolding with_prefix after tree_of is_listed prefix_listed
+abbreviation-name around l state is = record {
+  solid = abbreviation-fits (λ slot. true) around l state is;
+  before = λ a now other. abbreviation-before around l a state now is other;
+}
+
+referred-name : (around : Around) (old new : State) (c : Candidate) → Referred around old new c → NameRead around (tree c.tree true) old new
+unfolding with_prefix after tree_of is_listed prefix_listed
+referred-name around old new c r = record {
+  solid = referred-solid (λ slot. true) around old new c r;
+  before = λ a now other. referred-before around true c a old new now r other;
+}
+
+-- behind an S
+pub abbreviated-type : (around : Around) (byte : ℕ) (began : State) (v : Value) (old new : State) → KindFits Kind.Abbreviation around v old new
+    → KindFits Kind.TypeAfterS around (Meant Production.AbbreviatedType byte around (v ∷ [])) old
+    (Later Production.AbbreviatedType byte around began (v ∷ []) new)
+unfolding meaning part unfolding_.behind
+abbreviated-type around byte began v old new (inl (l, value, is, same)) =
+    subst (λ s. NameRead around v old s) (sym same)
+    (subst (λ w. NameRead around w old old) (sym value) (abbreviation-name around l old is))
+abbreviated-type around byte began v old new (inr (c, value, refers)) =
+    subst (λ w. NameRead around w old new) (sym value) (referred-name around old new c refers)
+
+-- a parameter that wasn't refused
+pub parameter-name : (around : Around) (k : ℕ) (old new : State) → ParameterNamed around k old new → LambdasAreBare around
+    → NameRead around (tree (parameter k) true) old new
+unfolding with_prefix after tree_of is_listed prefix_listed
+parameter-name around k old new p bare = record {
+  solid = parameter-fits (λ slot. true) around k old new p bare;
+  before = λ a now other. parameter-before around k a old new now p bare other;
+}
+
+and-true : (b : Bool) → b && true ≡ b
+and-true true = refl
+and-true false = refl
+
+and-false : (b : Bool) → b && false ≡ false
+and-false true = refl
+and-false false = refl
+
+with-slots : (takes : Slot → Bool) (around : Around) (v : Value) (old new : State) → SolidFits (λ slot. true) around v old new
+    → SolidFits takes around v old new
+with-slots takes around v old new one = record { types = λ slot other take. one.types slot other refl; bare = λ take. one.bare refl }
+
+-- the name as a type, with or without arguments
+pub name-type : (takes : Slot → Bool) (around : Around) (v w : Value) (old mid new : State) → NameRead around v old mid
+    → KindFits Kind.MaybeArguments (after (tree_of v) (is_listed v) around) w mid new
+    → SolidFits takes around (tree (applied (tree_of v) w) (is_listed v && not (is_there w))) old new
+unfolding applied with_type with_unqualified tree_of is_listed is_there after inside with_prefix
+name-type takes around v w old mid new name (inl (none, same)) =
+    subst (λ u. SolidFits takes around (tree (applied (tree_of v) u) (is_listed v && not (is_there u))) old new) (sym none)
+    (subst (λ b. SolidFits takes around (tree (tree_of v) b) old new) (sym (and-true (is_listed v)))
+    (subst (λ s. SolidFits takes around (tree (tree_of v) (is_listed v)) old s) (sym same) (with-slots takes around v old mid name.solid)))
+name-type takes around v w old mid new name (inr (there, other)) =
+    subst (λ b. SolidFits takes around (tree (elim b as (λ _. Term) [ true ↦ instance (tree_of v) (tree_of w) | false ↦ tree_of v ])
+    (is_listed v && not b)) old new) (sym there)
+    (subst (λ b. SolidFits takes around (tree (instance (tree_of v) (tree_of w)) b) old new) (sym (and-false (is_listed v)))
+    (instance-fits takes around (tree_of v) (tree_of w) old new (name.before (tree_of w) new other)))
+
+pub type-with-s : (takes : Slot → Bool) (around : Around) (byte : ℕ) (began : State) (v w : Value) (old mid new : State)
+    → KindFits Kind.TypeAfterS around v old mid → KindFits Kind.MaybeArguments (after (tree_of v) (is_listed v) around) w mid new
+    → SolidFits takes around (Meant Production.TypeWithS byte around (v ∷ w ∷ [])) old
+    (Later Production.TypeWithS byte around began (v ∷ w ∷ []) new)
+unfolding meaning part unfolding_.behind
+type-with-s takes around byte began v w old mid new name other = name-type takes around v w old mid new name other
+
+-- ## References among parameters
+
+-- a reference among the parameters, which is a candidate before the others
+pub lvalue-item : (around : Around) (byte : ℕ) (began : State) (t : Term) (rest : Value) (old mid new : State)
+    → TypeFits around any_type t old mid → KindFits Kind.FunctionRest around rest (appended around (lvalue t) mid) new
+    → KindFits Kind.AfterR around (Meant Production.LvalueItem byte around (tree (lvalue t) true ∷ rest ∷ [])) old
+    (Later Production.LvalueItem byte around began (tree (lvalue t) true ∷ rest ∷ []) new)
+unfolding meaning signature_or with_item tree_of part unfolding_.behind with_type is_listed takes_all
+lvalue-item around byte began t rest old mid new one other = (
+  tt,
+  list-fits around parameter_type (lvalue t) (tree_of rest) old (appended around (lvalue t) mid) new
+      ((lvalue-fits around t old mid one).types parameter_type tt refl) other.1,
+)
+
+pub rvalue-item : (around : Around) (byte : ℕ) (began : State) (t : Term) (rest : Value) (old mid new : State)
+    → TypeFits around any_type t old mid → KindFits Kind.FunctionRest around rest (appended around (rvalue t) mid) new
+    → KindFits Kind.AfterO around (Meant Production.RvalueItem byte around (tree (rvalue t) true ∷ rest ∷ [])) old
+    (Later Production.RvalueItem byte around began (tree (rvalue t) true ∷ rest ∷ []) new)
+unfolding meaning signature_or with_item tree_of part unfolding_.behind with_type is_listed takes_all
+rvalue-item around byte began t rest old mid new one other = (
+  tt,
+  list-fits around parameter_type (rvalue t) (tree_of rest) old (appended around (rvalue t) mid) new
+      ((rvalue-fits around t old mid one).types parameter_type tt refl) other.1,
+)
+
+-- ## Arguments
+
+pub type-argument-read : (around : Around) (byte : ℕ) (began : State) (v rest : Value) (old mid new : State)
+    → KindFits Kind.Item around v old mid → KindFits Kind.ArgumentList around rest mid new
+    → KindFits Kind.ArgumentList around (Meant Production.TypeArgument byte around (v ∷ rest ∷ [])) old
+    (Later Production.TypeArgument byte around began (v ∷ rest ∷ []) new)
+unfolding meaning no_items tree_of part unfolding_.behind
+type-argument-read around byte began v rest old mid new one other =
+    arguments-fit around false (tree_of v) (no_items rest) old mid new (type-argument (tree_of v) around false old mid one) other
+
+pub type-element : (around : Around) (byte : ℕ) (began : State) (v rest : Value) (old mid new : State)
+    → KindFits Kind.Item around v old mid → KindFits Kind.PackList around rest mid new
+    → KindFits Kind.PackList around (Meant Production.TypeElement byte around (v ∷ rest ∷ [])) old
+    (Later Production.TypeElement byte around began (v ∷ rest ∷ []) new)
+unfolding meaning no_items tree_of part unfolding_.behind
+type-element around byte began v rest old mid new one other =
+    arguments-fit around true (tree_of v) (no_items rest) old mid new (type-argument (tree_of v) around true old mid one) other
+
+pub literal-argument : (around : Around) (byte : ℕ) (began : State) (v mark rest : Value) (old mid new : State)
+    → KindFits Kind.Literal around v old mid → KindFits Kind.ArgumentList around rest mid new
+    → KindFits Kind.ArgumentList around (Meant Production.LiteralArgument byte around (v ∷ mark ∷ rest ∷ [])) old
+    (Later Production.LiteralArgument byte around began (v ∷ mark ∷ rest ∷ []) new)
+unfolding meaning no_items tree_of part unfolding_.behind
+literal-argument around byte began v mark rest old mid new one other =
+    arguments-fit around false (tree_of v) (no_items rest) old mid new (one false) other
+
+pub literal-element : (around : Around) (byte : ℕ) (began : State) (v mark rest : Value) (old mid new : State)
+    → KindFits Kind.Literal around v old mid → KindFits Kind.PackList around rest mid new
+    → KindFits Kind.PackList around (Meant Production.LiteralElement byte around (v ∷ mark ∷ rest ∷ [])) old
+    (Later Production.LiteralElement byte around began (v ∷ mark ∷ rest ∷ []) new)
+unfolding meaning no_items tree_of part unfolding_.behind
+literal-element around byte began v mark rest old mid new one other =
+    arguments-fit around true (tree_of v) (no_items rest) old mid new (one true) other
+
+pub address-argument : (around : Around) (byte : ℕ) (began : State) (a d v rest : Value) (old mid new : State)
+    → KindFits Kind.Address around v old mid → KindFits Kind.ArgumentList around rest mid new
+    → KindFits Kind.ArgumentList around (Meant Production.AddressArgument byte around (a ∷ d ∷ v ∷ rest ∷ [])) old
+    (Later Production.AddressArgument byte around began (a ∷ d ∷ v ∷ rest ∷ []) new)
+unfolding meaning no_items tree_of part unfolding_.behind
+address-argument around byte began a d v rest old mid new one other =
+    arguments-fit around false (tree_of v) (no_items rest) old mid new (one false) other
+
+pub address-element : (around : Around) (byte : ℕ) (began : State) (a d v rest : Value) (old mid new : State)
+    → KindFits Kind.Address around v old mid → KindFits Kind.PackList around rest mid new
+    → KindFits Kind.PackList around (Meant Production.AddressElement byte around (a ∷ d ∷ v ∷ rest ∷ [])) old
+    (Later Production.AddressElement byte around began (a ∷ d ∷ v ∷ rest ∷ []) new)
+unfolding meaning no_items tree_of part unfolding_.behind
+address-element around byte began a d v rest old mid new one other =
+    arguments-fit around true (tree_of v) (no_items rest) old mid new (one true) other
+
+-- the pack is made before the arguments behind it
+pub pack-argument : (around : Around) (byte : ℕ) (began : State) (t : Term) (mark rest : Value) (old mid new : State)
+    → ArgumentsFit around true t old mid → KindFits Kind.ArgumentList around rest mid new
+    → KindFits Kind.ArgumentList around (Meant Production.PackArgument byte around (tree (pack t) true ∷ mark ∷ rest ∷ [])) old
+    (Later Production.PackArgument byte around began (tree (pack t) true ∷ mark ∷ rest ∷ []) new)
+unfolding meaning no_items tree_of part unfolding_.behind
+pack-argument around byte began t mark rest old mid new one other =
+    arguments-fit around false (pack t) (no_items rest) old mid new (pack-fits around t old mid one) other
+
+-- where no more arguments are
+pub no-arguments : (around : Around) (in_pack : Bool) (state : State) → ArgumentsFit around in_pack (no_items nothing_there) state state
+unfolding no_items
+no-arguments around in_pack state = no-arguments-fit around in_pack state
+
+-- with their I and E; the name in front of them is a candidate before they begin
+pub arguments-read : (around : Around) (byte : ℕ) (began : State) (v mark : Value) (old new : State)
+    → KindFits Kind.ArgumentList (inside around) v (with_prefix around old) new
+    → KindFits Kind.Arguments around (Meant Production.Arguments byte around (v ∷ mark ∷ [])) old
+    (Later Production.Arguments byte around began (v ∷ mark ∷ []) new)
+unfolding meaning tree_of part unfolding_.behind
+arguments-read around byte began v mark old new one = one
+
+-- ## Literals
+
+-- the type is a candidate before the number
+pub integer-literal : (around : Around) (byte : ℕ) (began : State) (v number : Value) (old new : State)
+    → KindFits Kind.LiteralType around v old new → IsSpellableNumber (signed_of number)
+    → KindFits Kind.Literal around (Meant Production.IntegerLiteral byte around (v ∷ number ∷ [])) old
+    (Later Production.IntegerLiteral byte around began (v ∷ number ∷ []) (with_type around v new))
+unfolding meaning tree_of part unfolding_.behind takes_literals
+integer-literal around byte began v number old new one is in_pack =
+    integer-fits around in_pack (tree_of v) (signed_of number) old (with_type around v new) is (one.types literal_type tt refl)
+
+pub char-literal : (around : Around) (byte : ℕ) (began : State) (number : Value) (state : State)
+    → IsBuiltin literal_type (68 ∷ byte ∷ []) → IsSpellableNumber (signed_of number)
+    → KindFits Kind.LiteralAfterD around (Meant Production.CharLiteral byte around (number ∷ [])) state
+    (Later Production.CharLiteral byte around began (number ∷ []) state)
+unfolding meaning tree_of part unfolding_.behind takes_literals with_type is_listed
+char-literal around byte began number state known is in_pack =
+    integer-fits around in_pack (builtin (68 ∷ byte ∷ [])) (signed_of number) state state is
+    ((builtin-fits takes_literals around (68 ∷ byte ∷ []) state literal-slots).types literal_type tt refl)
+  where
+    literal-slots : (slot : Slot) → takes_literals slot ≡ true → IsBuiltin slot (68 ∷ byte ∷ [])
+    literal-slots literal_type take = known
+    literal-slots any_type take = absurd (false≢true take)
+    literal-slots bare_type take = absurd (false≢true take)
+    literal-slots item_type take = absurd (false≢true take)
+    literal-slots parameter_type take = absurd (false≢true take)
+
+pub null-literal : (around : Around) (byte : ℕ) (began : State) (zero_ : Value) (state : State)
+    → KindFits Kind.LiteralAfterD around (Meant Production.NullLiteral byte around (zero_ ∷ [])) state
+    (Later Production.NullLiteral byte around began (zero_ ∷ []) state)
+unfolding meaning tree_of part unfolding_.behind
+null-literal around byte began zero_ state in_pack = null-fits around in_pack state
+
+pub bool-literal : (around : Around) (byte : ℕ) (began : State) (bit : Value) (state : State)
+    → KindFits Kind.Literal around (Meant Production.BoolLiteral byte around (bit ∷ [])) state
+    (Later Production.BoolLiteral byte around began (bit ∷ []) state)
+unfolding meaning tree_of part unfolding_.behind
+bool-literal around byte began bit state in_pack = boolean-fits around in_pack (nat_eq (letter_of bit) 49) state
+
+pub encoding-literal : (around : Around) (byte : ℕ) (began : State) (z e : Value) (old new : State) → EncodingFits around (tree_of e) old new
+    → KindFits Kind.Literal around (Meant Production.EncodingLiteral byte around (z ∷ e ∷ [])) old
+    (Later Production.EncodingLiteral byte around began (z ∷ e ∷ []) new)
+unfolding meaning tree_of part unfolding_.behind
+encoding-literal around byte began z e old new one in_pack = encoding-literal-fits around in_pack (tree_of e) old new one
+
+pub address-literal : (around : Around) (byte : ℕ) (began : State) (line z e one_ two : Value) (old new : State)
+    → EncodingFits around (tree_of e) old new
+    → KindFits Kind.Address around (Meant Production.Address byte around (line ∷ z ∷ e ∷ one_ ∷ two ∷ [])) old
+    (Later Production.Address byte around began (line ∷ z ∷ e ∷ one_ ∷ two ∷ []) new)
+unfolding meaning tree_of part unfolding_.behind
+address-literal around byte began line z e one_ two old new one in_pack = address-fits around in_pack (tree_of e) old new one
+
+pub literal-with-d : (around : Around) (byte : ℕ) (began : State) (v : Value) (old new : State) → KindFits Kind.LiteralAfterD around v old new
+    → KindFits Kind.Literal around (Meant Production.LiteralWithD byte around (v ∷ [])) old
+    (Later Production.LiteralWithD byte around began (v ∷ []) new)
+unfolding meaning part unfolding_.behind
+literal-with-d around byte began v old new one = one
+
+-- the type of a literal by its letter
+pub builtin-literal : (around : Around) (byte : ℕ) (state : State) → byte < 256 → choose Kind.LiteralType byte ≡ Some Production.Builtin
+    → KindFits Kind.LiteralType around (tree (builtin (byte ∷ [])) true) state state
+unfolding takes_literals
+builtin-literal around byte state small is = builtin-fits takes_literals around (byte ∷ []) state slots
+  where
+    slots : (slot : Slot) → takes_literals slot ≡ true → IsBuiltin slot (byte ∷ [])
+    slots literal_type take = (small, is)
+    slots any_type take = absurd (false≢true take)
+    slots bare_type take = absurd (false≢true take)
+    slots item_type take = absurd (false≢true take)
+    slots parameter_type take = absurd (false≢true take)
+
+-- ## Behind an S, and types of vendors
+
+pub abbreviation-read : (around : Around) (byte : ℕ) (began state : State) → byte < 256
+    → choose Kind.Abbreviation byte ≡ Some Production.Abbreviation
+    → KindFits Kind.Abbreviation around (Meant Production.Abbreviation byte around []) state
+    (Later Production.Abbreviation byte around began [] state)
+unfolding meaning unfolding_.behind
+abbreviation-read around byte began state small is = inl (byte, refl, (small, is), refl)
+
+-- what a substitution that wasn't refused stands for
+pub substitution-read : (around : Around) (old : State) (r : Found Value State) → Substituted around old r
+    → KindFits Kind.Abbreviation around r.value old r.state
+substitution-read around old r named = inr (named.candidate, named.value, named.referred)
+
+pub solid-vendor : (around : Around) (byte : ℕ) (began : State) (name : Value) (state : State) → IsSpellableName (text_of name)
+    → KindFits Kind.Solid around (Meant Production.Vendor byte around (name ∷ [])) state
+    (Later Production.Vendor byte around began (name ∷ []) state)
+unfolding meaning part unfolding_.behind
+solid-vendor around byte began name state is = vendor-fits around (text_of name) state is

@@ -1,0 +1,291 @@
+-- Types that were read fit, before they are candidates and behind that.
+use Rattle.std.proofs.Common.{◌≡◌, ℕ, ◌+◌, inl, inr, length, List, ◌++◌, Option, Some, None, Bool, true, false, refl, ap, sym, subst, ◌∙◌}
+use Rattle.std.specs.Prelude.{◌&&◌, ◌||◌, codes}
+use Rattle.sym_core.specs.declared.NumberKind.TheVariants.{Decimal, Digits}
+use Rattle.sym_spell.specs.Pressing.{◌and◌, text}
+use Rattle.cpp_grammar.specs.Term.{Qualifiers, Term, pointer, lvalue, rvalue, array, member_pointer, qualified, vector, complex}
+use Rattle.cpp_grammar.specs.Scope.{is_open, first_of, pack_length}
+use Rattle.cpp_grammar.specs.Values.{Candidate, State, Around, Value, tree, tree_of, is_listed}
+use Rattle.cpp_grammar.specs.References.{appended, is_function_type, with_type, with_unqualified, packs_in}
+use Rattle.cpp_press_laws.specs.Texts.{qualifier_letters}
+use Rattle.cpp_press_laws.specs.Components.{Spelling, component}
+use Rattle.cpp_press_laws.specs.Pressing.{type_ways, no_ways, ways_of}
+use Rattle.cpp_press_laws.proofs.ReadBack.References.{PacksFit, MayBeReferred}
+use Rattle.cpp_press_laws.proofs.ReadBack.Solids.{AreSpellableDigits}
+use Rattle.cpp_press_laws.proofs.Components.Parts.{IsComponent, Whole}
+use Rattle.cpp_press_laws.proofs.Components.Known.{KeepsTo, text-keeps, and-keeps}
+use Rattle.cpp_press_laws.proofs.Components.KnownTrees.{In, keeps}
+use Rattle.cpp_press_laws.proofs.Components.Complete.{Complete}
+use Rattle.cpp_press_laws.proofs.Fits.Packs.{closed-packs}
+use Rattle.cpp_press_laws.proofs.Components.Again.{FunctionStands}
+use Rattle.cpp_press_laws.proofs.Fits.FunctionsStand.{first-fits}
+use Rattle.cpp_press_laws.proofs.Fits.Fit.{Fitting, Behind, as_component, Slot, any_type, bare_type, item_type, parameter_type, literal_type, takes_all, takes_qualified, has_letters, type_fits, fits_nowhere, fits_of}
+use Rattle.cpp_press_laws.proofs.Components.AddedWays.{way_at, IsNotBare}
+use Rattle.cpp_press_laws.proofs.Components.AddedTrees.{adds}
+use Rattle.cpp_press_laws.proofs.Fits.Read.{pressed_at, Fitted, refitted, and-fitted, bytes-fitted, component-fitted, behind-both}
+
+-- ## What may be referred to
+
+packs-same : (scope : Option Term) (a t : Term) → ((arguments : Term) → pack_length arguments t ≡ pack_length arguments a)
+    → packs_in scope t ≡ packs_in scope a
+unfolding packs_in
+packs-same None a t same = refl
+packs-same (Some arguments) a t same = same arguments
+
+packs-of-two : (scope : Option Term) (a b t : Term)
+    → ((arguments : Term) → pack_length arguments t ≡ first_of (pack_length arguments a) (pack_length arguments b))
+    → packs_in scope t ≡ first_of (packs_in scope a) (packs_in scope b)
+unfolding packs_in first_of
+packs-of-two None a b t same = refl
+packs-of-two (Some arguments) a b t same = same arguments
+
+pub packs-none : (scope : Option Term) (t : Term) → ((arguments : Term) → pack_length arguments t ≡ None) → packs_in scope t ≡ None
+unfolding packs_in
+packs-none None t none = refl
+packs-none (Some arguments) t none = none arguments
+
+-- a tree with the parameters and packs of another
+pub may-as : (around : Around) (allowed : Option ℕ) (a t : Term) → is_open t ≡ is_open a
+    → ((arguments : Term) → pack_length arguments t ≡ pack_length arguments a)
+    → MayBeReferred around allowed a → MayBeReferred around allowed t
+may-as around allowed a t open_ packs may = record {
+  lambda = ap (λ b. b && around.in_lambda) open_ ∙ may.lambda;
+  packs = subst (PacksFit around allowed) (sym (packs-same around.scope a t packs)) may.packs;
+}
+
+both-shut : (a b c : Bool) → a && c ≡ false → b && c ≡ false → (a || b) && c ≡ false
+both-shut true b c one other = one
+both-shut false b c one other = other
+
+-- a tree with those of two
+pub may-as-two : (around : Around) (allowed : Option ℕ) (a b t : Term) → is_open t ≡ (is_open a || is_open b)
+    → ((arguments : Term) → pack_length arguments t ≡ first_of (pack_length arguments a) (pack_length arguments b))
+    → MayBeReferred around allowed a → MayBeReferred around allowed b → MayBeReferred around allowed t
+may-as-two around allowed a b t open_ packs one other = record {
+  lambda = ap (λ c. c && around.in_lambda) open_ ∙ both-shut (is_open a) (is_open b) around.in_lambda one.lambda other.lambda;
+  packs = subst (PacksFit around allowed) (sym (packs-of-two around.scope a b t packs))
+      (first-fits around allowed (packs_in around.scope a) (packs_in around.scope b) one.packs other.packs);
+}
+
+-- a tree without free parameters
+pub may-closed : (around : Around) (allowed : Option ℕ) (t : Term) → is_open t ≡ false → MayBeReferred around allowed t
+may-closed around allowed t closed = record {
+  lambda = ap (λ b. b && around.in_lambda) closed;
+  packs = inl (packs-none around.scope t (λ arguments. closed-packs arguments t closed));
+}
+
+-- ## Types where they stand
+
+abbrev pub TypeFits : (around : Around) → Slot → Term → (old new : State) → Type 0
+TypeFits around slot t old new = Fitted around ((fits_of t).as_type slot) (λ n. (ways_of n t).as_type) t old new
+
+-- right under qualifiers
+abbrev pub BareFits : (around : Around) → Term → (old new : State) → Type 0
+BareFits around t old new = Fitted around ((fits_of t).as_type bare_type) (λ n. (ways_of n t).under_qualifiers) t old new
+
+-- Types in some slots, and right under qualifiers, where they become candidates in different ways.
+pub record SolidAs (takes : Slot → Bool) (around : Around) (t : Term) (as_type : Slot → Fitting) (typed under : ℕ → Spelling)
+    (old listed bared : State) : Type 0 where
+  pub types : (slot : Slot) → IsNotBare slot → takes slot ≡ true → Fitted around (as_type slot) typed t old listed
+  pub bare : takes bare_type ≡ true → Fitted around (as_type bare_type) under t old bared
+
+-- a type's value, before the type is a candidate
+abbrev pub SolidFits : (takes : Slot → Bool) → Around → Value → (old new : State) → Type 0
+SolidFits takes around v old new =
+    SolidAs takes around (tree_of v) (fits_of (tree_of v)).as_type (λ n. (ways_of n (tree_of v)).as_type)
+    (λ n. (ways_of n (tree_of v)).under_qualifiers) old (with_type around v new) (with_unqualified around v new)
+
+-- ## Components that are spelled alike wherever they stand
+
+pub typed-complete : (t : Term) → ((n : ℕ) → (ways_of n t).under_qualifiers ≡ (ways_of n t).as_type) → (slot : Slot) (around : Around)
+    (allowed : Option ℕ) (place : ℕ) (cs : List Candidate) → (fits_of t).as_type slot around allowed place cs → Complete cs
+    → Complete ((ways_of around.encoding t).as_type place cs).components
+unfolding way_at
+typed-complete t alike any_type around allowed place cs fits complete =
+    ((adds t).as_type any_type around allowed place cs fits complete).complete
+typed-complete t alike item_type around allowed place cs fits complete =
+    ((adds t).as_type item_type around allowed place cs fits complete).complete
+typed-complete t alike parameter_type around allowed place cs fits complete =
+    ((adds t).as_type parameter_type around allowed place cs fits complete).complete
+typed-complete t alike literal_type around allowed place cs fits complete =
+    ((adds t).as_type literal_type around allowed place cs fits complete).complete
+typed-complete t alike bare_type around allowed place cs fits complete =
+    subst (λ w. Complete (w place cs).components) (alike around.encoding)
+    ((adds t).as_type bare_type around allowed place cs fits complete).complete
+
+-- what a component of its own is that is no function type
+pub record Spelled (around : Around) (t : Term) (G : Slot → Fitting) (s : ℕ → Spelling) : Type 0 where
+  pub is : IsComponent t
+  pub keeps : (n : ℕ) → KeepsTo Unit n (Whole t) (s n)
+  pub function : FunctionStands around.scope t
+  pub whole : (slot : Slot) (n : ℕ) (allowed : Option ℕ) (place : ℕ) (cs : List Candidate)
+      → as_component t (G slot) (pressed_at n around) allowed place cs → Complete cs → Complete (component n t (s n) place cs).components
+
+pub spelled-fitted : (around : Around) (t : Term) (G : Slot → Fitting) (s : ℕ → Spelling) (slot : Slot) (old new : State)
+    → Spelled around t G s → Fitted around (G slot) s t old new
+    → Fitted around (as_component t (G slot)) (λ n. component n t (s n)) t old (appended around t new)
+spelled-fitted around t G s slot old new spelled one =
+    component-fitted around t (G slot) s old new spelled.is spelled.keeps (λ n allowed place cs fits. spelled.function) (spelled.whole slot) one
+
+pub spelled-solid : (takes : Slot → Bool) (around : Around) (t : Term) (G : Slot → Fitting) (s : ℕ → Spelling) (old new : State)
+    → Spelled around t G s → ((slot : Slot) → takes slot ≡ true → Fitted around (G slot) s t old new)
+    → SolidAs takes around t (λ slot. as_component t (G slot)) (λ n. component n t (s n)) (λ n. component n t (s n)) old
+    (appended around t new) (appended around t new)
+spelled-solid takes around t G s old new spelled one = record {
+  types = λ slot other take. spelled-fitted around t G s slot old new spelled (one slot take);
+  bare = λ take. spelled-fitted around t G s bare_type old new spelled (one bare_type take);
+}
+
+-- behind bytes, a type that adds nothing else
+pub bytes-keep : (n : ℕ) (t a : Term) (bytes : List ℕ) → In (Whole a) (Whole t) → KeepsTo Unit n (Whole t) (text bytes and (ways_of n a).as_type)
+bytes-keep n t a bytes inside =
+    and-keeps Unit n (Whole t) (text bytes) (ways_of n a).as_type (text-keeps Unit n (Whole t) bytes) ((keeps a Unit n (Whole t)).as_type inside)
+
+-- a component of one type behind bytes
+pub one-part : (takes : Slot → Bool) (around : Around) (t a : Term) (bytes : List ℕ) (G : Slot → Fitting) (old new : State)
+    → Spelled around t G (λ n. text bytes and (ways_of n a).as_type) → is_open t ≡ is_open a
+    → ((arguments : Term) → pack_length arguments t ≡ pack_length arguments a)
+    → ((slot : Slot) → takes slot ≡ true → (n : ℕ) (allowed : Option ℕ) (place : ℕ) (cs : List Candidate)
+    → (fits_of a).as_type any_type (pressed_at n around) allowed (place + length bytes) cs → G slot (pressed_at n around) allowed place cs)
+    → TypeFits around any_type a old new
+    → SolidAs takes around t (λ slot. as_component t (G slot)) (λ n. component n t (text bytes and (ways_of n a).as_type))
+    (λ n. component n t (text bytes and (ways_of n a).as_type)) old (appended around t new) (appended around t new)
+one-part takes around t a bytes G old new spelled open_ packs more one =
+    let F : Fitting = λ inner allowed place cs. (fits_of a).as_type any_type inner allowed (place + length bytes) cs in
+    let s : ℕ → Spelling = λ n. text bytes and (ways_of n a).as_type in
+    spelled-solid takes around t G s old new spelled (λ slot take. refitted around F (G slot) s a t old new
+    (more slot take) (λ n allowed. may-as (pressed_at n around) allowed a t open_ packs)
+    (bytes-fitted around ((fits_of a).as_type any_type) bytes (λ n. (ways_of n a).as_type) a old new one))
+
+-- ## Pointers and their like
+
+pub pointer-fits : (takes : Slot → Bool) (around : Around) (a : Term) (old new : State) → TypeFits around any_type a old new
+    → SolidFits takes around (tree (pointer a) false) old new
+unfolding fits_of type_fits fits_nowhere ways_of type_ways no_ways is_open pack_length with_type with_unqualified is_function_type tree_of is_listed
+pointer-fits takes around a old new one =
+    one-part takes around (pointer a) a (codes "P")
+    (λ slot inner allowed place cs. (fits_of a).as_type any_type inner allowed (place + length (codes "P")) cs) old new
+    (record {
+      is = tt;
+      keeps = λ n. bytes-keep n (pointer a) a (codes "P") (λ x w. inr w);
+      function = tt;
+      whole = λ slot n allowed place cs. typed-complete (pointer a) (λ m. refl) slot (pressed_at n around) allowed place cs;
+    }) refl (λ arguments. refl) (λ slot take n allowed place cs fits. fits) one
+
+pub lvalue-fits : (around : Around) (a : Term) (old new : State) → TypeFits around any_type a old new
+    → SolidFits takes_all around (tree (lvalue a) false) old new
+unfolding fits_of type_fits fits_nowhere ways_of type_ways no_ways is_open pack_length with_type with_unqualified is_function_type tree_of is_listed
+lvalue-fits around a old new one =
+    one-part takes_all around (lvalue a) a (codes "R")
+    (λ slot inner allowed place cs. (takes_all slot ≡ true) × (fits_of a).as_type any_type inner allowed (place + length (codes "R")) cs) old new
+    (record {
+      is = tt;
+      keeps = λ n. bytes-keep n (lvalue a) a (codes "R") (λ x w. inr w);
+      function = tt;
+      whole = λ slot n allowed place cs. typed-complete (lvalue a) (λ m. refl) slot (pressed_at n around) allowed place cs;
+    }) refl (λ arguments. refl) (λ slot take n allowed place cs fits. (take, fits)) one
+
+pub rvalue-fits : (around : Around) (a : Term) (old new : State) → TypeFits around any_type a old new
+    → SolidFits takes_all around (tree (rvalue a) false) old new
+unfolding fits_of type_fits fits_nowhere ways_of type_ways no_ways is_open pack_length with_type with_unqualified is_function_type tree_of is_listed
+rvalue-fits around a old new one =
+    one-part takes_all around (rvalue a) a (codes "O")
+    (λ slot inner allowed place cs. (takes_all slot ≡ true) × (fits_of a).as_type any_type inner allowed (place + length (codes "O")) cs) old new
+    (record {
+      is = tt;
+      keeps = λ n. bytes-keep n (rvalue a) a (codes "O") (λ x w. inr w);
+      function = tt;
+      whole = λ slot n allowed place cs. typed-complete (rvalue a) (λ m. refl) slot (pressed_at n around) allowed place cs;
+    }) refl (λ arguments. refl) (λ slot take n allowed place cs fits. (take, fits)) one
+
+pub complex-fits : (around : Around) (a : Term) (old new : State) → TypeFits around any_type a old new
+    → SolidFits takes_all around (tree (complex a) false) old new
+unfolding fits_of type_fits fits_nowhere ways_of type_ways no_ways is_open pack_length with_type with_unqualified is_function_type tree_of is_listed
+complex-fits around a old new one =
+    one-part takes_all around (complex a) a (codes "C")
+    (λ slot inner allowed place cs. (takes_all slot ≡ true) × (fits_of a).as_type any_type inner allowed (place + length (codes "C")) cs) old new
+    (record {
+      is = tt;
+      keeps = λ n. bytes-keep n (complex a) a (codes "C") (λ x w. inr w);
+      function = tt;
+      whole = λ slot n allowed place cs. typed-complete (complex a) (λ m. refl) slot (pressed_at n around) allowed place cs;
+    }) refl (λ arguments. refl) (λ slot take n allowed place cs fits. (take, fits)) one
+
+pub array-fits : (around : Around) (digits : List ℕ) (a : Term) (old new : State) → AreSpellableDigits Decimal digits → TypeFits around any_type a old new
+    → SolidFits takes_all around (tree (array digits a) false) old new
+unfolding fits_of type_fits fits_nowhere ways_of type_ways no_ways is_open pack_length with_type with_unqualified is_function_type tree_of is_listed
+array-fits around digits a old new digit one =
+    one-part takes_all around (array digits a) a (codes "A" ++ digits ++ codes "_")
+    (λ slot inner allowed place cs. (takes_all slot ≡ true) × AreSpellableDigits Decimal digits × (fits_of a).as_type any_type inner allowed (place + length (codes "A" ++ digits ++ codes "_")) cs) old new
+    (record {
+      is = tt;
+      keeps = λ n. bytes-keep n (array digits a) a (codes "A" ++ digits ++ codes "_") (λ x w. inr w);
+      function = tt;
+      whole = λ slot n allowed place cs. typed-complete (array digits a) (λ m. refl) slot (pressed_at n around) allowed place cs;
+    }) refl (λ arguments. refl) (λ slot take n allowed place cs fits. (take, digit, fits)) one
+
+pub vector-fits : (around : Around) (digits : List ℕ) (a : Term) (old new : State) → AreSpellableDigits Digits digits → TypeFits around any_type a old new
+    → SolidFits takes_all around (tree (vector digits a) false) old new
+unfolding fits_of type_fits fits_nowhere ways_of type_ways no_ways is_open pack_length with_type with_unqualified is_function_type tree_of is_listed
+vector-fits around digits a old new digit one =
+    one-part takes_all around (vector digits a) a (codes "Dv" ++ digits ++ codes "_")
+    (λ slot inner allowed place cs. (takes_all slot ≡ true) × AreSpellableDigits Digits digits × (fits_of a).as_type any_type inner allowed (place + length (codes "Dv" ++ digits ++ codes "_")) cs) old new
+    (record {
+      is = tt;
+      keeps = λ n. bytes-keep n (vector digits a) a (codes "Dv" ++ digits ++ codes "_") (λ x w. inr w);
+      function = tt;
+      whole = λ slot n allowed place cs. typed-complete (vector digits a) (λ m. refl) slot (pressed_at n around) allowed place cs;
+    }) refl (λ arguments. refl) (λ slot take n allowed place cs fits. (take, digit, fits)) one
+
+-- the two parts of a pointer to a member
+pub member-pointer-fits : (takes : Slot → Bool) (around : Around) (a b : Term) (old mid new : State) → TypeFits around any_type a old mid
+    → TypeFits around any_type b mid new → SolidFits takes around (tree (member_pointer a b) false) old new
+unfolding fits_of type_fits fits_nowhere ways_of type_ways no_ways is_open pack_length with_type with_unqualified is_function_type tree_of is_listed
+member-pointer-fits takes around a b old mid new one other =
+    let t : Term = member_pointer a b in
+    let A : Fitting = (fits_of a).as_type any_type in
+    let B : Fitting = (fits_of b).as_type any_type in
+    let s : ℕ → Spelling = λ n. (ways_of n a).as_type in
+    let r : ℕ → Spelling = λ n. (ways_of n b).as_type in
+    let both : Fitting = λ inner allowed place cs. A inner allowed place cs × Behind (s inner.encoding) (B inner allowed) place cs in
+    let G : Slot → Fitting = λ slot inner allowed place cs. A inner allowed (place + 1) cs
+    × Behind (text (codes "M") and s inner.encoding) (B inner allowed) place cs in
+    spelled-solid takes around t G (λ n. text (codes "M") and s n and r n) old new
+    (record {
+      is = tt;
+      keeps = λ n. and-keeps Unit n (Whole t) (text (codes "M")) (s n and r n) (text-keeps Unit n (Whole t) (codes "M"))
+          (and-keeps Unit n (Whole t) (s n) (r n) ((keeps a Unit n (Whole t)).as_type (λ x w. inr (inl w)))
+          ((keeps b Unit n (Whole t)).as_type (λ x w. inr (inr w))));
+      function = tt;
+      whole = λ slot n allowed place cs. typed-complete t (λ m. refl) slot (pressed_at n around) allowed place cs;
+    }) (λ slot take. refitted around (λ inner allowed place cs. both inner allowed (place + 1) cs) (G slot)
+    (λ n. text (codes "M") and s n and r n) t t old new
+    (λ n allowed place cs fits. (fits.0, behind-both (text (codes "M")) (s n) (B (pressed_at n around) allowed) place cs fits.1))
+    (λ n allowed may. may)
+    (bytes-fitted around both (codes "M") (λ n. s n and r n) t old new
+    (and-fitted around A B s r a b t old mid new
+    (λ n allowed. may-as-two (pressed_at n around) allowed a b t refl (λ arguments. refl)) one other)))
+
+-- ## Qualified types
+
+-- behind letters a type that is bare
+pub qualified-fits : (around : Around) (q : Qualifiers) (a : Term) (slot : Slot) (old new : State) → takes_qualified slot ≡ true
+    → has_letters q ≡ true → BareFits around a old new → TypeFits around slot (qualified q a) old (appended around (qualified q a) new)
+unfolding fits_of type_fits fits_nowhere ways_of type_ways no_ways is_open pack_length
+qualified-fits around q a slot old new take letters one =
+    let t : Term = qualified q a in
+    let bytes : List ℕ = qualifier_letters q in
+    let s : ℕ → Spelling = λ n. text bytes and (ways_of n a).under_qualifiers in
+    let F : Fitting = λ inner allowed place cs. (fits_of a).as_type bare_type inner allowed (place + length bytes) cs in
+    let G : Slot → Fitting = λ slot inner allowed place cs. (takes_qualified slot ≡ true) × (has_letters q ≡ true)
+    × F inner allowed place cs in
+    spelled-fitted around t G s slot old new
+    (record {
+      is = tt;
+      keeps = λ n. and-keeps Unit n (Whole t) (text bytes) (ways_of n a).under_qualifiers (text-keeps Unit n (Whole t) bytes)
+          ((keeps a Unit n (Whole t)).under_qualifiers (λ x w. inr w));
+      function = tt;
+      whole = λ slot n allowed place cs. typed-complete t (λ m. refl) slot (pressed_at n around) allowed place cs;
+    }) (refitted around F (G slot) s a t old new (λ n allowed place cs fits. (take, letters, fits))
+    (λ n allowed. may-as (pressed_at n around) allowed a t refl (λ arguments. refl))
+    (bytes-fitted around ((fits_of a).as_type bare_type) bytes (λ n. (ways_of n a).under_qualifiers) a old new one))

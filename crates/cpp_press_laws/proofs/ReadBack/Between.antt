@@ -1,0 +1,215 @@
+-- Names are read from their pieces: alone and behind St, as prefixes and between N and E, with arguments and without.
+use Rattle.std.proofs.Common.{◌≡◌, ℕ, ◌+◌, length, List, [], ◌∷◌, ◌++◌, Option, true, false, ap, arith, sym, subst, append-nil, append_assoc, length-append}
+use Rattle.sym_shape.specs.declared.rule.Sym.TheVariants.{Kind as OfKind}
+use Rattle.sym_shape.specs.Tree.{TakesRule}
+use Rattle.cpp_grammar.specs.declared.production.Production.{Production}
+use Rattle.cpp_grammar.specs.Table.{abi, rule_of}
+use Rattle.cpp_grammar.specs.Term.{Term, in_std, within, instance, parameter}
+use Rattle.cpp_grammar.specs.Values.{Candidate, Around, Value, nothing_there, tree, piece, tree_of, is_there}
+use Rattle.cpp_grammar.specs.Between.{after, inside, extended, applied, no_items}
+use Rattle.cpp_press_laws.specs.Texts.{ordinal}
+use Rattle.cpp_press_laws.proofs.ReadBack.Reading.{Written, written, ReadsAt}
+use Rattle.cpp_press_laws.proofs.ReadBack.Types.{Is, same-written, more, solid-with-s}
+use Rattle.cpp_press_laws.proofs.ReadBack.Functions.{IsInScope}
+use Rattle.cpp_press_laws.proofs.ReadBack.Names.{SoFar, Extends, no-arguments, some-arguments, so-far-within, extends-more, extends-same, nest-whole}
+use Rattle.cpp_press_laws.proofs.ReadBack.Nests.{nest-parameter, nest-behind-s, nest-std, nest-arguments}
+use Rattle.cpp_press_laws.proofs.ReadBack.Encodings.{std-name, nested-type, std-type, type-with-arguments}
+use Rattle.cpp_press_laws.proofs.ReadBack.Prefixes.{next-17, next-18, extends-behind-s}
+use Rattle.cpp_press_laws.proofs.ReadBack.Named.{NameRule, PieceReads}
+
+-- ## Arguments
+
+-- the bytes of arguments that say these
+abbrev pub in_I_and_E : List ℕ → List ℕ
+in_I_and_E bytes = 73 ∷ (bytes ++ (69 ∷ []))
+
+-- elements behind a template name that has become a component
+abbrev pub ElementsRead : Around → Option ℕ → (last : Value) → (place : ℕ) → List Candidate → Written → Type 0
+ElementsRead around allowed last place cs args = ReadsAt (inside around) allowed (OfKind 44) (Is last) (place + 1) cs args
+
+-- ## Names with arguments and without
+
+pub record Named (around : Around) (allowed : Option ℕ) (k : ℕ) (t : Term) (place : ℕ) (cs : List Candidate) (w : Written) : Type 0 where
+  pub bare : ReadsAt around allowed (OfKind k) (Is (tree t false)) place cs w
+  pub instanced : (items : Term) (last : Value) (args : Written) → no_items last ≡ items
+      → ElementsRead around allowed last (place + length w.bytes) (more around w.components t) args
+      → ReadsAt around allowed (OfKind k) (Is (tree (instance t items) false)) place cs (written
+      (w.bytes ++ in_I_and_E args.bytes) args.components)
+
+pub named-piece : (around : Around) (allowed : Option ℕ) (k : ℕ) (p t : Term) (place : ℕ) (cs : List Candidate) (w : Written)
+    → PieceReads around allowed p place cs w → NameRule k p → extended around.prefix p ≡ t → Named around allowed k t place cs w
+unfolding applied is_there tree_of
+named-piece around allowed k p t place cs w one rule is = record {
+  bare = subst (λ x. ReadsAt around allowed (OfKind k) (Is (tree x false)) place cs w) is
+      (same-written around allowed (OfKind k) (Is (tree (extended around.prefix p) false)) place cs w.components (w.bytes ++ []) w.bytes
+      (append-nil w.bytes)
+      (one.names k rule nothing_there (written [] w.components)
+      (no-arguments (after (extended around.prefix p) false around) allowed (place + length w.bytes) w.components)));
+  instanced = λ items last args are two.
+      subst (λ x. ReadsAt around allowed (OfKind k) (Is (tree (instance x items) false)) place cs
+      (written (w.bytes ++ in_I_and_E args.bytes) args.components)) is
+      (one.names k rule (tree items true) (written (in_I_and_E args.bytes) args.components)
+      (some-arguments around allowed (extended around.prefix p) items last (place + length w.bytes) w.components args are
+      (subst (λ x. ElementsRead around allowed last (place + length w.bytes) (more around w.components x) args) (sym is) two)));
+}
+
+-- a piece behind St, as an encoding's own name
+pub named-std : (around : Around) (allowed : Option ℕ) (p : Term) (place : ℕ) (cs : List Candidate) (w : Written)
+    → ReadsAt around allowed (OfKind 14) (Is (piece p)) (place + 2) cs w
+    → Named around allowed 8 (in_std p) place cs (written (83 ∷ 116 ∷ w.bytes) w.components)
+unfolding applied is_there tree_of
+named-std around allowed p place cs w one =
+    let first : ReadsAt around allowed (OfKind 14) (Is (piece p)) (place + 1 + 1) cs w =
+    subst (λ q. ReadsAt around allowed (OfKind 14) (Is (piece p)) q cs w) (omega arith) one in
+    record {
+      bare = same-written around allowed (OfKind 8) (Is (tree (in_std p) false)) place cs w.components (83 ∷ 116 ∷ (w.bytes ++ []))
+          (83 ∷ 116 ∷ w.bytes) (ap (λ l. 83 ∷ 116 ∷ l) (append-nil w.bytes))
+          (std-name around allowed p nothing_there place cs w (written [] w.components) first
+          (no-arguments (after (in_std p) false around) allowed (place + 1 + 1 + length w.bytes) w.components));
+      instanced = λ items last args are two.
+          std-name around allowed p (tree items true) place cs w (written (in_I_and_E args.bytes) args.components) first
+          (some-arguments around allowed (in_std p) items last (place + 1 + 1 + length w.bytes) w.components args are
+          (subst (λ q. ReadsAt (inside around) allowed (OfKind 44) (Is last) q (more around w.components (in_std p)) args)
+          (omega arith) two));
+    }
+
+-- and as a type
+pub named-std-type : (k : ℕ) (around : Around) (allowed : Option ℕ) (p : Term) (place : ℕ) (cs : List Candidate) (w : Written)
+    → TakesRule abi k (rule_of Production.TypeWithS) (83 ∷ [])
+    → ReadsAt around allowed (OfKind 37) (Is (piece p)) (place + 2) cs w
+    → Named around allowed k (in_std p) place cs (written (83 ∷ 116 ∷ w.bytes) w.components)
+named-std-type k around allowed p place cs w takes one =
+    let first : ReadsAt around allowed (OfKind 36) (Is (tree (in_std p) false)) (place + 1) cs (written (116 ∷ w.bytes) w.components) =
+    std-type around allowed p (place + 1) cs w
+    (subst (λ q. ReadsAt around allowed (OfKind 37) (Is (piece p)) q cs w) (omega arith) one) in
+    record {
+      bare = solid-with-s k around allowed place (in_std p) false cs (written (116 ∷ w.bytes) w.components) takes first;
+      instanced = λ items last args are two.
+          type-with-arguments k around allowed (in_std p) items false place cs (written (116 ∷ w.bytes) w.components)
+          (written (in_I_and_E args.bytes) args.components) takes first
+          (some-arguments around allowed (in_std p) items last (place + 1 + length (116 ∷ w.bytes)) w.components args are
+          (subst (λ q. ReadsAt (inside around) allowed (OfKind 44) (Is last) q (more around w.components (in_std p)) args)
+          (omega arith) two));
+    }
+
+-- ## Between N and E
+
+-- a name so far with its arguments, in front of which it becomes a component
+abbrev pub SoFarWith : Around → Option ℕ → (t : Term) → (place : ℕ) → List Candidate → Written → Type 0
+SoFarWith around allowed t place cs w =
+    (items : Term) (last : Value) (args : Written) → no_items last ≡ items
+    → ElementsRead around allowed last (place + length w.bytes) (more around w.components t) args
+    → SoFar around allowed (instance t items) false 18 place cs (written (w.bytes ++ in_I_and_E args.bytes) args.components)
+
+pub record Nested (around : Around) (allowed : Option ℕ) (t : Term) (place : ℕ) (cs : List Candidate) (w : Written) : Type 0 where
+  pub bare : SoFar around allowed t false 18 place cs w
+  pub instanced : SoFarWith around allowed t place cs w
+
+-- a piece behind St
+pub nested-std : (around : Around) (allowed : Option ℕ) (p : Term) (place : ℕ) (cs : List Candidate) (w : Written)
+    → ReadsAt around allowed (OfKind 14) (Is (piece p)) (place + 2) cs w
+    → Nested around allowed (in_std p) place cs (written (83 ∷ 116 ∷ w.bytes) w.components)
+unfolding applied is_there tree_of
+nested-std around allowed p place cs w one =
+    let first : ReadsAt around allowed (OfKind 14) (Is (piece p)) (place + 1 + 1) cs w =
+    subst (λ q. ReadsAt around allowed (OfKind 14) (Is (piece p)) q cs w) (omega arith) one in
+    record {
+      bare = subst (λ l. SoFar around allowed (in_std p) false 18 place cs (written (83 ∷ 116 ∷ l) w.components)) (append-nil w.bytes)
+          (nest-std around allowed p nothing_there place cs w (written [] w.components) first
+          (no-arguments (after (in_std p) false around) allowed (place + 1 + 1 + length w.bytes) w.components));
+      instanced = λ items last args are two.
+          nest-std around allowed p (tree items true) place cs w (written (in_I_and_E args.bytes) args.components) first
+          (some-arguments around allowed (in_std p) items last (place + 1 + 1 + length w.bytes) w.components args are
+          (subst (λ q. ReadsAt (inside around) allowed (OfKind 44) (Is last) q (more around w.components (in_std p)) args)
+          (omega arith) two));
+    }
+
+-- a piece behind a prefix
+pub nested-within : (around : Around) (allowed : Option ℕ) (x p : Term) (place : ℕ) (cs : List Candidate) (w one : Written)
+    → Extends around allowed x place cs w
+    → Named (after x true around) allowed 19 (within x p) (place + length w.bytes) w.components one
+    → Nested around allowed (within x p) place cs (written (w.bytes ++ one.bytes) one.components)
+unfolding after inside
+nested-within around allowed x p place cs w one prefix name = record {
+  bare = so-far-within around allowed x (within x p) place cs w one prefix name.bare;
+  instanced = λ items last args are two.
+      subst (λ l. SoFar around allowed (instance (within x p) items) false 18 place cs (written l args.components))
+      (sym (append_assoc w.bytes one.bytes (in_I_and_E args.bytes)))
+      (so-far-within around allowed x (instance (within x p) items) place cs w (written (one.bytes ++ in_I_and_E args.bytes) args.components)
+      prefix
+      (name.instanced items last args are
+      (subst (λ q. ReadsAt (inside around) allowed (OfKind 44) (Is last) q (more around one.components (within x p)) args)
+      (omega (arith, length-append w.bytes one.bytes)) two)));
+}
+
+-- the whole of a name between N and E
+pub whole-nested : (k : ℕ) (around : Around) (allowed : Option ℕ) (t : Term) (place : ℕ) (cs : List Candidate) (w : Written)
+    → TakesRule abi k (rule_of Production.NestedType) (78 ∷ []) → SoFar around allowed t false 18 (place + 1) cs w
+    → ReadsAt around allowed (OfKind k) (Is (tree t false)) place cs (written (78 ∷ (w.bytes ++ (69 ∷ []))) w.components)
+whole-nested k around allowed t place cs w takes so_far =
+    nested-type k around allowed t false place cs (written (w.bytes ++ (69 ∷ [])) w.components) takes
+    (nest-whole around allowed t (place + 1) cs w so_far)
+
+-- ## Prefixes
+
+-- a prefix with arguments, which become part of it
+abbrev pub ExtendsWith : Around → Option ℕ → (t : Term) → (place : ℕ) → List Candidate → Written → Type 0
+ExtendsWith around allowed t place cs w =
+    (items : Term) (last : Value) (args : Written) → no_items last ≡ items
+    → ElementsRead around allowed last (place + length w.bytes) w.components args
+    → Extends around allowed (instance t items) place cs
+    (written (w.bytes ++ in_I_and_E args.bytes) (more around args.components (instance t items)))
+
+-- what begins with an S
+pub extends-with-behind-s : (around : Around) (allowed : Option ℕ) (t : Term) (place : ℕ) (cs : List Candidate) (w : Written)
+    → ReadsAt around allowed (OfKind 22) (Is (tree t true)) (place + 1) cs w
+    → ExtendsWith around allowed t place cs (written (83 ∷ w.bytes) w.components)
+extends-with-behind-s around allowed t place cs w one items last args are two =
+    nest-arguments around allowed t items true last place cs (written (83 ∷ w.bytes) w.components) args are
+    (nest-behind-s around allowed t place cs w
+    (subst (λ q. ReadsAt around allowed (OfKind 22) (Is (tree t true)) q cs w) (omega arith) one)) two
+
+pub prefix-behind-s : (around : Around) (allowed : Option ℕ) (t : Term) (place : ℕ) (cs : List Candidate) (w : Written)
+    → ReadsAt around allowed (OfKind 22) (Is (tree t true)) (place + 1) cs w
+    → Extends around allowed t place cs (written (83 ∷ w.bytes) w.components)
+prefix-behind-s around allowed t place cs w one =
+    extends-behind-s around allowed t place cs w (subst (λ q. ReadsAt around allowed (OfKind 22) (Is (tree t true)) q cs w) (omega arith) one)
+
+-- a parameter
+pub prefix-parameter : (around : Around) (allowed : Option ℕ) (k place : ℕ) (cs : List Candidate) → IsInScope around allowed k
+    → Extends around allowed (parameter k) place cs (written (84 ∷ ordinal k) (more around cs (parameter k)))
+prefix-parameter around allowed k place cs scoped =
+    extends-same 17 around allowed (parameter k) place cs (written (84 ∷ ordinal k) (more around cs (parameter k))) next-17
+    (nest-parameter around allowed k place cs scoped)
+
+pub prefix-with-parameter : (around : Around) (allowed : Option ℕ) (k place : ℕ) (cs : List Candidate) → IsInScope around allowed k
+    → ExtendsWith around allowed (parameter k) place cs (written (84 ∷ ordinal k) (more around cs (parameter k)))
+prefix-with-parameter around allowed k place cs scoped items last args are two =
+    nest-arguments around allowed (parameter k) items true last place cs (written (84 ∷ ordinal k) (more around cs (parameter k))) args are
+    (nest-parameter around allowed k place cs scoped) two
+
+-- a first piece, which becomes a component
+pub prefix-piece : (around : Around) (allowed : Option ℕ) (p t : Term) (place : ℕ) (cs : List Candidate) (w : Written)
+    → SoFar around allowed (extended around.prefix p) false 17 place cs w → extended around.prefix p ≡ t
+    → Extends around allowed t place cs (written w.bytes (more around w.components t))
+prefix-piece around allowed p t place cs w so_far is =
+    subst (λ x. Extends around allowed x place cs (written w.bytes (more around w.components x))) is
+    (extends-more 17 around allowed (extended around.prefix p) place cs w next-17 so_far)
+
+pub prefix-with-piece : (around : Around) (allowed : Option ℕ) (p t : Term) (place : ℕ) (cs : List Candidate) (w : Written)
+    → SoFar around allowed (extended around.prefix p) false 17 place cs w → extended around.prefix p ≡ t
+    → ExtendsWith around allowed t place cs (written w.bytes (more around w.components t))
+prefix-with-piece around allowed p t place cs w so_far is =
+    subst (λ x. ExtendsWith around allowed x place cs (written w.bytes (more around w.components x))) is
+    (λ items last args are two. nest-arguments around allowed (extended around.prefix p) items false last place cs w args are so_far two)
+
+-- what stands between N and E becomes a component
+pub prefix-nested : (around : Around) (allowed : Option ℕ) (t : Term) (place : ℕ) (cs : List Candidate) (w : Written)
+    → SoFar around allowed t false 18 place cs w → Extends around allowed t place cs (written w.bytes (more around w.components t))
+prefix-nested around allowed t place cs w so_far = extends-more 18 around allowed t place cs w next-18 so_far
+
+pub prefix-with-nested : (around : Around) (allowed : Option ℕ) (t : Term) (place : ℕ) (cs : List Candidate) (w : Written)
+    → SoFarWith around allowed t place cs w → ExtendsWith around allowed t place cs (written w.bytes (more around w.components t))
+prefix-with-nested around allowed t place cs w so_far items last args are two =
+    extends-more 18 around allowed (instance t items) place cs (written (w.bytes ++ in_I_and_E args.bytes) args.components) next-18
+    (so_far items last args are two)

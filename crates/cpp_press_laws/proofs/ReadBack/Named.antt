@@ -1,0 +1,284 @@
+-- Pieces of names are read wherever names stand: as a name with arguments or without, behind St, and as the first of a name between N and E.
+use Rattle.std.proofs.Common.{◌≡◌, ℕ, ◌+◌, ◌-◌, ◌<◌, length, List, [], ◌∷◌, ◌++◌, Option, Some, Bool, true, false, refl, ap, arith, sym, subst, ◌∙◌, append_assoc}
+use Rattle.std.proofs.lemmas.Bool.{ltb-true}
+use Rattle.std.specs.Prelude.{cond, codes, nat_lt, ◌^◌}
+use Rattle.sym_shape.specs.declared.rule.Sym.TheVariants.{Kind as OfKind}
+use Rattle.sym_shape.specs.Tree.{TakesRule}
+use Rattle.cpp_grammar.specs.declared.kind.Kind.{Kind}
+use Rattle.cpp_grammar.specs.declared.production.Production.{Production}
+use Rattle.cpp_grammar.specs.Grammar.{in_ranges, among, is_in, pick, alternatives, choose, kinds, is_chain}
+use Rattle.cpp_grammar.specs.Table.{abi, rule_of}
+use Rattle.cpp_grammar.specs.Term.{Term, source, operator, literal_operator, constructor, destructor, lambda, unnamed, list}
+use Rattle.cpp_grammar.specs.Values.{Candidate, Around, Value, tree, piece}
+use Rattle.cpp_grammar.specs.Between.{in_signature, after, extended, applied, no_items}
+use Rattle.cpp_grammar.specs.Meaning.{parameters}
+use Rattle.cpp_press_laws.specs.Texts.{counted, ordinal}
+use Rattle.cpp_press_laws.proofs.ReadBack.Tokens.{greatest, IsSpellableName}
+use Rattle.cpp_press_laws.proofs.ReadBack.Reading.{Written, written, ReadsAt, takes-none, takes-byte}
+use Rattle.cpp_press_laws.proofs.ReadBack.Types.{Is, same-written}
+use Rattle.cpp_press_laws.proofs.ReadBack.Functions.{mark-reads}
+use Rattle.cpp_press_laws.proofs.ReadBack.Names.{SoFar, source-name, internal-name, operator-name, local-type-name, constructor-name, destructor-name}
+use Rattle.cpp_press_laws.proofs.ReadBack.Nests.{nest-source, nest-internal, nest-local-type}
+use Rattle.cpp_press_laws.proofs.ReadBack.Pieces.{IsOperator, source-piece, internal-piece, local-type-piece, operator-piece, operator-reads, literal-operator-reads}
+use Rattle.cpp_press_laws.proofs.ReadBack.Locals.{lambda-reads, unnamed-reads}
+use Rattle.cpp_press_laws.proofs.Fits.Fit.{begins_name, names_type, names_function, names_member, IsLocalNumber}
+
+-- ## What a kind takes
+
+-- a kind whose productions name a piece, with arguments where there are some
+abbrev pub NameRule : ℕ → Term → Type 0
+NameRule k (source true name) = TakesRule abi k (rule_of Production.InternalName) (76 ∷ [])
+NameRule k (source false name) = TakesRule abi k (rule_of Production.SourceName) []
+NameRule k (operator a b) = TakesRule abi k (rule_of Production.OperatorName) []
+NameRule k (literal_operator name) = TakesRule abi k (rule_of Production.OperatorName) []
+NameRule k (constructor digit) = k ≡ 19
+NameRule k (destructor digit) = k ≡ 19
+NameRule k (lambda parameters j) = TakesRule abi k (rule_of Production.LocalTypeName) (85 ∷ [])
+NameRule k (unnamed j) = TakesRule abi k (rule_of Production.LocalTypeName) (85 ∷ [])
+NameRule k _ = ⊥
+
+-- a kind of a piece behind St
+abbrev pub PieceRule : ℕ → Term → Type 0
+PieceRule k (source true name) = TakesRule abi k (rule_of Production.InternalPiece) (76 ∷ [])
+PieceRule k (source false name) = TakesRule abi k (rule_of Production.SourcePiece) []
+PieceRule k (operator a b) = k ≡ 14
+PieceRule k (literal_operator name) = k ≡ 14
+PieceRule k (lambda parameters j) = TakesRule abi k (rule_of Production.LocalTypePiece) (85 ∷ [])
+PieceRule k (unnamed j) = TakesRule abi k (rule_of Production.LocalTypePiece) (85 ∷ [])
+PieceRule k _ = ⊥
+
+-- solid types, types of literals
+pub type-rule : (p : Term) → names_type p ≡ true → NameRule 34 p
+unfolding names_type begins_name choose alternatives pick is_in in_ranges among kinds is_chain
+type-rule (source false name) h = takes-none 34 Kind.Solid Production.SourceName 48 refl refl (omega arith) refl
+type-rule (lambda parameters j) h = takes-byte 34 Kind.Solid Production.LocalTypeName 85 refl refl (omega arith) refl
+type-rule (unnamed j) h = takes-byte 34 Kind.Solid Production.LocalTypeName 85 refl refl (omega arith) refl
+type-rule (source true name) h = absurd (let e : false ≡ true = h in cc)
+type-rule _ h = absurd (let e : false ≡ true = h in cc)
+
+pub literal-type-rule : (p : Term) → names_type p ≡ true → NameRule 51 p
+unfolding names_type begins_name choose alternatives pick is_in in_ranges among kinds is_chain
+literal-type-rule (source false name) h = takes-none 51 Kind.LiteralType Production.SourceName 48 refl refl (omega arith) refl
+literal-type-rule (lambda parameters j) h = takes-byte 51 Kind.LiteralType Production.LocalTypeName 85 refl refl (omega arith) refl
+literal-type-rule (unnamed j) h = takes-byte 51 Kind.LiteralType Production.LocalTypeName 85 refl refl (omega arith) refl
+literal-type-rule (source true name) h = absurd (let e : false ≡ true = h in cc)
+literal-type-rule _ h = absurd (let e : false ≡ true = h in cc)
+
+-- an encoding's own name
+pub own-rule : (p : Term) → names_function p ≡ true → NameRule 8 p
+unfolding names_function begins_name choose alternatives pick is_in in_ranges among kinds is_chain
+own-rule (source true name) h = takes-byte 8 Kind.CompleteName Production.InternalName 76 refl refl (omega arith) refl
+own-rule (source false name) h = takes-none 8 Kind.CompleteName Production.SourceName 48 refl refl (omega arith) refl
+own-rule (operator a b) h = takes-none 8 Kind.CompleteName Production.OperatorName 110 refl refl (omega arith) refl
+own-rule (literal_operator name) h = takes-none 8 Kind.CompleteName Production.OperatorName 110 refl refl (omega arith) refl
+own-rule (lambda parameters j) h = takes-byte 8 Kind.CompleteName Production.LocalTypeName 85 refl refl (omega arith) refl
+own-rule (unnamed j) h = takes-byte 8 Kind.CompleteName Production.LocalTypeName 85 refl refl (omega arith) refl
+own-rule _ h = absurd (let e : false ≡ true = h in cc)
+
+-- behind a prefix
+pub member-rule : (p : Term) → names_member p ≡ true → NameRule 19 p
+unfolding names_member names_function begins_name choose alternatives pick is_in in_ranges among kinds is_chain
+member-rule (source true name) h = takes-byte 19 Kind.Component Production.InternalName 76 refl refl (omega arith) refl
+member-rule (source false name) h = takes-none 19 Kind.Component Production.SourceName 48 refl refl (omega arith) refl
+member-rule (operator a b) h = takes-none 19 Kind.Component Production.OperatorName 110 refl refl (omega arith) refl
+member-rule (literal_operator name) h = takes-none 19 Kind.Component Production.OperatorName 110 refl refl (omega arith) refl
+member-rule (constructor digit) h = refl
+member-rule (destructor digit) h = refl
+member-rule (lambda parameters j) h = takes-byte 19 Kind.Component Production.LocalTypeName 85 refl refl (omega arith) refl
+member-rule (unnamed j) h = takes-byte 19 Kind.Component Production.LocalTypeName 85 refl refl (omega arith) refl
+member-rule _ h = absurd (let e : false ≡ true = h in cc)
+
+-- a local entity, in a name and in a type
+pub entity-rule : (p : Term) → begins_name p ≡ true → NameRule 23 p
+unfolding begins_name choose alternatives pick is_in in_ranges among kinds is_chain
+entity-rule (source true name) h = takes-byte 23 Kind.Entity Production.InternalName 76 refl refl (omega arith) refl
+entity-rule (source false name) h = takes-none 23 Kind.Entity Production.SourceName 48 refl refl (omega arith) refl
+entity-rule (lambda parameters j) h = takes-byte 23 Kind.Entity Production.LocalTypeName 85 refl refl (omega arith) refl
+entity-rule (unnamed j) h = takes-byte 23 Kind.Entity Production.LocalTypeName 85 refl refl (omega arith) refl
+entity-rule _ h = absurd (let e : false ≡ true = h in cc)
+
+pub type-entity-rule : (p : Term) → begins_name p ≡ true → NameRule 24 p
+unfolding begins_name choose alternatives pick is_in in_ranges among kinds is_chain
+type-entity-rule (source true name) h = takes-byte 24 Kind.TypeEntity Production.InternalName 76 refl refl (omega arith) refl
+type-entity-rule (source false name) h = takes-none 24 Kind.TypeEntity Production.SourceName 48 refl refl (omega arith) refl
+type-entity-rule (lambda parameters j) h = takes-byte 24 Kind.TypeEntity Production.LocalTypeName 85 refl refl (omega arith) refl
+type-entity-rule (unnamed j) h = takes-byte 24 Kind.TypeEntity Production.LocalTypeName 85 refl refl (omega arith) refl
+type-entity-rule _ h = absurd (let e : false ≡ true = h in cc)
+
+-- behind St in a name, and in a type
+pub std-rule : (p : Term) → names_function p ≡ true → PieceRule 14 p
+unfolding names_function begins_name choose alternatives pick is_in in_ranges among kinds is_chain
+std-rule (source true name) h = takes-byte 14 Kind.Unqualified Production.InternalPiece 76 refl refl (omega arith) refl
+std-rule (source false name) h = takes-none 14 Kind.Unqualified Production.SourcePiece 48 refl refl (omega arith) refl
+std-rule (operator a b) h = refl
+std-rule (literal_operator name) h = refl
+std-rule (lambda parameters j) h = takes-byte 14 Kind.Unqualified Production.LocalTypePiece 85 refl refl (omega arith) refl
+std-rule (unnamed j) h = takes-byte 14 Kind.Unqualified Production.LocalTypePiece 85 refl refl (omega arith) refl
+std-rule _ h = absurd (let e : false ≡ true = h in cc)
+
+pub std-type-rule : (p : Term) → begins_name p ≡ true → PieceRule 37 p
+unfolding begins_name choose alternatives pick is_in in_ranges among kinds is_chain
+std-type-rule (source true name) h = takes-byte 37 Kind.SourceOrLocal Production.InternalPiece 76 refl refl (omega arith) refl
+std-type-rule (source false name) h = takes-none 37 Kind.SourceOrLocal Production.SourcePiece 48 refl refl (omega arith) refl
+std-type-rule (lambda parameters j) h = takes-byte 37 Kind.SourceOrLocal Production.LocalTypePiece 85 refl refl (omega arith) refl
+std-type-rule (unnamed j) h = takes-byte 37 Kind.SourceOrLocal Production.LocalTypePiece 85 refl refl (omega arith) refl
+std-type-rule _ h = absurd (let e : false ≡ true = h in cc)
+
+-- ## What a piece is read as
+
+-- a name of a piece and what stands behind it
+abbrev pub NamesAt : Around → Option ℕ → (k : ℕ) → (p : Term) → (place : ℕ) → List Candidate → Written → Type 0
+NamesAt around allowed k p place cs w =
+    (last : Value) (rest : Written)
+    → ReadsAt (after (extended around.prefix p) false around) allowed (OfKind 42) (Is last) (place + length w.bytes) w.components rest
+    → ReadsAt around allowed (OfKind k) (Is (tree (applied (extended around.prefix p) last) false)) place cs
+    (written (w.bytes ++ rest.bytes) rest.components)
+
+pub record PieceReads (around : Around) (allowed : Option ℕ) (p : Term) (place : ℕ) (cs : List Candidate) (w : Written) : Type 0 where
+  pub names : (k : ℕ) → NameRule k p → NamesAt around allowed k p place cs w
+  pub pieces : (k : ℕ) → PieceRule k p → ReadsAt around allowed (OfKind k) (Is (piece p)) place cs w
+  pub begins : begins_name p ≡ true → SoFar around allowed (extended around.prefix p) false 17 place cs w
+
+pub source-reads : (around : Around) (allowed : Option ℕ) (internal : Bool) (name : List ℕ) (place : ℕ) (cs : List Candidate)
+    → IsSpellableName name
+    → PieceReads around allowed (source internal name) place cs (written (cond internal (codes "L") [] ++ counted name) cs)
+source-reads around allowed true name place cs good = record {
+  names = λ k takes last rest one. internal-name k around allowed name last place cs rest takes good
+      (subst (λ q. ReadsAt (after (extended around.prefix (source true name)) false around) allowed (OfKind 42) (Is last) q cs rest)
+      (omega arith) one);
+  pieces = λ k takes. internal-piece k around allowed name place cs takes good;
+  begins = λ h. nest-internal around allowed name place cs good;
+}
+source-reads around allowed false name place cs good = record {
+  names = λ k takes last rest one. source-name k around allowed name last place cs rest takes good
+      (subst (λ q. ReadsAt (after (extended around.prefix (source false name)) false around) allowed (OfKind 42) (Is last) q cs rest)
+      (omega arith) one);
+  pieces = λ k takes. source-piece k around allowed name place cs takes good;
+  begins = λ h. nest-source around allowed name place cs good;
+}
+
+-- an operator, from its reading as one
+operators-read : (around : Around) (allowed : Option ℕ) (p : Term) (place : ℕ) (cs : List Candidate) (w : Written)
+    → ((k : ℕ) → NameRule k p → TakesRule abi k (rule_of Production.OperatorName) []) → ((k : ℕ) → PieceRule k p → k ≡ 14)
+    → begins_name p ≡ false
+    → ReadsAt around allowed (OfKind 52) (Is (piece p)) (place + 0) cs w → PieceReads around allowed p place cs w
+operators-read around allowed p place cs w rule fourteen none one = record {
+  names = λ k takes last rest two. operator-name k around allowed p last place cs w rest (rule k takes) one
+      (subst (λ q. ReadsAt (after (extended around.prefix p) false around) allowed (OfKind 42) (Is last) q w.components rest)
+      (omega arith) two);
+  pieces = λ k is. subst (λ j. ReadsAt around allowed (OfKind j) (Is (piece p)) place cs w) (sym (fourteen k is))
+      (operator-piece around allowed p place cs w one);
+  begins = λ h. absurd (let e : false ≡ true = sym none ∙ h in cc);
+}
+
+pub operator-piece-reads : (around : Around) (allowed : Option ℕ) (a b place : ℕ) (cs : List Candidate) → a < 256 → b < 256 → IsOperator a b
+    → PieceReads around allowed (operator a b) place cs (written (a ∷ b ∷ []) cs)
+unfolding begins_name
+operator-piece-reads around allowed a b place cs small also is =
+    operators-read around allowed (operator a b) place cs (written (a ∷ b ∷ []) cs) (λ k takes. takes) (λ k h. h) refl
+    (operator-reads around allowed a b (place + 0) cs small also is)
+
+pub literal-operator-piece-reads : (around : Around) (allowed : Option ℕ) (name : List ℕ) (place : ℕ) (cs : List Candidate)
+    → IsSpellableName name → PieceReads around allowed (literal_operator name) place cs (written (codes "li" ++ counted name) cs)
+unfolding begins_name
+literal-operator-piece-reads around allowed name place cs good =
+    operators-read around allowed (literal_operator name) place cs (written (108 ∷ 105 ∷ counted name) cs) (λ k takes. takes) (λ k h. h) refl
+    (literal-operator-reads around allowed name (place + 0) cs good)
+
+pub constructor-piece-reads : (around : Around) (allowed : Option ℕ) (digit place : ℕ) (cs : List Candidate) → digit < 256
+    → choose Kind.ConstructorDigit digit ≡ Some Production.Mark
+    → PieceReads around allowed (constructor digit) place cs (written (codes "C" ++ digit ∷ []) cs)
+unfolding begins_name kinds
+constructor-piece-reads around allowed digit place cs small chosen = record {
+  names = λ k is last rest one.
+      subst (λ j. ReadsAt around allowed (OfKind j) (Is (tree (applied (extended around.prefix (constructor digit)) last) false)) place cs
+      (written (67 ∷ digit ∷ rest.bytes) rest.components)) (sym is)
+      (constructor-name around allowed digit last place cs (written (digit ∷ []) cs) rest
+      (mark-reads around allowed 20 Kind.ConstructorDigit digit (place + 1) cs refl chosen small)
+      (subst (λ q. ReadsAt (after (extended around.prefix (constructor digit)) false around) allowed (OfKind 42) (Is last) q cs rest)
+      (omega arith) one));
+  pieces = λ k is. absurd is;
+  begins = λ h. absurd (let e : false ≡ true = h in cc);
+}
+
+pub destructor-piece-reads : (around : Around) (allowed : Option ℕ) (digit place : ℕ) (cs : List Candidate) → digit < 256
+    → choose Kind.DestructorDigit digit ≡ Some Production.Mark
+    → PieceReads around allowed (destructor digit) place cs (written (codes "D" ++ digit ∷ []) cs)
+unfolding begins_name kinds
+destructor-piece-reads around allowed digit place cs small chosen = record {
+  names = λ k is last rest one.
+      subst (λ j. ReadsAt around allowed (OfKind j) (Is (tree (applied (extended around.prefix (destructor digit)) last) false)) place cs
+      (written (68 ∷ digit ∷ rest.bytes) rest.components)) (sym is)
+      (destructor-name around allowed digit last place cs (written (digit ∷ []) cs) rest
+      (mark-reads around allowed 21 Kind.DestructorDigit digit (place + 1) cs refl chosen small)
+      (subst (λ q. ReadsAt (after (extended around.prefix (destructor digit)) false around) allowed (OfKind 42) (Is last) q cs rest)
+      (omega arith) one));
+  pieces = λ k is. absurd is;
+  begins = λ h. absurd (let e : false ≡ true = h in cc);
+}
+
+-- ## Lambdas and unnamed types
+
+-- a local type's name, from its reading behind the U
+local-type-reads : (around : Around) (allowed : Option ℕ) (p : Term) (place : ℕ) (cs : List Candidate) (w : Written)
+    → ((k : ℕ) → NameRule k p → TakesRule abi k (rule_of Production.LocalTypeName) (85 ∷ []))
+    → ((k : ℕ) → PieceRule k p → TakesRule abi k (rule_of Production.LocalTypePiece) (85 ∷ []))
+    → ReadsAt around allowed (OfKind 27) (Is (piece p)) (place + 1) cs w
+    → PieceReads around allowed p place cs (written (85 ∷ w.bytes) w.components)
+local-type-reads around allowed p place cs w rule also one = record {
+  names = λ k takes last rest two. local-type-name k around allowed p last place cs w rest (rule k takes) one
+      (subst (λ q. ReadsAt (after (extended around.prefix p) false around) allowed (OfKind 42) (Is last) q w.components rest)
+      (omega arith) two);
+  pieces = λ k takes. local-type-piece k around allowed p place cs w (also k takes) one;
+  begins = λ h. nest-local-type around allowed p place cs w one;
+}
+
+number-back : (k : ℕ) → 0 < k → k - 1 + 1 ≡ k
+number-back k positive = omega (arith, positive)
+
+number-small : (k : ℕ) → IsLocalNumber k → k - 1 < greatest
+number-small k is = omega (arith, is.0, ltb-true k (2 ^ 64) is.1)
+
+number-tested : (k : ℕ) → IsLocalNumber k → nat_lt (k - 1 + 1) (2 ^ 64) ≡ true
+number-tested k is = subst (λ n. nat_lt n (2 ^ 64) ≡ true) (sym (number-back k is.0)) is.1
+
+pub unnamed-piece-reads : (around : Around) (allowed : Option ℕ) (k place : ℕ) (cs : List Candidate) → IsLocalNumber k
+    → PieceReads around allowed (unnamed k) place cs (written (codes "Ut" ++ ordinal (k - 1)) cs)
+unnamed-piece-reads around allowed k place cs is =
+    local-type-reads around allowed (unnamed k) place cs (written (116 ∷ ordinal (k - 1)) cs) (λ j takes. takes) (λ j takes. takes)
+    (subst (λ n. ReadsAt around allowed (OfKind 27) (Is (piece (unnamed n))) (place + 1) cs (written (116 ∷ ordinal (k - 1)) cs))
+    (number-back k is.0)
+    (unnamed-reads around allowed (k - 1) (place + 1) cs (number-small k is) (number-tested k is)))
+
+-- items of an encoding or of a lambda that stand for its parameters
+pub record ItemsRead (around : Around) (allowed : Option ℕ) (t : Term) (place : ℕ) (cs : List Candidate) (w : Written) : Type 0 where
+  pub first : Term
+  pub items : Term
+  pub last : Value
+  pub one : Written
+  pub rest : Written
+  pub are : no_items last ≡ items
+  pub means : parameters (list first items) ≡ t
+  pub split : one.bytes ++ rest.bytes ≡ w.bytes
+  pub components : rest.components ≡ w.components
+  pub reads_one : ReadsAt around allowed (OfKind 30) (Is (tree first true)) place cs one
+  pub reads_rest : ReadsAt around allowed (OfKind 41) (Is last) (place + length one.bytes) one.components rest
+
+pub lambda-piece-reads : (around : Around) (allowed : Option ℕ) (ps : Term) (k place : ℕ) (cs : List Candidate) (w : Written)
+    → IsLocalNumber k
+    → ItemsRead (in_signature around) allowed ps (place + 2) cs w
+    → PieceReads around allowed (lambda ps k) place cs (written (codes "Ul" ++ (w.bytes ++ (codes "E" ++ ordinal (k - 1)))) w.components)
+lambda-piece-reads around allowed ps k place cs w is i =
+    let inner : Around = in_signature around in
+    let wanted : Written = written (108 ∷ (w.bytes ++ (69 ∷ ordinal (k - 1)))) w.components in
+    local-type-reads around allowed (lambda ps k) place cs wanted (λ j takes. takes) (λ j takes. takes)
+    (subst (λ n. ReadsAt around allowed (OfKind 27) (Is (piece (lambda ps n))) (place + 1) cs wanted) (number-back k is.0)
+    (subst (λ t. ReadsAt around allowed (OfKind 27) (Is (piece (lambda t (k - 1 + 1)))) (place + 1) cs wanted) i.means
+    (subst (λ ds. ReadsAt around allowed (OfKind 27) (Is (piece (lambda (parameters (list i.first i.items)) (k - 1 + 1)))) (place + 1) cs
+    (written (108 ∷ (w.bytes ++ (69 ∷ ordinal (k - 1)))) ds)) i.components
+    (same-written around allowed (OfKind 27) (Is (piece (lambda (parameters (list i.first i.items)) (k - 1 + 1)))) (place + 1) cs
+    i.rest.components (108 ∷ (i.one.bytes ++ (i.rest.bytes ++ (69 ∷ ordinal (k - 1))))) (108 ∷ (w.bytes ++ (69 ∷ ordinal (k - 1))))
+    (ap (λ l. 108 ∷ l) (sym (append_assoc i.one.bytes i.rest.bytes (69 ∷ ordinal (k - 1))) ∙ ap (λ l. l ++ (69 ∷ ordinal (k - 1))) i.split))
+    (lambda-reads around allowed i.first i.items i.last (k - 1) (place + 1) cs i.one i.rest i.are (number-small k is) (number-tested k is)
+    (subst (λ q. ReadsAt inner allowed (OfKind 30) (Is (tree i.first true)) q cs i.one) (omega arith) i.reads_one)
+    (subst (λ q. ReadsAt inner allowed (OfKind 41) (Is i.last) q i.one.components i.rest) (omega arith) i.reads_rest))))))

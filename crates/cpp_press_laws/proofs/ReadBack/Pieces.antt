@@ -1,0 +1,105 @@
+-- Pieces of names are read as what was pressed.
+use Rattle.std.proofs.Common.{◌≡◌, ℕ, ◌+◌, ◌<◌, List, [], ◌∷◌, ◌++◌, Option, Some, true, false, Ok, refl, arith}
+use Rattle.std.specs.Prelude.{slice_get}
+use Rattle.sym_shape.specs.declared.rule.Sym.TheVariants.{Kind as OfKind, Name}
+use Rattle.sym_shape.specs.Tree.{Forest, TakesRule}
+use Rattle.sym_link.specs.Unfold.{found}
+use Rattle.cpp_grammar.specs.declared.kind.Kind.{Kind}
+use Rattle.cpp_grammar.specs.declared.production.Production.{Production}
+use Rattle.cpp_grammar.specs.Grammar.{in_ranges, among, is_in, pick, number_of_kind, alternatives, choose, kinds, parts_of, is_chain}
+use Rattle.cpp_grammar.specs.Table.{abi, rule_of}
+use Rattle.cpp_grammar.specs.Term.{Term, source, operator, literal_operator}
+use Rattle.cpp_grammar.specs.Values as value
+use Rattle.cpp_grammar.specs.Values.{Candidate, State, Around, Value, nothing_there, letter, tree, piece, tree_of, piece_of, letter_of, text_of, local_number, part}
+use Rattle.cpp_grammar.specs.Between.{Going, between}
+use Rattle.cpp_grammar.specs.Meaning.{meaning, operator_or_literal}
+use Rattle.cpp_grammar.specs.Unfolding as unfolding_
+use Rattle.cpp_grammar.specs.Unfolding.{last_token, number_tested, opening, close, byte_of}
+use Rattle.cpp_press_laws.specs.Texts.{counted}
+use Rattle.cpp_press_laws.proofs.ReadBack.Tokens.{IsSpellableName, name_token, name-spelled, name-is-token}
+use Rattle.cpp_press_laws.proofs.ReadBack.Reading.{Written, written, ReadsAt, takes-byte, takes-none, name-reads}
+use Rattle.cpp_press_laws.proofs.ReadBack.Types.{Is, same-written, one-part}
+use Rattle.cpp_press_laws.proofs.ReadBack.Functions.{mark-reads}
+
+-- ## Names
+
+name-token-reads : (around : Around) (allowed : Option ℕ) (name : List ℕ) (place : ℕ) (cs : List Candidate) → IsSpellableName name
+    → ReadsAt around allowed Name (Is (value.text name)) place cs (written (counted name) cs)
+name-token-reads around allowed name place cs good =
+    same-written around allowed Name (Is (value.text name)) place cs cs ((name_token name).before ++ name ++ []) (counted name)
+    (name-spelled name) (name-reads around allowed (name_token name) place cs (name-is-token name good))
+
+pub source-piece : (k : ℕ) (around : Around) (allowed : Option ℕ) (name : List ℕ) (place : ℕ) (cs : List Candidate)
+    → TakesRule abi k (rule_of Production.SourcePiece) [] → IsSpellableName name
+    → ReadsAt around allowed (OfKind k) (Is (piece (source false name))) place cs (written (counted name) cs)
+unfolding parts_of between opening close unfolding_.behind meaning text_of part
+source-piece k around allowed name place cs takes good =
+    one-part Production.SourcePiece k [] around allowed place Name (value.text name) (piece (source false name)) cs (written (counted name) cs)
+    takes refl (λ s. refl) (λ f s. refl) (λ began s. refl)
+    (name-token-reads around allowed name (place + 0) cs good)
+
+pub internal-piece : (k : ℕ) (around : Around) (allowed : Option ℕ) (name : List ℕ) (place : ℕ) (cs : List Candidate)
+    → TakesRule abi k (rule_of Production.InternalPiece) (76 ∷ []) → IsSpellableName name
+    → ReadsAt around allowed (OfKind k) (Is (piece (source true name))) place cs (written (76 ∷ counted name) cs)
+unfolding parts_of between opening close unfolding_.behind meaning text_of part
+internal-piece k around allowed name place cs takes good =
+    one-part Production.InternalPiece k (76 ∷ []) around allowed place Name (value.text name) (piece (source true name)) cs
+    (written (counted name) cs) takes refl (λ s. refl) (λ f s. refl) (λ began s. refl)
+    (name-token-reads around allowed name (place + 1) cs good)
+
+pub local-type-piece : (k : ℕ) (around : Around) (allowed : Option ℕ) (p : Term) (place : ℕ) (cs : List Candidate) (w : Written)
+    → TakesRule abi k (rule_of Production.LocalTypePiece) (85 ∷ [])
+    → ReadsAt around allowed (OfKind 27) (Is (piece p)) (place + 1) cs w
+    → ReadsAt around allowed (OfKind k) (Is (piece p)) place cs (written (85 ∷ w.bytes) w.components)
+unfolding parts_of number_of_kind between opening close unfolding_.behind meaning part
+local-type-piece k around allowed p place cs w takes one =
+    one-part Production.LocalTypePiece k (85 ∷ []) around allowed place (OfKind 27) (piece p) (piece p) cs w takes refl (λ s. refl) (λ f s. refl)
+    (λ began s. refl) one
+
+pub operator-piece : (around : Around) (allowed : Option ℕ) (p : Term) (place : ℕ) (cs : List Candidate) (w : Written)
+    → ReadsAt around allowed (OfKind 52) (Is (piece p)) (place + 0) cs w → ReadsAt around allowed (OfKind 14) (Is (piece p)) place cs w
+unfolding choose alternatives pick is_in in_ranges among kinds is_chain parts_of number_of_kind between opening close unfolding_.behind meaning part
+operator-piece around allowed p place cs w one =
+    one-part Production.OperatorPiece 14 [] around allowed place (OfKind 52) (piece p) (piece p) cs w
+    (takes-none 14 Kind.Unqualified Production.OperatorPiece 110 refl refl (omega arith) refl) refl (λ s. refl) (λ f s. refl) (λ began s. refl) one
+
+-- ## Operators
+
+-- an operator of two letters: the first chooses a production, whose part is the second
+pub record IsOperator (first second : ℕ) : Type 0 where
+  pub production : Production
+  pub kind : Kind
+  pub number : ℕ
+  pub at : slice_get kinds number ≡ Some kind
+  pub chosen : choose Kind.Operator first ≡ Some production
+  pub parts : parts_of production ≡ OfKind number ∷ []
+  pub marked : choose kind second ≡ Some Production.Mark
+  pub own : is_chain production ≡ false
+  pub goes : (around : Around) (place : ℕ) (s : State) → ◌≡◌ {A = Going} (between production around place [] s)
+      (Ok (record { context = around; values = []; state = s }))
+  pub opens : (place : ℕ) (f : Forest) (s : State) → opening production f place s ≡ Ok s
+  pub means : (around : Around) (place : ℕ) (began s : State)
+      → close production first around place began (letter second ∷ []) s ≡ Ok (found (piece (operator first second)) s)
+
+pub operator-reads : (around : Around) (allowed : Option ℕ) (first second place : ℕ) (cs : List Candidate) → first < 256 → second < 256
+    → IsOperator first second
+    → ReadsAt around allowed (OfKind 52) (Is (piece (operator first second))) place cs (written (first ∷ second ∷ []) cs)
+unfolding kinds byte_of
+operator-reads around allowed first second place cs small also is =
+    one-part is.production 52 (first ∷ []) around allowed place (OfKind is.number) (letter second) (piece (operator first second)) cs
+    (written (second ∷ []) cs)
+    (takes-byte 52 Kind.Operator is.production first refl is.chosen small is.own) is.parts (is.goes around place) (is.opens place)
+    (is.means around place)
+    (mark-reads around allowed is.number is.kind second (place + 1) cs is.at is.marked also)
+
+pub literal-operator-reads : (around : Around) (allowed : Option ℕ) (name : List ℕ) (place : ℕ) (cs : List Candidate) → IsSpellableName name
+    → ReadsAt around allowed (OfKind 52) (Is (piece (literal_operator name))) place cs (written (108 ∷ 105 ∷ counted name) cs)
+unfolding choose alternatives pick is_in in_ranges among kinds is_chain parts_of number_of_kind between opening close unfolding_.behind meaning operator_or_literal text_of part
+literal-operator-reads around allowed name place cs good =
+    one-part Production.OperatorL 52 (108 ∷ []) around allowed place (OfKind 62) (piece (literal_operator name)) (piece (literal_operator name))
+    cs (written (105 ∷ counted name) cs)
+    (takes-byte 52 Kind.Operator Production.OperatorL 108 refl refl (omega arith) refl) refl (λ s. refl) (λ f s. refl) (λ began s. refl)
+    (one-part Production.LiteralOperator 62 (105 ∷ []) around allowed (place + 1) Name (value.text name) (piece (literal_operator name)) cs
+    (written (counted name) cs)
+    (takes-byte 62 Kind.OperatorAfterL Production.LiteralOperator 105 refl refl (omega arith) refl) refl (λ s. refl) (λ f s. refl) (λ began s. refl)
+    (name-token-reads around allowed name (place + 1 + 1) cs good))

@@ -1,0 +1,182 @@
+-- A reference that pressing writes is read as the tree that it stands for.
+use Rattle.std.proofs.Common.{◌≡◌, ℕ, suc, ◌+◌, ◌-◌, ◌<◌, ◌≤◌, ◌⊎◌, inl, inr, length, List, [], ◌∷◌, ◌++◌, Option, Some, None, Bool, true, false, Ok, refl, ap, arith, sym, subst, ◌∙◌}
+use Rattle.std.specs.Prelude.{slice_get, not, ◌&&◌, ◌||◌, nat_eq, Result, Err}
+use Rattle.std.proofs.lemmas.Bool.{eq-eqb, and_parts}
+use Rattle.sym_core.specs.declared.refusal.Refusal.{Refusal}
+use Rattle.sym_core.specs.declared.refusal.Refusal.TheVariants.{BadReference}
+use Rattle.sym_core.specs.declared.NumberKind.TheVariants.{Seq36}
+use Rattle.sym_core.specs.Value.{counted_value}
+use Rattle.sym_shape.specs.declared.rule.Sym.TheVariants.{Kind as OfKind, Number}
+use Rattle.sym_link.specs.Reading.{Found, ◌>>=◌}
+use Rattle.sym_link.specs.Unfold.{found}
+use Rattle.cpp_grammar.specs.declared.kind.Kind.{Kind}
+use Rattle.cpp_grammar.specs.declared.production.Production.{Production}
+use Rattle.cpp_grammar.specs.Grammar.{in_ranges, among, is_in, pick, alternatives, choose, kinds, parts_of, is_chain}
+use Rattle.cpp_grammar.specs.Term.{Term}
+use Rattle.cpp_grammar.specs.Scope.{is_open}
+use Rattle.cpp_grammar.specs.Values.{Candidate, State, Around, Value, text, tree, text_of, part}
+use Rattle.cpp_grammar.specs.References.{with_packs, packs_in, substituted}
+use Rattle.cpp_grammar.specs.Between.{between}
+use Rattle.cpp_grammar.specs.Unfolding.{opening, close}
+use Rattle.cpp_press_laws.specs.Same.{same_tree}
+use Rattle.cpp_press_laws.specs.Components.{is_same, first_equal, seq_id}
+use Rattle.cpp_press_laws.proofs.Components.Sameness.{equal-tree}
+use Rattle.cpp_press_laws.proofs.ReadBack.Tokens.{greatest, seq_token, seq-is-token, seq-value}
+use Rattle.cpp_press_laws.proofs.ReadBack.Reading.{written, IsAllowed, ReadsAt, passes-by, row-last, takes-none, production-reads, number-reads}
+
+-- ## What may be referred to
+
+-- the packs that a tree names have the length that is allowed
+abbrev pub PacksFit : Around → (allowed : Option ℕ) → (packs : Option ℕ) → Type 0
+PacksFit around allowed packs = (packs ≡ None) ⊎ ((around.in_expansion ≡ true) × (packs ≡ allowed))
+
+-- a tree may be referred to where it stands, if it stands before: one with free parameters not in the signature of a lambda
+pub record MayBeReferred (around : Around) (allowed : Option ℕ) (t : Term) : Type 0 where
+  pub lambda : is_open t && around.in_lambda ≡ false
+  pub packs : PacksFit around allowed (packs_in around.scope t)
+
+-- where packs fit nothing is refused, and the state keeps its candidates
+pub record HasPacks (around : Around) (allowed packs : Option ℕ) (place : ℕ) (s : State) : Type 0 where
+  pub state : State
+  pub goes : with_packs place around.in_expansion packs s ≡ Ok state
+  pub candidates : state.candidates ≡ s.candidates
+  pub packs_are : IsAllowed allowed state.packs
+
+some-one : {a b : ℕ} → Some a ≡ Some b → a ≡ b
+some-one h = cc
+
+none-some : {a : ℕ} → ◌≡◌ {A = Option ℕ} None (Some a) → ⊥
+none-some h = cc
+
+named-again : (b : Bool) (place : ℕ) (s : State) → b ≡ true
+    → ◌≡◌ {A = Result State Refusal} (elim b [ true ↦ Ok s | false ↦ Err (BadReference place) ]) (Ok s)
+named-again true place s h = refl
+named-again false place s h = cc
+
+pub packs-fit : (around : Around) (allowed packs : Option ℕ) (place : ℕ) (s : State) → PacksFit around allowed packs → IsAllowed allowed s.packs
+    → HasPacks around allowed packs place s
+unfolding with_packs
+packs-fit around allowed packs place s (inl none) before = record { state = s; goes = rw none refl; candidates = refl; packs_are = before }
+packs-fit around allowed None place s (inr fits) before = record { state = s; goes = refl; candidates = refl; packs_are = before }
+packs-fit around allowed (Some m) place s (inr (under, same)) before = go s.packs refl before
+  where
+    go : (o : Option ℕ) → s.packs ≡ o → IsAllowed allowed o → HasPacks around allowed (Some m) place s
+    go None is first = record { state = record s { packs = Some m }; goes = rw (under, is) refl; candidates = refl; packs_are = inr same }
+    go (Some n) is (inl none) = absurd (none-some (sym none))
+    go (Some n) is (inr other) =
+        let equal : m ≡ n = some-one (same ∙ sym other) in
+        record {
+          state = s;
+          goes = rw (under, is) (named-again (nat_eq m n) place (record { candidates = s.candidates; packs = Some n })
+              (eq-eqb m n equal));
+          candidates = refl;
+          packs_are = subst (IsAllowed allowed) (sym is) (inr other);
+        }
+
+-- ## What is found
+
+-- the component that a reference names
+pub record IsFirst (encoding : ℕ) (own : Term) (cs : List Candidate) (number : ℕ) : Type 0 where
+  pub component : Candidate
+  pub there : slice_get cs number ≡ Some component
+  pub few : number < length cs
+  pub same : component.tree ≡ own
+  pub scoped : is_open own && not (nat_eq component.encoding encoding) ≡ false
+
+found-same : (encoding : ℕ) (own : Term) (c : Candidate) → is_same encoding own c ≡ true
+    → (c.tree ≡ own) × (is_open own && not (nat_eq c.encoding encoding) ≡ false)
+unfolding is_same
+found-same encoding own c h =
+    let both = and_parts (same_tree own c.tree) (not (is_open own) || nat_eq c.encoding encoding) h in
+    (sym (equal-tree own c.tree both.0), go (is_open own) (nat_eq c.encoding encoding) both.1)
+  where
+    go : (a b : Bool) → not a || b ≡ true → a && not b ≡ false
+    go true true k = refl
+    go true false k = cc
+    go false b k = refl
+
+pub found-first : (encoding : ℕ) (own : Term) (from number : ℕ) (cs : List Candidate) → first_equal encoding own from cs ≡ Some number
+    → (k : ℕ) × (number ≡ from + k) × IsFirst encoding own cs k
+unfolding first_equal
+found-first encoding own from number [] h = cc
+found-first encoding own from number (c ∷ cs) h = go (is_same encoding own c) refl h (λ k. found-first encoding own (from + 1) number cs k)
+  where
+    go : (b : Bool) → is_same encoding own c ≡ b → elim b as (λ _. Option ℕ)
+        [ true ↦ Some from | false ↦ first_equal encoding own (from + 1) cs ] ≡ Some number
+        → (first_equal encoding own (from + 1) cs ≡ Some number → (k : ℕ) × (number ≡ from + 1 + k) × IsFirst encoding own cs k)
+        → (k : ℕ) × (number ≡ from + k) × IsFirst encoding own (c ∷ cs) k
+    go true is k rest =
+        let f = found-same encoding own c is in
+        (0, omega (arith, some-one k), record { component = c; there = refl; few = omega arith; same = f.0; scoped = f.1 })
+    go false is k rest =
+        let later = rest k in (
+          suc later.0,
+          omega (arith, later.1),
+          record {
+            component = later.2.component;
+            there = later.2.there;
+            few = omega (arith, later.2.few);
+            same = later.2.same;
+            scoped = later.2.scoped;
+          },
+        )
+
+-- ## References
+
+answered : (b : Bool) (place : ℕ) (m : Result State Refusal) (new : State) (t : Term) → b ≡ false → m ≡ Ok new
+    → ◌≡◌ {A = Result (Found Value State) Refusal} (elim b [ true ↦ Err (BadReference place) | false ↦ m >>= λ s. Ok (found (tree t true) s) ])
+    (Ok (found (tree t true) new))
+answered true place m new t free goes = cc
+answered false place m new t free goes = rw goes refl
+
+reference-state : (around : Around) (allowed : Option ℕ) (place : ℕ) (own : Term) (c : Candidate) (s : State) → MayBeReferred around allowed own
+    → c.tree ≡ own
+    → is_open own && not (nat_eq c.encoding around.encoding) ≡ false → IsAllowed allowed s.packs
+    → (new : State) × (substituted around place (Some c) s ≡ Ok (found (tree own true) new)) × (new.candidates ≡ s.candidates) × IsAllowed
+    allowed new.packs
+unfolding substituted
+reference-state around allowed place own c s may same scoped before =
+    let p = packs-fit around allowed (packs_in around.scope own) place s may.packs before in
+    let free : is_open own && (around.in_lambda || not (nat_eq c.encoding around.encoding)) ≡ false = go (is_open own) around.in_lambda
+    (nat_eq c.encoding around.encoding) may.lambda scoped in (
+      p.state,
+      rw same (answered (is_open own && (around.in_lambda || not (nat_eq c.encoding around.encoding))) place
+          (with_packs place around.in_expansion (packs_in around.scope own) s) p.state own free p.goes),
+      p.candidates,
+      p.packs_are,
+    )
+  where
+    go : (a b d : Bool) → a && b ≡ false → a && not d ≡ false → a && (b || not d) ≡ false
+    go true true d h k = cc
+    go true false d h k = k
+    go false b d h k = refl
+
+-- behind the S
+pub number-refers : (around : Around) (allowed : Option ℕ) (own : Term) (number place : ℕ) (cs : List Candidate) → length cs ≤ greatest
+    → MayBeReferred around allowed own
+    → IsFirst around.encoding own cs number
+    → ReadsAt around allowed (OfKind 22) (λ v. v ≡ tree own true) place cs (written (seq_id number ++ 95 ∷ []) cs)
+unfolding choose alternatives pick is_in in_ranges among kinds is_chain parts_of opening close between text_of part
+number-refers around allowed own number place cs few may first =
+    production-reads Production.Substitution 22 [] around allowed allowed place (λ values. values ≡ text (seq_id number) ∷ [])
+    (λ v. v ≡ tree own true) cs cs (Number Seq36 ∷ []) (written (seq_id number ++ 95 ∷ []) cs)
+    (takes-none 22 Kind.Abbreviation Production.Substitution 95 refl refl (omega arith) refl) refl
+    (row-last Production.Substitution [] around around allowed allowed place (Number Seq36) [] [] (λ v. v ≡ text (seq_id number))
+    (λ values. values ≡ text (seq_id number) ∷ []) (place + 0) cs cs (written (seq_id number ++ 95 ∷ []) cs)
+    (passes-by Production.Substitution around allowed place [] cs around [] (λ s. refl))
+    (number-reads around allowed Seq36 (seq_token number) (place + 0) cs (seq-is-token number))
+    (λ v h. ap (λ w. w ∷ []) h))
+    (λ f s. refl)
+    (λ values good began s before same packs.
+    let r = reference-state around allowed (place - 1) own first.component s may first.same first.scoped packs in
+    let there : slice_get s.candidates (counted_value Seq36 (seq_id number)) ≡ Some first.component =
+    ap (λ l. slice_get l (counted_value Seq36 (seq_id number))) same ∙ ap (λ n. slice_get cs n)
+    (seq-value number (omega (arith, few, first.few))) ∙ first.there in
+    record {
+      value = tree own true;
+      good = refl;
+      state = r.0;
+      closes = rw (good, there) r.1;
+      candidates = r.2 ∙ same;
+      packs = r.3;
+    })

@@ -1,0 +1,232 @@
+-- Types are read wherever types stand, as references and spelled out.
+use Rattle.std.proofs.Common.{◌≡◌, ℕ, ◌+◌, ◌≤◌, length, List, [], ◌∷◌, ◌++◌, Option, Some, None, Bool, true, false, refl, arith, sym, subst, append-nil, length-append}
+use Rattle.std.specs.Prelude.{◌&&◌}
+use Rattle.sym_shape.specs.declared.rule.Sym.TheVariants.{Kind as OfKind}
+use Rattle.sym_shape.specs.Tree.{TakesRule}
+use Rattle.sym_spell.specs.Pressing.{◌and◌}
+use Rattle.cpp_grammar.specs.declared.kind.Kind.{Kind}
+use Rattle.cpp_grammar.specs.declared.production.Production.{Production}
+use Rattle.cpp_grammar.specs.Grammar.{in_ranges, among, is_in, pick, number_of_kind, alternatives, choose, kinds, parts_of, is_chain}
+use Rattle.cpp_grammar.specs.Table.{abi, rule_of}
+use Rattle.cpp_grammar.specs.Term.{RefQualifier, Signed, Term, integer, list}
+use Rattle.cpp_grammar.specs.Scope.{count}
+use Rattle.cpp_grammar.specs.Values.{Candidate, Around, tree, part}
+use Rattle.cpp_grammar.specs.References.{is_function_type}
+use Rattle.cpp_grammar.specs.Between.{between}
+use Rattle.cpp_grammar.specs.Meaning.{meaning}
+use Rattle.cpp_grammar.specs.Unfolding as unfolding_
+use Rattle.cpp_grammar.specs.Unfolding.{opening, close}
+use Rattle.cpp_press_laws.specs.Texts.{signed_text}
+use Rattle.cpp_press_laws.specs.Components.{Spelling, first_equal, seq_id, reference, ended, spelled_out, component}
+use Rattle.cpp_press_laws.proofs.ReadBack.Tokens.{greatest}
+use Rattle.cpp_press_laws.proofs.ReadBack.Reading.{Written, written, ReadsAt, takes-none, takes-byte}
+use Rattle.cpp_press_laws.proofs.ReadBack.References.{MayBeReferred, found-first, number-refers}
+use Rattle.cpp_press_laws.proofs.ReadBack.Types.{Is, one-part, more, HasTypes, types-28, types-29, types-30, types-31, solid-with-s, type-behind-s}
+use Rattle.cpp_press_laws.proofs.ReadBack.Functions.{rest-item}
+use Rattle.cpp_press_laws.proofs.ReadBack.Arguments.{IsSpellableNumber, integer-reads}
+use Rattle.cpp_press_laws.proofs.ReadBack.Literals.{integer-literal, integer-literal-same}
+use Rattle.cpp_press_laws.proofs.ReadBack.Parameters.{RestReads}
+use Rattle.cpp_press_laws.proofs.Components.Keeping.{Keeps, keeps-component}
+use Rattle.cpp_press_laws.proofs.Fits.Fit.{Slot, any_type, bare_type, item_type, parameter_type, literal_type, IsFirst, Fitting, as_component}
+
+-- ## Room
+
+-- what is written has a length of 64 bits, and so has the list of components
+pub record HasRoom (w : Written) : Type 0 where
+  pub short : length w.bytes ≤ greatest
+  pub few : length w.components ≤ greatest
+
+-- so has the list of the arguments that parameters name
+abbrev pub IsSmall : Around → Type 0
+IsSmall around = (arguments : Term) → around.scope ≡ Some arguments → count arguments ≤ greatest
+
+pub room-first : (first rest : Spelling) (place : ℕ) (cs : List Candidate) → Keeps rest → HasRoom ((first and rest) place cs)
+    → HasRoom (first place cs)
+room-first first rest place cs keeps room =
+    let f : Written = first place cs in
+    let at : ℕ = place + length f.bytes in
+    record {
+      short = omega (arith, room.short, length-append f.bytes (rest at f.components).bytes);
+      few = omega (arith, room.few, keeps.kept at f.components);
+    }
+
+pub room-rest : (first rest : Spelling) (place : ℕ) (cs : List Candidate) → HasRoom ((first and rest) place cs)
+    → HasRoom (rest (place + length (first place cs).bytes) (first place cs).components)
+room-rest first rest place cs room =
+    let f : Written = first place cs in
+    record {
+      short = omega (arith, room.short, length-append f.bytes (rest (place + length f.bytes) f.components).bytes);
+      few = room.few;
+    }
+
+pub few-before : (spelling : Spelling) (place : ℕ) (cs : List Candidate) → Keeps spelling → HasRoom (spelling place cs) → length cs ≤ greatest
+few-before spelling place cs keeps room = omega (arith, keeps.kept place cs, room.few)
+
+spelled-room : (n : ℕ) (own : Term) (spelling : Spelling) (place : ℕ) (cs : List Candidate) → HasRoom (spelled_out n own spelling place cs)
+    → HasRoom (spelling place cs)
+unfolding spelled_out ended
+spelled-room n own spelling place cs room =
+    let w : Written = spelling place cs in
+    record {
+      short = omega (arith, room.short, length-append w.bytes []);
+      few = omega (arith, room.few, length-append w.components (record { tree = own; encoding = n } ∷ []));
+    }
+
+pub room-component : (n : ℕ) (own : Term) (spelling : Spelling) (place : ℕ) (cs : List Candidate) → first_equal n own 0 cs ≡ None
+    → HasRoom (component n own spelling place cs) → HasRoom (spelling place cs)
+unfolding component
+room-component n own spelling place cs none room =
+    spelled-room n own spelling place cs (subst (λ o. HasRoom (elim o as (λ _. Written) [
+      | Some number ↦ reference number place cs
+      | None ↦ spelled_out n own spelling place cs
+    ])) none room)
+
+-- ## Where types stand
+
+-- What is written is read as a type: as a parameter of a function type with those behind it, and as a literal's with its number.
+abbrev pub ReadsAs : Slot → Around → Option ℕ → Term → (place : ℕ) → List Candidate → Written → Type 0
+ReadsAs any_type around allowed t place cs w = ReadsAt around allowed (OfKind 28) (Is (tree t true)) place cs w
+ReadsAs bare_type around allowed t place cs w = ReadsAt around allowed (OfKind 29) (Is (tree t true)) place cs w
+ReadsAs item_type around allowed t place cs w = ReadsAt around allowed (OfKind 30) (Is (tree t true)) place cs w
+ReadsAs parameter_type around allowed t place cs w =
+    (items : Term) (ref : RefQualifier) (rest : Written) → RestReads around allowed items ref (place + length w.bytes) w.components rest
+    → RestReads around allowed (list t items) ref place cs (written (w.bytes ++ rest.bytes) rest.components)
+ReadsAs literal_type around allowed t place cs w =
+    (n : Signed) → IsSpellableNumber n
+    → ReadsAt around allowed (OfKind 47) (Is (tree (integer t n) true)) place cs (written (w.bytes ++ signed_text n) w.components)
+
+-- the kind of types there that have a letter of their own, or a name
+abbrev pub solid_kind : Slot → ℕ
+solid_kind literal_type = 51
+solid_kind _ = 34
+
+-- how types become what is read: a component or an abbreviation behind an S, and what is spelled out
+pub record InSlot (around : Around) (allowed : Option ℕ) (t : Term) (solid : ℕ) (reads : ℕ → List Candidate → Written → Type 0) : Type 0 where
+  pub behind_s : (place : ℕ) (cs : List Candidate) (w : Written) → ReadsAt around allowed (OfKind 22) (Is (tree t true)) (place + 1) cs w
+      → reads place cs (written (83 ∷ w.bytes) w.components)
+  pub adds : (place : ℕ) (cs : List Candidate) (w : Written) → ReadsAt around allowed (OfKind solid) (Is (tree t false)) place cs w
+      → reads place cs (written w.bytes (more around w.components t))
+  pub keeps : (place : ℕ) (cs : List Candidate) (w : Written) → ReadsAt around allowed (OfKind solid) (Is (tree t true)) place cs w
+      → reads place cs w
+
+in-kind : (k : ℕ) (around : Around) (allowed : Option ℕ) (t : Term) → HasTypes around allowed k t
+    → InSlot around allowed t 34 (λ place cs w. ReadsAt around allowed (OfKind k) (Is (tree t true)) place cs w)
+in-kind k around allowed t has = record {
+  behind_s = λ place cs w one. type-behind-s k around allowed place t cs w has
+      (subst (λ q. ReadsAt around allowed (OfKind 22) (Is (tree t true)) q cs w) (omega arith) one);
+  adds = λ place cs w one. has.solid.adds place cs w
+      (subst (λ q. ReadsAt around allowed (OfKind 34) (Is (tree t false)) q cs w) (omega arith) one);
+  keeps = λ place cs w one. has.solid.keeps place cs w
+      (subst (λ q. ReadsAt around allowed (OfKind 34) (Is (tree t true)) q cs w) (omega arith) one);
+}
+
+-- a parameter of a function type that begins with neither an R nor an O
+pub in-rest : (around : Around) (allowed : Option ℕ) (t : Term) (place : ℕ) (cs : List Candidate) (w : Written)
+    → ReadsAt around allowed (OfKind 31) (Is (tree t true)) place cs w → ReadsAs parameter_type around allowed t place cs w
+in-rest around allowed t place cs w one items ref rest two =
+    rest-item around allowed t items ref place cs w rest
+    (subst (λ q. ReadsAt around allowed (OfKind 31) (Is (tree t true)) q cs w) (omega arith) one)
+    (subst (λ q. RestReads around allowed items ref q w.components rest) (omega arith) two)
+
+in-parameter : (around : Around) (allowed : Option ℕ) (t : Term) → InSlot around allowed t 34 (ReadsAs parameter_type around allowed t)
+in-parameter around allowed t =
+    let i = in-kind 31 around allowed t (types-31 around allowed t) in
+    record {
+      behind_s = λ place cs w one. in-rest around allowed t place cs _ (i.behind_s place cs w one);
+      adds = λ place cs w one. in-rest around allowed t place cs _ (i.adds place cs w one);
+      keeps = λ place cs w one. in-rest around allowed t place cs w (i.keeps place cs w one);
+    }
+
+-- the type of a literal
+literal-keeps : (around : Around) (allowed : Option ℕ) (t : Term) (place : ℕ) (cs : List Candidate) (w : Written)
+    → ReadsAt around allowed (OfKind 51) (Is (tree t true)) place cs w → ReadsAs literal_type around allowed t place cs w
+literal-keeps around allowed t place cs w one n good =
+    integer-literal-same around allowed t n place cs w (written (signed_text n) w.components)
+    (subst (λ q. ReadsAt around allowed (OfKind 51) (Is (tree t true)) q cs w) (omega arith) one)
+    (integer-reads around allowed n (place + 0 + length w.bytes) w.components good)
+
+-- an abbreviation or a reference as a type behind an S
+pub behind-s : (around : Around) (allowed : Option ℕ) (t : Term) (place : ℕ) (cs : List Candidate) (w : Written)
+    → ReadsAt around allowed (OfKind 22) (Is (tree t true)) place cs w → ReadsAt around allowed (OfKind 36) (Is (tree t true)) place cs w
+unfolding choose alternatives pick is_in in_ranges among kinds is_chain parts_of number_of_kind between opening close unfolding_.behind meaning part
+behind-s around allowed t place cs w one =
+    one-part Production.AbbreviatedType 36 [] around allowed place (OfKind 22) (tree t true) (tree t true) cs w
+    (takes-none 36 Kind.TypeAfterS Production.AbbreviatedType 95 refl refl (omega arith) refl) refl (λ s. refl) (λ f s. refl)
+    (λ began s. refl)
+    (subst (λ q. ReadsAt around allowed (OfKind 22) (Is (tree t true)) q cs w) (omega arith) one)
+
+pub takes-S : (slot : Slot) → TakesRule abi (solid_kind slot) (rule_of Production.TypeWithS) (83 ∷ [])
+unfolding choose alternatives pick is_in in_ranges among kinds is_chain
+takes-S literal_type = takes-byte 51 Kind.LiteralType Production.TypeWithS 83 refl refl (omega arith) refl
+takes-S _ = takes-byte 34 Kind.Solid Production.TypeWithS 83 refl refl (omega arith) refl
+
+in-literal : (around : Around) (allowed : Option ℕ) (t : Term) → InSlot around allowed t 51 (ReadsAs literal_type around allowed t)
+in-literal around allowed t = record {
+  behind_s = λ place cs w one. literal-keeps around allowed t place cs (written (83 ∷ w.bytes) w.components)
+      (solid-with-s 51 around allowed place t true cs w (takes-S literal_type) (behind-s around allowed t (place + 1) cs w one));
+  adds = λ place cs w one n good.
+      integer-literal around allowed t n place cs w (written (signed_text n) (more around w.components t))
+      (subst (λ q. ReadsAt around allowed (OfKind 51) (Is (tree t false)) q cs w) (omega arith) one)
+      (integer-reads around allowed n (place + 0 + length w.bytes) (more around w.components t) good);
+  keeps = literal-keeps around allowed t;
+}
+
+unfoldable pub is_bare : Slot → Bool
+is_bare bare_type = true
+is_bare _ = false
+
+-- under qualifiers a function type has no spelling as a component
+pub in-slot : (slot : Slot) (around : Around) (allowed : Option ℕ) (t : Term) → is_function_type t && is_bare slot ≡ false
+    → InSlot around allowed t (solid_kind slot) (ReadsAs slot around allowed t)
+unfolding is_bare
+in-slot any_type around allowed t h = in-kind 28 around allowed t (types-28 around allowed t)
+in-slot bare_type around allowed t h = in-kind 29 around allowed t (types-29 around allowed t (go (is_function_type t) h))
+  where
+    go : (b : Bool) → b && true ≡ false → b ≡ false
+    go true k = k
+    go false k = refl
+in-slot item_type around allowed t h = in-kind 30 around allowed t (types-30 around allowed t)
+in-slot parameter_type around allowed t h = in-parameter around allowed t
+in-slot literal_type around allowed t h = in-literal around allowed t
+
+-- ## Components
+
+-- what a reference, or an abbreviation, becomes behind an S
+abbrev pub BehindS : Around → Option ℕ → Term → (ℕ → List Candidate → Written → Type 0) → Type 0
+BehindS around allowed t reads =
+    (place : ℕ) (cs : List Candidate) (w : Written) → ReadsAt around allowed (OfKind 22) (Is (tree t true)) (place + 1) cs w
+    → reads place cs (written (83 ∷ w.bytes) w.components)
+
+-- a component: a reference where an equal one stands before, or else its own spelling
+pub component-in : (around : Around) (allowed : Option ℕ) (own : Term) (reads : ℕ → List Candidate → Written → Type 0) (place : ℕ)
+    (cs : List Candidate) (spelling : Spelling) → BehindS around allowed own reads → length cs ≤ greatest → MayBeReferred around allowed own
+    → (IsFirst around own cs → reads place cs (written (spelling place cs).bytes (more around (spelling place cs).components own)))
+    → reads place cs (component around.encoding own spelling place cs)
+unfolding component reference spelled_out ended
+component-in around allowed own reads place cs spelling behind few may out = go (first_equal around.encoding own 0 cs) refl
+  where
+    go : (o : Option ℕ) → first_equal around.encoding own 0 cs ≡ o → reads place cs (elim o as (λ _. Written) [
+      | Some number ↦ reference number place cs
+      | None ↦ spelled_out around.encoding own spelling place cs
+    ])
+    go (Some number) is =
+        let f = found-first around.encoding own 0 number cs is in
+        let named : f.0 ≡ number = omega (arith, f.1) in
+        subst (λ n. reads place cs (reference n place cs)) named
+        (behind place cs (written (seq_id f.0 ++ 95 ∷ []) cs) (number-refers around allowed own f.0 (place + 1) cs few may f.2))
+    go None is =
+        subst (λ l. reads place cs (written l (more around (spelling place cs).components own))) (sym (append-nil
+        (spelling place cs).bytes)) (out is)
+
+-- a component that fits
+pub fitting-in : (around : Around) (allowed : Option ℕ) (own : Term) (reads : ℕ → List Candidate → Written → Type 0) (place : ℕ)
+    (cs : List Candidate) (spelling : Spelling) (spelled : Fitting) → BehindS around allowed own reads
+    → Keeps spelling
+    → HasRoom (component around.encoding own spelling place cs) → as_component own spelled around allowed place cs
+    → (spelled around allowed place cs → HasRoom (spelling place cs)
+    → reads place cs (written (spelling place cs).bytes (more around (spelling place cs).components own)))
+    → reads place cs (component around.encoding own spelling place cs)
+fitting-in around allowed own reads place cs spelling spelled behind keeps room fits out =
+    component-in around allowed own reads place cs spelling behind
+    (few-before (component around.encoding own spelling) place cs (keeps-component around.encoding own spelling keeps) room) fits.0
+    (λ none. out (fits.1 none) (room-component around.encoding own spelling place cs none room))

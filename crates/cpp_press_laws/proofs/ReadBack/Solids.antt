@@ -1,0 +1,175 @@
+-- Types that have a letter of their own are read as what was pressed, from their parts.
+use Rattle.std.proofs.Common.{◌≡◌, ℕ, ◌+◌, length, List, [], ◌∷◌, ◌++◌, Option, Some, true, false, Ok, refl, ap, arith, sym, subst}
+use Rattle.std.specs.Prelude.{◌<◌}
+use Rattle.sym_core.specs.declared.NumberKind.{NumberKind}
+use Rattle.sym_core.specs.declared.NumberKind.TheVariants.{Decimal}
+use Rattle.sym_core.specs.Token.{Token}
+use Rattle.sym_core.specs.Number.{AreDigitsOf}
+use Rattle.sym_shape.specs.declared.rule.Sym.{Sym}
+use Rattle.sym_shape.specs.declared.rule.Sym.TheVariants.{Kind as OfKind, Name, Number}
+use Rattle.sym_shape.specs.Tree.{Forest, TakesRule}
+use Rattle.sym_link.specs.Unfold.{found}
+use Rattle.cpp_grammar.specs.declared.kind.Kind.{Kind}
+use Rattle.cpp_grammar.specs.declared.production.Production.{Production}
+use Rattle.cpp_grammar.specs.Grammar.{in_ranges, among, is_in, pick, number_of_kind, alternatives, choose, kinds, parts_of, is_chain}
+use Rattle.cpp_grammar.specs.Table.{abi, rule_of}
+use Rattle.cpp_grammar.specs.Term.{Term, abbreviation, builtin, vendor, pointer, lvalue, rvalue, array, member_pointer, complex}
+use Rattle.cpp_grammar.specs.Values as value
+use Rattle.cpp_grammar.specs.Values.{Candidate, State, Around, Value, nothing_there, tree, tree_of, text_of, normal, part}
+use Rattle.cpp_grammar.specs.Between.{Going, between}
+use Rattle.cpp_grammar.specs.Meaning.{meaning, listed_value, reference_to}
+use Rattle.cpp_grammar.specs.Unfolding as unfolding_
+use Rattle.cpp_grammar.specs.Unfolding.{opening, close, byte_of}
+use Rattle.cpp_press_laws.specs.Texts.{counted}
+use Rattle.cpp_press_laws.proofs.ReadBack.Tokens.{IsSpellableName, name_token, name-spelled, name-is-token}
+use Rattle.cpp_press_laws.proofs.ReadBack.Reading.{Written, written, ReadsAt, RowAt, passes-by, row-part, row-last, takes-byte, closes-same, closes-more, production-reads, name-reads, number-reads}
+use Rattle.cpp_press_laws.proofs.ReadBack.Types.{Is, AreOnly, same-written, one-part, no-part, more}
+
+-- ## Letters
+
+pub builtin-solid : (k : ℕ) (around : Around) (allowed : Option ℕ) (byte place : ℕ) (cs : List Candidate)
+    → TakesRule abi k (rule_of Production.Builtin) (byte ∷ [])
+    → ReadsAt around allowed (OfKind k) (Is (tree (builtin (byte ∷ [])) true)) place cs (written (byte ∷ []) cs)
+unfolding parts_of opening close unfolding_.behind meaning byte_of
+builtin-solid k around allowed byte place cs takes =
+    no-part Production.Builtin k (byte ∷ []) around allowed place (tree (builtin (byte ∷ [])) true) cs takes refl (λ f s. refl) (λ began s. refl)
+
+-- behind a D
+pub builtin-behind-d : (around : Around) (allowed : Option ℕ) (byte place : ℕ) (cs : List Candidate) → byte < 256
+    → choose Kind.AfterD byte ≡ Some Production.BuiltinWithD
+    → ReadsAt around allowed (OfKind 33) (Is (tree (builtin (68 ∷ byte ∷ [])) true)) place cs (written (byte ∷ []) cs)
+unfolding kinds is_chain parts_of opening close unfolding_.behind meaning byte_of
+builtin-behind-d around allowed byte place cs small chosen =
+    no-part Production.BuiltinWithD 33 (byte ∷ []) around allowed place (tree (builtin (68 ∷ byte ∷ [])) true) cs
+    (takes-byte 33 Kind.AfterD Production.BuiltinWithD byte refl chosen small refl) refl
+    (λ f s. refl) (λ began s. refl)
+
+-- behind an S
+pub abbreviation-behind-s : (around : Around) (allowed : Option ℕ) (letter place : ℕ) (cs : List Candidate) → letter < 256
+    → choose Kind.Abbreviation letter ≡ Some Production.Abbreviation
+    → ReadsAt around allowed (OfKind 22) (Is (tree (abbreviation letter) true)) place cs (written (letter ∷ []) cs)
+unfolding kinds is_chain parts_of opening close unfolding_.behind meaning byte_of
+abbreviation-behind-s around allowed letter place cs small chosen =
+    no-part Production.Abbreviation 22 (letter ∷ []) around allowed place (tree (abbreviation letter) true) cs
+    (takes-byte 22 Kind.Abbreviation Production.Abbreviation letter refl chosen small refl) refl (λ f s. refl) (λ began s. refl)
+
+pub vendor-solid : (around : Around) (allowed : Option ℕ) (name : List ℕ) (place : ℕ) (cs : List Candidate) → IsSpellableName name
+    → ReadsAt around allowed (OfKind 34) (Is (tree (vendor name) false)) place cs (written (117 ∷ counted name) cs)
+unfolding choose alternatives pick is_in in_ranges among kinds is_chain parts_of between opening close unfolding_.behind meaning text_of part
+vendor-solid around allowed name place cs good =
+    same-written around allowed (OfKind 34) (Is (tree (vendor name) false)) place cs cs (117 ∷ ((name_token name).before ++ name ++ []))
+    (117 ∷ counted name) (ap (λ l. 117 ∷ l) (name-spelled name))
+    (one-part Production.Vendor 34 (117 ∷ []) around allowed place Name (value.text name) (tree (vendor name) false) cs
+    (written ((name_token name).before ++ name ++ []) cs)
+    (takes-byte 34 Kind.Solid Production.Vendor 117 refl refl (omega arith) refl) refl (λ s. refl) (λ f s. refl) (λ began s. refl)
+    (name-reads around allowed (name_token name) (place + 1) cs (name-is-token name good)))
+
+-- ## Types of a type
+
+pub pointer-solid : (k : ℕ) (around : Around) (allowed : Option ℕ) (t : Term) (place : ℕ) (cs : List Candidate) (w : Written)
+    → TakesRule abi k (rule_of Production.Pointer) (80 ∷ [])
+    → ReadsAt around allowed (OfKind 28) (Is (tree t true)) (place + 1) cs w
+    → ReadsAt around allowed (OfKind k) (Is (tree (pointer t) false)) place cs (written (80 ∷ w.bytes) w.components)
+unfolding choose alternatives pick is_in in_ranges among kinds is_chain parts_of number_of_kind between opening close unfolding_.behind meaning tree_of part
+pointer-solid k around allowed t place cs w takes one =
+    one-part Production.Pointer k (80 ∷ []) around allowed place (OfKind 28) (tree t true) (tree (pointer t) false) cs w
+    takes refl (λ s. refl) (λ f s. refl) (λ began s. refl) one
+
+pub complex-solid : (around : Around) (allowed : Option ℕ) (t : Term) (place : ℕ) (cs : List Candidate) (w : Written)
+    → ReadsAt around allowed (OfKind 28) (Is (tree t true)) (place + 1) cs w
+    → ReadsAt around allowed (OfKind 34) (Is (tree (complex t) false)) place cs (written (67 ∷ w.bytes) w.components)
+unfolding choose alternatives pick is_in in_ranges among kinds is_chain parts_of number_of_kind between opening close unfolding_.behind meaning tree_of part
+complex-solid around allowed t place cs w one =
+    one-part Production.Complex 34 (67 ∷ []) around allowed place (OfKind 28) (tree t true) (tree (complex t) false) cs w
+    (takes-byte 34 Kind.Solid Production.Complex 67 refl refl (omega arith) refl) refl (λ s. refl) (λ f s. refl) (λ began s. refl) one
+
+-- ## Two parts
+
+-- a production with two parts in the same surroundings
+pub two-parts : (p : Production) (k : ℕ) (taken : List ℕ) (around : Around) (allowed : Option ℕ) (place : ℕ) (x y : Sym) (a b v : Value)
+    (cs : List Candidate) (first second : Written)
+    → TakesRule abi k (rule_of p) taken → parts_of p ≡ x ∷ y ∷ []
+    → ((s : State) → ◌≡◌ {A = Going} (between p around place [] s) (Ok (record { context = around; values = []; state = s })))
+    → ((s : State) → ◌≡◌ {A = Going} (between p around place (a ∷ []) s) (Ok (record { context = around; values = a ∷ []; state = s })))
+    → ((f : Forest) (s : State) → opening p f place s ≡ Ok s)
+    → ((began s : State) → close p (byte_of taken) around place began (a ∷ b ∷ []) s ≡ Ok (found v s))
+    → ReadsAt around allowed x (Is a) (place + length taken) cs first
+    → ReadsAt around allowed y (Is b) (place + length taken + length first.bytes) first.components second
+    → ReadsAt around allowed (OfKind k) (Is v) place cs (written (taken ++ (first.bytes ++ second.bytes)) second.components)
+two-parts p k taken around allowed place x y a b v cs first second takes parts goes then opens means one two =
+    production-reads p k taken around allowed allowed place (AreOnly (a ∷ b ∷ [])) (Is v) cs second.components (x ∷ y ∷ [])
+    (written (first.bytes ++ second.bytes) second.components) takes parts
+    (row-part p taken around around allowed allowed place x (y ∷ []) [] [] (Is a) (AreOnly (a ∷ b ∷ [])) (place + length taken) cs cs first second
+    (passes-by p around allowed place [] cs around [] goes) one (λ packs h. h)
+    (λ u h. subst (λ z. RowAt p taken around allowed place (y ∷ []) (z ∷ []) (AreOnly (a ∷ b ∷ [])) (place + length taken + length first.bytes)
+    first.components second) (sym h)
+    (row-last p taken around around allowed allowed place y (a ∷ []) (a ∷ []) (Is b) (AreOnly (a ∷ b ∷ []))
+    (place + length taken + length first.bytes) first.components first.components second
+    (passes-by p around allowed place (a ∷ []) first.components around (a ∷ []) then) two (λ z i. ap (λ q. a ∷ q ∷ []) i))))
+    opens
+    (closes-same p (byte_of taken) around allowed place (AreOnly (a ∷ b ∷ [])) second.components v (λ values good began s. rw good (means began s)))
+
+pub member-pointer-solid : (k : ℕ) (around : Around) (allowed : Option ℕ) (class member : Term) (place : ℕ) (cs : List Candidate)
+    (first second : Written)
+    → TakesRule abi k (rule_of Production.MemberPointer) (77 ∷ [])
+    → ReadsAt around allowed (OfKind 28) (Is (tree class true)) (place + 1) cs first
+    → ReadsAt around allowed (OfKind 28) (Is (tree member true)) (place + 1 + length first.bytes) first.components second
+    → ReadsAt around allowed (OfKind k) (Is (tree (member_pointer class member) false)) place cs
+    (written (77 ∷ (first.bytes ++ second.bytes)) second.components)
+unfolding choose alternatives pick is_in in_ranges among kinds is_chain parts_of number_of_kind between opening close unfolding_.behind meaning tree_of part
+member-pointer-solid k around allowed class member place cs first second takes one two =
+    two-parts Production.MemberPointer k (77 ∷ []) around allowed place (OfKind 28) (OfKind 28) (tree class true) (tree member true)
+    (tree (member_pointer class member) false) cs first second
+    takes refl (λ s. refl) (λ s. refl) (λ f s. refl) (λ began s. refl) one two
+
+-- digits as they are spelled: those of the number's kind, without zeros in front
+pub record AreSpellableDigits (kind : NumberKind) (digits : List ℕ) : Type 0 where
+  pub are : AreDigitsOf kind digits
+  pub normal_are : normal digits ≡ digits
+
+abbrev array_token : List ℕ → Token
+array_token digits = record { before = []; own = digits; behind = 95 ∷ [] }
+
+pub array-solid : (around : Around) (allowed : Option ℕ) (digits : List ℕ) (t : Term) (place : ℕ) (cs : List Candidate) (w : Written)
+    → AreSpellableDigits Decimal digits
+    → ReadsAt around allowed (OfKind 28) (Is (tree t true)) (place + 1 + length (digits ++ 95 ∷ [])) cs w
+    → ReadsAt around allowed (OfKind 34) (Is (tree (array digits t) false)) place cs (written (65 ∷ ((digits ++ 95 ∷ []) ++ w.bytes)) w.components)
+unfolding choose alternatives pick is_in in_ranges among kinds is_chain parts_of number_of_kind between opening close unfolding_.behind meaning tree_of text_of part
+array-solid around allowed digits t place cs w good one =
+    two-parts Production.Array 34 (65 ∷ []) around allowed place (Number Decimal) (OfKind 28) (value.text digits) (tree t true)
+    (tree (array digits t) false) cs (written (digits ++ 95 ∷ []) cs) w
+    (takes-byte 34 Kind.Solid Production.Array 65 refl refl (omega arith) refl) refl (λ s. refl) (λ s. refl) (λ f s. refl)
+    (λ began s. rw good.normal_are refl)
+    (number-reads around allowed Decimal (array_token digits) (place + 1) cs (record { bare = refl; digits = good.are; ends = refl })) one
+
+-- ## References
+
+pub lvalue-reads : (around : Around) (allowed : Option ℕ) (k : ℕ) (t : Term) (place : ℕ) (cs : List Candidate) (w : Written)
+    → TakesRule abi k (rule_of Production.ReferenceType) (82 ∷ [])
+    → ReadsAt around allowed (OfKind 28) (Is (tree t true)) (place + 1) cs w
+    → ReadsAt around allowed (OfKind k) (Is (tree (lvalue t) true)) place cs (written (82 ∷ w.bytes) (more around w.components (lvalue t)))
+unfolding parts_of number_of_kind between opening close unfolding_.behind meaning listed_value reference_to tree_of part byte_of
+lvalue-reads around allowed k t place cs w takes one =
+    production-reads Production.ReferenceType k (82 ∷ []) around allowed allowed place (AreOnly (tree t true ∷ [])) (Is (tree (lvalue t) true))
+    cs (more around w.components (lvalue t)) (OfKind 28 ∷ []) w takes refl
+    (row-last Production.ReferenceType (82 ∷ []) around around allowed allowed place (OfKind 28) [] [] (Is (tree t true))
+    (AreOnly (tree t true ∷ [])) (place + 1) cs cs w
+    (passes-by Production.ReferenceType around allowed place [] cs around [] (λ s. refl)) one (λ x h. ap (λ y. y ∷ []) h))
+    (λ f s. refl)
+    (closes-more Production.ReferenceType 82 around allowed place (AreOnly (tree t true ∷ [])) w.components (tree (lvalue t) true) (lvalue t)
+    (λ values good began s. rw good refl))
+
+pub rvalue-reads : (around : Around) (allowed : Option ℕ) (k : ℕ) (t : Term) (place : ℕ) (cs : List Candidate) (w : Written)
+    → TakesRule abi k (rule_of Production.ReferenceType) (79 ∷ [])
+    → ReadsAt around allowed (OfKind 28) (Is (tree t true)) (place + 1) cs w
+    → ReadsAt around allowed (OfKind k) (Is (tree (rvalue t) true)) place cs (written (79 ∷ w.bytes) (more around w.components (rvalue t)))
+unfolding parts_of number_of_kind between opening close unfolding_.behind meaning listed_value reference_to tree_of part byte_of
+rvalue-reads around allowed k t place cs w takes one =
+    production-reads Production.ReferenceType k (79 ∷ []) around allowed allowed place (AreOnly (tree t true ∷ [])) (Is (tree (rvalue t) true))
+    cs (more around w.components (rvalue t)) (OfKind 28 ∷ []) w takes refl
+    (row-last Production.ReferenceType (79 ∷ []) around around allowed allowed place (OfKind 28) [] [] (Is (tree t true))
+    (AreOnly (tree t true ∷ [])) (place + 1) cs cs w
+    (passes-by Production.ReferenceType around allowed place [] cs around [] (λ s. refl)) one (λ x h. ap (λ y. y ∷ []) h))
+    (λ f s. refl)
+    (closes-more Production.ReferenceType 79 around allowed place (AreOnly (tree t true ∷ [])) w.components (tree (rvalue t) true) (rvalue t)
+    (λ values good began s. rw good refl))

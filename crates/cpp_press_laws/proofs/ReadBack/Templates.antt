@@ -1,0 +1,202 @@
+-- Template names before their arguments are read, in types and in encodings' own names: behind an S, and spelled out.
+use Rattle.std.proofs.Common.{◌≡◌, ℕ, ◌+◌, ◌≤◌, length, List, [], ◌∷◌, ◌++◌, Option, Some, None, Bool, true, false, refl, ap, arith, sym, subst, length-append}
+use Rattle.sym_core.specs.declared.NumberKind.TheVariants.{Decimal}
+use Rattle.sym_shape.specs.declared.rule.Sym.TheVariants.{Kind as OfKind, Number}
+use Rattle.sym_shape.specs.Tree.{TakesRule}
+use Rattle.sym_spell.specs.Pressing.{◌and◌, text}
+use Rattle.std.specs.Prelude.{codes}
+use Rattle.cpp_grammar.specs.declared.kind.Kind.{Kind}
+use Rattle.cpp_grammar.specs.declared.production.Production.{Production}
+use Rattle.cpp_grammar.specs.Grammar.{in_ranges, among, is_in, pick, number_of_kind, alternatives, choose, kinds, parts_of, is_chain}
+use Rattle.cpp_grammar.specs.Table.{abi, rule_of}
+use Rattle.cpp_grammar.specs.Term.{Term, instance, parameter}
+use Rattle.cpp_grammar.specs.Values as value
+use Rattle.cpp_grammar.specs.Values.{Candidate, Around, Value, tree, tree_of, is_there, part}
+use Rattle.cpp_grammar.specs.Between.{between, after, inside, applied, no_items}
+use Rattle.cpp_grammar.specs.Meaning.{meaning}
+use Rattle.cpp_grammar.specs.Unfolding as unfolding_
+use Rattle.cpp_grammar.specs.Unfolding.{opening, close}
+use Rattle.cpp_press_laws.specs.Texts.{ordinal}
+use Rattle.cpp_press_laws.specs.Components.{Spelling, first_equal, seq_id, reference, referred}
+use Rattle.cpp_press_laws.proofs.ReadBack.Tokens.{greatest, ordinal_digits, ordinal_token, ordinal-spelled, ordinal-is-token}
+use Rattle.cpp_press_laws.proofs.ReadBack.Reading.{Written, written, ReadsAt, row-last, takes-byte, number-reads}
+use Rattle.cpp_press_laws.proofs.ReadBack.References.{found-first, number-refers}
+use Rattle.cpp_press_laws.proofs.ReadBack.Types.{Is, AreOnly, same-written, more, then-part, whole-same}
+use Rattle.cpp_press_laws.proofs.ReadBack.Functions.{IsInScope, parameter-passes}
+use Rattle.cpp_press_laws.proofs.ReadBack.Encodings.{listed-arguments, abbreviated-name, type-with-arguments}
+use Rattle.cpp_press_laws.proofs.Components.Keeping.{Keeps, keeps-referred}
+use Rattle.cpp_press_laws.proofs.ReadBack.Slots.{HasRoom, room-rest, few-before, behind-s}
+use Rattle.cpp_press_laws.proofs.ReadBack.Named.{NameRule, type-rule, literal-type-rule}
+use Rattle.cpp_press_laws.proofs.ReadBack.Between.{in_I_and_E, ElementsRead}
+use Rattle.cpp_press_laws.proofs.Fits.Fit.{Slot, any_type, bare_type, item_type, parameter_type, literal_type, names_type, IsFirst, Fitting, as_template}
+use Rattle.cpp_press_laws.proofs.ReadBack.Slots.{solid_kind}
+
+-- ## Kinds of template names
+
+-- the productions of the kinds of types that are names
+pub record TypeRules (k : ℕ) : Type 0 where
+  pub with_s : TakesRule abi k (rule_of Production.TypeWithS) (83 ∷ [])
+  pub nested : TakesRule abi k (rule_of Production.NestedType) (78 ∷ [])
+  pub parameters : TakesRule abi k (rule_of Production.Parameter) (84 ∷ [])
+  pub locals : TakesRule abi k (rule_of Production.LocalType) (90 ∷ [])
+  pub pointers : TakesRule abi k (rule_of Production.Pointer) (80 ∷ [])
+  pub members : TakesRule abi k (rule_of Production.MemberPointer) (77 ∷ [])
+  pub names : (p : Term) → names_type p ≡ true → NameRule k p
+
+solid-rules : TypeRules 34
+unfolding choose alternatives pick is_in in_ranges among kinds is_chain
+solid-rules = record {
+  with_s = takes-byte 34 Kind.Solid Production.TypeWithS 83 refl refl (omega arith) refl;
+  nested = takes-byte 34 Kind.Solid Production.NestedType 78 refl refl (omega arith) refl;
+  parameters = takes-byte 34 Kind.Solid Production.Parameter 84 refl refl (omega arith) refl;
+  locals = takes-byte 34 Kind.Solid Production.LocalType 90 refl refl (omega arith) refl;
+  pointers = takes-byte 34 Kind.Solid Production.Pointer 80 refl refl (omega arith) refl;
+  members = takes-byte 34 Kind.Solid Production.MemberPointer 77 refl refl (omega arith) refl;
+  names = type-rule;
+}
+
+literal-rules : TypeRules 51
+unfolding choose alternatives pick is_in in_ranges among kinds is_chain
+literal-rules = record {
+  with_s = takes-byte 51 Kind.LiteralType Production.TypeWithS 83 refl refl (omega arith) refl;
+  nested = takes-byte 51 Kind.LiteralType Production.NestedType 78 refl refl (omega arith) refl;
+  parameters = takes-byte 51 Kind.LiteralType Production.Parameter 84 refl refl (omega arith) refl;
+  locals = takes-byte 51 Kind.LiteralType Production.LocalType 90 refl refl (omega arith) refl;
+  pointers = takes-byte 51 Kind.LiteralType Production.Pointer 80 refl refl (omega arith) refl;
+  members = takes-byte 51 Kind.LiteralType Production.MemberPointer 77 refl refl (omega arith) refl;
+  names = literal-type-rule;
+}
+
+pub slot-rules : (slot : Slot) → TypeRules (solid_kind slot)
+slot-rules literal_type = literal-rules
+slot-rules any_type = solid-rules
+slot-rules bare_type = solid-rules
+slot-rules item_type = solid-rules
+slot-rules parameter_type = solid-rules
+
+-- a kind in which a template name stands before its arguments: of a type, or an encoding's own name
+abbrev pub TemplateKind : (typed : Bool) → ℕ → Type 0
+TemplateKind true k = TypeRules k
+TemplateKind false k = k ≡ 8
+
+-- ## Behind an S
+
+-- arguments behind what is written are read as an instance with them
+abbrev pub InstancedAt : Around → Option ℕ → (k : ℕ) → (t : Term) → (place : ℕ) → List Candidate → Written → Type 0
+InstancedAt around allowed k t place cs w =
+    (items : Term) (last : Value) (args : Written) → no_items last ≡ items
+    → ElementsRead around allowed last (place + length w.bytes) w.components args
+    → ReadsAt around allowed (OfKind k) (Is (tree (instance t items) false)) place cs (written
+    (w.bytes ++ in_I_and_E args.bytes) args.components)
+
+takes-42 : TakesRule abi 42 (rule_of Production.Arguments) (73 ∷ [])
+unfolding choose alternatives pick is_in in_ranges among kinds is_chain
+takes-42 = takes-byte 42 Kind.MaybeArguments Production.Arguments 73 refl refl (omega arith) refl
+
+takes-43 : TakesRule abi 43 (rule_of Production.Arguments) (73 ∷ [])
+unfolding choose alternatives pick is_in in_ranges among kinds is_chain
+takes-43 = takes-byte 43 Kind.Arguments Production.Arguments 73 refl refl (omega arith) refl
+
+pub instanced-behind-s : (typed : Bool) (k : ℕ) (around : Around) (allowed : Option ℕ) (t : Term) → TemplateKind typed k → (place : ℕ)
+    (cs : List Candidate) (w : Written) → ReadsAt around allowed (OfKind 22) (Is (tree t true)) (place + 1) cs w
+    → InstancedAt around allowed k t place cs (written (83 ∷ w.bytes) w.components)
+instanced-behind-s true k around allowed t rules place cs w one items last args are two =
+    type-with-arguments k around allowed t items true place cs w (written (in_I_and_E args.bytes) args.components) rules.with_s
+    (behind-s around allowed t (place + 1) cs w one)
+    (listed-arguments 42 around allowed t items last (place + 1 + length w.bytes) w.components args takes-42 are
+    (subst (λ q. ReadsAt (inside around) allowed (OfKind 44) (Is last) q w.components args) (omega arith) two))
+instanced-behind-s false k around allowed t eight place cs w one items last args are two =
+    subst (λ j. ReadsAt around allowed (OfKind j) (Is (tree (instance t items) false)) place cs
+    (written ((83 ∷ w.bytes) ++ in_I_and_E args.bytes) args.components)) (sym eight)
+    (abbreviated-name around allowed t items place cs w (written (in_I_and_E args.bytes) args.components)
+    (subst (λ q. ReadsAt around allowed (OfKind 22) (Is (tree t true)) q cs w) (omega arith) one)
+    (listed-arguments 43 around allowed t items last (place + 1 + 0 + length w.bytes) w.components args takes-43 are
+    (subst (λ q. ReadsAt (inside around) allowed (OfKind 44) (Is last) q w.components args) (omega arith) two)))
+
+-- a parameter with arguments
+pub parameter-instanced : (kind : ℕ) (around : Around) (allowed : Option ℕ) (k place : ℕ) (cs : List Candidate) → IsInScope around allowed k
+    → TakesRule abi kind (rule_of Production.Parameter) (84 ∷ [])
+    → InstancedAt around allowed kind (parameter k) place cs (written (84 ∷ ordinal k) (more around cs (parameter k)))
+unfolding parts_of number_of_kind between opening close unfolding_.behind meaning applied tree_of is_there part
+parameter-instanced kind around allowed k place cs is takes items last args are one =
+    let digits : Written = written (((ordinal_token k).before ++ ordinal_digits k) ++ (95 ∷ [])) cs in
+    let behind : Written = written (in_I_and_E args.bytes) args.components in
+    let after_it : List Candidate = more around cs (parameter k) in
+    let inner : Around = after (parameter k) true around in
+    let all : List Value = tree (parameter k) true ∷ tree items true ∷ [] in
+    same-written around allowed (OfKind kind) (Is (tree (instance (parameter k) items) false)) place cs args.components
+    (84 ∷ (digits.bytes ++ behind.bytes)) (84 ∷ (ordinal k ++ behind.bytes)) (ap (λ l. 84 ∷ (l ++ behind.bytes)) (ordinal-spelled k))
+    (whole-same Production.Parameter kind (84 ∷ []) around allowed place all (tree (instance (parameter k) items) false) cs
+    (Number Decimal ∷ OfKind 42 ∷ []) (written (digits.bytes ++ behind.bytes) args.components) takes refl (λ f s. refl) (λ began s. refl)
+    (then-part Production.Parameter (84 ∷ []) around allowed place (Number Decimal) (OfKind 42 ∷ []) [] (value.text (ordinal_digits k))
+    (AreOnly all) (place + 1) cs digits behind (λ s. refl)
+    (number-reads around allowed Decimal (ordinal_token k) (place + 1) cs (ordinal-is-token k))
+    (row-last Production.Parameter (84 ∷ []) around inner allowed allowed place (OfKind 42) (value.text (ordinal_digits k) ∷ [])
+    (tree (parameter k) true ∷ []) (Is (tree items true)) (AreOnly all) (place + 1 + length digits.bytes) cs after_it behind
+    (parameter-passes Production.Parameter around allowed place k cs is (λ s. refl))
+    (listed-arguments 42 around allowed (parameter k) items last (place + 1 + length digits.bytes) after_it args takes-42 are
+    (subst (λ q. ReadsAt (inside around) allowed (OfKind 44) (Is last) q after_it args) (omega (arith, ap length (ordinal-spelled k))) one))
+    (λ v h. ap (λ x. tree (parameter k) true ∷ x ∷ []) h))))
+
+-- ## Template names
+
+-- arguments of these elements
+abbrev pub of_elements : Spelling → Spelling
+of_elements elements = text (codes "I") and elements and text (codes "E")
+
+-- where elements fit they are read
+abbrev pub ReadElements : Around → Option ℕ → (last : Value) → Fitting → (elements : Spelling) → Type 0
+ReadElements around allowed last arguments elements =
+    (place : ℕ) (cs : List Candidate) → arguments around allowed place cs → HasRoom (elements (place + 1) cs)
+    → ElementsRead around allowed last place cs (elements (place + 1) cs)
+
+-- the arguments have room behind whatever is written
+pub elements-room : (first elements : Spelling) (place : ℕ) (cs : List Candidate) → HasRoom ((first and of_elements elements) place cs)
+    → HasRoom (elements (place + length (first place cs).bytes + 1) (first place cs).components)
+elements-room first elements place cs room =
+    let w : Written = first place cs in
+    let at : ℕ = place + length w.bytes in
+    let behind = room-rest (text (codes "I")) (elements and text (codes "E")) at w.components (room-rest first
+    (of_elements elements) place cs room) in
+    record {
+      short = omega (arith, behind.short, length-append (elements (at + 1) w.components).bytes (69 ∷ []));
+      few = behind.few;
+    }
+
+-- A template name that fits before arguments: they stand behind a reference, or behind its spelling.
+pub template-reads : (typed : Bool) (k : ℕ) (around : Around) (allowed : Option ℕ) (t : Term) → TemplateKind typed k → (place : ℕ)
+    (cs : List Candidate) (spelled : Fitting) (front : ℕ → Spelling) (arguments : Fitting) (elements other : Spelling) (items : Term)
+    (last : Value)
+    (R : Written → Type 0)
+    → ((w : Written) → ReadsAt around allowed (OfKind k) (Is (tree (instance t items) false)) place cs w → R w)
+    → no_items last ≡ items → ReadElements around allowed last arguments elements → Keeps (of_elements elements) → Keeps other
+    → HasRoom (referred around.encoding t (of_elements elements) other place cs)
+    → as_template t spelled front arguments around allowed place cs
+    → (IsFirst around t cs → HasRoom (other place cs) → R (other place cs))
+    → R (referred around.encoding t (of_elements elements) other place cs)
+unfolding referred reference
+template-reads typed k around allowed t kind place cs spelled front arguments elements other items last R from are reads keeps kept
+    room fits out =
+    go (first_equal around.encoding t 0 cs) refl room
+    (few-before (referred around.encoding t (of_elements elements) other) place cs (keeps-referred around.encoding t _ other keeps kept) room)
+  where
+    go : (o : Option ℕ) → first_equal around.encoding t 0 cs ≡ o → HasRoom (elim o as (λ _. Written) [
+      | Some number ↦ (reference number and of_elements elements) place cs
+      | None ↦ other place cs
+    ])
+        → length cs ≤ greatest
+        → R (elim o as (λ _. Written) [
+          | Some number ↦ (reference number and of_elements elements) place cs
+          | None ↦ other place cs
+        ])
+    go (Some number) is enough few =
+        let f = found-first around.encoding t 0 number cs is in
+        let named : f.0 ≡ number = omega (arith, f.1) in
+        let args : Written = elements (place + length (reference number place cs).bytes + 1) cs in
+        from _ (subst (λ n. InstancedAt around allowed k t place cs (reference n place cs)) named
+        (instanced-behind-s typed k around allowed t kind place cs (written (seq_id f.0 ++ 95 ∷ []) cs)
+        (number-refers around allowed t f.0 (place + 1) cs few fits.0 f.2))
+        items last args are
+        (reads (place + length (reference number place cs).bytes) cs (fits.1 number is)
+        (elements-room (reference number) elements place cs enough)))
+    go None is enough few = out is enough

@@ -1,0 +1,7 @@
+-- Symbols with their pressed spellings, and what the laws say, computed by the definitions.
+-- `Row` has the tests. `tools/rows.py` writes `Listed` and `Generated`.
+mod Row
+mod Listed
+mod Generated
+mod Laws
+mod Fits
