@@ -135,10 +135,6 @@ reverse-last xs x = reverse-append xs (x ∷ [])
 pub last-reversed : {X : Type 0} (xs rest : List X) (x : X) → reverse xs ≡ x ∷ rest → xs ≡ reverse rest ++ x ∷ []
 last-reversed xs rest x e = sym (reverse-reverse xs) ∙ ap reverse e ∙ reverse-append (x ∷ []) rest
 
--- without its last, a list turned is what stood behind the first
-pub without-last : {X : Type 0} (xs ys rest : List X) (x : X) → reverse xs ≡ x ∷ rest → xs ≡ ys ++ x ∷ [] → reverse ys ≡ rest
-without-last xs ys rest x e is = cc (sym (reverse-last ys x) ∙ ap reverse (sym is) ∙ e)
-
 -- ## Nested names
 
 -- a nested name stays one where more is written

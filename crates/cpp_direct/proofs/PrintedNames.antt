@@ -1,5 +1,5 @@
 -- Names and types that are one text: source names, abbreviations and builtin types.
-use Rattle.std.proofs.Common.{◌≡◌, ◌≢◌, refl, ap, sym, ◌∙◌, ℕ, ◌+◌, ◌≤◌, List, [], ◌∷◌, ◌++◌, length, drop, Bool, true, false, arith, codes, length-append, append-nil, subst, nat_eq, ◌||◌, inl, inr}
+use Rattle.std.proofs.Common.{◌≡◌, ◌≢◌, refl, ap, sym, ◌∙◌, ℕ, ◌+◌, ◌≤◌, List, [], ◌∷◌, ◌++◌, length, Bool, true, false, arith, codes, length-append, append-nil, subst, nat_eq, ◌||◌, inl, inr}
 use Rattle.std.proofs.lemmas.Bool.{eqb-true}
 use Rattle.sym_print.specs.Unfold.{text}
 use Rattle.sym_print.specs.Unshared.{text_of, cost_of}
@@ -190,28 +190,6 @@ abbreviation-prints letter filled = let t = abbreviation letter in let b = look_
   void = λ e. cc e;
   integer = λ e. cc e;
 }
-
--- It names its class without std.
-pub abbreviation-class : (letter : ℕ) → look_up (letter ∷ []) abbreviation_texts ≢ []
-    → NamesClass (abbreviation letter) (drop 5 (look_up (letter ∷ []) abbreviation_texts))
-unfolding parts_in left_parts right_parts base_parts not_empty
-abbreviation-class letter filled =
-    let t = abbreviation letter in
-    let b = look_up (letter ∷ []) abbreviation_texts in
-    let class = drop 5 b in
-    record {
-      base_text = λ c. text_by base c t (text class ∷ []) refl ∙ text_alone class;
-      base_cost = λ c. omega (
-        arith,
-        length-filled b filled,
-        cost_first b [],
-        cost_first class [],
-        cost_by left c t (text b ∷ []) refl,
-        cost_by right c t [] refl,
-        cost_by base c t (text class ∷ []) refl,
-        ap length (text_by left c t (text b ∷ []) refl ∙ text_alone b),
-      );
-    }
 
 void-text : (letter : ℕ) → letter ≡ 118 → look_up (letter ∷ []) builtin_texts ≡ codes "void"
 unfolding look_up builtin_texts same_bytes

@@ -1,6 +1,5 @@
 -- Encodings of which the text is known, and the symbols that they are.
 use Rattle.std.proofs.Common.{◌≡◌, ◌≢◌, refl, ap, sym, ◌∙◌, ℕ, ◌*◌, ◌≤◌, List, [], ◌∷◌, ◌++◌, length, Bool, true, false, cond, ◌&&◌, arith, codes, length-append, append-nil, append_assoc, subst}
-use Rattle.std.proofs.lemmas.Bool.{false≢true}
 use Rattle.sym_print.specs.declared.detail.Detail.TheVariants.{Full}
 use Rattle.sym_print.specs.Unfold.{text}
 use Rattle.sym_print.specs.Unshared.{text_of, cost_of}
@@ -10,10 +9,10 @@ use Rattle.cpp_grammar.specs.Texts.{look_up, special_texts}
 use Rattle.cpp_grammar.specs.Items.{root, full, left, right, first, closed}
 use Rattle.cpp_grammar.specs.Values.{Value, tree_of, qualifiers_of, ref_of}
 use Rattle.cpp_grammar.specs.Meaning.{is_void, is_nil, parameters, encoding_of}
-use Rattle.cpp_grammar.specs.Parts.{as_item, says, text_part, list_part, types_of, qualifier_text, ref_text, encoding_text, function_bare, function_full, thunk_text, full_parts, root_parts, left_parts, parts_in, not_empty}
+use Rattle.cpp_grammar.specs.Parts.{as_item, says, text_part, list_part, types_of, qualifier_text, ref_text, encoding_text, function_bare, function_full, thunk_text, full_parts, root_parts, parts_in, not_empty}
 use Rattle.cpp_grammar.specs.Answer.{shown, root_item}
 use Rattle.cpp_direct.specs.Prints.{in_form, Prints, Shows, list_of, joined, PrintEach, PrintAll}
-use Rattle.cpp_direct.proofs.PrintedParts.{printed_by, prints_parts, text_by, cost_by, text_first, cost_first, text_append, cost_append, part-text, part-cost, length-filled}
+use Rattle.cpp_direct.proofs.PrintedParts.{printed_by, text_by, cost_by, text_first, cost_first, text_append, cost_append, part-text, part-cost, length-filled}
 use Rattle.cpp_direct.proofs.PrintedLists.{list-text, list-cost, none-print}
 
 -- ## Functions
@@ -48,66 +47,6 @@ function-shows name b p ts l all q ref =
         length-append (b ++ codes "(" ++ l) (codes ")"),
         length-append (b ++ codes "(") l,
         length-append b (codes "("),
-      );
-    }
-
-absent-text : [] ≡ text_of (in_form left closed absent)
-unfolding parts_in left_parts not_empty
-absent-text = sym (text_by left closed absent [] refl)
-
-function_bare-shows : (name : Term) (q : Qualifiers) (ref : RefQualifier) (parameters : Term)
-    → in_form full closed (function name q ref absent parameters) ≡ printed_by (function_bare name q ref parameters)
-unfolding parts_in full_parts function_full
-function_bare-shows name q ref parameters = prints_parts full closed (function name q ref absent parameters)
-
-full-returned : (name : Term) (q : Qualifiers) (ref : RefQualifier) (returned parameters : Term) → returned ≢ absent
-    → function_full name q ref returned parameters
-    ≡ (as_item left (types_of name) returned ∷ says " " ∷ [])
-    ++ function_bare name q ref parameters ++ (as_item right (types_of name) returned ∷ [])
-unfolding function_full
-full-returned name q ref absent parameters there = absurd (there refl)
-full-returned name q ref _ parameters there = refl
-
--- what prints isn't what stands where no return type is
-pub prints-there : (t : Term) (b : List ℕ) (r : Bool) → Prints t b r → t ≢ absent
-prints-there t b r p same = go (subst (λ u. Prints u b r) same p)
-  where
-    go : Prints absent b r → ⊥
-    go p = absurd (omega (arith, p.cost closed, ap length (absent-text ∙ p.left_text closed)))
-
-returned_text : (x y z v b l q : List ℕ) → x ≡ v → y ≡ b ++ codes "(" ++ l ++ codes ")" ++ q → z ≡ []
-    → ((x ++ codes " ") ++ y) ++ (z ++ []) ≡ v ++ codes " " ++ (b ++ codes "(" ++ l ++ codes ")" ++ q)
-returned_text x y z v b l q e f g = rw (e, f, g) (append-nil (v ++ codes " " ++ (b ++ codes "(" ++ l ++ codes ")" ++ q)))
-
--- A function with a return type prints it in front.
-pub returning-shows : (returned : Term) (v : List ℕ) (r : Bool) → Prints returned v r → (name : Term) (b : List ℕ) → Prints name b false
-    → (ts : List Term) (l : List ℕ) → PrintAll 0 ts l → (q : Qualifiers) (ref : RefQualifier)
-    → Shows (function name q ref returned (list_of ts)) (v ++ codes " " ++ (b ++ codes "(" ++ l ++ codes ")" ++ encoding_text q ref))
-unfolding parts_in full_parts function_bare not_empty
-returning-shows returned v r pr name b p ts l all q ref =
-    let c = types_of name in
-    let f = function name q ref returned (list_of ts) in
-    let plain = function-shows name b p ts l all q ref in
-    let front = as_item left c returned ∷ says " " ∷ [] in
-    let bare = function_bare name q ref (list_of ts) in
-    let behind = as_item right c returned ∷ [] in
-    let whole = full-returned name q ref returned (list_of ts) (prints-there returned v r pr) in
-    let without = function_bare-shows name q ref (list_of ts) in
-    record {
-      shown_text = text_by full closed f (front ++ bare ++ behind) whole ∙ text_append (front ++ bare) behind
-          ∙ ap (λ s. s ++ text_of (printed_by behind)) (text_append front bare)
-          ∙ returned_text (text_of (in_form left c returned)) (text_of (printed_by bare)) (text_of (in_form right c returned))
-          v b l (encoding_text q ref) (pr.left_text c) (ap text_of (sym without) ∙ plain.shown_text) (pr.right_text c);
-      shown_cost = omega (
-        arith,
-        pr.cost c,
-        plain.shown_cost,
-        ap cost_of without,
-        cost_by full closed f (front ++ bare ++ behind) whole,
-        cost_append (front ++ bare) behind,
-        cost_append front bare,
-        length-append (v ++ codes " ") (b ++ codes "(" ++ l ++ codes ")" ++ encoding_text q ref),
-        length-append v (codes " "),
       );
     }
 
@@ -201,10 +140,6 @@ parameters-kept (t ∷ []) l all apart = parameters-same t nil (λ e f. go all.0
     go (b ∷ []) each is e = apart (sym is ∙ each.0.void e)
     go (b ∷ c ∷ bs) each is e = elim each.1 [ ]
 
--- a first element that isn't void is one too
-pub parameters-filled : (t : Term) (ts : List Term) → is_void t ≡ false → parameters (list_of (t ∷ ts)) ≡ list_of (t ∷ ts)
-parameters-filled t ts apart = parameters-same t (list_of ts) (λ e f. false≢true (sym apart ∙ e))
-
 -- A name with items is a function.
 pub encoding-function : (v : Value) (ts : List Term) → has_return_type (tree_of v) ≡ false → ts ≢ [] → parameters (list_of ts) ≡ list_of ts
     → encoding_of v (list_of ts) ≡ function (tree_of v) (qualifiers_of v) (ref_of v) absent (list_of ts)
@@ -217,18 +152,6 @@ pub encoding-void : (v : Value) → has_return_type (tree_of v) ≡ false
     → encoding_of v (list_of (builtin (118 ∷ []) ∷ [])) ≡ function (tree_of v) (qualifiers_of v) (ref_of v) absent nil
 unfolding encoding_of parameters is_void is_nil
 encoding-void v e = rw (e, encoding_of) refl
-
--- A name whose first item is its return type is a function of the others.
-pub encoding-returning : (v : Value) (t : Term) (ts : List Term) → has_return_type (tree_of v) ≡ true → parameters (list_of ts) ≡ list_of ts
-    → encoding_of v (list_of (t ∷ ts)) ≡ function (tree_of v) (qualifiers_of v) (ref_of v) t (list_of ts)
-unfolding encoding_of
-encoding-returning v t ts e kept = rw (e, encoding_of) (ap (function (tree_of v) (qualifiers_of v) (ref_of v) t) kept)
-
--- With a lone void behind its return type it has no parameters.
-pub encoding-returning-void : (v : Value) (t : Term) → has_return_type (tree_of v) ≡ true
-    → encoding_of v (list_of (t ∷ builtin (118 ∷ []) ∷ [])) ≡ function (tree_of v) (qualifiers_of v) (ref_of v) t nil
-unfolding encoding_of parameters is_void is_nil
-encoding-returning-void v t e = rw (e, encoding_of) refl
 
 -- A name without items is data.
 pub encoding-object : (v : Value) → encoding_of v nil ≡ object (tree_of v) (qualifiers_of v) (ref_of v)
@@ -261,25 +184,6 @@ pub object-encoded : (v : Value) (b : List ℕ) → Prints (tree_of v) b false
     → Shows (encoding_of v nil) (b ++ encoding_text (qualifiers_of v) (ref_of v))
 object-encoded v b p = subst (λ f. Shows f (b ++ encoding_text (qualifiers_of v) (ref_of v))) (sym (encoding-object v))
     (object-shows (tree_of v) b p (qualifiers_of v) (ref_of v))
-
--- With a return type it shows that in front.
-pub returning-encoded : (v : Value) (b : List ℕ) → Prints (tree_of v) b false → has_return_type (tree_of v) ≡ true
-    → (t : Term) (a : List ℕ) (r : Bool) → Prints t a r → (ts : List Term) (l : List ℕ) → PrintAll 0 ts l → parameters (list_of ts) ≡ list_of ts
-    → Shows (encoding_of v (list_of (t ∷ ts))) (a ++ codes " " ++ (b ++ codes "(" ++ l ++ codes ")" ++ encoding_text (qualifiers_of v) (ref_of v)))
-returning-encoded v b p e t a r pt ts l all kept =
-    subst (λ f. Shows f (a ++ codes " " ++ (b ++ codes "(" ++ l ++ codes ")" ++ encoding_text (qualifiers_of v) (ref_of v))))
-    (sym (encoding-returning v t ts e kept)) (returning-shows t a r pt (tree_of v) b p ts l all (qualifiers_of v) (ref_of v))
-
--- A lone void behind it shows no items.
-pub returning-void-encoded : (v : Value) (b : List ℕ) → Prints (tree_of v) b false → has_return_type (tree_of v) ≡ true
-    → (t : Term) (a : List ℕ) (r : Bool) → Prints t a r
-    → Shows (encoding_of v (list_of (t ∷ builtin (118 ∷ []) ∷ [])))
-    (a ++ codes " " ++ (b ++ codes "()" ++ encoding_text (qualifiers_of v) (ref_of v)))
-returning-void-encoded v b p e t a r pt =
-    let q = encoding_text (qualifiers_of v) (ref_of v) in
-    subst (λ f. Shows f (a ++ codes " " ++ (b ++ codes "()" ++ q))) (sym (encoding-returning-void v t e))
-    (subst (λ s. Shows (function (tree_of v) (qualifiers_of v) (ref_of v) t nil) (a ++ codes " " ++ s)) (none_bracketed b q)
-    (returning-shows t a r pt (tree_of v) b p [] [] (none-print 0) (qualifiers_of v) (ref_of v)))
 
 -- The qualifiers of a name: const, or none.
 pub const-text : (const : Bool) → encoding_text (record { restrict = false; volatile = false; const = const }) any_value ≡ cond const (codes " const") []

@@ -19,6 +19,3 @@ IsReading s result = demangle.IsReading cpp_mangled s result
 
 abbrev pub IsAnswer : Detail → List ℕ → ℕ → Result (List ℕ) Refusal → Type 0
 IsAnswer detail s limit result = demangle.IsAnswer cpp_mangled detail s limit result
-
-abbrev pub answer : Detail → List ℕ → ℕ → Result (List ℕ) Refusal
-answer detail s limit = demangle.answer cpp_mangled detail s limit

@@ -1,16 +1,15 @@
 -- Keys of nodes, and what a map of them is behind one more.
-use Rattle.std.proofs.Common.{◌≡◌, ℕ, zero, suc, ◌+◌, ◌<◌, ◌⊎◌, inl, inr, length, List, [], ◌∷◌, ◌++◌, slice_get, get_or, Option, Some, None, Bool, true, false, refl, ap, arith, sym, subst, ◌∙◌, length-append}
+use Rattle.std.proofs.Common.{◌≡◌, ℕ, zero, suc, ◌+◌, ◌<◌, ◌⊎◌, inl, inr, length, List, [], ◌∷◌, ◌++◌, slice_get, get_or, Option, Some, None, Bool, true, refl, ap, arith, sym, subst, ◌∙◌, length-append}
 use Rattle.std.specs.Prelude.{map, ◌&&◌}
 use Rattle.std.proofs.Math.Dec.{eqb}
 use lib.Pointwise.{pointwise}
 use Rattle.std.proofs.lemmas.Bool.{eqb-true, eq-eqb}
 use Rattle.sym_core.specs.declared.Span.{Span}
 use Rattle.cpp_grammar.specs.Term.{Term}
-use Rattle.cpp_tree.specs.Nodes.{IsWithin}
 use Rattle.cpp_layout.specs.Layout.{ReadSymbol}
 use Rattle.cpp_press.specs.declared.numbering.Key.{Key}
 use Rattle.cpp_press.specs.Tasks.{plain_at}
-use Rattle.cpp_press.specs.Fields.{Fields, fields_of, tree_of_fields, slot, AreWithin, IsSlotBelow, AreSlotsBelow}
+use Rattle.cpp_press.specs.Fields.{Fields, fields_of, tree_of_fields, slot, IsSlotBelow, AreSlotsBelow}
 use Rattle.cpp_press.specs.Numbers.{AreBelow, IsKeyOf, IsPartNumber, IsFilled, part_number}
 use Rattle.sym_spell.proofs.Entering.{last-or, old-number, new-number, IsTest, one-place, Enters}
 use Rattle.sym_spell.proofs.Tests.{both, all, same-list, list-itself}
@@ -25,11 +24,6 @@ four-texts f d (x ∷ []) given a b c e long is one two three four = absurd (ome
 four-texts f d (x ∷ y ∷ []) given a b c e long is one two three four = absurd (omega (arith, long))
 four-texts f d (x ∷ y ∷ z ∷ []) given a b c e long is one two three four = absurd (omega (arith, long))
 four-texts f d (x ∷ y ∷ z ∷ w ∷ v ∷ more) given a b c e long is one two three four = absurd (omega (arith, long))
-
-pub within-at : (s : List ℕ) (d : Span) (spans : List Span) (k : ℕ) → k < length spans → AreWithin s spans → IsWithin (get_or spans k d) s
-within-at s d [] k low all = absurd (omega (arith, low))
-within-at s d (x ∷ spans) zero low all = all.0
-within-at s d (x ∷ spans) (suc k) low all = within-at s d spans k (omega (arith, low)) all.1
 
 pub below-at : (n : ℕ) (d : Option ℕ) (parts : List (Option ℕ)) (k : ℕ) → k < length parts → AreSlotsBelow n parts → IsSlotBelow n (get_or parts k d)
 below-at n d [] k low all = absurd (omega (arith, low))
@@ -49,9 +43,6 @@ part-is y ns None m low is = is
 part-is y ns (Some p) m low is = (p, low, refl, is)
 
 -- ## Lists
-
-true-false : true ≡ false → ⊥
-true-false bad = cc
 
 stored-below : {A : Type 0} (ks : List A) (m : ℕ) (k : A) → slice_get ks m ≡ Some k → m < length ks
 stored-below [] m k is = none-some is

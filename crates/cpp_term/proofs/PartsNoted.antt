@@ -230,11 +230,6 @@ base_noted d c t = left_noted d c t
 
 -- ## Encodings
 
--- the context of an encoding's types
-types_at : (name : Term) (form : Form) (t : Term) → part_.as_item form item_.closed (annotate (noted_scope (arguments_of name)) t) ≡ noted_part (leaf_.as_item form (leaf_.types_of name) t)
-unfolding noted_part noted_item noted_context leaf_.types_of
-types_at name form t = refl
-
 bare_noted : (name : Term) (q : Qualifiers) (ref : RefQualifier) (parameters : Term) →
     part_.function_bare (annotate None name) q ref (annotate (noted_scope (arguments_of name)) parameters) ≡ noted_parts (leaf_.function_bare name q ref parameters)
 unfolding part_.function_bare leaf_.function_bare part_.types_of leaf_.types_of noted_parts noted_part noted_item noted_context noted_scope

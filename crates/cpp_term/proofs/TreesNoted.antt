@@ -170,10 +170,6 @@ record Inner (p : Production) (around : Around) (x : State) (y : value_.State) (
   means : (byte : ℕ) → noted_.meaning p byte (noted_around around) b.value ≡ noted_value (noted_scope around.scope) (meaning p byte around a.value)
   moves : Moves around x y a.state b.state
 
-name_noted : (at : ℕ) → between_.in_name at ≡ noted_around (in_name at)
-unfolding between_.in_name in_name noted_around noted_scope noted_prefix
-name_noted at = refl
-
 -- one part of an encoding, in which nothing is named
 named_part : (t : Tree) → TreeNoted t → (x : Sym) (at from : ℕ) (state : State) (other : value_.State) → IsSymbol abi x → IsTree abi x t → is_encoding x ≡ false → at ≤ from → AllOld (in_name at) from state.candidates → Same (in_name at) state other →
     Alike (Many (in_name at) state other) (unfold_tree cpp (in_name at) from t state) (unfold_tree unfolded_.cpp (between_.in_name at) from t other)

@@ -1,7 +1,7 @@
 -- What nodes say of their trees.
 use Rattle.std.proofs.Common.{◌≡◌, refl, sym, ◌∙◌, ap, subst, arith, ℕ, zero, suc, ◌-◌, ◌+◌, ◌<◌, ◌≤◌, List, length, Option, Some, None}
 use Rattle.cpp_term.specs.Term.{Term, absent, nil, list, pack}
-use Rattle.cpp_term.specs.Scope.{element, pack_length}
+use Rattle.cpp_term.specs.Scope.{element}
 use Rattle.cpp_grammar.specs.Items as heads
 use Rattle.cpp_term.specs.Items as items
 use Rattle.cpp_term.specs.Items.{indexed, plain_class, element_head, head_of_class}
@@ -102,9 +102,6 @@ class_at y i c table less is =
     let e = table.each i less in
     (ap (λ x. class_is (trees y) x) (sym is) ∙ e.class, class_below i (length y.nodes) c less (subst (λ x. IsClassBelow i x) is e.class_below))
 
-pub plain_at : (ts : List Term) (c : HeadClass) (t : items.HeadClass) → class_is ts c ≡ t → plain_class (class_is ts c) ≡ plain_class t
-plain_at ts c t is = ap plain_class is
-
 pub known_plain : (ts : List Term) (h : Head) → head_of h ≡ plain_class (class_is ts (HeadClass.Known h))
 unfolding plain_class class_is
 known_plain ts h = refl
@@ -136,16 +133,6 @@ some_element i t e is = ap (λ x. plain_class (items.class_of x)) is
 pub none_element : (t : Term) → head_of Head.Plain ≡ element_head None t
 unfolding element_head head_of
 none_element t = refl
-
-pub head_is : (index : Option ℕ) (t : Term) → head_of_class index (items.class_of t) ≡ items.head (record { index = index }) t
-unfolding items.head
-head_is index t = refl
-
-pub packs_at : (y : Table) (i : ℕ) → IsTable y → i < length y.nodes → (entry_at y.nodes i).packs ≡ pack_length (tree_at (trees y) i)
-packs_at y i table less = (table.each i less).packs
-
-pub empty_at : (y : Table) (i : ℕ) → IsTable y → i < length y.nodes → (entry_at y.nodes i).is_empty ≡ items.is_empty items.closed (tree_at (trees y) i)
-empty_at y i table less = (table.each i less).empty
 
 -- ## Lists
 

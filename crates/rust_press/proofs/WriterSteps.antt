@@ -1,5 +1,5 @@
 -- The steps of the writer keep what is written and what is still to be written.
-use Rattle.std.proofs.Common.{◌≡◌, ℕ, zero, suc, ◌+◌, ◌-◌, ◌<◌, ◌≤◌, ◌^◌, inl, inr, length, List, [], ◌∷◌, ◌++◌, drop, slice_get, slice_set, Option, Some, None, Bool, true, false, refl, ap, arith, sym, subst, ◌∙◌, append_assoc, append-nil, length-append}
+use Rattle.std.proofs.Common.{◌≡◌, ℕ, zero, suc, ◌+◌, ◌-◌, ◌<◌, ◌≤◌, ◌^◌, inl, inr, length, List, [], ◌∷◌, ◌++◌, drop, slice_get, slice_set, Option, Some, None, Bool, true, false, refl, ap, arith, sym, subst, ◌∙◌, append_assoc, length-append}
 use Rattle.std.specs.Prelude.{◌==◌, map, get_or, slice_index_or}
 use Rattle.sym_core.specs.declared.Span.{Span}
 use Rattle.rust_tree.specs.declared.view.Node.{Node}
@@ -421,10 +421,6 @@ goes-first y numbers tasks places out root count is low first none empty below =
   bytes = ap (λ one. one.bytes) (nothing-and-at (press_some (slice_get (trees_of y) root)) 0 []) ∙ ap (λ m. (press_some (slice_get (trees_of y) m) 0 []).bytes) is;
   spelled = ap (λ one. one.components) (nothing-and-at (press_some (slice_get (trees_of y) root)) 0 []) ∙ ap (λ m. (press_some (slice_get (trees_of y) m) 0 []).components) is;
 })
-
-pub goes-last : (y : ReadSymbol) (numbers : List ℕ) (whole : Pressed) (tasks : List Task) (places : List (Option ℕ)) (out : List ℕ) → Goes y numbers whole tasks places out → tasks ≡ [] → out ≡ whole.bytes
-goes-last y numbers whole tasks places out g is =
-    sym (append-nil out) ∙ ap (λ l. out ++ (press_tasks y l (length out) g.components).bytes) (sym is) ∙ g.bytes
 
 pub components-last : (y : ReadSymbol) (numbers : List ℕ) (whole : Pressed) (tasks : List Task) (places : List (Option ℕ)) (out : List ℕ) → Goes y numbers whole tasks places out → tasks ≡ []
     → AreOfNodes (trees_of y) whole.components

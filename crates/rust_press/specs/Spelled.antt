@@ -43,10 +43,6 @@ letters =
 unfoldable pub letter_bytes : (production : ℕ) → List ℕ
 letter_bytes production = if get_or letters production 46 == 46 then [] else (get_or letters production 46 ∷ [])
 
-abbrev pub is_punycode : (production : ℕ) → Bool
-is_punycode production =
-    (production == PUNYCODE_CRATE_ROOT) || ((production == PUNYCODE_NESTED) || ((production == PUNYCODE_ABI_FUNCTION) || (production == PUNYCODE_MORE_BINDINGS)))
-
 -- a path, a type that isn't a letter, or a constant that isn't unknown
 unfoldable pub is_component : (production : ℕ) → Bool
 is_component production =

@@ -37,9 +37,6 @@ IsReading s result = demangle.IsReading v0_mangled s result
 abbrev pub IsAnswer : Detail → List ℕ → ℕ → Result (List ℕ) Refusal → Type 0
 IsAnswer detail s limit result = demangle.IsAnswer v0_mangled detail s limit result
 
-abbrev pub answer : Detail → List ℕ → ℕ → Result (List ℕ) Refusal
-answer detail s limit = demangle.answer v0_mangled detail s limit
-
 abbrev pub answer_of_shape : Detail → ℕ → Tree → Result (List ℕ) Refusal
 answer_of_shape detail limit shape = demangle.answer_of_shape v0_mangled detail limit shape
 

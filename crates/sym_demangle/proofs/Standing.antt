@@ -9,7 +9,7 @@ use Rattle.sym_shape.specs.declared.rule.Sym.TheVariants.{Kind}
 use Rattle.sym_shape.specs.Law.{IsLawful}
 use Rattle.sym_shape.specs.Reader.{AreFew}
 use Rattle.sym_shape.specs.Table.{Table}
-use Rattle.sym_shape.specs.Tree.{Tree, IsTree, spell, AreRowsOf, AreStepsOf}
+use Rattle.sym_shape.specs.Tree.{Tree, IsTree, spell, AreRowsOf}
 use Rattle.sym_shape.proofs.Uniqueness.{one_tree}
 use Rattle.sym_link.specs.declared.language.Frame.{Frame}
 use Rattle.sym_link.specs.Linking.{View}
@@ -19,7 +19,7 @@ use Rattle.sym_link.specs.Following.{IsShape, IsDriving, IsStepTo, meaning_of}
 use Rattle.sym_link.proofs.Starting.{driving_few}
 use Rattle.sym_link.proofs.Driving.{driving_on}
 use Rattle.sym_demangle.specs.Mangled.{Mangled, IsRefused}
-use Rattle.sym_demangle.specs.Standing.{Begins, IsLinker, IsLinked, CountsNodes, AreLinkSteps, AreStepsInAll, AreNodesOf}
+use Rattle.sym_demangle.specs.Standing.{Begins, IsLinker, IsLinked, CountsNodes, AreLinkSteps, AreNodesOf}
 
 -- a linker in front of the first row
 pub begun : {N P K V S C : Type 0} (view : View N P K V S C) (g : Table) (s : List ℕ) (rows : List Row) (read : ℕ) (nodes : N) → view.table ≡ g
@@ -58,10 +58,6 @@ linked_of view s rows read_steps nodes steps refused next frames parts done is c
 pub shape_steps : (g own : Table) (lawful : IsLawful g) (s bytes : List ℕ) (rows : List Row) (shape : Tree) (steps : ℕ) → own ≡ g → IsShape own s rows shape → s ≡ bytes → steps ≡ link_steps shape → AreLinkSteps g bytes steps
 shape_steps g own lawful s bytes rows shape steps same is there counted = λ tree is_tree spelled.
     counted ∙ ap link_steps (one_tree g lawful shape tree (subst (λ t. IsTree t (Kind 0) shape) same is.is_tree) is_tree (is.spelled ∙ there ∙ sym spelled))
-
--- and with them the reader's
-pub steps_in_all : (g : Table) (s bytes : List ℕ) (read linked all : ℕ) → s ≡ bytes → all ≡ read + linked → AreStepsOf g s read → AreLinkSteps g s linked → AreStepsInAll g bytes all
-steps_in_all g s bytes read linked all there sum reads links = λ tree is spelled. omega (arith, sum, reads tree is (spelled ∙ sym there), links tree is (spelled ∙ sym there))
 
 -- a step that finds nothing left to do
 pub done_steps : {N P K V S C : Type 0} (view : View N P K V S C) (s : List ℕ) (rows : List Row) (shape : Tree) (nodes : N) (steps new_steps : ℕ) (refused new_refused : Option Refusal) (parts : List P)

@@ -83,11 +83,6 @@ pub demangled_in : (answers : Lang → Result (List ℕ) Refusal) (lang known : 
 demangled_in answers lang known symbol old new demangled same is =
     subst (λ l. IsDemangled (answers l) (AreCountsOf l symbol) old new demangled) (sym same) is
 
--- what was appended of a symbol of a language, where the language is known by an equation
-pub appended_in : {A : Type 0} (answers : Lang → Result (List ℕ) Refusal) (lang known : Lang) (old new : List ℕ) (result : Result A Refusal) → lang ≡ known
-    → IsAppended (answers known) old new result → IsAppended (answers lang) old new result
-appended_in answers lang known old new result same is = subst (λ l. IsAppended (answers l) old new result) (sym same) is
-
 -- ## Symbols that are pressed
 
 -- a symbol that isn't read

@@ -90,9 +90,6 @@ pub dots-step : (dots dots' left left' count : ℕ) (bytes piece : List ℕ) →
 dots-step dots dots' left left' count bytes piece room fewer more same whole =
     let short : length piece ≡ min count (length bytes) = ap length (sym same) ∙ length-take count bytes in omega arith
 
-pub BeginsWith_trans : (a b c : List ℕ) → BeginsWith b a → BeginsWith c b → BeginsWith c a
-BeginsWith_trans a b c h j = (h.0 ++ j.0, j.1 ∙ ap (λ (t : List ℕ). t ++ j.0) h.1 ∙ append_assoc a h.0 j.0)
-
 -- bytes that are put behind those that wait
 pub Puts-push : (known : Option (List ℕ)) (out out' bytes : List ℕ) → out' ≡ out ++ bytes → Puts known known out out' bytes
 Puts-push known out out' bytes pushed = record { gone = []; writes = Appends-none known; keeps = sym pushed }

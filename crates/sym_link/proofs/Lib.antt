@@ -11,6 +11,5 @@ pub mod Taking
 pub mod Starting
 pub mod Driving
 pub mod Passing
-pub mod Ahead
 pub mod Room
 pub mod Tally

@@ -14,7 +14,7 @@ use Rattle.sym_link.specs.Unfold.{found, standing}
 use Rattle.sym_link.specs.Parts.{skipped, skipped_from, joined}
 use Rattle.sym_link.specs.Machine.{Passed, passed, ended}
 use Rattle.sym_link.specs.Driving.{AreAll, Fails}
-use Rattle.sym_link.specs.Linking.{View, IsInside, IsRuleRow, IsTokenRow, taken_in, Takes, next_of, Begun, begun, Begins, Puts, HasRoom, Adds, owed_behind, owed_next}
+use Rattle.sym_link.specs.Linking.{View, IsInside, IsRuleRow, IsTokenRow, taken_in, Takes, next_of, Begun, begun, Begins, Puts, Adds, owed_behind, owed_next}
 use Rattle.sym_link.specs.Threads.{skips, IsThere, IsAt, IsOpenAt, GoesOn, BeginsIn, ClosesAll, IsTaken, IsThreading, Passing, Passes}
 use Rattle.sym_link.proofs.Cases.{as_many}
 use Rattle.sym_link.proofs.Lists.{all_push, all_stay, dropped_front, taken_front}
@@ -134,14 +134,6 @@ passing_done view s nodes frame lower parts to whole p enough =
     )
 
 -- ## One after the other
-
--- where one is passed, the bound on nodes goes on
-pub adds_then : {N P K V S C : Type 0} (view : View N P K V S C) (a b c : N) (x y z : ℕ) → IsThreading view → Adds view a b x y → Adds view b c y z → Adds view a c x z
-adds_then view a b c x y z laws first second = (laws.grows_then a b c first.0 second.0, omega (arith, first.1, second.1))
-
-pub room_then : {N P K V S C : Type 0} (view : View N P K V S C) (s : List ℕ) (a b : N) (x y : ℕ) → HasRoom view s a x → Adds view a b x y → (view.IsPaid a (length s) → view.IsPaid b (length s))
-    → HasRoom view s b y
-room_then view s a b x y room adds pays = record { fits = room.fits; size = omega (arith, room.size, adds.1); paid = pays room.paid }
 
 -- a rule whose frame has a part less
 pub owed_pushed : {N P K V S C : Type 0} (view : View N P K V S C) (old new : N) (frame : Frame K) (parts middle : List P) (part : P) (x : ℕ) → frame.base ≤ length middle

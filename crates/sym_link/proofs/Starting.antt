@@ -1,5 +1,5 @@
 -- A driver at the beginning of a symbol, and at its end.
-use Rattle.std.proofs.Common.{◌≡◌, refl, sym, ◌∙◌, ap, subst, arith, ℕ, ◌+◌, ◌*◌, ◌≤◌, List, [], ◌∷◌, ◌++◌, length, drop, Ok, Err, inl, false, append-nil, length-append}
+use Rattle.std.proofs.Common.{◌≡◌, refl, sym, ◌∙◌, ap, subst, arith, ℕ, ◌+◌, ◌*◌, ◌≤◌, List, [], ◌∷◌, ◌++◌, length, drop, Ok, Err, false, append-nil, length-append}
 use Rattle.std.specs.Prelude.{Result, Option, Some, None}
 use Rattle.std.specs.Result.{IfOk}
 use Rattle.std.proofs.lemmas.Bool.{false≢true}
@@ -226,16 +226,6 @@ done view s shape tree steps nodes next codes parts laws r f no_frame =
     done_on view s shape tree nodes next codes parts laws r f.frames f.known f.state f.reached f.coming f.within f.holds f.keeps f.size f.before f.paid steps f.is_due no_frame
 
 -- ## For a language's own linker
-
--- a fresh driver is on its way to whatever the rows' tree means
-pub driving_starts : {N P K V S C : Type 0} (view : View N P K V S C) (s : List ℕ) (shape : List Row) (tree : Tree) (nodes : N)
-    → view.size nodes ≡ 0 → view.Holds nodes view.first → view.IsPaid nodes 0 → IsDriving view s shape tree nodes 0 None 0 [] []
-driving_starts view s shape tree nodes none holds paid = (
-  inl (record { next_is = refl; no_frame = refl; no_part = refl; no_node = none; holds = holds; paid = paid }, refl),
-  omega arith,
-  omega arith,
-  omega arith,
-)
 
 -- at most two steps a row at every moment, refused or not
 pub driving_few : {N P K V S C : Type 0} (view : View N P K V S C) (s : List ℕ) (shape : List Row) (tree : Tree) (nodes : N) (steps : ℕ) (refused : Option Refusal) (next : ℕ)

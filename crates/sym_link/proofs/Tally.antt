@@ -14,7 +14,7 @@ use Rattle.sym_link.specs.Unfold.{found, alone, standing, unfold_tree, unfold_fo
 use Rattle.sym_link.specs.Machine.{Passed, passed, ended}
 use Rattle.sym_link.specs.Parts.{Stands}
 use Rattle.sym_link.specs.Driving.{Fails}
-use Rattle.sym_link.specs.Linking.{View, IsLinking, HasRoom, IsInside, IsOpen, Begun, begun, next_of, taken_in, Begins, Takes, Gives, Puts, OpensRoot, Opens, TakesToken, ClosesRule}
+use Rattle.sym_link.specs.Linking.{View, IsLinking, HasRoom, IsInside, Begun, begun, next_of, taken_in, Begins, Takes, Gives, Puts, OpensRoot, Opens, TakesToken, ClosesRule}
 use Rattle.sym_link.specs.Threads.{IsAt, IsOpenAt, Goes, GoesOn, BeginsAs, BeginsIn, ClosesAll, IsTaken, IsAhead, IsAheadToken, IsCount, IsThreading}
 use Rattle.sym_link.specs.Following.{IsDone, meaning_of}
 use Rattle.sym_link.specs.Tally.{Tally, tally, Makes, untallied, tallied, tallied_view, closing_makes, nodes_in, nodes_in_all}
@@ -79,17 +79,6 @@ inside_untallied view makes s nodes frame own rule known from left now is = reco
   parts = is.parts;
   holds = is.holds.0;
   stands = stands_untallied view.table s (length view.reading.rowless) rule (length known) from left is.stands;
-}
-
-pub open_untallied : {N P K V S C : Type 0} (view : View N P K V S C) (makes : Makes V S C) (s : List ℕ) (nodes : N) (frame : Frame K) (parts : List P)
-    → IsOpen (tallied_view view makes) s nodes frame parts → IsOpen view s nodes frame parts
-open_untallied view makes s nodes frame parts is = record {
-  rule = untallied is.rule;
-  known = is.known;
-  from = is.from;
-  left = is.left;
-  state = is.state.state;
-  inside = inside_untallied view makes s nodes frame _ is.rule is.known is.from is.left is.state is.inside;
 }
 
 pub at_untallied : {N P K V S C : Type 0} (view : View N P K V S C) (makes : Makes V S C) (s : List ℕ) (nodes : N) (frame : Frame K) (own : List P)

@@ -3,7 +3,6 @@ pub mod Unfold
 pub mod Machine
 pub mod Cases
 pub mod Threads
-pub mod Ahead
 pub mod Driving
 pub mod Parts
 pub mod Owing

@@ -1,7 +1,6 @@
 pub mod Answering
 pub mod Building
 pub mod Leading
-pub mod Room
 pub mod Stack
 pub mod Stacking
 pub mod Unfolding

@@ -103,13 +103,6 @@ Took-as out out' err err' P Q took turns = record { lines = took.lines; said = t
 pub Took-said : (out err err' : Option (List ℕ)) (Q : List ℕ → List ℕ → Type 0) → Says err err' → ((said : List ℕ) → Q [] said) → Took out out err err' Q
 Took-said out err err' Q says turns = record { lines = []; said = says.0; to_out = Appends-none out; to_err = says.1; held = turns says.0 }
 
-pub Took-nothing : (out err : Option (List ℕ)) (Q : List ℕ → List ℕ → Type 0) → Q [] [] → Took out out err err Q
-Took-nothing out err Q held = record { lines = []; said = []; to_out = Appends-none out; to_err = Appends-none err; held = held }
-
--- what waited under another name
-pub Puts-from : (a b : Option (List ℕ)) (wait wait' after bytes : List ℕ) → wait' ≡ wait → Puts a b wait' after bytes → Puts a b wait after bytes
-Puts-from a b wait wait' after bytes same p = subst (λ (t : List ℕ). Puts a b t after bytes) same p
-
 pub PutsFront-from : (a b : Option (List ℕ)) (wait wait' : List ℕ) → wait' ≡ wait → PutsFront a b wait' [] → PutsFront a b wait []
 PutsFront-from a b wait wait' same p = subst (λ (t : List ℕ). PutsFront a b t []) same p
 
