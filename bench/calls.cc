@@ -4,6 +4,7 @@
 #include <chrono>
 #include <cstdio>
 #include <cstdlib>
+#include <cstring>
 #include <ctime>
 #include <fstream>
 #include <functional>
@@ -13,23 +14,25 @@
 
 #ifdef WITH_LIBIBERTY
 extern "C" char *cplus_demangle(const char *, int);
-enum { DMGL_PARAMS = 1, DMGL_ANSI = 2, DMGL_RUST = 1 << 17 };
+enum { DMGL_PARAMS = 1, DMGL_ANSI = 2, DMGL_AUTO = 1 << 8 };
 #endif
 #ifdef WITH_LLVM
 #include <llvm/Config/llvm-config.h>
 #include <llvm/Demangle/Demangle.h>
 
-static char *rust_demangled(const char *symbol)
+static char *llvm_demangled(const char *symbol)
 {
+    bool is_rust = symbol[0] == '_' && symbol[1] == 'R';
 #if LLVM_VERSION_MAJOR < 15
-    return llvm::rustDemangle(symbol, nullptr, nullptr, nullptr);
+    return is_rust ? llvm::rustDemangle(symbol, nullptr, nullptr, nullptr) : llvm::itaniumDemangle(symbol, nullptr, nullptr, nullptr);
 #else
-    return llvm::rustDemangle(symbol);
+    return is_rust ? llvm::rustDemangle(symbol) : llvm::itaniumDemangle(symbol);
 #endif
 }
 #endif
 
 static std::vector<std::string> symbols;
+static std::string all; /* a line each */
 static unsigned char room[1 << 20];
 
 static double now()
@@ -39,20 +42,13 @@ static double now()
     return t.tv_sec + t.tv_nsec * 1e-9;
 }
 
-/* The least of the runs, in nanoseconds of the processor a symbol. */
-static void time_of(const char *name, int runs, const std::function<size_t()> &each)
-{
-    double least = 1e9;
-    size_t bytes = 0;
-    for (int run = 0; run < runs; run++) {
-        double start = now();
-        bytes = each();
-        least = std::min(least, now() - start);
-    }
-    printf("%-28s %6.0f ns a symbol, %zu bytes of text\n", name, least / symbols.size() * 1e9, bytes);
-}
+/* A call for each symbol, or one for all: the bytes of text that it gave. */
+struct Call {
+    const char *name;
+    std::function<size_t()> run;
+};
 
-static size_t one_by_one()
+static size_t text_by_text()
 {
     size_t bytes = 0;
     symdemangle_answer answer;
@@ -62,44 +58,68 @@ static size_t one_by_one()
     return bytes;
 }
 
+static size_t filtered()
+{
+    static std::vector<unsigned char> large(all.size() * 8 + 1);
+    symdemangle_answer answer;
+    uint32_t status = symdemangle_filter((const uint8_t *)all.data(), all.size(), 1000000, 0, large.data(), large.size(), &answer);
+    return status == SYMDEMANGLE_OK ? answer.length - symbols.size() : 0;
+}
+
+/* The bytes of the texts of a demangler that allocates them. */
+[[maybe_unused]] static size_t freed(char *(*demangled)(const char *))
+{
+    size_t bytes = 0;
+    for (const std::string &s : symbols)
+        if (char *text = demangled(s.c_str())) {
+            bytes += std::string_view(text).size();
+            free(text);
+        }
+    return bytes;
+}
+
+static const std::vector<Call> calls = {
+    {"symdemangle_text", text_by_text},
+    {"symdemangle_filter", filtered},
+#ifdef WITH_LIBIBERTY
+    {"cplus_demangle", [] { return freed([](const char *s) { return cplus_demangle(s, DMGL_PARAMS | DMGL_ANSI | DMGL_AUTO); }); }},
+#endif
+#ifdef WITH_LLVM
+    {"LLVM", [] { return freed(llvm_demangled); }},
+#endif
+};
+
+/* The least of five runs, in nanoseconds of the processor a symbol. */
+static void time_of(const Call &call)
+{
+    double least = 1e9;
+    size_t bytes = 0;
+    for (int run = 0; run < 5; run++) {
+        double start = now();
+        bytes = call.run();
+        least = std::min(least, now() - start);
+    }
+    printf("%-28s %6.0f ns a symbol, %zu bytes of text\n", call.name, least / symbols.size() * 1e9, bytes);
+}
+
 int main(int count, char **arguments)
 {
-    if (count != 2) {
-        fprintf(stderr, "usage: calls FILE\n");
+    if (count < 2 || count > 3) {
+        fprintf(stderr, "usage: calls FILE [CALL]\n");
         return 2;
     }
     std::ifstream file(arguments[1]);
-    std::string all;
     for (std::string line; std::getline(file, line); all += line + '\n')
         symbols.push_back(line);
-    time_of("symdemangle_text", 5, one_by_one);
-    std::vector<unsigned char> large(all.size() * 4 + 1);
-    time_of("symdemangle_filter, all", 5, [&] {
-        symdemangle_answer answer;
-        uint32_t status = symdemangle_filter((const uint8_t *)all.data(), all.size(), 1000000, 0, large.data(), large.size(), &answer);
-        return status == SYMDEMANGLE_OK ? answer.length - symbols.size() : 0;
-    });
-#ifdef WITH_LIBIBERTY
-    time_of("libiberty's cplus_demangle", 5, [] {
-        size_t bytes = 0;
-        for (const std::string &s : symbols)
-            if (char *text = cplus_demangle(s.c_str(), DMGL_PARAMS | DMGL_ANSI | DMGL_RUST)) {
-                bytes += std::string_view(text).size();
-                free(text);
-            }
-        return bytes;
-    });
-#endif
-#ifdef WITH_LLVM
-    time_of("LLVM's rustDemangle", 5, [] {
-        size_t bytes = 0;
-        for (const std::string &s : symbols)
-            if (char *text = rust_demangled(s.c_str())) {
-                bytes += std::string_view(text).size();
-                free(text);
-            }
-        return bytes;
-    });
-#endif
+    if (count == 2)
+        for (const Call &call : calls)
+            time_of(call);
+    else if (!strcmp(arguments[2], "names"))
+        for (const Call &call : calls)
+            puts(call.name);
+    else
+        for (const Call &call : calls)
+            if (!strcmp(arguments[2], call.name))
+                printf("%zu bytes of text\n", call.run());
     return 0;
 }

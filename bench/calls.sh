@@ -1,8 +1,17 @@
 #!/bin/sh
-# Times a call of the static library beside one of libiberty and of LLVM, as far as they are installed, for each symbol of a
-# file of Rust symbols, one a line: bench/calls.sh FILE. Debian's packages: libiberty-dev, llvm-14-dev.
+# What a call of the static library takes for each symbol of a file, C++ or Rust, one a line, beside one of libiberty and of
+# LLVM, as far as they are installed (Debian's libiberty-dev, llvm-14-dev).
+#
+#   bench/calls.sh [-i] FILE
+#
+# It prints nanoseconds of the processor; with -i the instructions, counted by valgrind, without those that read the file.
 set -eu
-[ $# -eq 1 ] || { echo "usage: $0 FILE" >&2; exit 2; }
+counts=no
+if [ "${1-}" = -i ]; then
+    counts=yes
+    shift
+fi
+[ $# -eq 1 ] || { echo "usage: $0 [-i] FILE" >&2; exit 2; }
 file=$(realpath "$1")
 cd "$(dirname "$0")/.."
 kit=$(dirname "$(rt doc)")
@@ -23,4 +32,18 @@ if [ -n "$llvm" ]; then
 fi
 # shellcheck disable=SC2086
 c++ $flags bench/calls.cc -o "$work/calls" $libraries
-"$work/calls" "$file"
+if [ $counts = no ]; then
+    "$work/calls" "$file"
+    exit
+fi
+
+# the instructions of one run
+count() {
+    valgrind --tool=callgrind --callgrind-out-file=/dev/null "$work/calls" "$file" "$1" 2>&1 >/dev/null |
+        sed -n 's/^==[0-9]*== Collected : //p'
+}
+lines=$(wc -l <"$file")
+none=$(count none)
+for name in $("$work/calls" "$file" names); do
+    printf '%-28s %7s instructions a symbol\n' "$name" "$((($(count "$name") - none) / lines))"
+done
