@@ -1,10 +1,6 @@
 //! Replaces mangled symbols by their texts: those on the command line, or those among the words of standard input.
 #![tactic(auto)]
 
-mod command;
-mod lines;
-mod outcome;
-mod page;
 mod program;
 #[cfg(test)]
 mod rows;
@@ -13,8 +9,6 @@ mod scripted;
 #[cfg(test)]
 mod tests;
 
-pub use command::{Options, run, run_to};
-pub use outcome::Run;
 use std::process::ExitCode;
 
 fn main(rt: HostRuntime) -> ExitCode {

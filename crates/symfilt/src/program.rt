@@ -2,11 +2,10 @@
 ghost use Rattle.std.specs.Prelude.{◌≡◌, ◌⊎◌, ◌^◌, ◌-◌, ◌<◌, IfOk, vec_len};
 ghost use Rattle.symfilt.specs.declared.program.TheConstants.{LONGEST_ARGUMENT};
 
-use crate::command::{FAULT, refuse_with, run_to};
-use crate::outcome::Run;
 use std::alloc::{AllocError, Global};
 use std::rt::Env;
 use std::{env, io, str};
+use sym_command::{FAULT, Run, refuse_with, run_to};
 use sym_filter::{FilterFault, ReaderSource, Sink, WriterSink, filter_as};
 use sym_print::Detail;
 

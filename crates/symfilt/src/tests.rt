@@ -1,12 +1,10 @@
 // The filter over streams in memory, and the command line.
-use crate::command::{answer_words, run_to};
-use crate::outcome::Run;
-use crate::run;
 use crate::scripted::{Call, ScriptedSink, ScriptedSource};
 use std::alloc::{AllocError, Global};
 use std::process::Abort;
 use std::str;
 use std::test::Fail;
+use sym_command::{Run, answer_words, run, run_to};
 use sym_filter::{FilterFault, Languages, filter};
 use sym_print::Detail;
 

@@ -4,11 +4,11 @@ use Rattle.std.specs.Prelude.{IfOk, OnErr}
 use Rattle.sym_filter.specs.Languages.{answer_of, pressed_of, AreCountsOf}
 use Rattle.sym_filter.specs.Runs.{Answering}
 use Rattle.sym_filter.specs.declared.streams.FilterFault.{FilterFault}
-use Rattle.symfilt.specs.Command.{answers_of, Took, Says, AnswersWords, AnswersFront, IsRun, IsStopped}
-use Rattle.symfilt.specs.declared.command.Options.{Options}
-use Rattle.symfilt.specs.declared.outcome.Run.{Run}
-use Rattle.symfilt.specs.declared.outcome.Run.TheVariants.{Done}
-use Rattle.symfilt.proofs.PageLemmas.{Took-as, Took-said, OnErr-anyway}
+use Rattle.sym_command.specs.Command.{answers_of, Took, Says, AnswersWords, AnswersFront, IsRun, IsStopped}
+use Rattle.sym_command.specs.declared.command.Options.{Options}
+use Rattle.sym_command.specs.declared.outcome.Run.{Run}
+use Rattle.sym_command.specs.declared.outcome.Run.TheVariants.{Done}
+use Rattle.sym_command.proofs.PageLemmas.{Took-as, Took-said, OnErr-anyway}
 
 -- a command line that is refused
 pub refused-run : (out err err' : Option (List ℕ)) (result : Result Run FilterFault) → IfOk result (λ run. run ≡ Done 2) → Says err err' → IfOk result (λ run. Took out out err err' (IsRun run))

@@ -2,7 +2,7 @@
 ghost use Rattle.std.specs.Prelude.{◌≡◌, ◌≢◌, List, ℕ, [], ◌∷◌, ◌++◌, ◌&&◌, OnOk, OnErr, IfOk, is_some, string_bytes, if◌then◌else◌};
 ghost use Rattle.sym_filter.specs.Runs.{text_for};
 ghost use Rattle.sym_filter.specs.Streams.{BeginsWith};
-ghost use Rattle.symfilt.specs.Lines.{answer_for, is_read_word, line_of, counts_text, AreCountsFor, IsBehindLine, reason_of, complaint_with, complaint_of};
+ghost use Rattle.sym_command.specs.Lines.{answer_for, is_read_word, line_of, counts_text, AreCountsFor, IsBehindLine, reason_of, complaint_with, complaint_of};
 
 use std::alloc::{AllocError, Global};
 use sym_core::{Counts, Refusal};

@@ -5,10 +5,10 @@ use Rattle.std.specs.Io.KnownBytes.{Appends}
 use Rattle.sym_filter.specs.Languages.{answer_of, pressed_of, AreCountsOf}
 use Rattle.sym_filter.specs.Runs.{Answering}
 use Rattle.sym_filter.specs.Streams.{BeginsWith}
-use Rattle.symfilt.specs.Lines.{Counting, AreLines, complaint_of, status_of}
-use Rattle.symfilt.specs.declared.command.Options.{Options}
-use Rattle.symfilt.specs.declared.outcome.Run.{Run}
-use Rattle.symfilt.specs.declared.outcome.Run.TheVariants.{Done, Filter}
+use Rattle.sym_command.specs.Lines.{Counting, AreLines, complaint_of, status_of}
+use Rattle.sym_command.specs.declared.command.Options.{Options}
+use Rattle.sym_command.specs.declared.outcome.Run.{Run}
+use Rattle.sym_command.specs.declared.outcome.Run.TheVariants.{Done, Filter}
 
 -- a stream took some bytes
 abbrev pub Says : Option (List ℕ) → Option (List ℕ) → Type 0

@@ -1,7 +1,7 @@
 use Rattle.std.proofs.Common.{◌≡◌, take, map}
-use Rattle.symfilt.specs.Lines.{status_of}
-use Rattle.symfilt.proofs.PageLemmas.{SoFar}
-use Rattle.symfilt.proofs.command.answer_words.Given as goal
+use Rattle.sym_command.specs.Lines.{status_of}
+use Rattle.sym_command.proofs.PageLemmas.{SoFar}
+use Rattle.sym_command.proofs.command.answer_words.Given as goal
 
 abbrev pub invariant-words : goal.invariant-words
 invariant-words g l =

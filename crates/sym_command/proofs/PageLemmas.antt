@@ -7,9 +7,9 @@ use Rattle.std.proofs.lemmas.List.{append-nil, map-append, take-append-drop}
 use Rattle.sym_filter.specs.Runs.{Answering}
 use Rattle.sym_filter.specs.Streams.{BeginsWith, Puts, PutsFront}
 use Rattle.sym_filter.proofs.StreamLemmas.{Appends-none, Puts-push, Puts-join, Puts-same, Puts-all, PutsFront-of, PutsFront-join}
-use Rattle.symfilt.specs.Lines.{Counting, AreLines, AreCountsFor, IsBehindLine, answer_for, is_read_word, line_of, complaint_of, status_of}
-use Rattle.symfilt.specs.Command.{Took, Says, AnswersWords, AnswersFront}
-use Rattle.symfilt.proofs.LineLemmas.{AreLines-more}
+use Rattle.sym_command.specs.Lines.{Counting, AreLines, AreCountsFor, IsBehindLine, answer_for, is_read_word, line_of, complaint_of, status_of}
+use Rattle.sym_command.specs.Command.{Took, Says, AnswersWords, AnswersFront}
+use Rattle.sym_command.proofs.LineLemmas.{AreLines-more}
 
 pub record SoFar (answers : Answering) (counting : Counting) (stats : Bool) (words : List (List ℕ)) (out out' err err' : Option (List ℕ)) (lines_wait said_wait : List ℕ) : Type 0 where
   pub lines : List ℕ

@@ -1,6 +1,6 @@
 use Rattle.std.proofs.Common.{List, ℕ, Bor, map}
-use Rattle.symfilt.proofs.CommandLemmas.{asks-pressed, asks-text, asked-ok, asked-err}
-use Rattle.symfilt.proofs.command.answer_symbols.Goals as goal
+use Rattle.sym_command.proofs.CommandLemmas.{asks-pressed, asks-text, asked-ok, asked-err}
+use Rattle.sym_command.proofs.command.answer_symbols.Goals as goal
 
 pub returns-then-press-clause-ok : goal.returns-then-press-clause-ok
 returns-then-press-clause-ok g c =

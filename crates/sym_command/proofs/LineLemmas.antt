@@ -11,7 +11,7 @@ use Rattle.sym_filter.specs.Kinds.{kind_of, symbol_of}
 use Rattle.sym_filter.specs.Runs.{Answering, is_read, text_for}
 use Rattle.sym_core.specs.declared.refusal.Refusal.TheVariants.{Malformed, BadReference, BadValue, TooLong, Memory}
 use Rattle.sym_core.specs.declared.counts.Counts.{Counts}
-use Rattle.symfilt.specs.Lines.{answer_for, is_read_word, line_of, counts_text, status_of, Counting, AreCountsFor, IsCountsLine, IsBehindLine, AreLines}
+use Rattle.sym_command.specs.Lines.{answer_for, is_read_word, line_of, counts_text, status_of, Counting, AreCountsFor, IsCountsLine, IsBehindLine, AreLines}
 
 pub answer_for-named : (answers : Answering) (word : List ℕ) (kind : Kind) (answer : Result (List ℕ) Refusal) → kind_of word ≡ Some kind → answers kind (symbol_of kind word) ≡ answer → answer_for answers word ≡ Some answer
 unfolding answer_for

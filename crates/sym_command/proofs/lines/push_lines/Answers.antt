@@ -4,9 +4,9 @@ use Rattle.std.proofs.lemmas.List.{append-nil}
 use Rattle.sym_core.specs.declared.refusal.Refusal.TheVariants as refusals
 use Rattle.sym_filter.specs.Kinds.{kind_of, symbol_of}
 use Rattle.sym_filter.proofs.RunLemmas.{text_for-unnamed, text_of-symbol}
-use Rattle.symfilt.specs.Lines.{line_of, counts_text, complaint_with, complaint_about}
-use Rattle.symfilt.proofs.LineLemmas.{answer_for-unnamed, answer_of-symbol, text-line, word-line, said-line, nothing-behind, counts-behind, refused-behind}
-use Rattle.symfilt.proofs.lines.push_lines.Goals as goal
+use Rattle.sym_command.specs.Lines.{line_of, counts_text, complaint_with, complaint_about}
+use Rattle.sym_command.proofs.LineLemmas.{answer_for-unnamed, answer_of-symbol, text-line, word-line, said-line, nothing-behind, counts-behind, refused-behind}
+use Rattle.sym_command.proofs.lines.push_lines.Goals as goal
 
 pub returns-in_default-clause-line : goal.returns-in_default-clause-line
 returns-in_default-clause-line g c =

@@ -2,8 +2,8 @@
 ghost use Rattle.std.specs.Prelude.{◌≡◌, ◌≢◌, ◌⊎◌, ◌+◌, ◌-◌, ◌^◌, ◌<◌, List, ℕ, ◌++◌, OnErr, IfOk, IfErr, map};
 ghost use Rattle.sym_filter.specs.Streams.{writer_faults};
 ghost use Rattle.sym_filter.specs.Languages.{AreCountsOf};
-ghost use Rattle.symfilt.specs.Command.{Took, answers_of, Says, AnswersWords, AnswersFront, IsRun, IsStopped};
-ghost use Rattle.symfilt.specs.declared.outcome.Run.{Run as Run-type};
+ghost use Rattle.sym_command.specs.Command.{Took, answers_of, Says, AnswersWords, AnswersFront, IsRun, IsStopped};
+ghost use Rattle.sym_command.specs.declared.outcome.Run.{Run as Run-type};
 
 use crate::lines::answer_word;
 use crate::outcome::Run;

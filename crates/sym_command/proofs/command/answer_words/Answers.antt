@@ -1,9 +1,9 @@
 use Rattle.std.proofs.Common.{◌≡◌, ◌+◌, cond, sym, ◌∙◌, List, [], ℕ, get_or, map, take, drop, Bor, refl, arith}
 use Rattle.std.proofs.lemmas.Bool.{cond-true, cond-false}
-use Rattle.symfilt.proofs.LineLemmas.{words-more, status-more}
-use Rattle.symfilt.proofs.PageLemmas.{SoFar-begin, SoFar-word, SoFar-written, SoFar-stopped, PutsFront-none, PutsFront-all, PutsFront-from, OnErr-anyway, words-split}
-use Rattle.symfilt.proofs.command.answer_words.Goals as goal
-use Rattle.symfilt.proofs.command.answer_words.Goals.{then-not-has_text, else-not-has_text}
+use Rattle.sym_command.proofs.LineLemmas.{words-more, status-more}
+use Rattle.sym_command.proofs.PageLemmas.{SoFar-begin, SoFar-word, SoFar-written, SoFar-stopped, PutsFront-none, PutsFront-all, PutsFront-from, OnErr-anyway, words-split}
+use Rattle.sym_command.proofs.command.answer_words.Goals as goal
+use Rattle.sym_command.proofs.command.answer_words.Goals.{then-not-has_text, else-not-has_text}
 
 pub returns-in_err-lists-clause-err : goal.returns-in_err-lists-clause-err
 returns-in_err-lists-clause-err g c =

@@ -1,8 +1,8 @@
 use Rattle.std.proofs.Common.{List, ℕ, Bor, map, eqb, sym, ap, ◌∙◌}
 use Rattle.std.proofs.lemmas.Bool.{true≢false}
-use Rattle.symfilt.proofs.PageLemmas.{OnErr-anyway}
-use Rattle.symfilt.proofs.CommandLemmas.{refused-run, refused-stopped, words-run, words-stopped, some-words}
-use Rattle.symfilt.proofs.command.answer_all.Goals as goal
+use Rattle.sym_command.proofs.PageLemmas.{OnErr-anyway}
+use Rattle.sym_command.proofs.CommandLemmas.{refused-run, refused-stopped, words-run, words-stopped, some-words}
+use Rattle.sym_command.proofs.command.answer_all.Goals as goal
 
 pub returns-in_err-status-clause-err : goal.returns-in_err-status-clause-err
 returns-in_err-status-clause-err g c =
