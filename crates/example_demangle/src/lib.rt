@@ -1,4 +1,4 @@
-//! Three ways to use `rust_v0`, and the tests of its calls.
+//! Three ways to use `rust_v0`.
 #![tactic(auto)]
 
 ghost use Rattle.std.specs.Prelude.{◌+◌, ◌<◌, ◌≤◌, length};

@@ -32,7 +32,8 @@ const FUNCTION: u16 = Production::Function as u16;
 /// The number of the rule of a `dyn` type.
 const DYN: u16 = Production::Dyn as u16;
 
-/// Whether a rule may begin with a binder.
+/// Whether a rule may begin with a binder. It is asked at each rule that opens, and by the rule's number takes two comparisons,
+/// where a match on the production takes twice as many instructions.
 fn may_bind(rule: u16) -> bool
     ensures { OnFalse result ((bound : ℕ) (parts : List Part) → operands.bound_behind (production_of rule) bound parts ≡ bound) }
 {
@@ -166,6 +167,7 @@ impl RustNodes {
     }
 
     /// Takes a token in the rule of a frame by a call. A frame and a row of their own for it let the others stay in registers.
+    /// The copies are made in this function, since one in `token` would be cleared at each token, called or not.
     #[inline(always)]
     fn take_rare(
         &mut self,
@@ -279,7 +281,8 @@ impl RustNodes {
         put(parts, frame.base, part_of(added))
     }
 
-    /// Closes the rule of a frame by a call. A frame of its own for it lets the others stay in registers.
+    /// Closes the rule of a frame by a call. A frame of its own for it lets the others stay in registers. The copy is made in this
+    /// function, as in `take_rare`.
     #[inline(always)]
     fn close_rare(
         &mut self,
@@ -301,7 +304,7 @@ impl RustNodes {
         self.close_any(symbol, Frame { ..frame }, parts)
     }
 
-    /// Takes a token in the rule of a frame. The tokens of most rules have code of their own.
+    /// Takes a token in the rule of a frame. Names and base-62 numbers are taken in the driver's loop, other tokens by a call.
     #[inline(always)]
     fn take_token(
         &mut self,
@@ -334,7 +337,9 @@ impl RustNodes {
         }
     }
 
-    /// Closes the rule of a frame. The commonest productions have code of their own.
+    /// Closes the rule of a frame. The five commonest productions close in the driver's loop, others by a call. Either looks the
+    /// production up by the rule's number: one comparison, where handing the production on takes a register of the loop, and 2.4 %
+    /// more instructions over real symbols.
     #[inline(always)]
     fn close_rule(
         &mut self,
