@@ -1,36 +1,145 @@
-#!/bin/sh
-# Builds the static library and runs its callers in C, C++ and Rust, those in C and C++ under sanitizers and with each
-# allocation refused: tests/callers.sh. It proves the library first where that wasn't done.
-set -eu
+#!/bin/bash
+# Installs the libraries into a folder of its own and runs callers of them: in C, C++, Rust and Python; static, shared and over a
+# lent block; found by pkg-config and CMake; under sanitizers, and with each allocation refused. Then programs over callers/shims.
+#
+#   tests/callers.sh [FILE..]
+#
+# Each FILE has symbols, one a line, for the comparisons; the rows of crates/check_rows are always among them. It proves the library
+# first where that wasn't done. What isn't installed here (clang, cmake, pkg-config, cargo) is named and left out.
+set -euo pipefail
+files=()
+for file in "$@"; do files+=("$(realpath "$file")"); done
 cd "$(dirname "$0")/.."
-kit=$(dirname "$(rt doc)")
-library=$PWD/crates/symdemangle/out
 work=$(mktemp -d)
 trap 'rm -rf "$work"' EXIT
+prefix=$work/prefix
+lib=$prefix/lib
 
 (cd crates/symdemangle && rt lib)
-archives="$library/libsymdemangle.a $kit/c/liblibc_c.a"
-warnings="-Wall -Wextra -Werror"
-checks="-g -fsanitize=address,undefined -fno-sanitize-recover"
+tools/install.sh --libraries "$prefix"
+grep -aE $'^(text|refused)\t' crates/check_rows/stdin | tr '\t' '\n' | grep -aE '^_(Z|R)[A-Za-z0-9_.$]+$' | head -n 20000 >"$work/symbols"
+[ "$(wc -l <"$work/symbols")" -gt 300 ] || { echo "too few rows were found in crates/check_rows/stdin" >&2; exit 1; }
 
-# shellcheck disable=SC2086
-run() { # run NAME COMPILER.. : builds a caller, and runs it
-    name=$1
-    shift
-    "$@" $warnings -I callers/c -o "$work/$name" $archives
-    echo "$name: $("$work/$name" | tail -n 1)"
-    "$work/$name" >"$work/out" || { cat "$work/out"; exit 1; }
+has() { # has PROGRAM WHAT : whether a program is installed
+    command -v "$1" >/dev/null || { echo "$1 isn't installed: $2 isn't tested"; return 1; }
 }
 
-run c cc -std=c11 $checks callers/c/calls.c
-run cpp c++ -std=c++11 $checks -x c++ callers/c/calls.c -x none
-run refused cc -std=c11 callers/c/out_of_memory.c
-cat "$work/out"
-if command -v cargo >/dev/null; then
-    SYMDEMANGLE_DIR=$library RATTLE_KIT=$kit CARGO_TARGET_DIR=$work/target \
-        cargo test --quiet --offline --manifest-path callers/rust/Cargo.toml
-    CARGO_TARGET_DIR=$work/target cargo clean --quiet --offline --manifest-path callers/rust/Cargo.toml
-else
-    echo "cargo isn't installed: the Rust caller wasn't run"
+# run NAME COMPILER..: builds a program and runs it; the last words are those of the compiler
+run() {
+    local name=$1
+    shift
+    "$@" -o "$work/$name"
+    "$work/$name" >"$work/out" || { echo "$name:"; cat "$work/out"; exit 1; }
+    echo "$name: $(tail -n 1 "$work/out")"
+}
+
+warnings=(-Wall -Wextra -Werror -I "$prefix/include")
+checks=(-g -fsanitize=address,undefined -fno-sanitize-recover)
+static=("$lib/libsymdemangle.a")
+
+# C and C++, every standard
+run c cc -std=c11 "${checks[@]}" "${warnings[@]}" callers/c/calls.c "${static[@]}"
+run c99 cc -std=c99 -Wpedantic "${warnings[@]}" callers/c/calls.c "${static[@]}"
+for standard in 11 14 17 20; do
+    run "c++$standard" c++ "-std=c++$standard" -Wpedantic "${checks[@]}" "${warnings[@]}" -x c++ callers/c/calls.c -x none "${static[@]}"
+done
+if has clang 'the header under -Weverything'; then
+    for language in c c++; do
+        printf '#include <symdemangle.h>\n#include <symdemangle_arena.h>\n' |
+            clang -x $language -Weverything -Wno-padded -Wno-c++98-compat-pedantic -Werror -I callers/c -fsyntax-only -
+    done
+    echo 'clang -Weverything: ok'
 fi
+run static cc -static -std=c11 "${warnings[@]}" callers/c/calls.c "${static[@]}"
+run 'refused' cc -std=c11 "${warnings[@]}" callers/c/out_of_memory.c "${static[@]}"
+cat "$work/out"
+
+# Names: an archive has none but the header's, the shared library has each with its version, and neither needs more than the C
+# library; the arena's needs nothing that allocates.
+for archive in symdemangle symdemangle_arena; do
+    others=$(nm -g --defined-only "$lib/lib$archive.a" | awk 'NF == 3 && $3 !~ /^symdemangle_/ { print $3 }')
+    [ -z "$others" ] || { echo "lib$archive.a has other names: $others"; exit 1; }
+done
+needed=$(nm -g --undefined-only "$lib/libsymdemangle_arena.a" | awk '$1 == "U" { print $2 }' | grep -vE '^(mem(cpy|move|set|cmp|chr)|_GLOBAL_OFFSET_TABLE_|bcmp|strlen)$' || true)
+[ -z "$needed" ] || { echo "libsymdemangle_arena.a needs $needed"; exit 1; }
+unversioned=$(nm -D --defined-only "$lib/libsymdemangle.so" | awk '$3 !~ /^(symdemangle_[a-z_]*@@)?SYMDEMANGLE_0\.1$/ { print $3 }')
+[ -z "$unversioned" ] || { echo "libsymdemangle.so has other names: $unversioned"; exit 1; }
+for call in $(sed -n 's/^uint32_t \(symdemangle_[a-z_]*\)(.*/\1/p' callers/c/symdemangle.h); do
+    nm -D "$lib/libsymdemangle.so" | grep -q " $call@@" || { echo "libsymdemangle.so lacks $call"; exit 1; }
+    nm -g "$lib/libsymdemangle.a" | grep -q " T $call$" || { echo "libsymdemangle.a lacks $call"; exit 1; }
+done
+echo 'names: ok'
+
+# Found by pkg-config and by CMake
+if has pkg-config 'symdemangle.pc'; then
+    export PKG_CONFIG_PATH=$lib/pkgconfig
+    # shellcheck disable=SC2046
+    {
+        LD_LIBRARY_PATH=$lib run pkg-config cc -std=c99 -Wall -Wextra -Werror $(pkg-config --cflags symdemangle) callers/c/calls.c $(pkg-config --libs symdemangle)
+        ldd_of=$(LD_LIBRARY_PATH=$lib ldd "$work/pkg-config")
+        grep -q "libsymdemangle.so.0 => $lib" <<<"$ldd_of" || { echo 'pkg-config: it is not the shared library'; exit 1; }
+        run pkg-config-static cc -static -std=c99 -Wall -Wextra -Werror $(pkg-config --static --cflags symdemangle) callers/c/calls.c $(pkg-config --static --libs symdemangle)
+    }
+    [ "$(pkg-config --modversion symdemangle)" = "$(sed -n 's/^#define SYMDEMANGLE_VERSION_[A-Z]* \([0-9]*\)$/\1/p' callers/c/symdemangle.h | paste -sd .)" ]
+fi
+if has cmake 'find_package'; then
+    cmake -S tests/callers -B "$work/cmake" -DCMAKE_PREFIX_PATH="$prefix" -DCALLS="$PWD/callers/c/calls.c" >"$work/out" ||
+        { cat "$work/out"; exit 1; }
+    cmake --build "$work/cmake" >"$work/out" || { cat "$work/out"; exit 1; }
+    for program in calls_symdemangle calls_static calls_shared; do
+        echo "cmake, $program: $("$work/cmake/$program" | tail -n 1)"
+        "$work/cmake/$program" >/dev/null
+    done
+    "$work/cmake/threads_arena" "$work/symbols" >/dev/null
+fi
+python3 tests/callers/by_ctypes.py "$lib/libsymdemangle.so" | sed 's/^/ctypes: /'
+
+# The crate for cargo, as it was installed, without the kit
+if has cargo 'the crate for cargo'; then
+    cp -r "$prefix/share/symdemangle/rust" "$work/crate"
+    cp -r callers/rust/tests "$work/crate/tests"
+    env -u RATTLE_KIT SYMDEMANGLE_DIR="$lib" CARGO_TARGET_DIR="$work/target" \
+        cargo test --quiet --offline --manifest-path "$work/crate/Cargo.toml"
+fi
+
+# Over a lent block: in a handler, without malloc; the texts are the usual library's
+arena=("$lib/libsymdemangle_arena.a")
+plain=(-std=gnu11 -O1 "${warnings[@]}")
+cc "${plain[@]}" -DUSUAL tests/callers/arena.c -o "$work/usual" "${static[@]}"
+cc "${plain[@]}" tests/callers/arena.c -o "$work/arena" "${arena[@]}"
+cc "${plain[@]}" tests/callers/interrupted.c -o "$work/interrupted" "${arena[@]}"
+cc "${plain[@]}" -pthread tests/callers/threads.c -o "$work/threads" "${static[@]}"
+cc "${plain[@]}" -pthread -DARENA tests/callers/threads.c -o "$work/threads_arena" "${arena[@]}"
+for file in "$work/symbols" ${files[@]+"${files[@]}"}; do
+    "$work/usual" "$file" >"$work/texts" 2>/dev/null
+    "$work/arena" "$file" $((4 << 20)) >"$work/out"
+    cmp "$work/texts" "$work/out"
+    for size in 16384 32768 65536 131072; do "$work/arena" "$file" $size >/dev/null; done
+    sum=$("$work/interrupted" "$file" 2>/dev/null)
+    [ "$("$work/interrupted" "$file" ticks)" = "$sum" ] || { echo 'calls that are interrupted answer otherwise'; exit 1; }
+    [ "$("$work/threads" "$file")" = "$("$work/threads_arena" "$file")" ] || { echo 'threads answer otherwise'; exit 1; }
+done
+c++ -std=c++11 -O1 -rdynamic "${warnings[@]}" -Wpedantic callers/c/crash_reporter.cc -o "$work/reporter" "${arena[@]}" -ldl
+if "$work/reporter" 2>"$work/out"; then echo 'the crash reporter: no fault'; exit 1; fi
+[ "$(grep -c '^int app::open_box<int volatile>(app::Box<int volatile> const&, int)$' "$work/out")" -eq 3 ] && grep -qx main "$work/out" ||
+    { echo 'the crash reporter:'; cat "$work/out"; exit 1; }
+echo 'a lent block: ok'
+
+# Other demanglers' calls, in programs that were written for them
+c++ -std=c++11 -O1 "${warnings[@]}" tests/callers/demangles.cc -o "$work/demangles"
+cc -std=c99 -O2 -shared -fPIC "${warnings[@]}" -Wpedantic -DCXA -DCPLUS -DRUSTC callers/shims/shims.c -o "$work/shims.so" "${static[@]}"
+"$work/demangles" | sed 's/^/__cxa_demangle of the runtime: /'
+LD_PRELOAD=$work/shims.so "$work/demangles" | sed 's/^/__cxa_demangle: /'
+terminated=$(LD_DEBUG=bindings LD_DEBUG_OUTPUT=$work/bindings LD_PRELOAD=$work/shims.so bash -c '"$0" throw 2>&1 || true' "$work/demangles" 2>/dev/null)
+grep -q "terminate called after throwing an instance of 'ns::Fault<int, 3>'" <<<"$terminated" || { echo "terminate: $terminated"; exit 1; }
+grep -q "libstdc++.* to $work/shims.so.*__cxa_demangle" "$work"/bindings.* || { echo 'the terminate handler calls another __cxa_demangle'; exit 1; }
+for program in 'nm -D -C' c++filt; do
+    case $program in
+        nm*) LD_PRELOAD=$work/shims.so $program "$(cc -print-file-name=libstdc++.so.6)" >"$work/out" ;;
+        *) printf '_Z1fDn\n_Z1fv\n' | LD_PRELOAD=$work/shims.so $program >"$work/out" ;;
+    esac
+    echo "$program: $(grep -cv ' _Z\|^_Z' "$work/out") lines without a mangled name, $(grep -c ' _Z\|^_Z' "$work/out") with one"
+done
+# c++filt prints decltype(nullptr) where this library's text has a name
+grep -qxF 'f(std::nullptr_t)' "$work/out" || { echo 'c++filt: the preloaded call was not used'; cat "$work/out"; exit 1; }
 echo ok

@@ -1,29 +1,89 @@
 #!/bin/sh
-# Installs the proved program, its man page and completions, and the static library with its header, under a folder:
-# tools/install.sh [PREFIX], /usr/local if none is named. It proves what isn't proved yet, which takes its time once.
+# Installs the proved program with its man page and completions, the libraries with their headers, licences and documents:
+#
+#   tools/install.sh [PREFIX]                 under /usr/local, if no PREFIX is named here or in the environment
+#   tools/install.sh --uninstall [PREFIX]     removes the same files, and the folders of its own that are left empty
+#   tools/install.sh --libraries [PREFIX]     only the libraries, with headers, what finds them, and the crate for cargo
+#
+# From the environment: LIBDIR, the folder of libraries under PREFIX (lib), as LIBDIR=lib64 or LIBDIR=lib/x86_64-linux-gnu; and
+# DESTDIR, a folder in which all is put as if it were the root, for packages. It proves what isn't proved yet, which takes its time
+# once.
 set -eu
-prefix=${1:-/usr/local}
+mode=all
+case ${1-} in
+    --uninstall | --libraries)
+        mode=${1#--}
+        shift
+        ;;
+esac
+case $#${1-} in
+    0 | 1[!-]*) ;;
+    *) echo "usage: $0 [--uninstall | --libraries] [PREFIX]" >&2; exit 2 ;;
+esac
+prefix=${1:-${PREFIX:-/usr/local}}
+prefix=${prefix%/}
+libdir=${LIBDIR:-lib}
+case $prefix in /*) ;; *) echo "$0: PREFIX has to begin with a slash: $prefix" >&2; exit 2 ;; esac
+case $libdir in /* | *..*) echo "$0: LIBDIR is a folder under PREFIX: $libdir" >&2; exit 2 ;; esac
+root=${DESTDIR-}$prefix
 cd "$(dirname "$0")/.."
 
-[ -x crates/symfilt/out/symfilt ] || (cd crates/symfilt && rt run -- _RNvC3foo3bar)
+packed=$(mktemp -d)
+trap 'rm -rf "$packed"' EXIT
+
+# Each file: its mode, where it is taken from, and where it goes under the prefix.
+files() {
+    cat <<LIST
+644 callers/c/symdemangle.h include/symdemangle.h
+644 callers/c/symdemangle_arena.h include/symdemangle_arena.h
+644 $packed/libsymdemangle.a $libdir/libsymdemangle.a
+644 $packed/libsymdemangle_arena.a $libdir/libsymdemangle_arena.a
+644 $packed/symdemangle.pc $libdir/pkgconfig/symdemangle.pc
+644 $packed/symdemangle_arena.pc $libdir/pkgconfig/symdemangle_arena.pc
+644 $packed/symdemangleConfig.cmake $libdir/cmake/symdemangle/symdemangleConfig.cmake
+644 $packed/symdemangleConfigVersion.cmake $libdir/cmake/symdemangle/symdemangleConfigVersion.cmake
+644 callers/rust/Cargo.toml share/symdemangle/rust/Cargo.toml
+644 callers/rust/build.rs share/symdemangle/rust/build.rs
+644 callers/rust/src/lib.rs share/symdemangle/rust/src/lib.rs
+644 callers/rust/src/library.rs share/symdemangle/rust/src/library.rs
+LIST
+    [ $mode != libraries ] || return 0
+    cat <<LIST
+755 crates/symfilt/out/symfilt bin/symfilt
+644 docs/symfilt.1 share/man/man1/symfilt.1
+644 tools/completions/symfilt.bash share/bash-completion/completions/symfilt
+644 tools/completions/symfilt.fish share/fish/vendor_completions.d/symfilt.fish
+644 tools/completions/_symfilt share/zsh/site-functions/_symfilt
+644 callers/c/crash_reporter.cc share/doc/symfilt/examples/crash_reporter.cc
+644 callers/shims/shims.c share/doc/symfilt/examples/shims.c
+LIST
+    for document in README.md CHANGELOG.md SECURITY.md LICENSE-MIT LICENSE-APACHE docs/GRAMMARS.md docs/PROMISES.md \
+        docs/SCALE.md docs/hostile.svg docs/speed.svg; do
+        echo "644 $document share/doc/symfilt/$document"
+    done
+}
+
+# The shared library has the version in its name; the links lead to it.
+version() {
+    sed -n 's/^#define SYMDEMANGLE_VERSION_[A-Z]* \([0-9]*\)$/\1/p' callers/c/symdemangle.h | paste -sd .
+}
+real=libsymdemangle.so.$(version)
+name=${real%.*.*}
+
+if [ $mode = uninstall ]; then
+    files | while read -r _ _ to; do rm -f "$root/$to"; done
+    rm -f "$root/$libdir/$real" "$root/$libdir/$name" "$root/$libdir/libsymdemangle.so"
+    for folder in share/doc/symfilt/docs share/doc/symfilt/examples share/doc/symfilt share/symdemangle/rust/src \
+        share/symdemangle/rust share/symdemangle "$libdir/cmake/symdemangle"; do
+        [ ! -d "$root/$folder" ] || rmdir --ignore-fail-on-non-empty "$root/$folder"
+    done
+    exit
+fi
+
+[ $mode = libraries ] || [ -x crates/symfilt/out/symfilt ] || (cd crates/symfilt && rt run -- _RNvC3foo3bar)
 [ -f crates/symdemangle/out/libsymdemangle.a ] || (cd crates/symdemangle && rt lib)
-
-install -D -m 755 crates/symfilt/out/symfilt "$prefix/bin/symfilt"
-install -D -m 644 docs/symfilt.1 "$prefix/share/man/man1/symfilt.1"
-install -D -m 644 tools/completions/symfilt.bash "$prefix/share/bash-completion/completions/symfilt"
-install -D -m 644 tools/completions/symfilt.fish "$prefix/share/fish/vendor_completions.d/symfilt.fish"
-install -D -m 644 tools/completions/_symfilt "$prefix/share/zsh/site-functions/_symfilt"
-install -D -m 644 callers/c/symdemangle.h "$prefix/include/symdemangle.h"
-
-# The archive and the kit's allocator that it needs, as one.
-kit=$(dirname "$(rt doc)")
-library=$(mktemp -d)
-trap 'rm -rf "$library"' EXIT
-{
-    echo "create $library/libsymdemangle.a"
-    echo "addlib crates/symdemangle/out/libsymdemangle.a"
-    echo "addlib $kit/c/liblibc_c.a"
-    echo save
-    echo end
-} | ar -M
-install -D -m 644 "$library/libsymdemangle.a" "$prefix/lib/libsymdemangle.a"
+tools/pack.sh "$packed" "$prefix" "$libdir"
+files | while read -r bits from to; do install -D -m "$bits" "$from" "$root/$to"; done
+install -m 644 "$packed/$real" "$root/$libdir/$real"
+ln -sf "$real" "$root/$libdir/$name"
+ln -sf "$name" "$root/$libdir/libsymdemangle.so"

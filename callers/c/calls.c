@@ -74,6 +74,68 @@ static void texts(void)
     is_refused("_RNvC3foo3bar", 99, 2, SYMDEMANGLE_DETAIL, 0);
 }
 
+/* The same call for a word: what it answers, and where the place is counted from. */
+static void is_word(const char *word, uint32_t wanted, uint32_t place, const char *text)
+{
+    symdemangle_answer answer;
+    size_t length = strlen(text);
+    memset(room, '#', sizeof room);
+    uint32_t status = symdemangle_word(bytes(word), strlen(word), 99, SYMDEMANGLE_FULL, room, sizeof room, &answer);
+    check(status == wanted && answer.length == length && answer.place == place, "status of a word", word);
+    check(memcmp(room, text, length) == 0 && is_kept(length), "text of a word", word);
+}
+
+static void words(void)
+{
+    is_word("_Z1fv", SYMDEMANGLE_OK, 0, "f()");
+    is_word("__Z1fv", SYMDEMANGLE_OK, 0, "f()");
+    is_word("_RNvC3foo3bar", SYMDEMANGLE_OK, 0, "foo::bar");
+    is_word("__RNvC3foo3bar", SYMDEMANGLE_OK, 0, "foo::bar");
+    is_word("_Z1fQ", SYMDEMANGLE_MALFORMED, 4, "");
+    is_word("__Z1fQ", SYMDEMANGLE_MALFORMED, 5, "");
+    is_word("__RNvB_3foo", SYMDEMANGLE_BAD_REFERENCE, 5, "");
+    is_word("___Z1fv", SYMDEMANGLE_NO_SYMBOL, 0, "");
+    is_word("main", SYMDEMANGLE_NO_SYMBOL, 0, "");
+    is_word("_", SYMDEMANGLE_NO_SYMBOL, 0, "");
+    is_word("", SYMDEMANGLE_NO_SYMBOL, 0, "");
+}
+
+static void is_told(const symdemangle_told *told, uint32_t status, size_t length, uint32_t place, const char *symbol)
+{
+    check(told->status == status && told->length == length && told->place == place, "one of many", symbol);
+}
+
+static void many(void)
+{
+    static const char symbols[] = "_Z1fv_RNvC3foo3bar_Z1fQ_RNvC3foo3baz";
+    static const size_t ends[] = {5, 18, 23, 36}, falling[] = {5, 4}, beyond[] = {5, 99};
+    static const symdemangle_told untold = {9, 9, 9};
+    symdemangle_told told[4];
+    size_t length = sizeof symbols - 1;
+    memset(room, '#', sizeof room);
+    check(symdemangle_texts(bytes(symbols), length, ends, 4, 99, 0, room, sizeof room, told, 4) == SYMDEMANGLE_OK, "many", "");
+    is_told(&told[0], SYMDEMANGLE_OK, 3, 0, "_Z1fv");
+    is_told(&told[1], SYMDEMANGLE_OK, 8, 0, "_RNvC3foo3bar");
+    is_told(&told[2], SYMDEMANGLE_MALFORMED, 0, 4, "_Z1fQ");
+    is_told(&told[3], SYMDEMANGLE_OK, 8, 0, "_RNvC3foo3baz");
+    check(memcmp(room, "f()foo::barfoo::baz", 19) == 0 && is_kept(19), "texts of many", "");
+    memset(room, '#', sizeof room);
+    check(symdemangle_texts(bytes(symbols), 18, ends, 2, 99, 0, room, 7, told, 2) == SYMDEMANGLE_OK, "many in a small room", "");
+    is_told(&told[0], SYMDEMANGLE_OK, 3, 0, "_Z1fv");
+    is_told(&told[1], SYMDEMANGLE_ROOM, 8, 0, "_RNvC3foo3bar");
+    check(memcmp(room, "f()", 3) == 0 && is_kept(3), "what fits of many", "");
+    memset(room, '#', sizeof room);
+    told[0] = told[1] = untold;
+    check(symdemangle_texts(bytes(symbols), length, falling, 2, 99, 0, room, sizeof room, told, 2) == SYMDEMANGLE_ENDS, "ends that fall", "");
+    check(symdemangle_texts(bytes(symbols), length, beyond, 2, 99, 0, room, sizeof room, told, 2) == SYMDEMANGLE_ENDS, "an end past the bytes", "");
+    check(symdemangle_texts(bytes(symbols), length, ends, 2, 99, 0, room, sizeof room, told, 1) == SYMDEMANGLE_ENDS, "an answer too few", "");
+    check(symdemangle_texts(bytes(symbols), length, ends, 2, 99, 2, room, sizeof room, told, 2) == SYMDEMANGLE_DETAIL, "a detail of many", "");
+    check(symdemangle_texts(bytes(symbols), length, NULL, 2, 99, 0, room, sizeof room, told, 2) == SYMDEMANGLE_NULL, "null ends", "");
+    check(symdemangle_texts(bytes(symbols), length, ends, 2, 99, 0, room, sizeof room, NULL, 2) == SYMDEMANGLE_NULL, "null answers", "");
+    check(told[0].status == 9 && told[1].place == 9 && is_kept(0), "answers that are kept", "");
+    check(symdemangle_texts(NULL, 0, NULL, 0, 99, 0, NULL, 0, NULL, 0) == SYMDEMANGLE_OK, "none of many", "");
+}
+
 static void bad_arguments(void)
 {
     symdemangle_answer answer = {9, 9};
@@ -83,6 +145,10 @@ static void bad_arguments(void)
     check(symdemangle_text(NULL, 1, 99, 0, room, sizeof room, &answer) == SYMDEMANGLE_NULL && is_kept(0), "null symbol", "");
     check(symdemangle_text(bytes("_R"), 2, 99, 0, NULL, 1, &answer) == SYMDEMANGLE_NULL, "null room", "");
     check(symdemangle_text(bytes("_R"), 2, 99, 0, room, 1, NULL) == SYMDEMANGLE_NULL && is_kept(0), "null answer", "");
+    check(symdemangle_word(NULL, 0, 99, 0, room, 1, &answer) == SYMDEMANGLE_NO_SYMBOL && is_kept(0), "empty word", "");
+    check(symdemangle_word(NULL, 1, 99, 0, room, 1, &answer) == SYMDEMANGLE_NULL && is_kept(0), "null word", "");
+    check(symdemangle_word(bytes("main"), 4, 99, 0, room, 1, NULL) == SYMDEMANGLE_NULL && is_kept(0), "null answer of a word", "");
+    check(symdemangle_version() == SYMDEMANGLE_VERSION, "version", "");
     check(symdemangle_filter(NULL, 0, 99, 0, NULL, 0, &answer) == SYMDEMANGLE_OK && answer.length == 0, "empty text", "");
     check(symdemangle_count(bytes("_R"), 2, NULL, &answer) == SYMDEMANGLE_NULL, "null counts", "");
     check(symdemangle_count(bytes("_R"), 2, &counts, &answer) == SYMDEMANGLE_MALFORMED && answer.place == 2 && counts.rows == 9,
@@ -124,6 +190,8 @@ static void pressed_spellings(void)
 int main(void)
 {
     texts();
+    words();
+    many();
     bad_arguments();
     other_calls();
     pressed_spellings();

@@ -44,6 +44,23 @@ static uint32_t text(void)
     return symdemangle_text((const uint8_t *)symbol, strlen(symbol), 99, 0, room, sizeof room, &answer);
 }
 
+static uint32_t word(void)
+{
+    return symdemangle_word((const uint8_t *)cpp_symbol, strlen(cpp_symbol), 99, 0, room, sizeof room, &answer);
+}
+
+/* Want of memory is told of a symbol, so this is the first refusal. */
+static uint32_t texts(void)
+{
+    static const size_t ends[] = {10, sizeof symbol - 1};
+    symdemangle_told told[2];
+    answer.length = 0;
+    uint32_t status = symdemangle_texts((const uint8_t *)symbol, strlen(symbol), ends, 2, 99, 0, room, sizeof room, told, 2);
+    if (status == SYMDEMANGLE_OK && (told[0].status == SYMDEMANGLE_MEMORY || told[1].status == SYMDEMANGLE_MEMORY))
+        return SYMDEMANGLE_MEMORY;
+    return status;
+}
+
 static uint32_t filter(void)
 {
     return symdemangle_filter((const uint8_t *)symbol, strlen(symbol), 99, 0, room, sizeof room, &answer);
@@ -94,7 +111,7 @@ static int each_refused(const char *name, uint32_t (*call)(void))
 
 int main(void)
 {
-    int failed = each_refused("text", text) | each_refused("filter", filter) | each_refused("count", count) |
+    int failed = each_refused("text", text) | each_refused("word", word) | each_refused("texts", texts) | each_refused("filter", filter) | each_refused("count", count) |
                  each_refused("press", press) | each_refused("press, C++", press_cpp);
     puts(failed ? "FAILED" : "ok");
     return failed;

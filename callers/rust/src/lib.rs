@@ -10,6 +10,27 @@
 //! assert_eq!(symdemangle::Symbol::new("_RNvC3foo3bar").to_string(), "foo::bar");
 //! assert_eq!(symdemangle::Symbol::new("main").to_string(), "main");
 //! ```
+//!
+//! # Coming from `rustc-demangle`
+//!
+//! | `rustc_demangle` | here |
+//! |---|---|
+//! | `demangle(s)`, shown by `{}` or `{:#}` | [`Symbol::new`]`(s)`, shown by `{}` or `{:#}` |
+//! | `try_demangle(s)` | [`try_demangle`]`(s)` |
+//! | `Demangle::as_str` | [`Symbol::as_str`] |
+//! | `demangle_line(..)` | [`filter_into`] |
+//!
+//! `{:#}` leaves out hashes there, and so it does here: of v0 symbols (`_R..`) no text shows the hash of a crate, so both forms
+//! are the same; of Rust's older mangling (`_ZN..17h..E`) `{}` shows the last name, `::h` and 16 digits, and `{:#}` doesn't.
+//! What differs: C++ symbols are shown too; the older mangling's `$LT$` and `..` stay as they are, since it is read as the C++ name
+//! that it is; symbols without their underscore (`ZN..`, `R..`) aren't taken; a constant is shown without its type in both forms.
+//!
+//! ```
+//! let older = symdemangle::Symbol::new("_ZN4core5panic17h0123456789abcdefE");
+//! assert_eq!(format!("{older}"), "core::panic::h0123456789abcdef");
+//! assert_eq!(format!("{older:#}"), "core::panic");
+//! assert!(symdemangle::try_demangle("main").is_err());
+//! ```
 
 mod library;
 
@@ -34,6 +55,8 @@ pub enum Error {
     Memory,
     /// More than 16,777,216 bytes.
     TooManyBytes,
+    /// It begins as no symbol does, of [`try_demangle`].
+    NoSymbol,
 }
 
 impl fmt::Display for Error {
@@ -45,6 +68,7 @@ impl fmt::Display for Error {
             Error::TooLong => f.write_str("too long"),
             Error::Memory => f.write_str("out of memory"),
             Error::TooManyBytes => f.write_str("more than 16777216 bytes"),
+            Error::NoSymbol => f.write_str("not a symbol"),
         }
     }
 }
@@ -179,9 +203,39 @@ pub fn demangle_all<'a>(
     symbols.into_iter().map(demangle)
 }
 
-/// A symbol that shows itself within [`DEFAULT_LIMIT`]. What is refused is shown as it stands.
+/// The symbol of a word, where it has a text within [`DEFAULT_LIMIT`]: `_Z` or `_R`, or `__Z` or `__R` as on macOS.
 ///
-/// `{}` and `{:#}` are the same: a text never has the hashes that `rustc_demangle` leaves out with `{:#}`.
+/// # Errors
+///
+/// Every [`Error`]; [`Error::NoSymbol`] for a word that begins otherwise.
+pub fn try_demangle(word: &str) -> Result<Symbol<'_>, Error> {
+    let mut room = Vec::new();
+    word_into(word.as_bytes(), Detail::Full, &mut room)?;
+    Ok(Symbol::new(word))
+}
+
+/// The same, put into a room.
+fn word_into(word: &[u8], detail: Detail, room: &mut Vec<u8>) -> Result<(), Error> {
+    write_into(room, |room, answer| {
+        library::word(word, DEFAULT_LIMIT, detail, room, answer)
+    })
+}
+
+/// The hash at the end of a text, if the symbol is one of Rust's older mangling: `::h` and 16 digits, behind which its suffix may
+/// stand.
+fn hash_of(symbol: &str) -> Option<&str> {
+    const HASH: &str = "17h";
+    let name = &symbol[..symbol.find('.').unwrap_or(symbol.len())];
+    let front = name.strip_suffix('E')?;
+    let at = front.len().checked_sub(HASH.len() + 16)?;
+    let hash = front.get(at..)?.strip_prefix(HASH)?;
+    let is_digit = |b| matches!(b, b'0'..=b'9' | b'a'..=b'f');
+    hash.bytes().all(is_digit).then_some(hash)
+}
+
+/// The symbol of a word, which shows itself within [`DEFAULT_LIMIT`]. What is refused is shown as it stands.
+///
+/// `{:#}` is `{}` without the hash at the end of Rust's older mangling. Texts of v0 symbols have none.
 #[derive(Clone, Copy, Debug, PartialEq, Eq, Hash)]
 pub struct Symbol<'a> {
     symbol: &'a str,
@@ -214,9 +268,14 @@ impl<'a> Symbol<'a> {
 impl fmt::Display for Symbol<'_> {
     fn fmt(&self, f: &mut fmt::Formatter<'_>) -> fmt::Result {
         let mut room = Vec::new();
-        match demangle_into(self.symbol.as_bytes(), DEFAULT_LIMIT, self.detail, &mut room) {
-            Ok(()) => f.write_str(&String::from_utf8_lossy(&room)),
-            Err(_) => f.write_str(self.symbol),
+        if word_into(self.symbol.as_bytes(), self.detail, &mut room).is_err() {
+            return f.write_str(self.symbol);
+        }
+        let text = String::from_utf8_lossy(&room);
+        let hash = hash_of(self.symbol).filter(|_| f.alternate());
+        match hash.and_then(|hash| text.rsplit_once(&format!("::h{hash}"))) {
+            Some((name, suffix)) => write!(f, "{name}{suffix}"),
+            None => f.write_str(&text),
         }
     }
 }

@@ -41,6 +41,7 @@ impl Status {
             4 => Err(Error::TooLong),
             5 => Err(Error::Memory),
             7 => Err(Error::TooManyBytes),
+            11 => Err(Error::NoSymbol),
             other => unreachable!("status {other}"),
         }
     }
@@ -50,6 +51,15 @@ unsafe extern "C" {
     fn symdemangle_text_of(
         symbol: *const u8,
         symbol_length: usize,
+        limit: u32,
+        detail: u32,
+        room: *mut u8,
+        room_length: usize,
+        answer: *mut Answer,
+    ) -> u32;
+    fn symdemangle_word_of(
+        word: *const u8,
+        word_length: usize,
         limit: u32,
         detail: u32,
         room: *mut u8,
@@ -101,6 +111,26 @@ pub fn text(
         symdemangle_text_of(
             symbol.as_ptr(),
             symbol.len(),
+            limit,
+            number(detail),
+            room.as_mut_ptr(),
+            room.len(),
+            answer,
+        )
+    })
+}
+
+pub fn word(
+    word: &[u8],
+    limit: u32,
+    detail: Detail,
+    room: &mut [u8],
+    answer: &mut Answer,
+) -> Status {
+    Status(unsafe {
+        symdemangle_word_of(
+            word.as_ptr(),
+            word.len(),
             limit,
             number(detail),
             room.as_mut_ptr(),

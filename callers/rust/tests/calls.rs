@@ -1,6 +1,6 @@
 use symdemangle::{
     Counts, DEFAULT_LIMIT, Detail, Error, Symbol, counts, demangle, demangle_all, demangle_into,
-    filter_into, for_each_text, press_into,
+    filter_into, for_each_text, press_into, try_demangle,
 };
 
 fn answer(symbol: &str, limit: u32, detail: Detail) -> Result<String, Error> {
@@ -74,6 +74,24 @@ fn a_symbol_shows_itself() {
     assert_eq!(symbol.brief().to_string(), "<foo::A>::baz");
     assert_eq!(Symbol::new("main").to_string(), "main");
     assert_eq!(symbol.as_str(), "_RNvMC3fooINtB2_1AhE3baz");
+}
+
+#[test]
+fn as_rustc_demangle() {
+    let older = "_ZN4core9panicking5panic17h0123456789abcdefE";
+    assert_eq!(format!("{}", Symbol::new(older)), "core::panicking::panic::h0123456789abcdef");
+    assert_eq!(format!("{:#}", Symbol::new(older)), "core::panicking::panic");
+    let suffixed = format!("{older}.llvm.42");
+    assert_eq!(format!("{:#}", Symbol::new(&suffixed)), "core::panicking::panic (.llvm.42)");
+    let not_a_hash = "_ZN4core5panic17h0123456789abcdegE";
+    assert_eq!(format!("{:#}", Symbol::new(not_a_hash)), "core::panic::h0123456789abcdeg");
+    assert_eq!(format!("{:#}", Symbol::new("_ZN3fooE")), "foo");
+    assert_eq!(try_demangle("_RNvC3foo3bar").unwrap().to_string(), "foo::bar");
+    assert_eq!(try_demangle("__RNvC3foo3bar").unwrap().to_string(), "foo::bar");
+    assert_eq!(try_demangle("__Z1fv").unwrap().as_str(), "__Z1fv");
+    assert_eq!(try_demangle("main"), Err(Error::NoSymbol));
+    assert_eq!(try_demangle(""), Err(Error::NoSymbol));
+    assert_eq!(try_demangle("__Z1fQ"), Err(Error::Malformed { at: 5 }));
 }
 
 #[test]

@@ -1,0 +1,103 @@
+/* The allocator of libsymdemangle_arena.a. It defines the three functions that the library calls for memory, in the place of
+   the kit's over malloc, realloc and free: what they give out lies in the block that the thread lent (symdemangle_arena.h).
+
+   Blocks stand one behind the other, each behind a head. One that is given back makes room as soon as all behind it are given
+   back; the library gives back everything by the end of a call, so between calls the block is empty. What is given out is
+   aligned to 16 bytes, as malloc's is, overlaps with nothing that is in use, and keeps its bytes when it grows. */
+#include <stddef.h>
+#include <stdint.h>
+#include <string.h>
+
+#include "symdemangle_arena.h"
+
+/* What the library takes for an answer: whether there was room, and where; never null. */
+struct tried {
+    size_t ok;
+    void *at;
+};
+
+/* What stands in front of each block: where the one before it has its head, and whether this one was given back. */
+struct head {
+    size_t before, is_free;
+};
+
+enum { ALIGN = 16, HEAD = sizeof(struct head) };
+_Static_assert(HEAD % ALIGN == 0, "what stands behind a head is aligned");
+
+/* `used` is where the next head goes, a multiple of 16; `last` is where the last head stands, if `used` isn't 0. */
+static _Thread_local symdemangle_arena here __attribute__((tls_model("initial-exec")));
+static _Alignas(16) unsigned char nothing[ALIGN];
+
+/* The library is one object in the archive, in which these are bound and hidden. */
+struct tried rattle_alloc(size_t size, size_t align);
+struct tried rattle_realloc(void *block, size_t kept, size_t size, size_t align);
+void rattle_dealloc(void *block);
+
+void symdemangle_arena_set(void *block, size_t size)
+{
+    size_t lost = (size_t)(-(uintptr_t)block % ALIGN);
+    int some = block && size > lost;
+    here.base = some ? (unsigned char *)block + lost : 0;
+    here.size = some ? (size - lost) / ALIGN * ALIGN : 0;
+    here.used = here.last = here.most = 0;
+}
+
+void symdemangle_arena_swap(symdemangle_arena *with)
+{
+    symdemangle_arena was = here;
+    here = *with;
+    *with = was;
+}
+
+size_t symdemangle_arena_most(void)
+{
+    return here.most;
+}
+
+static struct head *head_at(size_t at)
+{
+    return (struct head *)(void *)(here.base + at);
+}
+
+/* Makes the block whose head stands at `last`, behind which nothing is in use, one of `size` bytes, where there is room. */
+static int sets_size(size_t last, size_t size)
+{
+    size_t left = here.size - last;
+    if (left < HEAD || size > left - HEAD)
+        return 0;
+    here.used = last + HEAD + (size + ALIGN - 1) / ALIGN * ALIGN;
+    if (here.used > here.most)
+        here.most = here.used;
+    return 1;
+}
+
+struct tried rattle_alloc(size_t size, size_t align)
+{
+    size_t at = here.used;
+    if (align > ALIGN || !sets_size(at, size))
+        return (struct tried){0, nothing};
+    *head_at(at) = (struct head){here.last, 0};
+    here.last = at;
+    return (struct tried){1, here.base + at + HEAD};
+}
+
+void rattle_dealloc(void *block)
+{
+    ((struct head *)block)[-1].is_free = 1;
+    while (here.used && head_at(here.last)->is_free) {
+        here.used = here.last;
+        here.last = here.used ? head_at(here.last)->before : 0;
+    }
+}
+
+struct tried rattle_realloc(void *block, size_t kept, size_t size, size_t align)
+{
+    if ((unsigned char *)block == here.base + here.last + HEAD)
+        return sets_size(here.last, size) ? (struct tried){1, block} : (struct tried){0, nothing};
+    struct tried more = rattle_alloc(size, align);
+    if (more.ok) {
+        memcpy(more.at, block, kept < size ? kept : size);
+        rattle_dealloc(block);
+    }
+    return more;
+}

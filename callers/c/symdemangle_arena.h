@@ -1,0 +1,51 @@
+/* With libsymdemangle_arena.a in the place of libsymdemangle.a: the calls of symdemangle.h take their memory from a block that
+   the caller lends, and call no malloc, no system call and no lock. So they may run in a signal handler, for crash reporters,
+   and in the forked child of a process that has threads.
+
+   - Each thread lends its own block, with symdemangle_arena_set. Where none is lent, or what a call needs has no room in it, the
+     call answers SYMDEMANGLE_MEMORY as it does where malloc refuses: nothing else happens, and the room stays as it is.
+   - A call gives back all that it takes, so the block is empty again behind it and serves the next call.
+   - A handler that may interrupt a call of its thread swaps a block of its own in, and back at its end:
+
+         symdemangle_arena mine = {0, 0, 0, 0, 0};
+         symdemangle_arena_swap(&mine);
+         symdemangle_arena_set(block, sizeof block);
+         ...
+         symdemangle_arena_swap(&mine);
+
+   - The library is linked statically into a program, or into a shared object that is loaded when the program starts: the
+     thread's block stands where a handler finds it without a call of the loader.
+
+   How much: @FIGURES@
+
+   symdemangle_filter and symdemangle_texts keep the texts of all symbols in the block too. The library itself is proved; that
+   what it takes from the block is given out rightly is tested, not proved, as that of malloc isn't. */
+#ifndef SYMDEMANGLE_ARENA_H
+#define SYMDEMANGLE_ARENA_H
+
+#include <stddef.h>
+
+#ifdef __cplusplus
+extern "C" {
+#endif
+
+/* A block, and what of it is in use. */
+typedef struct {
+    unsigned char *base;
+    size_t size, used, most, last;
+} symdemangle_arena;
+
+/* From here on the calls of this thread take their memory from these bytes, which nobody else touches; with null or 0 bytes
+   each answers SYMDEMANGLE_MEMORY. */
+void symdemangle_arena_set(void *block, size_t size);
+
+/* Swaps this thread's block, and what is in use of it, with another. */
+void symdemangle_arena_swap(symdemangle_arena *with);
+
+/* The most bytes that were in use since the block was set: what a call needed. */
+size_t symdemangle_arena_most(void);
+
+#ifdef __cplusplus
+}
+#endif
+#endif

@@ -1,0 +1,211 @@
+/* Calls in the handler of a fault, on an alternate stack, of a program whose malloc aborts; then with blocks that are too small.
+   It prints the texts of the symbols, and says on standard error what they took of the block. Compiled with -DUSUAL it makes
+   the same calls over the usual library, without any of this, so that both can be compared.
+
+     arena FILE [SIZE]     the symbols of a file, one a line; a block of SIZE bytes (128 KiB) */
+#include "symdemangle.h"
+#ifndef USUAL
+#include "symdemangle_arena.h"
+#endif
+
+#include <signal.h>
+#include <stdio.h>
+#include <stdlib.h>
+#include <string.h>
+#include <unistd.h>
+
+enum { SYMBOLS = 300000, EDGE = 64, STACK = 16 << 10 };
+
+static int armed;
+static uint8_t block[(4 << 20) + 2 * EDGE], room[1 << 20], stack[STACK];
+static const uint8_t *symbols[SYMBOLS];
+static size_t lengths[SYMBOLS], most[SYMBOLS], count, size = 128 << 10;
+static unsigned statuses[12];
+static uint8_t *out;
+static size_t written;
+
+extern void *__libc_malloc(size_t);
+extern void *__libc_calloc(size_t, size_t);
+extern void *__libc_realloc(void *, size_t);
+extern void __libc_free(void *);
+
+#ifndef USUAL
+static void is_allowed(void)
+{
+    if (armed)
+        abort();
+}
+void *malloc(size_t bytes) { return is_allowed(), __libc_malloc(bytes); }
+void *calloc(size_t n, size_t bytes) { return is_allowed(), __libc_calloc(n, bytes); }
+void *realloc(void *old, size_t bytes) { return is_allowed(), __libc_realloc(old, bytes); }
+void free(void *old) { is_allowed(), __libc_free(old); }
+#endif
+
+static void lend(size_t bytes)
+{
+#ifdef USUAL
+    (void)bytes;
+#else
+    symdemangle_arena_set(block + EDGE, bytes);
+#endif
+}
+
+static size_t taken(void)
+{
+#ifdef USUAL
+    return 0;
+#else
+    return symdemangle_arena_most();
+#endif
+}
+
+static void fail(const char *why)
+{
+    fprintf(stderr, "%s\n", why);
+    _exit(1);
+}
+
+static void each_text(void)
+{
+    symdemangle_answer answer;
+    for (size_t i = 0; i < count; i++) {
+        lend(size);
+        uint32_t status = symdemangle_text(symbols[i], lengths[i], 1000000, SYMDEMANGLE_FULL, room, sizeof room, &answer);
+        statuses[status]++;
+        most[i] = taken();
+        memcpy(out + written, room, answer.length);
+        written += answer.length;
+        out[written++] = '\n';
+    }
+}
+
+/* The calls of the header in a block of each size: all that happens for want of room is status 5. */
+static uint32_t one_call(int call, symdemangle_answer *answer)
+{
+    static const char symbol[] = "_ZN3foo3barEN3foo3bazEPNS_1AIiEE", log[] = "at _Z1fv. (_RNvC3foo3bar)";
+    static const size_t ends[] = {5, 18};
+    static const char both[] = "_Z1fv_RNvC3foo3bar";
+    static symdemangle_counts counts;
+    static symdemangle_told told[2];
+    const uint8_t *s = (const uint8_t *)symbol;
+    size_t length = sizeof symbol - 1;
+    switch (call) {
+    case 0: return symdemangle_text(s, length, 99, 0, room, sizeof room, answer);
+    case 1: return symdemangle_word(s, length, 99, 0, room, sizeof room, answer);
+    case 2: return symdemangle_filter((const uint8_t *)log, sizeof log - 1, 99, 0, room, sizeof room, answer);
+    case 3: return symdemangle_press(s, length, room, sizeof room, answer);
+    case 4: return symdemangle_count(s, length, &counts, answer);
+    default:
+        answer->length = 0;
+        if (symdemangle_texts((const uint8_t *)both, sizeof both - 1, ends, 2, 99, 0, room, sizeof room, told, 2))
+            return 99;
+        return told[0].status ? told[0].status : told[1].status;
+    }
+}
+
+#ifndef USUAL
+static void small_blocks(void)
+{
+    for (int call = 0; call < 6; call++) {
+        unsigned refused = 0, answered = 0;
+        for (size_t bytes = 0; bytes < 100000; bytes += bytes < 4096 ? 8 : 512) {
+            symdemangle_answer answer = {7, 7};
+            memset(block, 0xA5, sizeof block);
+            memset(room, '#', 200);
+            lend(bytes);
+            uint32_t status = one_call(call, &answer);
+            if (status == SYMDEMANGLE_MEMORY) {
+                refused++;
+                if ((call < 5 && room[0] != '#') || answer.length)
+                    fail("a call without memory wrote");
+                if (answered)
+                    fail("a larger block was refused");
+            } else if (status == SYMDEMANGLE_OK)
+                answered++;
+            else
+                fail("another status than 0 or 5");
+            if (taken() > bytes)
+                fail("more was taken than lent");
+            for (size_t i = 0; i < sizeof block; i++)
+                if ((i < EDGE || i >= EDGE + bytes) && block[i] != 0xA5)
+                    fail("bytes that weren't lent were written");
+        }
+        if (!refused || !answered)
+            fail("a call was never refused, or always");
+        lend(0);
+        symdemangle_answer answer;
+        if (one_call(call, &answer) != SYMDEMANGLE_MEMORY)
+            fail("a call without a block");
+    }
+}
+#endif
+
+static int by_size(const void *a, const void *b)
+{
+    size_t x = *(const size_t *)a, y = *(const size_t *)b;
+    return (x > y) - (x < y);
+}
+
+static void finish(void)
+{
+    size_t deep = 0, least = 0;
+    while (deep < sizeof stack && stack[deep] == 0xA5)
+        deep++;
+    for (size_t i = 0; i < count; i++)
+        if (most[i] > most[least])
+            least = i;
+    size_t longest = count ? lengths[least] : 0;
+    qsort(most, count, sizeof *most, by_size);
+    if (count)
+        fprintf(stderr,
+                "%zu symbols in %zu bytes: %u texts, %u refused, %u too long, %u without memory; median %zu, 90 %% %zu, "
+                "99 %% %zu, 99.9 %% %zu, most %zu (a symbol of %zu); stack %zu\n",
+                count, size, statuses[0], statuses[1] + statuses[2] + statuses[3], statuses[4], statuses[5], most[count / 2],
+                most[count * 9 / 10], most[count * 99 / 100], most[count * 999 / 1000], most[count - 1], longest,
+                sizeof stack - deep);
+    fwrite(out, 1, written, stdout);
+    fflush(stdout);
+    _exit(0);
+}
+
+static void on_fault(int signal)
+{
+    (void)signal;
+    each_text();
+#ifndef USUAL
+    small_blocks();
+#endif
+    armed = 0;
+    finish();
+}
+
+int main(int words, char **word)
+{
+    static uint8_t all[64 << 20];
+    FILE *file = words > 1 ? fopen(word[1], "rb") : NULL;
+    if (!file)
+        fail("usage: arena FILE [SIZE]");
+    size_t bytes = fread(all, 1, sizeof all, file);
+    for (size_t i = 0, start = 0; i < bytes && count < SYMBOLS; i++)
+        if (all[i] == '\n') {
+            symbols[count] = all + start;
+            lengths[count++] = i - start;
+            start = i + 1;
+        }
+    if (words > 2)
+        size = strtoul(word[2], NULL, 10);
+    out = malloc((size_t)256 << 20);
+    if (!out || size > sizeof block - 2 * EDGE)
+        fail("no room");
+#ifdef USUAL
+    on_fault(0);
+#else
+    memset(stack, 0xA5, sizeof stack);
+    stack_t alternate = {.ss_sp = stack, .ss_size = sizeof stack};
+    sigaltstack(&alternate, NULL);
+    struct sigaction action = {.sa_handler = on_fault, .sa_flags = SA_ONSTACK};
+    sigaction(SIGSEGV, &action, NULL);
+    armed = 1;
+    *(volatile int *)0 = 1;
+#endif
+}

@@ -1,0 +1,64 @@
+/* Calls from the handler of a timer, in a block of its own, in the middle of the main program's calls: their answers are the same
+   as without the timer. It prints a sum over all of them: interrupted FILE [TICKS]. */
+#include "symdemangle.h"
+#include "symdemangle_arena.h"
+
+#include <signal.h>
+#include <stdio.h>
+#include <string.h>
+#include <sys/time.h>
+
+enum { SYMBOLS = 30000 };
+
+static uint8_t all[16 << 20], room[1 << 16], other_room[1 << 16];
+static unsigned char block[1 << 17], other_block[1 << 17];
+static size_t starts[SYMBOLS + 1], count, next;
+static volatile unsigned long ticks;
+static volatile int wrong;
+
+static uint32_t text_of(size_t i, uint8_t *into, size_t length, symdemangle_answer *answer)
+{
+    return symdemangle_text(all + starts[i], starts[i + 1] - starts[i] - 1, 1000000, SYMDEMANGLE_FULL, into, length, answer);
+}
+
+static void on_tick(int signal)
+{
+    symdemangle_answer answer;
+    symdemangle_arena mine = {0, 0, 0, 0, 0};
+    (void)signal;
+    symdemangle_arena_swap(&mine);
+    symdemangle_arena_set(other_block, sizeof other_block);
+    if (text_of(next++ % count, other_room, sizeof other_room, &answer) == SYMDEMANGLE_MEMORY)
+        wrong = 1;
+    ticks++;
+    symdemangle_arena_swap(&mine);
+}
+
+int main(int words, char **word)
+{
+    FILE *file = words > 1 ? fopen(word[1], "rb") : NULL;
+    size_t bytes = file ? fread(all, 1, sizeof all, file) : 0;
+    for (size_t i = 0; i < bytes && count < SYMBOLS; i++)
+        if (all[i] == '\n')
+            starts[++count] = i + 1;
+    if (!count)
+        return 2;
+    if (words > 2) {
+        struct sigaction action = {.sa_handler = on_tick, .sa_flags = SA_RESTART};
+        struct itimerval each = {{0, 50}, {0, 50}};
+        sigaction(SIGALRM, &action, NULL);
+        setitimer(ITIMER_REAL, &each, NULL);
+    }
+    unsigned long sum = 0;
+    symdemangle_answer answer;
+    symdemangle_arena_set(block, sizeof block);
+    for (size_t done = 0; done < 40000; done++) {
+        uint32_t status = text_of(done % count, room, sizeof room, &answer);
+        sum = sum * 31 + status;
+        for (size_t j = 0; j < answer.length && !status; j++)
+            sum = sum * 31 + room[j];
+    }
+    printf("%lx\n", sum);
+    fprintf(stderr, "%lu calls from the handler\n", ticks);
+    return wrong || (words > 2 && ticks < 10);
+}

@@ -1,0 +1,65 @@
+#!/bin/bash
+# Installs everything under a folder of its own, tries what is there, and removes it again; then makes the release twice and
+# compares, and unpacks both packages: tests/packages.sh. It needs a committed, proved tree, as tools/release.sh does, and dpkg.
+set -euo pipefail
+cd "$(dirname "$0")/.."
+work=$(mktemp -d)
+trap 'rm -rf "$work"' EXIT
+
+fail() {
+    echo "$*"
+    exit 1
+}
+
+# One version in every place that tells one.
+version=$(sed -n 's/^#define SYMDEMANGLE_VERSION_[A-Z]* \([0-9]*\)$/\1/p' callers/c/symdemangle.h | paste -sd .)
+grep -q "^version = \"$version\"$" callers/rust/Cargo.toml || fail "callers/rust/Cargo.toml isn't of version $version"
+grep -q "^\.TH SYMFILT 1 [0-9-]* \"symfilt $version\"" docs/symfilt.1 || fail "docs/symfilt.1 isn't of version $version"
+grep -q "^SYMDEMANGLE_${version%.*} {$" callers/archive/names.map || fail "callers/archive/names.map isn't of version $version"
+[ "$(sed -n 's/^## \([0-9.]*\).*/\1/p' CHANGELOG.md | head -n 1)" = "$version" ] || fail "CHANGELOG.md begins with another version than $version"
+! command -v mandoc >/dev/null || [ -z "$(mandoc -T lint docs/symfilt.1 | tee /dev/stderr)" ] || fail 'docs/symfilt.1'
+
+# Installed into a package's folder, then removed: what was there before stays, and nothing else.
+root=$work/root
+mkdir -p "$root/opt/it/lib64" && touch "$root/opt/it/lib64/other"
+DESTDIR=$root PREFIX=/opt/it LIBDIR=lib64 tools/install.sh
+[ "$(echo 'at _RNvC3foo3bar' | "$root/opt/it/bin/symfilt")" = 'at foo::bar' ] || fail 'the installed program'
+for file in bin/symfilt include/symdemangle.h lib64/libsymdemangle.a lib64/libsymdemangle.so lib64/pkgconfig/symdemangle.pc \
+    lib64/cmake/symdemangle/symdemangleConfig.cmake share/man/man1/symfilt.1 share/doc/symfilt/LICENSE-MIT \
+    share/doc/symfilt/LICENSE-APACHE share/doc/symfilt/docs/GRAMMARS.md share/symdemangle/rust/Cargo.toml; do
+    [ -s "$root/opt/it/$file" ] || fail "$file wasn't installed"
+done
+! grep -rqF "$work" "$root" || fail 'an installed file names the folder that it was built in'
+DESTDIR=$root PREFIX=/opt/it LIBDIR=lib64 tools/install.sh --uninstall
+left=$(cd "$root/opt/it" && find . -not -type d)
+[ "$left" = ./lib64/other ] || fail "left behind: $left"
+for wrong in '--what' 'relative'; do
+    if tools/install.sh "$wrong" 2>/dev/null; then fail "tools/install.sh takes $wrong"; fi
+done
+
+# The release, twice, at different times and from different folders.
+tools/release.sh "$work/one" >/dev/null
+sleep 1
+(umask 077 && TZ=Asia/Tokyo tools/release.sh "$work/another/one" >/dev/null)
+diff -r "$work/one" "$work/another/one" || fail 'the release has other bytes the second time'
+(cd "$work/one" && sha256sum --quiet -c SHA256SUMS)
+mkdir "$work/tar" && tar -C "$work/tar" --strip-components=1 -xzf "$work"/one/*.tar.gz
+dpkg-deb -x "$work"/one/*.deb "$work/deb"
+for program in "$work/tar/bin/symfilt" "$work/deb/usr/bin/symfilt"; do
+    [ "$("$program" _Z1fv)" = 'f()' ] || fail "$program"
+done
+for lib in "$work/tar/lib" "$work/deb/usr/lib/x86_64-linux-gnu"; do
+    cc -std=c99 -I callers/c callers/c/calls.c "$lib/libsymdemangle.a" -o "$work/calls"
+    "$work/calls" >/dev/null
+done
+dpkg-deb -I "$work"/one/*.deb | sed -n 's/^ \(Package\|Version\|Depends\)/\1/p'
+if command -v lintian >/dev/null; then
+    lintian --fail-on error --suppress-tags no-maintainer-address,malformed-maintainer-field,bogus-mail-host "$work"/one/*.deb || fail 'lintian finds errors'
+fi
+
+# What isn't committed isn't released.
+touch docs/not-committed
+if tools/release.sh "$work/two" 2>"$work/err"; then rm docs/not-committed; fail 'a changed tree was released'; fi
+rm docs/not-committed
+grep -q "isn't what was committed" "$work/err" || fail "release.sh refused, but said: $(cat "$work/err")"
+echo ok
