@@ -39,7 +39,7 @@ abbrev pub table_of : ReadSymbol → Table
 table_of y = over y.bytes y.table
 
 -- What holds of each symbol that was read: its nodes are a table, the root is the node of the whole, in which each free parameter
--- carries its argument, and each count is within its bound.
+-- carries its argument, what thunks adjust is listed at most once a node, and each count is within its bound.
 pub record IsRead (y : ReadSymbol) : Type 0 where
   pub table : IsTable (table_of y)
   pub root : y.root < length y.table.nodes
@@ -48,6 +48,7 @@ pub record IsRead (y : ReadSymbol) : Type 0 where
   pub fits : length y.bytes ≤ MOST_BYTES
   pub rows : y.rows ≤ 4 * length y.bytes + 4
   pub nodes : length y.table.nodes ≤ 2 * length y.bytes + 8
+  pub thunks : length y.table.thunks ≤ length y.table.nodes
   pub steps : y.steps ≤ 32 * length y.bytes + 48
   pub counted : y.rows ≤ y.steps
 

@@ -71,6 +71,7 @@ impl Symbol {
         ensures rows_bound { result.rows ≤ 4 * length self.now.bytes + 4 }
         ensures nodes_bound { result.nodes ≤ 2 * length self.now.bytes + 8 }
         ensures steps_bound { result.steps ≤ 32 * length self.now.bytes + 48 }
+        ensures thunks_bound { length self.now.table.thunks ≤ result.nodes }
         ensures counted { result.rows ≤ result.steps }
         ensures is_read { IsRead self.now }
     {

@@ -13,12 +13,12 @@ pub fn pressed_is_read()
     ensures { PressedIsRead }
 {}
 
-/// What a pressed spelling is read as is pressed to the same bytes.
+/// What a pressed spelling is read as is pressed to the same bytes, where it has at most 2^64 - 1.
 pub fn pressed_once()
     ensures { PressedOnce }
 {}
 
-/// What symbols with the same pressed bytes are read as is the same.
+/// What symbols with the same pressed bytes are read as is the same, where these are at most 2^64 - 1.
 pub fn pressed_tells_apart()
     ensures { PressedTellsApart }
 {}

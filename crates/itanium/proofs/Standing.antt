@@ -56,6 +56,7 @@ pub record HasWhole (s : List ℕ) (shape : Tree) (linked : Linked) (parts : Lis
   pub stands : unfold_cpp shape ≡ Ok (erase (symbol encoding suffix))
   pub table : IsTable (over s linked.nodes)
   pub nodes : length linked.nodes.nodes ≤ 2 * length s + 8
+  pub thunks : length linked.nodes.thunks ≤ length linked.nodes.nodes
 
 value_first : Value → List Value → Value
 value_first other [] = other
@@ -79,6 +80,7 @@ has_whole s rows shape linked parts done read =
       stands = read.plain;
       table = done.holds.table;
       nodes = omega (arith, done.size, done.paid.begun);
+      thunks = done.paid.thunks;
     }
 
 -- ## The symbol
@@ -111,6 +113,7 @@ reads s shape linked parts w node rows steps listed is fits few each all =
       fits = fits;
       rows = few;
       nodes = w.nodes;
+      thunks = w.thunks;
       steps = all;
       counted = each;
     }

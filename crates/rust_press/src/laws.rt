@@ -8,7 +8,7 @@ pub fn pressed_is_read()
     ensures { PressedIsRead }
 {}
 
-/// What a pressed spelling is read as is pressed to the same bytes.
+/// What a pressed spelling is read as is pressed to the same bytes, where it has at most 2^64 - 1.
 pub fn pressed_once()
     ensures { PressedOnce }
 {}
