@@ -1,4 +1,4 @@
-use Rattle.std.proofs.Common.{◌≡◌, ◌<◌, length, [], ◌∷◌, None, ap, arith, sym, subst, ◌∙◌, length-append, refl}
+use Rattle.std.proofs.Common.{◌≡◌, ◌<◌, length, [], ◌∷◌, ap, arith, sym, subst, ◌∙◌, length-append}
 use Rattle.std.specs.BTreeMap.{get, is_at}
 use Rattle.std.specs.Map.{lookup}
 use Rattle.sym_spell.specs.Numbers.{AreBelow, AreNumbered, number_at}
