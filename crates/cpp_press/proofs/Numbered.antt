@@ -1,18 +1,20 @@
 -- Keys of nodes, and what a map of them is behind one more.
-use Rattle.std.proofs.Common.{◌≡◌, ℕ, zero, suc, ◌+◌, ◌<◌, ◌⊎◌, inl, inr, length, List, [], ◌∷◌, ◌++◌, slice_get, get_or, Option, Some, None, Bool, true, refl, ap, arith, sym, subst, ◌∙◌, length-append}
-use Rattle.std.specs.Prelude.{map, ◌&&◌}
-use Rattle.std.proofs.Math.Dec.{eqb}
-use lib.Pointwise.{pointwise}
-use Rattle.std.proofs.lemmas.Bool.{eqb-true, eq-eqb}
+use Rattle.std.proofs.Common.{◌≡◌, ℕ, zero, suc, ◌+◌, ◌<◌, length, List, [], ◌∷◌, ◌++◌, get_or, Option, Some, None, Bool, true, refl, ap, arith, sym, subst, ◌∙◌, length-append, Ordering}
+use Rattle.std.specs.Prelude.{map}
+use Rattle.std.specs.BTreeMap.{BTreeMap, get}
+use Rattle.std.specs.Cmp.Lexicographic.{slice_cmp}
+use Rattle.std.specs.Ordering.{nat_cmp, ordering_then, is_eq}
 use Rattle.sym_core.specs.declared.Span.{Span}
 use Rattle.cpp_grammar.specs.Term.{Term}
 use Rattle.cpp_layout.specs.Layout.{ReadSymbol}
 use Rattle.cpp_press.specs.declared.numbering.Key.{Key}
 use Rattle.cpp_press.specs.Tasks.{plain_at}
 use Rattle.cpp_press.specs.Fields.{Fields, fields_of, tree_of_fields, slot, IsSlotBelow, AreSlotsBelow}
-use Rattle.cpp_press.specs.Numbers.{AreBelow, IsKeyOf, IsPartNumber, IsFilled, part_number}
-use Rattle.sym_spell.proofs.Entering.{last-or, old-number, new-number, IsTest, one-place, Enters}
-use Rattle.sym_spell.proofs.Tests.{both, all, same-list, list-itself}
+use Rattle.cpp_press.specs.Numbers.{IsKeyOf, IsPartNumber, part_number}
+use Rattle.sym_spell.specs.Numbers.{TellApart}
+use Rattle.sym_spell.proofs.Entering.{old-number}
+use Rattle.sym_spell.proofs.FirstOnes.{AreKeys, IsLookUp}
+use Rattle.sym_spell.proofs.Orders.{equal-is, first-tied, then-tied, number-tied, number-itself, list-tied, list-itself, same-look}
 
 -- ## Four texts and three parts
 
@@ -42,21 +44,6 @@ pub part-is : (y : ReadSymbol) (ns : List ℕ) (part : Option ℕ) (m : ℕ) →
 part-is y ns None m low is = is
 part-is y ns (Some p) m low is = (p, low, refl, is)
 
--- ## Lists
-
-stored-below : {A : Type 0} (ks : List A) (m : ℕ) (k : A) → slice_get ks m ≡ Some k → m < length ks
-stored-below [] m k is = none-some is
-  where
-    none-some : None ≡ Some k → m < 0
-    none-some bad = cc
-stored-below (x ∷ ks) zero k is = omega arith
-stored-below (x ∷ ks) (suc m) k is = omega (arith, stored-below ks m k is)
-
-pub numbers-below : (y : ReadSymbol) (ns : List ℕ) (ks : List Key) → IsFilled y ns ks → AreBelow ns
-numbers-below y ns ks f i low =
-    let found = f.each i low in
-    omega (arith, stored-below ks (get_or ns i 0) found.0 found.1, f.few)
-
 -- ## Keys
 
 -- keys that the map takes for one
@@ -70,32 +57,6 @@ pub record AreOne (a b : Key) : Type 0 where
   pub first_part : a.first_part ≡ b.first_part
   pub second_part : a.second_part ≡ b.second_part
   pub third_part : a.third_part ≡ b.third_part
-
-one-turned : (a b : Key) → AreOne a b → AreOne b a
-one-turned a b h = record {
-  production = sym h.production;
-  own_numbers = sym h.own_numbers;
-  first_text = sym h.first_text;
-  second_text = sym h.second_text;
-  third_text = sym h.third_text;
-  fourth_text = sym h.fourth_text;
-  first_part = sym h.first_part;
-  second_part = sym h.second_part;
-  third_part = sym h.third_part;
-}
-
-one-on : (a b c : Key) → AreOne a b → AreOne b c → AreOne a c
-one-on a b c h k = record {
-  production = h.production ∙ k.production;
-  own_numbers = h.own_numbers ∙ k.own_numbers;
-  first_text = h.first_text ∙ k.first_text;
-  second_text = h.second_text ∙ k.second_text;
-  third_text = h.third_text ∙ k.third_text;
-  fourth_text = h.fourth_text ∙ k.fourth_text;
-  first_part = h.first_part ∙ k.first_part;
-  second_part = h.second_part ∙ k.second_part;
-  third_part = h.third_part ∙ k.third_part;
-}
 
 -- ## Keys and fields
 
@@ -135,13 +96,8 @@ taken-over y ns a b given h same = record {
   third = subst (IsPartNumber y ns h.three) same.third_part h.third;
 }
 
--- the numbers so far
-record AreGood (y : ReadSymbol) (ns : List ℕ) : Type 0 where
-  same : (i j : ℕ) → i < length ns → j < length ns → get_or ns i 0 ≡ get_or ns j 0 → plain_at y i ≡ plain_at y j
-  equal : (i j : ℕ) → i < length ns → j < length ns → plain_at y i ≡ plain_at y j → get_or ns i 0 ≡ get_or ns j 0
-
 -- equal part numbers are of equal parts
-one-part : (y : ReadSymbol) (ns : List ℕ) (a b : Option Term) (m n : ℕ) → AreGood y ns → IsPartNumber y ns a m → IsPartNumber y ns b n → m ≡ n → a ≡ b
+one-part : (y : ReadSymbol) (ns : List ℕ) (a b : Option Term) (m n : ℕ) → TellApart (plain_at y) ns → IsPartNumber y ns a m → IsPartNumber y ns b n → m ≡ n → a ≡ b
 one-part y ns None None m n good h k is = refl
 one-part y ns None (Some u) m n good h (q, low, at, number) is = absurd (omega (arith, h, number, is))
 one-part y ns (Some t) None m n good (p, low, at, number) k is = absurd (omega (arith, k, number, is))
@@ -149,7 +105,7 @@ one-part y ns (Some t) (Some u) m n good (p, low, at, number) (q, other, there, 
     ap Some (sym at ∙ good.same p q low other (omega (arith, number, also, is)) ∙ there)
 
 -- equal parts have equal numbers
-part-one : (y : ReadSymbol) (ns : List ℕ) (a b : Option Term) (m n : ℕ) → AreGood y ns → IsPartNumber y ns a m → IsPartNumber y ns b n → a ≡ b → m ≡ n
+part-one : (y : ReadSymbol) (ns : List ℕ) (a b : Option Term) (m n : ℕ) → TellApart (plain_at y) ns → IsPartNumber y ns a m → IsPartNumber y ns b n → a ≡ b → m ≡ n
 part-one y ns None None m n good h k is = h ∙ sym k
 part-one y ns None (Some u) m n good h k is = cc
 part-one y ns (Some t) None m n good h k is = cc
@@ -167,7 +123,7 @@ fields-equal a b one two three four = go a.production b.production a.numbers b.n
     go p q ns ms ts us xs ys one two three four = rw (one, two, three, four) refl
 
 -- equal keys have equal fields
-one-fields : (y : ReadSymbol) (ns : List ℕ) (a b : Key) (one other : Fields) → AreGood y ns → IsKeyOf y ns one a → IsKeyOf y ns other b → AreOne a b → one ≡ other
+one-fields : (y : ReadSymbol) (ns : List ℕ) (a b : Key) (one other : Fields) → TellApart (plain_at y) ns → IsKeyOf y ns one a → IsKeyOf y ns other b → AreOne a b → one ≡ other
 one-fields y ns a b one other good h k same =
     fields-equal one other
     (sym h.production ∙ same.production ∙ k.production)
@@ -180,7 +136,7 @@ one-fields y ns a b one other good h k same =
     ) refl ∙ sym k.parts)
 
 -- equal fields have equal keys
-fields-one : (y : ReadSymbol) (ns : List ℕ) (a b : Key) (given : Fields) → AreGood y ns → IsKeyOf y ns given a → IsKeyOf y ns given b → AreOne a b
+fields-one : (y : ReadSymbol) (ns : List ℕ) (a b : Key) (given : Fields) → TellApart (plain_at y) ns → IsKeyOf y ns given a → IsKeyOf y ns given b → AreOne a b
 fields-one y ns a b given good h k = record {
   production = h.production ∙ sym k.production;
   own_numbers = h.own_numbers ∙ sym k.own_numbers;
@@ -199,123 +155,87 @@ fields-one y ns a b given good h k = record {
     threes : {A : Type 0} {x z v p q r : A} → x ∷ z ∷ v ∷ [] ≡ p ∷ q ∷ r ∷ [] → (x ≡ p) × (z ≡ q) × (v ≡ r)
     threes e = (cc, cc, cc)
 
--- ## One node more
+-- ## Keys of nodes
 
-pub filled-more : (eq : Key → Key → Bool) → IsTest AreOne eq → (y : ReadSymbol) (ns : List ℕ) (ks new : List Key) (key : Key) (n : ℕ)
-    → ((i : ℕ) → i < length y.table.nodes → tree_of_fields (fields_of (plain_at y i)) ≡ plain_at y i)
-    → IsFilled y ns ks → length ns < length y.table.nodes → IsKeyOf y ns (fields_of (plain_at y (length ns))) key → Enters AreOne eq ks new key n
-    → IsFilled y (ns ++ n ∷ []) new
-filled-more eq test y ns ks new key n back f room own e = record {
-  same = same;
-  equal = equal;
-  each = each;
-  few = omega (arith, f.few, e.size, e.low, length-append ns (n ∷ []));
+abbrev pub IsKey : ReadSymbol → List ℕ → ℕ → Key → Type 0
+IsKey y ns i key = IsKeyOf y ns (fields_of (plain_at y i)) key
+
+one-itself : (a : Key) → AreOne a a
+one-itself a = record {
+  production = refl;
+  own_numbers = refl;
+  first_text = refl;
+  second_text = refl;
+  third_text = refl;
+  fourth_text = refl;
+  first_part = refl;
+  second_part = refl;
+  third_part = refl;
 }
-  where
-    k : ℕ
-    k = length ns
 
-    good : AreGood y ns
-    good = record { same = f.same; equal = f.equal }
+pub are-keys : (y : ReadSymbol) → ((i : ℕ) → i < length y.table.nodes → tree_of_fields (fields_of (plain_at y i)) ≡ plain_at y i)
+    → AreKeys AreOne (plain_at y) (length y.table.nodes) (IsKey y)
+are-keys y back = record {
+  grown = λ ns n i a h. key-grown y ns n (fields_of (plain_at y i)) a h;
+  one = λ ns i j a b low other so h k same.
+      sym (back i low) ∙ ap tree_of_fields (one-fields y ns a b (fields_of (plain_at y i)) (fields_of (plain_at y j)) so h k same) ∙ back j other;
+  alike = λ ns i j a b so is h k. fields-one y ns a b (fields_of (plain_at y j)) so (subst (λ t. IsKeyOf y ns (fields_of t) a) is h) k;
+  taken = λ ns i a b h same. taken-over y ns a b (fields_of (plain_at y i)) h same;
+  itself = one-itself;
+}
 
-    bound : (i : ℕ) → i < length (ns ++ n ∷ []) → (i < k) ⊎ (i ≡ k)
-    bound i low = last-or i k (omega (arith, low, length-append ns (n ∷ [])))
+-- ## The order of keys that is derived
 
-    -- an earlier node has the new number exactly if it has the new tree
-    tree-same : (i : ℕ) → i < k → get_or ns i 0 ≡ n → plain_at y i ≡ plain_at y k
-    tree-same i low is =
-        let found = f.each i low in
-        let there : slice_get new n ≡ Some found.0 = subst (λ m. slice_get new m ≡ Some found.0) is (e.old (get_or ns i 0) found.0 found.1) in
-        let one : AreOne found.0 key = one-turned key found.0 (subst (λ x. AreOne key x) (some-one (sym e.stored.1 ∙ there)) e.stored.2) in
-        sym (back i (omega (arith, low, room)))
-        ∙ ap tree_of_fields (one-fields y ns found.0 key (fields_of (plain_at y i)) (fields_of (plain_at y k)) good found.2 own one)
-        ∙ back k room
-      where
-        some-one : {a b : Key} → Some a ≡ Some b → a ≡ b
-        some-one h = cc
+abbrev pub key_cmp : Key → Key → Ordering
+key_cmp a b =
+    ordering_then (nat_cmp a.production b.production) (ordering_then (nat_cmp a.first_part b.first_part)
+    (ordering_then (nat_cmp a.second_part b.second_part) (ordering_then (nat_cmp a.third_part b.third_part)
+    (ordering_then (slice_cmp nat_cmp a.numbers b.numbers) (ordering_then (slice_cmp nat_cmp a.first_text.now b.first_text.now)
+    (ordering_then (slice_cmp nat_cmp a.second_text.now b.second_text.now) (ordering_then (slice_cmp nat_cmp a.third_text.now b.third_text.now)
+    (slice_cmp nat_cmp a.fourth_text.now b.fourth_text.now))))))))
 
-    number-same : (i : ℕ) → i < k → plain_at y i ≡ plain_at y k → get_or ns i 0 ≡ n
-    number-same i low is =
-        let found = f.each i low in
-        let one : AreOne found.0 key = fields-one y ns found.0 key (fields_of (plain_at y k)) good (subst (λ t. IsKeyOf y ns (fields_of t) found.0) is found.2) own in
-        one-place AreOne eq test new (get_or ns i 0) n found.0 e.stored.0 e.distinct (e.old (get_or ns i 0) found.0 found.1) e.stored.1 (one-on found.0 key e.stored.0 one e.stored.2)
+abbrev pub test : Key → Key → Bool
+test a b = is_eq (key_cmp a b)
 
-    same : (i j : ℕ) → i < length (ns ++ n ∷ []) → j < length (ns ++ n ∷ []) → get_or (ns ++ n ∷ []) i 0 ≡ get_or (ns ++ n ∷ []) j 0 → plain_at y i ≡ plain_at y j
-    same i j low other is = go (bound i low) (bound j other)
-      where
-        go : (i < k) ⊎ (i ≡ k) → (j < k) ⊎ (j ≡ k) → plain_at y i ≡ plain_at y j
-        go (inl a) (inl b) = f.same i j a b (sym (old-number ns n i a) ∙ is ∙ old-number ns n j b)
-        go (inl a) (inr b) = tree-same i a (sym (old-number ns n i a) ∙ is ∙ ap (λ m. get_or (ns ++ n ∷ []) m 0) b ∙ new-number ns n) ∙ ap (plain_at y) (sym b)
-        go (inr a) (inl b) = ap (plain_at y) a ∙ sym (tree-same j b (sym (old-number ns n j b) ∙ sym is ∙ ap (λ m. get_or (ns ++ n ∷ []) m 0) a ∙ new-number ns n))
-        go (inr a) (inr b) = ap (plain_at y) (a ∙ sym b)
-
-    equal : (i j : ℕ) → i < length (ns ++ n ∷ []) → j < length (ns ++ n ∷ []) → plain_at y i ≡ plain_at y j → get_or (ns ++ n ∷ []) i 0 ≡ get_or (ns ++ n ∷ []) j 0
-    equal i j low other is = go (bound i low) (bound j other)
-      where
-        go : (i < k) ⊎ (i ≡ k) → (j < k) ⊎ (j ≡ k) → get_or (ns ++ n ∷ []) i 0 ≡ get_or (ns ++ n ∷ []) j 0
-        go (inl a) (inl b) = old-number ns n i a ∙ f.equal i j a b is ∙ sym (old-number ns n j b)
-        go (inl a) (inr b) = old-number ns n i a ∙ number-same i a (is ∙ ap (plain_at y) b) ∙ sym (new-number ns n) ∙ ap (λ m. get_or (ns ++ n ∷ []) m 0) (sym b)
-        go (inr a) (inl b) = ap (λ m. get_or (ns ++ n ∷ []) m 0) a ∙ new-number ns n ∙ sym (number-same j b (sym is ∙ ap (plain_at y) a)) ∙ sym (old-number ns n j b)
-        go (inr a) (inr b) = ap (λ m. get_or (ns ++ n ∷ []) m 0) (a ∙ sym b)
-
-    each : (i : ℕ) → i < length (ns ++ n ∷ [])
-        → (x : Key) × (slice_get new (get_or (ns ++ n ∷ []) i 0) ≡ Some x) × IsKeyOf y (ns ++ n ∷ []) (fields_of (plain_at y i)) x
-    each i low = go (bound i low)
-      where
-        go : (i < k) ⊎ (i ≡ k) → (x : Key) × (slice_get new (get_or (ns ++ n ∷ []) i 0) ≡ Some x) × IsKeyOf y (ns ++ n ∷ []) (fields_of (plain_at y i)) x
-        go (inl a) =
-            let found = f.each i a in
-            (found.0, ap (slice_get new) (old-number ns n i a) ∙ e.old (get_or ns i 0) found.0 found.1, key-grown y ns n (fields_of (plain_at y i)) found.0 found.2)
-        go (inr a) = (
-          e.stored.0,
-          ap (slice_get new) (ap (λ m. get_or (ns ++ n ∷ []) m 0) a ∙ new-number ns n) ∙ e.stored.1,
-          subst (λ m. IsKeyOf y (ns ++ n ∷ []) (fields_of (plain_at y m)) e.stored.0) (sym a) (key-grown y ns n (fields_of (plain_at y k)) e.stored.0 (taken-over y ns key e.stored.0 (fields_of (plain_at y k)) own e.stored.2)),
-        )
-
--- ## The test of keys that is derived
-
-abbrev pub key_eq : Key → Key → Bool
-key_eq a b =
-    eqb a.production b.production && (pointwise eqb a.numbers b.numbers && (pointwise eqb a.first_text.now b.first_text.now
-    && (pointwise eqb a.second_text.now b.second_text.now && (pointwise eqb a.third_text.now b.third_text.now
-    && (pointwise eqb a.fourth_text.now b.fourth_text.now && (eqb a.first_part b.first_part && (eqb a.second_part b.second_part && eqb a.third_part b.third_part)))))))
-
-test-one : (a b : Key) → key_eq a b ≡ true → AreOne a b
+test-one : (a b : Key) → test a b ≡ true → AreOne a b
 test-one a b h =
-    let h1 = both h in
-    let h2 = both h1.1 in
-    let h3 = both h2.1 in
-    let h4 = both h3.1 in
-    let h5 = both h4.1 in
-    let h6 = both h5.1 in
-    let h7 = both h6.1 in
-    let h8 = both h7.1 in
+    let h1 = first-tied _ _ h in
+    let h2 = first-tied _ _ h1.1 in
+    let h3 = first-tied _ _ h2.1 in
+    let h4 = first-tied _ _ h3.1 in
+    let h5 = first-tied _ _ h4.1 in
+    let h6 = first-tied _ _ h5.1 in
+    let h7 = first-tied _ _ h6.1 in
+    let h8 = first-tied _ _ h7.1 in
     record {
-      production = eqb-true a.production b.production h1.0;
-      own_numbers = same-list a.numbers b.numbers h2.0;
-      first_text = same-list a.first_text.now b.first_text.now h3.0;
-      second_text = same-list a.second_text.now b.second_text.now h4.0;
-      third_text = same-list a.third_text.now b.third_text.now h5.0;
-      fourth_text = same-list a.fourth_text.now b.fourth_text.now h6.0;
-      first_part = eqb-true a.first_part b.first_part h7.0;
-      second_part = eqb-true a.second_part b.second_part h8.0;
-      third_part = eqb-true a.third_part b.third_part h8.1;
+      production = number-tied a.production b.production h1.0;
+      own_numbers = list-tied a.numbers b.numbers h5.0;
+      first_text = list-tied a.first_text.now b.first_text.now h6.0;
+      second_text = list-tied a.second_text.now b.second_text.now h7.0;
+      third_text = list-tied a.third_text.now b.third_text.now h8.0;
+      fourth_text = list-tied a.fourth_text.now b.fourth_text.now (equal-is _ h8.1);
+      first_part = number-tied a.first_part b.first_part h2.0;
+      second_part = number-tied a.second_part b.second_part h3.0;
+      third_part = number-tied a.third_part b.third_part h4.0;
     }
 
-test-passed : (a b : Key) → AreOne a b → key_eq a b ≡ true
+test-passed : (a b : Key) → AreOne a b → test a b ≡ true
 test-passed a b h =
-    all (eq-eqb a.production b.production h.production)
-    (all (list-itself a.numbers b.numbers h.own_numbers)
-    (all (list-itself a.first_text.now b.first_text.now h.first_text)
-    (all (list-itself a.second_text.now b.second_text.now h.second_text)
-    (all (list-itself a.third_text.now b.third_text.now h.third_text)
-    (all (list-itself a.fourth_text.now b.fourth_text.now h.fourth_text)
-    (all (eq-eqb a.first_part b.first_part h.first_part)
-    (all (eq-eqb a.second_part b.second_part h.second_part) (eq-eqb a.third_part b.third_part h.third_part))))))))
+    then-tied _ _ (number-itself a.production b.production h.production)
+    (then-tied _ _ (number-itself a.first_part b.first_part h.first_part)
+    (then-tied _ _ (number-itself a.second_part b.second_part h.second_part)
+    (then-tied _ _ (number-itself a.third_part b.third_part h.third_part)
+    (then-tied _ _ (list-itself a.numbers b.numbers h.own_numbers)
+    (then-tied _ _ (list-itself a.first_text.now b.first_text.now h.first_text)
+    (then-tied _ _ (list-itself a.second_text.now b.second_text.now h.second_text)
+    (then-tied _ _ (list-itself a.third_text.now b.third_text.now h.third_text)
+    (ap is_eq (list-itself a.fourth_text.now b.fourth_text.now h.fourth_text)))))))))
 
-pub key-test : IsTest AreOne key_eq
-key-test = record { one = test-one; passed = test-passed; turned = one-turned }
+cmp-same : (a b : Key) → AreOne a b → (q : Key) → key_cmp a q ≡ key_cmp b q
+cmp-same a b h q = rw (h.production, h.own_numbers, h.first_text, h.second_text, h.third_text, h.fourth_text, h.first_part, h.second_part, h.third_part) refl
 
-pub own-key : (y : ReadSymbol) (ns ms : List ℕ) (k : ℕ) (key : Key) → ms ≡ ns → length ns ≡ k → IsKeyOf y ms (fields_of (plain_at y k)) key
-    → IsKeyOf y ns (fields_of (plain_at y (length ns))) key
-own-key y ns ms k key same long h = subst (λ m. IsKeyOf y ns (fields_of (plain_at y m)) key) (sym long) (subst (λ l. IsKeyOf y l (fields_of (plain_at y k)) key) same h)
+pub looked-up : (m : BTreeMap Key ℕ) → IsLookUp AreOne test (get key_cmp m)
+looked-up m = record { told = test-one; passed = test-passed; respects = λ a b h. same-look key_cmp a b (cmp-same a b h) m }
+
+pub at-node : (y : ReadSymbol) (ns ms : List ℕ) (k : ℕ) (key : Key) → ms ≡ ns → IsKeyOf y ms (fields_of (plain_at y k)) key → IsKey y ns k key
+at-node y ns ms k key same h = subst (λ l. IsKeyOf y l (fields_of (plain_at y k)) key) same h

@@ -1,14 +1,10 @@
--- The numbers of trees, as they are given out.
-use Rattle.std.specs.Prelude.{◌≡◌, ℕ, ◌+◌, ◌<◌, ◌≤◌, List, [], ◌∷◌, length, slice_get, get_or, Option, Some, None}
+-- Keys of trees, by numbers that tell trees apart.
+use Rattle.std.specs.Prelude.{◌≡◌, ℕ, ◌+◌, ◌<◌, List, [], ◌∷◌, length, get_or, Option, Some, None}
 use Rattle.cpp_grammar.specs.Term.{Term}
 use Rattle.cpp_layout.specs.Layout.{ReadSymbol}
 use Rattle.cpp_press.specs.declared.numbering.Key.{Key}
 use Rattle.cpp_press.specs.Tasks.{plain_at}
-use Rattle.cpp_press.specs.Fields.{Fields, fields_of}
-
--- each number is below how many there are
-abbrev pub AreBelow : List ℕ → Type 0
-AreBelow numbers = (i : ℕ) → i < length numbers → get_or numbers i 0 < length numbers
+use Rattle.cpp_press.specs.Fields.{Fields}
 
 -- one more than the number of a part, or 0
 abbrev pub part_number : List ℕ → Option ℕ → ℕ
@@ -32,11 +28,3 @@ pub record IsKeyOf (y : ReadSymbol) (numbers : List ℕ) (given : Fields) (key :
   pub first : IsPartNumber y numbers one key.first_part
   pub second : IsPartNumber y numbers two key.second_part
   pub third : IsPartNumber y numbers three key.third_part
-
--- Behind so many nodes each number is the place of the node's own key, and there are no more keys than numbers.
-pub record IsFilled (y : ReadSymbol) (numbers : List ℕ) (keys : List Key) : Type 0 where
-  pub same : (i j : ℕ) → i < length numbers → j < length numbers → get_or numbers i 0 ≡ get_or numbers j 0 → plain_at y i ≡ plain_at y j
-  pub equal : (i j : ℕ) → i < length numbers → j < length numbers → plain_at y i ≡ plain_at y j → get_or numbers i 0 ≡ get_or numbers j 0
-  pub each : (i : ℕ) → i < length numbers
-      → (key : Key) × (slice_get keys (get_or numbers i 0) ≡ Some key) × IsKeyOf y numbers (fields_of (plain_at y i)) key
-  pub few : length keys ≤ length numbers

@@ -1,5 +1,8 @@
 -- The components so far, as the writer knows them.
-use Rattle.std.specs.Prelude.{◌≡◌, ℕ, ◌+◌, ◌<◌, List, [], ◌∷◌, ◌++◌, length, Bool, cond, ◌&&◌, nat_eq, Option, Some, None, get_or}
+use Rattle.std.specs.Prelude.{◌≡◌, ℕ, ◌<◌, List, [], ◌∷◌, ◌++◌, length, Bool, cond, ◌&&◌, nat_eq, Option, Some, None, get_or}
+use Rattle.std.specs.Ordering.{nat_cmp, ordering_then}
+use Rattle.std.specs.declared.cmp.Ordering.{Ordering}
+use Rattle.sym_spell.specs.Numbers.{AreNumbered}
 use Rattle.sym_spell.specs.Pressing.{Pressed}
 use Rattle.cpp_grammar.specs.Term.{Term}
 use Rattle.cpp_grammar.specs.Scope.{is_open}
@@ -14,6 +17,10 @@ use Rattle.cpp_press.specs.Tasks.{plain_at, press_tasks, AreTasks}
 abbrev pub like : Likeness → Likeness → Bool
 like a b = nat_eq a.number b.number && nat_eq a.encoding b.encoding
 
+-- the order of likenesses that a map of them goes by
+abbrev pub likeness_cmp : Likeness → Likeness → Ordering
+likeness_cmp a b = ordering_then (nat_cmp a.number b.number) (nat_cmp a.encoding b.encoding)
+
 -- what is known of first components behind one more
 abbrev pub noted : (Likeness → Option ℕ) → (one : Likeness) → (count : ℕ) → Likeness → Option ℕ
 noted first one count q = elim (first one) [ Some number ↦ first q | None ↦ cond (like one q) (Some count) (first q) ]
@@ -27,11 +34,9 @@ abbrev pub ArePlaces : ReadSymbol → (numbers : List ℕ) → (Likeness → Opt
 ArePlaces y numbers first cs =
     (node encoding : ℕ) → node < length y.table.nodes → first (likeness_of y numbers node encoding) ≡ first_equal encoding (plain_at y node) 0 cs
 
--- Nodes have one number where their trees are equal, and nowhere else.
-pub record AreNumbers (y : ReadSymbol) (numbers : List ℕ) : Type 0 where
-  pub long : length numbers ≡ length y.table.nodes
-  pub same : (i j : ℕ) → i < length numbers → j < length numbers → get_or numbers i 0 ≡ get_or numbers j 0 → plain_at y i ≡ plain_at y j
-  pub equal : (i j : ℕ) → i < length numbers → j < length numbers → plain_at y i ≡ plain_at y j → get_or numbers i 0 ≡ get_or numbers j 0
+-- Nodes with equal trees have one number, and others different ones. A tree that no node before has gets the next one.
+abbrev pub AreNumbers : ReadSymbol → List ℕ → Type 0
+AreNumbers y numbers = AreNumbered (plain_at y) (length y.table.nodes) numbers
 
 -- Each component is the tree of a node.
 abbrev pub AreOfNodes : ReadSymbol → List Candidate → Type 0

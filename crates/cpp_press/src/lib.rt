@@ -11,4 +11,5 @@ mod texts;
 mod types;
 mod view;
 
+pub use numbering::numbers;
 pub use pressing::press_cpp;

@@ -3,18 +3,18 @@
 
 ghost use Rattle.std.specs.Prelude.{◌≡◌, ◌<◌, length, IfOk, IfErr};
 ghost use Rattle.sym_core.specs.declared.Refusal.TheVariants.{Memory};
-ghost use Rattle.indexmap.specs.IndexMap.{get};
+ghost use Rattle.std.specs.BTreeMap.{get};
 ghost use Rattle.cpp_tree.specs.Nodes.{IsTable};
 ghost use Rattle.cpp_layout.specs.Layout.{table_of, whole_of};
 ghost use Rattle.cpp_press_laws.specs.Pressing.{pressed};
 ghost use Rattle.cpp_press.specs.Tasks.{plain_at};
-ghost use Rattle.cpp_press.specs.Places.{like, likeness_of, AreNumbers};
+ghost use Rattle.cpp_press.specs.Places.{likeness_cmp, likeness_of, AreNumbers};
 ghost use Rattle.cpp_press.specs.OfRead.{HasFewComponents};
 ghost use Rattle.cpp_press.specs.Standings.{standing_of, template_standing_of};
 
 use crate::components::{Components, Likeness};
 use crate::names::is_name;
-use crate::numbering::Numbering;
+use crate::numbering::numbers;
 use crate::steps::{Standing, compared, step_template, step_tree};
 use crate::task::{Task, Way, then_tree};
 use crate::texts::push_text;
@@ -22,10 +22,11 @@ use crate::types::is_compared;
 use cpp_layout::Symbol;
 use std::alloc::Global;
 use sym_core::Refusal;
+use sym_spell::Numbers;
 
 /// What a node's tree is like as a component of an encoding: one with free parameters is compared with those of its encoding
 /// alone.
-fn likeness_of(symbol: &Symbol, numbering: &Numbering, node: u32, encoding: u64) -> Likeness
+fn likeness_of(symbol: &Symbol, numbering: &Numbers, node: u32, encoding: u64) -> Likeness
     requires table { IsTable (table_of symbol.now) }
     requires node { node < length symbol.now.table.nodes }
     requires number { node < length numbering.now }
@@ -45,7 +46,7 @@ fn likeness_of(symbol: &Symbol, numbering: &Numbering, node: u32, encoding: u64)
 /// How a tree stands to the components before it.
 fn standing_of(
     symbol: &Symbol,
-    numbering: &Numbering,
+    numbering: &Numbers,
     components: &Components,
     node: u32,
     way: Way,
@@ -54,7 +55,7 @@ fn standing_of(
     requires table { IsTable (table_of symbol.now) }
     requires node { node < length symbol.now.table.nodes }
     requires number { node < length numbering.now }
-    ensures { result ≡ standing_of way (plain_at symbol.now node) (get like components.now.first (likeness_of symbol.now numbering.now node encoding)) }
+    ensures { result ≡ standing_of way (plain_at symbol.now node) (get likeness_cmp components.now.first (likeness_of symbol.now numbering.now node encoding)) }
 {
     if is_compared(way, symbol.stored(node)) {
         compared(components.first(likeness_of(symbol, numbering, node, encoding)))
@@ -66,7 +67,7 @@ fn standing_of(
 /// How a template name stands to the components before it.
 fn template_standing_of(
     symbol: &Symbol,
-    numbering: &Numbering,
+    numbering: &Numbers,
     components: &Components,
     name: u32,
     encoding: u64,
@@ -74,7 +75,7 @@ fn template_standing_of(
     requires table { IsTable (table_of symbol.now) }
     requires node { name < length symbol.now.table.nodes }
     requires number { name < length numbering.now }
-    ensures { result ≡ template_standing_of (plain_at symbol.now name) (get like components.now.first (likeness_of symbol.now numbering.now name encoding)) }
+    ensures { result ≡ template_standing_of (plain_at symbol.now name) (get likeness_cmp components.now.first (likeness_of symbol.now numbering.now name encoding)) }
 {
     if is_name(symbol.stored(name)) {
         compared(components.first(likeness_of(symbol, numbering, name, encoding)))
@@ -84,7 +85,7 @@ fn template_standing_of(
 }
 
 /// The pressed spelling of a C++ symbol, by the numbers of its nodes.
-fn press_tasks(alloc: Global, symbol: &Symbol, numbering: &Numbering) -> Result<Vec<u8>, Refusal>
+fn press_tasks(alloc: Global, symbol: &Symbol, numbering: &Numbers) -> Result<Vec<u8>, Refusal>
     requires numbers { AreNumbers symbol.now numbering.now }
     ensures pressed { IfOk result (λ out. out.items ≡ pressed (whole_of symbol.now)) }
     ensures components { IfOk result (λ _. HasFewComponents symbol.now) }
@@ -140,6 +141,6 @@ pub fn press_cpp(alloc: Global, symbol: &Symbol) -> Result<Vec<u8>, Refusal>
     ensures components { IfOk result (λ _. HasFewComponents symbol.now) }
     ensures memory { IfErr result (λ e. e ≡ Memory) }
 {
-    let numbering = Numbering::cpp(alloc, symbol)?;
+    let numbering = numbers(alloc, symbol)?;
     press_tasks(alloc, symbol, &numbering)
 }

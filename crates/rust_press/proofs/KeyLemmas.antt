@@ -1,19 +1,22 @@
 -- Keys of nodes, and what a map of them is behind one more.
-use Rattle.std.proofs.Common.{◌≡◌, ℕ, zero, suc, ◌+◌, ◌<◌, ◌≤◌, ◌⊎◌, inl, inr, length, List, [], ◌∷◌, ◌++◌, take, slice_get, get_or, Some, Bool, true, false, refl, ap, arith, sym, subst, ◌∙◌, length-append}
-use Rattle.std.specs.Prelude.{max, map, fold, ◌&&◌, nat_lt}
-use Rattle.std.proofs.Math.Dec.{eqb}
-use lib.Pointwise.{pointwise}
-use Rattle.std.proofs.lemmas.Bool.{eqb-true, eq-eqb, ltb-true, lt-ltb}
+use Rattle.std.proofs.Common.{◌≡◌, ℕ, zero, suc, ◌<◌, ◌≤◌, length, List, [], ◌∷◌, ◌++◌, slice_get, get_or, Some, Bool, true, false, refl, ap, arith, sym, subst, ◌∙◌, length-append, Ordering}
+use Rattle.std.specs.Prelude.{map, nat_lt}
+use Rattle.std.specs.BTreeMap.{BTreeMap, get}
+use Rattle.std.specs.Cmp.Lexicographic.{slice_cmp}
+use Rattle.std.specs.Ordering.{nat_cmp, ordering_then, is_eq}
+use Rattle.std.proofs.lemmas.Bool.{ltb-true, lt-ltb}
 use Rattle.sym_core.specs.declared.Span.{Span}
 use Rattle.rust_tree.specs.Tree.{Tree}
 use Rattle.rust_tree.specs.Fields.{Fields, fields_of, tree_from}
 use Rattle.rust_tree.specs.Layout.{ReadSymbol, trees_of}
 use Rattle.rust_tree.specs.Views.{fields_at, fields_in}
 use Rattle.rust_tree.proofs.Rebuilding.{tree-made}
-use Rattle.sym_spell.proofs.Entering.{last-or, old-number, new-number, IsTest, one-place, Enters}
-use Rattle.sym_spell.proofs.Tests.{both, all, same-list, list-itself}
+use Rattle.sym_spell.specs.Numbers.{number_at, TellApart}
+use Rattle.sym_spell.proofs.Entering.{old-number}
+use Rattle.sym_spell.proofs.FirstOnes.{AreKeys, IsLookUp}
+use Rattle.sym_spell.proofs.Orders.{equal-is, first-tied, then-tied, number-tied, number-itself, list-tied, list-itself, same-look}
 use Rattle.rust_press.specs.declared.numbering.Key.{Key}
-use Rattle.rust_press.specs.Numbers.{IsKeyOf, IsPartNumber, IsFilled, AreNumbersSoFar, AreBelow, number_at, entries_of}
+use Rattle.rust_press.specs.Numbers.{IsKeyOf, IsPartNumber}
 
 -- ## Three parts
 
@@ -71,20 +74,6 @@ equal-numbers (x ∷ xs) (y ∷ ys) long each =
     let more : xs ≡ ys = equal-numbers xs ys (omega (arith, long)) (λ k low. each (suc k) (omega (arith, low))) in
     rw (each 0 (omega arith), more) refl
 
-old-front : (ns : List ℕ) (n i : ℕ) → i ≤ length ns → take i (ns ++ n ∷ []) ≡ take i ns
-old-front [] n zero low = refl
-old-front [] n (suc i) low = absurd (omega (arith, low))
-old-front (m ∷ ns) n zero low = refl
-old-front (m ∷ ns) n (suc i) low = ap (λ l. m ∷ l) (old-front ns n i (omega (arith, low)))
-
-whole-front : (ns : List ℕ) → take (length ns) ns ≡ ns
-whole-front [] = refl
-whole-front (m ∷ ns) = ap (λ l. m ∷ l) (whole-front ns)
-
-fold-push : (f : ℕ → ℕ → ℕ) (a : ℕ) (ns : List ℕ) (n : ℕ) → fold f a (ns ++ n ∷ []) ≡ f (fold f a ns) n
-fold-push f a [] n = refl
-fold-push f a (m ∷ ns) n = fold-push f (f a m) ns n
-
 -- ## A map of keys
 
 -- keys that the map takes for one
@@ -95,19 +84,6 @@ pub record AreOne (a b : Key) : Type 0 where
   pub second : a.second_text.now ≡ b.second_text.now
   pub count : a.count ≡ b.count
   pub parts : a.parts ≡ b.parts
-
-one-turned : (a b : Key) → AreOne a b → AreOne b a
-one-turned a b h = record { production = sym h.production; own_numbers = sym h.own_numbers; first = sym h.first; second = sym h.second; count = sym h.count; parts = sym h.parts }
-
-one-on : (a b c : Key) → AreOne a b → AreOne b c → AreOne a c
-one-on a b c h k = record {
-  production = h.production ∙ k.production;
-  own_numbers = h.own_numbers ∙ k.own_numbers;
-  first = h.first ∙ k.first;
-  second = h.second ∙ k.second;
-  count = h.count ∙ k.count;
-  parts = h.parts ∙ k.parts;
-}
 
 -- ## Keys and trees
 
@@ -134,7 +110,7 @@ fields-equal a b one two three four = go a.production b.production a.numbers b.n
     go p q ns ms ts us xs ys one two three four = rw (one, two, three, four) refl
 
 -- equal keys have equal fields
-one-fields : (all : List Tree) (ns : List ℕ) (a b : Key) (one other : Fields) → AreNumbersSoFar all ns → IsKeyOf all ns one a → IsKeyOf all ns other b → AreOne a b → one ≡ other
+one-fields : (all : List Tree) (ns : List ℕ) (a b : Key) (one other : Fields) → TellApart (slice_get all) ns → IsKeyOf all ns one a → IsKeyOf all ns other b → AreOne a b → one ≡ other
 one-fields all ns a b one other so h k same =
     fields-equal one other
     (sym h.production ∙ same.production ∙ k.production)
@@ -152,7 +128,7 @@ one-fields all ns a b one other so h k same =
         sym p.2 ∙ so.same p.0 q.0 p.1 q.1 (sym p.3 ∙ ap (λ l. number_at l i) same.parts ∙ q.3) ∙ q.2
 
 -- equal fields have equal keys
-fields-one : (all : List Tree) (ns : List ℕ) (a b : Key) (given : Fields) → AreNumbersSoFar all ns → IsKeyOf all ns given a → IsKeyOf all ns given b → AreOne a b
+fields-one : (all : List Tree) (ns : List ℕ) (a b : Key) (given : Fields) → TellApart (slice_get all) ns → IsKeyOf all ns given a → IsKeyOf all ns given b → AreOne a b
 fields-one all ns a b given so h k = record {
   production = h.production ∙ sym k.production;
   own_numbers = h.own_numbers ∙ sym k.own_numbers;
@@ -207,144 +183,63 @@ fields-tree y i j low other same = go (own-tree (trees_of y) i low) (own-tree (t
         let alike : fields_of t ≡ fields_of u = sym (ap fields_in here) ∙ same ∙ ap fields_in there in
         here ∙ ap Some (sym (tree-made t) ∙ ap tree_from alike ∙ tree-made u) ∙ sym there
 
-pub filled-more : (eq : Key → Key → Bool) → IsTest AreOne eq → (y : ReadSymbol) (ns : List ℕ) (ks new : List Key) (key : Key) (n : ℕ)
-    → IsFilled y ns ks → length ns < length (trees_of y) → IsKeyOf (trees_of y) ns (fields_at y (length ns)) key → Enters AreOne eq ks new key n
-    → IsFilled y (ns ++ n ∷ []) new
-filled-more eq test y ns ks new key n f room own e = record {
-  so_far = record {
-    within = omega (arith, room, length-append ns (n ∷ []));
-    same = same;
-    equal = equal;
-    next = next;
-  };
-  each = each;
-  entries = fold-push (λ most m. max most (m + 1)) 0 ns n ∙ omega (arith, f.entries, e.size);
+-- ## Keys of nodes
+
+abbrev pub IsKey : ReadSymbol → List ℕ → ℕ → Key → Type 0
+IsKey y ns i key = IsKeyOf (trees_of y) ns (fields_at y i) key
+
+one-itself : (a : Key) → AreOne a a
+one-itself a = record { production = refl; own_numbers = refl; first = refl; second = refl; count = refl; parts = refl }
+
+pub are-keys : (y : ReadSymbol) → AreKeys AreOne (slice_get (trees_of y)) (length (trees_of y)) (IsKey y)
+are-keys y = record {
+  grown = λ ns n i a h. key-grown (trees_of y) ns n (fields_at y i) a h;
+  one = λ ns i j a b low other so h k same. fields-tree y i j low other (one-fields (trees_of y) ns a b (fields_at y i) (fields_at y j) so h k same);
+  alike = λ ns i j a b so is h k. fields-one (trees_of y) ns a b (fields_at y j) so (subst (λ g. IsKeyOf (trees_of y) ns g a) (ap fields_in is) h) k;
+  taken = λ ns i a b h same. taken-over (trees_of y) ns a b (fields_at y i) h same;
+  itself = one-itself;
 }
-  where
-    all : List Tree
-    all = trees_of y
 
-    k : ℕ
-    k = length ns
+-- ## The order of keys that is derived
 
-    bound : (i : ℕ) → i < length (ns ++ n ∷ []) → (i < k) ⊎ (i ≡ k)
-    bound i low = last-or i k (omega (arith, low, length-append ns (n ∷ [])))
+abbrev pub key_cmp : Key → Key → Ordering
+key_cmp a b =
+    ordering_then (nat_cmp a.production b.production) (ordering_then (nat_cmp a.count b.count)
+    (ordering_then (slice_cmp nat_cmp a.parts b.parts) (ordering_then (slice_cmp nat_cmp a.numbers b.numbers)
+    (ordering_then (slice_cmp nat_cmp a.first_text.now b.first_text.now) (slice_cmp nat_cmp a.second_text.now b.second_text.now)))))
 
-    -- an earlier node has the new number exactly if it has the new tree
-    tree-same : (i : ℕ) → i < k → number_at ns i ≡ n → slice_get all i ≡ slice_get all k
-    tree-same i low is =
-        let found = f.each i low in
-        let there : slice_get new n ≡ Some found.0 = subst (λ m. slice_get new m ≡ Some found.0) is (e.old (number_at ns i) found.0 found.1) in
-        let one : AreOne found.0 key = one-turned key found.0 (subst (λ x. AreOne key x) (some-one (sym e.stored.1 ∙ there)) e.stored.2) in
-        fields-tree y i k (omega (arith, low, room)) room
-        (one-fields all ns found.0 key (fields_at y i) (fields_at y k) f.so_far found.2 own one)
-      where
-        some-one : {a b : Key} → Some a ≡ Some b → a ≡ b
-        some-one h = cc
+abbrev pub test : Key → Key → Bool
+test a b = is_eq (key_cmp a b)
 
-    number-same : (i : ℕ) → i < k → slice_get all i ≡ slice_get all k → number_at ns i ≡ n
-    number-same i low is =
-        let found = f.each i low in
-        let one : AreOne found.0 key = fields-one all ns found.0 key (fields_at y k) f.so_far (subst (λ g. IsKeyOf all ns g found.0) (ap fields_in is) found.2) own in
-        one-place AreOne eq test new (number_at ns i) n found.0 e.stored.0 e.distinct (e.old (number_at ns i) found.0 found.1) e.stored.1 (one-on found.0 key e.stored.0 one e.stored.2)
-
-    same : (i j : ℕ) → i < length (ns ++ n ∷ []) → j < length (ns ++ n ∷ []) → number_at (ns ++ n ∷ []) i ≡ number_at (ns ++ n ∷ []) j → slice_get all i ≡ slice_get all j
-    same i j low other is = go (bound i low) (bound j other)
-      where
-        go : (i < k) ⊎ (i ≡ k) → (j < k) ⊎ (j ≡ k) → slice_get all i ≡ slice_get all j
-        go (inl a) (inl b) = f.so_far.same i j a b (sym (old-number ns n i a) ∙ is ∙ old-number ns n j b)
-        go (inl a) (inr b) = tree-same i a (sym (old-number ns n i a) ∙ is ∙ ap (number_at (ns ++ n ∷ [])) b ∙ new-number ns n) ∙ ap (slice_get all) (sym b)
-        go (inr a) (inl b) = ap (slice_get all) a ∙ sym (tree-same j b (sym (old-number ns n j b) ∙ sym is ∙ ap (number_at (ns ++ n ∷ [])) a ∙ new-number ns n))
-        go (inr a) (inr b) = ap (slice_get all) (a ∙ sym b)
-
-    equal : (i j : ℕ) → i < length (ns ++ n ∷ []) → j < length (ns ++ n ∷ []) → slice_get all i ≡ slice_get all j → number_at (ns ++ n ∷ []) i ≡ number_at (ns ++ n ∷ []) j
-    equal i j low other is = go (bound i low) (bound j other)
-      where
-        go : (i < k) ⊎ (i ≡ k) → (j < k) ⊎ (j ≡ k) → number_at (ns ++ n ∷ []) i ≡ number_at (ns ++ n ∷ []) j
-        go (inl a) (inl b) = old-number ns n i a ∙ f.so_far.equal i j a b is ∙ sym (old-number ns n j b)
-        go (inl a) (inr b) = old-number ns n i a ∙ number-same i a (is ∙ ap (slice_get all) b) ∙ sym (new-number ns n) ∙ ap (number_at (ns ++ n ∷ [])) (sym b)
-        go (inr a) (inl b) = ap (number_at (ns ++ n ∷ [])) a ∙ new-number ns n ∙ sym (number-same j b (sym is ∙ ap (slice_get all) a)) ∙ sym (old-number ns n j b)
-        go (inr a) (inr b) = ap (number_at (ns ++ n ∷ [])) (a ∙ sym b)
-
-    next : (i : ℕ) → i < length (ns ++ n ∷ []) → number_at (ns ++ n ∷ []) i ≤ entries_of (take i (ns ++ n ∷ []))
-    next i low = go (bound i low)
-      where
-        go : (i < k) ⊎ (i ≡ k) → number_at (ns ++ n ∷ []) i ≤ entries_of (take i (ns ++ n ∷ []))
-        go (inl a) = rw (old-number ns n i a, old-front ns n i (omega (arith, a))) (f.so_far.next i a)
-        go (inr a) = rw (a, new-number ns n, old-front ns n (length ns) (omega arith), whole-front ns, f.entries) e.low
-
-    each : (i : ℕ) → i < length (ns ++ n ∷ [])
-        → (x : Key) × (slice_get new (number_at (ns ++ n ∷ []) i) ≡ Some x) × IsKeyOf all (ns ++ n ∷ []) (fields_at y i) x
-    each i low = go (bound i low)
-      where
-        go : (i < k) ⊎ (i ≡ k) → (x : Key) × (slice_get new (number_at (ns ++ n ∷ []) i) ≡ Some x) × IsKeyOf all (ns ++ n ∷ []) (fields_at y i) x
-        go (inl a) =
-            let found = f.each i a in
-            (found.0, ap (slice_get new) (old-number ns n i a) ∙ e.old (number_at ns i) found.0 found.1, key-grown all ns n (fields_at y i) found.0 found.2)
-        go (inr a) = (
-          e.stored.0,
-          ap (slice_get new) (ap (number_at (ns ++ n ∷ [])) a ∙ new-number ns n) ∙ e.stored.1,
-          subst (λ m. IsKeyOf all (ns ++ n ∷ []) (fields_at y m) e.stored.0) (sym a) (key-grown all ns n (fields_at y k) e.stored.0 (taken-over all ns key e.stored.0 (fields_at y k) own e.stored.2)),
-        )
-
--- ## The test of keys that is derived
-
-abbrev pub key_eq : Key → Key → Bool
-key_eq a b =
-    eqb a.production b.production && (pointwise eqb a.numbers b.numbers && (pointwise eqb a.first_text.now b.first_text.now
-    && (pointwise eqb a.second_text.now b.second_text.now && (eqb a.count b.count && pointwise eqb a.parts b.parts))))
-
-test-one : (a b : Key) → key_eq a b ≡ true → AreOne a b
+test-one : (a b : Key) → test a b ≡ true → AreOne a b
 test-one a b h =
-    let h1 = both h in
-    let h2 = both h1.1 in
-    let h3 = both h2.1 in
-    let h4 = both h3.1 in
-    let h5 = both h4.1 in
+    let h1 = first-tied _ _ h in
+    let h2 = first-tied _ _ h1.1 in
+    let h3 = first-tied _ _ h2.1 in
+    let h4 = first-tied _ _ h3.1 in
+    let h5 = first-tied _ _ h4.1 in
     record {
-      production = eqb-true a.production b.production h1.0;
-      own_numbers = same-list a.numbers b.numbers h2.0;
-      first = same-list a.first_text.now b.first_text.now h3.0;
-      second = same-list a.second_text.now b.second_text.now h4.0;
-      count = eqb-true a.count b.count h5.0;
-      parts = same-list a.parts b.parts h5.1;
+      production = number-tied a.production b.production h1.0;
+      own_numbers = list-tied a.numbers b.numbers h4.0;
+      first = list-tied a.first_text.now b.first_text.now h5.0;
+      second = list-tied a.second_text.now b.second_text.now (equal-is _ h5.1);
+      count = number-tied a.count b.count h2.0;
+      parts = list-tied a.parts b.parts h3.0;
     }
 
-test-passed : (a b : Key) → AreOne a b → key_eq a b ≡ true
+test-passed : (a b : Key) → AreOne a b → test a b ≡ true
 test-passed a b h =
-    all (eq-eqb a.production b.production h.production)
-    (all (list-itself a.numbers b.numbers h.own_numbers)
-    (all (list-itself a.first_text.now b.first_text.now h.first)
-    (all (list-itself a.second_text.now b.second_text.now h.second)
-    (all (eq-eqb a.count b.count h.count) (list-itself a.parts b.parts h.parts)))))
+    then-tied _ _ (number-itself a.production b.production h.production)
+    (then-tied _ _ (number-itself a.count b.count h.count)
+    (then-tied _ _ (list-itself a.parts b.parts h.parts)
+    (then-tied _ _ (list-itself a.numbers b.numbers h.own_numbers)
+    (then-tied _ _ (list-itself a.first_text.now b.first_text.now h.first) (ap is_eq (list-itself a.second_text.now b.second_text.now h.second))))))
 
-pub key-test : IsTest AreOne key_eq
-key-test = record { one = test-one; passed = test-passed; turned = one-turned }
+cmp-same : (a b : Key) → AreOne a b → (q : Key) → key_cmp a q ≡ key_cmp b q
+cmp-same a b h q = rw (h.production, h.count, h.parts, h.own_numbers, h.first, h.second) refl
 
-pub own-key : (y : ReadSymbol) (ns ms : List ℕ) (k : ℕ) (key : Key) → ms ≡ ns → length ns ≡ k → IsKeyOf (trees_of y) ms (fields_at y k) key
-    → IsKeyOf (trees_of y) ns (fields_at y (length ns)) key
-own-key y ns ms k key same long h = subst (λ m. IsKeyOf (trees_of y) ns (fields_at y m) key) (sym long) (subst (λ l. IsKeyOf (trees_of y) l (fields_at y k) key) same h)
+pub looked-up : (m : BTreeMap Key ℕ) → IsLookUp AreOne test (get key_cmp m)
+looked-up m = record { told = test-one; passed = test-passed; respects = λ a b h. same-look key_cmp a b (cmp-same a b h) m }
 
-grows : (ms : List ℕ) (j : ℕ) → j < length ms → take (suc j) ms ≡ take j ms ++ number_at ms j ∷ []
-grows [] j low = absurd (omega (arith, low))
-grows (m ∷ ms) zero low = refl
-grows (m ∷ ms) (suc j) low = ap (λ l. m ∷ l) (grows ms j (omega (arith, low)))
-
--- the entries of so many numbers are at most as many
-pub entries-front : (ns : List ℕ) → ((i : ℕ) → i < length ns → number_at ns i ≤ entries_of (take i ns)) → (i : ℕ) → i ≤ length ns → entries_of (take i ns) ≤ i
-entries-front ns next zero low = omega arith
-entries-front ns next (suc i) low =
-    omega (
-      arith,
-      ap entries_of (grows ns i (omega (arith, low))),
-      fold-push (λ most m. max most (m + 1)) 0 (take i ns) (number_at ns i),
-      entries-front ns next i (omega (arith, low)),
-      next i (omega (arith, low)),
-    )
-
--- numbers that are handed out in order are below the count of nodes
-pub numbers-below : (ns : List ℕ) → ((i : ℕ) → i < length ns → number_at ns i ≤ entries_of (take i ns)) → AreBelow ns (length ns)
-numbers-below ns next i low = omega (arith, next i low, entries-front ns next i (omega (arith, low)), low)
-
-pub entries-few : (ns : List ℕ) → ((i : ℕ) → i < length ns → number_at ns i ≤ entries_of (take i ns)) → entries_of ns ≤ length ns
-entries-few ns next = subst (λ l. entries_of l ≤ length ns) (whole-front ns) (entries-front ns next (length ns) (omega arith))
+pub at-node : (y : ReadSymbol) (ns ms : List ℕ) (k : ℕ) (key : Key) → ms ≡ ns → IsKeyOf (trees_of y) ms (fields_at y k) key → IsKey y ns k key
+at-node y ns ms k key same h = subst (λ l. IsKeyOf (trees_of y) l (fields_at y k) key) same h

@@ -4,7 +4,7 @@ use Rattle.std.specs.Prelude.{◌==◌, map, get_or, slice_index_or}
 use Rattle.sym_core.specs.declared.Span.{Span}
 use Rattle.rust_tree.specs.declared.view.Node.{Node}
 use Rattle.rust_tree.specs.Nodes.{bytes_at, symbol_in}
-use Rattle.rust_press.proofs.KeyLemmas.{entries-front}
+use Rattle.sym_spell.proofs.Counting.{entries-front}
 use Rattle.rust_tree.proofs.Trees.{length-trees}
 use Rattle.std.specs.Option.{option_to_list}
 use Rattle.std.proofs.lemmas.Bool.{eqb-true, eq-eqb}
@@ -16,7 +16,8 @@ use Rattle.rust_tree.specs.Views.{fields_at, fields_in, IsView}
 use Rattle.sym_spell.specs.Pressing.{◌and◌, text, letter}
 use Rattle.rust_press.specs.Pressing.{Component, Pressed, Pressing, number62, reference, component, spelled_out, first_place, pressed, press_path, press_other}
 use Rattle.rust_press.specs.Same.{same_tree}
-use Rattle.rust_press.specs.Numbers.{AreNumbers, number_at}
+use Rattle.sym_spell.specs.Numbers.{number_at}
+use Rattle.rust_press.specs.Numbers.{AreNumbers}
 use Rattle.rust_press.specs.Spelled.{front, end, front_bytes, is_component, number_bytes, reference_bytes}
 use Rattle.rust_press.specs.Tasks.{press_tree, ending, press_root, AreOfNodes, parts_then, press_some, ending_some, press_task, press_tasks, IsTask, AreTasks, weight_of_tree, weight_of_some, task_weight, weight_of_tasks, ArePushed, ArePlaces, Goes, placed, IsSpelled, IsNodeStep}
 use Rattle.rust_press.specs.OfRead.{pressed_symbol}
@@ -359,13 +360,13 @@ places-go : (y : ReadSymbol) (numbers : List ℕ) (node : ℕ) (t : Tree) (place
     → ArePlaces y numbers (placed places (number_at numbers node) place) (record { place = place; own = t } ∷ cs)
 places-go y numbers node t place places cs are there itself known i u at =
     place-goes places (number_at numbers node) (number_at numbers i) place t u (first_place t cs) (first_place u cs) (known node t there) (known i u at)
-    (λ e. some-one (sym there ∙ are.1.same node i (low node t there) (low i u at) e ∙ at))
-    (λ e. are.1.equal node i (low node t there) (low i u at) (there ∙ ap Some e ∙ sym at))
+    (λ e. some-one (sym there ∙ are.same node i (low node t there) (low i u at) e ∙ at))
+    (λ e. are.equal node i (low node t there) (low i u at) (there ∙ ap Some e ∙ sym at))
     (λ e. ap (λ v. first_place v cs) e) itself
     ∙ ap Some (sym (later-is u t place cs))
   where
     low : (m : ℕ) (v : Tree) → slice_get (trees_of y) m ≡ Some v → m < length numbers
-    low m v is = omega (arith, are.0, place-within (trees_of y) m v is)
+    low m v is = omega (arith, are.long, place-within (trees_of y) m v is)
 
 ending-then : (t : Tree) (place : ℕ) (old : Pressing) (p : ℕ) (cs : List Component) → ((ending place t and old) p cs).bytes ≡ (old p (record { place = place; own = t } ∷ cs)).bytes
 ending-then t place old p cs = let none : p + 0 ≡ p = omega arith in ap (λ q. (old q (record { place = place; own = t } ∷ cs)).bytes) none
@@ -430,7 +431,7 @@ components-last y numbers whole tasks places out g is =
 -- a node's number is below the number of nodes
 pub number-below : (y : ReadSymbol) (numbers : List ℕ) (i : ℕ) → AreNumbers (trees_of y) numbers → i < length (trees_of y) → number_at numbers i < length (trees_of y)
 number-below y numbers i are low =
-    omega (arith, are.0, low, are.1.next i (omega (arith, are.0, low)), entries-front numbers are.1.next i (omega (arith, are.0, low)))
+    omega (arith, are.long, low, are.next i (omega (arith, are.long, low)), entries-front numbers are.next i (omega (arith, are.long, low)))
 
 -- the suffix stands behind all else
 pub whole-symbol : (symbol : tree.Symbol) → pressed symbol ≡ (press_tree (of_symbol symbol) 0 []).bytes ++ symbol.suffix
@@ -466,7 +467,7 @@ is-there y numbers whole tasks places out k g are low =
     let own = own-tree (trees_of y) k low in
     record {
       node = omega (arith, low, length-trees y.bytes y.table.nodes);
-      number = omega (arith, low, are.0);
+      number = omega (arith, low, are.long);
       place = place-within places (number_at numbers k) (first_place own.0 g.components) (g.places_are k own.0 own.1);
     }
 

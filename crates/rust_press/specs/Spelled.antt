@@ -1,5 +1,5 @@
 -- What is written of a node by its production, its numbers and its text: bytes before its parts and bytes behind them.
-use Rattle.std.specs.Prelude.{ℕ, ◌-◌, ◌||◌, List, [], ◌∷◌, ◌++◌, length, Bool, true, false, ◌==◌, nat_lt, if◌then◌else◌, get_or}
+use Rattle.std.specs.Prelude.{ℕ, ◌-◌, List, [], ◌∷◌, ◌++◌, length, Bool, true, false, ◌==◌, nat_lt, if◌then◌else◌, get_or}
 use Rattle.rust_tree.specs.declared.tree_production.TheConstants.{CRATE_ROOT, PUNYCODE_CRATE_ROOT, TRAIT_DEFINITION, NESTED, PUNYCODE_NESTED, GENERIC, NO_ARGUMENTS, LIFETIME_ARGUMENT, BASIC, ARRAY, SHARED_REFERENCE, MUTABLE_REFERENCE, FUNCTION, C_FUNCTION, ABI_FUNCTION, PUNYCODE_ABI_FUNCTION, DYN, NO_TYPES, MORE_BINDINGS, PUNYCODE_MORE_BINDINGS, INTEGER, BOOLEAN, CHARACTER, PLACEHOLDER, SYMBOL}
 use Rattle.rust_tree.specs.Fields.{Fields, number_in, text_in}
 use Rattle.sym_spell.specs.Digits.{digits_of}

@@ -8,7 +8,7 @@ use Rattle.rust_tree.specs.Views.{fields_at}
 use Rattle.sym_spell.specs.Pressing.{◌and◌, text, nothing}
 use Rattle.rust_press.specs.Pressing.{Component, Pressed, Pressing, first_place, press_path, press_other, type_or_reference, spell_type, press_constant, press_arguments, press_types, press_bounds, press_bindings}
 use Rattle.rust_press.specs.Same.{same_tree}
-use Rattle.rust_press.specs.Numbers.{number_at}
+use Rattle.sym_spell.specs.Numbers.{number_at}
 use Rattle.rust_press.specs.Spelled.{front, end, is_component, reference_bytes}
 use Rattle.rust_press.specs.declared.pressing.Task.{Task}
 

@@ -5,16 +5,18 @@ ghost use Rattle.std.specs.Prelude.{◌≡◌, ℕ, ◌<◌, ◌++◌, length, s
 ghost use Rattle.sym_core.specs.declared.Refusal.TheVariants.{Memory};
 ghost use Rattle.rust_tree.specs.Layout.{trees_of};
 ghost use Rattle.rust_tree.specs.Views.{fields_at};
-ghost use Rattle.rust_press.specs.Numbers.{AreNumbers, number_at};
+ghost use Rattle.sym_spell.specs.Numbers.{number_at};
+ghost use Rattle.rust_press.specs.Numbers.{AreNumbers};
 ghost use Rattle.rust_press.specs.Spelled.{end};
 ghost use Rattle.rust_press.specs.Tasks.{ArePushed, IsNodeStep, placed, pressed_root};
 ghost use Rattle.rust_press.specs.OfRead.{HasFewComponents, pressed_symbol};
 
-use crate::numbering::Numbering;
+use crate::numbering::numbers;
 use crate::spelling::{is_component, push_end, push_front, push_reference};
 use rust_v0::Symbol;
 use std::alloc::Global;
 use sym_core::Refusal;
+use sym_spell::Numbers;
 
 /// What is still to be spelled.
 #[derive(Clone, Copy)]
@@ -43,7 +45,7 @@ fn push_parts(symbol: &Symbol, node: u32, count: u32, tasks: &mut Vec<Task>) -> 
 /// A node is spelled up to its parts, or as a reference where one like it is spelled out already.
 fn press_node(
     symbol: &Symbol,
-    numbering: &Numbering,
+    numbering: &Numbers,
     places: &[Option<u64>],
     node: u32,
     tasks: &mut Vec<Task>,
@@ -105,7 +107,7 @@ fn no_places(alloc: Global, count: u32) -> Result<Vec<Option<u64>>, Refusal>
 }
 
 /// The pressed spelling of a symbol without its suffix, by the numbers of its nodes.
-fn press_tasks(alloc: Global, symbol: &Symbol, numbering: &Numbering) -> Result<Vec<u8>, Refusal>
+fn press_tasks(alloc: Global, symbol: &Symbol, numbering: &Numbers) -> Result<Vec<u8>, Refusal>
     requires { AreNumbers (trees_of symbol.now) numbering.now }
     ensures pressed { IfOk result (λ out. out.items ≡ pressed_root symbol.now) }
     ensures components { IfOk result (λ _. HasFewComponents symbol.now) }
@@ -143,7 +145,7 @@ pub fn press_rust(alloc: Global, symbol: &Symbol) -> Result<Vec<u8>, Refusal>
     ensures components { IfOk result (λ _. HasFewComponents symbol.now) }
     ensures memory { IfErr result (λ e. e ≡ Memory) }
 {
-    let numbering = Numbering::rust(alloc, symbol)?;
+    let numbering = numbers(alloc, symbol)?;
     let mut out = press_tasks(alloc, symbol, &numbering)?;
     let view = symbol.node(symbol.root_node());
     out.extend_from_slice(symbol.bytes_of(view.texts[0]))?;

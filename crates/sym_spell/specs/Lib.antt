@@ -1,2 +1,3 @@
 pub mod Pressing
 pub mod Digits
+pub mod Numbers

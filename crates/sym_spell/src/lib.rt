@@ -1,7 +1,11 @@
-//! What pressed spellings are made of, in any mangling: the bytes of a spelling with the components that it spells out, and
-//! digits.
+//! What pressed spellings are made of, in any mangling: the bytes of a spelling with the components that it spells out,
+//! digits, and the numbers of nodes.
 #![tactic(auto)]
 
 mod digits;
+mod firsts;
+mod numbers;
 
 pub use digits::push_digits;
+pub use firsts::first_with;
+pub use numbers::Numbers;

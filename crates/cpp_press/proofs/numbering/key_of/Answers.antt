@@ -30,7 +30,7 @@ part_number-requires-3-clause-part c =
 pub returns : goal.returns
 returns c =
     let y = c.args.symbol.now in
-    let ns = c.args.numbers.now in
+    let ns = c.args.firsts.now in
     let view = c.view_of-view.result in
     let few : length view.parts ≡ 3 = search rules in
     let four : length view.texts ≡ 4 = search rules in

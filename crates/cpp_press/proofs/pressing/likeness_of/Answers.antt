@@ -18,11 +18,11 @@ likeness-is y ns node e number b same is =
 pub returns-then-entry : goal.returns-then-entry
 returns-then-entry c =
     let y = c.args.symbol.now in
-    likeness-is y c.args.numbering.now c.args.node c.args.encoding c.number_of-number.result true c.number_of-number.ensures
+    likeness-is y c.args.numbering.now c.args.node c.args.encoding c.number_of-number.result true c.number_of-number.ensures.number
     (sym c.if-entry.true ∙ ap (λ e. e.is_open) c.entry.ensures ∙ (c.requires.table.each c.args.node c.requires.node).free ∙ open-erased (tree_at (trees (table_of y)) c.args.node))
 
 pub returns-else-entry : goal.returns-else-entry
 returns-else-entry c =
     let y = c.args.symbol.now in
-    likeness-is y c.args.numbering.now c.args.node c.args.encoding c.number_of-number.result false c.number_of-number.ensures
+    likeness-is y c.args.numbering.now c.args.node c.args.encoding c.number_of-number.result false c.number_of-number.ensures.number
     (sym c.if-entry.false ∙ ap (λ e. e.is_open) c.entry.ensures ∙ (c.requires.table.each c.args.node c.requires.node).free ∙ open-erased (tree_at (trees (table_of y)) c.args.node))

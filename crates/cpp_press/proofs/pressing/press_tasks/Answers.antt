@@ -1,10 +1,10 @@
 use Rattle.std.proofs.Common.{◌≡◌, refl, rules, length, ap, arith, sym, subst, ◌∙◌}
-use Rattle.indexmap.specs.IndexMap.{get}
+use Rattle.std.specs.BTreeMap.{get}
 use Rattle.cpp_press.specs.declared.task.Task.{Task}
 use Rattle.cpp_press.specs.declared.task.Way.{Way}
 use Rattle.cpp_press.specs.Bytes.{text_bytes}
 use Rattle.cpp_press.specs.Tasks.{◌onto◌, in_way, press_task, press_tasks, plain_at, AreTasks}
-use Rattle.cpp_press.specs.Places.{like, noted}
+use Rattle.cpp_press.specs.Places.{likeness_cmp, noted}
 use Rattle.cpp_press.specs.Standings.{standing_of, template_standing_of}
 use Rattle.cpp_press.proofs.Going.{popped, task-there, weight-there, changed-goes, text-goes, ended-goes, first-goes, last-goes, last-few}
 use Rattle.cpp_press.proofs.pressing.press_tasks.Goals as goal
@@ -97,7 +97,7 @@ pub tasks-preserved-in-Continue-branch-3 : goal.tasks-preserved-in-Continue-bran
 tasks-preserved-in-Continue-branch-3 c = (
   ended-goes c.in-Ended.node c.in-Ended.encoding c.tasks.invariant.1 c.tasks.invariant.0
       (popped c.pop.new.self.items c.pop.ensures.items c.in-Some.is c.in-Ended.is)
-      (λ q. c.in_ok-push-in-Ended.ensures.first q ∙ ap (λ l. noted (get like c.tasks.components.first) l c.tasks.components.count q) c.likeness_of.ensures)
+      (λ q. c.in_ok-push-in-Ended.ensures.first q ∙ ap (λ l. noted (get likeness_cmp c.tasks.components.first) l c.tasks.components.count q) c.likeness_of.ensures)
       c.in_ok-push-in-Ended.ensures.count,
   c.tasks.invariant.1,
 )

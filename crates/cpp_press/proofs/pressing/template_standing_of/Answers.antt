@@ -1,10 +1,10 @@
 use Rattle.std.proofs.Common.{ap, sym, ◌∙◌}
-use Rattle.indexmap.specs.IndexMap.{get}
+use Rattle.std.specs.BTreeMap.{get}
 use Rattle.cpp_term.specs.Erased.{erase}
 use Rattle.cpp_press.specs.Tasks.{plain_at}
 use Rattle.cpp_press.specs.Spelled.{is_name}
 use Rattle.cpp_press.specs.Standings.{compared}
-use Rattle.cpp_press.specs.Places.{like, likeness_of}
+use Rattle.cpp_press.specs.Places.{likeness_cmp, likeness_of}
 use Rattle.cpp_press.proofs.Standing.{compared-name, uncompared-name}
 use Rattle.cpp_press.proofs.pressing.template_standing_of.Goals as goal
 
@@ -12,13 +12,13 @@ pub returns-then-is_name : goal.returns-then-is_name
 returns-then-is_name c =
     let y = c.args.symbol.now in
     let t = plain_at y c.args.name in
-    c.compared.ensures ∙ ap compared (c.first.ensures ∙ ap (get like c.args.components.now.first) c.likeness_of.ensures)
-    ∙ compared-name t (get like c.args.components.now.first (likeness_of y c.args.numbering.now c.args.name c.args.encoding))
+    c.compared.ensures ∙ ap compared (c.first.ensures ∙ ap (get likeness_cmp c.args.components.now.first) c.likeness_of.ensures)
+    ∙ compared-name t (get likeness_cmp c.args.components.now.first (likeness_of y c.args.numbering.now c.args.name c.args.encoding))
     (ap (λ u. is_name u) (ap erase c.stored.ensures.tree) ∙ sym (c.is_name.ensures y) ∙ c.if-is_name.true)
 
 pub returns-else-is_name : goal.returns-else-is_name
 returns-else-is_name c =
     let y = c.args.symbol.now in
     let t = plain_at y c.args.name in
-    uncompared-name t (get like c.args.components.now.first (likeness_of y c.args.numbering.now c.args.name c.args.encoding))
+    uncompared-name t (get likeness_cmp c.args.components.now.first (likeness_of y c.args.numbering.now c.args.name c.args.encoding))
     (ap (λ u. is_name u) (ap erase c.stored.ensures.tree) ∙ sym (c.is_name.ensures y) ∙ c.if-is_name.false)

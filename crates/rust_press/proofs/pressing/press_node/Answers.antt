@@ -1,5 +1,5 @@
 use Rattle.std.proofs.Common.{◌≡◌, length, [], ◌∷◌, ◌++◌, Some, None, slice_get, get_or, inl, inr, rules, refl, sym, ap, subst, ◌∙◌}
-use Rattle.rust_press.specs.Numbers.{number_at}
+use Rattle.sym_spell.specs.Numbers.{number_at}
 use Rattle.rust_press.specs.declared.pressing.Task.{Task}
 use Rattle.rust_tree.specs.Views.{fields_at}
 use Rattle.rust_press.specs.Spelled.{is_component}

@@ -1,7 +1,7 @@
 use Rattle.std.proofs.Common.{◌≡◌, ◌<◌, ◌++◌, ◌∷◌, [], length, slice_get, Some, rules, arith, ap, sym, subst, ◌∙◌}
 use Rattle.rust_tree.proofs.Trees.{length-trees}
 use Rattle.rust_tree.specs.Layout.{trees_of}
-use Rattle.rust_press.specs.Numbers.{number_at}
+use Rattle.sym_spell.specs.Numbers.{number_at}
 use Rattle.rust_press.specs.Tasks.{press_root, placed, IsNodeStep}
 use Rattle.rust_press.specs.declared.pressing.Task.{Task}
 use Rattle.rust_press.proofs.WriterSteps.{components-last, goes-first, number-below, popped, node-goes, end-goes, node-there, end-there}
@@ -15,7 +15,7 @@ tasks-init c =
     let ns = c.args.numbering.now in
     let are = c.requires in
     let many = length-trees y.bytes y.table.nodes in
-    let count : c.looks.result ≡ length (trees_of y) = c.looks.ensures ∙ are.0 in (
+    let count : c.looks.result ≡ length (trees_of y) = c.looks.ensures.each ∙ are.long in (
       goes-first y ns c.push.new.self.items c.in_ok-places.places.items c.new-out.result.items c.root_node.result c.looks.result c.root_node.ensures.root
           (omega (arith, c.root_node.ensures.within, many))
           (c.in_ok-push.ensures.items ∙ ap (λ l. l ++ Task.Node c.root_node.result ∷ []) c.new-tasks.ensures.items) c.new-out.ensures.items c.in_ok-places.ensures.places

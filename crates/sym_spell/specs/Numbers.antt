@@ -1,0 +1,32 @@
+-- Numbers of things that are counted from 0: equal things have one number.
+use Rattle.std.specs.Prelude.{◌≡◌, ℕ, ◌+◌, ◌<◌, ◌≤◌, max, List, length, fold, take, slice_get, get_or, Some}
+
+-- the number of the thing
+abbrev pub number_at : List ℕ → (thing : ℕ) → ℕ
+number_at numbers thing = get_or numbers thing 0
+
+-- how many entries a map has that gives these numbers: one more than the greatest
+abbrev pub entries_of : List ℕ → ℕ
+entries_of numbers = fold (λ most n. max most (n + 1)) 0 numbers
+
+-- each number is below the bound
+abbrev pub AreBelow : List ℕ → (bound : ℕ) → Type 0
+AreBelow numbers bound = (i : ℕ) → i < length numbers → number_at numbers i < bound
+
+-- Equal things have one number, and different ones two.
+pub record TellApart {A : Type 0} (thing : ℕ → A) (numbers : List ℕ) : Type 0 where
+  pub same : (i j : ℕ) → i < length numbers → j < length numbers → number_at numbers i ≡ number_at numbers j → thing i ≡ thing j
+  pub equal : (i j : ℕ) → i < length numbers → j < length numbers → thing i ≡ thing j → number_at numbers i ≡ number_at numbers j
+
+-- As many things have these numbers: equal ones have one, and different ones two. A thing that is new gets the next one.
+pub record AreNumbered {A : Type 0} (thing : ℕ → A) (count : ℕ) (numbers : List ℕ) : Type 0 where
+  pub long : length numbers ≡ count
+  pub same : (i j : ℕ) → i < length numbers → j < length numbers → number_at numbers i ≡ number_at numbers j → thing i ≡ thing j
+  pub equal : (i j : ℕ) → i < length numbers → j < length numbers → thing i ≡ thing j → number_at numbers i ≡ number_at numbers j
+  pub next : (i : ℕ) → i < length numbers → number_at numbers i ≤ entries_of (take i numbers)
+
+-- The first things have these numbers, each the place of its entry, and the entries are as many as the numbers tell.
+pub record AreCounted (firsts numbers entries : List ℕ) : Type 0 where
+  pub numbered : AreNumbered (number_at firsts) (length numbers) numbers
+  pub each : (i : ℕ) → i < length numbers → slice_get entries (number_at numbers i) ≡ Some (number_at firsts i)
+  pub many : entries_of numbers ≡ length entries
