@@ -176,7 +176,7 @@ def code_answers():
         out = [f"-- {WRITTEN}", f"use Rattle.std.proofs.Common.{{◌≡◌, refl, {'ap, ' if dropped else ''}arith, false}}", "use Rattle.std.proofs.lemmas.Bool.{ne_eqb}",
                f"use Rattle.cpp_layout.proofs.CodeLetters.{{{letters}}}", f"use Rattle.cpp_layout.proofs.Coding.{{any_of, {lemma}}}"]
         if dropped: out += ["use Rattle.std.specs.Prelude.{drop}"]
-        else: out += [f"use Rattle.cpp_grammar.specs.Texts.{{look_up, same_bytes, {', '.join(ALL_TABLES)}}}"]
+        if name == "builtin": out += [f"use Rattle.cpp_grammar.specs.Texts.{{look_up, same_bytes, {', '.join(ALL_TABLES)}}}"]
         out += [f"use Rattle.cpp_layout.proofs.numbered.{name}.Goals as goal", "", "pub returns-in_default-clause-text : goal.returns-in_default-clause-text",
                 "returns-in_default-clause-text c = " + (f"ap (λ l. drop 5 l) ({none})" if dropped else none)]
         if name == "builtin":

@@ -3,7 +3,6 @@ use Rattle.std.proofs.Common.{◌≡◌, refl, arith, false}
 use Rattle.std.proofs.lemmas.Bool.{ne_eqb}
 use Rattle.cpp_layout.proofs.CodeLetters.{special_letters}
 use Rattle.cpp_layout.proofs.Coding.{any_of, no_special}
-use Rattle.cpp_grammar.specs.Texts.{look_up, same_bytes, builtin_texts, operator_texts, abbreviation_texts, special_texts, literal_endings}
 use Rattle.cpp_layout.proofs.numbered.special.Goals as goal
 
 pub returns-in_default-clause-text : goal.returns-in_default-clause-text
