@@ -1,7 +1,10 @@
 #!/usr/bin/env python3
-"""The C++ grammar as a table. `grammar.py laws` checks its laws; `grammar.py write FOLDER` writes the files of
-crate cpp_grammar that hold the table (FOLDER is the crate's); `grammar.py markdown` prints it as a table to read."""
-import sys
+"""The C++ grammar as a table. `grammar.py laws` checks its laws; `grammar.py write CRATES` writes the files that hold the
+table, or the words of vocabulary.py (CRATES is the folder of the crates); `grammar.py markdown` prints it as a table to read."""
+import os, sys
+sys.path.insert(0, os.path.dirname(os.path.abspath(__file__)))
+import vocabulary as words
+import words as written_words
 LET = "abcdefghijklmnopqrstuvwxyzABCDEFGHIJKLMNOPQRSTUVWXYZ"
 DIG = "0123456789"
 WORD = LET + DIG + "_.$"
@@ -21,8 +24,12 @@ def kind(name, *rules, empty=False):
 def eats(cls, name, *symbols): return (cls, prod(name, *symbols))
 def chain(name, *symbols): return (None, prod(name, *symbols, chain=True))
 
-OPS = [("n", "waget"), ("d", "laevV"), ("a", "wdnSNa"), ("p", "slLpmt"), ("c", "oml"), ("m", "ilILm"), ("r", "msMS"),
-       ("o", "rRo"), ("e", "oOq"), ("l", "sSte"), ("s", "s"), ("i", "x"), ("g", "te")]
+# the first letters of operators, each with the second letters behind it
+OPS = [(first, "".join(code[1] for code, text in words.OPERATORS if code[0] == first)) for first in words.FIRST_LETTERS]
+# the letters of builtin types with a code of one letter, and behind D; of those whose literals are of a sort
+def builtins(d, *sorts): return "".join(code[-1] for code, text, literal in words.BUILTINS if (len(code) == 2) == d and (not sorts or literal in sorts))
+ABBREVIATED = "".join(letter for letter, text in words.ABBREVIATIONS)
+SPECIAL = "".join(letter for letter, text in words.SPECIALS)
 MARK = lambda cls: eats(cls, "Mark")
 L_NAME = eats("L", "InternalName", NAME, "MaybeArguments")
 U_NAME = eats("U", "LocalTypeName", "Anonymous", "MaybeArguments")
@@ -43,7 +50,7 @@ def build(extended=True):
     kind("SuffixFirst", eats(WORD, "SuffixByte", "SuffixMore"))
     kind("SuffixMore", eats(WORD, "SuffixByte", "SuffixMore"), empty=True)
     kind("Encoding", eats("T", "Special", "Special"), eats("G", "Guard", "'V'", "CompleteName"), chain("Encoding", "CompleteName", "Items"))
-    kind("Special", eats("VTIS", "SpecialType", "Type"), eats("h", "NonVirtualThunk", "Integer", "'_'", "Encoding"),
+    kind("Special", eats(SPECIAL, "SpecialType", "Type"), eats("h", "NonVirtualThunk", "Integer", "'_'", "Encoding"),
          eats("v", "VirtualThunk", "Integer", "'_'", "Integer", "'_'", "Encoding"), eats("c", "CovariantThunk", "CallOffset", "CallOffset", "Encoding"))
     kind("CallOffset", eats("h", "NonVirtualOffset", "Integer", "'_'"), eats("v", "VirtualOffset", "Integer", "'_'", "Integer", "'_'"))
     kind("Integer", eats("n", "Negative", DIGITS), chain("Positive", DIGITS))
@@ -64,7 +71,7 @@ def build(extended=True):
          L_NAME, U_NAME, OP_NAME, S_NAME)
     kind("ConstructorDigit", MARK("123"))
     kind("DestructorDigit", MARK("012"))
-    kind("Abbreviation", eats("absiod", "Abbreviation"), chain("Substitution", SEQ36))
+    kind("Abbreviation", eats(ABBREVIATED, "Abbreviation"), chain("Substitution", SEQ36))
     kind("Entity", eats("s", "StringLiteral"), NESTED, L_NAME, U_NAME, S_NAME)
     kind("TypeEntity", eats("N", "NestedType", "Nest"), L_NAME, U_NAME, S_NAME)
     kind("MaybeDiscriminator", eats("_", "Discriminator", "DiscriminatorRest"), empty=True)
@@ -78,7 +85,7 @@ def build(extended=True):
     kind("Item", *QUALS, eats("D", "ItemWithD", "ItemAfterD"), REF, OTHER)
     kind("ItemButRef", *QUALS, eats("D", "ItemWithD", "ItemAfterD"), OTHER)
     kind("ItemAfterD", eats("p", "Expansion", "Type"), chain("ItemIsType", "AfterD"))
-    after_d = [eats("isuacn", "BuiltinWithD")]
+    after_d = [eats(builtins(True), "BuiltinWithD")]
     if extended:
         after_d += [eats("v", "Vector", DIGITS, "'_'", "Type"), eats("o", "NoexceptFunction", "'F'", "MaybeCLinkage", "Type", "FunctionRest")]
     kind("AfterD", *after_d)
@@ -87,7 +94,7 @@ def build(extended=True):
     NAMED = [eats("P", "Pointer", "Type"), eats("M", "MemberPointer", "Type", "Type"), eats("T", "Parameter", DECIMAL, "MaybeArguments"),
              eats("S", "TypeWithS", "TypeAfterS", "MaybeArguments"), eats("N", "NestedType", "Nest"),
              eats("Z", "LocalType", "Encoding", "'E'", "TypeEntity", "MaybeDiscriminator"), U_NAME, S_NAME]
-    kind("Solid", eats("vwbcahstijlmxynofdegz", "Builtin"), eats("u", "Vendor", NAME), eats("A", "Array", DECIMAL, "Type"),
+    kind("Solid", eats(builtins(False), "Builtin"), eats("u", "Vendor", NAME), eats("A", "Array", DECIMAL, "Type"),
          eats("F", "Function", "MaybeCLinkage", "Type", "FunctionRest"), *([eats("C", "Complex", "Type")] if extended else []), *NAMED)
     kind("MaybeCLinkage", MARK("Y"), empty=True)
     kind("TypeAfterS", eats("t", "StdType", "SourceOrLocal"), chain("AbbreviatedType", "Abbreviation"))
@@ -106,9 +113,9 @@ def build(extended=True):
     kind("Literal", eats("_", "EncodingLiteral", "'Z'", "Encoding"), eats("b", "BoolLiteral", "Bit"), eats("D", "LiteralWithD", "LiteralAfterD"),
          chain("IntegerLiteral", "LiteralType", "Integer"))
     kind("Bit", MARK("01"))
-    kind("LiteralAfterD", eats("n", "NullLiteral", "MaybeZero"), eats("isu", "CharLiteral", "Integer"))
+    kind("LiteralAfterD", eats(builtins(True, words.NULL), "NullLiteral", "MaybeZero"), eats(builtins(True, words.CHARACTER), "CharLiteral", "Integer"))
     kind("MaybeZero", MARK("0"), empty=True)
-    kind("LiteralType", eats("wcahstijlmxyno", "Builtin"), *NAMED)
+    kind("LiteralType", eats(builtins(False, words.INTEGER), "Builtin"), *NAMED)
     kind("Operator", *[eats(a, "Operator" + a.upper(), "OperatorAfter" + a.upper()) for a, _ in OPS])
     for a, second in OPS:
         rules = [MARK(second)]
@@ -441,6 +448,11 @@ def antt_grammar():
     out += [f"number_of Production.{p} = {i}" for i, p in enumerate(P)]
     return "\n".join(out) + "\n"
 
+def antt_kind_numbers():
+    out = [f"-- {WRITTEN} The numbers of the kinds, by their names.", "use Rattle.std.specs.Prelude.{ℕ}"]
+    for i, k in enumerate(K): out += ["", f"abbrev pub {snake(k).upper()} : ℕ", f"{snake(k).upper()} = {i}"]
+    return "\n".join(out) + "\n"
+
 def antt_follow(after, depth, height):
     out = [f"-- {WRITTEN} What may come after each kind, and how its trees are bounded: what the laws of a grammar ask for.",
            "use Rattle.std.specs.Prelude.{ℕ, List, codes}", "use Rattle.cpp_grammar.specs.declared.kind.Kind.{Kind}", "",
@@ -481,17 +493,23 @@ def antt_before():
             "unfoldable pub choose_before : Kind → ℕ → Option Production", "choose_before kind byte = pick (alternatives_before kind) byte"]
     return "\n".join(out) + "\n"
 
-def write(folder):
-    def put(path, text):
-        with open(f"{folder}/{path}", "w") as f: f.write(text)
-    put("specs/Before.antt", antt_before())
+def files():
+    """what is written: each file's path in the folder of the crates, and its text"""
+    yield "cpp_grammar/specs/Before.antt", antt_before()
     build(True); bad, after, depth, height = laws()
     assert not bad, bad
-    put("src/kind.rt", rust_kinds())
-    put("src/production.rt", rust_productions())
-    put("src/table.rt", rust_table())
-    put("specs/Grammar.antt", antt_grammar())
-    put("specs/Follow.antt", antt_follow(after, depth, height))
+    yield "cpp_grammar/src/kind.rt", rust_kinds()
+    yield "cpp_grammar/src/production.rt", rust_productions()
+    yield "cpp_grammar/src/table.rt", rust_table()
+    yield "cpp_grammar/specs/Grammar.antt", antt_grammar()
+    yield "cpp_grammar/specs/KindNumbers.antt", antt_kind_numbers()
+    yield "cpp_grammar/specs/Follow.antt", antt_follow(after, depth, height)
+    yield from written_words.files({p: symbols for p, (ate, symbols) in P.items()})
+
+def write(crates):
+    for path, text in files():
+        os.makedirs(os.path.dirname(f"{crates}/{path}"), exist_ok=True)
+        with open(f"{crates}/{path}", "w") as f: f.write(text)
 
 def markdown():
     build(True); laws()

@@ -5,6 +5,7 @@ use Rattle.sym_shape.specs.declared.rule.Sym.TheVariants.{Kind as OfKind, Name, 
 use Rattle.sym_link.specs.Unfold.{found, standing}
 use Rattle.cpp_grammar.specs.declared.kind.Kind.{Kind}
 use Rattle.cpp_grammar.specs.declared.production.Production.{Production}
+use Rattle.cpp_grammar.specs.KindNumbers.{NEST_TAIL, COMPONENT, CONSTRUCTOR_DIGIT, DESTRUCTOR_DIGIT, MAYBE_ARGUMENTS, ARGUMENT_LIST, OPERATOR}
 use Rattle.cpp_grammar.specs.Grammar.{in_ranges, among, is_in, pick, alternatives, number_of_kind, choose, parts_of, is_chain}
 use Rattle.cpp_grammar.specs.Table.{rule_of}
 use Rattle.cpp_grammar.specs.Term.{Term, within, instance, source, operator, constructor, destructor}
@@ -44,13 +45,13 @@ component-awaits s kind os around t listed at st is expects =
     let p : Production = Production.NestNext in
     let here : Around = after t listed around in
     record {
-      inner = opened (standing (rule_of p) [] at here st) [] (OfKind 18 ∷ []) ∷ os;
-      awaits = first-of-chain s kind p 48 here os at st (OfKind 19) (OfKind 18 ∷ []) (after t true around) []
+      inner = opened (standing (rule_of p) [] at here st) [] (OfKind NEST_TAIL ∷ []) ∷ os;
+      awaits = first-of-chain s kind p 48 here os at st (OfKind COMPONENT) (OfKind NEST_TAIL ∷ []) (after t true around) []
           (unless_listed listed around.encoding t st) (rest-chooses kind is) (omega arith) refl (λ f. refl) refl
           (rw (prefix-appended around t listed st) refl) expects;
       onward = λ u to later comes. record {
         inner = opened (standing (rule_of p) [] at here st) (tree u false ∷ []) [] ∷ os;
-        awaits = next-of s p [] at here st [] (tree u false) (OfKind 18) [] os to later (after u false around) (tree u false ∷ []) later refl comes;
+        awaits = next-of s p [] at here st [] (tree u false) (OfKind NEST_TAIL) [] os to later (after u false around) (tree u false ∷ []) later refl comes;
         passes = last-passes s p [] at here st (tree u false ∷ []) os (λ v x. refl);
       };
     }
@@ -64,22 +65,22 @@ first-arguments s os around t listed at st expects stands =
     let p : Production = Production.NestArguments in
     let here : Around = after t listed around in
     record {
-      inner = opened (standing (rule_of p) (73 ∷ []) at here st) [] (Byte 69 ∷ OfKind 19 ∷ OfKind 18 ∷ []) ∷ os;
-      awaits = first-of s Kind.NestRest p 73 here os at st (OfKind 44) (Byte 69 ∷ OfKind 19 ∷ OfKind 18 ∷ []) (inside around) []
+      inner = opened (standing (rule_of p) (73 ∷ []) at here st) [] (Byte 69 ∷ OfKind COMPONENT ∷ OfKind NEST_TAIL ∷ []) ∷ os;
+      awaits = first-of s Kind.NestRest p 73 here os at st (OfKind ARGUMENT_LIST) (Byte 69 ∷ OfKind COMPONENT ∷ OfKind NEST_TAIL ∷ []) (inside around) []
           (unless_listed listed around.encoding t st) refl (omega arith) refl (λ f. refl) refl
           (rw (prefix-appended around t listed st) refl) expects stands;
       onward = λ l to later comes ended.
           let u : Term = instance t (no_items l) in
           record {
-            inner = opened (standing (rule_of p) (73 ∷ []) at here st) (tree u true ∷ nothing_there ∷ []) (OfKind 18 ∷ []) ∷ os;
-            awaits = next-of s p (73 ∷ []) at here st (l ∷ []) nothing_there (OfKind 19) (OfKind 18 ∷ []) os (to + 1) later (after u true around)
+            inner = opened (standing (rule_of p) (73 ∷ []) at here st) (tree u true ∷ nothing_there ∷ []) (OfKind NEST_TAIL ∷ []) ∷ os;
+            awaits = next-of s p (73 ∷ []) at here st (l ∷ []) nothing_there (OfKind COMPONENT) (OfKind NEST_TAIL ∷ []) os (to + 1) later (after u true around)
                 (tree u true ∷ nothing_there ∷ []) (with_candidate around.encoding u later) refl
-                (expects-byte s 69 here (opened (standing (rule_of p) (73 ∷ []) at here st) (l ∷ []) (OfKind 19 ∷ OfKind 18 ∷ []) ∷ os) to later
-                (next-of s p (73 ∷ []) at here st [] l (Byte 69) (OfKind 19 ∷ OfKind 18 ∷ []) os to later here (l ∷ []) later refl comes)
+                (expects-byte s 69 here (opened (standing (rule_of p) (73 ∷ []) at here st) (l ∷ []) (OfKind COMPONENT ∷ OfKind NEST_TAIL ∷ []) ∷ os) to later
+                (next-of s p (73 ∷ []) at here st [] l (Byte 69) (OfKind COMPONENT ∷ OfKind NEST_TAIL ∷ []) os to later here (l ∷ []) later refl comes)
                 ended);
             onward = λ w onto newer came. record {
               inner = opened (standing (rule_of p) (73 ∷ []) at here st) (tree u true ∷ nothing_there ∷ tree w false ∷ []) [] ∷ os;
-              awaits = next-of s p (73 ∷ []) at here st (tree u true ∷ nothing_there ∷ []) (tree w false) (OfKind 18) [] os onto newer
+              awaits = next-of s p (73 ∷ []) at here st (tree u true ∷ nothing_there ∷ []) (tree w false) (OfKind NEST_TAIL) [] os onto newer
                   (after w false around) (tree u true ∷ nothing_there ∷ tree w false ∷ []) newer refl came;
               passes = last-passes s p (73 ∷ []) at here st (tree u true ∷ nothing_there ∷ tree w false ∷ []) os (λ v x. refl);
             };
@@ -124,9 +125,9 @@ component-source s os around t at st name end expects is =
     let here : Around = after t true around in
     let u : Term = within t (source false name) in
     named-by s os p [] at here st u end st (λ byte now began later v. refl) around
-    (next-of s p [] at here st [] (text name) (OfKind 42) [] os end st (after u false around) (tree u false ∷ []) st refl
-    (expects-name s here (opened (standing (rule_of p) [] at here st) [] (OfKind 42 ∷ []) ∷ os) at st name end
-    (first-of-chain s Kind.Component p 48 here os at st Name (OfKind 42 ∷ []) here [] st refl (omega arith) refl (λ f. refl) refl refl expects) is))
+    (next-of s p [] at here st [] (text name) (OfKind MAYBE_ARGUMENTS) [] os end st (after u false around) (tree u false ∷ []) st refl
+    (expects-name s here (opened (standing (rule_of p) [] at here st) [] (OfKind MAYBE_ARGUMENTS ∷ []) ∷ os) at st name end
+    (first-of-chain s Kind.Component p 48 here os at st Name (OfKind MAYBE_ARGUMENTS ∷ []) here [] st refl (omega arith) refl (λ f. refl) refl refl expects) is))
 
 -- a name of internal linkage
 pub component-internal : (s : List ℕ) (os : List Opened) (around : Around) (t : Term) (at : ℕ) (st : State) (name : List ℕ) (end : ℕ)
@@ -138,9 +139,9 @@ component-internal s os around t at st name end expects stands is =
     let here : Around = after t true around in
     let u : Term = within t (source true name) in
     named-by s os p (76 ∷ []) at here st u end st (λ byte now began later v. refl) around
-    (next-of s p (76 ∷ []) at here st [] (text name) (OfKind 42) [] os end st (after u false around) (tree u false ∷ []) st refl
-    (expects-name s here (opened (standing (rule_of p) (76 ∷ []) at here st) [] (OfKind 42 ∷ []) ∷ os) (at + 1) st name end
-    (first-of s Kind.Component p 76 here os at st Name (OfKind 42 ∷ []) here [] st refl (omega arith) refl (λ f. refl) refl refl expects stands) is))
+    (next-of s p (76 ∷ []) at here st [] (text name) (OfKind MAYBE_ARGUMENTS) [] os end st (after u false around) (tree u false ∷ []) st refl
+    (expects-name s here (opened (standing (rule_of p) (76 ∷ []) at here st) [] (OfKind MAYBE_ARGUMENTS ∷ []) ∷ os) (at + 1) st name end
+    (first-of s Kind.Component p 76 here os at st Name (OfKind MAYBE_ARGUMENTS ∷ []) here [] st refl (omega arith) refl (λ f. refl) refl refl expects stands) is))
 
 -- an operator
 pub component-operator : (s : List ℕ) (os : List Opened) (around : Around) (t : Term) (at : ℕ) (st : State) (first second : ℕ)
@@ -153,16 +154,16 @@ component-operator s os around t at st first second is expects stands =
     let u : Term = within t (operator first second) in
     let v : Value = piece (operator first second) in
     let two = stands-split s at (first ∷ []) (second ∷ []) stands in
-    let os1 : List Opened = opened (standing (rule_of p) [] at here st) [] (OfKind 42 ∷ []) ∷ os in
+    let os1 : List Opened = opened (standing (rule_of p) [] at here st) [] (OfKind MAYBE_ARGUMENTS ∷ []) ∷ os in
     let os2 : List Opened = opened (standing (rule_of is.production) (first ∷ []) at here st) [] [] ∷ os1 in
     named-by s os p [] at here st u (at + 2) st (λ byte now began later w. refl) around
-    (next-of s p [] at here st [] v (OfKind 42) [] os (at + 2) st (after u false around) (tree u false ∷ []) st refl
+    (next-of s p [] at here st [] v (OfKind MAYBE_ARGUMENTS) [] os (at + 2) st (after u false around) (tree u false ∷ []) st refl
     (comes-moved s os1 v (at + 1 + 1) (at + 2) st (omega arith)
     (last-of s is.production (first ∷ []) at here st [] (letter second) os1 (at + 1 + 1) st v st (is.takes.closes first second here at st st)
     (letter-comes s is.kind Production.Mark second here os2 (at + 1) st (letter second) st is.marked is.small_second refl (λ f. refl) refl refl
     (first-of s Kind.Operator is.production first here os1 at st (OfKind (number_of_kind is.kind)) [] here [] st is.chosen is.small is.takes.chain
     (λ f. is.takes.begins f at st) is.takes.parts (is.takes.passes here at st)
-    (first-of-chain s Kind.Component p 110 here os at st (OfKind 52) (OfKind 42 ∷ []) here [] st refl (omega arith) refl (λ f. refl) refl refl expects)
+    (first-of-chain s Kind.Component p 110 here os at st (OfKind OPERATOR) (OfKind MAYBE_ARGUMENTS ∷ []) here [] st refl (omega arith) refl (λ f. refl) refl refl expects)
     two.0)
     two.1))))
 
@@ -176,13 +177,13 @@ component-constructor s os around t at st digit expects stands low high =
     let here : Around = after t true around in
     let u : Term = within t (constructor digit) in
     let two = stands-split s at (67 ∷ []) (digit ∷ []) stands in
-    let os1 : List Opened = opened (standing (rule_of p) (67 ∷ []) at here st) [] (OfKind 42 ∷ []) ∷ os in
+    let os1 : List Opened = opened (standing (rule_of p) (67 ∷ []) at here st) [] (OfKind MAYBE_ARGUMENTS ∷ []) ∷ os in
     named-by s os p (67 ∷ []) at here st u (at + 2) st (λ byte now began later v. refl) around
-    (next-of s p (67 ∷ []) at here st [] (letter digit) (OfKind 42) [] os (at + 2) st (after u false around) (tree u false ∷ []) st refl
+    (next-of s p (67 ∷ []) at here st [] (letter digit) (OfKind MAYBE_ARGUMENTS) [] os (at + 2) st (after u false around) (tree u false ∷ []) st refl
     (comes-moved s os1 (letter digit) (at + 1 + 1) (at + 2) st (omega arith)
     (letter-comes s Kind.ConstructorDigit Production.Mark digit here os1 (at + 1) st (letter digit) st
     (rw (le-leb 49 digit low, le-leb digit 51 high) refl) (omega (arith, high)) refl (λ f. refl) refl refl
-    (first-of s Kind.Component p 67 here os at st (OfKind 20) (OfKind 42 ∷ []) here [] st refl (omega arith) refl (λ f. refl) refl refl expects two.0)
+    (first-of s Kind.Component p 67 here os at st (OfKind CONSTRUCTOR_DIGIT) (OfKind MAYBE_ARGUMENTS ∷ []) here [] st refl (omega arith) refl (λ f. refl) refl refl expects two.0)
     two.1)))
 
 -- a destructor
@@ -195,11 +196,11 @@ component-destructor s os around t at st digit expects stands low high =
     let here : Around = after t true around in
     let u : Term = within t (destructor digit) in
     let two = stands-split s at (68 ∷ []) (digit ∷ []) stands in
-    let os1 : List Opened = opened (standing (rule_of p) (68 ∷ []) at here st) [] (OfKind 42 ∷ []) ∷ os in
+    let os1 : List Opened = opened (standing (rule_of p) (68 ∷ []) at here st) [] (OfKind MAYBE_ARGUMENTS ∷ []) ∷ os in
     named-by s os p (68 ∷ []) at here st u (at + 2) st (λ byte now began later v. refl) around
-    (next-of s p (68 ∷ []) at here st [] (letter digit) (OfKind 42) [] os (at + 2) st (after u false around) (tree u false ∷ []) st refl
+    (next-of s p (68 ∷ []) at here st [] (letter digit) (OfKind MAYBE_ARGUMENTS) [] os (at + 2) st (after u false around) (tree u false ∷ []) st refl
     (comes-moved s os1 (letter digit) (at + 1 + 1) (at + 2) st (omega arith)
     (letter-comes s Kind.DestructorDigit Production.Mark digit here os1 (at + 1) st (letter digit) st
     (rw (le-leb 48 digit low, le-leb digit 50 high) refl) (omega (arith, high)) refl (λ f. refl) refl refl
-    (first-of s Kind.Component p 68 here os at st (OfKind 21) (OfKind 42 ∷ []) here [] st refl (omega arith) refl (λ f. refl) refl refl expects two.0)
+    (first-of s Kind.Component p 68 here os at st (OfKind DESTRUCTOR_DIGIT) (OfKind MAYBE_ARGUMENTS ∷ []) here [] st refl (omega arith) refl (λ f. refl) refl refl expects two.0)
     two.1)))

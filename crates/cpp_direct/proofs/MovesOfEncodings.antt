@@ -14,6 +14,7 @@ use Rattle.sym_link.specs.Unfold.{standing}
 use Rattle.sym_demangle.specs.Mangled.{StandsFor}
 use Rattle.cpp_grammar.specs.declared.kind.Kind.{Kind}
 use Rattle.cpp_grammar.specs.declared.production.Production.{Production}
+use Rattle.cpp_grammar.specs.KindNumbers.{SYMBOL}
 use Rattle.cpp_grammar.specs.Grammar.{in_ranges, among, is_in, pick, number_of_kind, alternatives, choose, parts_of, is_chain, may_be_empty}
 use Rattle.cpp_grammar.specs.Mangled.{cpp_mangled}
 use Rattle.cpp_grammar.specs.Table.{rule_of}
@@ -347,7 +348,7 @@ unfolding number_of_kind
 symbol-expected s bytes vs end reads stands =
     let front : take (0 + length bytes) s ≡ bytes =
     ap (λ n. take n s) (zero-add (length bytes)) ∙ ap (take (length bytes)) stands.1 ∙ take-append_seam bytes stands.0 in
-    subst (λ l. direct.Reads cpp_language s (OfKind 0) first_around 0 l first_state vs end) (sym front) reads
+    subst (λ l. direct.Reads cpp_language s (OfKind SYMBOL) first_around 0 l first_state vs end) (sym front) reads
 
 -- what was read is the symbol
 symbol-read : (s : List ℕ) (t : Term) (end : State) → Comes s [] (tree t true) (length s) end → StandsFor cpp_mangled s (Ok t)

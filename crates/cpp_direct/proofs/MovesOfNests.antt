@@ -11,6 +11,7 @@ use Rattle.sym_link.specs.Reading.{Found, ◌>>=◌}
 use Rattle.sym_link.specs.Unfold.{found, standing}
 use Rattle.cpp_grammar.specs.declared.kind.Kind.{Kind}
 use Rattle.cpp_grammar.specs.declared.production.Production.{Production}
+use Rattle.cpp_grammar.specs.KindNumbers.{UNQUALIFIED, NEST_AFTER_S, NEST_REST, NEST_TAIL, ABBREVIATION, MAYBE_ARGUMENTS}
 use Rattle.cpp_grammar.specs.Grammar.{in_ranges, among, is_in, pick, alternatives, number_of_kind, choose, parts_of, is_chain}
 use Rattle.cpp_grammar.specs.Table.{rule_of}
 use Rattle.cpp_grammar.specs.Term.{Term, alone, in_std, abbreviation, source}
@@ -104,9 +105,9 @@ nest-source s os around at st name end first expects is =
     let u : Term = alone (source false name) in
     record {
       inner = opened (standing (rule_of p) [] at around st) (tree u false ∷ []) [] ∷ os;
-      awaits = next-of s p [] at around st [] (text name) (OfKind 17) [] os end st (after u false around) (tree u false ∷ []) st (rw first refl)
-          (expects-name s around (opened (standing (rule_of p) [] at around st) [] (OfKind 17 ∷ []) ∷ os) at st name end
-          (first-of-chain s Kind.Nest p 48 around os at st Name (OfKind 17 ∷ []) around [] st refl (omega arith) refl (λ f. refl) refl refl expects)
+      awaits = next-of s p [] at around st [] (text name) (OfKind NEST_REST) [] os end st (after u false around) (tree u false ∷ []) st (rw first refl)
+          (expects-name s around (opened (standing (rule_of p) [] at around st) [] (OfKind NEST_REST ∷ []) ∷ os) at st name end
+          (first-of-chain s Kind.Nest p 48 around os at st Name (OfKind NEST_REST ∷ []) around [] st refl (omega arith) refl (λ f. refl) refl refl expects)
           is);
       passes = last-passes s p [] at around st (tree u false ∷ []) os (λ v later. refl);
     }
@@ -117,7 +118,7 @@ pub behind-s : (s : List ℕ) (os : List Opened) (around : Around) (at : ℕ) (s
     → Expects s Kind.NestAfterS around (opened (standing (rule_of Production.NestWithS) (83 ∷ []) at around st) [] [] ∷ os) (at + 1) st
 unfolding choose alternatives pick is_in in_ranges among is_chain parts_of number_of_kind between opening
 behind-s s os around at st expects here =
-    first-of s Kind.Nest Production.NestWithS 83 around os at st (OfKind 16) [] around [] st refl (omega arith) refl (λ f. refl) refl refl
+    first-of s Kind.Nest Production.NestWithS 83 around os at st (OfKind NEST_AFTER_S) [] around [] st refl (omega arith) refl (λ f. refl) refl refl
     expects here
 
 -- and what comes of it
@@ -137,9 +138,9 @@ nest-known s os around at st t end expects here comes =
     let os1 : List Opened = opened (standing (rule_of Production.NestWithS) (83 ∷ []) at around st) [] [] ∷ os in
     record {
       inner = opened (standing (rule_of p) [] (at + 1) around st) (tree t true ∷ []) [] ∷ os1;
-      awaits = next-of s p [] (at + 1) around st [] (tree t true) (OfKind 17) [] os1 end st (after t true around) (tree t true ∷ []) st refl
-          (comes (opened (standing (rule_of p) [] (at + 1) around st) [] (OfKind 17 ∷ []) ∷ os1)
-          (first-of-chain s Kind.NestAfterS p 97 around os1 (at + 1) st (OfKind 22) (OfKind 17 ∷ []) around [] st refl (omega arith) refl (λ f. refl)
+      awaits = next-of s p [] (at + 1) around st [] (tree t true) (OfKind NEST_REST) [] os1 end st (after t true around) (tree t true ∷ []) st refl
+          (comes (opened (standing (rule_of p) [] (at + 1) around st) [] (OfKind NEST_REST ∷ []) ∷ os1)
+          (first-of-chain s Kind.NestAfterS p 97 around os1 (at + 1) st (OfKind ABBREVIATION) (OfKind NEST_REST ∷ []) around [] st refl (omega arith) refl (λ f. refl)
           refl refl (behind-s s os around at st expects here)));
       passes = λ v to later given. s-passes s os around at st v to later
           (last-passes s p [] (at + 1) around st (tree t true ∷ []) os1 (λ w x. refl) v to later given);
@@ -176,16 +177,16 @@ nest-std s os around at st name end expects here is =
     let two = stands-split s at (83 ∷ []) (116 ∷ []) here in
     let os1 : List Opened = opened (standing (rule_of Production.NestWithS) (83 ∷ []) at around st) [] [] ∷ os in
     let piece_expected : Expects s Kind.Unqualified around
-    (opened (standing (rule_of p) (116 ∷ []) (at + 1) around st) [] (OfKind 42 ∷ OfKind 18 ∷ []) ∷ os1) (at + 2) st =
+    (opened (standing (rule_of p) (116 ∷ []) (at + 1) around st) [] (OfKind MAYBE_ARGUMENTS ∷ OfKind NEST_TAIL ∷ []) ∷ os1) (at + 2) st =
     subst (λ n. Expects s Kind.Unqualified around
-    (opened (standing (rule_of p) (116 ∷ []) (at + 1) around st) [] (OfKind 42 ∷ OfKind 18 ∷ []) ∷ os1) n st) (omega arith)
-    (first-of s Kind.NestAfterS p 116 around os1 (at + 1) st (OfKind 14) (OfKind 42 ∷ OfKind 18 ∷ []) around [] st refl (omega arith) refl
+    (opened (standing (rule_of p) (116 ∷ []) (at + 1) around st) [] (OfKind MAYBE_ARGUMENTS ∷ OfKind NEST_TAIL ∷ []) ∷ os1) n st) (omega arith)
+    (first-of s Kind.NestAfterS p 116 around os1 (at + 1) st (OfKind UNQUALIFIED) (OfKind MAYBE_ARGUMENTS ∷ OfKind NEST_TAIL ∷ []) around [] st refl (omega arith) refl
     (λ f. refl) refl refl (behind-s s os around at st expects two.0) two.1) in
     record {
-      inner = opened (standing (rule_of p) (116 ∷ []) (at + 1) around st) (tree u false ∷ []) (OfKind 18 ∷ []) ∷ os1;
-      awaits = next-of s p (116 ∷ []) (at + 1) around st [] (piece (source false name)) (OfKind 42) (OfKind 18 ∷ []) os1 end st
+      inner = opened (standing (rule_of p) (116 ∷ []) (at + 1) around st) (tree u false ∷ []) (OfKind NEST_TAIL ∷ []) ∷ os1;
+      awaits = next-of s p (116 ∷ []) (at + 1) around st [] (piece (source false name)) (OfKind MAYBE_ARGUMENTS) (OfKind NEST_TAIL ∷ []) os1 end st
           (after u false around) (tree u false ∷ []) st refl
-          (piece-comes s (opened (standing (rule_of p) (116 ∷ []) (at + 1) around st) [] (OfKind 42 ∷ OfKind 18 ∷ []) ∷ os1) around (at + 2) st name
+          (piece-comes s (opened (standing (rule_of p) (116 ∷ []) (at + 1) around st) [] (OfKind MAYBE_ARGUMENTS ∷ OfKind NEST_TAIL ∷ []) ∷ os1) around (at + 2) st name
           end piece_expected is);
       bare = λ to later comes. goes-on nothing_there to later comes;
       argued = λ a to later comes. goes-on (tree a true) to later comes;
@@ -193,7 +194,7 @@ nest-std s os around at st name end expects here is =
   where
     goes-on : (last : Value) (to : ℕ) (later : State)
         → Comes s (opened (standing (rule_of Production.NestStd) (116 ∷ []) (at + 1) around st) (tree (in_std (source false name)) false ∷ [])
-        (OfKind 18 ∷ []) ∷ opened (standing (rule_of Production.NestWithS) (83 ∷ []) at around st) [] [] ∷ os) last to later
+        (OfKind NEST_TAIL ∷ []) ∷ opened (standing (rule_of Production.NestWithS) (83 ∷ []) at around st) [] [] ∷ os) last to later
         → NestGoesOn s Kind.NestTail os around (applied (in_std (source false name)) last) false to later
     goes-on last to later comes =
         let p : Production = Production.NestStd in
@@ -202,7 +203,7 @@ nest-std s os around at st name end expects here is =
         let os1 : List Opened = opened (standing (rule_of Production.NestWithS) (83 ∷ []) at around st) [] [] ∷ os in
         record {
           inner = opened (standing (rule_of p) (116 ∷ []) (at + 1) around st) (tree t false ∷ last ∷ []) [] ∷ os1;
-          awaits = next-of s p (116 ∷ []) (at + 1) around st (tree u false ∷ []) last (OfKind 18) [] os1 to later (after t false around)
+          awaits = next-of s p (116 ∷ []) (at + 1) around st (tree u false ∷ []) last (OfKind NEST_TAIL) [] os1 to later (after t false around)
               (tree t false ∷ last ∷ []) later refl comes;
           passes = λ v onto newer given. s-passes s os around at st v onto newer
               (last-passes s p (116 ∷ []) (at + 1) around st (tree t false ∷ last ∷ []) os1 (λ w x. refl) v onto newer given);

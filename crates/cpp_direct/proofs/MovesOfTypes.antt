@@ -12,6 +12,7 @@ use Rattle.sym_link.specs.Reading.{Found, ◌>>=◌}
 use Rattle.sym_link.specs.Unfold.{found, standing}
 use Rattle.cpp_grammar.specs.declared.kind.Kind.{Kind}
 use Rattle.cpp_grammar.specs.declared.production.Production.{Production}
+use Rattle.cpp_grammar.specs.KindNumbers.{NEST, ABBREVIATION, TYPE, PLAIN, ITEM_AFTER_D, AFTER_D, SOLID, TYPE_AFTER_S, SOURCE_OR_LOCAL, MAYBE_ARGUMENTS}
 use Rattle.cpp_grammar.specs.Grammar.{in_ranges, among, is_in, pick, number_of_kind, alternatives, choose, parts_of, is_chain}
 use Rattle.cpp_grammar.specs.Table.{rule_of}
 use Rattle.cpp_grammar.specs.Term.{Term, alone, in_std, abbreviation, source, builtin, pointer, lvalue, rvalue, instance}
@@ -49,28 +50,28 @@ pub solid-opens : (s : List ℕ) (kind : Kind) (around : Around) (os : List Open
 unfolding choose alternatives pick is_in in_ranges among is_chain parts_of number_of_kind between opening byte_of
 solid-opens s Kind.Type around os at st typed expects = record {
   inner = opened (standing (rule_of Production.PlainType) [] at around st) [] [] ∷ os;
-  awaits = first-of-chain s Kind.Type Production.PlainType 80 around os at st (OfKind 34) [] around [] st refl (omega arith) refl (λ f. refl) refl
+  awaits = first-of-chain s Kind.Type Production.PlainType 80 around os at st (OfKind SOLID) [] around [] st refl (omega arith) refl (λ f. refl) refl
       refl expects;
   passes = λ t listed end now other comes. last-of s Production.PlainType [] at around st [] (tree t listed) os end now (tree t true)
       (unless_listed listed around.encoding t now) (plain-closes around at st t listed now) comes;
 }
 solid-opens s Kind.Item around os at st typed expects = record {
   inner = opened (standing (rule_of Production.PlainType) [] at around st) [] [] ∷ os;
-  awaits = first-of-chain s Kind.Item Production.PlainType 80 around os at st (OfKind 34) [] around [] st refl (omega arith) refl (λ f. refl) refl
+  awaits = first-of-chain s Kind.Item Production.PlainType 80 around os at st (OfKind SOLID) [] around [] st refl (omega arith) refl (λ f. refl) refl
       refl expects;
   passes = λ t listed end now other comes. last-of s Production.PlainType [] at around st [] (tree t listed) os end now (tree t true)
       (unless_listed listed around.encoding t now) (plain-closes around at st t listed now) comes;
 }
 solid-opens s Kind.ItemButRef around os at st typed expects = record {
   inner = opened (standing (rule_of Production.PlainType) [] at around st) [] [] ∷ os;
-  awaits = first-of-chain s Kind.ItemButRef Production.PlainType 80 around os at st (OfKind 34) [] around [] st refl (omega arith) refl (λ f. refl) refl
+  awaits = first-of-chain s Kind.ItemButRef Production.PlainType 80 around os at st (OfKind SOLID) [] around [] st refl (omega arith) refl (λ f. refl) refl
       refl expects;
   passes = λ t listed end now other comes. last-of s Production.PlainType [] at around st [] (tree t listed) os end now (tree t true)
       (unless_listed listed around.encoding t now) (plain-closes around at st t listed now) comes;
 }
 solid-opens s Kind.Plain around os at st typed expects = record {
   inner = opened (standing (rule_of Production.QualifiedPlain) [] at around st) [] [] ∷ os;
-  awaits = first-of-chain s Kind.Plain Production.QualifiedPlain 80 around os at st (OfKind 34) [] around [] st refl (omega arith) refl (λ f. refl)
+  awaits = first-of-chain s Kind.Plain Production.QualifiedPlain 80 around os at st (OfKind SOLID) [] around [] st refl (omega arith) refl (λ f. refl)
       refl refl expects;
   passes = λ t listed end now other comes. last-of s Production.QualifiedPlain [] at around st [] (tree t listed) os end now (tree t true)
       (unless_listed listed around.encoding t now) (qualified-closes around at st t listed now other) comes;
@@ -89,21 +90,21 @@ pub whole-opens : (s : List ℕ) (kind : Kind) (around : Around) (os : List Open
 unfolding choose alternatives pick is_in in_ranges among is_chain parts_of number_of_kind between opening byte_of
 whole-opens s Kind.Type around os at st whole expects = record {
   inner = opened (standing (rule_of Production.PlainType) [] at around st) [] [] ∷ os;
-  awaits = first-of-chain s Kind.Type Production.PlainType 80 around os at st (OfKind 34) [] around [] st refl (omega arith) refl (λ f. refl) refl
+  awaits = first-of-chain s Kind.Type Production.PlainType 80 around os at st (OfKind SOLID) [] around [] st refl (omega arith) refl (λ f. refl) refl
       refl expects;
   passes = λ t listed end now comes. last-of s Production.PlainType [] at around st [] (tree t listed) os end now (tree t true)
       (unless_listed listed around.encoding t now) (plain-closes around at st t listed now) comes;
 }
 whole-opens s Kind.Item around os at st whole expects = record {
   inner = opened (standing (rule_of Production.PlainType) [] at around st) [] [] ∷ os;
-  awaits = first-of-chain s Kind.Item Production.PlainType 80 around os at st (OfKind 34) [] around [] st refl (omega arith) refl (λ f. refl) refl
+  awaits = first-of-chain s Kind.Item Production.PlainType 80 around os at st (OfKind SOLID) [] around [] st refl (omega arith) refl (λ f. refl) refl
       refl expects;
   passes = λ t listed end now comes. last-of s Production.PlainType [] at around st [] (tree t listed) os end now (tree t true)
       (unless_listed listed around.encoding t now) (plain-closes around at st t listed now) comes;
 }
 whole-opens s Kind.ItemButRef around os at st whole expects = record {
   inner = opened (standing (rule_of Production.PlainType) [] at around st) [] [] ∷ os;
-  awaits = first-of-chain s Kind.ItemButRef Production.PlainType 80 around os at st (OfKind 34) [] around [] st refl (omega arith) refl (λ f. refl)
+  awaits = first-of-chain s Kind.ItemButRef Production.PlainType 80 around os at st (OfKind SOLID) [] around [] st refl (omega arith) refl (λ f. refl)
       refl refl expects;
   passes = λ t listed end now comes. last-of s Production.PlainType [] at around st [] (tree t listed) os end now (tree t true)
       (unless_listed listed around.encoding t now) (plain-closes around at st t listed now) comes;
@@ -242,7 +243,7 @@ builtin-with-d-comes s Kind.Type around os at st b typed is expects stands =
     (last-of s p (68 ∷ []) at around st [] v os (at + 1 + 1) st v st refl
     (letter-comes s Kind.AfterD Production.BuiltinWithD b around (opened (standing (rule_of p) (68 ∷ []) at around st) [] [] ∷ os) (at + 1) st v st
     (builtin-with-d-taken b is).0 (builtin-with-d-small b is) refl (λ f. refl) refl refl
-    (first-of s Kind.Type p 68 around os at st (OfKind 33) [] around [] st refl (omega arith) refl (λ f. refl) refl refl expects both.0) both.1))
+    (first-of s Kind.Type p 68 around os at st (OfKind AFTER_D) [] around [] st refl (omega arith) refl (λ f. refl) refl refl expects both.0) both.1))
 builtin-with-d-comes s Kind.Plain around os at st b typed is expects stands =
     let p = Production.PlainWithD in
     let both = stands-split s at (68 ∷ []) (b ∷ []) stands in
@@ -251,7 +252,7 @@ builtin-with-d-comes s Kind.Plain around os at st b typed is expects stands =
     (last-of s p (68 ∷ []) at around st [] v os (at + 1 + 1) st v st refl
     (letter-comes s Kind.AfterD Production.BuiltinWithD b around (opened (standing (rule_of p) (68 ∷ []) at around st) [] [] ∷ os) (at + 1) st v st
     (builtin-with-d-taken b is).0 (builtin-with-d-small b is) refl (λ f. refl) refl refl
-    (first-of s Kind.Plain p 68 around os at st (OfKind 33) [] around [] st refl (omega arith) refl (λ f. refl) refl refl expects both.0) both.1))
+    (first-of s Kind.Plain p 68 around os at st (OfKind AFTER_D) [] around [] st refl (omega arith) refl (λ f. refl) refl refl expects both.0) both.1))
 builtin-with-d-comes s Kind.Item around os at st b typed is expects stands =
     let p = Production.ItemWithD in
     let both = stands-split s at (68 ∷ []) (b ∷ []) stands in
@@ -263,9 +264,9 @@ builtin-with-d-comes s Kind.Item around os at st b typed is expects stands =
     (last-of s q [] (at + 1) around st [] v outer (at + 1 + 1) st v st refl
     (letter-comes s Kind.AfterD Production.BuiltinWithD b around (opened (standing (rule_of q) [] (at + 1) around st) [] [] ∷ outer) (at + 1) st v st
     (builtin-with-d-taken b is).0 (builtin-with-d-small b is) refl (λ f. refl) refl refl
-    (first-of-chain s Kind.ItemAfterD q b around outer (at + 1) st (OfKind 33) [] around [] st (builtin-with-d-taken b is).1 (builtin-with-d-small b is)
+    (first-of-chain s Kind.ItemAfterD q b around outer (at + 1) st (OfKind AFTER_D) [] around [] st (builtin-with-d-taken b is).1 (builtin-with-d-small b is)
     refl (λ f. refl) refl refl
-    (first-of s Kind.Item p 68 around os at st (OfKind 32) [] around [] st refl (omega arith) refl (λ f. refl) refl refl expects both.0)) both.1)))
+    (first-of s Kind.Item p 68 around os at st (OfKind ITEM_AFTER_D) [] around [] st refl (omega arith) refl (λ f. refl) refl refl expects both.0)) both.1)))
 builtin-with-d-comes s Kind.ItemButRef around os at st b typed is expects stands =
     let p = Production.ItemWithD in
     let both = stands-split s at (68 ∷ []) (b ∷ []) stands in
@@ -277,9 +278,9 @@ builtin-with-d-comes s Kind.ItemButRef around os at st b typed is expects stands
     (last-of s q [] (at + 1) around st [] v outer (at + 1 + 1) st v st refl
     (letter-comes s Kind.AfterD Production.BuiltinWithD b around (opened (standing (rule_of q) [] (at + 1) around st) [] [] ∷ outer) (at + 1) st v st
     (builtin-with-d-taken b is).0 (builtin-with-d-small b is) refl (λ f. refl) refl refl
-    (first-of-chain s Kind.ItemAfterD q b around outer (at + 1) st (OfKind 33) [] around [] st (builtin-with-d-taken b is).1 (builtin-with-d-small b is)
+    (first-of-chain s Kind.ItemAfterD q b around outer (at + 1) st (OfKind AFTER_D) [] around [] st (builtin-with-d-taken b is).1 (builtin-with-d-small b is)
     refl (λ f. refl) refl refl
-    (first-of s Kind.ItemButRef p 68 around os at st (OfKind 32) [] around [] st refl (omega arith) refl (λ f. refl) refl refl expects both.0)) both.1)))
+    (first-of s Kind.ItemButRef p 68 around os at st (OfKind ITEM_AFTER_D) [] around [] st refl (omega arith) refl (λ f. refl) refl refl expects both.0)) both.1)))
 builtin-with-d-comes s _ around os at st b typed is expects stands = absurd typed
 
 -- ## Types of types
@@ -292,7 +293,7 @@ pointer-opens s kind around os at st typed expects stands =
     let solid = solid-opens s kind around os at st typed expects in
     record {
       inner = opened (standing (rule_of Production.Pointer) (80 ∷ []) at around st) [] [] ∷ solid.inner;
-      awaits = first-of s Kind.Solid Production.Pointer 80 around solid.inner at st (OfKind 28) [] around [] st refl (omega arith) refl (λ f. refl)
+      awaits = first-of s Kind.Solid Production.Pointer 80 around solid.inner at st (OfKind TYPE) [] around [] st refl (omega arith) refl (λ f. refl)
           refl refl solid.awaits stands;
       passes = λ t end now comes. solid.passes (pointer t) false end now refl
           (last-of s Production.Pointer (80 ∷ []) at around st [] (tree t true) solid.inner end now (tree (pointer t) false) now refl comes);
@@ -305,7 +306,7 @@ reference-opens : (s : List ℕ) (kind : Kind) (around : Around) (os : List Open
 unfolding is_chain parts_of number_of_kind between opening close unfolding_.behind meaning listed_value byte_of tree_of part appended
 reference-opens s kind around os at st byte made typed chosen small makes expects stands = record {
   inner = opened (standing (rule_of Production.ReferenceType) (byte ∷ []) at around st) [] [] ∷ os;
-  awaits = first-of s kind Production.ReferenceType byte around os at st (OfKind 28) [] around [] st (chosen kind typed) small refl (λ f. refl)
+  awaits = first-of s kind Production.ReferenceType byte around os at st (OfKind TYPE) [] around [] st (chosen kind typed) small refl (λ f. refl)
       refl refl expects stands;
   passes = λ t end now comes. last-of s Production.ReferenceType (byte ∷ []) at around st [] (tree t true) os end now (tree (made t) true)
       (with_candidate around.encoding (made t) now) (rw (makes t) refl) comes;
@@ -345,21 +346,21 @@ pub const-opens : (s : List ℕ) (kind : Kind) (around : Around) (os : List Open
 unfolding choose alternatives pick is_in in_ranges among is_chain parts_of number_of_kind between opening close unfolding_.behind meaning listed_value qualified_by byte_of tree_of is_there part appended
 const-opens s Kind.Type around os at st typed expects stands = record {
   inner = opened (standing (rule_of Production.ConstType) (75 ∷ []) at around st) [] [] ∷ os;
-  awaits = first-of s Kind.Type Production.ConstType 75 around os at st (OfKind 29) [] around [] st refl (omega arith) refl (λ f. refl) refl refl
+  awaits = first-of s Kind.Type Production.ConstType 75 around os at st (OfKind PLAIN) [] around [] st refl (omega arith) refl (λ f. refl) refl refl
       expects stands;
   passes = λ t end now comes. last-of s Production.ConstType (75 ∷ []) at around st [] (tree t true) os end now (tree (as_const t) true)
       (with_candidate around.encoding (as_const t) now) refl comes;
 }
 const-opens s Kind.Item around os at st typed expects stands = record {
   inner = opened (standing (rule_of Production.ConstType) (75 ∷ []) at around st) [] [] ∷ os;
-  awaits = first-of s Kind.Item Production.ConstType 75 around os at st (OfKind 29) [] around [] st refl (omega arith) refl (λ f. refl) refl refl
+  awaits = first-of s Kind.Item Production.ConstType 75 around os at st (OfKind PLAIN) [] around [] st refl (omega arith) refl (λ f. refl) refl refl
       expects stands;
   passes = λ t end now comes. last-of s Production.ConstType (75 ∷ []) at around st [] (tree t true) os end now (tree (as_const t) true)
       (with_candidate around.encoding (as_const t) now) refl comes;
 }
 const-opens s Kind.ItemButRef around os at st typed expects stands = record {
   inner = opened (standing (rule_of Production.ConstType) (75 ∷ []) at around st) [] [] ∷ os;
-  awaits = first-of s Kind.ItemButRef Production.ConstType 75 around os at st (OfKind 29) [] around [] st refl (omega arith) refl (λ f. refl) refl refl
+  awaits = first-of s Kind.ItemButRef Production.ConstType 75 around os at st (OfKind PLAIN) [] around [] st refl (omega arith) refl (λ f. refl) refl refl
       expects stands;
   passes = λ t end now comes. last-of s Production.ConstType (75 ∷ []) at around st [] (tree t true) os end now (tree (as_const t) true)
       (with_candidate around.encoding (as_const t) now) refl comes;
@@ -409,10 +410,10 @@ source-opens s kind around os at st name end is_named first solid is =
     let named = alone (source false name) in
     let rest = opened (standing (rule_of Production.SourceName) [] at around st) (tree named false ∷ []) [] ∷ solid.inner in
     named-so s around os rest named false end st solid.inner solid.passes
-    (next-of s Production.SourceName [] at around st [] (text name) (OfKind 42) [] solid.inner end st (after named false around)
+    (next-of s Production.SourceName [] at around st [] (text name) (OfKind MAYBE_ARGUMENTS) [] solid.inner end st (after named false around)
     (tree named false ∷ []) st (rw first refl)
-    (expects-name s around (opened (standing (rule_of Production.SourceName) [] at around st) [] (OfKind 42 ∷ []) ∷ solid.inner) at st name end
-    (first-of-chain s kind Production.SourceName 48 around solid.inner at st Name (OfKind 42 ∷ []) around [] st (source-taken kind is_named)
+    (expects-name s around (opened (standing (rule_of Production.SourceName) [] at around st) [] (OfKind MAYBE_ARGUMENTS ∷ []) ∷ solid.inner) at st name end
+    (first-of-chain s kind Production.SourceName 48 around solid.inner at st Name (OfKind MAYBE_ARGUMENTS ∷ []) around [] st (source-taken kind is_named)
     (omega arith) refl (λ f. refl) refl refl solid.awaits) is))
     (λ later now comes. last-of s Production.SourceName [] at around st (tree named false ∷ []) nothing_there solid.inner later now
     (tree named false) now refl comes)
@@ -436,12 +437,12 @@ unfolding choose alternatives pick is_in in_ranges among is_chain parts_of numbe
 name-with-s-opens s kind around os at st is_named solid stands =
     let rule = standing (rule_of Production.TypeWithS) (83 ∷ []) at around st in
     record {
-      inner = opened rule [] (OfKind 42 ∷ []) ∷ solid.inner;
-      awaits = first-of s kind Production.TypeWithS 83 around solid.inner at st (OfKind 36) (OfKind 42 ∷ []) around [] st (s-taken kind is_named) (omega arith)
+      inner = opened rule [] (OfKind MAYBE_ARGUMENTS ∷ []) ∷ solid.inner;
+      awaits = first-of s kind Production.TypeWithS 83 around solid.inner at st (OfKind TYPE_AFTER_S) (OfKind MAYBE_ARGUMENTS ∷ []) around [] st (s-taken kind is_named) (omega arith)
           refl (λ f. refl) refl refl solid.awaits stands;
       named = λ t listed end now comes.
           named-so s around os (opened rule (tree t listed ∷ []) [] ∷ solid.inner) t listed end now solid.inner solid.passes
-          (next-of s Production.TypeWithS (83 ∷ []) at around st [] (tree t listed) (OfKind 42) [] solid.inner end now (after t listed around)
+          (next-of s Production.TypeWithS (83 ∷ []) at around st [] (tree t listed) (OfKind MAYBE_ARGUMENTS) [] solid.inner end now (after t listed around)
           (tree t listed ∷ []) now refl comes)
           (λ later onward had. last-of s Production.TypeWithS (83 ∷ []) at around st (tree t listed ∷ []) nothing_there solid.inner later onward
           (tree t listed) onward (listed-kept t listed onward) had)
@@ -458,7 +459,7 @@ std-opens s kind around os at st name end is_named solid stands is =
     let both = stands-split s at (83 ∷ []) (116 ∷ []) stands in
     let w = name-with-s-opens s kind around os at st is_named solid both.0 in
     let std = opened (standing (rule_of Production.StdType) (116 ∷ []) (at + 1) around st) [] [] ∷ w.inner in
-    let expects_piece = first-of s Kind.TypeAfterS Production.StdType 116 around w.inner (at + 1) st (OfKind 37) [] around [] st refl (omega arith)
+    let expects_piece = first-of s Kind.TypeAfterS Production.StdType 116 around w.inner (at + 1) st (OfKind SOURCE_OR_LOCAL) [] around [] st refl (omega arith)
     refl (λ f. refl) refl refl w.awaits both.1 in
     let expects_own = first-of-chain s Kind.SourceOrLocal Production.SourcePiece 48 around std (at + 1 + 1) st Name [] around [] st refl
     (omega arith) refl (λ f. refl) refl refl expects_piece in
@@ -484,7 +485,7 @@ reference-behind-s : (s : List ℕ) (around : Around) (os : List Opened) (at : �
     → Expects s Kind.Abbreviation around (opened (standing (rule_of Production.AbbreviatedType) [] at around st) [] [] ∷ os) at st
 unfolding choose alternatives pick is_in in_ranges among is_chain parts_of number_of_kind between opening
 reference-behind-s s around os at st expects =
-    first-of-chain s Kind.TypeAfterS Production.AbbreviatedType 95 around os at st (OfKind 22) [] around [] st refl (omega arith) refl (λ f. refl)
+    first-of-chain s Kind.TypeAfterS Production.AbbreviatedType 95 around os at st (OfKind ABBREVIATION) [] around [] st refl (omega arith) refl (λ f. refl)
     refl refl expects
 
 -- an abbreviation
@@ -554,7 +555,7 @@ unfolding choose alternatives pick is_in in_ranges among is_chain parts_of numbe
 nested-type-opens s kind around os at st is_named solid stands =
     record {
       inner = opened (standing (rule_of Production.NestedType) (78 ∷ []) at around st) [] [] ∷ solid.inner;
-      awaits = first-of s kind Production.NestedType 78 around solid.inner at st (OfKind 15) [] around [] st (nest-taken kind is_named) (omega arith) refl
+      awaits = first-of s kind Production.NestedType 78 around solid.inner at st (OfKind NEST) [] around [] st (nest-taken kind is_named) (omega arith) refl
           (λ f. refl) refl refl solid.awaits stands;
       passes = λ t listed end now other comes. solid.passes t listed end now other
           (last-of s Production.NestedType (78 ∷ []) at around st [] (tree t listed) solid.inner end now (tree t listed) now refl comes);

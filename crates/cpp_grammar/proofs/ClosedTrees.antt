@@ -15,6 +15,7 @@ use Rattle.sym_link.specs.Reading.{Found, Open, Next, ◌>>=◌}
 use Rattle.sym_link.specs.Unfold.{found, alone, standing, unfold_tree, unfold_forest}
 use Rattle.cpp_grammar.specs.declared.kind.Kind.{Kind}
 use Rattle.cpp_grammar.specs.declared.production.Production.{Production}
+use Rattle.cpp_grammar.specs.KindNumbers.{SYMBOL, SPECIAL, COMPLETE_NAME, ITEMS}
 use Rattle.cpp_grammar.specs.Grammar.{Alternative, is_in, pick, alternatives, choose, kinds, productions, number_of, number_of_kind, parts_of, is_chain}
 use Rattle.cpp_grammar.specs.Table.{abi, sheet, rule_of, rule_taken, padded}
 use Rattle.cpp_grammar.specs.TableLaws.{lawful}
@@ -355,7 +356,7 @@ special_comes (grown t nothing) all rule from state r is trees lt le more old e 
     let around = rule.context in
     let at = rule.place in
     let s = stepped rule [] from state t nothing r (nameless at [] state) (ap (λ p. between p around at [] state) is) e in
-    let c = name_comes t all.0 (OfKind 5) at from state s.part (known 5 (lit≤ tt)) trees.0 refl le (old_later (in_name at) at from state.candidates le (old_inner around at state.candidates lt old)) s.is in
+    let c = name_comes t all.0 (OfKind SPECIAL) at from state s.part (known 5 (lit≤ tt)) trees.0 refl le (old_later (in_name at) at from state.candidates le (old_inner around at state.candidates lt old)) s.is in
     let same : found (c.value ∷ []) s.part.state ≡ r = same_found [] s.part.value (c.value ∷ []) s.part.state r c.is s.rest in
     let end = from + length (spell t ++ []) in
     subst (λ x. InnerComes Production.Special around end state x) same
@@ -382,7 +383,7 @@ guard_comes (grown t (grown u nothing)) all rule from state r is trees lt le mor
     let onward = subst (λ ws. unfold_forest cpp rule ws next (grown u nothing) first.part.state ≡ Ok r) c.is first.rest in
     let second = stepped rule vs next first.part.state u nothing r (nameless at vs first.part.state) (ap (λ p. between p around at vs first.part.state) is) onward in
     let old1 = old_grows (in_name at) from next state first.part.state (omega arith) old0 c.grows in
-    let d = name_comes u all.1.0 (OfKind 8) at next first.part.state second.part (known 8 (lit≤ tt)) trees.1.0 refl (omega (arith, le)) old1 second.is in
+    let d = name_comes u all.1.0 (OfKind COMPLETE_NAME) at next first.part.state second.part (known 8 (lit≤ tt)) trees.1.0 refl (omega (arith, le)) old1 second.is in
     let same : found (c.value ∷ d.value ∷ []) second.part.state ≡ r = same_found vs second.part.value (d.value ∷ []) second.part.state r d.is second.rest in
     let end = from + length (spell t ++ (spell u ++ [])) in
     let good = always (Bare around) at (tree_of d.value) (good_tree (Bare (in_name at)) d.value d.good) in
@@ -406,7 +407,7 @@ encoding_comes (grown t (grown u nothing)) all rule from state r is trees lt le 
     let at = rule.place in
     let first = stepped rule [] from state t (grown u nothing) r (nameless at [] state) (ap (λ p. between p around at [] state) is) e in
     let old0 = old_later (in_name at) at from state.candidates le (old_inner around at state.candidates lt old) in
-    let c = name_comes t all.0 (OfKind 8) at from state first.part (known 8 (lit≤ tt)) trees.0 refl le old0 first.is in
+    let c = name_comes t all.0 (OfKind COMPLETE_NAME) at from state first.part (known 8 (lit≤ tt)) trees.0 refl le old0 first.is in
     let next = from + length (spell t) in
     let name = tree_of c.value in
     let named = good_tree (Bare (in_name at)) c.value c.good in
@@ -415,7 +416,7 @@ encoding_comes (grown t (grown u nothing)) all rule from state r is trees lt le 
     let types : Next Value State Around = record { context = in_types at name; values = vs; state = first.part.state } in
     let second = stepped rule vs next first.part.state u nothing r types (ap (λ p. between p around at vs first.part.state) is) onward in
     let old1 = old_types at next name first.part.state.candidates (old_grows (in_name at) from next state first.part.state (omega arith) old0 c.grows) in
-    let d = all.1.0 (OfKind 41) (in_types at name) next first.part.state second.part (known 41 (lit≤ tt)) trees.1.0 (omega (arith, le)) (λ opening. absurd (false≢true opening)) tt old1 second.is in
+    let d = all.1.0 (OfKind ITEMS) (in_types at name) next first.part.state second.part (known 41 (lit≤ tt)) trees.1.0 (omega (arith, le)) (λ opening. absurd (false≢true opening)) tt old1 second.is in
     let same : found (c.value ∷ d.value ∷ []) second.part.state ≡ r = same_found vs second.part.value (d.value ∷ []) second.part.state r d.is second.rest in
     let end = from + length (spell t ++ (spell u ++ [])) in
     subst (λ x. InnerComes Production.Encoding around end state x) same
@@ -557,10 +558,10 @@ unfolding first_tree
 first_good v vs is good = subst (λ ws. ScopesAreClosed (first_tree ws)) (sym is) good
 
 -- In the tree that a symbol stands for the arguments that are a scope have no free parameters.
-pub scopes_are_closed : (shape : Tree) (t : Term) → IsTree abi (OfKind 0) shape → unfold_cpp shape ≡ Ok t → ScopesAreClosed t
+pub scopes_are_closed : (shape : Tree) (t : Term) → IsTree abi (OfKind SYMBOL) shape → unfold_cpp shape ≡ Ok t → ScopesAreClosed t
 unfolding unfold_cpp first_around first_state first_tree is_encoding
 scopes_are_closed shape t is e =
     let whole = behind_bind (unfold_tree cpp first_around 0 shape first_state) (λ whole. Ok (first_tree whole.value)) t e in
-    let comes = tree_good shape (OfKind 0) first_around 0 first_state whole.value (known 0 (lit≤ tt)) is (omega arith) (λ opening. absurd (false≢true opening)) tt tt whole.is in
+    let comes = tree_good shape (OfKind SYMBOL) first_around 0 first_state whole.value (known 0 (lit≤ tt)) is (omega arith) (λ opening. absurd (false≢true opening)) tt tt whole.is in
     let same : first_tree whole.value.value ≡ t = ok_same (first_tree whole.value.value) t whole.next in
     subst (λ x. ScopesAreClosed x) same (first_good comes.value whole.value.value comes.is (good_tree (Bare first_around) comes.value comes.good).scopes)

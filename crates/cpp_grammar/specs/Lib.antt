@@ -1,4 +1,5 @@
 pub mod Grammar
+pub mod KindNumbers
 pub mod Before
 pub mod Follow
 pub mod Table

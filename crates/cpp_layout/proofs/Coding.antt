@@ -3,7 +3,9 @@ use Rattle.std.proofs.Common.{◌≡◌, refl, sym, ◌∙◌, ap, arith, ℕ, z
 use Rattle.std.proofs.lemmas.Bool.{eqb-true, ltb-true}
 use Rattle.std.proofs.lemmas.Bool.Decides.{eqb_tells}
 use Rattle.cpp_grammar.specs.Texts.{Naming, same_bytes, look_up, builtin_texts, operator_texts, abbreviation_texts, special_texts, literal_endings}
+use Rattle.cpp_layout.proofs.CodeLetters.{builtin_letters, d_letters, abbreviation_letters, special_letters, ending_letters}
 use Rattle.cpp_layout.specs.Texts.{fixed_text, operator_letter, operator_code}
+use Rattle.cpp_layout.specs.declared.texts.TheConstants.{COUNT, NONE, OPERATOR, OPERATORS, OPERATOR_ALONE}
 
 abbrev all_below : (ℕ → Bool) → ℕ → Bool
 all_below p zero = true
@@ -43,44 +45,29 @@ same_bytes_sound (x ∷ xs) [] e = cc e
 -- ## Texts
 
 -- no text but one is empty
-pub some_text : (n : ℕ) → n < 190 → nat_eq n 38 ≡ false → 0 < length (fixed_text n)
+pub some_text : (n : ℕ) → n < COUNT → nat_eq n NONE ≡ false → 0 < length (fixed_text n)
 unfolding builtin_texts operator_texts abbreviation_texts special_texts literal_endings
-some_text n less other = ltb-true 0 (length (fixed_text n)) (or-second _ _ (holds_below (λ m. nat_eq m 38 || nat_lt 0 (length (fixed_text m))) 190 n refl less) other)
+some_text n less other = ltb-true 0 (length (fixed_text n)) (or-second _ _ (holds_below (λ m. nat_eq m NONE || nat_lt 0 (length (fixed_text m))) COUNT n refl less) other)
 
 abbrev pub any_of : List ℕ → ℕ → Bool
 any_of [] l = false
 any_of (x ∷ xs) l = nat_eq l x || any_of xs l
 
-abbrev pub builtin_letters : List ℕ
-builtin_letters = 118 ∷ 119 ∷ 98 ∷ 99 ∷ 97 ∷ 104 ∷ 115 ∷ 116 ∷ 105 ∷ 106 ∷ 108 ∷ 109 ∷ 120 ∷ 121 ∷ 110 ∷ 111 ∷ 102 ∷ 100 ∷ 101 ∷ 103 ∷ 122 ∷ []
-
 pub no_builtin : (l : ℕ) → l < 256 → any_of builtin_letters l ≡ false → [] ≡ look_up (l ∷ []) builtin_texts
 unfolding builtin_texts operator_texts abbreviation_texts special_texts literal_endings look_up same_bytes
 no_builtin l less none = same_bytes_sound _ _ (or-second _ _ (holds_below (λ n. any_of builtin_letters n || same_bytes [] (look_up (n ∷ []) builtin_texts)) 256 l refl less) none)
-
-abbrev pub d_letters : List ℕ
-d_letters = 105 ∷ 115 ∷ 117 ∷ 97 ∷ 99 ∷ 110 ∷ []
 
 pub no_d : (l : ℕ) → l < 256 → any_of d_letters l ≡ false → [] ≡ look_up (68 ∷ l ∷ []) builtin_texts
 unfolding builtin_texts operator_texts abbreviation_texts special_texts literal_endings look_up same_bytes
 no_d l less none = same_bytes_sound _ _ (or-second _ _ (holds_below (λ n. any_of d_letters n || same_bytes [] (look_up (68 ∷ n ∷ []) builtin_texts)) 256 l refl less) none)
 
-abbrev pub abbreviation_letters : List ℕ
-abbreviation_letters = 97 ∷ 98 ∷ 115 ∷ 105 ∷ 111 ∷ 100 ∷ []
-
 pub no_abbreviation : (l : ℕ) → l < 256 → any_of abbreviation_letters l ≡ false → [] ≡ look_up (l ∷ []) abbreviation_texts
 unfolding builtin_texts operator_texts abbreviation_texts special_texts literal_endings look_up same_bytes
 no_abbreviation l less none = same_bytes_sound _ _ (or-second _ _ (holds_below (λ n. any_of abbreviation_letters n || same_bytes [] (look_up (n ∷ []) abbreviation_texts)) 256 l refl less) none)
 
-abbrev pub special_letters : List ℕ
-special_letters = 86 ∷ 84 ∷ 73 ∷ 83 ∷ []
-
 pub no_special : (l : ℕ) → l < 256 → any_of special_letters l ≡ false → [] ≡ look_up (l ∷ []) special_texts
 unfolding builtin_texts operator_texts abbreviation_texts special_texts literal_endings look_up same_bytes
 no_special l less none = same_bytes_sound _ _ (or-second _ _ (holds_below (λ n. any_of special_letters n || same_bytes [] (look_up (n ∷ []) special_texts)) 256 l refl less) none)
-
-abbrev pub ending_letters : List ℕ
-ending_letters = 106 ∷ 108 ∷ 109 ∷ 120 ∷ 121 ∷ []
 
 pub no_ending : (l : ℕ) → l < 256 → any_of ending_letters l ≡ false → [] ≡ look_up (l ∷ []) literal_endings
 unfolding builtin_texts operator_texts abbreviation_texts special_texts literal_endings look_up same_bytes
@@ -88,28 +75,28 @@ no_ending l less none = same_bytes_sound _ _ (or-second _ _ (holds_below (λ n. 
 
 -- ## Operators
 
-pub operator_text : (k : ℕ) → k < 48 → fixed_text (113 + k) ≡ codes "operator" ++ look_up (operator_letter 0 k ∷ operator_letter 1 k ∷ []) operator_texts
+pub operator_text : (k : ℕ) → k < OPERATORS → fixed_text (OPERATOR + k) ≡ codes "operator" ++ look_up (operator_letter 0 k ∷ operator_letter 1 k ∷ []) operator_texts
 unfolding builtin_texts operator_texts abbreviation_texts special_texts literal_endings look_up same_bytes
-operator_text k less = same_bytes_sound _ _ (holds_below (λ n. same_bytes (fixed_text (113 + n)) (codes "operator" ++ look_up (operator_letter 0 n ∷ operator_letter 1 n ∷ []) operator_texts)) 48 k refl less)
+operator_text k less = same_bytes_sound _ _ (holds_below (λ n. same_bytes (fixed_text (OPERATOR + n)) (codes "operator" ++ look_up (operator_letter 0 n ∷ operator_letter 1 n ∷ []) operator_texts)) OPERATORS k refl less)
 
-few-letters : (k : ℕ) → k < 48 → operator_letter 0 k < 256
+few-letters : (k : ℕ) → k < OPERATORS → operator_letter 0 k < 256
 unfolding operator_texts
-few-letters k less = ltb-true _ _ (holds_below (λ n. nat_lt (operator_letter 0 n) 256) 48 k refl less)
+few-letters k less = ltb-true _ _ (holds_below (λ n. nat_lt (operator_letter 0 n) 256) OPERATORS k refl less)
 
-few-seconds : (k : ℕ) → k < 48 → operator_letter 1 k < 256
+few-seconds : (k : ℕ) → k < OPERATORS → operator_letter 1 k < 256
 unfolding operator_texts
-few-seconds k less = ltb-true _ _ (holds_below (λ n. nat_lt (operator_letter 1 n) 256) 48 k refl less)
+few-seconds k less = ltb-true _ _ (holds_below (λ n. nat_lt (operator_letter 1 n) 256) OPERATORS k refl less)
 
-pub operator_found : (a b k : ℕ) → k < 48 → a < 256 → b < 256 → operator_code k ≡ a * 256 + b → fixed_text (113 + k) ≡ codes "operator" ++ look_up (a ∷ b ∷ []) operator_texts
+pub operator_found : (a b k : ℕ) → k < OPERATORS → a < 256 → b < 256 → operator_code k ≡ a * 256 + b → fixed_text (OPERATOR + k) ≡ codes "operator" ++ look_up (a ∷ b ∷ []) operator_texts
 unfolding operator_code
 operator_found a b k less p q e =
     let f : operator_letter 0 k ≡ a = omega (arith, few-letters k less, few-seconds k less, p, q, e) in
     let g : operator_letter 1 k ≡ b = omega (arith, few-letters k less, few-seconds k less, p, q, e) in
     operator_text k less ∙ ap (λ x. codes "operator" ++ look_up (x ∷ operator_letter 1 k ∷ []) operator_texts) f ∙ ap (λ x. codes "operator" ++ look_up (a ∷ x ∷ []) operator_texts) g
 
-two-letters : (k : ℕ) → k < 48 → code_at operator_texts k ≡ operator_letter 0 k ∷ operator_letter 1 k ∷ []
+two-letters : (k : ℕ) → k < OPERATORS → code_at operator_texts k ≡ operator_letter 0 k ∷ operator_letter 1 k ∷ []
 unfolding operator_texts same_bytes
-two-letters k less = same_bytes_sound _ _ (holds_below (λ n. same_bytes (code_at operator_texts n) (operator_letter 0 n ∷ operator_letter 1 n ∷ [])) 48 k refl less)
+two-letters k less = same_bytes_sound _ _ (holds_below (λ n. same_bytes (code_at operator_texts n) (operator_letter 0 n ∷ operator_letter 1 n ∷ [])) OPERATORS k refl less)
 
 second-same : (a b x z : ℕ) → same_bytes (a ∷ b ∷ []) (x ∷ z ∷ []) ≡ true → (a ≡ x) × (b ≡ z)
 unfolding same_bytes
@@ -124,11 +111,11 @@ unfolding look_up
 no-look code [] all = refl
 no-look code (n ∷ ns) all = rw (look_up, all 0 (omega arith)) (no-look code ns (λ k less. all (suc k) (omega (arith, less))))
 
-pub no_operator : (a b : ℕ) → a < 256 → b < 256 → ((k : ℕ) → k < 48 → operator_code k ≡ a * 256 + b → ⊥) → fixed_text 189 ≡ codes "operator" ++ look_up (a ∷ b ∷ []) operator_texts
+pub no_operator : (a b : ℕ) → a < 256 → b < 256 → ((k : ℕ) → k < OPERATORS → operator_code k ≡ a * 256 + b → ⊥) → fixed_text OPERATOR_ALONE ≡ codes "operator" ++ look_up (a ∷ b ∷ []) operator_texts
 unfolding operator_code builtin_texts operator_texts abbreviation_texts special_texts literal_endings
 no_operator a b p q other = ap (λ l. codes "operator" ++ l) (sym (no-look (a ∷ b ∷ []) operator_texts (λ k less.
-    let small : k < 48 = few-operators k less in
+    let small : k < OPERATORS = few-operators k less in
     ap (same_bytes (a ∷ b ∷ [])) (two-letters k small) ∙ differ a b (operator_letter 0 k) (operator_letter 1 k) (same_bytes (a ∷ b ∷ []) (operator_letter 0 k ∷ operator_letter 1 k ∷ [])) refl (few-letters k small) (few-seconds k small) p q (other k small))))
   where
-    few-operators : (k : ℕ) → k < length operator_texts → k < 48
+    few-operators : (k : ℕ) → k < length operator_texts → k < OPERATORS
     few-operators k less = less

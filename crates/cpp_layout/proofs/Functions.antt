@@ -15,6 +15,7 @@ use Rattle.cpp_tree.specs.declared.node.Qualifiers.{Qualifiers}
 use Rattle.sym_core.specs.declared.Span.{Span}
 use Rattle.cpp_tree.specs.declared.node.Thunk.{Thunk}
 use Rattle.cpp_layout.specs.Texts.{fixed_text, suffix_of}
+use Rattle.cpp_layout.specs.declared.texts.TheConstants.{BLANK, BLANK_LEFT, COMMA, DOTS, GUARD, LEFT, RIGHT}
 use Rattle.cpp_layout.specs.Layout.{text_if, clone_suffix}
 
 pub part-none : (b : List ℕ) (rest : List (PartOf items.Item)) → b ≡ [] → rest ≡ text_part b ++ rest
@@ -26,21 +27,21 @@ unfolding suffix_of
 suffix-plain q m = append-nil (encoding_text q m)
 
 module _ (name : Term) (q : values.Qualifiers) (m : values.RefQualifier) (parameters : Term) where
-  pub bare-whole : (others : List (PartOf items.Item)) → as_item heads.left items.closed name ∷ text (fixed_text 2) ∷ (list_part heads.first items.closed parameters ++ (text (fixed_text 3) ∷ (text_part (suffix_of q m false) ++ others))) ≡ function_bare name q m parameters ++ others
+  pub bare-whole : (others : List (PartOf items.Item)) → as_item heads.left items.closed name ∷ text (fixed_text LEFT) ∷ (list_part heads.first items.closed parameters ++ (text (fixed_text RIGHT) ∷ (text_part (suffix_of q m false) ++ others))) ≡ function_bare name q m parameters ++ others
   unfolding function_bare types_of
-  bare-whole others = ap (λ l. as_item heads.left items.closed name ∷ text (fixed_text 2) ∷ l)
-      (ap (λ s. list_part heads.first items.closed parameters ++ (text (fixed_text 3) ∷ (text_part s ++ others))) (suffix-plain q m)
-      ∙ sym (append_assoc (list_part heads.first items.closed parameters) (text (fixed_text 3) ∷ text_part (encoding_text q m)) others))
+  bare-whole others = ap (λ l. as_item heads.left items.closed name ∷ text (fixed_text LEFT) ∷ l)
+      (ap (λ s. list_part heads.first items.closed parameters ++ (text (fixed_text RIGHT) ∷ (text_part s ++ others))) (suffix-plain q m)
+      ∙ sym (append_assoc (list_part heads.first items.closed parameters) (text (fixed_text RIGHT) ∷ text_part (encoding_text q m)) others))
 
-  pub full-whole : (r : Term) → (r ≡ term.absent → ⊥) → as_item heads.left items.closed r ∷ text (fixed_text 4) ∷ (function_bare name q m parameters ++ (as_item heads.right items.closed r ∷ [])) ≡ function_full name q m r parameters
+  pub full-whole : (r : Term) → (r ≡ term.absent → ⊥) → as_item heads.left items.closed r ∷ text (fixed_text BLANK) ∷ (function_bare name q m parameters ++ (as_item heads.right items.closed r ∷ [])) ≡ function_full name q m r parameters
   unfolding function_full types_of
   full-whole term.absent there = absurd (there refl)
   full-whole r there = refl
 
 module _ (c : items.Context) (q : values.Qualifiers) (m : values.RefQualifier) (n : Bool) (r parameters : Term) where
-  pub right-whole : text (fixed_text 2) ∷ (list_part heads.first c parameters ++ (text (fixed_text 3) ∷ (text_part (suffix_of q m n) ++ (as_item heads.right c r ∷ [])))) ≡ function_right c (qualifier_text q) m n r parameters
+  pub right-whole : text (fixed_text LEFT) ∷ (list_part heads.first c parameters ++ (text (fixed_text RIGHT) ∷ (text_part (suffix_of q m n) ++ (as_item heads.right c r ∷ [])))) ≡ function_right c (qualifier_text q) m n r parameters
   unfolding function_right suffix_of encoding_text
-  right-whole = ap (λ l. text (fixed_text 2) ∷ l) (sym (append_assoc (list_part heads.first c parameters) (text (fixed_text 3) ∷ text_part (suffix_of q m n)) (as_item heads.right c r ∷ [])))
+  right-whole = ap (λ l. text (fixed_text LEFT) ∷ l) (sym (append_assoc (list_part heads.first c parameters) (text (fixed_text RIGHT) ∷ text_part (suffix_of q m n)) (as_item heads.right c r ∷ [])))
 
 pub qualified-function : (c : items.Context) (q : values.Qualifiers) (t : Term) (l n : Bool) (m : values.RefQualifier) (r p : Term) → t ≡ term.function_type l n m r p → function_right c (qualifier_text q) m n r p ≡ qualified_right c q t
 unfolding qualified_right
@@ -74,7 +75,7 @@ right-none s us ts c n t is h0 h1 h2 h3 h4 h5 h6 h7 h8 h9 = right-none-of s us t
 -- ## Expansions
 
 module _ (c : items.Context) (p : Term) (o : Option ℕ) where
-  pub expansion-none : o ≡ None → as_item heads.left c p ∷ as_item heads.right c p ∷ text (fixed_text 1) ∷ [] ≡ expansion_parts c p o
+  pub expansion-none : o ≡ None → as_item heads.left c p ∷ as_item heads.right c p ∷ text (fixed_text DOTS) ∷ [] ≡ expansion_parts c p o
   unfolding expansion_parts
   expansion-none e = rw e refl
 
@@ -107,8 +108,8 @@ more-other s us ts c n t is other = more-other-of s us ts c n other ∙ ap (λ u
 
 -- ## Encodings
 
-pub object-whole : (guard : Bool) (i : PartOf items.Item) (q : values.Qualifiers) (m : values.RefQualifier) → text_if guard (fixed_text 22) (i ∷ (text_part (suffix_of q m false) ++ [])) ≡ text_if guard (fixed_text 22) (i ∷ text_part (encoding_text q m))
-object-whole guard i q m = ap (λ l. text_if guard (fixed_text 22) (i ∷ l)) (append-nil (text_part (suffix_of q m false)) ∙ ap text_part (suffix-plain q m))
+pub object-whole : (guard : Bool) (i : PartOf items.Item) (q : values.Qualifiers) (m : values.RefQualifier) → text_if guard (fixed_text GUARD) (i ∷ (text_part (suffix_of q m false) ++ [])) ≡ text_if guard (fixed_text GUARD) (i ∷ text_part (encoding_text q m))
+object-whole guard i q m = ap (λ l. text_if guard (fixed_text GUARD) (i ∷ l)) (append-nil (text_part (suffix_of q m false)) ∙ ap text_part (suffix-plain q m))
 
 pub function-absent : (name : Term) (q : values.Qualifiers) (m : values.RefQualifier) (t parameters : Term) → t ≡ term.absent → function_bare name q m parameters ++ [] ≡ function_full name q m t parameters
 unfolding function_full
@@ -152,7 +153,7 @@ root-whole e (b ∷ bs) = refl
 pub no-clone : (suffix : List ℕ) (others : List (PartOf items.Item)) → suffix ≡ [] → others ≡ clone_suffix suffix ++ others
 no-clone suffix others is = rw is refl
 
-pub some-clone : (suffix : List ℕ) (others : List (PartOf items.Item)) → 0 < length suffix → text (fixed_text 23) ∷ text suffix ∷ text (fixed_text 3) ∷ others ≡ clone_suffix suffix ++ others
+pub some-clone : (suffix : List ℕ) (others : List (PartOf items.Item)) → 0 < length suffix → text (fixed_text BLANK_LEFT) ∷ text suffix ∷ text (fixed_text RIGHT) ∷ others ≡ clone_suffix suffix ++ others
 some-clone [] others some = absurd (omega (arith, some))
 some-clone (b ∷ bs) others some = refl
 
@@ -175,7 +176,7 @@ unfolding expand_rest
 next-none c p i others e = rw (expand_rest, e) refl
 
 pub expand-whole : (c : items.Context) (p : Term) (at : ℕ) (b : Bool) → (0 < at → b ≡ true) → (at ≤ 0 → b ≡ false)
-    → text_if b (fixed_text 0) (as_item heads.left (record { index = Some at }) p ∷ as_item heads.right (record { index = Some at }) p ∷ (expand_rest c p (at + 1) ++ [])) ≡ expand_parts c p at
+    → text_if b (fixed_text COMMA) (as_item heads.left (record { index = Some at }) p ∷ as_item heads.right (record { index = Some at }) p ∷ (expand_rest c p (at + 1) ++ [])) ≡ expand_parts c p at
 unfolding expand_parts comma_before at_index
 expand-whole c p zero b so not = rw (not (omega arith), append-nil (expand_rest c p 1)) refl
 expand-whole c p (suc at) b so not = rw (so (omega arith), append-nil (expand_rest c p (suc at + 1))) refl

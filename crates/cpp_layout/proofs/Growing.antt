@@ -21,6 +21,7 @@ use Rattle.cpp_term.specs.Term.{Term}
 use Rattle.cpp_layout.specs.declared.context.Context.{Context}
 use Rattle.cpp_tree.specs.Nodes.{trees, tree_at, bytes_at, IsWithin}
 use Rattle.cpp_layout.specs.Texts.{fixed_text}
+use Rattle.cpp_layout.specs.declared.texts.TheConstants.{BLANK, COLONS_STAR, COMMA, LEFT, LEFT_BRACKET, RIGHT, RIGHT_BRACKET, VECTOR}
 use Rattle.cpp_layout.specs.Layout.{ReadSymbol, table_of, tree_in, form_of, context_of, text_if, marked, referred, item_in, MayCome, IsOwn, unshared_of, bytes_of_part, shown, Shows}
 
 abbrev Others : Type 0
@@ -132,27 +133,27 @@ pub either-not : (b : Bool) (m n : ℕ) (rest : Others) → b ≡ false → text
 either-not b m n rest e = rw e refl
 
 module _ (c : items.Context) (class t : Term) where
-  pub member-whole : (b : Bool) → heads.is_funarr (items.head c t) ≡ b → as_item heads.left c t ∷ text (fixed_text (if b then 2 else 4)) ∷ as_item heads.left c class ∷ text (fixed_text 14) ∷ [] ≡ member_parts c class t
+  pub member-whole : (b : Bool) → heads.is_funarr (items.head c t) ≡ b → as_item heads.left c t ∷ text (fixed_text (if b then LEFT else BLANK)) ∷ as_item heads.left c class ∷ text (fixed_text COLONS_STAR) ∷ [] ≡ member_parts c class t
   unfolding member_parts
   member-whole true e = rw (member_parts, e) refl
   member-whole false e = rw (member_parts, e) refl
 
 module _ (c : items.Context) (t : Term) where
-  pub array-whole : (b : Bool) → heads.is_funarr (items.head c t) ≡ b → as_item heads.left c t ∷ text_if (not b) (fixed_text 4) [] ≡ array_left c t
+  pub array-whole : (b : Bool) → heads.is_funarr (items.head c t) ≡ b → as_item heads.left c t ∷ text_if (not b) (fixed_text BLANK) [] ≡ array_left c t
   unfolding array_left
   array-whole true e = rw (array_left, e) refl
   array-whole false e = rw (array_left, e) refl
 
-  pub closing-whole : (b : Bool) → heads.is_funarr (items.head c t) ≡ b → text_if b (fixed_text 3) (as_item heads.right c t ∷ []) ≡ closing_right c t
+  pub closing-whole : (b : Bool) → heads.is_funarr (items.head c t) ≡ b → text_if b (fixed_text RIGHT) (as_item heads.right c t ∷ []) ≡ closing_right c t
   unfolding closing_right
   closing-whole true e = rw (closing_right, e) refl
   closing-whole false e = rw (closing_right, e) refl
 
-  pub vector-whole : (d : Detail) (digits : List ℕ) → as_item heads.left c t ∷ text (fixed_text 17) ∷ text digits ∷ text (fixed_text 3) ∷ [] ≡ left_parts d c (term.vector digits t)
+  pub vector-whole : (d : Detail) (digits : List ℕ) → as_item heads.left c t ∷ text (fixed_text VECTOR) ∷ text digits ∷ text (fixed_text RIGHT) ∷ [] ≡ left_parts d c (term.vector digits t)
   unfolding left_parts
   vector-whole d digits = refl
 
-  pub array-right : (digits : List ℕ) → text (fixed_text 15) ∷ (text_part digits ++ (text (fixed_text 16) ∷ as_item heads.right c t ∷ [])) ≡ right_parts c (term.array digits t)
+  pub array-right : (digits : List ℕ) → text (fixed_text LEFT_BRACKET) ∷ (text_part digits ++ (text (fixed_text RIGHT_BRACKET) ∷ as_item heads.right c t ∷ [])) ≡ right_parts c (term.array digits t)
   unfolding right_parts
   array-right digits = refl
 
@@ -176,9 +177,9 @@ module _ (c : items.Context) (e r : Term) where
   unfolding more_parts
   more-empty h = rw (more_parts, h) (append-nil (list_part heads.more c r))
 
-  pub more-some : items.is_empty c e ≡ false → text (fixed_text 0) ∷ as_item heads.left c e ∷ as_item heads.right c e ∷ (list_part heads.more c r ++ []) ≡ more_parts c (term.list e r)
+  pub more-some : items.is_empty c e ≡ false → text (fixed_text COMMA) ∷ as_item heads.left c e ∷ as_item heads.right c e ∷ (list_part heads.more c r ++ []) ≡ more_parts c (term.list e r)
   unfolding more_parts
-  more-some h = rw (more_parts, h) (ap (λ l. text (fixed_text 0) ∷ as_item heads.left c e ∷ as_item heads.right c e ∷ l) (append-nil (list_part heads.more c r)))
+  more-some h = rw (more_parts, h) (ap (λ l. text (fixed_text COMMA) ∷ as_item heads.left c e ∷ as_item heads.right c e ∷ l) (append-nil (list_part heads.more c r)))
 
 -- ## Bytes of a part's own
 

@@ -17,6 +17,7 @@ use Rattle.cpp_tree.specs.declared.node.Node.{Node}
 use Rattle.cpp_tree.specs.declared.node.Thunk.{Thunk}
 use Rattle.cpp_tree.specs.Nodes.{tree_of, piece_of}
 use Rattle.cpp_layout.specs.Texts.{fixed_text}
+use Rattle.cpp_layout.specs.declared.texts.TheConstants.{ANONYMOUS, BLANK_LESS, BRACE, COLONS, GREATER, LAMBDA, LESS, LITERAL, RIGHT_NUMBER, UNNAMED}
 use Rattle.cpp_layout.specs.Layout.{is_encoding, IsNoSource}
 
 pub begins : (xs ys : List ℕ) → begins_with xs ys ≡ starts_with nat_eq ys xs
@@ -35,7 +36,7 @@ begins-otherwise x xs (y ∷ ys) other = go (nat_eq x y) refl
     go false e = rw e refl
     go true e = absurd (other (omega arith) (sym (eqb-true x y e)))
 
-pub source-anonymous : (name : List ℕ) → begins_with (codes "_GLOBAL__N") name ≡ true → fixed_text 36 ≡ source_text name
+pub source-anonymous : (name : List ℕ) → begins_with (codes "_GLOBAL__N") name ≡ true → fixed_text ANONYMOUS ≡ source_text name
 unfolding source_text
 source-anonymous name e = rw (source_text, e) refl
 
@@ -64,30 +65,30 @@ pub angle-less : (a b : ℕ) → a ≡ 108 → nat_eq b 115 ≡ false → nat_eq
 unfolding same_bytes
 angle-less a b e f = rw (e, same_bytes, f) (and-true (nat_eq b 116))
 
-angle-text : (r : Bool) → fixed_text (if r then 28 else 27) ≡ cond r (codes " <") (codes "<")
+angle-text : (r : Bool) → fixed_text (if r then BLANK_LESS else LESS) ≡ cond r (codes " <") (codes "<")
 angle-text true = refl
 angle-text false = refl
 
-pub angle-is : (s : List ℕ) (ts : List Term) (p : Piece) (a b : ℕ) (r : Bool) → p ≡ Piece.Operator a b → r ≡ is_angle a b → fixed_text (if r then 28 else 27) ≡ opening_text (piece_of s ts p)
+pub angle-is : (s : List ℕ) (ts : List Term) (p : Piece) (a b : ℕ) (r : Bool) → p ≡ Piece.Operator a b → r ≡ is_angle a b → fixed_text (if r then BLANK_LESS else LESS) ≡ opening_text (piece_of s ts p)
 unfolding piece_of opening_text
-angle-is s ts p a b r is e = subst (λ q. fixed_text (if r then 28 else 27) ≡ opening_text (piece_of s ts q)) (sym is) (angle-text r ∙ ap (λ x. cond x (codes " <") (codes "<")) e)
+angle-is s ts p a b r is e = subst (λ q. fixed_text (if r then BLANK_LESS else LESS) ≡ opening_text (piece_of s ts q)) (sym is) (angle-text r ∙ ap (λ x. cond x (codes " <") (codes "<")) e)
 
-pub no-angle : (s : List ℕ) (ts : List Term) (p : Piece) → ((a b : ℕ) → p ≡ Piece.Operator a b → ⊥) → fixed_text 27 ≡ opening_text (piece_of s ts p)
+pub no-angle : (s : List ℕ) (ts : List Term) (p : Piece) → ((a b : ℕ) → p ≡ Piece.Operator a b → ⊥) → fixed_text LESS ≡ opening_text (piece_of s ts p)
 unfolding piece_of opening_text
 no-angle s ts (Piece.Operator a b) other = absurd (other a b refl)
 no-angle s ts _ other = refl
 
 -- ## Pieces
 
-pub lambda-whole : (c : items.Context) (parameters : Term) (number : ℕ) → text (fixed_text 31) ∷ (list_part heads.first c parameters ++ (text (fixed_text 32) ∷ text (decimal number) ∷ text (fixed_text 33) ∷ [])) ≡ piece_parts c (term.lambda parameters number)
+pub lambda-whole : (c : items.Context) (parameters : Term) (number : ℕ) → text (fixed_text LAMBDA) ∷ (list_part heads.first c parameters ++ (text (fixed_text RIGHT_NUMBER) ∷ text (decimal number) ∷ text (fixed_text BRACE) ∷ [])) ≡ piece_parts c (term.lambda parameters number)
 unfolding piece_parts
 lambda-whole c parameters number = refl
 
-pub unnamed-whole : (c : items.Context) (number : ℕ) → text (fixed_text 34) ∷ text (decimal number) ∷ text (fixed_text 33) ∷ [] ≡ piece_parts c (term.unnamed number)
+pub unnamed-whole : (c : items.Context) (number : ℕ) → text (fixed_text UNNAMED) ∷ text (decimal number) ∷ text (fixed_text BRACE) ∷ [] ≡ piece_parts c (term.unnamed number)
 unfolding piece_parts
 unnamed-whole c number = refl
 
-pub literal-whole : (c : items.Context) (name : List ℕ) → text (fixed_text 30) ∷ text name ∷ [] ≡ piece_parts c (term.literal_operator name)
+pub literal-whole : (c : items.Context) (name : List ℕ) → text (fixed_text LITERAL) ∷ text name ∷ [] ≡ piece_parts c (term.literal_operator name)
 unfolding piece_parts
 literal-whole c name = refl
 
@@ -143,7 +144,7 @@ prefix-other s us ts c n t is e = subst (λ u. as_item heads.left c u ≡ prefix
     by _ e = refl
 
 pub within-other : (s : List ℕ) (ts : List Term) (c : items.Context) (prefix t : Term) (p : Piece) → t ≡ piece_of s ts p → ((d : ℕ) → p ≡ Piece.Constructor d → ⊥) → ((d : ℕ) → p ≡ Piece.Destructor d → ⊥)
-    → prefix_item c prefix ∷ text (fixed_text 5) ∷ as_item heads.piece c t ∷ [] ≡ within_parts c prefix (piece_of s ts p)
+    → prefix_item c prefix ∷ text (fixed_text COLONS) ∷ as_item heads.piece c t ∷ [] ≡ within_parts c prefix (piece_of s ts p)
 unfolding piece_of within_parts
 within-other s ts c prefix t (Piece.Constructor d) is h1 h2 = absurd (h1 d refl)
 within-other s ts c prefix t (Piece.Destructor d) is h1 h2 = absurd (h2 d refl)
@@ -158,20 +159,20 @@ within-other s ts c prefix t Piece.Absent is h1 h2 = rw is refl
 -- ## The last piece
 
 pub last-none : (s : List ℕ) (us : List Thunk) (ts : List Term) (n : Node) (t : Term) → t ≡ tree_of s us ts n
-    → ((p : Piece) → n ≡ Node.Alone p → ⊥) → ((p : Piece) → n ≡ Node.InStd p → ⊥) → ((a : ℕ) (p : Piece) → n ≡ Node.Within a p → ⊥) → ((e a : ℕ) (d : Option Span) → n ≡ Node.Local e a d → ⊥) → fixed_text 27 ≡ opening_text (last_piece t)
+    → ((p : Piece) → n ≡ Node.Alone p → ⊥) → ((p : Piece) → n ≡ Node.InStd p → ⊥) → ((a : ℕ) (p : Piece) → n ≡ Node.Within a p → ⊥) → ((e a : ℕ) (d : Option Span) → n ≡ Node.Local e a d → ⊥) → fixed_text LESS ≡ opening_text (last_piece t)
 unfolding tree_of last_piece opening_text
 last-none s us ts n t is h1 h2 h3 h4 = other n h1 h2 h3 h4 ∙ ap (λ u. opening_text (last_piece u)) (sym is)
   where
-    other : (n : Node) → ((p : Piece) → n ≡ Node.Alone p → ⊥) → ((p : Piece) → n ≡ Node.InStd p → ⊥) → ((a : ℕ) (p : Piece) → n ≡ Node.Within a p → ⊥) → ((e a : ℕ) (d : Option Span) → n ≡ Node.Local e a d → ⊥) → fixed_text 27 ≡ opening_text (last_piece (tree_of s us ts n))
+    other : (n : Node) → ((p : Piece) → n ≡ Node.Alone p → ⊥) → ((p : Piece) → n ≡ Node.InStd p → ⊥) → ((a : ℕ) (p : Piece) → n ≡ Node.Within a p → ⊥) → ((e a : ℕ) (d : Option Span) → n ≡ Node.Local e a d → ⊥) → fixed_text LESS ≡ opening_text (last_piece (tree_of s us ts n))
     other (Node.Alone p) h1 h2 h3 h4 = absurd (h1 p refl)
     other (Node.InStd p) h1 h2 h3 h4 = absurd (h2 p refl)
     other (Node.Within a p) h1 h2 h3 h4 = absurd (h3 a p refl)
     other (Node.Local e a d) h1 h2 h3 h4 = absurd (h4 e a d refl)
     other _ h1 h2 h3 h4 = refl
 
-pub instance-whole : (c : items.Context) (t a : Term) (n : ℕ) → fixed_text n ≡ opening_text (last_piece t) → as_item heads.left c t ∷ text (fixed_text n) ∷ (list_part heads.first c a ++ (text (fixed_text 29) ∷ [])) ≡ instance_parts Full c t a
+pub instance-whole : (c : items.Context) (t a : Term) (n : ℕ) → fixed_text n ≡ opening_text (last_piece t) → as_item heads.left c t ∷ text (fixed_text n) ∷ (list_part heads.first c a ++ (text (fixed_text GREATER) ∷ [])) ≡ instance_parts Full c t a
 unfolding instance_parts
-instance-whole c t a n e = ap (λ o. as_item heads.left c t ∷ text o ∷ (list_part heads.first c a ++ (text (fixed_text 29) ∷ []))) e
+instance-whole c t a n e = ap (λ o. as_item heads.left c t ∷ text o ∷ (list_part heads.first c a ++ (text (fixed_text GREATER) ∷ []))) e
 
 pub brief-whole : (c : items.Context) (t a : Term) → as_item heads.left c t ∷ [] ≡ instance_parts Brief c t a
 unfolding instance_parts

@@ -4,9 +4,10 @@ use Rattle.cpp_grammar.specs.Parts.{encoding_text, qualifier_text, ref_text}
 use Rattle.cpp_tree.specs.declared.node.Mark.{Mark}
 use Rattle.cpp_tree.specs.Nodes.{mark_of}
 use Rattle.cpp_layout.specs.Texts.{fixed_text, bit, mark_number, suffix_of}
+use Rattle.cpp_layout.specs.declared.texts.TheConstants.{SUFFIX}
 
 abbrev pub number_of : (r v c : Bool) → Mark → (n : Bool) → ℕ
-number_of r v c m n = 38 + bit r + 2 * bit v + 4 * bit c + 8 * mark_number m + 24 * bit n
+number_of r v c m n = SUFFIX + bit r + 2 * bit v + 4 * bit c + 8 * mark_number m + 24 * bit n
 
 pub suffix_is : (r v c : Bool) (m : Mark) (n : Bool) → fixed_text (number_of r v c m n) ≡ suffix_of (record { restrict = r; volatile = v; const = c }) (mark_of m) n
 unfolding bit mark_number suffix_of encoding_text qualifier_text ref_text
@@ -59,7 +60,7 @@ suffix_is true false true Mark.Rvalue true = refl
 suffix_is false true true Mark.Rvalue true = refl
 suffix_is true true true Mark.Rvalue true = refl
 
-pub suffix_some : (r v c : Bool) (m : Mark) (n : Bool) → 38 < number_of r v c m n → 0 < length (fixed_text (number_of r v c m n))
+pub suffix_some : (r v c : Bool) (m : Mark) (n : Bool) → SUFFIX < number_of r v c m n → 0 < length (fixed_text (number_of r v c m n))
 unfolding bit mark_number
 suffix_some false false false Mark.Any false more = absurd (omega (arith, more))
 suffix_some true false false Mark.Any false more = omega arith
@@ -111,8 +112,8 @@ suffix_some false true true Mark.Rvalue true more = omega arith
 suffix_some true true true Mark.Rvalue true more = omega arith
 
 module _ (r v c : Bool) (m : Mark) (n : Bool) (a b d e f : ℕ) (p : a ≡ bit r) (q : b ≡ bit v) (o : d ≡ bit c) (k : e ≡ mark_number m) (l : f ≡ bit n) where
-  pub suffix-number : fixed_text (38 + a + 2 * b + 4 * d + 8 * e + 24 * f) ≡ suffix_of (record { restrict = r; volatile = v; const = c }) (mark_of m) n
+  pub suffix-number : fixed_text (SUFFIX + a + 2 * b + 4 * d + 8 * e + 24 * f) ≡ suffix_of (record { restrict = r; volatile = v; const = c }) (mark_of m) n
   suffix-number = rw (p, q, o, k, l) (suffix_is r v c m n)
 
-  pub suffix-length : 38 < 38 + a + 2 * b + 4 * d + 8 * e + 24 * f → 0 < length (fixed_text (38 + a + 2 * b + 4 * d + 8 * e + 24 * f))
+  pub suffix-length : SUFFIX < SUFFIX + a + 2 * b + 4 * d + 8 * e + 24 * f → 0 < length (fixed_text (SUFFIX + a + 2 * b + 4 * d + 8 * e + 24 * f))
   suffix-length = rw (p, q, o, k, l) (suffix_some r v c m n)

@@ -20,11 +20,12 @@ use Rattle.cpp_tree.specs.declared.node.Signed.{Signed}
 use Rattle.cpp_tree.specs.declared.node.Qualifiers.{Qualifiers}
 use Rattle.cpp_tree.specs.Nodes.{tree_of, signed_of, qualifiers_of}
 use Rattle.cpp_layout.specs.Texts.{fixed_text, bit, suffix_of}
+use Rattle.cpp_layout.specs.declared.texts.TheConstants.{BLANKED, FALSE, LEFT, MINUS, RIGHT, TRUE}
 use Rattle.cpp_layout.specs.Layout.{own_piece, marked, referred, text_if, qualifiers_behind, IsNoName, IsNoType}
 
 -- ## Qualifiers
 
-blanked : (r v k : Bool) → 181 < 181 + bit r + 2 * bit v + 4 * bit k → (fixed_text (181 + bit r + 2 * bit v + 4 * bit k) ≡ blank_last (qualifier_text (record { restrict = r; volatile = v; const = k }))) × (0 < length (fixed_text (181 + bit r + 2 * bit v + 4 * bit k)))
+blanked : (r v k : Bool) → BLANKED < BLANKED + bit r + 2 * bit v + 4 * bit k → (fixed_text (BLANKED + bit r + 2 * bit v + 4 * bit k) ≡ blank_last (qualifier_text (record { restrict = r; volatile = v; const = k }))) × (0 < length (fixed_text (BLANKED + bit r + 2 * bit v + 4 * bit k)))
 unfolding bit blank_last qualifier_text builtin_texts operator_texts abbreviation_texts special_texts literal_endings
 blanked false false false more = absurd (omega (arith, more))
 blanked true false false more = (refl, omega arith)
@@ -35,7 +36,7 @@ blanked true false true more = (refl, omega arith)
 blanked false true true more = (refl, omega arith)
 blanked true true true more = (refl, omega arith)
 
-not-blanked : (r v k : Bool) → 181 + bit r + 2 * bit v + 4 * bit k ≤ 181 → blank_last (qualifier_text (record { restrict = r; volatile = v; const = k })) ≡ []
+not-blanked : (r v k : Bool) → BLANKED + bit r + 2 * bit v + 4 * bit k ≤ BLANKED → blank_last (qualifier_text (record { restrict = r; volatile = v; const = k })) ≡ []
 unfolding bit blank_last qualifier_text
 not-blanked false false false few = refl
 not-blanked true _ _ few = absurd (omega (arith, few))
@@ -43,10 +44,10 @@ not-blanked false true _ few = absurd (omega (arith, few))
 not-blanked false false true few = absurd (omega (arith, few))
 
 module _ (q : Qualifiers) (a b d : ℕ) (p : a ≡ bit q.restrict) (o : b ≡ bit q.volatile) (l : d ≡ bit q.const_) where
-  pub blanked-some : 181 < 181 + a + 2 * b + 4 * d → (fixed_text (181 + a + 2 * b + 4 * d) ≡ blank_last (qualifier_text (qualifiers_of q))) × (0 < length (fixed_text (181 + a + 2 * b + 4 * d)))
+  pub blanked-some : BLANKED < BLANKED + a + 2 * b + 4 * d → (fixed_text (BLANKED + a + 2 * b + 4 * d) ≡ blank_last (qualifier_text (qualifiers_of q))) × (0 < length (fixed_text (BLANKED + a + 2 * b + 4 * d)))
   blanked-some = rw (p, o, l) (blanked q.restrict q.volatile q.const_)
 
-  pub blanked-none : 181 + a + 2 * b + 4 * d ≤ 181 → blank_last (qualifier_text (qualifiers_of q)) ≡ []
+  pub blanked-none : BLANKED + a + 2 * b + 4 * d ≤ BLANKED → blank_last (qualifier_text (qualifiers_of q)) ≡ []
   blanked-none = rw (p, o, l) (not-blanked q.restrict q.volatile q.const_)
 
 module _ (reference function : Bool) (q : values.Qualifiers) (others : List (PartOf items.Item)) where
@@ -109,20 +110,20 @@ other-plain s us ts n t is other = ap is_plain_integer is ∙ by n other
     by (Node.Builtin l) other = absurd (other l refl)
     by _ other = refl
 
-sign-is : (b : Bool) (l : List (PartOf items.Item)) → text_if b (fixed_text 37) l ≡ cond b (says "-" ∷ []) [] ++ l
+sign-is : (b : Bool) (l : List (PartOf items.Item)) → text_if b (fixed_text MINUS) l ≡ cond b (says "-" ∷ []) [] ++ l
 sign-is true l = refl
 sign-is false l = refl
 
-pub plain-whole : (s : List ℕ) (v : Signed) (digits ending : List ℕ) (n : ℕ) → fixed_text n ≡ ending → text_if v.negative (fixed_text 37) (text digits ∷ (text_part (fixed_text n) ++ [])) ≡ sign_part (signed_of s v) ++ (text digits ∷ text_part ending)
+pub plain-whole : (s : List ℕ) (v : Signed) (digits ending : List ℕ) (n : ℕ) → fixed_text n ≡ ending → text_if v.negative (fixed_text MINUS) (text digits ∷ (text_part (fixed_text n) ++ [])) ≡ sign_part (signed_of s v) ++ (text digits ∷ text_part ending)
 unfolding sign_part
 plain-whole s v digits ending n e = sign-is v.negative _ ∙ ap (λ l. cond v.negative (says "-" ∷ []) [] ++ (text digits ∷ l)) (append-nil (text_part (fixed_text n)) ∙ ap text_part e)
 
-pub cast-whole : (c : items.Context) (s : List ℕ) (v : Signed) (t : Term) (digits : List ℕ) → text (fixed_text 2) ∷ as_item heads.left c t ∷ as_item heads.right c t ∷ text (fixed_text 3) ∷ text_if v.negative (fixed_text 37) (text digits ∷ [])
+pub cast-whole : (c : items.Context) (s : List ℕ) (v : Signed) (t : Term) (digits : List ℕ) → text (fixed_text LEFT) ∷ as_item heads.left c t ∷ as_item heads.right c t ∷ text (fixed_text RIGHT) ∷ text_if v.negative (fixed_text MINUS) (text digits ∷ [])
     ≡ (says "(" ∷ as_item heads.left c t ∷ as_item heads.right c t ∷ says ")" ∷ []) ++ sign_part (signed_of s v) ++ (text digits ∷ [])
 unfolding sign_part
 cast-whole c s v t digits = by v.negative
   where
-    by : (b : Bool) → text (fixed_text 2) ∷ as_item heads.left c t ∷ as_item heads.right c t ∷ text (fixed_text 3) ∷ text_if b (fixed_text 37) (text digits ∷ [])
+    by : (b : Bool) → text (fixed_text LEFT) ∷ as_item heads.left c t ∷ as_item heads.right c t ∷ text (fixed_text RIGHT) ∷ text_if b (fixed_text MINUS) (text digits ∷ [])
         ≡ (says "(" ∷ as_item heads.left c t ∷ as_item heads.right c t ∷ says ")" ∷ []) ++ cond b (says "-" ∷ []) [] ++ (text digits ∷ [])
     by true = refl
     by false = refl
@@ -139,7 +140,7 @@ pub integer-cast : (c : items.Context) (t : Term) (v : values.Signed) → is_pla
 unfolding integer_parts
 integer-cast c t v e = rw (integer_parts, e) refl
 
-pub boolean-whole : (b : Bool) → ◌≡◌ {A = List (PartOf items.Item)} (text (fixed_text (if b then 19 else 20)) ∷ []) (text (cond b (codes "true") (codes "false")) ∷ [])
+pub boolean-whole : (b : Bool) → ◌≡◌ {A = List (PartOf items.Item)} (text (fixed_text (if b then TRUE else FALSE)) ∷ []) (text (cond b (codes "true") (codes "false")) ∷ [])
 boolean-whole true = refl
 boolean-whole false = refl
 

@@ -1,2 +1,3 @@
+pub mod TextLists
 pub mod Texts
 pub mod Layout

@@ -4,28 +4,13 @@ use Rattle.std.specs.Prelude.{Bool, true, false, ◌+◌, ◌*◌, cond}
 use Rattle.cpp_grammar.specs.Term.{Qualifiers, RefQualifier}
 use Rattle.cpp_grammar.specs.Texts.{Naming, builtin_texts, operator_texts, abbreviation_texts, special_texts, literal_endings}
 use Rattle.cpp_grammar.specs.Parts.{encoding_text}
+use Rattle.cpp_layout.specs.TextLists.{plain_texts, suffix_texts, blanked_texts}
 use Rattle.cpp_tree.specs.declared.node.Mark.{Mark}
-
-abbrev pub plain_texts : List (List ℕ)
-plain_texts =
-    codes ", " ∷ codes "..." ∷ codes "(" ∷ codes ")" ∷ codes " " ∷ codes "::" ∷ codes "::~" ∷ codes "std::" ∷ codes "*" ∷ codes "(*"
-    ∷ codes "&" ∷ codes "(&" ∷ codes "&&" ∷ codes "(&&" ∷ codes "::*" ∷ codes "[" ∷ codes "]" ∷ codes " __vector(" ∷ codes " _Complex" ∷ codes "true"
-    ∷ codes "false" ∷ codes "nullptr" ∷ codes "guard variable for " ∷ codes " (" ∷ codes "non-virtual thunk to " ∷ codes "virtual thunk to " ∷ codes "covariant return thunk to " ∷ codes "<" ∷ codes " <" ∷ codes ">"
-    ∷ codes "operator\"\" " ∷ codes "{lambda(" ∷ codes ")#" ∷ codes "}" ∷ codes "{unnamed type#" ∷ codes "string literal" ∷ codes "(anonymous namespace)" ∷ codes "-" ∷ []
-
--- what stands behind a function's parameters
-abbrev pub suffix_texts : List (List ℕ)
-suffix_texts =
-    codes "" ∷ codes " restrict" ∷ codes " volatile" ∷ codes " volatile restrict" ∷ codes " const" ∷ codes " const restrict" ∷ codes " const volatile" ∷ codes " const volatile restrict" ∷ codes " &" ∷ codes " restrict &" ∷ codes " volatile &" ∷ codes " volatile restrict &" ∷ codes " const &" ∷ codes " const restrict &" ∷ codes " const volatile &" ∷ codes " const volatile restrict &" ∷ codes " &&" ∷ codes " restrict &&" ∷ codes " volatile &&" ∷ codes " volatile restrict &&" ∷ codes " const &&" ∷ codes " const restrict &&" ∷ codes " const volatile &&" ∷ codes " const volatile restrict &&" ∷ codes " noexcept" ∷ codes " restrict noexcept" ∷ codes " volatile noexcept" ∷ codes " volatile restrict noexcept" ∷ codes " const noexcept" ∷ codes " const restrict noexcept" ∷ codes " const volatile noexcept" ∷ codes " const volatile restrict noexcept" ∷ codes " & noexcept" ∷ codes " restrict & noexcept" ∷ codes " volatile & noexcept" ∷ codes " volatile restrict & noexcept" ∷ codes " const & noexcept" ∷ codes " const restrict & noexcept" ∷ codes " const volatile & noexcept" ∷ codes " const volatile restrict & noexcept" ∷ codes " && noexcept" ∷ codes " restrict && noexcept" ∷ codes " volatile && noexcept" ∷ codes " volatile restrict && noexcept" ∷ codes " const && noexcept" ∷ codes " const restrict && noexcept" ∷ codes " const volatile && noexcept" ∷ codes " const volatile restrict && noexcept" ∷ []
 
 -- texts as a table has them, behind others
 abbrev pub named_texts : (List ℕ → List ℕ) → List Naming → List (List ℕ) → List (List ℕ)
 named_texts f [] others = others
 named_texts f (n ∷ ns) others = f n.text ∷ named_texts f ns others
-
-abbrev pub blanked_texts : List (List ℕ)
-blanked_texts =
-    codes "restrict " ∷ codes "volatile " ∷ codes "volatile restrict " ∷ codes "const " ∷ codes "const restrict " ∷ codes "const volatile " ∷ codes "const volatile restrict " ∷ []
 
 -- the word before an operator's name
 abbrev pub word_texts : List (List ℕ)

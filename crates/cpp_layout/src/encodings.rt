@@ -13,10 +13,11 @@ ghost use Rattle.cpp_grammar.specs.Texts.{look_up, special_texts};
 ghost use Rattle.cpp_term.specs.Parts.{as_item, function_bare, function_full, full_parts, bare_parts, root_parts, text_part};
 ghost use Rattle.cpp_tree.specs.Nodes.{tree_at, trees, IsTable, IsWithin, bytes_at, thunk_of, qualifiers_of, mark_of};
 ghost use Rattle.cpp_layout.specs.Texts.{fixed_text, bit, mark_number, suffix_of};
+ghost use Rattle.cpp_layout.specs.declared.texts.TheConstants.{GUARD, SUFFIX};
 ghost use Rattle.cpp_layout.specs.Layout.{table_of, text_if, clone_suffix, Shows};
 
-use crate::codes::special;
 use crate::context::Context;
+use crate::numbered::special;
 use crate::symbol::Symbol;
 use crate::{form, texts};
 use cpp_tree::node::{Adjustment, Mark, Node, Qualifiers, Thunk};
@@ -64,8 +65,8 @@ fn thunk_number(thunk: Option<Thunk>) -> u16
 /// The number of the text behind a function's parameters.
 fn suffix_number(qualifiers: Qualifiers, mark: Mark, noexcept: bool) -> u16
     ensures text { fixed_text result ≡ suffix_of (qualifiers_of qualifiers) (mark_of mark) noexcept }
-    ensures some { 38 < result → 0 < length (fixed_text result) }
-    ensures from { 38 ≤ result }
+    ensures some { SUFFIX < result → 0 < length (fixed_text result) }
+    ensures from { SUFFIX ≤ result }
 {
     texts::SUFFIX
         + bit(qualifiers.restrict)
@@ -167,7 +168,7 @@ impl Symbol {
     )
         requires name { name < length self.now.table.nodes }
         requires room { 8 ≤ S.room parts.old }
-        ensures shows { Shows self.now detail (S.held parts.old) (S.held parts.new) (text_if guard (fixed_text 22) (as_item heads.left items.closed (tree_at (trees (table_of self.now)) name) ∷ text_part (encoding_text (qualifiers_of qualifiers) (mark_of mark)))) }
+        ensures shows { Shows self.now detail (S.held parts.old) (S.held parts.new) (text_if guard (fixed_text GUARD) (as_item heads.left items.closed (tree_at (trees (table_of self.now)) name) ∷ text_part (encoding_text (qualifiers_of qualifiers) (mark_of mark)))) }
         ensures few { S.room parts.old ≤ S.room parts.new + 8 }
     {
         let closed = Context {

@@ -7,10 +7,11 @@ ghost use Rattle.cpp_grammar.specs.Items as heads;
 ghost use Rattle.cpp_term.specs.Parts.{as_item, piece_parts, left_parts, low_parts, base_parts};
 ghost use Rattle.cpp_tree.specs.Nodes.{tree_at, trees, tree_of, IsTable, IsBelow};
 ghost use Rattle.cpp_layout.specs.Texts.{fixed_text};
+ghost use Rattle.cpp_layout.specs.declared.texts.TheConstants.{STD};
 ghost use Rattle.cpp_layout.specs.Layout.{table_of, context_of, own_piece, Shows, IsNoName, IsNoType};
 
-use crate::codes::{abbreviation, builtin, builtin_with_d, last_of_abbreviation};
 use crate::context::Context;
+use crate::numbered::{abbreviation, builtin, builtin_with_d, last_of_abbreviation};
 use crate::symbol::Symbol;
 use crate::{form, texts};
 use cpp_tree::node::Node;
@@ -22,7 +23,7 @@ impl Symbol {
     fn fill_in_std<S: PartList<Context>>(&self, parts: &mut S, node: u32, ctx: Context)
         requires node { node < length self.now.table.nodes }
         requires room { 8 ≤ S.room parts.old }
-        ensures shows { Shows self.now ctx.detail (S.held parts.old) (S.held parts.new) (text (fixed_text 7) ∷ as_item heads.piece (context_of ctx) (own_piece (tree_at (trees (table_of self.now)) node)) ∷ []) }
+        ensures shows { Shows self.now ctx.detail (S.held parts.old) (S.held parts.new) (text (fixed_text STD) ∷ as_item heads.piece (context_of ctx) (own_piece (tree_at (trees (table_of self.now)) node)) ∷ []) }
         ensures few { S.room parts.old ≤ S.room parts.new + 8 }
     {
         self.push_item(parts, node, form::PIECE, 0, ctx);

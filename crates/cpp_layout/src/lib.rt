@@ -9,6 +9,7 @@ mod left;
 mod lists;
 mod literals;
 mod names;
+mod numbered;
 mod parts;
 mod print;
 mod qualified;

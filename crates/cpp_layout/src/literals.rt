@@ -9,10 +9,12 @@ ghost use Rattle.cpp_term.specs.Items as items;
 ghost use Rattle.cpp_term.specs.Parts.{as_item, says, sign_part, text_part, integer_parts};
 ghost use Rattle.cpp_tree.specs.Nodes.{tree_at, trees, IsTable, IsWithin, bytes_at, signed_of};
 ghost use Rattle.cpp_layout.specs.Texts.{fixed_text};
+ghost use Rattle.cpp_layout.specs.declared.texts.TheConstants.{AND};
 ghost use Rattle.cpp_layout.specs.Layout.{table_of, context_of, Shows, text_if};
 
-use crate::codes::{ending, is_plain};
+use crate::codes::is_plain;
 use crate::context::Context;
+use crate::numbered::ending;
 use crate::symbol::Symbol;
 use crate::{form, texts};
 use cpp_tree::node::{Node, Signed};
@@ -99,7 +101,7 @@ impl Symbol {
     )
         requires encoding { encoding < length self.now.table.nodes }
         requires room { 8 ≤ S.room parts.old }
-        ensures shows { Shows self.now ctx.detail (S.held parts.old) (S.held parts.new) (text_if address (fixed_text 10) (as_item heads.bare items.closed (tree_at (trees (table_of self.now)) encoding) ∷ [])) }
+        ensures shows { Shows self.now ctx.detail (S.held parts.old) (S.held parts.new) (text_if address (fixed_text AND) (as_item heads.bare items.closed (tree_at (trees (table_of self.now)) encoding) ∷ [])) }
         ensures few { S.room parts.old ≤ S.room parts.new + 8 }
     {
         let closed = Context {

@@ -12,6 +12,7 @@ ghost use Rattle.cpp_term.specs.Items as items;
 ghost use Rattle.cpp_term.specs.Parts.{as_item, piece_parts, prefix_item, within_parts, base_within, opening_text, last_piece, instance_parts};
 ghost use Rattle.cpp_tree.specs.Nodes.{tree_at, trees, piece_of, bytes_at, IsTable, IsWithin, IsPieceBelow};
 ghost use Rattle.cpp_layout.specs.Texts.{fixed_text};
+ghost use Rattle.cpp_layout.specs.declared.texts.TheConstants.{BLANK_LESS, COLONS, COUNT, LESS};
 ghost use Rattle.cpp_layout.specs.Layout.{table_of, own_piece, context_of, Shows, IsOwn, IsNoSource, is_encoding};
 
 use crate::codes::{is_angle_code, operator};
@@ -59,7 +60,7 @@ fn own(text: &[u8]) -> Part<Context>
 
 /// Whether it is the operator << or <.
 fn is_angle(piece: Piece) -> bool
-    ensures { (s : List ℕ) (ts : List term.Term) → fixed_text (if result then 28 else 27) ≡ opening_text (piece_of s ts piece) }
+    ensures { (s : List ℕ) (ts : List term.Term) → fixed_text (if result then BLANK_LESS else LESS) ≡ opening_text (piece_of s ts piece) }
 {
     match piece {
         Piece::Operator(first, second) => is_angle_code(first, second),
@@ -115,7 +116,7 @@ impl Symbol {
     #[inline(always)]
     pub(crate) fn push_some<S: PartList<Context>>(&self, parts: &mut S, number: u16)
         requires room { 0 < S.room parts.old }
-        requires few { number < 190 }
+        requires few { number < COUNT }
         ensures shows { (d : Detail) (below : Held Context) (others : List (PartOf items.Item)) → Shows self.now d below (S.held parts.old) others
             → Shows self.now d below (S.held parts.new) (text (fixed_text number) ∷ others) }
         ensures room { S.room parts.old ≤ S.room parts.new + 1 }
@@ -255,7 +256,7 @@ impl Symbol {
         requires prefix { prefix < length self.now.table.nodes }
         requires room { 8 ≤ S.room parts.old }
         ensures shows { Shows self.now ctx.detail (S.held parts.old) (S.held parts.new) (prefix_item (context_of ctx) (tree_at (trees (table_of self.now)) prefix)
-            ∷ text (fixed_text 5) ∷ as_item piece (context_of ctx) (own_piece (tree_at (trees (table_of self.now)) node)) ∷ []) }
+            ∷ text (fixed_text COLONS) ∷ as_item piece (context_of ctx) (own_piece (tree_at (trees (table_of self.now)) node)) ∷ []) }
         ensures few { S.room parts.old ≤ S.room parts.new + 8 }
     {
         self.push_item(parts, node, form::PIECE, 0, ctx);
@@ -292,7 +293,7 @@ impl Symbol {
     fn ends_in_angle(&self, template: u32) -> bool
         requires table { IsTable (table_of self.now) }
         requires template { template < length self.now.table.nodes }
-        ensures { fixed_text (if result then 28 else 27) ≡ opening_text (last_piece (tree_at (trees (table_of self.now)) template)) }
+        ensures { fixed_text (if result then BLANK_LESS else LESS) ≡ opening_text (last_piece (tree_at (trees (table_of self.now)) template)) }
     {
         let mut name = template;
         'entities: loop {

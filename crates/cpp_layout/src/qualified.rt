@@ -11,6 +11,7 @@ ghost use Rattle.cpp_term.specs.Items as items;
 ghost use Rattle.cpp_term.specs.Parts.{text_part, qualified_left};
 ghost use Rattle.cpp_tree.specs.Nodes.{tree_at, trees, IsTable, qualifiers_of};
 ghost use Rattle.cpp_layout.specs.Texts.{fixed_text};
+ghost use Rattle.cpp_layout.specs.declared.texts.TheConstants.{BLANKED};
 ghost use Rattle.cpp_layout.specs.Layout.{table_of, context_of, Shows, qualifiers_behind};
 
 use crate::context::Context;
@@ -22,8 +23,8 @@ use sym_print::PartList;
 
 /// The number of the text of qualifiers whose blank stands behind them.
 fn blanked_number(qualifiers: Qualifiers) -> u16
-    ensures some { 181 < result → (fixed_text result ≡ blank_last (qualifier_text (qualifiers_of qualifiers))) × (0 < length (fixed_text result)) }
-    ensures none { result ≤ 181 → blank_last (qualifier_text (qualifiers_of qualifiers)) ≡ [] }
+    ensures some { BLANKED < result → (fixed_text result ≡ blank_last (qualifier_text (qualifiers_of qualifiers))) × (0 < length (fixed_text result)) }
+    ensures none { result ≤ BLANKED → blank_last (qualifier_text (qualifiers_of qualifiers)) ≡ [] }
 {
     texts::BLANKED
         + bit(qualifiers.restrict)

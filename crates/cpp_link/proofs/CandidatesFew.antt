@@ -9,6 +9,7 @@ use Rattle.sym_shape.specs.declared.rule.Sym.TheVariants.{Kind as OfKind}
 use Rattle.sym_link.specs.Reading.{Found, Next, ◌>>=◌}
 use Rattle.sym_link.specs.Unfold.{found}
 use Rattle.cpp_grammar.specs.declared.production.Production.{Production}
+use Rattle.cpp_grammar.specs.KindNumbers.{NEST_REST, MAYBE_ARGUMENTS}
 use Rattle.cpp_grammar.proofs.ClosedStates.{ok_same, behind_bind}
 use Rattle.cpp_term.specs.Term.{Term, parameter}
 use Rattle.cpp_term.specs.Scope.{count, element, is_open, length_if_pack, pack_length}
@@ -370,10 +371,10 @@ pub name-flow : (p : Production) (around : Around) (place : ℕ) (x : Sym) (t : 
     ((v : Value) → leaves p v ≤ 1)
     → ((byte : ℕ) (began : State) (vs : List Value) (state : State) (one : Found Value State)
     → close p byte around place began vs state ≡ Ok one → one.state ≡ state)
-    → Flow p around place (x ∷ OfKind 42 ∷ []) [] 0
+    → Flow p around place (x ∷ OfKind MAYBE_ARGUMENTS ∷ []) [] 0
 unfolding pending pending_around unlisted_around goes_on is_arguments is_component becomes_candidate after prefix_listed
 name-flow p around place x t none first second made end few same = λ state next e.
-    subst (Onward x (makes_before p []) 0 state (Flow p around place (OfKind 42 ∷ [])))
+    subst (Onward x (makes_before p []) 0 state (Flow p around place (OfKind MAYBE_ARGUMENTS ∷ [])))
     (ok_same (going [] around state) next (sym (first state) ∙ e))
     (quiet (going [] around state) (omega arith) (λ v. none around v) begun)
   where
@@ -381,9 +382,9 @@ name-flow p around place x t none first second made end few same = λ state next
     closes u w = λ byte began state one e. omega
         (arith, few one.value, end u w, ap (λ s. length s.candidates) (same byte began (u ∷ w ∷ []) state one e), there-or-not w)
 
-    begun : (v : Value) → Flow p around place (OfKind 42 ∷ []) (v ∷ []) 0
+    begun : (v : Value) → Flow p around place (OfKind MAYBE_ARGUMENTS ∷ []) (v ∷ []) 0
     begun v = λ state next e.
-        subst (Onward (OfKind 42) (makes_before p (v ∷ [])) 0 state (Flow p around place []))
+        subst (Onward (OfKind MAYBE_ARGUMENTS) (makes_before p (v ∷ [])) 0 state (Flow p around place []))
         (ok_same (going (tree (t v) false ∷ []) (after (t v) false around) state) next (sym (second v state) ∙ e))
         (record {
           over = 1;
@@ -439,16 +440,16 @@ pub nest-flow : (p : Production) (around : Around) (place : ℕ) (x : Sym) (t : 
     (going (tree (t v) false ∷ []) (after (t v) false around) state))
     → ((v : Value) → makes_before p (v ∷ []) ≡ 1) → ((v : Value) → leaves p v ≡ unlisted v)
     → ((byte : ℕ) (began state : State) (u w : Value) → close p byte around place began (u ∷ w ∷ []) state ≡ Ok (found w state))
-    → Flow p around place (x ∷ OfKind 17 ∷ []) [] 0
+    → Flow p around place (x ∷ OfKind NEST_REST ∷ []) [] 0
 unfolding pending pending_around goes_on is_arguments is_component becomes_candidate
 nest-flow p around place x t none first second made is means = λ state next e.
-    subst (Onward x (makes_before p []) 0 state (Flow p around place (OfKind 17 ∷ [])))
+    subst (Onward x (makes_before p []) 0 state (Flow p around place (OfKind NEST_REST ∷ [])))
     (ok_same (going [] around state) next (sym (first state) ∙ e))
     (quiet (going [] around state) (omega arith) (λ v. none around v) begun)
   where
-    begun : (v : Value) → Flow p around place (OfKind 17 ∷ []) (v ∷ []) 0
+    begun : (v : Value) → Flow p around place (OfKind NEST_REST ∷ []) (v ∷ []) 0
     begun v = λ state next e.
-        subst (Onward (OfKind 17) (makes_before p (v ∷ [])) 0 state (Flow p around place []))
+        subst (Onward (OfKind NEST_REST) (makes_before p (v ∷ [])) 0 state (Flow p around place []))
         (ok_same (going (tree (t v) false ∷ []) (after (t v) false around) state) next (sym (second v state) ∙ e))
         (rest-step p around place 17 (makes_before p (v ∷ [])) 0 state (tree (t v) false ∷ []) (t v) false state (λ a w. refl) (λ w. refl)
         (omega (arith, made v))

@@ -9,6 +9,7 @@ use Rattle.sym_shape.specs.declared.rule.Sym.TheVariants.{Kind as OfKind, Name, 
 use Rattle.sym_link.specs.Reading.{Found, Next}
 use Rattle.sym_link.specs.Unfold.{found}
 use Rattle.cpp_grammar.specs.declared.production.Production.{Production}
+use Rattle.cpp_grammar.specs.KindNumbers.{INTEGER, UNQUALIFIED, NEST, NEST_AFTER_S, NEST_REST, NEST_TAIL, COMPONENT, CONSTRUCTOR_DIGIT, DESTRUCTOR_DIGIT, ABBREVIATION, ANONYMOUS, ITEM_AFTER_D, AFTER_D, SOLID, TYPE_AFTER_S, MAYBE_ARGUMENTS, ARGUMENTS, ARGUMENT_LIST, LITERAL_TYPE, OPERATOR}
 use Rattle.cpp_grammar.specs.Grammar.{parts_of, number_of_kind}
 use Rattle.cpp_grammar.proofs.ClosedStates.{ok_same}
 use Rattle.cpp_term.specs.Term.{Term, source, constructor, destructor, in_std, instance, pack, lvalue, rvalue}
@@ -23,7 +24,7 @@ use Rattle.cpp_link.proofs.CandidatesFew.{unlisted, unlisted_around, is_componen
 
 -- ## Names
 
-internal-name : (around : Around) (place : ℕ) → Flow Production.InternalName around place (Name ∷ OfKind 42 ∷ []) [] 0
+internal-name : (around : Around) (place : ℕ) → Flow Production.InternalName around place (Name ∷ OfKind MAYBE_ARGUMENTS ∷ []) [] 0
 unfolding pending_around between piece_so_far named_so_far makes_before made_before makes_at_end name_at_end part leaves makes_name close behind
 internal-name around place =
     name-flow Production.InternalName around place Name (λ v. extended around.prefix (source true (text_of v))) (λ a v. refl)
@@ -31,51 +32,51 @@ internal-name around place =
     (λ v state. refl) (λ v. refl) (λ u w. refl) (λ v. omega arith) (λ byte began vs state one e. still
     (meaning Production.InternalName byte around vs) state one e)
 
-source-name : (around : Around) (place : ℕ) → Flow Production.SourceName around place (Name ∷ OfKind 42 ∷ []) [] 0
+source-name : (around : Around) (place : ℕ) → Flow Production.SourceName around place (Name ∷ OfKind MAYBE_ARGUMENTS ∷ []) [] 0
 unfolding pending_around between piece_so_far named_so_far makes_before made_before makes_at_end name_at_end part leaves makes_name close behind
 source-name around place =
     name-flow Production.SourceName around place Name (λ v. extended around.prefix (source false (text_of v))) (λ a v. refl) (λ state. refl)
     (λ v state. refl) (λ v. refl) (λ u w. refl) (λ v. omega arith) (λ byte began vs state one e. still
     (meaning Production.SourceName byte around vs) state one e)
 
-local-type-name : (around : Around) (place : ℕ) → Flow Production.LocalTypeName around place (OfKind 27 ∷ OfKind 42 ∷ []) [] 0
+local-type-name : (around : Around) (place : ℕ) → Flow Production.LocalTypeName around place (OfKind ANONYMOUS ∷ OfKind MAYBE_ARGUMENTS ∷ []) [] 0
 unfolding pending_around goes_on is_arguments between piece_so_far named_so_far makes_before made_before makes_at_end name_at_end part leaves makes_name close behind
 local-type-name around place =
-    name-flow Production.LocalTypeName around place (OfKind 27) (λ v. extended around.prefix (piece_of v)) (λ a v. refl) (λ state. refl)
+    name-flow Production.LocalTypeName around place (OfKind ANONYMOUS) (λ v. extended around.prefix (piece_of v)) (λ a v. refl) (λ state. refl)
     (λ v state. refl) (λ v. refl) (λ u w. refl) (λ v. omega arith) (λ byte began vs state one e. still
     (meaning Production.LocalTypeName byte around vs) state one e)
 
-operator-name : (around : Around) (place : ℕ) → Flow Production.OperatorName around place (OfKind 52 ∷ OfKind 42 ∷ []) [] 0
+operator-name : (around : Around) (place : ℕ) → Flow Production.OperatorName around place (OfKind OPERATOR ∷ OfKind MAYBE_ARGUMENTS ∷ []) [] 0
 unfolding pending_around goes_on is_arguments between piece_so_far named_so_far makes_before made_before makes_at_end name_at_end part leaves makes_name close behind
 operator-name around place =
-    name-flow Production.OperatorName around place (OfKind 52) (λ v. extended around.prefix (piece_of v)) (λ a v. refl) (λ state. refl)
+    name-flow Production.OperatorName around place (OfKind OPERATOR) (λ v. extended around.prefix (piece_of v)) (λ a v. refl) (λ state. refl)
     (λ v state. refl) (λ v. refl) (λ u w. refl) (λ v. omega arith) (λ byte began vs state one e. still
     (meaning Production.OperatorName byte around vs) state one e)
 
-constructor-name : (around : Around) (place : ℕ) → Flow Production.Constructor around place (OfKind 20 ∷ OfKind 42 ∷ []) [] 0
+constructor-name : (around : Around) (place : ℕ) → Flow Production.Constructor around place (OfKind CONSTRUCTOR_DIGIT ∷ OfKind MAYBE_ARGUMENTS ∷ []) [] 0
 unfolding pending_around goes_on is_arguments between piece_so_far named_so_far makes_before made_before makes_at_end name_at_end part leaves makes_name close behind
 constructor-name around place =
-    name-flow Production.Constructor around place (OfKind 20) (λ v. extended around.prefix (constructor (letter_of v))) (λ a v. refl)
+    name-flow Production.Constructor around place (OfKind CONSTRUCTOR_DIGIT) (λ v. extended around.prefix (constructor (letter_of v))) (λ a v. refl)
     (λ state. refl)
     (λ v state. refl) (λ v. refl) (λ u w. refl) (λ v. omega arith) (λ byte began vs state one e. still
     (meaning Production.Constructor byte around vs) state one e)
 
-destructor-name : (around : Around) (place : ℕ) → Flow Production.Destructor around place (OfKind 21 ∷ OfKind 42 ∷ []) [] 0
+destructor-name : (around : Around) (place : ℕ) → Flow Production.Destructor around place (OfKind DESTRUCTOR_DIGIT ∷ OfKind MAYBE_ARGUMENTS ∷ []) [] 0
 unfolding pending_around goes_on is_arguments between piece_so_far named_so_far makes_before made_before makes_at_end name_at_end part leaves makes_name close behind
 destructor-name around place =
-    name-flow Production.Destructor around place (OfKind 21) (λ v. extended around.prefix (destructor (letter_of v))) (λ a v. refl)
+    name-flow Production.Destructor around place (OfKind DESTRUCTOR_DIGIT) (λ v. extended around.prefix (destructor (letter_of v))) (λ a v. refl)
     (λ state. refl)
     (λ v state. refl) (λ v. refl) (λ u w. refl) (λ v. omega arith) (λ byte began vs state one e. still
     (meaning Production.Destructor byte around vs) state one e)
 
-std-name : (around : Around) (place : ℕ) → Flow Production.StdName around place (OfKind 14 ∷ OfKind 42 ∷ []) [] 0
+std-name : (around : Around) (place : ℕ) → Flow Production.StdName around place (OfKind UNQUALIFIED ∷ OfKind MAYBE_ARGUMENTS ∷ []) [] 0
 unfolding pending_around goes_on is_arguments between piece_so_far named_so_far makes_before made_before makes_at_end name_at_end part leaves makes_name may_leave close behind
 std-name around place =
-    name-flow Production.StdName around place (OfKind 14) (λ v. in_std (piece_of v)) (λ a v. refl) (λ state. refl)
+    name-flow Production.StdName around place (OfKind UNQUALIFIED) (λ v. in_std (piece_of v)) (λ a v. refl) (λ state. refl)
     (λ v state. refl) (λ v. refl) (λ u w. refl) (λ v. omega arith) (λ byte began vs state one e. still
     (meaning Production.StdName byte around vs) state one e)
 
-abbreviated-name : (around : Around) (place : ℕ) → Flow Production.AbbreviatedName around place (OfKind 22 ∷ OfKind 43 ∷ []) [] 0
+abbreviated-name : (around : Around) (place : ℕ) → Flow Production.AbbreviatedName around place (OfKind ABBREVIATION ∷ OfKind ARGUMENTS ∷ []) [] 0
 unfolding pending pending_around unlisted_around goes_on is_arguments is_component becomes_candidate after prefix_listed between listed_so_far makes_before made_before makes_at_end name_at_end part leaves makes_name may_leave close behind
 abbreviated-name around place = λ state next e. came (going [] around state) next e
     (quiet (going [] around state) (omega arith) (λ v. refl) (λ v.
@@ -115,7 +116,7 @@ unqualified-type p around place k none is first leave means =
     let same : f ≡ one = ok_same f one (sym (means byte began state v) ∙ e) in
     omega (arith, ap (λ o. length o.state.candidates) same, leave one.value, unqualified-one around v state)))
 
-integer-literal : (around : Around) (place : ℕ) → Flow Production.IntegerLiteral around place (OfKind 51 ∷ OfKind 7 ∷ []) [] 0
+integer-literal : (around : Around) (place : ℕ) → Flow Production.IntegerLiteral around place (OfKind LITERAL_TYPE ∷ OfKind INTEGER ∷ []) [] 0
 unfolding pending pending_around goes_on is_arguments is_component becomes_candidate between makes_before made_before makes_at_end made_at_end leaves makes_name may_leave close behind
 integer-literal around place = λ state next e. came (going [] around state) next e (record {
   over = 0;
@@ -137,7 +138,7 @@ integer-literal around place = λ state next e. came (going [] around state) nex
 })
 
 -- a parameter is a candidate before its arguments
-parameter-type : (around : Around) (place : ℕ) → Flow Production.Parameter around place (Number Decimal ∷ OfKind 42 ∷ []) [] 0
+parameter-type : (around : Around) (place : ℕ) → Flow Production.Parameter around place (Number Decimal ∷ OfKind MAYBE_ARGUMENTS ∷ []) [] 0
 unfolding pending pending_around unlisted_around goes_on is_arguments is_component becomes_candidate after prefix_listed between makes_before made_before makes_at_end name_at_end part leaves makes_name may_leave unlisted is_listed meaning one_if_there close behind
 parameter-type around place = λ state next e. came (going [] around state) next e
     (quiet (going [] around state) (omega arith) (λ v. refl) begun)
@@ -158,15 +159,15 @@ parameter-type around place = λ state next e. came (going [] around state) next
         made : (w : Value) → cond (not (is_there w)) 0 1 ≤ one_if_there w
         made w = given (is_there w)
 
-    begun : (v : Value) → Flow Production.Parameter around place (OfKind 42 ∷ []) (v ∷ []) 0
+    begun : (v : Value) → Flow Production.Parameter around place (OfKind MAYBE_ARGUMENTS ∷ []) (v ∷ []) 0
     begun v = λ state next e. (
         let n = parameter-one around place (index_of v) [] state next e in
-        subst (Onward (OfKind 42) 1 0 state (Flow Production.Parameter around place [])) (sym n.is)
+        subst (Onward (OfKind MAYBE_ARGUMENTS) 1 0 state (Flow Production.Parameter around place [])) (sym n.is)
         (quiet (going (tree n.own true ∷ []) (after n.own true around) n.mid) (omega (arith, n.one)) (λ w. none (is_there w))
         (λ w. closes (tree n.own true) w)))
 
 -- an abbreviation or what a reference names, or a name in std, before its arguments
-with-s-type : (around : Around) (place : ℕ) → Flow Production.TypeWithS around place (OfKind 36 ∷ OfKind 42 ∷ []) [] 0
+with-s-type : (around : Around) (place : ℕ) → Flow Production.TypeWithS around place (OfKind TYPE_AFTER_S ∷ OfKind MAYBE_ARGUMENTS ∷ []) [] 0
 unfolding pending pending_around unlisted_around goes_on is_arguments is_component becomes_candidate after prefix_listed between makes_before made_before makes_at_end name_at_end part leaves makes_name may_leave unlisted is_listed meaning one_if_there close behind
 with-s-type around place = λ state next e. came (going [] around state) next e (record {
   over = 0;
@@ -188,7 +189,7 @@ with-s-type around place = λ state next e. came (going [] around state) next e 
         made : (w : Value) → cond (is_listed v && not (is_there w)) 0 1 ≤ one_if_there w + cond (is_there w) 0 (unlisted v)
         made w = spent (is_listed v) (is_there w)
 
-    begun : (v : Value) → Flow Production.TypeWithS around place (OfKind 42 ∷ []) (v ∷ []) (unlisted v)
+    begun : (v : Value) → Flow Production.TypeWithS around place (OfKind MAYBE_ARGUMENTS ∷ []) (v ∷ []) (unlisted v)
     begun v = λ state next e. came (going (v ∷ []) (after (tree_of v) (is_listed v) around) state) next e (record {
       over = unlisted v;
       few = omega arith;
@@ -197,26 +198,26 @@ with-s-type around place = λ state next e. came (going [] around state) next e 
 
 -- ## Nested names
 
-nest-internal : (around : Around) (place : ℕ) → Flow Production.NestInternal around place (Name ∷ OfKind 17 ∷ []) [] 0
+nest-internal : (around : Around) (place : ℕ) → Flow Production.NestInternal around place (Name ∷ OfKind NEST_REST ∷ []) [] 0
 unfolding pending_around between piece_so_far named_so_far makes_before made_before part leaves makes_name may_leave meaning close behind
 nest-internal around place =
     nest-flow Production.NestInternal around place Name (λ v. extended around.prefix (source true (text_of v))) (λ a v. refl)
     (λ state. refl)
     (λ v state. refl) (λ v. refl) (λ v. refl) (λ byte began state u w. refl)
 
-nest-source : (around : Around) (place : ℕ) → Flow Production.NestSource around place (Name ∷ OfKind 17 ∷ []) [] 0
+nest-source : (around : Around) (place : ℕ) → Flow Production.NestSource around place (Name ∷ OfKind NEST_REST ∷ []) [] 0
 unfolding pending_around between piece_so_far named_so_far makes_before made_before part leaves makes_name may_leave meaning close behind
 nest-source around place =
     nest-flow Production.NestSource around place Name (λ v. extended around.prefix (source false (text_of v))) (λ a v. refl) (λ state. refl)
     (λ v state. refl) (λ v. refl) (λ v. refl) (λ byte began state u w. refl)
 
-nest-local-type : (around : Around) (place : ℕ) → Flow Production.NestLocalType around place (OfKind 27 ∷ OfKind 17 ∷ []) [] 0
+nest-local-type : (around : Around) (place : ℕ) → Flow Production.NestLocalType around place (OfKind ANONYMOUS ∷ OfKind NEST_REST ∷ []) [] 0
 unfolding pending_around goes_on is_arguments between piece_so_far named_so_far makes_before made_before part leaves makes_name may_leave meaning close behind
 nest-local-type around place =
-    nest-flow Production.NestLocalType around place (OfKind 27) (λ v. extended around.prefix (piece_of v)) (λ a v. refl) (λ state. refl)
+    nest-flow Production.NestLocalType around place (OfKind ANONYMOUS) (λ v. extended around.prefix (piece_of v)) (λ a v. refl) (λ state. refl)
     (λ v state. refl) (λ v. refl) (λ v. refl) (λ byte began state u w. refl)
 
-nest-abbreviated : (around : Around) (place : ℕ) → Flow Production.NestAbbreviated around place (OfKind 22 ∷ OfKind 17 ∷ []) [] 0
+nest-abbreviated : (around : Around) (place : ℕ) → Flow Production.NestAbbreviated around place (OfKind ABBREVIATION ∷ OfKind NEST_REST ∷ []) [] 0
 unfolding pending pending_around goes_on is_arguments is_component becomes_candidate between listed_so_far makes_before made_before part leaves makes_name may_leave meaning close behind
 nest-abbreviated around place = λ state next e. came (going [] around state) next e
     (quiet (going [] around state) (omega arith) (λ v. refl) (λ v.
@@ -226,24 +227,24 @@ nest-abbreviated around place = λ state next e. came (going [] around state) ne
     (omega arith)
     (λ w. same-closes Production.NestAbbreviated around place (tree (tree_of v) true ∷ w ∷ []) w (λ u. refl) (λ byte began last. refl)))))
 
-nest-parameter : (around : Around) (place : ℕ) → Flow Production.NestParameter around place (Number Decimal ∷ OfKind 17 ∷ []) [] 0
+nest-parameter : (around : Around) (place : ℕ) → Flow Production.NestParameter around place (Number Decimal ∷ OfKind NEST_REST ∷ []) [] 0
 unfolding pending pending_around goes_on is_arguments is_component becomes_candidate between makes_before made_before part leaves makes_name may_leave meaning close behind
 nest-parameter around place = λ state next e. came (going [] around state) next e
     (quiet (going [] around state) (omega arith) (λ v. refl) begun)
   where
-    begun : (v : Value) → Flow Production.NestParameter around place (OfKind 17 ∷ []) (v ∷ []) 0
+    begun : (v : Value) → Flow Production.NestParameter around place (OfKind NEST_REST ∷ []) (v ∷ []) 0
     begun v = λ state next e. (
         let n = parameter-one around place (index_of v) [] state next e in
-        subst (Onward (OfKind 17) 1 0 state (Flow Production.NestParameter around place [])) (sym n.is)
+        subst (Onward (OfKind NEST_REST) 1 0 state (Flow Production.NestParameter around place [])) (sym n.is)
         (rest-step Production.NestParameter around place 17 1 0 state (tree n.own true ∷ []) n.own true n.mid (λ a w. refl) (λ w. refl)
         (omega (arith, n.one))
         (λ w. same-closes Production.NestParameter around place (tree n.own true ∷ w ∷ []) w (λ u. refl) (λ byte began last. refl))))
 
-nest-std : (around : Around) (place : ℕ) → Flow Production.NestStd around place (OfKind 14 ∷ OfKind 42 ∷ OfKind 18 ∷ []) [] 0
+nest-std : (around : Around) (place : ℕ) → Flow Production.NestStd around place (OfKind UNQUALIFIED ∷ OfKind MAYBE_ARGUMENTS ∷ OfKind NEST_TAIL ∷ []) [] 0
 unfolding pending pending_around unlisted_around goes_on is_arguments is_component becomes_candidate after prefix_listed between named_so_far makes_before std_before part leaves makes_name may_leave meaning close behind
 nest-std around place = λ state next e. came (going [] around state) next e (quiet (going [] around state) (omega arith) (λ v. refl) named)
   where
-    ends : (u w : Value) → Flow Production.NestStd around place (OfKind 18 ∷ []) (u ∷ w ∷ []) (cond (is_there w) 0 1)
+    ends : (u w : Value) → Flow Production.NestStd around place (OfKind NEST_TAIL ∷ []) (u ∷ w ∷ []) (cond (is_there w) 0 1)
     ends u w = λ state next e. came (going (tree (applied (tree_of u) w) false ∷ w ∷ [])
         (after (applied (tree_of u) w) false around) state) next e
         (rest-step Production.NestStd around place 18 (one_if_there w) (cond (is_there w) 0 1) state
@@ -252,7 +253,7 @@ nest-std around place = λ state next e. came (going [] around state) next e (qu
         (λ z. same-closes Production.NestStd around place (tree (applied (tree_of u) w) false ∷ w ∷ z ∷ []) z (λ v. refl)
         (λ byte began last. refl)))
 
-    named : (v : Value) → Flow Production.NestStd around place (OfKind 42 ∷ OfKind 18 ∷ []) (v ∷ []) 0
+    named : (v : Value) → Flow Production.NestStd around place (OfKind MAYBE_ARGUMENTS ∷ OfKind NEST_TAIL ∷ []) (v ∷ []) 0
     named v = λ state next e. came (going (tree (in_std (piece_of v)) false ∷ []) (after (in_std (piece_of v)) false around) state) next e
         (record {
           over = 1;
@@ -265,7 +266,7 @@ nest-std around place = λ state next e. came (going [] around state) next e (qu
           };
         })
 
-nest-next : (around : Around) (place : ℕ) → Flow Production.NestNext around place (OfKind 19 ∷ OfKind 18 ∷ []) [] (unlisted_around around)
+nest-next : (around : Around) (place : ℕ) → Flow Production.NestNext around place (OfKind COMPONENT ∷ OfKind NEST_TAIL ∷ []) [] (unlisted_around around)
 unfolding pending pending_around goes_on is_arguments is_component becomes_candidate between makes_before made_before part leaves makes_name may_leave meaning close behind
 nest-next around place = λ state next e. came (going [] (after (prefix_tree around.prefix) true around) (with_prefix around state)) next e
     (record {
@@ -274,13 +275,13 @@ nest-next around place = λ state next e. came (going [] (after (prefix_tree aro
       later = λ v. record { now = 1; few = omega arith; goes = ends v };
     })
   where
-    ends : (v : Value) → Flow Production.NestNext around place (OfKind 18 ∷ []) (v ∷ []) 1
+    ends : (v : Value) → Flow Production.NestNext around place (OfKind NEST_TAIL ∷ []) (v ∷ []) 1
     ends v = λ state next e. came (going (v ∷ []) (after (tree_of v) false around) state) next e
         (rest-step Production.NestNext around place 18 0 1 state (v ∷ []) (tree_of v) false state (λ a w. refl) (λ w. refl) (omega arith)
         (λ w. same-closes Production.NestNext around place (v ∷ w ∷ []) w (λ u. refl) (λ byte began last. refl)))
 
 nest-arguments : (around : Around) (place : ℕ)
-    → Flow Production.NestArguments around place (OfKind 44 ∷ Byte 69 ∷ OfKind 19 ∷ OfKind 18 ∷ []) [] (unlisted_around around)
+    → Flow Production.NestArguments around place (OfKind ARGUMENT_LIST ∷ Byte 69 ∷ OfKind COMPONENT ∷ OfKind NEST_TAIL ∷ []) [] (unlisted_around around)
 unfolding pending pending_around goes_on is_arguments is_component becomes_candidate between listed_so_far makes_before made_before part leaves makes_name may_leave meaning close behind
 nest-arguments around place = λ state next e. came (going [] (inside around) (with_prefix around state)) next e (record {
   over = 0;
@@ -288,13 +289,13 @@ nest-arguments around place = λ state next e. came (going [] (inside around) (w
   later = λ v. record { now = 0; few = omega arith; goes = ended-by v };
 })
   where
-    ends : (u b v : Value) → Flow Production.NestArguments around place (OfKind 18 ∷ []) (u ∷ b ∷ v ∷ []) 1
+    ends : (u b v : Value) → Flow Production.NestArguments around place (OfKind NEST_TAIL ∷ []) (u ∷ b ∷ v ∷ []) 1
     ends u b v = λ state next e. came (going (u ∷ b ∷ v ∷ []) (after (tree_of v) false around) state) next e
         (rest-step Production.NestArguments around place 18 0 1 state (u ∷ b ∷ v ∷ []) (tree_of v) false state (λ a w. refl) (λ w. refl)
         (omega arith)
         (λ w. same-closes Production.NestArguments around place (u ∷ b ∷ v ∷ w ∷ []) w (λ x. refl) (λ byte began last. refl)))
 
-    made : (v b : Value) → Flow Production.NestArguments around place (OfKind 19 ∷ OfKind 18 ∷ []) (v ∷ b ∷ []) 0
+    made : (v b : Value) → Flow Production.NestArguments around place (OfKind COMPONENT ∷ OfKind NEST_TAIL ∷ []) (v ∷ b ∷ []) 0
     made v b = λ state next e. (
         let t : Term = instance (prefix_tree around.prefix) (no_items v) in
         came (going (tree t true ∷ b ∷ []) (after t true around) (appended around t state)) next e (record {
@@ -303,7 +304,7 @@ nest-arguments around place = λ state next e. came (going [] (inside around) (w
           later = λ w. record { now = 1; few = omega arith; goes = ends (tree t true) b w };
         }))
 
-    ended-by : (v : Value) → Flow Production.NestArguments around place (Byte 69 ∷ OfKind 19 ∷ OfKind 18 ∷ []) (v ∷ []) 0
+    ended-by : (v : Value) → Flow Production.NestArguments around place (Byte 69 ∷ OfKind COMPONENT ∷ OfKind NEST_TAIL ∷ []) (v ∷ []) 0
     ended-by v = λ state next e. came (going (v ∷ []) around state) next e
         (quiet (going (v ∷ []) around state) (omega arith) (λ b. refl) (λ b. made v b))
 
@@ -313,7 +314,7 @@ nest-end around place = λ byte began state one e.
     ended Production.NestEnd 0 (unlisted_around around) state (found (tree (prefix_tree around.prefix)
     (prefix_listed around.prefix)) state) one e (omega arith)
 
-arguments : (around : Around) (place : ℕ) → Flow Production.Arguments around place (OfKind 44 ∷ Byte 69 ∷ []) [] (unlisted_around around)
+arguments : (around : Around) (place : ℕ) → Flow Production.Arguments around place (OfKind ARGUMENT_LIST ∷ Byte 69 ∷ []) [] (unlisted_around around)
 unfolding pending pending_around goes_on is_arguments is_component becomes_candidate between makes_before made_before makes_at_end made_at_end leaves makes_name may_leave close behind
 arguments around place = λ state next e. came (going [] (inside around) (with_prefix around state)) next e (record {
   over = 0;
@@ -423,27 +424,27 @@ flows Production.Constructor around place = constructor-name around place
 flows Production.Destructor around place = destructor-name around place
 flows Production.StdName around place = std-name around place
 flows Production.AbbreviatedName around place = abbreviated-name around place
-flows Production.NestWithS around place = value-flow Production.NestWithS around place (OfKind 16) (λ a v. refl) (λ v. refl) (λ state. refl)
+flows Production.NestWithS around place = value-flow Production.NestWithS around place (OfKind NEST_AFTER_S) (λ a v. refl) (λ v. refl) (λ state. refl)
     (λ v. same-closes Production.NestWithS around place (v ∷ []) v (λ u. refl) (λ byte began state. refl))
-flows Production.NestedType around place = value-flow Production.NestedType around place (OfKind 15) (λ a v. refl) (λ v. refl)
+flows Production.NestedType around place = value-flow Production.NestedType around place (OfKind NEST) (λ a v. refl) (λ v. refl)
     (λ state. refl)
     (λ v. same-closes Production.NestedType around place (v ∷ []) v (λ u. refl) (λ byte began state. refl))
-flows Production.ItemIsType around place = value-flow Production.ItemIsType around place (OfKind 33) (λ a v. refl) (λ v. refl)
+flows Production.ItemIsType around place = value-flow Production.ItemIsType around place (OfKind AFTER_D) (λ a v. refl) (λ v. refl)
     (λ state. refl)
     (λ v. same-closes Production.ItemIsType around place (v ∷ []) v (λ u. refl) (λ byte began state. refl))
-flows Production.AbbreviatedType around place = value-flow Production.AbbreviatedType around place (OfKind 22) (λ a v. refl) (λ v. refl)
+flows Production.AbbreviatedType around place = value-flow Production.AbbreviatedType around place (OfKind ABBREVIATION) (λ a v. refl) (λ v. refl)
     (λ state. refl)
     (λ v. same-closes Production.AbbreviatedType around place (v ∷ []) v (λ u. refl) (λ byte began state. refl))
-flows Production.PlainType around place = solid-type Production.PlainType around place 34 (λ a v. refl) (λ v. refl) (λ state. refl)
+flows Production.PlainType around place = solid-type Production.PlainType around place SOLID (λ a v. refl) (λ v. refl) (λ state. refl)
     (λ v. refl) (λ byte began state v. refl)
-flows Production.TypeWithD around place = solid-type Production.TypeWithD around place 33 (λ a v. refl) (λ v. refl) (λ state. refl)
+flows Production.TypeWithD around place = solid-type Production.TypeWithD around place AFTER_D (λ a v. refl) (λ v. refl) (λ state. refl)
     (λ v. refl) (λ byte began state v. refl)
-flows Production.ItemWithD around place = solid-type Production.ItemWithD around place 32 (λ a v. refl) (λ v. refl) (λ state. refl)
+flows Production.ItemWithD around place = solid-type Production.ItemWithD around place ITEM_AFTER_D (λ a v. refl) (λ v. refl) (λ state. refl)
     (λ v. refl) (λ byte began state v. refl)
 flows Production.QualifiedPlain around place =
-    unqualified-type Production.QualifiedPlain around place 34 (λ a v. refl) (λ v. refl) (λ state. refl) (λ v. refl)
+    unqualified-type Production.QualifiedPlain around place SOLID (λ a v. refl) (λ v. refl) (λ state. refl) (λ v. refl)
     (λ byte began state v. refl)
-flows Production.PlainWithD around place = unqualified-type Production.PlainWithD around place 33 (λ a v. refl) (λ v. refl)
+flows Production.PlainWithD around place = unqualified-type Production.PlainWithD around place AFTER_D (λ a v. refl) (λ v. refl)
     (λ state. refl) (λ v. refl) (λ byte began state v. refl)
 flows Production.IntegerLiteral around place = integer-literal around place
 flows Production.Parameter around place = parameter-type around place

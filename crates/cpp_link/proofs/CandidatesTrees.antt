@@ -15,6 +15,7 @@ use Rattle.sym_link.specs.Tally.{Tally, tally, tallied}
 use Rattle.sym_link.proofs.Tally.{plain, tree_untallied}
 use Rattle.cpp_grammar.specs.declared.kind.Kind.{Kind}
 use Rattle.cpp_grammar.specs.declared.production.Production.{Production}
+use Rattle.cpp_grammar.specs.KindNumbers.{SYMBOL}
 use Rattle.cpp_grammar.specs.Grammar.{Alternative, is_in, pick, alternatives, choose, kinds, may_be_empty, number_of_kind, parts_of}
 use Rattle.cpp_grammar.specs.Table.{abi, rule_of, rule_taken}
 use Rattle.cpp_grammar.specs.TableLaws.{lawful}
@@ -347,14 +348,14 @@ mutual
 
 -- ## Symbols
 
-noted-few : (shape : Tree) → IsTree abi (OfKind 0) shape → (read : Found (List Value) State)
+noted-few : (shape : Tree) → IsTree abi (OfKind SYMBOL) shape → (read : Found (List Value) State)
     → unfold_tree cpp first_around 0 shape first_state ≡ Ok read
     → 3 + length read.state.candidates ≤ nodes_of_shape shape
 unfolding first_state pending_around goes_on is_arguments
 noted-few shape is read e =
     let a = behind_bind (unfold_tree counted first_around 0 shape (tally first_state 0)) plain read
     (tree_untallied cpp cpp_makes first_around 0 shape (tally first_state 0) ∙ e) in
-    let one = tree-few shape (OfKind 0) first_around 0 first_state 0 a.value (known 0 (lit≤ tt)) is a.is in
+    let one = tree-few shape (OfKind SYMBOL) first_around 0 first_state 0 a.value (known 0 (lit≤ tt)) is a.is in
     omega (
       arith,
       one.few,
@@ -362,7 +363,7 @@ noted-few shape is read e =
       ap counted_nodes a.is,
     )
 
-pub candidates-few : (shape : Tree) → IsTree abi (OfKind 0) shape → (read : Found (List leaf_.Value) leaf_.State)
+pub candidates-few : (shape : Tree) → IsTree abi (OfKind SYMBOL) shape → (read : Found (List leaf_.Value) leaf_.State)
     → unfold_tree unfolding_.cpp unfolding_.first_around 0 shape unfolding_.first_state ≡ Ok read
     → 3 + length read.state.candidates ≤ nodes_of_shape shape
 candidates-few shape is read e =

@@ -23,7 +23,8 @@ use Rattle.cpp_link.specs.Parts.{trees_in, values_in, around_of}
 use Rattle.cpp_link.specs.Reads.{goes_on}
 use Rattle.cpp_link.specs.Closes.{closes_of, closes}
 use Rattle.cpp_link.specs.ClosesLaws.{quiet_owed, closes_pushed}
-use Rattle.cpp_link.specs.Stepping.{IsStepOf, Takes, CountsStep, nodes_of_step, quiet_parts}
+use Rattle.cpp_link.specs.Stepping.{IsStepOf, Takes, CountsStep, nodes_of_step}
+use Rattle.cpp_link.specs.Tables.{quiet_parts}
 use Rattle.cpp_link.specs.View.{IsPaid, Surrounds, cpp_view}
 use Rattle.cpp_link.proofs.Stepping.{step_owed}
 use Rattle.cpp_link.proofs.Places.{values_length}

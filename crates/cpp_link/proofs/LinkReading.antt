@@ -16,6 +16,7 @@ use Rattle.sym_link.specs.Tally.{Tally, tally, Makes, tallied}
 use Rattle.sym_link.proofs.Tally.{plain, forest_untallied}
 use Rattle.cpp_grammar.specs.declared.production.Production.{Production}
 use Rattle.cpp_grammar.specs.declared.kind.Kind.{Kind}
+use Rattle.cpp_grammar.specs.KindNumbers.{SYMBOL, SUFFIX_FIRST, SUFFIX_MORE}
 use Rattle.cpp_grammar.specs.Grammar.{parts_of, number_of_kind, kinds, productions, number_of, is_chain, choose, alternatives, pick, is_in, in_ranges, among, may_be_empty}
 use Rattle.cpp_grammar.specs.Table.{abi, rule_of, rule_taken, sheet, sheet_with, blank}
 use Rattle.cpp_grammar.proofs.Choosing.{rule_at_kind, is_kind}
@@ -92,8 +93,8 @@ data OfSuffix : ℕ → Type 0 where
 
 suffix_rule : (kind : ℕ) → OfSuffix kind → (rule : Rule) (taken : List ℕ) → TakesRule abi kind rule taken → rule ≡ rule_of Production.SuffixByte
 unfolding choose alternatives pick kinds
-suffix_rule kind in_front rule taken takes = chosen_byte _ rule (sym (rule_at_kind 2 Kind.SuffixFirst takes.byte refl) ∙ takes.found)
-suffix_rule kind behind_it rule taken takes = chosen_byte _ rule (sym (rule_at_kind 3 Kind.SuffixMore takes.byte refl) ∙ takes.found)
+suffix_rule kind in_front rule taken takes = chosen_byte _ rule (sym (rule_at_kind SUFFIX_FIRST Kind.SuffixFirst takes.byte refl) ∙ takes.found)
+suffix_rule kind behind_it rule taken takes = chosen_byte _ rule (sym (rule_at_kind SUFFIX_MORE Kind.SuffixMore takes.byte refl) ∙ takes.found)
 
 -- the bytes of a suffix, in one value
 record SuffixRead (around : Around) (place : ℕ) (tree : Tree) (state : State) : Type 0 where
@@ -115,7 +116,7 @@ suffix_chain : is_chain Production.SuffixByte ≡ false
 unfolding is_chain
 suffix_chain = refl
 
-suffix_parts : (rule : Rule) (parts : Forest) → rule ≡ rule_of Production.SuffixByte → AreTrees abi (symbols_of rule) parts → AreTrees abi (OfKind 3 ∷ []) parts
+suffix_parts : (rule : Rule) (parts : Forest) → rule ≡ rule_of Production.SuffixByte → AreTrees abi (symbols_of rule) parts → AreTrees abi (OfKind SUFFIX_MORE ∷ []) parts
 unfolding parts_of number_of_kind
 suffix_parts rule parts is trees = subst (λ ss. AreTrees abi ss parts) (ap symbols_of is ∙ its_symbols Production.SuffixByte) trees
 
@@ -130,7 +131,7 @@ suffix_read kind one (branch rule taken (grown inner (grown second rest))) aroun
 suffix_read kind one (branch rule taken (grown inner nothing)) around place state is =
     let same = suffix_rule kind one rule taken is.0 in
     let eaten : taken ≡ is.0.byte ∷ [] = takes_byte is.0.byte rule taken Production.SuffixByte same suffix_chain is.0.takes in
-    let read = suffix_read 3 behind_it inner around (place + 1) state (suffix_parts rule (grown inner nothing) same is.1).0 in
+    let read = suffix_read SUFFIX_MORE behind_it inner around (place + 1) state (suffix_parts rule (grown inner nothing) same is.1).0 in
     record {
       value = text (is.0.byte ∷ text_of read.value);
       is = ap (λ r. unfold_tree cpp around place (branch r taken (grown inner nothing)) state) same
@@ -186,7 +187,7 @@ suffix_closes : (s : List ℕ) → ClosesRule s Production.Suffix
 unfolding cpp link_close link_meaning close behind meaning production_at productions rule_of number_of byte_of parts_of number_of_kind is_chain
 suffix_closes s kind taken (grown tree nothing) place context before begun inner rest takes trees at is_begun is_inner =
     let eaten : taken ≡ takes.byte ∷ [] = takes_byte takes.byte (rule_of Production.Suffix) taken Production.Suffix refl refl takes.takes in
-    let read = suffix_read 2 in_front tree context (place + length taken) begun trees.0 in
+    let read = suffix_read SUFFIX_FIRST in_front tree context (place + length taken) begun trees.0 in
     let values = suffix_forest Production.Suffix taken place (place + length taken) context before begun inner read.value tree (inl refl) read.is is_inner in
     let there : drop place s ≡ (takes.byte ∷ []) ++ ((spell tree ++ []) ++ rest) = at ∙ ap (λ b. b ++ ((spell tree ++ []) ++ rest)) eaten in
     let first : byte_of taken ≡ takes.byte = ap byte_of eaten in
@@ -199,7 +200,7 @@ byte_closes : (s : List ℕ) → ClosesRule s Production.SuffixByte
 unfolding cpp link_close link_meaning close behind meaning production_at productions rule_of number_of byte_of parts_of number_of_kind is_chain
 byte_closes s kind taken (grown tree nothing) place context before begun inner rest takes trees at is_begun is_inner =
     let eaten : taken ≡ takes.byte ∷ [] = takes_byte takes.byte (rule_of Production.SuffixByte) taken Production.SuffixByte refl refl takes.takes in
-    let read = suffix_read 3 behind_it tree context (place + length taken) begun trees.0 in
+    let read = suffix_read SUFFIX_MORE behind_it tree context (place + length taken) begun trees.0 in
     let values = suffix_forest Production.SuffixByte taken place (place + length taken) context before begun inner read.value tree (inr refl) read.is is_inner in
     let there : drop place s ≡ (takes.byte ∷ []) ++ ((spell tree ++ []) ++ rest) = at ∙ ap (λ b. b ++ ((spell tree ++ []) ++ rest)) eaten in
     let first : byte_of taken ≡ takes.byte = ap byte_of eaten in
@@ -391,13 +392,13 @@ or_none true is = refl
 or_none false is = is
 
 -- a symbol begins with this byte
-pub symbol_begins : (shape : Tree) → IsTree abi (OfKind 0) shape → (more : List ℕ) × (spell shape ≡ 95 ∷ more)
+pub symbol_begins : (shape : Tree) → IsTree abi (OfKind SYMBOL) shape → (more : List ℕ) × (spell shape ≡ 95 ∷ more)
 unfolding choose alternatives pick kinds is_in in_ranges among rule_taken abi sheet sheet_with blank may_be_empty
 symbol_begins empty is = absurd (false≢true is)
 symbol_begins (token t) is = absurd is
 symbol_begins (fixed b) is = absurd is
 symbol_begins (branch rule taken parts) is =
-    let is_rule = chosen (nat_eq is.0.byte 95 || false) (sym (rule_at_kind 0 Kind.Symbol is.0.byte refl) ∙ is.0.found) in
+    let is_rule = chosen (nat_eq is.0.byte 95 || false) (sym (rule_at_kind SYMBOL Kind.Symbol is.0.byte refl) ∙ is.0.found) in
     let eaten : taken ≡ is.0.byte ∷ [] = takes_byte is.0.byte rule taken Production.Symbol is_rule.0 symbol_eats is.0.takes in
     (spell_all parts, ap (λ x. x ++ spell_all parts) (eaten ∙ ap (λ b. b ∷ []) (eqb-true is.0.byte 95 (or_none (nat_eq is.0.byte 95) is_rule.1))))
   where
@@ -406,7 +407,7 @@ symbol_begins (branch rule taken parts) is =
     chosen false h = let clash : ◌≡◌ {A = Option Rule} None (Some rule) = h in absurd cc
 
 -- What the linker's reading says of a symbol is what C++'s says, also where nodes are counted.
-module _ (s : List ℕ) (shape : Tree) (is : IsTree abi (OfKind 0) shape) (spelled : spell shape ≡ s) where
+module _ (s : List ℕ) (shape : Tree) (is : IsTree abi (OfKind SYMBOL) shape) (spelled : spell shape ≡ s) where
   abbrev more : List ℕ
   more = (symbol_begins shape is).0
 
@@ -417,7 +418,7 @@ module _ (s : List ℕ) (shape : Tree) (is : IsTree abi (OfKind 0) shape) (spell
   at_front = sym spelled ∙ sym (append-nil (spell shape))
 
   pub meaning_same : unfold_tree (linked s) first_around 0 shape first_state ≡ unfold_tree cpp first_around 0 shape first_state
-  meaning_same = tree_same abi lawful s cpp link_begin (linked s).close (begins_same s more begins) (closes_same s) (OfKind 0) first_around 0 shape first_state [] lawful.start is at_front
+  meaning_same = tree_same abi lawful s cpp link_begin (linked s).close (begins_same s more begins) (closes_same s) (OfKind SYMBOL) first_around 0 shape first_state [] lawful.start is at_front
 
   module _ (makes : Makes Value State Around) where
     counts_begin : BeginsSame abi s (tallied cpp makes) (tallied (linked s) makes).begin
@@ -436,5 +437,5 @@ module _ (s : List ℕ) (shape : Tree) (is : IsTree abi (OfKind 0) shape) (spell
 
     pub counted_same : unfold_tree (tallied (linked s) makes) first_around 0 shape (tally first_state 0) ≡ unfold_tree (tallied cpp makes) first_around 0 shape (tally first_state 0)
     counted_same =
-        tree_same abi lawful s (tallied cpp makes) (tallied (linked s) makes).begin (tallied (linked s) makes).close counts_begin counts_close (OfKind 0) first_around 0 shape (tally first_state 0) []
+        tree_same abi lawful s (tallied cpp makes) (tallied (linked s) makes).begin (tallied (linked s) makes).close counts_begin counts_close (OfKind SYMBOL) first_around 0 shape (tally first_state 0) []
         lawful.start is at_front

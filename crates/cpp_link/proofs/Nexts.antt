@@ -26,7 +26,8 @@ use Rattle.cpp_term.specs.Values.{State, Value, Around}
 use Rattle.cpp_link.specs.declared.part.Part.{Part}
 use Rattle.cpp_link.specs.declared.part.Kept.{Kept}
 use Rattle.cpp_link.specs.declared.linked.Linked.{Linked}
-use Rattle.cpp_link.specs.Next.{at_least, over, is_mark, is_list, is_argument, is_element, nested_mark, type_mark, behind_bytes, next_part, token_part, skips_parts}
+use Rattle.cpp_link.specs.Next.{at_least, over, is_mark, is_list, is_argument, is_element, nested_mark, type_mark, behind_bytes, next_part, token_part}
+use Rattle.cpp_link.specs.Tables.{skips_parts}
 use Rattle.cpp_link.specs.View.{cpp_view}
 use Rattle.cpp_link.proofs.Landing.{lands, landed, stops, stopped, all_passed, AreBehind, behind_passed}
 

@@ -14,7 +14,7 @@ use Rattle.cpp_link.specs.declared.part.Kept.{Kept}
 use Rattle.cpp_link.specs.declared.part.Part.{Part}
 use Rattle.cpp_link.specs.Owed.{made_before, made_at_end}
 use Rattle.cpp_link.specs.Parts.{trees_in, value_of, values_in}
-use Rattle.cpp_link.specs.Stepping.{quiet_parts}
+use Rattle.cpp_link.specs.Tables.{quiet_parts}
 use Rattle.cpp_link.specs.NodeCount.{makes_before, makes_at_end, one_if_there, std_before, pack_before}
 use Rattle.cpp_link.specs.View.{cpp_view}
 use Rattle.cpp_link.proofs.Places.{values_length}

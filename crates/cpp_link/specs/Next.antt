@@ -71,29 +71,3 @@ next_part production held rule byte = behind_bytes production held
 unfoldable pub token_part : Production → (held : ℕ) → ℕ
 token_part Production.Lambda held = 3
 token_part _ held = held
-
--- parts without a row may stand between those with one
-unfoldable pub skips_parts : Production → Bool
-skips_parts Production.Symbol = true
-skips_parts Production.Guard = true
-skips_parts Production.EncodingLiteral = true
-skips_parts Production.AddressArgument = true
-skips_parts Production.AddressElement = true
-skips_parts Production.Address = true
-skips_parts Production.NonVirtualThunk = true
-skips_parts Production.VirtualThunk = true
-skips_parts Production.VirtualOffset = true
-skips_parts Production.LocalName = true
-skips_parts Production.LocalType = true
-skips_parts Production.Vector = true
-skips_parts Production.LiteralArgument = true
-skips_parts Production.LiteralElement = true
-skips_parts Production.NestedName = true
-skips_parts Production.RestrictType = true
-skips_parts Production.VolatileType = true
-skips_parts Production.NestStd = true
-skips_parts Production.NestArguments = true
-skips_parts Production.NoexceptFunction = true
-skips_parts Production.Function = true
-skips_parts Production.PackArgument = true
-skips_parts _ = false

@@ -42,37 +42,3 @@ pub record Takes (s : List ℕ) (old new : Linked) (kept : Kept) (base : ℕ) (p
   pub count : length new_parts ≡ length parts
   pub is : goes_on s old.nodes kept (values_in s old.nodes (drop base parts)) (candidates_of (trees_in s old.nodes) old.candidates.items) old.packs step
       ≡ Ok (record { values = values_in s new.nodes (drop base new_parts); context = around_of (trees_in s new.nodes) then; state = state_of s new })
-
--- Before so many of the parts of a production nothing is done: before none, the first, or all, which are five at most.
-unfoldable pub quiet_parts : Production → ℕ
-quiet_parts Production.Encoding = 0
-quiet_parts Production.Special = 0
-quiet_parts Production.Guard = 0
-quiet_parts Production.NestArguments = 0
-quiet_parts Production.NestNext = 0
-quiet_parts Production.Arguments = 0
-quiet_parts Production.Lambda = 0
-quiet_parts Production.Expansion = 0
-quiet_parts Production.LocalName = 1
-quiet_parts Production.LocalType = 1
-quiet_parts Production.InternalName = 1
-quiet_parts Production.SourceName = 1
-quiet_parts Production.LocalTypeName = 1
-quiet_parts Production.OperatorName = 1
-quiet_parts Production.Constructor = 1
-quiet_parts Production.Destructor = 1
-quiet_parts Production.StdName = 1
-quiet_parts Production.AbbreviatedName = 1
-quiet_parts Production.NestStd = 1
-quiet_parts Production.NestAbbreviated = 1
-quiet_parts Production.NestParameter = 1
-quiet_parts Production.NestInternal = 1
-quiet_parts Production.NestSource = 1
-quiet_parts Production.NestLocalType = 1
-quiet_parts Production.PackArgument = 1
-quiet_parts Production.Parameter = 1
-quiet_parts Production.TypeWithS = 1
-quiet_parts Production.LvalueItem = 1
-quiet_parts Production.RvalueItem = 1
-quiet_parts Production.IntegerLiteral = 1
-quiet_parts _ = 5

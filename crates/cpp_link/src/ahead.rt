@@ -4,36 +4,17 @@ ghost use Rattle.std.specs.Prelude.{◌≡◌, ◌<◌, length};
 ghost use Rattle.sym_link.specs.Threads.{IsAhead, IsAheadToken, IsCount};
 ghost use Rattle.cpp_grammar.specs.Grammar.{parts_of};
 ghost use Rattle.cpp_grammar.specs.Unfolding.{production_at};
-ghost use Rattle.cpp_link.specs.Next.{at_least, over, is_mark, is_list, is_argument, is_element, nested_mark, type_mark, behind_bytes, next_part, token_part, skips_parts};
+ghost use Rattle.cpp_link.specs.Next.{at_least, over, is_mark, is_list, is_argument, is_element, nested_mark, type_mark, behind_bytes, next_part, token_part};
+ghost use Rattle.cpp_link.specs.Tables.{skips_parts};
 ghost use Rattle.cpp_link.specs.View.{cpp_view};
 
 use crate::dispatch::production_of;
 use crate::linked::Linked;
 use crate::part::Kept;
+use crate::tables::{PART_COUNTS, SKIPS_PARTS};
 use cpp_grammar::production::Production;
 use sym_link::language::Frame;
 use sym_shape::rule::Row;
-
-/// How many parts each production has, in the order of their numbers.
-const PART_COUNTS: [u8; 112] = [
-    0, 2, 2, 2, 2, 1, 1, 1, 5, 3, 1, 1, 1, 2, 2, 1, 3, 5, 3, 2, 4, 1, 1, 1, 4, 2, 2, 1, 1, 2, 2, 2,
-    2, 3, 2, 4, 2, 0, 2, 2, 0, 1, 0, 1, 1, 0, 2, 4, 1, 3, 2, 1, 1, 1, 1, 1, 1, 1, 1, 1, 0, 3, 4, 1,
-    2, 2, 2, 4, 0, 1, 2, 3, 1, 1, 1, 0, 1, 1, 2, 0, 2, 2, 2, 2, 3, 3, 4, 2, 3, 4, 2, 5, 2, 1, 1, 2,
-    1, 1, 1, 1, 1, 1, 1, 1, 1, 1, 1, 1, 1, 1, 1, 1,
-];
-
-/// Whether parts without a row may stand between those of each production, in the order of their numbers.
-const SKIPS_PARTS: [bool; 112] = [
-    false, false, false, false, false, false, false, false, true, true, false, false, false, true,
-    false, false, true, true, false, false, true, false, false, false, true, false, false, false,
-    false, false, false, false, false, true, false, true, false, false, false, false, false, false,
-    false, false, false, false, false, false, false, true, true, false, false, false, false, false,
-    false, false, false, false, false, true, true, false, false, false, false, true, false, false,
-    false, true, false, false, false, false, false, false, false, false, false, false, false,
-    false, true, true, true, false, true, true, false, true, true, false, false, false, false,
-    false, false, false, false, false, false, false, false, false, false, false, false, false,
-    false, false,
-];
 
 #[tactic(auto, unfolding(crate::specs::Next::at_least))]
 fn at_least(least: usize, held: usize) -> usize

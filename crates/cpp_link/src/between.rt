@@ -14,26 +14,19 @@ ghost use Rattle.cpp_link.specs.Making.{state_of};
 ghost use Rattle.cpp_link.specs.NodeCount.{makes_before};
 ghost use Rattle.cpp_link.specs.Parts.{trees_in, values_in, tree_of_node, around_of, candidates_of, AreThere, IsKeptThere, AreCandidatesThere, IsStepThere};
 ghost use Rattle.cpp_link.specs.Reads.{with_candidate, named_if, appended_if};
-ghost use Rattle.cpp_link.specs.Stepping.{IsStepOf, Takes, CountsStep, nodes_of_step, quiet_parts};
+ghost use Rattle.cpp_link.specs.Stepping.{IsStepOf, Takes, CountsStep, nodes_of_step};
+ghost use Rattle.cpp_link.specs.Tables.{quiet_parts};
 ghost use Rattle.cpp_link.specs.View.{Surrounds, cpp_view};
 ghost use Rattle.cpp_link.specs.Room.{KeepsRoom, LacksRoom, IsRoomy};
 
 use crate::dispatch::production_of;
 use crate::linked::Linked;
 use crate::part::{Kept, Part, Step};
+use crate::tables::QUIET_PARTS;
 use cpp_grammar::production::Production;
 use cpp_tree::node::Node;
 use sym_core::Refusal;
 use sym_link::language::Frame;
-
-/// Before how many of its parts nothing is done in each production, in the order of their numbers: before none, the
-/// first, or all, which are five at most.
-const QUIET_PARTS: [u8; 112] = [
-    5, 1, 1, 1, 1, 5, 5, 5, 5, 5, 5, 5, 0, 0, 0, 5, 5, 5, 5, 5, 5, 5, 5, 5, 1, 1, 1, 5, 5, 1, 1, 1,
-    1, 1, 1, 0, 0, 5, 1, 1, 5, 5, 5, 5, 5, 5, 5, 0, 5, 5, 5, 5, 5, 5, 5, 5, 5, 5, 0, 5, 5, 5, 5, 5,
-    5, 1, 1, 1, 5, 5, 5, 5, 5, 5, 5, 5, 5, 5, 5, 5, 1, 1, 5, 0, 1, 5, 5, 5, 5, 5, 5, 5, 5, 5, 5, 1,
-    5, 5, 5, 5, 5, 5, 5, 5, 5, 5, 5, 5, 5, 5, 5, 5,
-];
 
 /// Puts a part in the place of the one at the base.
 #[inline(always)]

@@ -17,6 +17,7 @@ pub mod settling;
 pub mod shapes;
 pub mod signatures;
 pub mod steps;
+mod tables;
 pub mod values;
 
 ghost use Rattle.std.specs.Prelude.{◌≤◌, ◌*◌, length};

@@ -101,29 +101,45 @@ impl Linked {
     {
         let byte = symbol[place as usize];
         match production {
+            // <name> ::= <unscoped-name> | <unscoped-template-name> <template-args>, which begins with S
             Production::NameWithS => Meant::Given(self.given(symbol, parts, 0)),
+            // <unqualified-name> ::= <unnamed-type-name>
             Production::LocalTypePiece => Meant::Given(self.given(symbol, parts, 0)),
+            // <unqualified-name> ::= <operator-name>
             Production::OperatorPiece => Meant::Given(self.given(symbol, parts, 0)),
+            // <prefix> ::= <template-param>
             Production::NestParameter => Meant::Given(self.given(symbol, parts, 1)),
+            // <prefix> ::= <prefix> L <source-name>
             Production::NestInternal => Meant::Given(self.given(symbol, parts, 1)),
+            // <prefix> ::= <prefix> <unnamed-type-name>
             Production::NestLocalType => Meant::Given(self.given(symbol, parts, 1)),
+            // <prefix> ::= St <unqualified-name>
             Production::NestStd => Meant::Given(self.given(symbol, parts, 2)),
+            // <prefix> ::= <template-prefix> <template-args>
             Production::NestArguments => Meant::Given(self.given(symbol, parts, 3)),
+            // <discriminator> ::= _ <digit> | __ <number> _
             Production::Discriminator => Meant::Given(self.given(symbol, parts, 0)),
+            // <template-arg> ::= <type>
             Production::ItemIsType => Meant::Given(self.given(symbol, parts, 0)),
+            // <expr-primary> ::= L <type> <value number> E, whose type begins with D
             Production::LiteralWithD => Meant::Given(self.given(symbol, parts, 0)),
+            // <ref-qualifier> ::= R | O, before the E of a function type
             Production::RefEnd => Meant::Given(Part::Nothing),
+            // <call-offset> ::= h <nv-offset> _
             Production::NonVirtualOffset => Meant::Given(Part::Adjusted(Adjustment::NonVirtual(
                 self.signed(symbol, parts, 0),
             ))),
+            // <call-offset> ::= v <offset number> _ <virtual offset number> _
             Production::VirtualOffset => Meant::Given(Part::Adjusted(Adjustment::ByTable(
                 self.signed(symbol, parts, 0),
                 self.signed(symbol, parts, 2),
             ))),
+            // <function-type> ::= F .. E, without a <ref-qualifier>
             Production::RestEnd => Meant::Given(Part::Signature {
                 list: NIL,
                 mark: Mark::Any,
             }),
+            // <special-name> ::= GV <object name>
             Production::Guard => made(
                 Node::Guard {
                     name: self.tree(symbol, parts, 1),
@@ -132,6 +148,7 @@ impl Linked {
                 },
                 true,
             ),
+            // <special-name> ::= TV <type> | TT <type> | TI <type> | TS <type>
             Production::SpecialType => made(
                 Node::Special {
                     letter: byte,
@@ -139,10 +156,12 @@ impl Linked {
                 },
                 true,
             ),
+            // <special-name> ::= T <call-offset> <base encoding>, with <call-offset> ::= h <nv-offset> _
             Production::NonVirtualThunk => Meant::Thunk {
                 thunk: Thunk::Adjusting(Adjustment::NonVirtual(self.signed(symbol, parts, 0))),
                 encoding: self.tree(symbol, parts, 2),
             },
+            // <special-name> ::= T <call-offset> <base encoding>, with <call-offset> ::= v <v-offset> _
             Production::VirtualThunk => Meant::Thunk {
                 thunk: Thunk::Adjusting(Adjustment::ByTable(
                     self.signed(symbol, parts, 0),
@@ -150,6 +169,7 @@ impl Linked {
                 )),
                 encoding: self.tree(symbol, parts, 4),
             },
+            // <special-name> ::= Tc <call-offset> <call-offset> <base encoding>
             Production::CovariantThunk => Meant::Thunk {
                 thunk: Thunk::Covariant(
                     self.adjusted(symbol, parts, 0),
@@ -157,14 +177,18 @@ impl Linked {
                 ),
                 encoding: self.tree(symbol, parts, 2),
             },
+            // <unqualified-name> ::= L <source-name>
             Production::InternalPiece => piece(Piece::Source {
                 internal: true,
                 bytes: self.text(symbol, parts, 0),
             }),
+            // <substitution> ::= Sa | Sb | Ss | Si | So | Sd
             Production::Abbreviation => made(Node::Abbreviation(byte), true),
+            // <operator-name> ::= li <source-name>
             Production::LiteralOperator => piece(Piece::LiteralOperator(self.text(
                 symbol, parts, 0,
             ))),
+            // <operator-name> ::= nw | na | .., two letters, of which the first has a production of its own
             Production::OperatorN => piece(Piece::Operator(byte, self.letter(symbol, parts, 0))),
             Production::OperatorD => piece(Piece::Operator(byte, self.letter(symbol, parts, 0))),
             Production::OperatorA => piece(Piece::Operator(byte, self.letter(symbol, parts, 0))),
@@ -177,13 +201,19 @@ impl Linked {
             Production::OperatorS => piece(Piece::Operator(byte, self.letter(symbol, parts, 0))),
             Production::OperatorI => piece(Piece::Operator(byte, self.letter(symbol, parts, 0))),
             Production::OperatorG => piece(Piece::Operator(byte, self.letter(symbol, parts, 0))),
+            // <type> ::= <builtin-type> | .., which begins with D
             Production::TypeWithD => tree(self.tree(symbol, parts, 0), true),
             Production::PlainWithD => tree(self.tree(symbol, parts, 0), true),
             Production::ItemWithD => tree(self.tree(symbol, parts, 0), true),
+            // <type> ::= Dp <type>
             Production::Expansion => made(Node::Expansion(self.tree(symbol, parts, 0)), false),
+            // <builtin-type> ::= Di | Ds | Du | Da | Dc | Dn
             Production::BuiltinWithD => made(Node::BuiltinWithD(byte), true),
+            // <builtin-type> ::= u <source-name>
             Production::Vendor => made(Node::Vendor(self.text(symbol, parts, 0)), false),
+            // <type> ::= C <type>
             Production::Complex => made(Node::Complex(self.tree(symbol, parts, 0)), false),
+            // <pointer-to-member-type> ::= M <class type> <member type>
             Production::MemberPointer => made(
                 Node::MemberPointer {
                     class: self.tree(symbol, parts, 0),
@@ -191,18 +221,21 @@ impl Linked {
                 },
                 false,
             ),
+            // <CV-qualifiers> ::= r [V] [K]
             Production::RestrictType => qualified(
                 true,
                 self.there(symbol, parts, 0),
                 self.there(symbol, parts, 1),
                 self.tree(symbol, parts, 2),
             ),
+            // <CV-qualifiers> ::= V [K]
             Production::VolatileType => qualified(
                 false,
                 true,
                 self.there(symbol, parts, 0),
                 self.tree(symbol, parts, 1),
             ),
+            // <template-arg> ::= J <template-arg>* E
             Production::PackArgument => made(
                 Node::Cell {
                     first: self.tree(symbol, parts, 0),
@@ -210,6 +243,7 @@ impl Linked {
                 },
                 true,
             ),
+            // <template-arg> ::= <expr-primary>
             Production::LiteralArgument => made(
                 Node::Cell {
                     first: self.tree(symbol, parts, 0),
@@ -217,6 +251,7 @@ impl Linked {
                 },
                 true,
             ),
+            // <template-arg> ::= X <expression> E, with <expression> ::= ad <expression>
             Production::AddressArgument => made(
                 Node::Cell {
                     first: self.tree(symbol, parts, 2),
@@ -224,6 +259,7 @@ impl Linked {
                 },
                 true,
             ),
+            // <template-arg> ::= <expr-primary>, in a pack
             Production::LiteralElement => made(
                 Node::Cell {
                     first: self.tree(symbol, parts, 0),
@@ -231,6 +267,7 @@ impl Linked {
                 },
                 true,
             ),
+            // <template-arg> ::= X <expression> E, in a pack
             Production::AddressElement => made(
                 Node::Cell {
                     first: self.tree(symbol, parts, 2),
@@ -238,6 +275,7 @@ impl Linked {
                 },
                 true,
             ),
+            // <template-arg> ::= <type>, in a pack
             Production::TypeElement => made(
                 Node::Cell {
                     first: self.tree(symbol, parts, 0),
@@ -245,30 +283,37 @@ impl Linked {
                 },
                 true,
             ),
+            // <type> ::= R <type>, a parameter, and those behind it
             Production::LvalueItem => items(
                 self.tree(symbol, parts, 0),
                 self.tree(symbol, parts, 1),
                 self.reference(symbol, parts, 1),
             ),
+            // <type> ::= O <type>, a parameter, and those behind it
             Production::RvalueItem => items(
                 self.tree(symbol, parts, 0),
                 self.tree(symbol, parts, 1),
                 self.reference(symbol, parts, 1),
             ),
+            // <bare-function-type> ::= <signature type>+
             Production::RestItem => items(
                 self.tree(symbol, parts, 0),
                 self.tree(symbol, parts, 1),
                 self.reference(symbol, parts, 1),
             ),
+            // <expr-primary> ::= L <mangled-name> E
             Production::Address => made(Node::AddressOf(self.tree(symbol, parts, 2)), true),
+            // <expr-primary> ::= L <mangled-name> E, as an argument
             Production::EncodingLiteral => made(
                 Node::EncodingLiteral(self.tree(symbol, parts, 1)),
                 true,
             ),
+            // <expr-primary> ::= Lb 0 E | Lb 1 E
             Production::BoolLiteral => made(
                 Node::Boolean(self.letter(symbol, parts, 0) == b'1'),
                 true,
             ),
+            // <expr-primary> ::= L <type> <value number> E
             Production::IntegerLiteral => made(
                 Node::Integer {
                     ty: self.tree(symbol, parts, 0),
@@ -276,19 +321,30 @@ impl Linked {
                 },
                 true,
             ),
+            // <expr-primary> ::= LDn [0] E
             Production::NullLiteral => made(Node::NullPointer, true),
+            // <expr-primary> ::= L <type> <value number> E, of char8_t, char16_t or char32_t
             Production::CharLiteral => Meant::Character {
                 letter: byte,
                 value: self.signed(symbol, parts, 0),
             },
+            // <unscoped-name> ::= L <source-name>, perhaps with <template-args>
             Production::InternalName => self.applied(symbol, parts, false),
+            // <unqualified-name> ::= <unnamed-type-name>, perhaps with <template-args>
             Production::LocalTypeName => self.applied(symbol, parts, false),
+            // <unqualified-name> ::= <operator-name>, perhaps with <template-args>
             Production::OperatorName => self.applied(symbol, parts, false),
+            // <ctor-dtor-name> ::= C1 | C2 | C3
             Production::Constructor => self.applied(symbol, parts, false),
+            // <ctor-dtor-name> ::= D0 | D1 | D2
             Production::Destructor => self.applied(symbol, parts, false),
+            // <unscoped-name> ::= St <unqualified-name>
             Production::StdName => self.applied(symbol, parts, false),
+            // <unscoped-template-name> ::= <substitution>, with <template-args>
             Production::AbbreviatedName => self.applied(symbol, parts, false),
+            // <template-param> ::= T_ | T <parameter number> _
             Production::Parameter => self.applied(symbol, parts, true),
+            // <function-type> ::= F [Y] <bare-function-type> [<ref-qualifier>] E
             Production::Function => made(
                 Node::FunctionType {
                     c_linkage: self.there(symbol, parts, 0),
@@ -299,6 +355,7 @@ impl Linked {
                 },
                 false,
             ),
+            // <function-type> ::= Do F [Y] <bare-function-type> [<ref-qualifier>] E
             Production::NoexceptFunction => made(
                 Node::FunctionType {
                     c_linkage: self.there(symbol, parts, 1),
@@ -309,6 +366,7 @@ impl Linked {
                 },
                 false,
             ),
+            // <local-name> ::= Z <function encoding> E <entity name> [<discriminator>], as a type
             Production::LocalType => made(
                 Node::Local {
                     encoding: self.tree(symbol, parts, 0),
@@ -317,6 +375,7 @@ impl Linked {
                 },
                 false,
             ),
+            // <local-name> ::= Z <function encoding> E <entity name> [<discriminator>]
             Production::LocalName => Meant::Entity {
                 node: Node::Local {
                     encoding: self.tree(symbol, parts, 0),
@@ -326,30 +385,37 @@ impl Linked {
                 qualifiers: self.qualifiers(symbol, parts, 2),
                 mark: self.reference(symbol, parts, 2),
             },
+            // <ref-qualifier> ::= R, or <type> ::= R <type>, a parameter
             Production::RestLvalue => self.signature_or(
                 symbol,
                 Mark::Lvalue,
                 self.given(symbol, parts, 0),
             ),
+            // <ref-qualifier> ::= O, or <type> ::= O <type>, a parameter
             Production::RestRvalue => self.signature_or(
                 symbol,
                 Mark::Rvalue,
                 self.given(symbol, parts, 0),
             ),
+            // <operator-name> ::= ls | le | .. | li <source-name>
             Production::OperatorL => self.operator_or_literal(
                 symbol,
                 byte,
                 self.given(symbol, parts, 0),
             ),
+            // <local-name> ::= Z <function encoding> E s [<discriminator>]
             Production::StringLiteral => made(
                 self.extended(symbol, kept.prefix(), Piece::StringLiteral),
                 true,
             ),
+            // <discriminator> ::= _ <digit>
             Production::OneDigit => Meant::Given(Part::Text(one_byte(symbol, place))),
+            // <discriminator> ::= __ <number> _
             Production::ManyDigits => Meant::Given(Part::Text(normal(
                 symbol,
                 self.text(symbol, parts, 0),
             ))),
+            // <number> ::= [n] <decimal integer>
             Production::Negative => Meant::Given(Part::Signed(signed_digits(
                 symbol,
                 true,
@@ -360,6 +426,7 @@ impl Linked {
                 false,
                 self.text(symbol, parts, 0),
             ))),
+            // <type> ::= Dv <number> _ <element type>
             Production::Vector => made(
                 Node::Vector {
                     digits: normal(symbol, self.text(symbol, parts, 0)),
@@ -367,6 +434,7 @@ impl Linked {
                 },
                 false,
             ),
+            // <array-type> ::= A <number> _ <element type>
             Production::Array => made(
                 Node::Array {
                     digits: normal(symbol, self.text(symbol, parts, 0)),
@@ -374,11 +442,14 @@ impl Linked {
                 },
                 false,
             ),
+            // <closure-type-name> ::= Ul <lambda-sig> E [ <nonnegative number> ] _
             Production::Lambda => self.lambda(symbol, parts),
+            // <unnamed-type-name> ::= Ut [ <nonnegative number> ] _
             Production::Unnamed => piece(Piece::Unnamed(local_number(
                 symbol,
                 self.text(symbol, parts, 0),
             ))),
+            // <mangled-name> ::= _Z <encoding> . <vendor-specific suffix>
             Production::Suffix => Meant::Given(Part::Text(from_byte(
                 symbol,
                 place,
@@ -442,12 +513,19 @@ impl Linked {
     {
         let byte = symbol[place as usize];
         match production {
+            // <prefix> ::= <substitution>
             Production::NestWithS => Meant::Given(self.given(symbol, parts, 0)),
+            // <prefix> ::= <source-name>
             Production::NestSource => Meant::Given(self.given(symbol, parts, 1)),
+            // <prefix> ::= <substitution>, and what is within it
             Production::NestAbbreviated => Meant::Given(self.given(symbol, parts, 1)),
+            // <prefix> ::= <prefix> <unqualified-name>
             Production::NestNext => Meant::Given(self.given(symbol, parts, 1)),
+            // <class-enum-type> ::= <nested-name>
             Production::NestedType => Meant::Given(self.given(symbol, parts, 0)),
+            // <type> ::= <substitution>
             Production::AbbreviatedType => Meant::Given(self.given(symbol, parts, 0)),
+            // <mangled-name> ::= _Z <encoding> [. <vendor-specific suffix>]
             Production::Symbol => made(
                 Node::Whole {
                     encoding: self.tree(symbol, parts, 1),
@@ -455,8 +533,11 @@ impl Linked {
                 },
                 true,
             ),
+            // <type> ::= <class-enum-type> | .., without qualifiers
             Production::PlainType => tree(self.tree(symbol, parts, 0), true),
+            // <builtin-type> ::= v | w | b | c | ..
             Production::Builtin => made(Node::Builtin(byte), true),
+            // <bare-function-type> ::= <signature type>+
             Production::Items => made(
                 Node::Cell {
                     first: self.tree(symbol, parts, 0),
@@ -464,6 +545,7 @@ impl Linked {
                 },
                 true,
             ),
+            // <template-arg> ::= <type>
             Production::TypeArgument => made(
                 Node::Cell {
                     first: self.tree(symbol, parts, 0),
@@ -471,9 +553,13 @@ impl Linked {
                 },
                 true,
             ),
+            // <template-args> ::= I <template-arg>* E
             Production::Arguments => tree(self.list(symbol, parts, 0), true),
+            // <unqualified-name> ::= <source-name>, perhaps with <template-args>
             Production::SourceName => self.applied(symbol, parts, false),
+            // <type> ::= <substitution> [<template-args>]
             Production::TypeWithS => self.applied(symbol, parts, self.listed(symbol, parts, 0)),
+            // <nested-name> ::= N [<CV-qualifiers>] [<ref-qualifier>] <prefix> <unqualified-name> E
             Production::NestedName => Meant::Given(Part::Named {
                 node: self.tree(symbol, parts, 4),
                 qualifiers: Qualifiers {
@@ -483,19 +569,29 @@ impl Linked {
                 },
                 mark: self.mark(symbol, parts, 3),
             }),
+            // <encoding> ::= <function name> <bare-function-type> | <data name>
             Production::Encoding => self.encoding(symbol, parts),
+            // <nested-name> ::= N .. E
             Production::NestEnd => self.nest_end(symbol, kept.prefix()),
+            // <type> ::= R <type> | O <type>
             Production::ReferenceType => self.reference_meant(symbol, byte, parts),
+            // <type> ::= P <type>
             Production::Pointer => made(Node::Pointer(self.tree(symbol, parts, 0)), false),
+            // <CV-qualifiers> ::= K
             Production::ConstType => qualified(false, false, true, self.tree(symbol, parts, 0)),
+            // <qualified-type> ::= <qualifiers> <type>
             Production::QualifiedPlain => tree(self.tree(symbol, parts, 0), true),
             Production::Mark => Meant::Given(Part::Letter(byte)),
+            // <unqualified-name> ::= <source-name>
             Production::SourcePiece => piece(Piece::Source {
                 internal: false,
                 bytes: self.text(symbol, parts, 0),
             }),
+            // <unscoped-name> ::= St <unqualified-name>, as a type
             Production::StdType => made(Node::InStd(self.piece(symbol, parts, 0)), false),
+            // <encoding> ::= <special-name>
             Production::Special => Meant::Given(self.given(symbol, parts, 0)),
+            // <substitution> ::= S_ | S <seq-id> _
             Production::Substitution => Meant::Given(Part::Nothing),
             _ => unreachable!(),
         }

@@ -13,6 +13,7 @@ use Rattle.sym_link.specs.Reading.{Found, Open, Next, ◌>>=◌}
 use Rattle.sym_link.specs.Unfold.{found, alone, unfold_tree, unfold_forest}
 use Rattle.cpp_grammar.specs.declared.kind.Kind.{Kind}
 use Rattle.cpp_grammar.specs.declared.production.Production.{Production}
+use Rattle.cpp_grammar.specs.KindNumbers.{ENCODING, SPECIAL}
 use Rattle.cpp_grammar.specs.Grammar.{Alternative, is_in, pick, alternatives, choose, kinds, number_of, number_of_kind, parts_of}
 use Rattle.cpp_grammar.specs.Table.{abi, rule_of, rule_taken}
 use Rattle.cpp_grammar.specs.TableLaws.{lawful}
@@ -126,7 +127,7 @@ special_closed (grown t nothing) rule from state r is trees lt le old e =
     let around = rule.context in
     let at = rule.place in
     let s = stepped rule [] from state t nothing r (nameless_ at [] state) (ap (λ p. between p around at [] state) is) e in
-    let c = name_comes t (tree_good t) (OfKind 5) at from state s.part (known 5 (lit≤ tt)) trees.0 refl le (old_later (in_name at) at from state.candidates le (old_inner around at state.candidates lt old)) s.is in
+    let c = name_comes t (tree_good t) (OfKind SPECIAL) at from state s.part (known 5 (lit≤ tt)) trees.0 refl le (old_later (in_name at) at from state.candidates le (old_inner around at state.candidates lt old)) s.is in
     let same : found (c.value ∷ []) s.part.state ≡ r = same_found [] s.part.value (c.value ∷ []) s.part.state r c.is s.rest in
     subst (λ x. is_open (tree_of (part x.value 0)) ≡ false) same ((good_tree (Bare (in_name at)) c.value c.good).closed refl)
 special_closed nothing rule from state r is trees lt le old e = absurd trees
@@ -142,12 +143,12 @@ inner_closed Production.Guard o f rule from state r is trees lt le old e byte ar
 inner_closed Production.Mark o f rule from state r is trees lt le old e byte around = absurd (false≢true o)
 inner_closed _ o f rule from state r is trees lt le old e byte around = absurd (false≢true o)
 
-encoded_closed : (t : Tree) (around : Around) (at : ℕ) (state : State) (r : Found (List Value) State) → IsTree abi (OfKind 4) t → around.encoding < at → AllOld around at state.candidates →
+encoded_closed : (t : Tree) (around : Around) (at : ℕ) (state : State) (r : Found (List Value) State) → IsTree abi (OfKind ENCODING) t → around.encoding < at → AllOld around at state.candidates →
     unfold_tree cpp around at t state ≡ Ok r → is_open (tree_of (part r.value 0)) ≡ false
 unfolding cpp part tree_of is_open
 encoded_closed (branch rule taken parts) around at state r tree less old e =
     let whole = Whole rule taken at around state in
-    let c = chosen_rule 4 rule taken (known 4 (lit≤ tt)) tree.0 in
+    let c = chosen_rule ENCODING rule taken (known 4 (lit≤ tt)) tree.0 in
     let p = c.production in
     let opening_ = opens_in_encodings c.kind c.byte p (sym (ap (λ n. nat_eq n 4) c.number)) c.chosen in
     let byte = byte_of taken in
@@ -203,7 +204,7 @@ record Reads (xs : List Sym) (vs : List Value) (r : Found (List Value) State) : 
   is : r.value ≡ vs ++ more
   closed : Encodings xs more
 
-as_encoding : (x : Sym) (t : Tree) → is_encoding x ≡ true → IsTree abi x t → IsTree abi (OfKind 4) t
+as_encoding : (x : Sym) (t : Tree) → is_encoding x ≡ true → IsTree abi x t → IsTree abi (OfKind ENCODING) t
 unfolding is_encoding
 as_encoding (OfKind k) t h is = subst (λ n. IsTree abi (OfKind n) t) (eqb-true k 4 h) is
 as_encoding _ t h is = absurd (false≢true h)

@@ -12,6 +12,7 @@ use Rattle.sym_shape.specs.Tree.{Tree, Forest, branch, empty, token, fixed, noth
 use Rattle.sym_link.specs.Reading.{Found, Open, Next, ◌>>=◌}
 use Rattle.sym_link.specs.Unfold.{found, alone, unfold_tree, unfold_forest}
 use Rattle.cpp_grammar.specs.declared.production.Production.{Production}
+use Rattle.cpp_grammar.specs.KindNumbers.{SYMBOL, SPECIAL, COMPLETE_NAME, ITEMS}
 use Rattle.cpp_grammar.specs.Grammar.{parts_of, number_of_kind}
 use Rattle.cpp_grammar.specs.Table.{abi, rule_of}
 use Rattle.cpp_grammar.specs.TableLaws.{lawful}
@@ -197,9 +198,9 @@ special_noted (grown t nothing) all rule first from x y is trees lt le old same 
     step (Inner Production.Special around x y) rule first [] [] from x y t nothing (nameless_ at [] x) (noted_nameless at [] y) (ap (λ p. between p around at [] x) is) (ap (λ p. between_.between p (noted_around around) at [] y) is)
     (alike_bind (Many (in_name at) x y) (Inner Production.Special around x y) (unfold_tree cpp (in_name at) from t x) (unfold_tree unfolded_.cpp (between_.in_name at) from t y)
     (λ part. unfold_forest cpp rule ([] ++ part.value) (from + length (spell t)) nothing part.state) (λ part. unfold_forest unfolded_.cpp (noted_open rule first) ([] ++ part.value) (from + length (spell t)) nothing part.state)
-    (named_part t all.0 (OfKind 5) at from x y (trees_.known 5 (lit≤ tt)) trees.0 refl le old0 same0)
+    (named_part t all.0 (OfKind SPECIAL) at from x y (trees_.known 5 (lit≤ tt)) trees.0 refl le old0 same0)
     (λ a b a-is many.
-    let c = trees_.name_comes t (trees_.tree_good t) (OfKind 5) at from x a (trees_.known 5 (lit≤ tt)) trees.0 refl le old0 a-is in
+    let c = trees_.name_comes t (trees_.tree_good t) (OfKind SPECIAL) at from x a (trees_.known 5 (lit≤ tt)) trees.0 refl le old0 a-is in
     record {
       means = λ byte. ap (λ us. value_.part us 0) many.values ∙ part_noted None a.value 0 ∙ value_closed None (noted_scope around.scope) (part a.value 0) (subst (λ vs. is_open (held (part vs 0)) ≡ false) (sym c.is) (c.good.closed refl));
       moves = moves_out around (in_name at) at (from + length (spell t)) x a.state y b.state refl lt c.grows many.moves;
@@ -288,9 +289,9 @@ guard_noted (grown t (grown u nothing)) all rule first from x y is trees lt le o
     (ap (λ p. between p around at a.value a.state) is) (ap (λ p. between_.between p (noted_around around) at b.value b.state) is)
     (alike_bind (Many (in_name at) a.state b.state) (Inner Production.Guard around x y) (unfold_tree cpp (in_name at) next u a.state) (unfold_tree unfolded_.cpp (between_.in_name at) next u b.state)
     (λ part. unfold_forest cpp rule (a.value ++ part.value) (next + length (spell u)) nothing part.state) (λ part. unfold_forest unfolded_.cpp (noted_open rule first) (b.value ++ part.value) (next + length (spell u)) nothing part.state)
-    (named_part u all.1.0 (OfKind 8) at next a.state b.state (trees_.known 8 (lit≤ tt)) trees.1.0 refl (omega (arith, le)) old1 same1)
+    (named_part u all.1.0 (OfKind COMPLETE_NAME) at next a.state b.state (trees_.known 8 (lit≤ tt)) trees.1.0 refl (omega (arith, le)) old1 same1)
     (λ d e d-is more.
-    let g = trees_.name_comes u (trees_.tree_good u) (OfKind 8) at next a.state d (trees_.known 8 (lit≤ tt)) trees.1.0 refl (omega (arith, le)) old1 d-is in
+    let g = trees_.name_comes u (trees_.tree_good u) (OfKind COMPLETE_NAME) at next a.state d (trees_.known 8 (lit≤ tt)) trees.1.0 refl (omega (arith, le)) old1 d-is in
     record {
       means = λ byte. guard_means around byte a.value b.value d.value e.value c.value g.value c.is g.is ((good_tree (Bare (in_name at)) g.value g.good).closed refl) many.values more.values;
       moves = moves_then around x a.state d.state y b.state e.state (moves_out around (in_name at) at next x a.state y b.state refl lt c.grows many.moves)
@@ -313,9 +314,9 @@ encoding_noted_ (grown t (grown u nothing)) all rule first from x y is trees lt 
     step (Inner Production.Encoding around x y) rule first [] [] from x y t (grown u nothing) (nameless_ at [] x) (noted_nameless at [] y) (ap (λ p. between p around at [] x) is) (ap (λ p. between_.between p (noted_around around) at [] y) is)
     (alike_bind (Many (in_name at) x y) (Inner Production.Encoding around x y) (unfold_tree cpp (in_name at) from t x) (unfold_tree unfolded_.cpp (between_.in_name at) from t y)
     (λ part. unfold_forest cpp rule ([] ++ part.value) next (grown u nothing) part.state) (λ part. unfold_forest unfolded_.cpp (noted_open rule first) ([] ++ part.value) next (grown u nothing) part.state)
-    (named_part t all.0 (OfKind 8) at from x y (trees_.known 8 (lit≤ tt)) trees.0 refl le old0 same0)
+    (named_part t all.0 (OfKind COMPLETE_NAME) at from x y (trees_.known 8 (lit≤ tt)) trees.0 refl le old0 same0)
     (λ a b a-is many.
-    let c = trees_.name_comes t (trees_.tree_good t) (OfKind 8) at from x a (trees_.known 8 (lit≤ tt)) trees.0 refl le old0 a-is in
+    let c = trees_.name_comes t (trees_.tree_good t) (OfKind COMPLETE_NAME) at from x a (trees_.known 8 (lit≤ tt)) trees.0 refl le old0 a-is in
     let name = tree_of c.value in
     let old1 = old_grows (in_name at) from next x a.state (omega arith) old0 c.grows in
     let same1 = same_moves (in_name at) x a.state y b.state same0 many.moves in
@@ -327,9 +328,9 @@ encoding_noted_ (grown t (grown u nothing)) all rule first from x y is trees lt 
     (types_next rule c.value a.value a.state is c.is) (noted_types_next rule c.value a.value b.value b.state is c.is many.values)
     (alike_bind (Many (in_types at name) a.state b.state) (Inner Production.Encoding around x y) (unfold_tree cpp (in_types at name) next u a.state) (unfold_tree unfolded_.cpp (noted_around (in_types at name)) next u b.state)
     (λ part. unfold_forest cpp rule (a.value ++ part.value) (next + length (spell u)) nothing part.state) (λ part. unfold_forest unfolded_.cpp (noted_open rule first) (b.value ++ part.value) (next + length (spell u)) nothing part.state)
-    (all.1.0 (OfKind 41) (in_types at name) next a.state b.state (trees_.known 41 (lit≤ tt)) trees.1.0 (omega (arith, le)) (λ opening. absurd (false≢true opening)) (λ special. absurd (false≢true special)) tt old2 same2)
+    (all.1.0 (OfKind ITEMS) (in_types at name) next a.state b.state (trees_.known 41 (lit≤ tt)) trees.1.0 (omega (arith, le)) (λ opening. absurd (false≢true opening)) (λ special. absurd (false≢true special)) tt old2 same2)
     (λ d e d-is more.
-    let g = trees_.tree_good u (OfKind 41) (in_types at name) next a.state d (trees_.known 41 (lit≤ tt)) trees.1.0 (omega (arith, le)) (λ opening. absurd (false≢true opening)) tt old2 d-is in
+    let g = trees_.tree_good u (OfKind ITEMS) (in_types at name) next a.state d (trees_.known 41 (lit≤ tt)) trees.1.0 (omega (arith, le)) (λ opening. absurd (false≢true opening)) tt old2 d-is in
     record {
       means = λ byte. encoding_means around byte a.value b.value d.value e.value c.value g.value c.is g.is many.values more.values;
       moves = moves_then around x a.state d.state y b.state e.state (moves_out around (in_name at) at next x a.state y b.state refl lt c.grows many.moves)
@@ -427,15 +428,15 @@ result_noted x y z (Ok a) (Err d) many = absurd many
 result_noted x y z (Err e) (Ok b) many = absurd many
 
 -- Unfolding with arguments is unfolding without: the same refusal, or the same tree with its arguments.
-pub unfold_noted : (shape : Tree) → IsTree abi (OfKind 0) shape → unfolded_.unfold_cpp shape ≡ noted_tree (unfolding_.unfold_cpp shape)
+pub unfold_noted : (shape : Tree) → IsTree abi (OfKind SYMBOL) shape → unfolded_.unfold_cpp shape ≡ noted_tree (unfolding_.unfold_cpp shape)
 unfolding unfolded_.unfold_cpp unfolding_.unfold_cpp unfolding_.first_around unfolding_.first_state unfolded_.first_around unfolded_.first_state is_encoding is_special noted_around noted_scope noted_prefix
 unfold_noted shape is =
     result_noted unfolding_.first_state unfolding_.first_state unfolded_.first_state (unfold_tree cpp unfolding_.first_around 0 shape unfolding_.first_state) (unfold_tree unfolded_.cpp unfolded_.first_around 0 shape unfolded_.first_state)
-    (tree_noted_ shape (OfKind 0) unfolding_.first_around 0 unfolding_.first_state unfolded_.first_state (trees_.known 0 (lit≤ tt)) is (omega arith) (λ opening. absurd (false≢true opening)) (λ special. absurd (false≢true special)) tt tt
+    (tree_noted_ shape (OfKind SYMBOL) unfolding_.first_around 0 unfolding_.first_state unfolded_.first_state (trees_.known 0 (lit≤ tt)) is (omega arith) (λ opening. absurd (false≢true opening)) (λ special. absurd (false≢true special)) tt tt
     (record { packs = refl; all = tt }))
 
 -- So the answer may be read from either.
-pub same_answer : (d : Detail) (limit : ℕ) (shape : Tree) → IsTree abi (OfKind 0) shape → noted_answer d limit (unfolded_.unfold_cpp shape) ≡ answer_within d limit (unfolding_.unfold_cpp shape)
+pub same_answer : (d : Detail) (limit : ℕ) (shape : Tree) → IsTree abi (OfKind SYMBOL) shape → noted_answer d limit (unfolded_.unfold_cpp shape) ≡ answer_within d limit (unfolding_.unfold_cpp shape)
 same_answer d limit shape is = ap (noted_answer d limit) (unfold_noted shape is) ∙ answer_noted d limit (unfolding_.unfold_cpp shape)
 
 -- ## Candidates
@@ -452,13 +453,13 @@ pub record ReadWithArguments (shape : Tree) (read : Found (List Value) State) : 
   pub is : unfold_tree unfolded_.cpp unfolded_.first_around 0 shape unfolded_.first_state ≡ Ok other
   pub candidates : length other.state.candidates ≡ length read.state.candidates
 
-pub read_with_arguments : (shape : Tree) (read : Found (List Value) State) → IsTree abi (OfKind 0) shape
+pub read_with_arguments : (shape : Tree) (read : Found (List Value) State) → IsTree abi (OfKind SYMBOL) shape
     → unfold_tree cpp unfolding_.first_around 0 shape unfolding_.first_state ≡ Ok read → ReadWithArguments shape read
 unfolding unfolding_.first_around unfolding_.first_state unfolded_.first_around unfolded_.first_state is_encoding is_special noted_around noted_scope noted_prefix
 read_with_arguments shape read is e =
     go (unfold_tree unfolded_.cpp unfolded_.first_around 0 shape unfolded_.first_state) refl
     (subst (λ r. Alike (Many unfolding_.first_around unfolding_.first_state unfolded_.first_state) r (unfold_tree unfolded_.cpp unfolded_.first_around 0 shape unfolded_.first_state)) e
-    (tree_noted_ shape (OfKind 0) unfolding_.first_around 0 unfolding_.first_state unfolded_.first_state (trees_.known 0 (lit≤ tt)) is (omega arith) (λ opening. absurd (false≢true opening)) (λ special. absurd (false≢true special)) tt tt
+    (tree_noted_ shape (OfKind SYMBOL) unfolding_.first_around 0 unfolding_.first_state unfolded_.first_state (trees_.known 0 (lit≤ tt)) is (omega arith) (λ opening. absurd (false≢true opening)) (λ special. absurd (false≢true special)) tt tt
     (record { packs = refl; all = tt })))
   where
     go : (q : Result (Found (List value_.Value) value_.State) Refusal) → unfold_tree unfolded_.cpp unfolded_.first_around 0 shape unfolded_.first_state ≡ q

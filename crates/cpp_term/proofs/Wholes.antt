@@ -7,6 +7,7 @@ use Rattle.sym_link.specs.Reading.{Found, Open, ◌>>=◌}
 use Rattle.sym_link.specs.Unfold.{found, alone, standing, unfold_tree, unfold_forest}
 use Rattle.cpp_grammar.specs.declared.kind.Kind.{Kind}
 use Rattle.cpp_grammar.specs.declared.production.Production.{Production}
+use Rattle.cpp_grammar.specs.KindNumbers.{SYMBOL}
 use Rattle.cpp_grammar.specs.Grammar.{number_of_kind, pick, alternatives, choose, kinds, may_be_empty}
 use Rattle.cpp_grammar.specs.Table.{abi, sheet, sheet_with}
 use Rattle.cpp_grammar.specs.Unfolding.{production_at, byte_of}
@@ -43,12 +44,12 @@ pub record IsWhole (values : List Value) : Type 0 where
   pub suffix : List ℕ
   pub one : values ≡ tree (symbol encoding suffix) true ∷ []
 
-pub whole_reading : (shape : Tree) (r : Found (List Value) State) → IsTree abi (OfKind 0) shape → unfold_tree cpp first_around 0 shape first_state ≡ Ok r → IsWhole r.value
+pub whole_reading : (shape : Tree) (r : Found (List Value) State) → IsTree abi (OfKind SYMBOL) shape → unfold_tree cpp first_around 0 shape first_state ≡ Ok r → IsWhole r.value
 unfolding cpp close meaning
 whole_reading (branch rule taken parts) r is e =
     let whole : Open State Around = standing rule taken 0 first_around first_state in
     let byte = byte_of taken in
-    let c = chosen_rule 0 rule taken (known 0 (lit≤ tt)) is.0 in
+    let c = chosen_rule SYMBOL rule taken (known 0 (lit≤ tt)) is.0 in
     let only : c.production ≡ Production.Symbol = symbol_alone c.byte c.production (sym (ap (λ k. choose k c.byte) (first_kind c.kind c.number)) ∙ c.chosen) in
     let number : production_at rule.number ≡ Production.Symbol = ap (λ x. production_at x.number) c.is ∙ at_number c.production ∙ only in
     let begun = behind_bind (opening (production_at rule.number) parts 0 first_state)
@@ -70,7 +71,7 @@ whole_reading empty r is e = absurd (true≢false (sym is ∙ symbol_there))
 whole_reading (token u) r is e = absurd is
 whole_reading (fixed byte) r is e = absurd is
 
-pub read_as : (shape : Tree) (r : Found (List Value) State) → IsTree abi (OfKind 0) shape → unfold_tree cpp first_around 0 shape first_state ≡ Ok r → IsReadAs shape r.value
+pub read_as : (shape : Tree) (r : Found (List Value) State) → IsTree abi (OfKind SYMBOL) shape → unfold_tree cpp first_around 0 shape first_state ≡ Ok r → IsReadAs shape r.value
 unfolding first_tree tree_of
 read_as shape r is e =
     let w = whole_reading shape r is e in
@@ -82,7 +83,7 @@ pub record IsWholeTree (t : Term) : Type 0 where
   pub suffix : List ℕ
   pub is : t ≡ symbol encoding suffix
 
-pub whole_symbol : (shape : Tree) (t : Term) → IsTree abi (OfKind 0) shape → unfold_cpp shape ≡ Ok t → IsWholeTree t
+pub whole_symbol : (shape : Tree) (t : Term) → IsTree abi (OfKind SYMBOL) shape → unfold_cpp shape ≡ Ok t → IsWholeTree t
 unfolding unfold_cpp first_tree tree_of
 whole_symbol shape t is e =
     let read = behind_bind (unfold_tree cpp first_around 0 shape first_state) (λ r. Ok (first_tree r.value)) t e in

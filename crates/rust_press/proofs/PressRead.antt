@@ -1,6 +1,6 @@
 -- What is read can be spelled: its numbers, letters and names are in the ranges of the grammar, and what it needs is bound.
 use Rattle.std.proofs.Common.{◌≡◌, ℕ, ◌+◌, ◌<◌, ◌≤◌, inl, inr, List, [], ◌∷◌, Option, Some, None, Bool, true, false, Ok, refl, arith, subst}
-use Rattle.std.specs.Prelude.{◌==◌, if◌then◌else◌, nat_le, codes, Result, Err}
+use Rattle.std.specs.Prelude.{◌==◌, if◌then◌else◌, nat_le, Result, Err}
 use Rattle.std.proofs.lemmas.Bool.{leb-true}
 use Rattle.rust_tree.specs.Symbol as tree
 use Rattle.rust_tree.specs.Need.{need, need_of_type, need_of_arguments, need_of_types, need_of_bounds, need_of_bindings}
@@ -15,7 +15,8 @@ use Rattle.std.proofs.lemmas.Bool.Decides.{nat_tests}
 use Rattle.sym_shape.specs.declared.sheet.ByteRange.{ByteRange}
 use Rattle.sym_shape.specs.Sheet.{in_ranges}
 use Rattle.sym_link.specs.Reading.{Found, ◌>>=◌}
-use Rattle.rust_v0.specs.Rules.{letters, basic_letters, each}
+use Rattle.rust_v0.specs.BasicLetters.{basic_letters, signed_letters, unsigned_letters}
+use Rattle.rust_v0.specs.Rules.{letters, each}
 use Rattle.rust_v0.specs.Value.{Integer}
 use Rattle.rust_v0.specs.Unfold.{Meaning, number_part, integer_part, letter_part, name_part, identifier_part, path_part, type_part, constant_part, lifetime_part, truth_part, abi_value_part, types_part, disambiguator_part, binder_part, some_lifetime_part, unsafe_part, minus_part, abi_part, arguments_part, bounds_part, bindings_part, refers_to_path, refers_to_type, refers_to_constant, bounded, referred, ends_path, ends_type, ends_constant}
 use Rattle.rust_press.specs.Spellable.{most62, is_signed, is_unsigned, IsSpellableName, IsSpellableIdentifier, IsSpellableAbi, IsSpellableInteger, IsSpellableConstant, IsSpellable, AreSpellableArguments, IsSpellableType, AreSpellableTypes, AreSpellableBounds, AreSpellableBindings}
@@ -506,8 +507,8 @@ unsigned-good c false n unsigned none = inr (unsigned-not-signed c unsigned, uns
 abbrev pub expected : Production → Option (List ByteRange)
 expected rules.Namespace = Some letters
 expected rules.BasicType = Some basic_letters
-expected rules.SignedConstant = Some (each (codes "ailnsx"))
-expected rules.UnsignedConstant = Some (each (codes "hjmoty"))
+expected rules.SignedConstant = Some (each (signed_letters))
+expected rules.UnsignedConstant = Some (each (unsigned_letters))
 expected _ = None
 
 abbrev pub FitsByte : Option (List ByteRange) → ℕ → Type 0

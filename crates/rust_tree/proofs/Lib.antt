@@ -1,3 +1,4 @@
+pub mod BasicTypes
 pub mod Trees
 pub mod Reading
 pub mod Pushing

@@ -189,10 +189,6 @@ deeper-top b k n h d = omega (arith, h, d)
 
 -- ## Types
 
-pub below-basic : (n : ℕ) → n < 97 → basic_text n ≡ []
-unfolding basic_text
-below-basic n h = rw (ne_eqb 97 n (λ e. omega (arith, e, h)), ne_eqb 98 n (λ e. omega (arith, e, h)), ne_eqb 99 n (λ e. omega (arith, e, h)), ne_eqb 100 n (λ e. omega (arith, e, h)), ne_eqb 101 n (λ e. omega (arith, e, h)), ne_eqb 102 n (λ e. omega (arith, e, h)), ne_eqb 104 n (λ e. omega (arith, e, h)), ne_eqb 105 n (λ e. omega (arith, e, h)), ne_eqb 106 n (λ e. omega (arith, e, h)), ne_eqb 108 n (λ e. omega (arith, e, h)), ne_eqb 109 n (λ e. omega (arith, e, h)), ne_eqb 110 n (λ e. omega (arith, e, h)), ne_eqb 111 n (λ e. omega (arith, e, h)), ne_eqb 112 n (λ e. omega (arith, e, h)), ne_eqb 115 n (λ e. omega (arith, e, h)), ne_eqb 116 n (λ e. omega (arith, e, h)), ne_eqb 117 n (λ e. omega (arith, e, h)), ne_eqb 118 n (λ e. omega (arith, e, h)), ne_eqb 120 n (λ e. omega (arith, e, h)), ne_eqb 121 n (λ e. omega (arith, e, h)), ne_eqb 122 n (λ e. omega (arith, e, h))) refl
-
 pub fixed-basic : (n : ℕ) → 40 ≤ n → fixed_text n ≡ basic_text n
 fixed-basic n h = rw (slice_get_past texts n h) refl
 

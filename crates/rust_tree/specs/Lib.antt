@@ -1,3 +1,4 @@
+pub mod BasicTypes
 pub mod Symbol
 pub mod Need
 pub mod Shown

@@ -5,19 +5,13 @@ use Rattle.sym_print.specs.Unshared.{Unshared, done}
 use Rattle.sym_print.specs.Building.{◌then◌, ◌also◌, ◌perhaps◌}
 use Rattle.sym_print.specs.declared.detail.Detail.{Detail}
 use Rattle.sym_core.specs.Printed.{printed_name, signed_text}
+use Rattle.rust_tree.specs.BasicTypes.{basic_texts}
 use Rattle.rust_tree.specs.Symbol.{Name, Identifier, Abi, rust_abi, c_abi, named_abi, Path, Arguments, Ty, Tys, Bounds, Bindings, Constant, Symbol, crate_root, inherent_impl, trait_impl, trait_definition, nested, generic, no_arguments, lifetime_argument, constant_argument, type_argument, basic, path_type, array, slice, tuple, shared_reference, mutable_reference, const_pointer, mut_pointer, function, dyn, no_types, more_types, no_bounds, more_bounds, no_bindings, more_bindings, integer, boolean, character, placeholder}
 
 -- ## Texts
 
 abbrev pub name_text : Name → List ℕ
 name_text name = printed_name name.punycode name.bytes
-
-abbrev pub basic_texts : List (ℕ × List ℕ)
-basic_texts =
-    (97, codes "i8") ∷ (98, codes "bool") ∷ (99, codes "char") ∷ (100, codes "f64") ∷ (101, codes "str")
-    ∷ (102, codes "f32") ∷ (104, codes "u8") ∷ (105, codes "isize") ∷ (106, codes "usize") ∷ (108, codes "i32")
-    ∷ (109, codes "u32") ∷ (110, codes "i128") ∷ (111, codes "u128") ∷ (112, codes "_") ∷ (115, codes "i16") ∷ (116, codes "u16")
-    ∷ (117, codes "()") ∷ (118, codes "...") ∷ (120, codes "i64") ∷ (121, codes "u64") ∷ (122, codes "!") ∷ []
 
 abbrev pub text_at : List (ℕ × List ℕ) → ℕ → List ℕ
 text_at [] letter = []

@@ -1,6 +1,7 @@
 //! What a Rust symbol stands for: its nodes, which share their parts, and how they are shown.
 #![tactic(auto)]
 
+mod basic_types;
 mod bounds;
 mod constants;
 pub mod context;

@@ -3,7 +3,8 @@
 
 ghost use Rattle.std.specs.Prelude.{◌≡◌};
 ghost use Rattle.rust_tree.specs.Texts.{fixed_text};
-ghost use Rattle.rust_tree.specs.Shown.{basic_text};
+
+use crate::basic_types::basic_text;
 
 pub const COLONS: u16 = 0;
 
@@ -133,36 +134,5 @@ pub fn fixed_text(number: u16) -> &'static [u8]
         UNDERSCORE => b"_",
         BLANK_LEFT => b" (",
         _ => basic_text(number),
-    }
-}
-
-/// The text of the basic type of a letter.
-#[tactic(auto, unfolding(crate::specs::Shown::basic_text))]
-pub fn basic_text(letter: u16) -> &'static [u8]
-    ensures { result.now ≡ basic_text letter }
-{
-    match letter {
-        97 => b"i8",
-        98 => b"bool",
-        99 => b"char",
-        100 => b"f64",
-        101 => b"str",
-        102 => b"f32",
-        104 => b"u8",
-        105 => b"isize",
-        106 => b"usize",
-        108 => b"i32",
-        109 => b"u32",
-        110 => b"i128",
-        111 => b"u128",
-        112 => b"_",
-        115 => b"i16",
-        116 => b"u16",
-        117 => b"()",
-        118 => b"...",
-        120 => b"i64",
-        121 => b"u64",
-        122 => b"!",
-        _ => b"",
     }
 }

@@ -12,6 +12,7 @@ ghost use Rattle.rust_tree.specs.Texts.{fixed_text};
 ghost use Rattle.rust_tree.specs.Layout.{trees_of, HasDepth, Shows, binder_in, signature_in, names_in};
 ghost use Rattle.rust_tree.specs.Tree.{Tree, of_type};
 
+use crate::basic_types::basic_text;
 use crate::context::Context;
 use crate::form::Form;
 use crate::node::{Abi, Constant, Node, Path, Ty, Types};
@@ -31,7 +32,7 @@ impl Symbol {
         if letter < b'a' {
             return;
         }
-        if !texts::basic_text(letter as u16).is_empty() {
+        if !basic_text(letter as u16).is_empty() {
             self.push_text(parts, letter as u16);
         }
     }

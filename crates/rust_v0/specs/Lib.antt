@@ -1,4 +1,5 @@
 pub mod Productions
+pub mod BasicLetters
 pub mod Rules
 pub mod Listed
 pub mod TableLaws

@@ -13,6 +13,7 @@ use Rattle.rust_v0.specs.declared.production.Production.{Production}
 use Rattle.rust_v0.specs.declared.production.Production.TheVariants as rules
 use Rattle.rust_v0.specs.declared.kind.TheConstants.{PATH, OTHER_PATH, SUFFIX, SUFFIX_BYTE, SUFFIX_REST, NAMESPACE, DISAMBIGUATOR, IDENTIFIER, NAME, ARGUMENTS, TYPE, TYPES, SOME_LIFETIME, LIFETIME, BINDER, UNSAFE, ABI, ABI_NAME, BOUNDS, BINDINGS, CONSTANT, MINUS, TRUTH}
 use Rattle.rust_v0.specs.Productions.{number_of}
+use Rattle.rust_v0.specs.BasicLetters.{basic_letters, signed_letters, unsigned_letters}
 
 -- symbols filled up to five
 abbrev pub filled : List Sym → List Sym
@@ -50,10 +51,6 @@ suffix_bytes = range 36 36 ∷ range 46 46 ∷ range 48 57 ∷ range 65 90 ∷ r
 -- what begins a path
 abbrev pub paths : List ByteRange
 paths = each (codes "BCMXYNI")
-
--- a to f, h to j, l to p, s to v, x to z
-abbrev pub basic_letters : List ByteRange
-basic_letters = range 97 102 ∷ range 104 106 ∷ range 108 112 ∷ range 115 118 ∷ range 120 122 ∷ []
 
 -- what begins a type: A to D, F, I, M to T, X, Y, and the letters of basic types
 abbrev pub types : List ByteRange
@@ -179,8 +176,8 @@ bindings_rules =
 
 abbrev pub constant_rules : List Choice
 constant_rules =
-    takes (each (codes "ailnsx")) rules.SignedConstant (Kind MINUS ∷ Number Hex ∷ [])
-    ∷ takes (each (codes "hjmoty")) rules.UnsignedConstant (Number Hex ∷ [])
+    takes (each signed_letters) rules.SignedConstant (Kind MINUS ∷ Number Hex ∷ [])
+    ∷ takes (each unsigned_letters) rules.UnsignedConstant (Number Hex ∷ [])
     ∷ takes (each (codes "b")) rules.BoolConstant (Kind TRUTH ∷ Byte 95 ∷ [])
     ∷ takes (each (codes "c")) rules.CharConstant (Number Hex ∷ [])
     ∷ takes (each (codes "p")) rules.Placeholder []

@@ -9,6 +9,7 @@ use Rattle.sym_shape.specs.Tree.{Tree as Shape, spell, IsTree}
 use Rattle.sym_link.specs.Unfold.{found, unfold_tree}
 use Rattle.cpp_grammar.specs.declared.kind.Kind.{Kind}
 use Rattle.cpp_grammar.specs.declared.production.Production.{Production}
+use Rattle.cpp_grammar.specs.KindNumbers.{ENCODING, SPECIAL, COMPLETE_NAME, ITEMS}
 use Rattle.cpp_grammar.specs.Grammar.{alternatives, choose, is_chain, number_of_kind, parts_of}
 use Rattle.cpp_grammar.specs.Table.{abi}
 use Rattle.cpp_grammar.specs.Term.{Thunk, Term, adjusting, covariant, non_virtual, by_table, symbol, function, thunk, nil, list, absent}
@@ -158,7 +159,7 @@ items-read around at name (list first rest) old mid new is stays shut one other 
 items-read around at name (symbol e suffix) old mid new is stays shut one other = absurd is
 items-read around at name _ old mid new is stays shut one other = absurd is
 
-function-read : (around : Around) (at : ℕ) (old : State) (v : Value) (new : State) → InFront (OfKind 4) around at old
+function-read : (around : Around) (at : ℕ) (old : State) (v : Value) (new : State) → InFront (OfKind ENCODING) around at old
     → Opened ShapeRead Kind.Encoding around at old (found (v ∷ []) new) Production.Encoding → EncodingRead around v old new
 unfolding parts_of between close in_name in_types number_of_kind holds_encoding meaning unfolding_.behind part
 function-read around at old v new front o =
@@ -166,13 +167,13 @@ function-read around at old v new front o =
     let byte : ℕ = byte_of o.taken in
     let from : ℕ = at + length o.taken in
     let g = o.goes in
-    let f = name-front (OfKind 8) around at from old less (omega arith) refl front.placed.old in
+    let f = name-front (OfKind COMPLETE_NAME) around at from old less (omega arith) refl front.placed.old in
     let own = g.holds Kind.CompleteName (in_name at) from old g.value g.after f g.is g.unfolds refl in
-    let c = part-came (OfKind 8) (in_name at) from old g.shape g.value g.after (known 8 (lit≤ tt)) f g.is g.unfolds in
+    let c = part-came (OfKind COMPLETE_NAME) (in_name at) from old g.shape g.value g.after (known 8 (lit≤ tt)) f g.is g.unfolds in
     let name : Term = tree_of g.value in
     let later : ℕ = from + length (spell g.shape) in
     let h = g.onward in
-    let s : InFront (OfKind 41) (in_types at name) later g.after = record {
+    let s : InFront (OfKind ITEMS) (in_types at name) later g.after = record {
       placed = record {
         lambda = λ is. absurd (false≢true is);
         encoding = omega arith;
@@ -182,7 +183,7 @@ function-read around at old v new front o =
       prefix = tt;
     } in
     let items = h.holds Kind.Items (in_types at name) later g.after h.value h.after s h.is h.unfolds refl in
-    let d = part-came (OfKind 41) (in_types at name) later g.after h.shape h.value h.after (known 41 (lit≤ tt)) s h.is h.unfolds in
+    let d = part-came (OfKind ITEMS) (in_types at name) later g.after h.shape h.value h.after (known 41 (lit≤ tt)) s h.is h.unfolds in
     let stays = stays-further around (in_types at name) at (later + length (spell h.shape)) old g.after h.after less refl
     (stays-behind around (in_name at) at later old g.after less refl front.placed.old c.grows) d.grows in
     ended-read (λ w t. EncodingRead around w old t) Production.Encoding byte around old (g.value ∷ h.value ∷ []) h.after v new
@@ -193,7 +194,7 @@ function-read around at old v new front o =
 
 -- ## Guards and special encodings
 
-guard-read : (around : Around) (at : ℕ) (old : State) (v : Value) (new : State) → InFront (OfKind 4) around at old
+guard-read : (around : Around) (at : ℕ) (old : State) (v : Value) (new : State) → InFront (OfKind ENCODING) around at old
     → Opened ShapeRead Kind.Encoding around at old (found (v ∷ []) new) Production.Guard → EncodingRead around v old new
 unfolding parts_of between close in_name number_of_kind holds_encoding meaning unfolding_.behind part is_encoding tree_of
 guard-read around at old v new front o =
@@ -204,10 +205,10 @@ guard-read around at old v new front o =
     let b = byte-read 86 g.shape (in_name at) from old g.after g.value g.is g.unfolds in
     let later : ℕ = from + length (spell g.shape) in
     let h = g.onward in
-    let f = name-front (OfKind 8) around at later g.after less (omega arith) refl
+    let f = name-front (OfKind COMPLETE_NAME) around at later g.after less (omega arith) refl
     (subst (λ s. AllOld around at (State.candidates s)) (sym b.0) front.placed.old) in
     let own = h.holds Kind.CompleteName (in_name at) later g.after h.value h.after f h.is h.unfolds refl in
-    let c = part-came (OfKind 8) (in_name at) later g.after h.shape h.value h.after (known 8 (lit≤ tt)) f h.is h.unfolds in
+    let c = part-came (OfKind COMPLETE_NAME) (in_name at) later g.after h.shape h.value h.after (known 8 (lit≤ tt)) f h.is h.unfolds in
     let whole = guard-fits around at (tree_of h.value) (qualifiers_of h.value) (ref_of h.value) old h.after
     (stays-behind around (in_name at) at (later + length (spell h.shape)) old h.after less refl front.placed.old
     (subst (λ s. Grows (in_name at) (later + length (spell h.shape)) s h.after) b.0 c.grows))
@@ -228,7 +229,7 @@ special-encoding around at v old new stays (inr (kind, e, is, good, fits)) =
     subst (λ w. EncodingRead around w old new) (sym is)
     (record { is = refl; value = refl; fits = thunk-fits around at kind e old new good stays fits })
 
-special-read : (around : Around) (at : ℕ) (old : State) (v : Value) (new : State) → InFront (OfKind 4) around at old
+special-read : (around : Around) (at : ℕ) (old : State) (v : Value) (new : State) → InFront (OfKind ENCODING) around at old
     → Opened ShapeRead Kind.Encoding around at old (found (v ∷ []) new) Production.Special → EncodingRead around v old new
 unfolding parts_of between close in_name number_of_kind holds_encoding meaning unfolding_.behind part
 special-read around at old v new front o =
@@ -236,9 +237,9 @@ special-read around at old v new front o =
     let byte : ℕ = byte_of o.taken in
     let from : ℕ = at + length o.taken in
     let g = o.goes in
-    let f = name-front (OfKind 5) around at from old less (omega arith) refl front.placed.old in
+    let f = name-front (OfKind SPECIAL) around at from old less (omega arith) refl front.placed.old in
     let one = g.holds Kind.Special (in_name at) from old g.value g.after f g.is g.unfolds refl in
-    let c = part-came (OfKind 5) (in_name at) from old g.shape g.value g.after (known 5 (lit≤ tt)) f g.is g.unfolds in
+    let c = part-came (OfKind SPECIAL) (in_name at) from old g.shape g.value g.after (known 5 (lit≤ tt)) f g.is g.unfolds in
     let stays = stays-behind around (in_name at) at (from + length (spell g.shape)) old g.after less refl front.placed.old c.grows in
     ended-read (λ w t. EncodingRead around w old t) Production.Special byte around old (g.value ∷ []) g.after v new
     (ended-as Production.Special byte around old o.inner o.one (g.value ∷ []) g.after v new (ok_same _ o.one o.closes) g.onward o.comes)

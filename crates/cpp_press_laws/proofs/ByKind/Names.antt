@@ -4,6 +4,7 @@ use Rattle.sym_shape.specs.declared.rule.Sym.TheVariants.{Kind as OfKind}
 use Rattle.sym_shape.specs.Tree.{spell}
 use Rattle.cpp_grammar.specs.declared.kind.Kind.{Kind}
 use Rattle.cpp_grammar.specs.declared.production.Production.{Production}
+use Rattle.cpp_grammar.specs.KindNumbers.{MAYBE_ARGUMENTS}
 use Rattle.cpp_grammar.specs.Grammar.{alternatives, number_of_kind, parts_of}
 use Rattle.cpp_grammar.specs.Term.{Term, in_std, instance, parameter}
 use Rattle.cpp_grammar.specs.Values.{State, outermost, Around, prefix_tree, prefix_listed, Value, tree, tree_of, piece_of, is_listed, is_there, qualifiers_of, ref_of, part}
@@ -127,7 +128,7 @@ unfolding parts_of number_of_kind between tree_of is_listed meaning part unfoldi
 parameter-solid takes kind around at old v new front outer o =
     let a = o.goes tt in
     let k : ℕ = index_of a.value in
-    parameter-goes around at k a.after (λ next. PartRead (OfKind 42) a.others (at + length o.taken + length (spell a.shape)) next
+    parameter-goes around at k a.after (λ next. PartRead (OfKind MAYBE_ARGUMENTS) a.others (at + length o.taken + length (spell a.shape)) next
     (PartsRead Production.Parameter (byte_of o.taken) around at old v new [])) (SolidFits takes around v old new)
     (λ s named b. comes-as (λ w u. SolidFits takes around w old u) Production.Parameter tt (byte_of o.taken) around at old
     (tree (parameter k) true ∷ b.value ∷ []) b.after v new b.onward

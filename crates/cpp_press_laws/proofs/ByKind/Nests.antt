@@ -6,6 +6,7 @@ use Rattle.sym_shape.specs.Tree.{spell}
 use Rattle.sym_link.specs.Reading.{Next, ◌>>=◌}
 use Rattle.cpp_grammar.specs.declared.kind.Kind.{Kind}
 use Rattle.cpp_grammar.specs.declared.production.Production.{Production}
+use Rattle.cpp_grammar.specs.KindNumbers.{NEST_REST}
 use Rattle.cpp_grammar.specs.Grammar.{alternatives, number_of_kind, parts_of}
 use Rattle.cpp_grammar.specs.Term.{Term, in_std, instance, parameter, source}
 use Rattle.cpp_grammar.specs.Values.{State, Around, prefix_tree, prefix_listed, Value, tree, tree_of, piece_of, text_of, part}
@@ -202,7 +203,7 @@ unfolding parts_of number_of_kind between parameter_so_far listed_so_far meaning
 nest-parameter around at old v new bare o =
     let a = o.goes tt in
     let k : ℕ = index_of a.value in
-    parameter-goes around at k a.after (λ next. PartRead (OfKind 17) a.others (at + length o.taken + length (spell a.shape)) next
+    parameter-goes around at k a.after (λ next. PartRead (OfKind NEST_REST) a.others (at + length o.taken + length (spell a.shape)) next
     (PartsRead Production.NestParameter (byte_of o.taken) around at old v new [])) (NestRead around v old new)
     (λ s named b. comes-as (λ w u. NestRead around w old u) Production.NestParameter tt (byte_of o.taken) around at old
     (tree (parameter k) true ∷ b.value ∷ []) b.after v new b.onward

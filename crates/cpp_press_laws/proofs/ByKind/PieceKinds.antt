@@ -10,6 +10,7 @@ use Rattle.sym_shape.specs.Tree.{Tree as Shape, Forest, branch, empty, token, fi
 use Rattle.sym_link.specs.Unfold.{found, unfold_tree}
 use Rattle.cpp_grammar.specs.declared.kind.Kind.{Kind}
 use Rattle.cpp_grammar.specs.declared.production.Production.{Production}
+use Rattle.cpp_grammar.specs.KindNumbers.{ITEM, ITEMS}
 use Rattle.cpp_grammar.specs.Grammar.{alternatives, choose, kinds, may_be_empty, is_chain, number_of_kind, parts_of}
 use Rattle.cpp_grammar.specs.Table.{abi, sheet, sheet_with}
 use Rattle.cpp_grammar.specs.Term.{Term, operator, literal_operator, source, lambda, unnamed, list}
@@ -340,10 +341,10 @@ lambda-type around at old v new o =
     (last-digits j.shape j.others inner _ i.after j.value j.after j.is trees4 j.unfolds))))))) in
     let good : IsLocalNumber k =
     subst (λ ds. IsLocalNumber (local_number ds)) (told []) (tested-number (at - 1) (last_token o.parts []) old o.opens) in
-    let first = tree_good g.shape (OfKind 30) inner _ old (found (g.value ∷ []) g.after) (known 30 (lit≤ tt)) g.is g.front.placed.encoding
+    let first = tree_good g.shape (OfKind ITEM) inner _ old (found (g.value ∷ []) g.after) (known 30 (lit≤ tt)) g.is g.front.placed.encoding
     g.front.opening g.front.prefix g.front.placed.old g.unfolds in
     let rest =
-    tree_good h.shape (OfKind 41) inner _ g.after (found (h.value ∷ []) h.after) (known 41 (lit≤ tt)) h.is h.front.placed.encoding
+    tree_good h.shape (OfKind ITEMS) inner _ g.after (found (h.value ∷ []) h.after) (known 41 (lit≤ tt)) h.is h.front.placed.encoding
     h.front.opening h.front.prefix h.front.placed.old h.unfolds in
     let grows = grows_then inner _ _ old g.after h.after (omega arith) first.grows rest.grows in
     let items = h.read Kind.Items refl refl in

@@ -7,6 +7,7 @@ use Rattle.sym_shape.specs.Tree.{Tree as Shape, Forest, branch, empty, token, fi
 use Rattle.sym_link.specs.Unfold.{found}
 use Rattle.cpp_grammar.specs.declared.kind.Kind.{Kind}
 use Rattle.cpp_grammar.specs.declared.production.Production.{Production}
+use Rattle.cpp_grammar.specs.KindNumbers.{MAYBE_SUFFIX, SUFFIX_FIRST, SUFFIX_MORE}
 use Rattle.cpp_grammar.specs.Grammar.{alternatives, choose, pick, is_in, in_ranges, among, kinds, may_be_empty, is_chain, number_of_kind, parts_of}
 use Rattle.cpp_grammar.specs.Table.{abi, sheet, sheet_with}
 use Rattle.cpp_grammar.specs.Values.{nothing_there, text, text_of, part}
@@ -22,7 +23,7 @@ use Rattle.cpp_press_laws.proofs.ByKind.Leaves.{LeafAs, leaf-same}
 
 -- the bytes behind the first
 abbrev pub MoreRead : Shape → Type 0
-MoreRead t = LeafAs (OfKind 3) (λ v. AreSuffixBytes (text_of v)) t
+MoreRead t = LeafAs (OfKind SUFFIX_MORE) (λ v. AreSuffixBytes (text_of v)) t
 
 more-branch : (rule : Rule) (taken : List ℕ) (parts : Forest) → AllOf MoreRead parts → MoreRead (branch rule taken parts)
 unfolding alternatives number_of_kind parts_of is_chain between close unfolding_.behind meaning part text_of byte_of
@@ -56,7 +57,7 @@ FirstBytes [] = ⊥
 FirstBytes (b ∷ bs) = (b < 256) × (choose Kind.SuffixFirst b ≡ Some Production.SuffixByte) × AreSuffixBytes bs
 
 abbrev FirstRead : Shape → Type 0
-FirstRead t = LeafAs (OfKind 2) (λ v. FirstBytes (text_of v)) t
+FirstRead t = LeafAs (OfKind SUFFIX_FIRST) (λ v. FirstBytes (text_of v)) t
 
 first-read : (t : Shape) → FirstRead t
 unfolding cpp alternatives number_of_kind parts_of is_chain between close unfolding_.behind meaning part text_of byte_of abi sheet sheet_with may_be_empty kinds
@@ -93,7 +94,7 @@ behind-dot [] first = absurd first
 behind-dot (b ∷ bs) first = (refl, first.0, first.1, first.2)
 
 -- a suffix, or none
-pub suffix-read : (t : Shape) → LeafAs (OfKind 1) (λ v. IsSpellableSuffix (text_of v)) t
+pub suffix-read : (t : Shape) → LeafAs (OfKind MAYBE_SUFFIX) (λ v. IsSpellableSuffix (text_of v)) t
 unfolding cpp alternatives number_of_kind parts_of is_chain between close unfolding_.behind meaning part text_of byte_of
 suffix-read (branch rule taken parts) around at state after v is e =
     go (opened FirstRead Kind.MaybeSuffix rule taken parts (all-of FirstRead first-read parts) around at state (found (v ∷ []) after) is e)

@@ -4,6 +4,7 @@ use Rattle.std.specs.Prelude.{codes}
 use Rattle.sym_shape.specs.declared.rule.Sym.TheVariants.{Kind as OfKind}
 use Rattle.sym_spell.specs.Pressing.{◌and◌, text, nothing}
 use Rattle.cpp_grammar.specs.declared.kind.Kind.{Kind}
+use Rattle.cpp_grammar.specs.KindNumbers.{ENCODING, CALL_OFFSET, COMPLETE_NAME, MAYBE_DISCRIMINATOR, TYPE, ITEM, ITEMS}
 use Rattle.cpp_grammar.specs.Grammar.{kinds, may_be_empty}
 use Rattle.cpp_grammar.specs.Term.{Adjustment, non_virtual, by_table, Thunk, adjusting, covariant, function, object, special, thunk, guard, absent, Qualifiers, RefQualifier, local, Term, nil, list, instance}
 use Rattle.cpp_grammar.specs.Scope.{count, arguments_of, has_return_type}
@@ -34,13 +35,13 @@ use Rattle.cpp_press_laws.proofs.Components.Keeping.{keeps-local, keeps-N-and-E,
 
 discriminator-reads : (around : Around) (allowed : Option ℕ) (d : Option (List ℕ)) (place : ℕ) (cs : List Candidate)
     → IsSpellableDiscriminator d
-    → ReadsAt around allowed (OfKind 25) (Is (discriminator_value d)) place cs (written (discriminator_text d) cs)
+    → ReadsAt around allowed (OfKind MAYBE_DISCRIMINATOR) (Is (discriminator_value d)) place cs (written (discriminator_text d) cs)
 unfolding discriminator_text
 discriminator-reads around allowed None place cs h = no-discriminator around allowed place cs
 discriminator-reads around allowed (Some []) place cs h = many-digits around allowed [] place cs h
 discriminator-reads around allowed (Some (d ∷ [])) place cs h = one-digit around allowed d place cs h.0 h.1
 discriminator-reads around allowed (Some (d ∷ e ∷ ds)) place cs h =
-    same-written around allowed (OfKind 25) (Is (discriminator_value (Some (d ∷ e ∷ ds)))) place cs cs
+    same-written around allowed (OfKind MAYBE_DISCRIMINATOR) (Is (discriminator_value (Some (d ∷ e ∷ ds)))) place cs cs
     (95 ∷ 95 ∷ (((d ∷ e ∷ ds) ++ []) ++ (95 ∷ []))) (95 ∷ 95 ∷ ((d ∷ e ∷ ds) ++ (95 ∷ [])))
     (ap (λ l. 95 ∷ 95 ∷ (l ++ (95 ∷ []))) (append-nil (d ∷ e ∷ ds)))
     (many-digits around allowed (d ∷ e ∷ ds) place cs h)
@@ -68,9 +69,9 @@ keeps-entity n entity letters =
 record LocalParts (role : Role) (around : Around) (allowed : Option ℕ) (e entity : Term) (d : Option (List ℕ)) (place : ℕ)
     (cs : List Candidate)
     (first second : Written) : Type 0 where
-  one : ReadsAt around allowed (OfKind 4) (Is (tree e true)) (place + 1) cs first
+  one : ReadsAt around allowed (OfKind ENCODING) (Is (tree e true)) (place + 1) cs first
   two : EntityReads role (after e true around) allowed entity (place + 1 + length first.bytes + 1) first.components second
-  three : ReadsAt (after e true around) allowed (OfKind 25) (Is (discriminator_value d))
+  three : ReadsAt (after e true around) allowed (OfKind MAYBE_DISCRIMINATOR) (Is (discriminator_value d))
       (place + 1 + length first.bytes + 1 + length second.bytes)
       second.components (written (discriminator_text d) second.components)
 
@@ -218,7 +219,7 @@ record FunctionItems (around : Around) (allowed : Option ℕ) (v : Value) (t : T
     (w : Written) : Type 0 where
   last : Value
   means : encoding_of v (no_items last) ≡ t
-  reads : ReadsAt around allowed (OfKind 41) (Is last) place cs w
+  reads : ReadsAt around allowed (OfKind ITEMS) (Is last) place cs w
 
 encoding-returned : (v : Value) (name first rest ps : Term) (q : Qualifiers) (ref : RefQualifier) → tree_of v ≡ name → qualifiers_of v ≡ q
     → ref_of v ≡ ref → has_return_type name ≡ true → parameters rest ≡ ps → encoding_of v (list first rest) ≡ function name q ref first ps
@@ -255,15 +256,15 @@ encoding-object v name q ref a b c = rw (a, b, c) refl
 -- the items of parameters as one list
 items-whole : (around : Around) (allowed : Option ℕ) (ps : Term) (place : ℕ) (cs : List Candidate) (w : Written)
     (i : ItemsRead around allowed ps place cs w)
-    → ReadsAt around allowed (OfKind 41) (Is (tree (list i.first i.items) true)) place cs w
+    → ReadsAt around allowed (OfKind ITEMS) (Is (tree (list i.first i.items) true)) place cs w
 items-whole around allowed ps place cs w i =
-    subst (λ l. ReadsAt around allowed (OfKind 41) (Is (tree (list i.first i.items) true)) place cs (written l w.components)) i.split
-    (subst (λ ds. ReadsAt around allowed (OfKind 41) (Is (tree (list i.first i.items) true)) place cs (written
+    subst (λ l. ReadsAt around allowed (OfKind ITEMS) (Is (tree (list i.first i.items) true)) place cs (written l w.components)) i.split
+    (subst (λ ds. ReadsAt around allowed (OfKind ITEMS) (Is (tree (list i.first i.items) true)) place cs (written
     (i.one.bytes ++ i.rest.bytes) ds))
     i.components
     (items-more around allowed i.first i.items i.last place cs i.one i.rest i.are
-    (subst (λ q. ReadsAt around allowed (OfKind 30) (Is (tree i.first true)) q cs i.one) (omega arith) i.reads_one)
-    (subst (λ q. ReadsAt around allowed (OfKind 41) (Is i.last) q i.one.components i.rest) (omega arith) i.reads_rest)))
+    (subst (λ q. ReadsAt around allowed (OfKind ITEM) (Is (tree i.first true)) q cs i.one) (omega arith) i.reads_one)
+    (subst (λ q. ReadsAt around allowed (OfKind ITEMS) (Is i.last) q i.one.components i.rest) (omega arith) i.reads_rest)))
 
 -- with a return type in front of the parameters
 returned-items : (name r ps : Term) (q : Qualifiers) (ref : RefQualifier) → Reading r → Reading ps → (around : Around) (allowed : Option ℕ)
@@ -285,10 +286,10 @@ returned-items name r ps q ref rr rp around allowed v place cs small room a b c 
       last = tree (list r (list i.first i.items)) true;
       means = encoding-returned v name r (list i.first i.items) ps q ref a b c has i.means;
       reads = items-more around allowed r (list i.first i.items) (tree (list i.first i.items) true) place cs w x refl
-          (subst (λ p. ReadsAt around allowed (OfKind 30) (Is (tree r true)) p cs w) (omega arith)
+          (subst (λ p. ReadsAt around allowed (OfKind ITEM) (Is (tree r true)) p cs w) (omega arith)
           (rr.as_type item_type around allowed place cs small
           (room-first (ways_of n r).as_type (ways_of n ps).as_parameters place cs (keeps ps n).as_parameters room) one))
-          (subst (λ p. ReadsAt around allowed (OfKind 41) (Is (tree (list i.first i.items) true)) p w.components x) (omega arith)
+          (subst (λ p. ReadsAt around allowed (OfKind ITEMS) (Is (tree (list i.first i.items) true)) p w.components x) (omega arith)
           (items-whole around allowed ps (place + length w.bytes) w.components x i));
     }
 
@@ -309,7 +310,7 @@ plain-items name ps q ref rp around allowed v place cs small room a b c has two 
     record {
       last = tree (list i.first i.items) true;
       means = encoding-plain v name i.first i.items ps q ref a b c has i.means;
-      reads = subst (λ p. ReadsAt around allowed (OfKind 41) (Is (tree (list i.first i.items) true)) p cs x) (omega arith)
+      reads = subst (λ p. ReadsAt around allowed (OfKind ITEMS) (Is (tree (list i.first i.items) true)) p cs x) (omega arith)
           (items-whole around allowed ps (place + 0) cs x i);
     }
 
@@ -356,12 +357,12 @@ reads-function counts name r ps q ref rn rr rp =
     (has_return_type name) refl h.1
     (subst (λ p. (fits_of ps).as_parameters item_type (in_types here name) allowed p (b at first.components).components)
     (omega (arith, length-append first.bytes (b at first.components).bytes)) h.2) in
-    subst (λ x. ReadsAt around allowed (OfKind 4) (Is (tree x true)) here cs ((a and b and c) here cs)) i.means
+    subst (λ x. ReadsAt around allowed (OfKind ENCODING) (Is (tree x true)) here cs ((a and b and c) here cs)) i.means
     (encoding-reads around allowed v.value i.last here cs first ((b and c) at first.components)
-    (subst (λ p. ReadsAt (in_name here) allowed (OfKind 8) (Is v.value) p cs first) (omega arith) v.reads)
-    (subst (λ x. ReadsAt (in_types here x) allowed (OfKind 41) (Is i.last) (here + 0 + length first.bytes) first.components
+    (subst (λ p. ReadsAt (in_name here) allowed (OfKind COMPLETE_NAME) (Is v.value) p cs first) (omega arith) v.reads)
+    (subst (λ x. ReadsAt (in_types here x) allowed (OfKind ITEMS) (Is i.last) (here + 0 + length first.bytes) first.components
     ((b and c) at first.components)) (sym v.tree_is)
-    (subst (λ p. ReadsAt (in_types here name) allowed (OfKind 41) (Is i.last) p first.components ((b and c) at first.components))
+    (subst (λ p. ReadsAt (in_types here name) allowed (OfKind ITEMS) (Is i.last) p first.components ((b and c) at first.components))
     (omega arith)
     i.reads))))
 
@@ -371,14 +372,14 @@ reads-object name q ref rn =
     reads-encoding (object name q ref) _ _ (λ around allowed here cs small room h.
     let first : Written = (ways_of here name).as_name (name_letters q ref) here cs in
     let v = rn.as_name q ref (in_name here) allowed here cs (name-small here) room h in
-    subst (λ x. ReadsAt around allowed (OfKind 4) (Is (tree x true)) here cs first)
+    subst (λ x. ReadsAt around allowed (OfKind ENCODING) (Is (tree x true)) here cs first)
     (encoding-object v.value name q ref v.tree_is v.qualifiers_are v.ref_is)
-    (same-written around allowed (OfKind 4) (Is (tree (encoding_of v.value nil) true)) here cs first.components
+    (same-written around allowed (OfKind ENCODING) (Is (tree (encoding_of v.value nil) true)) here cs first.components
     (first.bytes ++ []) first.bytes
     (append-nil first.bytes)
     (encoding-reads around allowed v.value nothing_there here cs first (written [] first.components)
-    (subst (λ p. ReadsAt (in_name here) allowed (OfKind 8) (Is v.value) p cs first) (omega arith) v.reads)
-    (empty-reads (in_types here (tree_of v.value)) allowed 41 Kind.Items (here + 0 + length first.bytes) first.components refl refl))))
+    (subst (λ p. ReadsAt (in_name here) allowed (OfKind COMPLETE_NAME) (Is v.value) p cs first) (omega arith) v.reads)
+    (empty-reads (in_types here (tree_of v.value)) allowed ITEMS Kind.Items (here + 0 + length first.bytes) first.components refl refl))))
 
 guard-is : (v : Value) (name : Term) (q : Qualifiers) (ref : RefQualifier) → tree_of v ≡ name → qualifiers_of v ≡ q → ref_of v ≡ ref
     → guard (tree_of v) (qualifiers_of v) (ref_of v) ≡ guard name q ref
@@ -391,10 +392,10 @@ reads-guard name q ref rn =
     let a : Spelling = (ways_of here name).as_name (name_letters q ref) in
     let w : Written = a (here + 2) cs in
     let v = rn.as_name q ref (in_name here) allowed (here + 2) cs (name-small here) (room-rest (text (codes "GV")) a here cs room) h in
-    subst (λ x. ReadsAt around allowed (OfKind 4) (Is (tree x true)) here cs (written (71 ∷ 86 ∷ w.bytes) w.components))
+    subst (λ x. ReadsAt around allowed (OfKind ENCODING) (Is (tree x true)) here cs (written (71 ∷ 86 ∷ w.bytes) w.components))
     (guard-is v.value name q ref v.tree_is v.qualifiers_are v.ref_is)
     (guard-reads around allowed v.value here cs w
-    (subst (λ p. ReadsAt (in_name here) allowed (OfKind 8) (Is v.value) p cs w) (omega arith) v.reads)))
+    (subst (λ p. ReadsAt (in_name here) allowed (OfKind COMPLETE_NAME) (Is v.value) p cs w) (omega arith) v.reads)))
 
 pub reads-special : (l : ℕ) (t : Term) → Reading t → Reading (special l t)
 unfolding ways_of fits_of encoding_ways begun no_ways in_name
@@ -403,7 +404,7 @@ reads-special l t r =
     let w : Written = (ways_of here t).as_type (here + 2) cs in
     special-reads around allowed (tree (special l t) true) here cs (written (l ∷ w.bytes) w.components)
     (special-type (in_name here) allowed l t (here + 1) cs w h.0 h.1
-    (subst (λ p. ReadsAt (in_name here) allowed (OfKind 28) (Is (tree t true)) p cs w) (omega arith)
+    (subst (λ p. ReadsAt (in_name here) allowed (OfKind TYPE) (Is (tree t true)) p cs w) (omega arith)
     (r.as_type any_type (in_name here) allowed (here + 2) cs (name-small here)
     (room-rest (text (codes "T" ++ l ∷ [])) (ways_of here t).as_type here cs room) h.2))))
 
@@ -413,12 +414,12 @@ two-offsets : (a b x : List ℕ) → a ++ (95 ∷ (b ++ (95 ∷ x))) ≡ ((a ++ 
 two-offsets a b x = sym (append_assoc a (95 ∷ []) (b ++ (95 ∷ x))) ∙ sym (append_assoc (a ++ (95 ∷ [])) b (95 ∷ x))
 
 offset-reads : (around : Around) (allowed : Option ℕ) (a : Adjustment) (place : ℕ) (cs : List Candidate) → IsSpellableOffset a
-    → ReadsAt around allowed (OfKind 6) (Is (adjusted a)) place cs (written (offset_text a) cs)
+    → ReadsAt around allowed (OfKind CALL_OFFSET) (Is (adjusted a)) place cs (written (offset_text a) cs)
 unfolding offset_text
 offset-reads around allowed (non_virtual n) place cs h =
     non-virtual-offset around allowed n place cs (written (signed_text n) cs) (integer-reads around allowed n (place + 1) cs h)
 offset-reads around allowed (by_table n m) place cs h =
-    same-written around allowed (OfKind 6) (Is (adjusted (by_table n m))) place cs cs
+    same-written around allowed (OfKind CALL_OFFSET) (Is (adjusted (by_table n m))) place cs cs
     (118 ∷ (signed_text n ++ (95 ∷ (signed_text m ++ (95 ∷ []))))) (118 ∷ (((signed_text n ++ (95 ∷ [])) ++ signed_text m) ++ (95 ∷ [])))
     (ap (λ l. 118 ∷ l) (two-offsets (signed_text n) (signed_text m) []))
     (virtual-offset around allowed n m place cs (written (signed_text n) cs) (written (signed_text m) cs)
@@ -426,24 +427,24 @@ offset-reads around allowed (by_table n m) place cs h =
 
 thunk-reads : (kind : Thunk) (around : Around) (allowed : Option ℕ) (e : Term) (place : ℕ) (cs : List Candidate) (w : Written)
     → IsSpellableThunk kind
-    → ReadsAt (in_name place) allowed (OfKind 4) (Is (tree e true)) (place + length (thunk_text kind)) cs w
-    → ReadsAt around allowed (OfKind 4) (Is (tree (thunk kind e) true)) place cs (written (thunk_text kind ++ w.bytes) w.components)
+    → ReadsAt (in_name place) allowed (OfKind ENCODING) (Is (tree e true)) (place + length (thunk_text kind)) cs w
+    → ReadsAt around allowed (OfKind ENCODING) (Is (tree (thunk kind e) true)) place cs (written (thunk_text kind ++ w.bytes) w.components)
 unfolding thunk_text offset_text
 thunk-reads (adjusting (non_virtual n)) around allowed e place cs w h one =
-    same-written around allowed (OfKind 4) (Is (tree (thunk (adjusting (non_virtual n)) e) true)) place cs w.components
+    same-written around allowed (OfKind ENCODING) (Is (tree (thunk (adjusting (non_virtual n)) e) true)) place cs w.components
     (84 ∷ 104 ∷ (signed_text n ++ (95 ∷ w.bytes))) (84 ∷ 104 ∷ ((signed_text n ++ (95 ∷ [])) ++ w.bytes))
     (ap (λ l. 84 ∷ 104 ∷ l) (sym (append_assoc (signed_text n) (95 ∷ []) w.bytes)))
     (special-reads around allowed (tree (thunk (adjusting (non_virtual n)) e) true) place cs
     (written (104 ∷ (signed_text n ++ (95 ∷ w.bytes))) w.components)
     (non-virtual-thunk (in_name place) allowed n e (place + 1) cs (written (signed_text n) cs) w
     (integer-reads (in_name place) allowed n (place + 1 + 1) cs h)
-    (subst (λ p. ReadsAt (in_name place) allowed (OfKind 4) (Is (tree e true)) p cs w) (omega (
+    (subst (λ p. ReadsAt (in_name place) allowed (OfKind ENCODING) (Is (tree e true)) p cs w) (omega (
       arith,
       length-append (signed_text n)
           (95 ∷ []),
     )) one)))
 thunk-reads (adjusting (by_table n m)) around allowed e place cs w h one =
-    same-written around allowed (OfKind 4) (Is (tree (thunk (adjusting (by_table n m)) e) true)) place cs w.components
+    same-written around allowed (OfKind ENCODING) (Is (tree (thunk (adjusting (by_table n m)) e) true)) place cs w.components
     (84 ∷ 118 ∷ (signed_text n ++ (95 ∷ (signed_text m ++ (95 ∷ w.bytes)))))
     (84 ∷ 118 ∷ ((((signed_text n ++ (95 ∷ [])) ++ signed_text m) ++ (95 ∷ [])) ++ w.bytes))
     (ap (λ l. 84 ∷ 118 ∷ l) (two-offsets (signed_text n) (signed_text m) w.bytes
@@ -453,7 +454,7 @@ thunk-reads (adjusting (by_table n m)) around allowed e place cs w h one =
     (virtual-thunk (in_name place) allowed n m e (place + 1) cs (written (signed_text n) cs) (written (signed_text m) cs) w
     (integer-reads (in_name place) allowed n (place + 1 + 1) cs h.0)
     (integer-reads (in_name place) allowed m (place + 1 + 1 + length (signed_text n) + 1) cs h.1)
-    (subst (λ p. ReadsAt (in_name place) allowed (OfKind 4) (Is (tree e true)) p cs w)
+    (subst (λ p. ReadsAt (in_name place) allowed (OfKind ENCODING) (Is (tree e true)) p cs w)
     (omega (
       arith,
       length-append ((signed_text n ++ (95 ∷ [])) ++ signed_text m) (95 ∷ []),
@@ -461,7 +462,7 @@ thunk-reads (adjusting (by_table n m)) around allowed e place cs w h one =
       length-append (signed_text n) (95 ∷ []),
     )) one)))
 thunk-reads (covariant a b) around allowed e place cs w h one =
-    same-written around allowed (OfKind 4) (Is (tree (thunk (covariant a b) e) true)) place cs w.components
+    same-written around allowed (OfKind ENCODING) (Is (tree (thunk (covariant a b) e) true)) place cs w.components
     (84 ∷ 99 ∷ (offset_text a ++ (offset_text b ++ w.bytes))) (84 ∷ 99 ∷ ((offset_text a ++ offset_text b) ++ w.bytes))
     (ap (λ l. 84 ∷ 99 ∷ l) (sym (append_assoc (offset_text a) (offset_text b) w.bytes)))
     (special-reads around allowed (tree (thunk (covariant a b) e) true) place cs
@@ -469,7 +470,7 @@ thunk-reads (covariant a b) around allowed e place cs w h one =
     (covariant-thunk (in_name place) allowed a b e (place + 1) cs (written (offset_text a) cs) (written (offset_text b) cs) w
     (offset-reads (in_name place) allowed a (place + 1 + 1) cs h.0)
     (offset-reads (in_name place) allowed b (place + 1 + 1 + length (offset_text a)) cs h.1)
-    (subst (λ p. ReadsAt (in_name place) allowed (OfKind 4) (Is (tree e true)) p cs w) (omega (
+    (subst (λ p. ReadsAt (in_name place) allowed (OfKind ENCODING) (Is (tree e true)) p cs w) (omega (
       arith,
       length-append (offset_text a)
           (offset_text b),

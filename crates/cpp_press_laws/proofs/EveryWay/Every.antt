@@ -3,6 +3,7 @@ use Rattle.std.proofs.Common.{◌≡◌, ℕ, ◌+◌, ◌≤◌, length, List, 
 use Rattle.std.specs.Prelude.{codes, ◌&&◌}
 use Rattle.sym_shape.specs.declared.rule.Sym.TheVariants.{Kind as OfKind}
 use Rattle.sym_spell.specs.Pressing.{◌and◌, text}
+use Rattle.cpp_grammar.specs.KindNumbers.{ENCODING, TYPE_ENTITY, ITEM, ARGUMENT_LIST, PACK_LIST}
 use Rattle.cpp_grammar.specs.Term.{Qualifiers, RefQualifier, any_value, Term, instance, list}
 use Rattle.cpp_grammar.specs.Values.{Candidate, Around, Value, tree, tree_of, qualifiers_of, ref_of, unqualified}
 use Rattle.cpp_grammar.specs.References.{is_function_type}
@@ -50,7 +51,7 @@ template-value false around allowed k t place cs w one =
 
 -- as the entity of a local name
 abbrev pub EntityReads : Role → Around → Option ℕ → Term → (place : ℕ) → List Candidate → Written → Type 0
-EntityReads in_type around allowed t place cs w = ReadsAt around allowed (OfKind 24) (Is (tree t false)) place cs w
+EntityReads in_type around allowed t place cs w = ReadsAt around allowed (OfKind TYPE_ENTITY) (Is (tree t false)) place cs w
 EntityReads (in_name_with q ref) around allowed t place cs w = NameReads around allowed 23 t q ref place cs w
 
 -- elements of a pack, or arguments
@@ -112,7 +113,7 @@ pub record ReadsAll (t : Term) (ways : ℕ → Ways) (fits : Fits) : Type 1 wher
   pub as_entity_template : Leads (λ n. (ways n).between_N_and_E) fits.as_entity_template (λ around allowed. OnePiece around allowed t)
   pub as_piece : Leads (λ n. (ways n).as_piece) fits.as_piece (λ around allowed. PieceReads around allowed t)
   pub as_encoding : Leads (λ n. (ways n).as_encoding) (λ around. fits.as_encoding)
-      (λ around allowed. ReadsAt around allowed (OfKind 4) (Is (tree t true)))
+      (λ around allowed. ReadsAt around allowed (OfKind ENCODING) (Is (tree t true)))
   pub as_name : (q : Qualifiers) (ref : RefQualifier) → Leads (λ n. (ways n).as_name (name_letters q ref)) (fits.as_name q ref)
       (λ around allowed. NameReads around allowed 8 t q ref)
   pub before : (typed : Bool) (k : ℕ) → TemplateKind typed k → (around : Around) (allowed : Option ℕ) (place : ℕ) (cs : List Candidate)
@@ -204,7 +205,7 @@ reads-argument t ways fitting one = record {
 }
 
 pub reads-encoding : (t : Term) (ways : ℕ → Ways) (standing : (allowed : Option ℕ) → Standing)
-    → Leads (λ n. (ways n).as_encoding) (λ around. standing) (λ around allowed. ReadsAt around allowed (OfKind 4) (Is (tree t true)))
+    → Leads (λ n. (ways n).as_encoding) (λ around. standing) (λ around allowed. ReadsAt around allowed (OfKind ENCODING) (Is (tree t true)))
     → ReadsAll t ways (encoding_fits standing)
 unfolding encoding_fits fits_nowhere
 reads-encoding t ways standing one = record {
@@ -234,12 +235,12 @@ pub typed-argument : (in_pack : Bool) (around : Around) (allowed : Option ℕ) (
     → ReadsAs item_type around allowed t place cs w → ArgumentReads in_pack around allowed t place cs w
 typed-argument true around allowed t place cs w one items last rest are two =
     type-element around allowed t items last place cs w rest are
-    (subst (λ q. ReadsAt around allowed (OfKind 30) (Is (tree t true)) q cs w) (omega arith) one)
-    (subst (λ q. ReadsAt around allowed (OfKind 45) (Is last) q w.components rest) (omega arith) two)
+    (subst (λ q. ReadsAt around allowed (OfKind ITEM) (Is (tree t true)) q cs w) (omega arith) one)
+    (subst (λ q. ReadsAt around allowed (OfKind PACK_LIST) (Is last) q w.components rest) (omega arith) two)
 typed-argument false around allowed t place cs w one items last rest are two =
     type-argument around allowed t items last place cs w rest are
-    (subst (λ q. ReadsAt around allowed (OfKind 30) (Is (tree t true)) q cs w) (omega arith) one)
-    (subst (λ q. ReadsAt around allowed (OfKind 44) (Is last) q w.components rest) (omega arith) two)
+    (subst (λ q. ReadsAt around allowed (OfKind ITEM) (Is (tree t true)) q cs w) (omega arith) one)
+    (subst (λ q. ReadsAt around allowed (OfKind ARGUMENT_LIST) (Is last) q w.components rest) (omega arith) two)
 
 -- a component before its arguments, of which only a reference stands there
 pub referred-before : (typed : Bool) (k : ℕ) (around : Around) (allowed : Option ℕ) (t : Term) → TemplateKind typed k → (place : ℕ)

@@ -3,6 +3,7 @@ use Rattle.std.proofs.Common.{◌≡◌, ℕ, ◌+◌, inl, length, List, [], �
 use Rattle.sym_shape.specs.declared.rule.Sym.TheVariants.{Kind as OfKind}
 use Rattle.sym_link.specs.Reading.{◌>>=◌}
 use Rattle.sym_spell.specs.Pressing.{◌and◌, text}
+use Rattle.cpp_grammar.specs.KindNumbers.{SYMBOL}
 use Rattle.std.specs.Prelude.{codes}
 use Rattle.cpp_grammar.specs.Term.{Term, symbol, function, object, special, thunk, guard, alone, in_std, within, instance, local, abbreviation, parameter, source, operator, literal_operator, constructor, destructor, lambda, unnamed, string_literal, builtin, vendor, pointer, lvalue, rvalue, array, member_pointer, function_type, qualified, vector, complex, expansion, integer, boolean, null_pointer, encoding_literal, address_of, pack, nil, list, absent}
 use Rattle.cpp_grammar.specs.Values as value
@@ -103,7 +104,7 @@ first-room w suffix room = record { short = omega (arith, room.short, length-app
 -- the whole symbol
 symbol-fits : CountsArguments → (e : Term) (suffix : List ℕ) → SymbolFits (symbol e suffix)
     → HasRoom ((text (codes "_Z") and (ways_of 0 e).as_encoding and text suffix) 0 [])
-    → ReadsAt first_around None (OfKind 0) (Is (tree (symbol e suffix) true)) 0 []
+    → ReadsAt first_around None (OfKind SYMBOL) (Is (tree (symbol e suffix) true)) 0 []
     ((text (codes "_Z") and (ways_of 0 e).as_encoding and text suffix) 0 [])
 unfolding first_around text_of
 symbol-fits counts e [] fits room =
@@ -114,7 +115,7 @@ symbol-fits counts e [] fits room =
 symbol-fits counts e (d ∷ []) fits room = absurd fits.1
 symbol-fits counts e (d ∷ b ∷ bs) fits room =
     let w : Written = (ways_of 0 e).as_encoding 2 [] in
-    subst (λ x. ReadsAt first_around None (OfKind 0) (Is (tree (symbol e (x ∷ b ∷ bs)) true)) 0 []
+    subst (λ x. ReadsAt first_around None (OfKind SYMBOL) (Is (tree (symbol e (x ∷ b ∷ bs)) true)) 0 []
     (written (95 ∷ 90 ∷ (w.bytes ++ (x ∷ b ∷ bs))) w.components)) (sym fits.1.0)
     (symbol-reads e (value.text (46 ∷ b ∷ bs)) 0 first_around None [] w (written (46 ∷ b ∷ bs) w.components)
     ((reads counts e).as_encoding first_around None 2 [] first-small (first-room w (d ∷ b ∷ bs) room) fits.0)

@@ -5,6 +5,7 @@ use Rattle.sym_shape.specs.declared.rule.Sym.TheVariants.{Kind as OfKind}
 use Rattle.sym_spell.specs.Pressing.{◌and◌, text}
 use Rattle.cpp_grammar.specs.declared.kind.Kind.{Kind}
 use Rattle.cpp_grammar.specs.declared.production.Production.{Production}
+use Rattle.cpp_grammar.specs.KindNumbers.{TYPE, PLAIN, ITEM, AFTER_D, SOLID, ITEMS, ARGUMENT_LIST, PACK_LIST}
 use Rattle.cpp_grammar.specs.Grammar.{in_ranges, among, is_in, pick, alternatives, choose, kinds, is_chain, may_be_empty}
 use Rattle.cpp_grammar.specs.Term.{RefQualifier, Term, builtin, function_type, nil, list, instance}
 use Rattle.cpp_grammar.specs.Values.{Candidate, Around, nothing_there, tree}
@@ -33,11 +34,11 @@ use Rattle.cpp_press_laws.proofs.Fits.Fit.{takes_all, Slot, any_type, bare_type,
 
 -- no parameters are spelled as a void
 void-item : (around : Around) (allowed : Option ℕ) (place : ℕ) (cs : List Candidate)
-    → ReadsAt around allowed (OfKind 30) (Is (tree (builtin (118 ∷ [])) true)) place cs (written (118 ∷ []) cs)
+    → ReadsAt around allowed (OfKind ITEM) (Is (tree (builtin (118 ∷ [])) true)) place cs (written (118 ∷ []) cs)
 unfolding choose alternatives pick is_in in_ranges among kinds is_chain is_function_type
 void-item around allowed place cs =
     (in-slot item_type around allowed (builtin (118 ∷ [])) refl).keeps place cs (written (118 ∷ []) cs)
-    (builtin-solid 34 around allowed 118 place cs (takes-byte 34 Kind.Solid Production.Builtin 118 refl refl (omega arith) refl))
+    (builtin-solid SOLID around allowed 118 place cs (takes-byte SOLID Kind.Solid Production.Builtin 118 refl refl (omega arith) refl))
 
 empty-list : (k : ℕ) (kind : Kind) (around : Around) (allowed : Option ℕ) (place : ℕ) (cs : List Candidate) → slice_get kinds k ≡ Some kind
     → may_be_empty kind ≡ true → ListReads k around allowed nil place cs (written [] cs)
@@ -69,9 +70,9 @@ reads-nil = record {
     split = refl;
     components = refl;
     reads_one = void-item around allowed place cs;
-    reads_rest = empty-reads around allowed 41 Kind.Items (place + 1) cs refl refl;
+    reads_rest = empty-reads around allowed ITEMS Kind.Items (place + 1) cs refl refl;
   };
-  as_more_items = λ around allowed place cs small room h. empty-list 41 Kind.Items around allowed place cs refl refl;
+  as_more_items = λ around allowed place cs small room h. empty-list ITEMS Kind.Items around allowed place cs refl refl;
   as_parameters = λ ref around allowed place cs small room h.
       (list (builtin (118 ∷ [])) nil, refl, none-read around allowed ref place cs);
   as_more_parameters = λ ref around allowed place cs small room h. end-reads around allowed ref place cs;
@@ -80,8 +81,8 @@ reads-nil = record {
   where
     none : (in_pack : Bool) (around : Around) (allowed : Option ℕ) (place : ℕ) (cs : List Candidate)
         → ListReads (list_kind in_pack) around allowed nil place cs (written [] cs)
-    none true around allowed place cs = empty-list 45 Kind.PackList around allowed place cs refl refl
-    none false around allowed place cs = empty-list 44 Kind.ArgumentList around allowed place cs refl refl
+    none true around allowed place cs = empty-list PACK_LIST Kind.PackList around allowed place cs refl refl
+    none false around allowed place cs = empty-list ARGUMENT_LIST Kind.ArgumentList around allowed place cs refl refl
 
 -- parameters that aren't a lone void are those
 kept-parameters : (first rest : Term) → is_void first && is_nil rest ≡ false → parameters (list first rest) ≡ list first rest
@@ -138,10 +139,10 @@ reads-list f r rf rr = record {
       (room-rest (ways_of n f).as_type (ways_of n r).as_more_parameters place cs room) h.1 in (
         items-kept (list f r),
         items-more around allowed f r (items_value r) place cs one rest m.0
-            (subst (λ q. ReadsAt around allowed (OfKind 30) (Is (tree f true)) q cs one) (omega arith)
+            (subst (λ q. ReadsAt around allowed (OfKind ITEM) (Is (tree f true)) q cs one) (omega arith)
             (rf.as_type item_type around allowed place cs small
             (room-first (ways_of n f).as_type (ways_of n r).as_more_parameters place cs (keeps r n).as_more_parameters room) h.0))
-            (subst (λ q. ReadsAt around allowed (OfKind 41) (Is (items_value r)) q one.components rest) (omega arith) m.1),
+            (subst (λ q. ReadsAt around allowed (OfKind ITEMS) (Is (items_value r)) q one.components rest) (omega arith) m.1),
       );
   as_parameters = λ ref around allowed place cs small room h.
       (list f r, kept-parameters f r h.0, rest-more ref around allowed place cs small room h.1);
@@ -201,7 +202,7 @@ record FunctionParts (around : Around) (allowed : Option ℕ) (ref : RefQualifie
     (one rest : Written) : Type 0 where
   items : Term
   means : parameters items ≡ ps
-  reads_one : ReadsAt around allowed (OfKind 28) (Is (tree a true)) at cs one
+  reads_one : ReadsAt around allowed (OfKind TYPE) (Is (tree a true)) at cs one
   reads_rest : RestReads around allowed items ref (at + length one.bytes) one.components (with_end ref rest)
 
 function-parts : (c_linkage noexcept : Bool) (ref : RefQualifier) (a ps : Term) → Reading a → Reading ps
@@ -234,10 +235,10 @@ function-parts c_linkage noexcept ref a ps ra rp around allowed place cs small r
 
 -- what is read behind no byte, or behind the D of a noexcept
 abbrev FunctionReads : (noexcept : Bool) → Around → Option ℕ → Term → ℕ → List Candidate → Written → Type 0
-FunctionReads false around allowed t place cs w = ReadsAt around allowed (OfKind 34) (Is (tree t false)) place cs w
+FunctionReads false around allowed t place cs w = ReadsAt around allowed (OfKind SOLID) (Is (tree t false)) place cs w
 FunctionReads true around allowed t place cs w =
     (inner : Written) × (w ≡ written (68 ∷ inner.bytes) inner.components)
-    × ReadsAt around allowed (OfKind 33) (Is (tree t false)) (place + 1) cs inner
+    × ReadsAt around allowed (OfKind AFTER_D) (Is (tree t false)) (place + 1) cs inner
 
 function-reads : (c_linkage noexcept : Bool) (ref : RefQualifier) (a ps : Term) → Reading a → Reading ps
     → (around : Around) (allowed : Option ℕ)
@@ -249,19 +250,19 @@ function-reads true false ref a ps ra rp around allowed place cs small room h =
     let p = function-parts true false ref a ps ra rp around allowed place cs small room h in
     let one : Written = (ways_of around.encoding a).as_type (place + 2) cs in
     let rest : Written = (ways_of around.encoding ps).as_parameters (place + 2 + length one.bytes) one.components in
-    subst (λ x. ReadsAt around allowed (OfKind 34) (Is (tree (function_type true false ref a x) false)) place cs
+    subst (λ x. ReadsAt around allowed (OfKind SOLID) (Is (tree (function_type true false ref a x) false)) place cs
     (function_spelling around.encoding true false ref a ps place cs)) p.means
     (function-solid around allowed true a p.items ref place cs one (with_end ref rest)
-    (subst (λ q. ReadsAt around allowed (OfKind 28) (Is (tree a true)) q cs one) (omega arith) p.reads_one)
+    (subst (λ q. ReadsAt around allowed (OfKind TYPE) (Is (tree a true)) q cs one) (omega arith) p.reads_one)
     (subst (λ q. RestReads around allowed p.items ref q one.components (with_end ref rest)) (omega arith) p.reads_rest))
 function-reads false false ref a ps ra rp around allowed place cs small room h =
     let p = function-parts false false ref a ps ra rp around allowed place cs small room h in
     let one : Written = (ways_of around.encoding a).as_type (place + 1) cs in
     let rest : Written = (ways_of around.encoding ps).as_parameters (place + 1 + length one.bytes) one.components in
-    subst (λ x. ReadsAt around allowed (OfKind 34) (Is (tree (function_type false false ref a x) false)) place cs
+    subst (λ x. ReadsAt around allowed (OfKind SOLID) (Is (tree (function_type false false ref a x) false)) place cs
     (function_spelling around.encoding false false ref a ps place cs)) p.means
     (function-solid around allowed false a p.items ref place cs one (with_end ref rest)
-    (subst (λ q. ReadsAt around allowed (OfKind 28) (Is (tree a true)) q cs one) (omega arith) p.reads_one)
+    (subst (λ q. ReadsAt around allowed (OfKind TYPE) (Is (tree a true)) q cs one) (omega arith) p.reads_one)
     (subst (λ q. RestReads around allowed p.items ref q one.components (with_end ref rest)) (omega arith) p.reads_rest))
 function-reads true true ref a ps ra rp around allowed place cs small room h =
     let p = function-parts true true ref a ps ra rp around allowed place cs small room h in
@@ -270,9 +271,9 @@ function-reads true true ref a ps ra rp around allowed place cs small room h =
     let inner : Written = written (111 ∷ 70 ∷ 89 ∷ (one.bytes ++ (with_end ref rest).bytes)) rest.components in (
       inner,
       refl,
-      subst (λ x. ReadsAt around allowed (OfKind 33) (Is (tree (function_type true true ref a x) false)) (place + 1) cs inner) p.means
+      subst (λ x. ReadsAt around allowed (OfKind AFTER_D) (Is (tree (function_type true true ref a x) false)) (place + 1) cs inner) p.means
           (noexcept-behind-d around allowed true a p.items ref (place + 1) cs one (with_end ref rest)
-          (subst (λ q. ReadsAt around allowed (OfKind 28) (Is (tree a true)) q cs one) (omega arith) p.reads_one)
+          (subst (λ q. ReadsAt around allowed (OfKind TYPE) (Is (tree a true)) q cs one) (omega arith) p.reads_one)
           (subst (λ q. RestReads around allowed p.items ref q one.components (with_end ref rest)) (omega arith) p.reads_rest)),
     )
 function-reads false true ref a ps ra rp around allowed place cs small room h =
@@ -282,9 +283,9 @@ function-reads false true ref a ps ra rp around allowed place cs small room h =
     let inner : Written = written (111 ∷ 70 ∷ (one.bytes ++ (with_end ref rest).bytes)) rest.components in (
       inner,
       refl,
-      subst (λ x. ReadsAt around allowed (OfKind 33) (Is (tree (function_type false true ref a x) false)) (place + 1) cs inner) p.means
+      subst (λ x. ReadsAt around allowed (OfKind AFTER_D) (Is (tree (function_type false true ref a x) false)) (place + 1) cs inner) p.means
           (noexcept-behind-d around allowed false a p.items ref (place + 1) cs one (with_end ref rest)
-          (subst (λ q. ReadsAt around allowed (OfKind 28) (Is (tree a true)) q cs one) (omega arith) p.reads_one)
+          (subst (λ q. ReadsAt around allowed (OfKind TYPE) (Is (tree a true)) q cs one) (omega arith) p.reads_one)
           (subst (λ q. RestReads around allowed p.items ref q one.components (with_end ref rest)) (omega arith) p.reads_rest)),
     )
 
@@ -301,12 +302,12 @@ function-in true slot around allowed t place cs w all bare (inner, is, one) =
 -- and right under qualifiers
 function-bare : (noexcept : Bool) (around : Around) (allowed : Option ℕ) (t : Term) (place : ℕ) (cs : List Candidate) (w : Written)
     → is_function_type t ≡ true → FunctionReads noexcept around allowed t place cs w
-    → ReadsAt around allowed (OfKind 29) (Is (tree t true)) place cs w
+    → ReadsAt around allowed (OfKind PLAIN) (Is (tree t true)) place cs w
 function-bare false around allowed t place cs w is one =
     function-under-qualifiers around allowed t place cs w is
-    (subst (λ q. ReadsAt around allowed (OfKind 34) (Is (tree t false)) q cs w) (omega arith) one)
+    (subst (λ q. ReadsAt around allowed (OfKind SOLID) (Is (tree t false)) q cs w) (omega arith) one)
 function-bare true around allowed t place cs w is (inner, same, one) =
-    subst (λ v. ReadsAt around allowed (OfKind 29) (Is (tree t true)) place cs v) (sym same)
+    subst (λ v. ReadsAt around allowed (OfKind PLAIN) (Is (tree t true)) place cs v) (sym same)
     (noexcept-under-qualifiers around allowed t place cs inner is one)
 
 pub reads-function-type : (c_linkage noexcept : Bool) (ref : RefQualifier) (a ps : Term) → Reading a → Reading ps

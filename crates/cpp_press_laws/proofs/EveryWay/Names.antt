@@ -6,6 +6,7 @@ use Rattle.sym_shape.specs.Tree.{TakesRule}
 use Rattle.sym_spell.specs.Pressing.{◌and◌, text}
 use Rattle.cpp_grammar.specs.declared.kind.Kind.{Kind}
 use Rattle.cpp_grammar.specs.declared.production.Production.{Production}
+use Rattle.cpp_grammar.specs.KindNumbers.{COMPLETE_NAME, NEST, ARGUMENT_LIST}
 use Rattle.cpp_grammar.specs.Grammar.{in_ranges, among, is_in, pick, alternatives, choose, kinds, is_chain}
 use Rattle.cpp_grammar.specs.Table.{abi, rule_of}
 use Rattle.cpp_grammar.specs.Term.{Qualifiers, RefQualifier, any_value, lvalue_only, rvalue_only, Term, alone, instance}
@@ -73,7 +74,7 @@ letters-nested k around allowed t q ref place cs w takes so_far =
       reads = subst (λ l. ReadsAt around allowed (OfKind k) (Is (named t q ref)) place cs (written (78 ∷ l) w.components))
           (letters-are q ref whole.bytes)
           (nested-name k around allowed t false q.restrict q.volatile q.const ref place cs whole takes
-          (subst (λ p. ReadsAt around allowed (OfKind 15) (Is (tree t false)) p cs whole) (there whole.bytes)
+          (subst (λ p. ReadsAt around allowed (OfKind NEST) (Is (tree t false)) p cs whole) (there whole.bytes)
           (nest-whole around allowed t at cs w so_far)));
     }
   where
@@ -135,7 +136,7 @@ no-qualifiers k around allowed t q ref place cs w none one =
 
 takes-nested-name : TakesRule abi 8 (rule_of Production.NestedName) (78 ∷ [])
 unfolding choose alternatives pick is_in in_ranges among kinds is_chain
-takes-nested-name = takes-byte 8 Kind.CompleteName Production.NestedName 78 refl refl (omega arith) refl
+takes-nested-name = takes-byte COMPLETE_NAME Kind.CompleteName Production.NestedName 78 refl refl (omega arith) refl
 
 -- the room of a name behind letters
 pub nested-room : (letters : List ℕ) (name : Spelling) (place : ℕ) (cs : List Candidate) → HasRoom (in_N_and_E letters name place cs)
@@ -192,7 +193,7 @@ unfolding ended
 elements-behind around allowed last arguments elements own w place at read room there fits =
     let from : ℕ = place + length w.bytes + 0 in
     let made : List Candidate = more around w.components own in
-    subst (λ q. ReadsAt (inside around) allowed (OfKind 44) (Is last) (q + 1) made (elements (from + 1) made)) (omega arith)
+    subst (λ q. ReadsAt (inside around) allowed (OfKind ARGUMENT_LIST) (Is last) (q + 1) made (elements (from + 1) made)) (omega arith)
     (read from made (subst (λ q. arguments around allowed q made) (omega (arith, there)) fits)
     (elements-room (ended around.encoding own) elements (place + length w.bytes) w.components room))
 

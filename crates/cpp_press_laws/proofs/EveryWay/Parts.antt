@@ -6,6 +6,7 @@ use Rattle.sym_shape.specs.declared.rule.Sym.TheVariants.{Kind as OfKind}
 use Rattle.sym_spell.specs.Pressing.{◌and◌, text}
 use Rattle.cpp_grammar.specs.declared.kind.Kind.{Kind}
 use Rattle.cpp_grammar.specs.declared.production.Production.{Production}
+use Rattle.cpp_grammar.specs.KindNumbers.{ENCODING, SOLID, ARGUMENT_LIST, PACK_LIST, ADDRESS, LITERAL, LITERAL_TYPE}
 use Rattle.cpp_grammar.specs.Grammar.{choose, kinds, is_chain}
 use Rattle.cpp_grammar.specs.Term.{Signed, Term, abbreviation, parameter, source, operator, literal_operator, constructor, destructor, lambda, unnamed, builtin, integer, boolean, null_pointer, encoding_literal, address_of, pack, list, instance}
 use Rattle.cpp_grammar.specs.Scope.{count}
@@ -98,25 +99,25 @@ builtin-in : (slot : Slot) (around : Around) (allowed : Option ℕ) (code : List
 unfolding takes_all is_function_type kinds is_chain
 builtin-in any_type around allowed (b ∷ []) place cs is =
     (in-slot any_type around allowed (builtin (b ∷ [])) refl).keeps place cs (written (b ∷ []) cs)
-    (builtin-solid 34 around allowed b place cs (takes-byte 34 Kind.Solid Production.Builtin b refl is.1 is.0 refl))
+    (builtin-solid SOLID around allowed b place cs (takes-byte SOLID Kind.Solid Production.Builtin b refl is.1 is.0 refl))
 builtin-in bare_type around allowed (b ∷ []) place cs is =
     (in-slot bare_type around allowed (builtin (b ∷ [])) refl).keeps place cs (written (b ∷ []) cs)
-    (builtin-solid 34 around allowed b place cs (takes-byte 34 Kind.Solid Production.Builtin b refl is.1 is.0 refl))
+    (builtin-solid SOLID around allowed b place cs (takes-byte SOLID Kind.Solid Production.Builtin b refl is.1 is.0 refl))
 builtin-in item_type around allowed (b ∷ []) place cs is =
     (in-slot item_type around allowed (builtin (b ∷ [])) refl).keeps place cs (written (b ∷ []) cs)
-    (builtin-solid 34 around allowed b place cs (takes-byte 34 Kind.Solid Production.Builtin b refl is.1 is.0 refl))
+    (builtin-solid SOLID around allowed b place cs (takes-byte SOLID Kind.Solid Production.Builtin b refl is.1 is.0 refl))
 builtin-in parameter_type around allowed (b ∷ []) place cs is =
     (in-slot parameter_type around allowed (builtin (b ∷ [])) refl).keeps place cs (written (b ∷ []) cs)
-    (builtin-solid 34 around allowed b place cs (takes-byte 34 Kind.Solid Production.Builtin b refl is.1 is.0 refl))
+    (builtin-solid SOLID around allowed b place cs (takes-byte SOLID Kind.Solid Production.Builtin b refl is.1 is.0 refl))
 builtin-in literal_type around allowed (b ∷ []) place cs is =
     (in-slot literal_type around allowed (builtin (b ∷ [])) refl).keeps place cs (written (b ∷ []) cs)
-    (builtin-solid 51 around allowed b place cs (takes-byte 51 Kind.LiteralType Production.Builtin b refl is.1 is.0 refl))
+    (builtin-solid LITERAL_TYPE around allowed b place cs (takes-byte LITERAL_TYPE Kind.LiteralType Production.Builtin b refl is.1 is.0 refl))
 builtin-in any_type around allowed (d ∷ b ∷ []) place cs is = with-d any_type around allowed d b place cs refl is
 builtin-in bare_type around allowed (d ∷ b ∷ []) place cs is = with-d bare_type around allowed d b place cs refl is
 builtin-in item_type around allowed (d ∷ b ∷ []) place cs is = with-d item_type around allowed d b place cs refl is
 builtin-in parameter_type around allowed (d ∷ b ∷ []) place cs is = with-d parameter_type around allowed d b place cs refl is
 builtin-in literal_type around allowed (d ∷ b ∷ []) place cs is = λ n good.
-    subst (λ x. ReadsAt around allowed (OfKind 47) (Is (tree (integer (builtin (x ∷ b ∷ [])) n) true)) place cs
+    subst (λ x. ReadsAt around allowed (OfKind LITERAL) (Is (tree (integer (builtin (x ∷ b ∷ [])) n) true)) place cs
     (written (x ∷ b ∷ signed_text n) cs)) (sym is.0)
     (char-literal around allowed b n place cs is.1 is.2 good (written (signed_text n) cs)
     (integer-reads around allowed n (place + 1 + 1) cs good))
@@ -295,18 +296,18 @@ reads-parameter j = record {
 
 -- a literal between L and E
 literal-in : (in_pack : Bool) (around : Around) (allowed : Option ℕ) (t : Term) (place : ℕ) (cs : List Candidate) (w : Written)
-    → ReadsAt around allowed (OfKind 47) (Is (tree t true)) (place + 1) cs w
+    → ReadsAt around allowed (OfKind LITERAL) (Is (tree t true)) (place + 1) cs w
     → ArgumentReads in_pack around allowed t place cs (written (76 ∷ (w.bytes ++ (69 ∷ []))) w.components)
 literal-in true around allowed t place cs w one items last rest are two =
-    same-written around allowed (OfKind 45) (Is (tree (list t items) true)) place cs rest.components (76 ∷ (w.bytes ++ (69 ∷ rest.bytes)))
+    same-written around allowed (OfKind PACK_LIST) (Is (tree (list t items) true)) place cs rest.components (76 ∷ (w.bytes ++ (69 ∷ rest.bytes)))
     (76 ∷ ((w.bytes ++ (69 ∷ [])) ++ rest.bytes)) (ap (λ l. 76 ∷ l) (sym (append_assoc w.bytes (69 ∷ []) rest.bytes)))
     (literal-element around allowed t items last place cs w rest are one
-    (subst (λ q. ReadsAt around allowed (OfKind 45) (Is last) q w.components rest) (omega (arith, length-append w.bytes (69 ∷ []))) two))
+    (subst (λ q. ReadsAt around allowed (OfKind PACK_LIST) (Is last) q w.components rest) (omega (arith, length-append w.bytes (69 ∷ []))) two))
 literal-in false around allowed t place cs w one items last rest are two =
-    same-written around allowed (OfKind 44) (Is (tree (list t items) true)) place cs rest.components (76 ∷ (w.bytes ++ (69 ∷ rest.bytes)))
+    same-written around allowed (OfKind ARGUMENT_LIST) (Is (tree (list t items) true)) place cs rest.components (76 ∷ (w.bytes ++ (69 ∷ rest.bytes)))
     (76 ∷ ((w.bytes ++ (69 ∷ [])) ++ rest.bytes)) (ap (λ l. 76 ∷ l) (sym (append_assoc w.bytes (69 ∷ []) rest.bytes)))
     (literal-argument around allowed t items last place cs w rest are one
-    (subst (λ q. ReadsAt around allowed (OfKind 44) (Is last) q w.components rest) (omega (arith, length-append w.bytes (69 ∷ []))) two))
+    (subst (λ q. ReadsAt around allowed (OfKind ARGUMENT_LIST) (Is last) q w.components rest) (omega (arith, length-append w.bytes (69 ∷ []))) two))
 
 pub reads-integer : (t : Term) (n : Signed) → Reading t → Reading (integer t n)
 unfolding ways_of fits_of argument_ways no_ways
@@ -347,22 +348,22 @@ reads-encoding-literal e r =
     let w : Written = (ways_of m e).as_encoding (place + 3) cs in
     literal-in in_pack around allowed (encoding_literal e) place cs (written (95 ∷ 90 ∷ w.bytes) w.components)
     (encoding-literal around allowed e (place + 1) cs w
-    (subst (λ q. ReadsAt around allowed (OfKind 4) (Is (tree e true)) q cs w) (omega arith)
+    (subst (λ q. ReadsAt around allowed (OfKind ENCODING) (Is (tree e true)) q cs w) (omega arith)
     (r.as_encoding around allowed (place + 3) cs small
     (room-first (ways_of m e).as_encoding (text (codes "E")) (place + 3) cs (keeps-text (codes "E"))
     (room-rest (text (codes "L_Z")) ((ways_of m e).as_encoding and text (codes "E")) place cs room)) h))))
 
 address-in : (in_pack : Bool) (around : Around) (allowed : Option ℕ) (t : Term) (place : ℕ) (cs : List Candidate) (w : Written)
-    → ReadsAt around allowed (OfKind 46) (Is (tree t true)) (place + 3) cs w
+    → ReadsAt around allowed (OfKind ADDRESS) (Is (tree t true)) (place + 3) cs w
     → ArgumentReads in_pack around allowed t place cs (written (88 ∷ 97 ∷ 100 ∷ w.bytes) w.components)
 address-in true around allowed t place cs w one items last rest are two =
     address-element around allowed t items last place cs w rest are
-    (subst (λ q. ReadsAt around allowed (OfKind 46) (Is (tree t true)) q cs w) (omega arith) one)
-    (subst (λ q. ReadsAt around allowed (OfKind 45) (Is last) q w.components rest) (omega arith) two)
+    (subst (λ q. ReadsAt around allowed (OfKind ADDRESS) (Is (tree t true)) q cs w) (omega arith) one)
+    (subst (λ q. ReadsAt around allowed (OfKind PACK_LIST) (Is last) q w.components rest) (omega arith) two)
 address-in false around allowed t place cs w one items last rest are two =
     address-argument around allowed t items last place cs w rest are
-    (subst (λ q. ReadsAt around allowed (OfKind 46) (Is (tree t true)) q cs w) (omega arith) one)
-    (subst (λ q. ReadsAt around allowed (OfKind 44) (Is last) q w.components rest) (omega arith) two)
+    (subst (λ q. ReadsAt around allowed (OfKind ADDRESS) (Is (tree t true)) q cs w) (omega arith) one)
+    (subst (λ q. ReadsAt around allowed (OfKind ARGUMENT_LIST) (Is last) q w.components rest) (omega arith) two)
 
 pub reads-address : (e : Term) → Reading e → Reading (address_of e)
 unfolding ways_of fits_of argument_ways no_ways
@@ -372,7 +373,7 @@ reads-address e r =
     let w : Written = (ways_of m e).as_encoding (place + 6) cs in
     address-in in_pack around allowed (address_of e) place cs (written (76 ∷ 95 ∷ 90 ∷ (w.bytes ++ (69 ∷ 69 ∷ []))) w.components)
     (address-reads around allowed e (place + 3) cs w
-    (subst (λ q. ReadsAt around allowed (OfKind 4) (Is (tree e true)) q cs w) (omega arith)
+    (subst (λ q. ReadsAt around allowed (OfKind ENCODING) (Is (tree e true)) q cs w) (omega arith)
     (r.as_encoding around allowed (place + 6) cs small
     (room-first (ways_of m e).as_encoding (text (codes "EE")) (place + 6) cs (keeps-text (codes "EE"))
     (room-rest (text (codes "XadL_Z")) ((ways_of m e).as_encoding and text (codes "EE")) place cs room)) h))))
@@ -394,8 +395,8 @@ reads-pack a r = reads-argument (pack a) _ _ go
         let one = r.as_elements true around allowed (place + 1) cs small
         (room-first (ways_of m a).as_elements (text (codes "E")) (place + 1) cs (keeps-text (codes "E"))
         (room-rest (text (codes "J")) ((ways_of m a).as_elements and text (codes "E")) place cs room)) h.1 in
-        same-written around allowed (OfKind 44) (Is (tree (list (pack a) items) true)) place cs rest.components
+        same-written around allowed (OfKind ARGUMENT_LIST) (Is (tree (list (pack a) items) true)) place cs rest.components
         (74 ∷ (w.bytes ++ (69 ∷ rest.bytes))) (74 ∷ ((w.bytes ++ (69 ∷ [])) ++ rest.bytes))
         (ap (λ l. 74 ∷ l) (sym (append_assoc w.bytes (69 ∷ []) rest.bytes)))
         (pack-argument around allowed a items (items_value a) last place cs w rest one.0 are one.1
-        (subst (λ q. ReadsAt around allowed (OfKind 44) (Is last) q w.components rest) (omega (arith, length-append w.bytes (69 ∷ []))) two))
+        (subst (λ q. ReadsAt around allowed (OfKind ARGUMENT_LIST) (Is last) q w.components rest) (omega (arith, length-append w.bytes (69 ∷ []))) two))

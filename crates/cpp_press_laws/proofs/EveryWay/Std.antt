@@ -5,6 +5,7 @@ use Rattle.sym_shape.specs.declared.rule.Sym.TheVariants.{Kind as OfKind}
 use Rattle.sym_spell.specs.Pressing.{◌and◌, text}
 use Rattle.cpp_grammar.specs.declared.kind.Kind.{Kind}
 use Rattle.cpp_grammar.specs.declared.production.Production.{Production}
+use Rattle.cpp_grammar.specs.KindNumbers.{COMPLETE_NAME, ENTITY, TYPE_ENTITY}
 use Rattle.cpp_grammar.specs.Grammar.{in_ranges, among, is_in, pick, alternatives, choose, kinds, is_chain}
 use Rattle.cpp_grammar.specs.Term.{any_value, Term, in_std, instance, operator, literal_operator, source, lambda, unnamed}
 use Rattle.cpp_grammar.specs.Values.{Candidate, Around, Value, tree, unqualified}
@@ -35,11 +36,11 @@ pub entity-nested : (role : Role) (around : Around) (allowed : Option ℕ) (t : 
     → EntityReads role around allowed t place cs (in_N_and_E (letters_of role) between place cs)
 unfolding letters_of in_N_and_E choose alternatives pick is_in in_ranges among kinds is_chain
 entity-nested in_type around allowed t place cs between so_far =
-    whole-nested 24 around allowed t place cs (between (place + 1) cs)
-    (takes-byte 24 Kind.TypeEntity Production.NestedType 78 refl refl (omega arith) refl) so_far
+    whole-nested TYPE_ENTITY around allowed t place cs (between (place + 1) cs)
+    (takes-byte TYPE_ENTITY Kind.TypeEntity Production.NestedType 78 refl refl (omega arith) refl) so_far
 entity-nested (in_name_with q ref) around allowed t place cs between so_far =
     letters-nested 23 around allowed t q ref place cs (between (place + length (codes "N" ++ name_letters q ref)) cs)
-    (takes-byte 23 Kind.Entity Production.NestedName 78 refl refl (omega arith) refl) so_far
+    (takes-byte ENTITY Kind.Entity Production.NestedName 78 refl refl (omega arith) refl) so_far
 
 no-letters-at-all : name_letters unqualified any_value ≡ []
 unfolding name_letters qualifier_letters mark_letter
@@ -56,7 +57,7 @@ template-nested false k around allowed t eight place cs w so_far =
     (subst (λ ls. NameReads around allowed 8 t unqualified any_value place cs (written ((78 ∷ ls) ++ (w.bytes ++ (69 ∷ []))) w.components))
     no-letters-at-all
     (letters-nested 8 around allowed t unqualified any_value place cs w
-    (takes-byte 8 Kind.CompleteName Production.NestedName 78 refl refl (omega arith) refl)
+    (takes-byte COMPLETE_NAME Kind.CompleteName Production.NestedName 78 refl refl (omega arith) refl)
     (subst (λ ls. SoFar around allowed t false 18 (place + length (78 ∷ ls)) cs w) (sym no-letters-at-all) so_far)))
 
 -- ## Behind St
@@ -206,7 +207,7 @@ reads-in-std p r = record {
       name-by-letters around allowed (in_std p) q ref place cs (std_spelling around.encoding p) (std_spelling around.encoding p)
       (std_fits p) (std_fits p)
       room h
-      (λ fits enough. template-value false around allowed 8 (in_std p) place cs _
+      (λ fits enough. template-value false around allowed COMPLETE_NAME (in_std p) place cs _
       (std-named p r around allowed place cs small enough fits).bare)
       (λ at fits enough. (std-nested p r around allowed at cs small enough fits).bare);
   before = λ typed k kind around allowed place cs arguments elements items last are read kept small room h.

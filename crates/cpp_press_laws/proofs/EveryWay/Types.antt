@@ -6,6 +6,7 @@ use Rattle.sym_shape.specs.Tree.{TakesRule}
 use Rattle.sym_spell.specs.Pressing.{◌and◌, text}
 use Rattle.cpp_grammar.specs.declared.kind.Kind.{Kind}
 use Rattle.cpp_grammar.specs.declared.production.Production.{Production}
+use Rattle.cpp_grammar.specs.KindNumbers.{TYPE, PLAIN, ITEM, ITEM_BUT_REF, ITEM_AFTER_D, AFTER_D, SOLID}
 use Rattle.cpp_grammar.specs.Grammar.{in_ranges, among, is_in, pick, number_of_kind, alternatives, choose, kinds, parts_of, is_chain}
 use Rattle.cpp_grammar.specs.Table.{abi, rule_of}
 use Rattle.cpp_grammar.specs.Term.{Qualifiers, Term, vendor, pointer, lvalue, rvalue, array, member_pointer, qualified, vector, complex, expansion}
@@ -37,7 +38,7 @@ no-slot h = cc
 -- a solid type
 pub solid-in-all : (slot : Slot) (around : Around) (allowed : Option ℕ) (t : Term) (place : ℕ) (cs : List Candidate) (w : Written)
     → takes_all slot ≡ true → is_function_type t && is_bare slot ≡ false
-    → ReadsAt around allowed (OfKind 34) (Is (tree t false)) place cs w
+    → ReadsAt around allowed (OfKind SOLID) (Is (tree t false)) place cs w
     → ReadsAs slot around allowed t place cs (written w.bytes (more around w.components t))
 unfolding takes_all
 solid-in-all any_type around allowed t place cs w all bare one = (in-slot any_type around allowed t bare).adds place cs w one
@@ -49,7 +50,7 @@ solid-in-all literal_type around allowed t place cs w all bare one = absurd (no-
 -- what stands behind a D
 pub with-d-in-all : (slot : Slot) (around : Around) (allowed : Option ℕ) (t : Term) (place : ℕ) (cs : List Candidate) (w : Written)
     → takes_all slot ≡ true → is_function_type t && is_bare slot ≡ false
-    → ReadsAt around allowed (OfKind 33) (Is (tree t false)) (place + 1) cs w
+    → ReadsAt around allowed (OfKind AFTER_D) (Is (tree t false)) (place + 1) cs w
     → ReadsAs slot around allowed t place cs (written (68 ∷ w.bytes) (more around w.components t))
 unfolding takes_all is_bare
 with-d-in-all any_type around allowed t place cs w all bare one = (types-28 around allowed t).with_d.adds place cs w one
@@ -68,7 +69,7 @@ with-d-in-all literal_type around allowed t place cs w all bare one = absurd (no
 -- and builtin types behind a D
 pub with-d-kept : (slot : Slot) (around : Around) (allowed : Option ℕ) (t : Term) (place : ℕ) (cs : List Candidate) (w : Written)
     → takes_all slot ≡ true → is_function_type t ≡ false
-    → ReadsAt around allowed (OfKind 33) (Is (tree t true)) (place + 1) cs w
+    → ReadsAt around allowed (OfKind AFTER_D) (Is (tree t true)) (place + 1) cs w
     → ReadsAs slot around allowed t place cs (written (68 ∷ w.bytes) w.components)
 unfolding takes_all
 with-d-kept any_type around allowed t place cs w all other one = (types-28 around allowed t).with_d.keeps place cs w one
@@ -81,16 +82,16 @@ with-d-kept literal_type around allowed t place cs w all other one = absurd (no-
 -- an expansion
 expansion-in : (slot : Slot) (around : Around) (allowed : Option ℕ) (t : Term) (place : ℕ) (cs : List Candidate) (w : Written)
     → takes_expansions slot ≡ true
-    → ReadsAt around allowed (OfKind 32) (Is (tree t false)) (place + 1) cs w
+    → ReadsAt around allowed (OfKind ITEM_AFTER_D) (Is (tree t false)) (place + 1) cs w
     → ReadsAs slot around allowed t place cs (written (68 ∷ w.bytes) (more around w.components t))
 unfolding takes_expansions choose alternatives pick is_in in_ranges among kinds is_chain parts_of number_of_kind between opening close unfolding_.behind meaning listed_value with_type tree_of is_listed part
 expansion-in item_type around allowed t place cs w all one =
-    (wraps Production.ItemWithD around allowed 30 32 (68 ∷ []) t (takes-byte 30 Kind.Item Production.ItemWithD 68 refl refl
+    (wraps Production.ItemWithD around allowed ITEM ITEM_AFTER_D (68 ∷ []) t (takes-byte ITEM Kind.Item Production.ItemWithD 68 refl refl
     (omega arith) refl) refl
     (λ place s. refl) (λ place f s. refl) (λ place began s. refl) (λ place began s. refl)).adds place cs w one
 expansion-in parameter_type around allowed t place cs w all one =
     in-rest around allowed t place cs (written (68 ∷ w.bytes) (more around w.components t))
-    ((wraps Production.ItemWithD around allowed 31 32 (68 ∷ []) t (takes-byte 31 Kind.ItemButRef Production.ItemWithD 68 refl refl
+    ((wraps Production.ItemWithD around allowed ITEM_BUT_REF ITEM_AFTER_D (68 ∷ []) t (takes-byte ITEM_BUT_REF Kind.ItemButRef Production.ItemWithD 68 refl refl
     (omega arith)
     refl) refl
     (λ place s. refl) (λ place f s. refl) (λ place began s. refl) (λ place began s. refl)).adds place cs w one)
@@ -101,35 +102,35 @@ expansion-in literal_type around allowed t place cs w all one = absurd (no-slot 
 -- references; as a parameter of a function type each becomes a component before those behind it
 lvalue-in : (slot : Slot) (around : Around) (allowed : Option ℕ) (t : Term) (place : ℕ) (cs : List Candidate) (w : Written)
     → takes_all slot ≡ true
-    → ReadsAt around allowed (OfKind 28) (Is (tree t true)) (place + 1) cs w
+    → ReadsAt around allowed (OfKind TYPE) (Is (tree t true)) (place + 1) cs w
     → ReadsAs slot around allowed (lvalue t) place cs (written (82 ∷ w.bytes) (more around w.components (lvalue t)))
 unfolding takes_all choose alternatives pick is_in in_ranges among kinds is_chain
 lvalue-in any_type around allowed t place cs w all one =
-    lvalue-reads around allowed 28 t place cs w (takes-byte 28 Kind.Type Production.ReferenceType 82 refl refl (omega arith) refl) one
+    lvalue-reads around allowed TYPE t place cs w (takes-byte TYPE Kind.Type Production.ReferenceType 82 refl refl (omega arith) refl) one
 lvalue-in bare_type around allowed t place cs w all one =
-    lvalue-reads around allowed 29 t place cs w (takes-byte 29 Kind.Plain Production.ReferenceType 82 refl refl (omega arith) refl) one
+    lvalue-reads around allowed PLAIN t place cs w (takes-byte PLAIN Kind.Plain Production.ReferenceType 82 refl refl (omega arith) refl) one
 lvalue-in item_type around allowed t place cs w all one =
-    lvalue-reads around allowed 30 t place cs w (takes-byte 30 Kind.Item Production.ReferenceType 82 refl refl (omega arith) refl) one
+    lvalue-reads around allowed ITEM t place cs w (takes-byte ITEM Kind.Item Production.ReferenceType 82 refl refl (omega arith) refl) one
 lvalue-in parameter_type around allowed t place cs w all one = λ items ref rest two.
     rest-lvalue around allowed t items ref place cs w rest
-    (subst (λ q. ReadsAt around allowed (OfKind 28) (Is (tree t true)) q cs w) (omega arith) one)
+    (subst (λ q. ReadsAt around allowed (OfKind TYPE) (Is (tree t true)) q cs w) (omega arith) one)
     (subst (λ q. RestReads around allowed items ref q (more around w.components (lvalue t)) rest) (omega arith) two)
 lvalue-in literal_type around allowed t place cs w all one = absurd (no-slot all)
 
 rvalue-in : (slot : Slot) (around : Around) (allowed : Option ℕ) (t : Term) (place : ℕ) (cs : List Candidate) (w : Written)
     → takes_all slot ≡ true
-    → ReadsAt around allowed (OfKind 28) (Is (tree t true)) (place + 1) cs w
+    → ReadsAt around allowed (OfKind TYPE) (Is (tree t true)) (place + 1) cs w
     → ReadsAs slot around allowed (rvalue t) place cs (written (79 ∷ w.bytes) (more around w.components (rvalue t)))
 unfolding takes_all choose alternatives pick is_in in_ranges among kinds is_chain
 rvalue-in any_type around allowed t place cs w all one =
-    rvalue-reads around allowed 28 t place cs w (takes-byte 28 Kind.Type Production.ReferenceType 79 refl refl (omega arith) refl) one
+    rvalue-reads around allowed TYPE t place cs w (takes-byte TYPE Kind.Type Production.ReferenceType 79 refl refl (omega arith) refl) one
 rvalue-in bare_type around allowed t place cs w all one =
-    rvalue-reads around allowed 29 t place cs w (takes-byte 29 Kind.Plain Production.ReferenceType 79 refl refl (omega arith) refl) one
+    rvalue-reads around allowed PLAIN t place cs w (takes-byte PLAIN Kind.Plain Production.ReferenceType 79 refl refl (omega arith) refl) one
 rvalue-in item_type around allowed t place cs w all one =
-    rvalue-reads around allowed 30 t place cs w (takes-byte 30 Kind.Item Production.ReferenceType 79 refl refl (omega arith) refl) one
+    rvalue-reads around allowed ITEM t place cs w (takes-byte ITEM Kind.Item Production.ReferenceType 79 refl refl (omega arith) refl) one
 rvalue-in parameter_type around allowed t place cs w all one = λ items ref rest two.
     rest-rvalue around allowed t items ref place cs w rest
-    (subst (λ q. ReadsAt around allowed (OfKind 28) (Is (tree t true)) q cs w) (omega arith) one)
+    (subst (λ q. ReadsAt around allowed (OfKind TYPE) (Is (tree t true)) q cs w) (omega arith) one)
     (subst (λ q. RestReads around allowed items ref q (more around w.components (rvalue t)) rest) (omega arith) two)
 rvalue-in literal_type around allowed t place cs w all one = absurd (no-slot all)
 
@@ -144,25 +145,25 @@ record QualifiedRules (k : ℕ) : Type 0 where
 rules-28 : QualifiedRules 28
 unfolding choose alternatives pick is_in in_ranges among kinds is_chain
 rules-28 = record {
-  restrict = takes-byte 28 Kind.Type Production.RestrictType 114 refl refl (omega arith) refl;
-  volatile = takes-byte 28 Kind.Type Production.VolatileType 86 refl refl (omega arith) refl;
-  const = takes-byte 28 Kind.Type Production.ConstType 75 refl refl (omega arith) refl;
+  restrict = takes-byte TYPE Kind.Type Production.RestrictType 114 refl refl (omega arith) refl;
+  volatile = takes-byte TYPE Kind.Type Production.VolatileType 86 refl refl (omega arith) refl;
+  const = takes-byte TYPE Kind.Type Production.ConstType 75 refl refl (omega arith) refl;
 }
 
 rules-30 : QualifiedRules 30
 unfolding choose alternatives pick is_in in_ranges among kinds is_chain
 rules-30 = record {
-  restrict = takes-byte 30 Kind.Item Production.RestrictType 114 refl refl (omega arith) refl;
-  volatile = takes-byte 30 Kind.Item Production.VolatileType 86 refl refl (omega arith) refl;
-  const = takes-byte 30 Kind.Item Production.ConstType 75 refl refl (omega arith) refl;
+  restrict = takes-byte ITEM Kind.Item Production.RestrictType 114 refl refl (omega arith) refl;
+  volatile = takes-byte ITEM Kind.Item Production.VolatileType 86 refl refl (omega arith) refl;
+  const = takes-byte ITEM Kind.Item Production.ConstType 75 refl refl (omega arith) refl;
 }
 
 rules-31 : QualifiedRules 31
 unfolding choose alternatives pick is_in in_ranges among kinds is_chain
 rules-31 = record {
-  restrict = takes-byte 31 Kind.ItemButRef Production.RestrictType 114 refl refl (omega arith) refl;
-  volatile = takes-byte 31 Kind.ItemButRef Production.VolatileType 86 refl refl (omega arith) refl;
-  const = takes-byte 31 Kind.ItemButRef Production.ConstType 75 refl refl (omega arith) refl;
+  restrict = takes-byte ITEM_BUT_REF Kind.ItemButRef Production.RestrictType 114 refl refl (omega arith) refl;
+  volatile = takes-byte ITEM_BUT_REF Kind.ItemButRef Production.VolatileType 86 refl refl (omega arith) refl;
+  const = takes-byte ITEM_BUT_REF Kind.ItemButRef Production.ConstType 75 refl refl (omega arith) refl;
 }
 
 abbrev letters_for : (restrict volatile const : Bool) → List ℕ
@@ -171,37 +172,37 @@ letters_for restrict volatile const = qualifier_letters (record { restrict = res
 -- what is read right under the letters
 qualified-at : (k : ℕ) (around : Around) (allowed : Option ℕ) (restrict volatile const : Bool) (t : Term) (place : ℕ) (cs : List Candidate)
     (w : Written) → QualifiedRules k → restrict || volatile || const ≡ true
-    → ReadsAt around allowed (OfKind 29) (Is (tree t true)) (place + length (letters_for restrict volatile const)) cs w
+    → ReadsAt around allowed (OfKind PLAIN) (Is (tree t true)) (place + length (letters_for restrict volatile const)) cs w
     → ReadsAt around allowed (OfKind k) (Is (tree (qualified_with restrict volatile const t) true)) place cs
     (written (letters_for restrict volatile const ++ w.bytes) (more around w.components (qualified_with restrict volatile const t)))
 unfolding qualifier_letters
 qualified-at k around allowed true true true t place cs w rules some one =
     restrict-reads around allowed k true true t place cs w rules.restrict
-    (subst (λ q. ReadsAt around allowed (OfKind 29) (Is (tree t true)) q cs w) (omega arith) one)
+    (subst (λ q. ReadsAt around allowed (OfKind PLAIN) (Is (tree t true)) q cs w) (omega arith) one)
 qualified-at k around allowed true true false t place cs w rules some one =
     restrict-reads around allowed k true false t place cs w rules.restrict
-    (subst (λ q. ReadsAt around allowed (OfKind 29) (Is (tree t true)) q cs w) (omega arith) one)
+    (subst (λ q. ReadsAt around allowed (OfKind PLAIN) (Is (tree t true)) q cs w) (omega arith) one)
 qualified-at k around allowed true false true t place cs w rules some one =
     restrict-reads around allowed k false true t place cs w rules.restrict
-    (subst (λ q. ReadsAt around allowed (OfKind 29) (Is (tree t true)) q cs w) (omega arith) one)
+    (subst (λ q. ReadsAt around allowed (OfKind PLAIN) (Is (tree t true)) q cs w) (omega arith) one)
 qualified-at k around allowed true false false t place cs w rules some one =
     restrict-reads around allowed k false false t place cs w rules.restrict
-    (subst (λ q. ReadsAt around allowed (OfKind 29) (Is (tree t true)) q cs w) (omega arith) one)
+    (subst (λ q. ReadsAt around allowed (OfKind PLAIN) (Is (tree t true)) q cs w) (omega arith) one)
 qualified-at k around allowed false true true t place cs w rules some one =
     volatile-reads around allowed k true t place cs w rules.volatile
-    (subst (λ q. ReadsAt around allowed (OfKind 29) (Is (tree t true)) q cs w) (omega arith) one)
+    (subst (λ q. ReadsAt around allowed (OfKind PLAIN) (Is (tree t true)) q cs w) (omega arith) one)
 qualified-at k around allowed false true false t place cs w rules some one =
     volatile-reads around allowed k false t place cs w rules.volatile
-    (subst (λ q. ReadsAt around allowed (OfKind 29) (Is (tree t true)) q cs w) (omega arith) one)
+    (subst (λ q. ReadsAt around allowed (OfKind PLAIN) (Is (tree t true)) q cs w) (omega arith) one)
 qualified-at k around allowed false false true t place cs w rules some one =
     const-reads around allowed k t place cs w rules.const
-    (subst (λ q. ReadsAt around allowed (OfKind 29) (Is (tree t true)) q cs w) (omega arith) one)
+    (subst (λ q. ReadsAt around allowed (OfKind PLAIN) (Is (tree t true)) q cs w) (omega arith) one)
 qualified-at k around allowed false false false t place cs w rules some one = absurd (no-slot some)
 
 qualified-in : (slot : Slot) (around : Around) (allowed : Option ℕ) (restrict volatile const : Bool) (t : Term) (place : ℕ)
     (cs : List Candidate)
     (w : Written) → takes_qualified slot ≡ true → restrict || volatile || const ≡ true
-    → ReadsAt around allowed (OfKind 29) (Is (tree t true)) (place + length (letters_for restrict volatile const)) cs w
+    → ReadsAt around allowed (OfKind PLAIN) (Is (tree t true)) (place + length (letters_for restrict volatile const)) cs w
     → ReadsAs slot around allowed (qualified_with restrict volatile const t) place cs
     (written (letters_for restrict volatile const ++ w.bytes) (more around w.components (qualified_with restrict volatile const t)))
 unfolding takes_qualified
@@ -281,7 +282,7 @@ reads-array digits t r =
     let x : Written = (ways_of around.encoding t).as_type (place + length front) cs in
     solid-in-all slot around allowed (array digits t) place cs (written (65 ∷ ((digits ++ 95 ∷ []) ++ x.bytes)) x.components) h.0 refl
     (array-solid around allowed digits t place cs x h.1
-    (subst (λ q. ReadsAt around allowed (OfKind 28) (Is (tree t true)) q cs x) (omega arith)
+    (subst (λ q. ReadsAt around allowed (OfKind TYPE) (Is (tree t true)) q cs x) (omega arith)
     (r.as_type any_type around allowed (place + length front) cs small (room-rest (text front)
     (ways_of around.encoding t).as_type place cs room)
     h.2))))
@@ -298,7 +299,7 @@ reads-vector digits t r =
     (ap (λ l. 68 ∷ 118 ∷ l) (ap (λ l. l ++ (95 ∷ x.bytes)) (append-nil digits) ∙ sym (append_assoc digits (95 ∷ []) x.bytes)))
     (with-d-in-all slot around allowed (vector digits t) place cs (written (118 ∷ ((digits ++ []) ++ (95 ∷ x.bytes))) x.components) h.0 refl
     (vector-behind-d around allowed digits t (place + 1) cs x h.1
-    (subst (λ q. ReadsAt around allowed (OfKind 28) (Is (tree t true)) q cs x)
+    (subst (λ q. ReadsAt around allowed (OfKind TYPE) (Is (tree t true)) q cs x)
     (omega (arith, length-append digits (95 ∷ []), length-append digits []))
     (r.as_type any_type around allowed (place + length front) cs small (room-rest (text front)
     (ways_of around.encoding t).as_type place cs room)
@@ -313,7 +314,7 @@ reads-expansion t r =
     let x : Written = (ways_of around.encoding t).as_type (place + 2) cs in
     expansion-in slot around allowed (expansion t) place cs (written (112 ∷ x.bytes) x.components) h.0
     (expansion-reads around allowed h.1.0 t (place + 1) cs x
-    (subst (λ q. ReadsAt (under_expansion around) h.1.0 (OfKind 28) (Is (tree t true)) q cs x) (omega arith)
+    (subst (λ q. ReadsAt (under_expansion around) h.1.0 (OfKind TYPE) (Is (tree t true)) q cs x) (omega arith)
     (r.as_type any_type (under_expansion around) h.1.0 (place + 2) cs small
     (room-rest (text (codes "Dp")) (ways_of around.encoding t).as_type place cs room) h.1.1))))
 

@@ -4,6 +4,7 @@ use Rattle.std.specs.Prelude.{codes}
 use Rattle.sym_spell.specs.Pressing.{◌and◌, text, nothing}
 use Rattle.cpp_grammar.specs.declared.kind.Kind.{Kind}
 use Rattle.cpp_grammar.specs.declared.production.Production.{Production}
+use Rattle.cpp_grammar.specs.KindNumbers.{COMPLETE_NAME, ENTITY}
 use Rattle.cpp_grammar.specs.Grammar.{in_ranges, among, is_in, pick, alternatives, choose, kinds, is_chain}
 use Rattle.cpp_grammar.specs.Term.{Qualifiers, function, object, special, thunk, guard, within, string_literal, RefQualifier, any_value, Term, instance}
 use Rattle.cpp_grammar.specs.Values.{Candidate, behind, Around, tree, tree_of, qualifiers_of, ref_of, unqualified}
@@ -144,7 +145,7 @@ local-in-name x p rp around allowed place cs small room h = go (entity-piece p h
     go : (begins_name p ≡ true) ⊎ (p ≡ string_literal)
         → NameReads around allowed 23 (within x p) unqualified any_value place cs (joined_spelling around.encoding x p place cs)
     go (inl begins) =
-        template-value false around allowed 23 (within x p) place cs _
+        template-value false around allowed ENTITY (within x p) place cs _
         (local-named x p (names_entity p) rp 23 (entity-rule p begins) around allowed place cs small room h).bare
     go (inr is) =
         subst (λ y. NameReads around allowed 23 (within x y) unqualified any_value place cs
@@ -220,7 +221,7 @@ name-nested around allowed t q ref place cs between so_far room = go (name_lette
         let w : Written = between (place + length (78 ∷ ls)) cs in
         subst (λ x. NameReads around allowed 8 t q ref place cs (written ((78 ∷ x) ++ (w.bytes ++ (69 ∷ []))) w.components)) are
         (letters-nested 8 around allowed t q ref place cs w
-        (takes-byte 8 Kind.CompleteName Production.NestedName 78 refl refl (omega arith) refl)
+        (takes-byte COMPLETE_NAME Kind.CompleteName Production.NestedName 78 refl refl (omega arith) refl)
         (subst (λ x. SoFar around allowed t false 18 (place + length (78 ∷ x)) cs w) (sym are)
         (so_far (place + length (78 ∷ ls)) (ap (λ x. place + length (78 ∷ x)) (sym are)) enough)))
 

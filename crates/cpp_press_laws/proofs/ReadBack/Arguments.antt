@@ -8,6 +8,7 @@ use Rattle.sym_shape.specs.Tree.{Forest, TakesRule}
 use Rattle.sym_link.specs.Unfold.{found}
 use Rattle.cpp_grammar.specs.declared.kind.Kind.{Kind}
 use Rattle.cpp_grammar.specs.declared.production.Production.{Production}
+use Rattle.cpp_grammar.specs.KindNumbers.{INTEGER, TYPE, ITEM, ITEM_AFTER_D, ITEMS, ARGUMENT_LIST, PACK_LIST}
 use Rattle.cpp_grammar.specs.Grammar.{in_ranges, among, is_in, pick, number_of_kind, alternatives, choose, kinds, parts_of, is_chain}
 use Rattle.cpp_grammar.specs.Table.{abi, rule_of}
 use Rattle.cpp_grammar.specs.Term.{Signed, Term, expansion, nil, list}
@@ -48,35 +49,35 @@ list-reads p k inner around allowed t items last place cs first rest takes parts
 -- items of an encoding's parameters and of a lambda's, arguments that are types, elements of a pack that are types
 pub items-more : (around : Around) (allowed : Option ℕ) (t items : Term) (last : Value) (place : ℕ) (cs : List Candidate) (first rest : Written)
     → no_items last ≡ items
-    → ReadsAt around allowed (OfKind 30) (Is (tree t true)) (place + 0) cs first
-    → ReadsAt around allowed (OfKind 41) (Is last) (place + 0 + length first.bytes) first.components rest
-    → ReadsAt around allowed (OfKind 41) (Is (tree (list t items) true)) place cs (written (first.bytes ++ rest.bytes) rest.components)
+    → ReadsAt around allowed (OfKind ITEM) (Is (tree t true)) (place + 0) cs first
+    → ReadsAt around allowed (OfKind ITEMS) (Is last) (place + 0 + length first.bytes) first.components rest
+    → ReadsAt around allowed (OfKind ITEMS) (Is (tree (list t items) true)) place cs (written (first.bytes ++ rest.bytes) rest.components)
 unfolding choose alternatives pick is_in in_ranges among kinds is_chain parts_of number_of_kind between opening close unfolding_.behind meaning tree_of part
 items-more around allowed t items last place cs first rest are one two =
     list-reads Production.Items 41 30 around allowed t items last place cs first rest
-    (takes-none 41 Kind.Items Production.Items 80 refl refl (omega arith) refl) refl (λ known s. refl) (λ f s. refl)
+    (takes-none ITEMS Kind.Items Production.Items 80 refl refl (omega arith) refl) refl (λ known s. refl) (λ f s. refl)
     (λ began s. ap (λ l. Ok (found (tree (list t l) true) s)) are) one two
 
 pub type-argument : (around : Around) (allowed : Option ℕ) (t items : Term) (last : Value) (place : ℕ) (cs : List Candidate)
     (first rest : Written) → no_items last ≡ items
-    → ReadsAt around allowed (OfKind 30) (Is (tree t true)) (place + 0) cs first
-    → ReadsAt around allowed (OfKind 44) (Is last) (place + 0 + length first.bytes) first.components rest
-    → ReadsAt around allowed (OfKind 44) (Is (tree (list t items) true)) place cs (written (first.bytes ++ rest.bytes) rest.components)
+    → ReadsAt around allowed (OfKind ITEM) (Is (tree t true)) (place + 0) cs first
+    → ReadsAt around allowed (OfKind ARGUMENT_LIST) (Is last) (place + 0 + length first.bytes) first.components rest
+    → ReadsAt around allowed (OfKind ARGUMENT_LIST) (Is (tree (list t items) true)) place cs (written (first.bytes ++ rest.bytes) rest.components)
 unfolding choose alternatives pick is_in in_ranges among kinds is_chain parts_of number_of_kind between opening close unfolding_.behind meaning tree_of part
 type-argument around allowed t items last place cs first rest are one two =
     list-reads Production.TypeArgument 44 30 around allowed t items last place cs first rest
-    (takes-none 44 Kind.ArgumentList Production.TypeArgument 80 refl refl (omega arith) refl) refl (λ known s. refl) (λ f s. refl)
+    (takes-none ARGUMENT_LIST Kind.ArgumentList Production.TypeArgument 80 refl refl (omega arith) refl) refl (λ known s. refl) (λ f s. refl)
     (λ began s. ap (λ l. Ok (found (tree (list t l) true) s)) are) one two
 
 pub type-element : (around : Around) (allowed : Option ℕ) (t items : Term) (last : Value) (place : ℕ) (cs : List Candidate)
     (first rest : Written) → no_items last ≡ items
-    → ReadsAt around allowed (OfKind 30) (Is (tree t true)) (place + 0) cs first
-    → ReadsAt around allowed (OfKind 45) (Is last) (place + 0 + length first.bytes) first.components rest
-    → ReadsAt around allowed (OfKind 45) (Is (tree (list t items) true)) place cs (written (first.bytes ++ rest.bytes) rest.components)
+    → ReadsAt around allowed (OfKind ITEM) (Is (tree t true)) (place + 0) cs first
+    → ReadsAt around allowed (OfKind PACK_LIST) (Is last) (place + 0 + length first.bytes) first.components rest
+    → ReadsAt around allowed (OfKind PACK_LIST) (Is (tree (list t items) true)) place cs (written (first.bytes ++ rest.bytes) rest.components)
 unfolding choose alternatives pick is_in in_ranges among kinds is_chain parts_of number_of_kind between opening close unfolding_.behind meaning tree_of part
 type-element around allowed t items last place cs first rest are one two =
     list-reads Production.TypeElement 45 30 around allowed t items last place cs first rest
-    (takes-none 45 Kind.PackList Production.TypeElement 80 refl refl (omega arith) refl) refl (λ known s. refl) (λ f s. refl)
+    (takes-none PACK_LIST Kind.PackList Production.TypeElement 80 refl refl (omega arith) refl) refl (λ known s. refl) (λ f s. refl)
     (λ began s. ap (λ l. Ok (found (tree (list t l) true) s)) are) one two
 
 -- ## Arguments in I and E
@@ -86,14 +87,14 @@ pub arguments-read : (around : Around) (allowed : Option ℕ) (k : ℕ) (items :
     (cs middle : List Candidate) (w : Written)
     → TakesRule abi k (rule_of Production.Arguments) (73 ∷ []) → no_items last ≡ items
     → PassesAt Production.Arguments around allowed place [] cs (inside around) allowed [] middle
-    → ReadsAt (inside around) allowed (OfKind 44) (Is last) (place + 1) middle w
+    → ReadsAt (inside around) allowed (OfKind ARGUMENT_LIST) (Is last) (place + 1) middle w
     → ReadsAt around allowed (OfKind k) (Is (tree items true)) place cs (written (73 ∷ (w.bytes ++ (69 ∷ []))) w.components)
 unfolding parts_of number_of_kind between opening close unfolding_.behind meaning part
 arguments-read around allowed k items last place cs middle w takes are passes one =
-    whole-same Production.Arguments k (73 ∷ []) around allowed place (last ∷ nothing_there ∷ []) (tree items true) cs (OfKind 44 ∷ Byte 69 ∷ [])
+    whole-same Production.Arguments k (73 ∷ []) around allowed place (last ∷ nothing_there ∷ []) (tree items true) cs (OfKind ARGUMENT_LIST ∷ Byte 69 ∷ [])
     (written (w.bytes ++ (69 ∷ [])) w.components) takes refl
     (λ f s. refl) (λ began s. ap (λ l. Ok (found (tree l true) s)) are)
-    (row-part Production.Arguments (73 ∷ []) around (inside around) allowed allowed place (OfKind 44) (Byte 69 ∷ []) [] [] (Is last)
+    (row-part Production.Arguments (73 ∷ []) around (inside around) allowed allowed place (OfKind ARGUMENT_LIST) (Byte 69 ∷ []) [] [] (Is last)
     (AreOnly (last ∷ nothing_there ∷ [])) (place + 1) cs middle w (written (69 ∷ []) w.components)
     passes one (λ packs h. h)
     (λ v h. subst (λ x. RowAt Production.Arguments (73 ∷ []) around allowed place (Byte 69 ∷ []) (x ∷ []) (AreOnly (last ∷ nothing_there ∷ []))
@@ -106,14 +107,14 @@ arguments-read around allowed k items last place cs middle w takes are passes on
 
 -- What stands under an expansion names packs of one length, whichever they may have around it.
 pub expansion-reads : (around : Around) (allowed inner : Option ℕ) (t : Term) (place : ℕ) (cs : List Candidate) (w : Written)
-    → ReadsAt (under_expansion around) inner (OfKind 28) (Is (tree t true)) (place + 1) cs w
-    → ReadsAt around allowed (OfKind 32) (Is (tree (expansion t) false)) place cs (written (112 ∷ w.bytes) w.components)
+    → ReadsAt (under_expansion around) inner (OfKind TYPE) (Is (tree t true)) (place + 1) cs w
+    → ReadsAt around allowed (OfKind ITEM_AFTER_D) (Is (tree (expansion t) false)) place cs (written (112 ∷ w.bytes) w.components)
 unfolding choose alternatives pick is_in in_ranges among kinds is_chain parts_of number_of_kind between opening close unfolding_.behind meaning tree_of part
 expansion-reads around allowed inner t place cs w one =
     production-reads Production.Expansion 32 (112 ∷ []) around allowed inner place (AreOnly (tree t true ∷ [])) (Is (tree (expansion t) false))
-    cs w.components (OfKind 28 ∷ []) w
-    (takes-byte 32 Kind.ItemAfterD Production.Expansion 112 refl refl (omega arith) refl) refl
-    (row-last Production.Expansion (112 ∷ []) around (under_expansion around) allowed inner place (OfKind 28) [] [] (Is (tree t true))
+    cs w.components (OfKind TYPE ∷ []) w
+    (takes-byte ITEM_AFTER_D Kind.ItemAfterD Production.Expansion 112 refl refl (omega arith) refl) refl
+    (row-last Production.Expansion (112 ∷ []) around (under_expansion around) allowed inner place (OfKind TYPE) [] [] (Is (tree t true))
     (AreOnly (tree t true ∷ [])) (place + 1) cs cs w
     (λ s same packs. record { state = record s { packs = None }; goes = refl; candidates = same; packs = inl refl }) one (λ v h. ap (λ x. x ∷ []) h))
     (λ f s. refl)
@@ -143,26 +144,26 @@ signed-kept true digits same none = rw (same, none refl) refl
 signed-kept false digits same none = rw same refl
 
 pub integer-reads : (around : Around) (allowed : Option ℕ) (n : Signed) (place : ℕ) (cs : List Candidate) → IsSpellableNumber n
-    → ReadsAt around allowed (OfKind 7) (Is (signed n)) place cs (written (signed_text n) cs)
+    → ReadsAt around allowed (OfKind INTEGER) (Is (signed n)) place cs (written (signed_text n) cs)
 unfolding choose alternatives pick is_in in_ranges among kinds is_chain parts_of between opening close unfolding_.behind meaning text_of part signed_text
 integer-reads around allowed n place cs good = go n.negative n.digits good.digits good.minus
   where
     go : (negative : Bool) (digits : List ℕ) → AreSpellableDigits Digits digits → (negative ≡ true → is_zero digits ≡ false)
-        → ReadsAt around allowed (OfKind 7) (Is (signed (record { negative = negative; digits = digits }))) place cs
+        → ReadsAt around allowed (OfKind INTEGER) (Is (signed (record { negative = negative; digits = digits }))) place cs
         (written (cond negative (codes "n") [] ++ digits) cs)
     go true digits are minus =
-        same-written around allowed (OfKind 7) (Is (signed (record { negative = true; digits = digits }))) place cs cs (110 ∷ (digits ++ []))
+        same-written around allowed (OfKind INTEGER) (Is (signed (record { negative = true; digits = digits }))) place cs cs (110 ∷ (digits ++ []))
         (110 ∷ digits) (ap (λ l. 110 ∷ l) (append-nil digits))
         (one-part Production.Negative 7 (110 ∷ []) around allowed place (Number Digits) (value.text digits)
         (signed (record { negative = true; digits = digits })) cs (written (digits ++ []) cs)
-        (takes-byte 7 Kind.Integer Production.Negative 110 refl refl (omega arith) refl) refl (λ s. refl) (λ f s. refl)
+        (takes-byte INTEGER Kind.Integer Production.Negative 110 refl refl (omega arith) refl) refl (λ s. refl) (λ f s. refl)
         (λ began s. ap (λ v. Ok (found (signed v) s)) (signed-kept true digits are.normal_are minus))
         (number-reads around allowed Digits (digits_token digits) (place + 1) cs (record { bare = refl; digits = are.are; ends = refl })))
     go false digits are minus =
-        same-written around allowed (OfKind 7) (Is (signed (record { negative = false; digits = digits }))) place cs cs (digits ++ []) digits
+        same-written around allowed (OfKind INTEGER) (Is (signed (record { negative = false; digits = digits }))) place cs cs (digits ++ []) digits
         (append-nil digits)
         (one-part Production.Positive 7 [] around allowed place (Number Digits) (value.text digits)
         (signed (record { negative = false; digits = digits })) cs (written (digits ++ []) cs)
-        (takes-none 7 Kind.Integer Production.Positive 48 refl refl (omega arith) refl) refl (λ s. refl) (λ f s. refl)
+        (takes-none INTEGER Kind.Integer Production.Positive 48 refl refl (omega arith) refl) refl (λ s. refl) (λ f s. refl)
         (λ began s. ap (λ v. Ok (found (signed v) s)) (signed-kept false digits are.normal_are minus))
         (number-reads around allowed Digits (digits_token digits) (place + 0) cs (record { bare = refl; digits = are.are; ends = refl })))

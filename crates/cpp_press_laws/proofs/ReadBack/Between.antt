@@ -3,6 +3,7 @@ use Rattle.std.proofs.Common.{◌≡◌, ℕ, ◌+◌, length, List, [], ◌∷�
 use Rattle.sym_shape.specs.declared.rule.Sym.TheVariants.{Kind as OfKind}
 use Rattle.sym_shape.specs.Tree.{TakesRule}
 use Rattle.cpp_grammar.specs.declared.production.Production.{Production}
+use Rattle.cpp_grammar.specs.KindNumbers.{COMPLETE_NAME, UNQUALIFIED, NEST_REST, NEST_TAIL, ABBREVIATION, TYPE_AFTER_S, SOURCE_OR_LOCAL, ARGUMENT_LIST}
 use Rattle.cpp_grammar.specs.Table.{abi, rule_of}
 use Rattle.cpp_grammar.specs.Term.{Term, in_std, within, instance, parameter}
 use Rattle.cpp_grammar.specs.Values.{Candidate, Around, Value, nothing_there, tree, piece, tree_of, is_there}
@@ -25,7 +26,7 @@ in_I_and_E bytes = 73 ∷ (bytes ++ (69 ∷ []))
 
 -- elements behind a template name that has become a component
 abbrev pub ElementsRead : Around → Option ℕ → (last : Value) → (place : ℕ) → List Candidate → Written → Type 0
-ElementsRead around allowed last place cs args = ReadsAt (inside around) allowed (OfKind 44) (Is last) (place + 1) cs args
+ElementsRead around allowed last place cs args = ReadsAt (inside around) allowed (OfKind ARGUMENT_LIST) (Is last) (place + 1) cs args
 
 -- ## Names with arguments and without
 
@@ -55,40 +56,40 @@ named-piece around allowed k p t place cs w one rule is = record {
 
 -- a piece behind St, as an encoding's own name
 pub named-std : (around : Around) (allowed : Option ℕ) (p : Term) (place : ℕ) (cs : List Candidate) (w : Written)
-    → ReadsAt around allowed (OfKind 14) (Is (piece p)) (place + 2) cs w
+    → ReadsAt around allowed (OfKind UNQUALIFIED) (Is (piece p)) (place + 2) cs w
     → Named around allowed 8 (in_std p) place cs (written (83 ∷ 116 ∷ w.bytes) w.components)
 unfolding applied is_there tree_of
 named-std around allowed p place cs w one =
-    let first : ReadsAt around allowed (OfKind 14) (Is (piece p)) (place + 1 + 1) cs w =
-    subst (λ q. ReadsAt around allowed (OfKind 14) (Is (piece p)) q cs w) (omega arith) one in
+    let first : ReadsAt around allowed (OfKind UNQUALIFIED) (Is (piece p)) (place + 1 + 1) cs w =
+    subst (λ q. ReadsAt around allowed (OfKind UNQUALIFIED) (Is (piece p)) q cs w) (omega arith) one in
     record {
-      bare = same-written around allowed (OfKind 8) (Is (tree (in_std p) false)) place cs w.components (83 ∷ 116 ∷ (w.bytes ++ []))
+      bare = same-written around allowed (OfKind COMPLETE_NAME) (Is (tree (in_std p) false)) place cs w.components (83 ∷ 116 ∷ (w.bytes ++ []))
           (83 ∷ 116 ∷ w.bytes) (ap (λ l. 83 ∷ 116 ∷ l) (append-nil w.bytes))
           (std-name around allowed p nothing_there place cs w (written [] w.components) first
           (no-arguments (after (in_std p) false around) allowed (place + 1 + 1 + length w.bytes) w.components));
       instanced = λ items last args are two.
           std-name around allowed p (tree items true) place cs w (written (in_I_and_E args.bytes) args.components) first
           (some-arguments around allowed (in_std p) items last (place + 1 + 1 + length w.bytes) w.components args are
-          (subst (λ q. ReadsAt (inside around) allowed (OfKind 44) (Is last) q (more around w.components (in_std p)) args)
+          (subst (λ q. ReadsAt (inside around) allowed (OfKind ARGUMENT_LIST) (Is last) q (more around w.components (in_std p)) args)
           (omega arith) two));
     }
 
 -- and as a type
 pub named-std-type : (k : ℕ) (around : Around) (allowed : Option ℕ) (p : Term) (place : ℕ) (cs : List Candidate) (w : Written)
     → TakesRule abi k (rule_of Production.TypeWithS) (83 ∷ [])
-    → ReadsAt around allowed (OfKind 37) (Is (piece p)) (place + 2) cs w
+    → ReadsAt around allowed (OfKind SOURCE_OR_LOCAL) (Is (piece p)) (place + 2) cs w
     → Named around allowed k (in_std p) place cs (written (83 ∷ 116 ∷ w.bytes) w.components)
 named-std-type k around allowed p place cs w takes one =
-    let first : ReadsAt around allowed (OfKind 36) (Is (tree (in_std p) false)) (place + 1) cs (written (116 ∷ w.bytes) w.components) =
+    let first : ReadsAt around allowed (OfKind TYPE_AFTER_S) (Is (tree (in_std p) false)) (place + 1) cs (written (116 ∷ w.bytes) w.components) =
     std-type around allowed p (place + 1) cs w
-    (subst (λ q. ReadsAt around allowed (OfKind 37) (Is (piece p)) q cs w) (omega arith) one) in
+    (subst (λ q. ReadsAt around allowed (OfKind SOURCE_OR_LOCAL) (Is (piece p)) q cs w) (omega arith) one) in
     record {
       bare = solid-with-s k around allowed place (in_std p) false cs (written (116 ∷ w.bytes) w.components) takes first;
       instanced = λ items last args are two.
           type-with-arguments k around allowed (in_std p) items false place cs (written (116 ∷ w.bytes) w.components)
           (written (in_I_and_E args.bytes) args.components) takes first
           (some-arguments around allowed (in_std p) items last (place + 1 + length (116 ∷ w.bytes)) w.components args are
-          (subst (λ q. ReadsAt (inside around) allowed (OfKind 44) (Is last) q (more around w.components (in_std p)) args)
+          (subst (λ q. ReadsAt (inside around) allowed (OfKind ARGUMENT_LIST) (Is last) q (more around w.components (in_std p)) args)
           (omega arith) two));
     }
 
@@ -107,12 +108,12 @@ pub record Nested (around : Around) (allowed : Option ℕ) (t : Term) (place : �
 
 -- a piece behind St
 pub nested-std : (around : Around) (allowed : Option ℕ) (p : Term) (place : ℕ) (cs : List Candidate) (w : Written)
-    → ReadsAt around allowed (OfKind 14) (Is (piece p)) (place + 2) cs w
+    → ReadsAt around allowed (OfKind UNQUALIFIED) (Is (piece p)) (place + 2) cs w
     → Nested around allowed (in_std p) place cs (written (83 ∷ 116 ∷ w.bytes) w.components)
 unfolding applied is_there tree_of
 nested-std around allowed p place cs w one =
-    let first : ReadsAt around allowed (OfKind 14) (Is (piece p)) (place + 1 + 1) cs w =
-    subst (λ q. ReadsAt around allowed (OfKind 14) (Is (piece p)) q cs w) (omega arith) one in
+    let first : ReadsAt around allowed (OfKind UNQUALIFIED) (Is (piece p)) (place + 1 + 1) cs w =
+    subst (λ q. ReadsAt around allowed (OfKind UNQUALIFIED) (Is (piece p)) q cs w) (omega arith) one in
     record {
       bare = subst (λ l. SoFar around allowed (in_std p) false 18 place cs (written (83 ∷ 116 ∷ l) w.components)) (append-nil w.bytes)
           (nest-std around allowed p nothing_there place cs w (written [] w.components) first
@@ -120,7 +121,7 @@ nested-std around allowed p place cs w one =
       instanced = λ items last args are two.
           nest-std around allowed p (tree items true) place cs w (written (in_I_and_E args.bytes) args.components) first
           (some-arguments around allowed (in_std p) items last (place + 1 + 1 + length w.bytes) w.components args are
-          (subst (λ q. ReadsAt (inside around) allowed (OfKind 44) (Is last) q (more around w.components (in_std p)) args)
+          (subst (λ q. ReadsAt (inside around) allowed (OfKind ARGUMENT_LIST) (Is last) q (more around w.components (in_std p)) args)
           (omega arith) two));
     }
 
@@ -138,7 +139,7 @@ nested-within around allowed x p place cs w one prefix name = record {
       (so-far-within around allowed x (instance (within x p) items) place cs w (written (one.bytes ++ in_I_and_E args.bytes) args.components)
       prefix
       (name.instanced items last args are
-      (subst (λ q. ReadsAt (inside around) allowed (OfKind 44) (Is last) q (more around one.components (within x p)) args)
+      (subst (λ q. ReadsAt (inside around) allowed (OfKind ARGUMENT_LIST) (Is last) q (more around one.components (within x p)) args)
       (omega (arith, length-append w.bytes one.bytes)) two)));
 }
 
@@ -162,24 +163,24 @@ ExtendsWith around allowed t place cs w =
 
 -- what begins with an S
 pub extends-with-behind-s : (around : Around) (allowed : Option ℕ) (t : Term) (place : ℕ) (cs : List Candidate) (w : Written)
-    → ReadsAt around allowed (OfKind 22) (Is (tree t true)) (place + 1) cs w
+    → ReadsAt around allowed (OfKind ABBREVIATION) (Is (tree t true)) (place + 1) cs w
     → ExtendsWith around allowed t place cs (written (83 ∷ w.bytes) w.components)
 extends-with-behind-s around allowed t place cs w one items last args are two =
     nest-arguments around allowed t items true last place cs (written (83 ∷ w.bytes) w.components) args are
     (nest-behind-s around allowed t place cs w
-    (subst (λ q. ReadsAt around allowed (OfKind 22) (Is (tree t true)) q cs w) (omega arith) one)) two
+    (subst (λ q. ReadsAt around allowed (OfKind ABBREVIATION) (Is (tree t true)) q cs w) (omega arith) one)) two
 
 pub prefix-behind-s : (around : Around) (allowed : Option ℕ) (t : Term) (place : ℕ) (cs : List Candidate) (w : Written)
-    → ReadsAt around allowed (OfKind 22) (Is (tree t true)) (place + 1) cs w
+    → ReadsAt around allowed (OfKind ABBREVIATION) (Is (tree t true)) (place + 1) cs w
     → Extends around allowed t place cs (written (83 ∷ w.bytes) w.components)
 prefix-behind-s around allowed t place cs w one =
-    extends-behind-s around allowed t place cs w (subst (λ q. ReadsAt around allowed (OfKind 22) (Is (tree t true)) q cs w) (omega arith) one)
+    extends-behind-s around allowed t place cs w (subst (λ q. ReadsAt around allowed (OfKind ABBREVIATION) (Is (tree t true)) q cs w) (omega arith) one)
 
 -- a parameter
 pub prefix-parameter : (around : Around) (allowed : Option ℕ) (k place : ℕ) (cs : List Candidate) → IsInScope around allowed k
     → Extends around allowed (parameter k) place cs (written (84 ∷ ordinal k) (more around cs (parameter k)))
 prefix-parameter around allowed k place cs scoped =
-    extends-same 17 around allowed (parameter k) place cs (written (84 ∷ ordinal k) (more around cs (parameter k))) next-17
+    extends-same NEST_REST around allowed (parameter k) place cs (written (84 ∷ ordinal k) (more around cs (parameter k))) next-17
     (nest-parameter around allowed k place cs scoped)
 
 pub prefix-with-parameter : (around : Around) (allowed : Option ℕ) (k place : ℕ) (cs : List Candidate) → IsInScope around allowed k
@@ -194,7 +195,7 @@ pub prefix-piece : (around : Around) (allowed : Option ℕ) (p t : Term) (place 
     → Extends around allowed t place cs (written w.bytes (more around w.components t))
 prefix-piece around allowed p t place cs w so_far is =
     subst (λ x. Extends around allowed x place cs (written w.bytes (more around w.components x))) is
-    (extends-more 17 around allowed (extended around.prefix p) place cs w next-17 so_far)
+    (extends-more NEST_REST around allowed (extended around.prefix p) place cs w next-17 so_far)
 
 pub prefix-with-piece : (around : Around) (allowed : Option ℕ) (p t : Term) (place : ℕ) (cs : List Candidate) (w : Written)
     → SoFar around allowed (extended around.prefix p) false 17 place cs w → extended around.prefix p ≡ t
@@ -206,10 +207,10 @@ prefix-with-piece around allowed p t place cs w so_far is =
 -- what stands between N and E becomes a component
 pub prefix-nested : (around : Around) (allowed : Option ℕ) (t : Term) (place : ℕ) (cs : List Candidate) (w : Written)
     → SoFar around allowed t false 18 place cs w → Extends around allowed t place cs (written w.bytes (more around w.components t))
-prefix-nested around allowed t place cs w so_far = extends-more 18 around allowed t place cs w next-18 so_far
+prefix-nested around allowed t place cs w so_far = extends-more NEST_TAIL around allowed t place cs w next-18 so_far
 
 pub prefix-with-nested : (around : Around) (allowed : Option ℕ) (t : Term) (place : ℕ) (cs : List Candidate) (w : Written)
     → SoFarWith around allowed t place cs w → ExtendsWith around allowed t place cs (written w.bytes (more around w.components t))
 prefix-with-nested around allowed t place cs w so_far items last args are two =
-    extends-more 18 around allowed (instance t items) place cs (written (w.bytes ++ in_I_and_E args.bytes) args.components) next-18
+    extends-more NEST_TAIL around allowed (instance t items) place cs (written (w.bytes ++ in_I_and_E args.bytes) args.components) next-18
     (so_far items last args are two)

@@ -5,6 +5,7 @@ use Rattle.sym_shape.specs.Tree.{TakesRule}
 use Rattle.sym_link.specs.Unfold.{found}
 use Rattle.cpp_grammar.specs.declared.kind.Kind.{Kind}
 use Rattle.cpp_grammar.specs.declared.production.Production.{Production}
+use Rattle.cpp_grammar.specs.KindNumbers.{COMPLETE_NAME, MAYBE_RESTRICT, MAYBE_VOLATILE, MAYBE_CONST, MAYBE_REF, NAME_AFTER_S, UNQUALIFIED, NEST, ABBREVIATION, TYPE_AFTER_S, SOURCE_OR_LOCAL, MAYBE_ARGUMENTS, ARGUMENTS, ARGUMENT_LIST}
 use Rattle.cpp_grammar.specs.Grammar.{in_ranges, among, is_in, pick, number_of_kind, alternatives, choose, kinds, parts_of, is_chain, may_be_empty}
 use Rattle.cpp_grammar.specs.Table.{abi, rule_of}
 use Rattle.cpp_grammar.specs.Term.{RefQualifier, any_value, lvalue_only, rvalue_only, Term, in_std, instance}
@@ -25,23 +26,23 @@ use Rattle.cpp_press_laws.proofs.ReadBack.Names.{name-with}
 
 -- a piece in std
 pub std-name : (around : Around) (allowed : Option ℕ) (p : Term) (last : Value) (place : ℕ) (cs : List Candidate) (first args : Written)
-    → ReadsAt around allowed (OfKind 14) (Is (piece p)) (place + 1 + 1) cs first
-    → ReadsAt (after (in_std p) false around) allowed (OfKind 42) (Is last) (place + 1 + 1 + length first.bytes) first.components args
-    → ReadsAt around allowed (OfKind 8) (Is (tree (applied (in_std p) last) false)) place cs
+    → ReadsAt around allowed (OfKind UNQUALIFIED) (Is (piece p)) (place + 1 + 1) cs first
+    → ReadsAt (after (in_std p) false around) allowed (OfKind MAYBE_ARGUMENTS) (Is last) (place + 1 + 1 + length first.bytes) first.components args
+    → ReadsAt around allowed (OfKind COMPLETE_NAME) (Is (tree (applied (in_std p) last) false)) place cs
     (written (83 ∷ 116 ∷ (first.bytes ++ args.bytes)) args.components)
 unfolding choose alternatives pick is_in in_ranges among kinds is_chain parts_of number_of_kind between opening close unfolding_.behind meaning named_so_far tree_of piece_of part
 std-name around allowed p last place cs first args one two =
-    one-part Production.NameWithS 8 (83 ∷ []) around allowed place (OfKind 13) (tree (applied (in_std p) last) false)
+    one-part Production.NameWithS 8 (83 ∷ []) around allowed place (OfKind NAME_AFTER_S) (tree (applied (in_std p) last) false)
     (tree (applied (in_std p) last) false) cs (written (116 ∷ (first.bytes ++ args.bytes)) args.components)
-    (takes-byte 8 Kind.CompleteName Production.NameWithS 83 refl refl (omega arith) refl) refl (λ s. refl) (λ f s. refl) (λ began s. refl)
-    (name-with Production.StdName 13 (116 ∷ []) around allowed (place + 1) (OfKind 14) (piece p) (in_std p) last cs first args
-    (takes-byte 13 Kind.NameAfterS Production.StdName 116 refl refl (omega arith) refl) refl (λ s. refl) (λ s. refl) (λ f s. refl)
+    (takes-byte COMPLETE_NAME Kind.CompleteName Production.NameWithS 83 refl refl (omega arith) refl) refl (λ s. refl) (λ f s. refl) (λ began s. refl)
+    (name-with Production.StdName 13 (116 ∷ []) around allowed (place + 1) (OfKind UNQUALIFIED) (piece p) (in_std p) last cs first args
+    (takes-byte NAME_AFTER_S Kind.NameAfterS Production.StdName 116 refl refl (omega arith) refl) refl (λ s. refl) (λ s. refl) (λ f s. refl)
     (λ began s. refl) one two)
 
 -- arguments of a name that is a component already, or never is one
 pub listed-arguments : (k : ℕ) (around : Around) (allowed : Option ℕ) (t items : Term) (last : Value) (place : ℕ) (cs : List Candidate)
     (w : Written) → TakesRule abi k (rule_of Production.Arguments) (73 ∷ []) → no_items last ≡ items
-    → ReadsAt (inside around) allowed (OfKind 44) (Is last) (place + 1) cs w
+    → ReadsAt (inside around) allowed (OfKind ARGUMENT_LIST) (Is last) (place + 1) cs w
     → ReadsAt (after t true around) allowed (OfKind k) (Is (tree items true)) place cs (written (73 ∷ (w.bytes ++ (69 ∷ []))) w.components)
 unfolding between with_prefix after inside value.prefix_listed
 listed-arguments k around allowed t items last place cs w takes are one =
@@ -50,20 +51,20 @@ listed-arguments k around allowed t items last place cs w takes are one =
 
 -- an abbreviation or a reference, and its arguments
 pub abbreviated-name : (around : Around) (allowed : Option ℕ) (t items : Term) (place : ℕ) (cs : List Candidate) (first args : Written)
-    → ReadsAt around allowed (OfKind 22) (Is (tree t true)) (place + 1 + 0) cs first
-    → ReadsAt (after t true around) allowed (OfKind 43) (Is (tree items true)) (place + 1 + 0 + length first.bytes) first.components args
-    → ReadsAt around allowed (OfKind 8) (Is (tree (instance t items) false)) place cs (written (83 ∷ (first.bytes ++ args.bytes)) args.components)
+    → ReadsAt around allowed (OfKind ABBREVIATION) (Is (tree t true)) (place + 1 + 0) cs first
+    → ReadsAt (after t true around) allowed (OfKind ARGUMENTS) (Is (tree items true)) (place + 1 + 0 + length first.bytes) first.components args
+    → ReadsAt around allowed (OfKind COMPLETE_NAME) (Is (tree (instance t items) false)) place cs (written (83 ∷ (first.bytes ++ args.bytes)) args.components)
 unfolding choose alternatives pick is_in in_ranges among kinds is_chain parts_of number_of_kind between opening close unfolding_.behind meaning listed_so_far applied is_there tree_of part
 abbreviated-name around allowed t items place cs first args one two =
-    one-part Production.NameWithS 8 (83 ∷ []) around allowed place (OfKind 13) (tree (instance t items) false) (tree (instance t items) false) cs
+    one-part Production.NameWithS 8 (83 ∷ []) around allowed place (OfKind NAME_AFTER_S) (tree (instance t items) false) (tree (instance t items) false) cs
     (written (first.bytes ++ args.bytes) args.components)
-    (takes-byte 8 Kind.CompleteName Production.NameWithS 83 refl refl (omega arith) refl) refl (λ s. refl) (λ f s. refl) (λ began s. refl)
+    (takes-byte COMPLETE_NAME Kind.CompleteName Production.NameWithS 83 refl refl (omega arith) refl) refl (λ s. refl) (λ f s. refl) (λ began s. refl)
     (whole-same Production.AbbreviatedName 13 [] around allowed (place + 1) (tree t true ∷ tree items true ∷ []) (tree (instance t items) false)
-    cs (OfKind 22 ∷ OfKind 43 ∷ []) (written (first.bytes ++ args.bytes) args.components)
-    (takes-none 13 Kind.NameAfterS Production.AbbreviatedName 95 refl refl (omega arith) refl) refl (λ f s. refl) (λ began s. refl)
-    (then-part Production.AbbreviatedName [] around allowed (place + 1) (OfKind 22) (OfKind 43 ∷ []) [] (tree t true)
+    cs (OfKind ABBREVIATION ∷ OfKind ARGUMENTS ∷ []) (written (first.bytes ++ args.bytes) args.components)
+    (takes-none NAME_AFTER_S Kind.NameAfterS Production.AbbreviatedName 95 refl refl (omega arith) refl) refl (λ f s. refl) (λ began s. refl)
+    (then-part Production.AbbreviatedName [] around allowed (place + 1) (OfKind ABBREVIATION) (OfKind ARGUMENTS ∷ []) [] (tree t true)
     (AreOnly (tree t true ∷ tree items true ∷ [])) (place + 1 + 0) cs first args (λ s. refl) one
-    (row-last Production.AbbreviatedName [] around (after t true around) allowed allowed (place + 1) (OfKind 43) (tree t true ∷ [])
+    (row-last Production.AbbreviatedName [] around (after t true around) allowed allowed (place + 1) (OfKind ARGUMENTS) (tree t true ∷ [])
     (tree t true ∷ []) (Is (tree items true)) (AreOnly (tree t true ∷ tree items true ∷ [])) (place + 1 + 0 + length first.bytes)
     first.components first.components args
     (passes-by Production.AbbreviatedName around allowed (place + 1) (tree t true ∷ []) first.components (after t true around) (tree t true ∷ [])
@@ -81,16 +82,16 @@ ref_bytes lvalue_only = 82 ∷ []
 ref_bytes rvalue_only = 79 ∷ []
 
 ref-reads : (around : Around) (allowed : Option ℕ) (ref : RefQualifier) (place : ℕ) (cs : List Candidate)
-    → ReadsAt around allowed (OfKind 12) (Is (ref_value ref)) place cs (written (ref_bytes ref) cs)
+    → ReadsAt around allowed (OfKind MAYBE_REF) (Is (ref_value ref)) place cs (written (ref_bytes ref) cs)
 unfolding choose alternatives pick is_in in_ranges among kinds may_be_empty
-ref-reads around allowed any_value place cs = empty-reads around allowed 12 Kind.MaybeRef place cs refl refl
-ref-reads around allowed lvalue_only place cs = mark-reads around allowed 12 Kind.MaybeRef 82 place cs refl refl (omega arith)
-ref-reads around allowed rvalue_only place cs = mark-reads around allowed 12 Kind.MaybeRef 79 place cs refl refl (omega arith)
+ref-reads around allowed any_value place cs = empty-reads around allowed MAYBE_REF Kind.MaybeRef place cs refl refl
+ref-reads around allowed lvalue_only place cs = mark-reads around allowed MAYBE_REF Kind.MaybeRef 82 place cs refl refl (omega arith)
+ref-reads around allowed rvalue_only place cs = mark-reads around allowed MAYBE_REF Kind.MaybeRef 79 place cs refl refl (omega arith)
 
 -- a name between N and E, with the letters of its encoding
 pub nested-name : (k : ℕ) (around : Around) (allowed : Option ℕ) (t : Term) (listed restrict volatile const : Bool) (ref : RefQualifier)
     (place : ℕ) (cs : List Candidate) (w : Written) → TakesRule abi k (rule_of Production.NestedName) (78 ∷ [])
-    → ReadsAt around allowed (OfKind 15) (Is (tree t listed)) (place + 1 + length (mark_bytes restrict 114) + length (mark_bytes volatile 86) +
+    → ReadsAt around allowed (OfKind NEST) (Is (tree t listed)) (place + 1 + length (mark_bytes restrict 114) + length (mark_bytes volatile 86) +
     length (mark_bytes const 75) + length (ref_bytes ref)) cs w
     → ReadsAt around allowed (OfKind k) (Is (named t (record { restrict = restrict; volatile = volatile; const = const }) ref)) place cs
     (written (78 ∷ (mark_bytes restrict 114 ++ (mark_bytes volatile 86 ++ (mark_bytes const 75 ++ (ref_bytes ref ++ w.bytes))))) w.components)
@@ -105,23 +106,23 @@ nested-name k around allowed t listed restrict volatile const ref place cs w tak
     let at_c : ℕ = at_v + length (mark_bytes volatile 86) in
     let at_m : ℕ = at_c + length (mark_bytes const 75) in
     whole-same Production.NestedName k (78 ∷ []) around allowed place all (named t (record
-    { restrict = restrict; volatile = volatile; const = const }) ref) cs (OfKind 9 ∷ OfKind 10 ∷ OfKind 11 ∷ OfKind 12 ∷ OfKind 15 ∷ [])
+    { restrict = restrict; volatile = volatile; const = const }) ref) cs (OfKind MAYBE_RESTRICT ∷ OfKind MAYBE_VOLATILE ∷ OfKind MAYBE_CONST ∷ OfKind MAYBE_REF ∷ OfKind NEST ∷ [])
     (written (mark_bytes restrict 114 ++ (mark_bytes volatile 86 ++ (mark_bytes const 75 ++ (ref_bytes ref ++ w.bytes)))) w.components) takes
     refl (λ f s. refl) (means restrict volatile const ref)
-    (then-part Production.NestedName (78 ∷ []) around allowed place (OfKind 9) (OfKind 10 ∷ OfKind 11 ∷ OfKind 12 ∷ OfKind 15 ∷ []) [] r
+    (then-part Production.NestedName (78 ∷ []) around allowed place (OfKind MAYBE_RESTRICT) (OfKind MAYBE_VOLATILE ∷ OfKind MAYBE_CONST ∷ OfKind MAYBE_REF ∷ OfKind NEST ∷ []) [] r
     (AreOnly all) (place + 1) cs (written (mark_bytes restrict 114) cs)
     (written (mark_bytes volatile 86 ++ (mark_bytes const 75 ++ (ref_bytes ref ++ w.bytes))) w.components)
-    (λ s. refl) (maybe-mark-reads around allowed 9 Kind.MaybeRestrict 114 (place + 1) cs refl refl (omega arith) refl restrict)
-    (then-part Production.NestedName (78 ∷ []) around allowed place (OfKind 10) (OfKind 11 ∷ OfKind 12 ∷ OfKind 15 ∷ []) (r ∷ []) v (AreOnly all)
+    (λ s. refl) (maybe-mark-reads around allowed MAYBE_RESTRICT Kind.MaybeRestrict 114 (place + 1) cs refl refl (omega arith) refl restrict)
+    (then-part Production.NestedName (78 ∷ []) around allowed place (OfKind MAYBE_VOLATILE) (OfKind MAYBE_CONST ∷ OfKind MAYBE_REF ∷ OfKind NEST ∷ []) (r ∷ []) v (AreOnly all)
     at_v cs (written (mark_bytes volatile 86) cs) (written (mark_bytes const 75 ++ (ref_bytes ref ++ w.bytes)) w.components)
-    (λ s. refl) (maybe-mark-reads around allowed 10 Kind.MaybeVolatile 86 at_v cs refl refl (omega arith) refl volatile)
-    (then-part Production.NestedName (78 ∷ []) around allowed place (OfKind 11) (OfKind 12 ∷ OfKind 15 ∷ []) (r ∷ v ∷ []) c (AreOnly all) at_c cs
+    (λ s. refl) (maybe-mark-reads around allowed MAYBE_VOLATILE Kind.MaybeVolatile 86 at_v cs refl refl (omega arith) refl volatile)
+    (then-part Production.NestedName (78 ∷ []) around allowed place (OfKind MAYBE_CONST) (OfKind MAYBE_REF ∷ OfKind NEST ∷ []) (r ∷ v ∷ []) c (AreOnly all) at_c cs
     (written (mark_bytes const 75) cs) (written (ref_bytes ref ++ w.bytes) w.components)
-    (λ s. refl) (maybe-mark-reads around allowed 11 Kind.MaybeConst 75 at_c cs refl refl (omega arith) refl const)
-    (then-part Production.NestedName (78 ∷ []) around allowed place (OfKind 12) (OfKind 15 ∷ []) (r ∷ v ∷ c ∷ []) m (AreOnly all) at_m cs
+    (λ s. refl) (maybe-mark-reads around allowed MAYBE_CONST Kind.MaybeConst 75 at_c cs refl refl (omega arith) refl const)
+    (then-part Production.NestedName (78 ∷ []) around allowed place (OfKind MAYBE_REF) (OfKind NEST ∷ []) (r ∷ v ∷ c ∷ []) m (AreOnly all) at_m cs
     (written (ref_bytes ref) cs) w
     (λ s. refl) (ref-reads around allowed ref at_m cs)
-    (then-last Production.NestedName (78 ∷ []) around allowed place (OfKind 15) (r ∷ v ∷ c ∷ m ∷ []) (tree t listed)
+    (then-last Production.NestedName (78 ∷ []) around allowed place (OfKind NEST) (r ∷ v ∷ c ∷ m ∷ []) (tree t listed)
     (at_m + length (ref_bytes ref)) cs w (λ s. refl) one)))))
   where
     there : (b : Bool) (byte : ℕ) → is_there (mark_value b byte) ≡ b
@@ -148,36 +149,36 @@ nested-name k around allowed t listed restrict volatile const ref place cs w tak
 -- a name between N and E as a type
 pub nested-type : (k : ℕ) (around : Around) (allowed : Option ℕ) (t : Term) (listed : Bool) (place : ℕ) (cs : List Candidate) (w : Written)
     → TakesRule abi k (rule_of Production.NestedType) (78 ∷ [])
-    → ReadsAt around allowed (OfKind 15) (Is (tree t listed)) (place + 1) cs w
+    → ReadsAt around allowed (OfKind NEST) (Is (tree t listed)) (place + 1) cs w
     → ReadsAt around allowed (OfKind k) (Is (tree t listed)) place cs (written (78 ∷ w.bytes) w.components)
 unfolding parts_of number_of_kind between opening close unfolding_.behind meaning part
 nested-type k around allowed t listed place cs w takes one =
-    one-part Production.NestedType k (78 ∷ []) around allowed place (OfKind 15) (tree t listed) (tree t listed) cs w takes refl (λ s. refl)
+    one-part Production.NestedType k (78 ∷ []) around allowed place (OfKind NEST) (tree t listed) (tree t listed) cs w takes refl (λ s. refl)
     (λ f s. refl) (λ began s. refl) one
 
 -- a piece in std as a type
 pub std-type : (around : Around) (allowed : Option ℕ) (p : Term) (place : ℕ) (cs : List Candidate) (w : Written)
-    → ReadsAt around allowed (OfKind 37) (Is (piece p)) (place + 1) cs w
-    → ReadsAt around allowed (OfKind 36) (Is (tree (in_std p) false)) place cs (written (116 ∷ w.bytes) w.components)
+    → ReadsAt around allowed (OfKind SOURCE_OR_LOCAL) (Is (piece p)) (place + 1) cs w
+    → ReadsAt around allowed (OfKind TYPE_AFTER_S) (Is (tree (in_std p) false)) place cs (written (116 ∷ w.bytes) w.components)
 unfolding choose alternatives pick is_in in_ranges among kinds is_chain parts_of number_of_kind between opening close unfolding_.behind meaning piece_of part
 std-type around allowed p place cs w one =
-    one-part Production.StdType 36 (116 ∷ []) around allowed place (OfKind 37) (piece p) (tree (in_std p) false) cs w
-    (takes-byte 36 Kind.TypeAfterS Production.StdType 116 refl refl (omega arith) refl) refl (λ s. refl) (λ f s. refl) (λ began s. refl) one
+    one-part Production.StdType 36 (116 ∷ []) around allowed place (OfKind SOURCE_OR_LOCAL) (piece p) (tree (in_std p) false) cs w
+    (takes-byte TYPE_AFTER_S Kind.TypeAfterS Production.StdType 116 refl refl (omega arith) refl) refl (λ s. refl) (λ f s. refl) (λ began s. refl) one
 
 -- what stands behind an S as a type, and its arguments
 pub type-with-arguments : (k : ℕ) (around : Around) (allowed : Option ℕ) (t items : Term) (listed : Bool) (place : ℕ) (cs : List Candidate)
     (first args : Written) → TakesRule abi k (rule_of Production.TypeWithS) (83 ∷ [])
-    → ReadsAt around allowed (OfKind 36) (Is (tree t listed)) (place + 1) cs first
-    → ReadsAt (after t listed around) allowed (OfKind 42) (Is (tree items true)) (place + 1 + length first.bytes) first.components args
+    → ReadsAt around allowed (OfKind TYPE_AFTER_S) (Is (tree t listed)) (place + 1) cs first
+    → ReadsAt (after t listed around) allowed (OfKind MAYBE_ARGUMENTS) (Is (tree items true)) (place + 1 + length first.bytes) first.components args
     → ReadsAt around allowed (OfKind k) (Is (tree (instance t items) false)) place cs (written (83 ∷ (first.bytes ++ args.bytes)) args.components)
 unfolding parts_of number_of_kind between opening close unfolding_.behind meaning applied is_there is_listed tree_of part
 type-with-arguments k around allowed t items listed place cs first args takes one two =
     whole-same Production.TypeWithS k (83 ∷ []) around allowed place (tree t listed ∷ tree items true ∷ []) (tree (instance t items) false) cs
-    (OfKind 36 ∷ OfKind 42 ∷ []) (written (first.bytes ++ args.bytes) args.components) takes refl
+    (OfKind TYPE_AFTER_S ∷ OfKind MAYBE_ARGUMENTS ∷ []) (written (first.bytes ++ args.bytes) args.components) takes refl
     (λ f s. refl) (means listed)
-    (then-part Production.TypeWithS (83 ∷ []) around allowed place (OfKind 36) (OfKind 42 ∷ []) [] (tree t listed)
+    (then-part Production.TypeWithS (83 ∷ []) around allowed place (OfKind TYPE_AFTER_S) (OfKind MAYBE_ARGUMENTS ∷ []) [] (tree t listed)
     (AreOnly (tree t listed ∷ tree items true ∷ [])) (place + 1) cs first args (λ s. refl) one
-    (row-last Production.TypeWithS (83 ∷ []) around (after t listed around) allowed allowed place (OfKind 42) (tree t listed ∷ [])
+    (row-last Production.TypeWithS (83 ∷ []) around (after t listed around) allowed allowed place (OfKind MAYBE_ARGUMENTS) (tree t listed ∷ [])
     (tree t listed ∷ []) (Is (tree items true)) (AreOnly (tree t listed ∷ tree items true ∷ [])) (place + 1 + length first.bytes)
     first.components first.components args
     (passes-by Production.TypeWithS around allowed place (tree t listed ∷ []) first.components (after t listed around) (tree t listed ∷ [])

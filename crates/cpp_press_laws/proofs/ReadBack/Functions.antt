@@ -11,6 +11,7 @@ use Rattle.sym_link.specs.Reading.{◌>>=◌}
 use Rattle.sym_link.specs.Unfold.{found}
 use Rattle.cpp_grammar.specs.declared.kind.Kind.{Kind}
 use Rattle.cpp_grammar.specs.declared.production.Production.{Production}
+use Rattle.cpp_grammar.specs.KindNumbers.{MAYBE_VOLATILE, MAYBE_CONST, TYPE, PLAIN, ITEM_BUT_REF, AFTER_D, SOLID, MAYBE_C_LINKAGE, FUNCTION_REST, AFTER_R, AFTER_O, MAYBE_ARGUMENTS}
 use Rattle.cpp_grammar.specs.Grammar.{in_ranges, among, is_in, pick, number_of_kind, alternatives, choose, kinds, parts_of, is_chain, may_be_empty}
 use Rattle.cpp_grammar.specs.Table.{abi, rule_of}
 use Rattle.cpp_grammar.specs.Term.{RefQualifier, any_value, lvalue_only, rvalue_only, Term, parameter, lvalue, rvalue, vector, function_type, qualified, nil, list}
@@ -86,16 +87,16 @@ parameter-solid kind around allowed k place cs is takes =
     same-written around allowed (OfKind kind) (Is (tree (parameter k) true)) place cs after_it (84 ∷ (digits.bytes ++ [])) (84 ∷ ordinal k)
     (ap (λ l. 84 ∷ l) (append-nil digits.bytes ∙ ordinal-spelled k))
     (whole-same Production.Parameter kind (84 ∷ []) around allowed place (tree (parameter k) true ∷ nothing_there ∷ []) (tree (parameter k) true)
-    cs (Number Decimal ∷ OfKind 42 ∷ []) (written (digits.bytes ++ []) after_it)
+    cs (Number Decimal ∷ OfKind MAYBE_ARGUMENTS ∷ []) (written (digits.bytes ++ []) after_it)
     takes refl (λ f s. refl) (λ began s. refl)
-    (then-part Production.Parameter (84 ∷ []) around allowed place (Number Decimal) (OfKind 42 ∷ []) [] (value.text (ordinal_digits k))
+    (then-part Production.Parameter (84 ∷ []) around allowed place (Number Decimal) (OfKind MAYBE_ARGUMENTS ∷ []) [] (value.text (ordinal_digits k))
     (AreOnly (tree (parameter k) true ∷ nothing_there ∷ [])) (place + 1) cs digits (written [] after_it)
     (λ s. refl) (number-reads around allowed Decimal (ordinal_token k) (place + 1) cs (ordinal-is-token k))
-    (row-last Production.Parameter (84 ∷ []) around inner allowed allowed place (OfKind 42) (value.text (ordinal_digits k) ∷ [])
+    (row-last Production.Parameter (84 ∷ []) around inner allowed allowed place (OfKind MAYBE_ARGUMENTS) (value.text (ordinal_digits k) ∷ [])
     (tree (parameter k) true ∷ []) (Is nothing_there) (AreOnly (tree (parameter k) true ∷ nothing_there ∷ []))
     (place + 1 + length digits.bytes) cs after_it (written [] after_it)
     (parameter-passes Production.Parameter around allowed place k cs is (λ s. refl))
-    (empty-reads inner allowed 42 Kind.MaybeArguments (place + 1 + length digits.bytes) after_it refl refl)
+    (empty-reads inner allowed MAYBE_ARGUMENTS Kind.MaybeArguments (place + 1 + length digits.bytes) after_it refl refl)
     (λ v h. ap (λ x. tree (parameter k) true ∷ x ∷ []) h))))
 
 -- ## Marks
@@ -130,31 +131,31 @@ qualified_with restrict volatile const t = qualified (record { restrict = restri
 
 pub const-reads : (around : Around) (allowed : Option ℕ) (k : ℕ) (t : Term) (place : ℕ) (cs : List Candidate) (w : Written)
     → TakesRule abi k (rule_of Production.ConstType) (75 ∷ [])
-    → ReadsAt around allowed (OfKind 29) (Is (tree t true)) (place + 1) cs w
+    → ReadsAt around allowed (OfKind PLAIN) (Is (tree t true)) (place + 1) cs w
     → ReadsAt around allowed (OfKind k) (Is (tree (qualified_with false false true t) true)) place cs
     (written (75 ∷ w.bytes) (more around w.components (qualified_with false false true t)))
 unfolding parts_of number_of_kind between opening close unfolding_.behind meaning listed_value qualified_by tree_of is_there part
 const-reads around allowed k t place cs w takes one =
     whole-more Production.ConstType k (75 ∷ []) around allowed place (tree t true ∷ []) (tree (qualified_with false false true t) true)
-    (qualified_with false false true t) cs (OfKind 29 ∷ []) w takes refl
-    (λ f s. refl) (λ began s. refl) (then-last Production.ConstType (75 ∷ []) around allowed place (OfKind 29) [] (tree t true) (place + 1) cs w
+    (qualified_with false false true t) cs (OfKind PLAIN ∷ []) w takes refl
+    (λ f s. refl) (λ began s. refl) (then-last Production.ConstType (75 ∷ []) around allowed place (OfKind PLAIN) [] (tree t true) (place + 1) cs w
     (λ s. refl) one)
 
 pub volatile-reads : (around : Around) (allowed : Option ℕ) (k : ℕ) (const : Bool) (t : Term) (place : ℕ) (cs : List Candidate) (w : Written)
     → TakesRule abi k (rule_of Production.VolatileType) (86 ∷ [])
-    → ReadsAt around allowed (OfKind 29) (Is (tree t true)) (place + 1 + length (mark_bytes const 75)) cs w
+    → ReadsAt around allowed (OfKind PLAIN) (Is (tree t true)) (place + 1 + length (mark_bytes const 75)) cs w
     → ReadsAt around allowed (OfKind k) (Is (tree (qualified_with false true const t) true)) place cs
     (written (86 ∷ (mark_bytes const 75 ++ w.bytes)) (more around w.components (qualified_with false true const t)))
 unfolding choose alternatives pick is_in in_ranges among kinds parts_of number_of_kind may_be_empty between opening close unfolding_.behind meaning listed_value qualified_by tree_of is_there part
 volatile-reads around allowed k const t place cs w takes one =
     whole-more Production.VolatileType k (86 ∷ []) around allowed place (mark_value const 75 ∷ tree t true ∷ [])
-    (tree (qualified_with false true const t) true) (qualified_with false true const t) cs (OfKind 11 ∷ OfKind 29 ∷ [])
+    (tree (qualified_with false true const t) true) (qualified_with false true const t) cs (OfKind MAYBE_CONST ∷ OfKind PLAIN ∷ [])
     (written (mark_bytes const 75 ++ w.bytes) w.components) takes refl
     (λ f s. refl) (means const)
-    (then-part Production.VolatileType (86 ∷ []) around allowed place (OfKind 11) (OfKind 29 ∷ []) [] (mark_value const 75)
+    (then-part Production.VolatileType (86 ∷ []) around allowed place (OfKind MAYBE_CONST) (OfKind PLAIN ∷ []) [] (mark_value const 75)
     (AreOnly (mark_value const 75 ∷ tree t true ∷ [])) (place + 1) cs (written (mark_bytes const 75) cs) w
-    (λ s. refl) (maybe-mark-reads around allowed 11 Kind.MaybeConst 75 (place + 1) cs refl refl (omega arith) refl const)
-    (then-last Production.VolatileType (86 ∷ []) around allowed place (OfKind 29) (mark_value const 75 ∷ []) (tree t true)
+    (λ s. refl) (maybe-mark-reads around allowed MAYBE_CONST Kind.MaybeConst 75 (place + 1) cs refl refl (omega arith) refl const)
+    (then-last Production.VolatileType (86 ∷ []) around allowed place (OfKind PLAIN) (mark_value const 75 ∷ []) (tree t true)
     (place + 1 + length (mark_bytes const 75)) cs w (λ s. refl) one))
   where
     means : (b : Bool) (began s : State) → close Production.VolatileType (byte_of (86 ∷ [])) around place began
@@ -165,26 +166,26 @@ volatile-reads around allowed k const t place cs w takes one =
 
 pub restrict-reads : (around : Around) (allowed : Option ℕ) (k : ℕ) (volatile const : Bool) (t : Term) (place : ℕ) (cs : List Candidate)
     (w : Written) → TakesRule abi k (rule_of Production.RestrictType) (114 ∷ [])
-    → ReadsAt around allowed (OfKind 29) (Is (tree t true)) (place + 1 + length (mark_bytes volatile 86) + length (mark_bytes const 75)) cs w
+    → ReadsAt around allowed (OfKind PLAIN) (Is (tree t true)) (place + 1 + length (mark_bytes volatile 86) + length (mark_bytes const 75)) cs w
     → ReadsAt around allowed (OfKind k) (Is (tree (qualified_with true volatile const t) true)) place cs
     (written (114 ∷ (mark_bytes volatile 86 ++ (mark_bytes const 75 ++ w.bytes)))
     (more around w.components (qualified_with true volatile const t)))
 unfolding choose alternatives pick is_in in_ranges among kinds parts_of number_of_kind may_be_empty between opening close unfolding_.behind meaning listed_value qualified_by tree_of is_there part
 restrict-reads around allowed k volatile const t place cs w takes one =
     whole-more Production.RestrictType k (114 ∷ []) around allowed place (mark_value volatile 86 ∷ mark_value const 75 ∷ tree t true ∷ [])
-    (tree (qualified_with true volatile const t) true) (qualified_with true volatile const t) cs (OfKind 10 ∷ OfKind 11 ∷ OfKind 29 ∷ [])
+    (tree (qualified_with true volatile const t) true) (qualified_with true volatile const t) cs (OfKind MAYBE_VOLATILE ∷ OfKind MAYBE_CONST ∷ OfKind PLAIN ∷ [])
     (written (mark_bytes volatile 86 ++ (mark_bytes const 75 ++ w.bytes)) w.components) takes refl
     (λ f s. refl) (means volatile const)
-    (then-part Production.RestrictType (114 ∷ []) around allowed place (OfKind 10) (OfKind 11 ∷ OfKind 29 ∷ []) [] (mark_value volatile 86)
+    (then-part Production.RestrictType (114 ∷ []) around allowed place (OfKind MAYBE_VOLATILE) (OfKind MAYBE_CONST ∷ OfKind PLAIN ∷ []) [] (mark_value volatile 86)
     (AreOnly (mark_value volatile 86 ∷ mark_value const 75 ∷ tree t true ∷ [])) (place + 1) cs (written (mark_bytes volatile 86) cs)
     (written (mark_bytes const 75 ++ w.bytes) w.components)
-    (λ s. refl) (maybe-mark-reads around allowed 10 Kind.MaybeVolatile 86 (place + 1) cs refl refl (omega arith) refl volatile)
-    (then-part Production.RestrictType (114 ∷ []) around allowed place (OfKind 11) (OfKind 29 ∷ []) (mark_value volatile 86 ∷ [])
+    (λ s. refl) (maybe-mark-reads around allowed MAYBE_VOLATILE Kind.MaybeVolatile 86 (place + 1) cs refl refl (omega arith) refl volatile)
+    (then-part Production.RestrictType (114 ∷ []) around allowed place (OfKind MAYBE_CONST) (OfKind PLAIN ∷ []) (mark_value volatile 86 ∷ [])
     (mark_value const 75) (AreOnly (mark_value volatile 86 ∷ mark_value const 75 ∷ tree t true ∷ []))
     (place + 1 + length (mark_bytes volatile 86)) cs (written (mark_bytes const 75) cs) w
-    (λ s. refl) (maybe-mark-reads around allowed 11 Kind.MaybeConst 75 (place + 1 + length (mark_bytes volatile 86)) cs refl refl (omega arith)
+    (λ s. refl) (maybe-mark-reads around allowed MAYBE_CONST Kind.MaybeConst 75 (place + 1 + length (mark_bytes volatile 86)) cs refl refl (omega arith)
     refl const)
-    (then-last Production.RestrictType (114 ∷ []) around allowed place (OfKind 29) (mark_value volatile 86 ∷ mark_value const 75 ∷ [])
+    (then-last Production.RestrictType (114 ∷ []) around allowed place (OfKind PLAIN) (mark_value volatile 86 ∷ mark_value const 75 ∷ [])
     (tree t true) (place + 1 + length (mark_bytes volatile 86) + length (mark_bytes const 75)) cs w (λ s. refl) one)))
   where
     means : (a b : Bool) (began s : State) → close Production.RestrictType (byte_of (114 ∷ [])) around place began
@@ -202,83 +203,83 @@ vector_token digits = record { before = []; own = digits; behind = [] }
 
 pub vector-behind-d : (around : Around) (allowed : Option ℕ) (digits : List ℕ) (t : Term) (place : ℕ) (cs : List Candidate) (w : Written)
     → AreSpellableDigits Digits digits
-    → ReadsAt around allowed (OfKind 28) (Is (tree t true)) (place + 1 + length ((vector_token digits).before ++ digits ++ []) + 1) cs w
-    → ReadsAt around allowed (OfKind 33) (Is (tree (vector digits t) false)) place cs
+    → ReadsAt around allowed (OfKind TYPE) (Is (tree t true)) (place + 1 + length ((vector_token digits).before ++ digits ++ []) + 1) cs w
+    → ReadsAt around allowed (OfKind AFTER_D) (Is (tree (vector digits t) false)) place cs
     (written (118 ∷ (((vector_token digits).before ++ digits ++ []) ++ (95 ∷ w.bytes))) w.components)
 unfolding choose alternatives pick is_in in_ranges among kinds is_chain parts_of number_of_kind between opening close unfolding_.behind meaning tree_of text_of part
 vector-behind-d around allowed digits t place cs w good one =
     let number : Written = written ((vector_token digits).before ++ digits ++ []) cs in
     whole-same Production.Vector 33 (118 ∷ []) around allowed place (value.text digits ∷ nothing_there ∷ tree t true ∷ [])
-    (tree (vector digits t) false) cs (Number Digits ∷ Byte 95 ∷ OfKind 28 ∷ []) (written (number.bytes ++ (95 ∷ w.bytes)) w.components)
-    (takes-byte 33 Kind.AfterD Production.Vector 118 refl refl (omega arith) refl) refl (λ f s. refl) (λ began s. rw good.normal_are refl)
-    (then-part Production.Vector (118 ∷ []) around allowed place (Number Digits) (Byte 95 ∷ OfKind 28 ∷ []) [] (value.text digits)
+    (tree (vector digits t) false) cs (Number Digits ∷ Byte 95 ∷ OfKind TYPE ∷ []) (written (number.bytes ++ (95 ∷ w.bytes)) w.components)
+    (takes-byte AFTER_D Kind.AfterD Production.Vector 118 refl refl (omega arith) refl) refl (λ f s. refl) (λ began s. rw good.normal_are refl)
+    (then-part Production.Vector (118 ∷ []) around allowed place (Number Digits) (Byte 95 ∷ OfKind TYPE ∷ []) [] (value.text digits)
     (AreOnly (value.text digits ∷ nothing_there ∷ tree t true ∷ [])) (place + 1) cs number (written (95 ∷ w.bytes) w.components)
     (λ s. refl) (number-reads around allowed Digits (vector_token digits) (place + 1) cs (record { bare = refl; digits = good.are; ends = refl }))
-    (then-part Production.Vector (118 ∷ []) around allowed place (Byte 95) (OfKind 28 ∷ []) (value.text digits ∷ []) nothing_there
+    (then-part Production.Vector (118 ∷ []) around allowed place (Byte 95) (OfKind TYPE ∷ []) (value.text digits ∷ []) nothing_there
     (AreOnly (value.text digits ∷ nothing_there ∷ tree t true ∷ [])) (place + 1 + length number.bytes) cs (written (95 ∷ []) cs) w
     (λ s. refl) (fixed-reads around allowed 95 (place + 1 + length number.bytes) cs)
-    (then-last Production.Vector (118 ∷ []) around allowed place (OfKind 28) (value.text digits ∷ nothing_there ∷ []) (tree t true)
+    (then-last Production.Vector (118 ∷ []) around allowed place (OfKind TYPE) (value.text digits ∷ nothing_there ∷ []) (tree t true)
     (place + 1 + length number.bytes + 1) cs w (λ s. refl) one)))
 
 -- ## Function types
 
 -- what is left of a function type's parameters: its end, and the mark before it
 pub rest-ends : (around : Around) (allowed : Option ℕ) (place : ℕ) (cs : List Candidate)
-    → ReadsAt around allowed (OfKind 38) (Is (signature nil any_value)) place cs (written (69 ∷ []) cs)
+    → ReadsAt around allowed (OfKind FUNCTION_REST) (Is (signature nil any_value)) place cs (written (69 ∷ []) cs)
 unfolding choose alternatives pick is_in in_ranges among kinds is_chain parts_of opening close unfolding_.behind meaning
 rest-ends around allowed place cs =
-    no-part Production.RestEnd 38 (69 ∷ []) around allowed place (signature nil any_value) cs
-    (takes-byte 38 Kind.FunctionRest Production.RestEnd 69 refl refl (omega arith) refl) refl (λ f s. refl) (λ began s. refl)
+    no-part Production.RestEnd FUNCTION_REST (69 ∷ []) around allowed place (signature nil any_value) cs
+    (takes-byte FUNCTION_REST Kind.FunctionRest Production.RestEnd 69 refl refl (omega arith) refl) refl (λ f s. refl) (λ began s. refl)
 
 pub rest-ends-lvalue : (around : Around) (allowed : Option ℕ) (place : ℕ) (cs : List Candidate)
-    → ReadsAt around allowed (OfKind 38) (Is (signature nil lvalue_only)) place cs (written (82 ∷ 69 ∷ []) cs)
+    → ReadsAt around allowed (OfKind FUNCTION_REST) (Is (signature nil lvalue_only)) place cs (written (82 ∷ 69 ∷ []) cs)
 unfolding choose alternatives pick is_in in_ranges among kinds is_chain parts_of number_of_kind between opening close unfolding_.behind meaning signature_or part
 rest-ends-lvalue around allowed place cs =
-    one-part Production.RestLvalue 38 (82 ∷ []) around allowed place (OfKind 39) nothing_there (signature nil lvalue_only) cs (written (69 ∷ []) cs)
-    (takes-byte 38 Kind.FunctionRest Production.RestLvalue 82 refl refl (omega arith) refl) refl (λ s. refl) (λ f s. refl) (λ began s. refl)
-    (no-part Production.RefEnd 39 (69 ∷ []) around allowed (place + 1) nothing_there cs
-    (takes-byte 39 Kind.AfterR Production.RefEnd 69 refl refl (omega arith) refl) refl (λ f s. refl) (λ began s. refl))
+    one-part Production.RestLvalue 38 (82 ∷ []) around allowed place (OfKind AFTER_R) nothing_there (signature nil lvalue_only) cs (written (69 ∷ []) cs)
+    (takes-byte FUNCTION_REST Kind.FunctionRest Production.RestLvalue 82 refl refl (omega arith) refl) refl (λ s. refl) (λ f s. refl) (λ began s. refl)
+    (no-part Production.RefEnd AFTER_R (69 ∷ []) around allowed (place + 1) nothing_there cs
+    (takes-byte AFTER_R Kind.AfterR Production.RefEnd 69 refl refl (omega arith) refl) refl (λ f s. refl) (λ began s. refl))
 
 pub rest-ends-rvalue : (around : Around) (allowed : Option ℕ) (place : ℕ) (cs : List Candidate)
-    → ReadsAt around allowed (OfKind 38) (Is (signature nil rvalue_only)) place cs (written (79 ∷ 69 ∷ []) cs)
+    → ReadsAt around allowed (OfKind FUNCTION_REST) (Is (signature nil rvalue_only)) place cs (written (79 ∷ 69 ∷ []) cs)
 unfolding choose alternatives pick is_in in_ranges among kinds is_chain parts_of number_of_kind between opening close unfolding_.behind meaning signature_or part
 rest-ends-rvalue around allowed place cs =
-    one-part Production.RestRvalue 38 (79 ∷ []) around allowed place (OfKind 40) nothing_there (signature nil rvalue_only) cs (written (69 ∷ []) cs)
-    (takes-byte 38 Kind.FunctionRest Production.RestRvalue 79 refl refl (omega arith) refl) refl (λ s. refl) (λ f s. refl) (λ began s. refl)
-    (no-part Production.RefEnd 40 (69 ∷ []) around allowed (place + 1) nothing_there cs
-    (takes-byte 40 Kind.AfterO Production.RefEnd 69 refl refl (omega arith) refl) refl (λ f s. refl) (λ began s. refl))
+    one-part Production.RestRvalue 38 (79 ∷ []) around allowed place (OfKind AFTER_O) nothing_there (signature nil rvalue_only) cs (written (69 ∷ []) cs)
+    (takes-byte FUNCTION_REST Kind.FunctionRest Production.RestRvalue 79 refl refl (omega arith) refl) refl (λ s. refl) (λ f s. refl) (λ began s. refl)
+    (no-part Production.RefEnd AFTER_O (69 ∷ []) around allowed (place + 1) nothing_there cs
+    (takes-byte AFTER_O Kind.AfterO Production.RefEnd 69 refl refl (omega arith) refl) refl (λ f s. refl) (λ began s. refl))
 
 -- one more parameter, which doesn't begin with an R or an O
 pub rest-item : (around : Around) (allowed : Option ℕ) (t items : Term) (ref : RefQualifier) (place : ℕ) (cs : List Candidate) (first rest : Written)
-    → ReadsAt around allowed (OfKind 31) (Is (tree t true)) (place + 0) cs first
-    → ReadsAt around allowed (OfKind 38) (Is (signature items ref)) (place + 0 + length first.bytes) first.components rest
-    → ReadsAt around allowed (OfKind 38) (Is (signature (list t items) ref)) place cs (written (first.bytes ++ rest.bytes) rest.components)
+    → ReadsAt around allowed (OfKind ITEM_BUT_REF) (Is (tree t true)) (place + 0) cs first
+    → ReadsAt around allowed (OfKind FUNCTION_REST) (Is (signature items ref)) (place + 0 + length first.bytes) first.components rest
+    → ReadsAt around allowed (OfKind FUNCTION_REST) (Is (signature (list t items) ref)) place cs (written (first.bytes ++ rest.bytes) rest.components)
 unfolding choose alternatives pick is_in in_ranges among kinds is_chain parts_of number_of_kind between opening close unfolding_.behind meaning with_item tree_of ref_of part
 rest-item around allowed t items ref place cs first rest one two =
-    two-parts Production.RestItem 38 [] around allowed place (OfKind 31) (OfKind 38) (tree t true) (signature items ref)
+    two-parts Production.RestItem 38 [] around allowed place (OfKind ITEM_BUT_REF) (OfKind FUNCTION_REST) (tree t true) (signature items ref)
     (signature (list t items) ref) cs first rest
-    (takes-none 38 Kind.FunctionRest Production.RestItem 80 refl refl (omega arith) refl) refl (λ s. refl) (λ s. refl) (λ f s. refl)
+    (takes-none FUNCTION_REST Kind.FunctionRest Production.RestItem 80 refl refl (omega arith) refl) refl (λ s. refl) (λ s. refl) (λ f s. refl)
     (λ began s. refl) one two
 
 -- a parameter that is a reference which is spelled out becomes a component before those behind it
 pub rest-lvalue : (around : Around) (allowed : Option ℕ) (t items : Term) (ref : RefQualifier) (place : ℕ) (cs : List Candidate)
     (first rest : Written)
-    → ReadsAt around allowed (OfKind 28) (Is (tree t true)) (place + 1 + 0) cs first
-    → ReadsAt around allowed (OfKind 38) (Is (signature items ref)) (place + 1 + 0 + length first.bytes)
+    → ReadsAt around allowed (OfKind TYPE) (Is (tree t true)) (place + 1 + 0) cs first
+    → ReadsAt around allowed (OfKind FUNCTION_REST) (Is (signature items ref)) (place + 1 + 0 + length first.bytes)
     (more around first.components (lvalue t)) rest
-    → ReadsAt around allowed (OfKind 38) (Is (signature (list (lvalue t) items) ref)) place cs
+    → ReadsAt around allowed (OfKind FUNCTION_REST) (Is (signature (list (lvalue t) items) ref)) place cs
     (written (82 ∷ (first.bytes ++ rest.bytes)) rest.components)
 unfolding choose alternatives pick is_in in_ranges among kinds is_chain parts_of number_of_kind between opening close unfolding_.behind meaning signature_or with_item tree_of ref_of part appended
 rest-lvalue around allowed t items ref place cs first rest one two =
-    one-part Production.RestLvalue 38 (82 ∷ []) around allowed place (OfKind 39) (signature (list (lvalue t) items) ref)
+    one-part Production.RestLvalue 38 (82 ∷ []) around allowed place (OfKind AFTER_R) (signature (list (lvalue t) items) ref)
     (signature (list (lvalue t) items) ref) cs (written (first.bytes ++ rest.bytes) rest.components)
-    (takes-byte 38 Kind.FunctionRest Production.RestLvalue 82 refl refl (omega arith) refl) refl (λ s. refl) (λ f s. refl) (λ began s. refl)
+    (takes-byte FUNCTION_REST Kind.FunctionRest Production.RestLvalue 82 refl refl (omega arith) refl) refl (λ s. refl) (λ f s. refl) (λ began s. refl)
     (whole-same Production.LvalueItem 39 [] around allowed (place + 1) (tree (lvalue t) true ∷ signature items ref ∷ [])
-    (signature (list (lvalue t) items) ref) cs (OfKind 28 ∷ OfKind 38 ∷ []) (written (first.bytes ++ rest.bytes) rest.components)
-    (takes-none 39 Kind.AfterR Production.LvalueItem 80 refl refl (omega arith) refl) refl (λ f s. refl) (λ began s. refl)
-    (then-part Production.LvalueItem [] around allowed (place + 1) (OfKind 28) (OfKind 38 ∷ []) [] (tree t true)
+    (signature (list (lvalue t) items) ref) cs (OfKind TYPE ∷ OfKind FUNCTION_REST ∷ []) (written (first.bytes ++ rest.bytes) rest.components)
+    (takes-none AFTER_R Kind.AfterR Production.LvalueItem 80 refl refl (omega arith) refl) refl (λ f s. refl) (λ began s. refl)
+    (then-part Production.LvalueItem [] around allowed (place + 1) (OfKind TYPE) (OfKind FUNCTION_REST ∷ []) [] (tree t true)
     (AreOnly (tree (lvalue t) true ∷ signature items ref ∷ [])) (place + 1 + 0) cs first rest (λ s. refl) one
-    (row-last Production.LvalueItem [] around around allowed allowed (place + 1) (OfKind 38) (tree t true ∷ []) (tree (lvalue t) true ∷ [])
+    (row-last Production.LvalueItem [] around around allowed allowed (place + 1) (OfKind FUNCTION_REST) (tree t true ∷ []) (tree (lvalue t) true ∷ [])
     (Is (signature items ref)) (AreOnly (tree (lvalue t) true ∷ signature items ref ∷ [])) (place + 1 + 0 + length first.bytes)
     first.components (more around first.components (lvalue t)) rest
     (λ s same packs. record {
@@ -292,22 +293,22 @@ rest-lvalue around allowed t items ref place cs first rest one two =
 
 pub rest-rvalue : (around : Around) (allowed : Option ℕ) (t items : Term) (ref : RefQualifier) (place : ℕ) (cs : List Candidate)
     (first rest : Written)
-    → ReadsAt around allowed (OfKind 28) (Is (tree t true)) (place + 1 + 0) cs first
-    → ReadsAt around allowed (OfKind 38) (Is (signature items ref)) (place + 1 + 0 + length first.bytes)
+    → ReadsAt around allowed (OfKind TYPE) (Is (tree t true)) (place + 1 + 0) cs first
+    → ReadsAt around allowed (OfKind FUNCTION_REST) (Is (signature items ref)) (place + 1 + 0 + length first.bytes)
     (more around first.components (rvalue t)) rest
-    → ReadsAt around allowed (OfKind 38) (Is (signature (list (rvalue t) items) ref)) place cs
+    → ReadsAt around allowed (OfKind FUNCTION_REST) (Is (signature (list (rvalue t) items) ref)) place cs
     (written (79 ∷ (first.bytes ++ rest.bytes)) rest.components)
 unfolding choose alternatives pick is_in in_ranges among kinds is_chain parts_of number_of_kind between opening close unfolding_.behind meaning signature_or with_item tree_of ref_of part appended
 rest-rvalue around allowed t items ref place cs first rest one two =
-    one-part Production.RestRvalue 38 (79 ∷ []) around allowed place (OfKind 40) (signature (list (rvalue t) items) ref)
+    one-part Production.RestRvalue 38 (79 ∷ []) around allowed place (OfKind AFTER_O) (signature (list (rvalue t) items) ref)
     (signature (list (rvalue t) items) ref) cs (written (first.bytes ++ rest.bytes) rest.components)
-    (takes-byte 38 Kind.FunctionRest Production.RestRvalue 79 refl refl (omega arith) refl) refl (λ s. refl) (λ f s. refl) (λ began s. refl)
+    (takes-byte FUNCTION_REST Kind.FunctionRest Production.RestRvalue 79 refl refl (omega arith) refl) refl (λ s. refl) (λ f s. refl) (λ began s. refl)
     (whole-same Production.RvalueItem 40 [] around allowed (place + 1) (tree (rvalue t) true ∷ signature items ref ∷ [])
-    (signature (list (rvalue t) items) ref) cs (OfKind 28 ∷ OfKind 38 ∷ []) (written (first.bytes ++ rest.bytes) rest.components)
-    (takes-none 40 Kind.AfterO Production.RvalueItem 80 refl refl (omega arith) refl) refl (λ f s. refl) (λ began s. refl)
-    (then-part Production.RvalueItem [] around allowed (place + 1) (OfKind 28) (OfKind 38 ∷ []) [] (tree t true)
+    (signature (list (rvalue t) items) ref) cs (OfKind TYPE ∷ OfKind FUNCTION_REST ∷ []) (written (first.bytes ++ rest.bytes) rest.components)
+    (takes-none AFTER_O Kind.AfterO Production.RvalueItem 80 refl refl (omega arith) refl) refl (λ f s. refl) (λ began s. refl)
+    (then-part Production.RvalueItem [] around allowed (place + 1) (OfKind TYPE) (OfKind FUNCTION_REST ∷ []) [] (tree t true)
     (AreOnly (tree (rvalue t) true ∷ signature items ref ∷ [])) (place + 1 + 0) cs first rest (λ s. refl) one
-    (row-last Production.RvalueItem [] around around allowed allowed (place + 1) (OfKind 38) (tree t true ∷ []) (tree (rvalue t) true ∷ [])
+    (row-last Production.RvalueItem [] around around allowed allowed (place + 1) (OfKind FUNCTION_REST) (tree t true ∷ []) (tree (rvalue t) true ∷ [])
     (Is (signature items ref)) (AreOnly (tree (rvalue t) true ∷ signature items ref ∷ [])) (place + 1 + 0 + length first.bytes)
     first.components (more around first.components (rvalue t)) rest
     (λ s same packs. record {
@@ -322,27 +323,27 @@ rest-rvalue around allowed t items ref place cs first rest one two =
 -- a function type, from its return type and its parameters
 pub function-solid : (around : Around) (allowed : Option ℕ) (c_linkage : Bool) (returned items : Term) (ref : RefQualifier) (place : ℕ)
     (cs : List Candidate) (first rest : Written)
-    → ReadsAt around allowed (OfKind 28) (Is (tree returned true)) (place + 1 + length (mark_bytes c_linkage 89)) cs first
-    → ReadsAt around allowed (OfKind 38) (Is (signature items ref)) (place + 1 + length (mark_bytes c_linkage 89) + length first.bytes)
+    → ReadsAt around allowed (OfKind TYPE) (Is (tree returned true)) (place + 1 + length (mark_bytes c_linkage 89)) cs first
+    → ReadsAt around allowed (OfKind FUNCTION_REST) (Is (signature items ref)) (place + 1 + length (mark_bytes c_linkage 89) + length first.bytes)
     first.components rest
-    → ReadsAt around allowed (OfKind 34) (Is (tree (function_type c_linkage false ref returned (parameters items)) false)) place cs
+    → ReadsAt around allowed (OfKind SOLID) (Is (tree (function_type c_linkage false ref returned (parameters items)) false)) place cs
     (written (70 ∷ (mark_bytes c_linkage 89 ++ (first.bytes ++ rest.bytes))) rest.components)
 unfolding choose alternatives pick is_in in_ranges among kinds is_chain parts_of number_of_kind may_be_empty between opening close unfolding_.behind meaning function_of tree_of ref_of is_there part
 function-solid around allowed c_linkage returned items ref place cs first rest one two =
     let mark : List ℕ = mark_bytes c_linkage 89 in
     whole-same Production.Function 34 (70 ∷ []) around allowed place (mark_value c_linkage 89 ∷ tree returned true ∷ signature items ref ∷ [])
-    (tree (function_type c_linkage false ref returned (parameters items)) false) cs (OfKind 35 ∷ OfKind 28 ∷ OfKind 38 ∷ [])
+    (tree (function_type c_linkage false ref returned (parameters items)) false) cs (OfKind MAYBE_C_LINKAGE ∷ OfKind TYPE ∷ OfKind FUNCTION_REST ∷ [])
     (written (mark ++ (first.bytes ++ rest.bytes)) rest.components)
-    (takes-byte 34 Kind.Solid Production.Function 70 refl refl (omega arith) refl) refl (λ f s. refl) (means c_linkage)
-    (then-part Production.Function (70 ∷ []) around allowed place (OfKind 35) (OfKind 28 ∷ OfKind 38 ∷ []) [] (mark_value c_linkage 89)
+    (takes-byte SOLID Kind.Solid Production.Function 70 refl refl (omega arith) refl) refl (λ f s. refl) (means c_linkage)
+    (then-part Production.Function (70 ∷ []) around allowed place (OfKind MAYBE_C_LINKAGE) (OfKind TYPE ∷ OfKind FUNCTION_REST ∷ []) [] (mark_value c_linkage 89)
     (AreOnly (mark_value c_linkage 89 ∷ tree returned true ∷ signature items ref ∷ [])) (place + 1) cs (written mark cs)
     (written (first.bytes ++ rest.bytes) rest.components)
-    (λ s. refl) (maybe-mark-reads around allowed 35 Kind.MaybeCLinkage 89 (place + 1) cs refl refl (omega arith) refl c_linkage)
-    (then-part Production.Function (70 ∷ []) around allowed place (OfKind 28) (OfKind 38 ∷ []) (mark_value c_linkage 89 ∷ [])
+    (λ s. refl) (maybe-mark-reads around allowed MAYBE_C_LINKAGE Kind.MaybeCLinkage 89 (place + 1) cs refl refl (omega arith) refl c_linkage)
+    (then-part Production.Function (70 ∷ []) around allowed place (OfKind TYPE) (OfKind FUNCTION_REST ∷ []) (mark_value c_linkage 89 ∷ [])
     (tree returned true) (AreOnly (mark_value c_linkage 89 ∷ tree returned true ∷ signature items ref ∷ [])) (place + 1 + length mark) cs
     first rest
     (λ s. refl) one
-    (then-last Production.Function (70 ∷ []) around allowed place (OfKind 38) (mark_value c_linkage 89 ∷ tree returned true ∷ [])
+    (then-last Production.Function (70 ∷ []) around allowed place (OfKind FUNCTION_REST) (mark_value c_linkage 89 ∷ tree returned true ∷ [])
     (signature items ref) (place + 1 + length mark + length first.bytes) first.components rest (λ s. refl) two)))
   where
     means : (b : Bool) (began s : State) → close Production.Function (byte_of (70 ∷ [])) around place began
@@ -353,33 +354,33 @@ function-solid around allowed c_linkage returned items ref place cs first rest o
 
 pub noexcept-behind-d : (around : Around) (allowed : Option ℕ) (c_linkage : Bool) (returned items : Term) (ref : RefQualifier) (place : ℕ)
     (cs : List Candidate) (first rest : Written)
-    → ReadsAt around allowed (OfKind 28) (Is (tree returned true)) (place + 1 + 1 + length (mark_bytes c_linkage 89)) cs first
-    → ReadsAt around allowed (OfKind 38) (Is (signature items ref)) (place + 1 + 1 + length (mark_bytes c_linkage 89) + length first.bytes)
+    → ReadsAt around allowed (OfKind TYPE) (Is (tree returned true)) (place + 1 + 1 + length (mark_bytes c_linkage 89)) cs first
+    → ReadsAt around allowed (OfKind FUNCTION_REST) (Is (signature items ref)) (place + 1 + 1 + length (mark_bytes c_linkage 89) + length first.bytes)
     first.components rest
-    → ReadsAt around allowed (OfKind 33) (Is (tree (function_type c_linkage true ref returned (parameters items)) false)) place cs
+    → ReadsAt around allowed (OfKind AFTER_D) (Is (tree (function_type c_linkage true ref returned (parameters items)) false)) place cs
     (written (111 ∷ 70 ∷ (mark_bytes c_linkage 89 ++ (first.bytes ++ rest.bytes))) rest.components)
 unfolding choose alternatives pick is_in in_ranges among kinds is_chain parts_of number_of_kind may_be_empty between opening close unfolding_.behind meaning function_of tree_of ref_of is_there part
 noexcept-behind-d around allowed c_linkage returned items ref place cs first rest one two =
     let mark : List ℕ = mark_bytes c_linkage 89 in
     whole-same Production.NoexceptFunction 33 (111 ∷ []) around allowed place
     (nothing_there ∷ mark_value c_linkage 89 ∷ tree returned true ∷ signature items ref ∷ [])
-    (tree (function_type c_linkage true ref returned (parameters items)) false) cs (Byte 70 ∷ OfKind 35 ∷ OfKind 28 ∷ OfKind 38 ∷ [])
+    (tree (function_type c_linkage true ref returned (parameters items)) false) cs (Byte 70 ∷ OfKind MAYBE_C_LINKAGE ∷ OfKind TYPE ∷ OfKind FUNCTION_REST ∷ [])
     (written (70 ∷ (mark ++ (first.bytes ++ rest.bytes))) rest.components)
-    (takes-byte 33 Kind.AfterD Production.NoexceptFunction 111 refl refl (omega arith) refl) refl (λ f s. refl) (means c_linkage)
-    (then-part Production.NoexceptFunction (111 ∷ []) around allowed place (Byte 70) (OfKind 35 ∷ OfKind 28 ∷ OfKind 38 ∷ []) [] nothing_there
+    (takes-byte AFTER_D Kind.AfterD Production.NoexceptFunction 111 refl refl (omega arith) refl) refl (λ f s. refl) (means c_linkage)
+    (then-part Production.NoexceptFunction (111 ∷ []) around allowed place (Byte 70) (OfKind MAYBE_C_LINKAGE ∷ OfKind TYPE ∷ OfKind FUNCTION_REST ∷ []) [] nothing_there
     (AreOnly (nothing_there ∷ mark_value c_linkage 89 ∷ tree returned true ∷ signature items ref ∷ [])) (place + 1) cs (written (70 ∷ []) cs)
     (written (mark ++ (first.bytes ++ rest.bytes)) rest.components)
     (λ s. refl) (fixed-reads around allowed 70 (place + 1) cs)
-    (then-part Production.NoexceptFunction (111 ∷ []) around allowed place (OfKind 35) (OfKind 28 ∷ OfKind 38 ∷ []) (nothing_there ∷ [])
+    (then-part Production.NoexceptFunction (111 ∷ []) around allowed place (OfKind MAYBE_C_LINKAGE) (OfKind TYPE ∷ OfKind FUNCTION_REST ∷ []) (nothing_there ∷ [])
     (mark_value c_linkage 89) (AreOnly (nothing_there ∷ mark_value c_linkage 89 ∷ tree returned true ∷ signature items ref ∷ []))
     (place + 1 + 1) cs (written mark cs) (written (first.bytes ++ rest.bytes) rest.components)
-    (λ s. refl) (maybe-mark-reads around allowed 35 Kind.MaybeCLinkage 89 (place + 1 + 1) cs refl refl (omega arith) refl c_linkage)
-    (then-part Production.NoexceptFunction (111 ∷ []) around allowed place (OfKind 28) (OfKind 38 ∷ [])
+    (λ s. refl) (maybe-mark-reads around allowed MAYBE_C_LINKAGE Kind.MaybeCLinkage 89 (place + 1 + 1) cs refl refl (omega arith) refl c_linkage)
+    (then-part Production.NoexceptFunction (111 ∷ []) around allowed place (OfKind TYPE) (OfKind FUNCTION_REST ∷ [])
     (nothing_there ∷ mark_value c_linkage 89 ∷ []) (tree returned true)
     (AreOnly (nothing_there ∷ mark_value c_linkage 89 ∷ tree returned true ∷ signature items ref ∷ [])) (place + 1 + 1 + length mark) cs
     first rest
     (λ s. refl) one
-    (then-last Production.NoexceptFunction (111 ∷ []) around allowed place (OfKind 38)
+    (then-last Production.NoexceptFunction (111 ∷ []) around allowed place (OfKind FUNCTION_REST)
     (nothing_there ∷ mark_value c_linkage 89 ∷ tree returned true ∷ []) (signature items ref)
     (place + 1 + 1 + length mark + length first.bytes) first.components rest (λ s. refl) two))))
   where

@@ -5,6 +5,7 @@ use Rattle.sym_shape.specs.declared.rule.Sym.TheVariants.{Kind as OfKind, Byte}
 use Rattle.sym_link.specs.Unfold.{found}
 use Rattle.cpp_grammar.specs.declared.kind.Kind.{Kind}
 use Rattle.cpp_grammar.specs.declared.production.Production.{Production}
+use Rattle.cpp_grammar.specs.KindNumbers.{ENCODING, INTEGER, ARGUMENT_LIST, PACK_LIST, ADDRESS, LITERAL, BIT, LITERAL_AFTER_D, MAYBE_ZERO, LITERAL_TYPE}
 use Rattle.cpp_grammar.specs.Grammar.{in_ranges, among, is_in, pick, number_of_kind, alternatives, choose, kinds, parts_of, is_chain, may_be_empty}
 use Rattle.cpp_grammar.specs.Term.{Signed, Term, builtin, integer, boolean, null_pointer, encoding_literal, address_of, pack, list}
 use Rattle.cpp_grammar.specs.Values.{Candidate, Around, Value, nothing_there, letter, signed, tree, tree_of, letter_of, signed_of, is_listed, part}
@@ -22,79 +23,79 @@ use Rattle.cpp_press_laws.proofs.ReadBack.Arguments.{IsSpellableNumber}
 -- ## Literals
 
 pub boolean-literal : (around : Around) (allowed : Option ℕ) (truth : Bool) (place : ℕ) (cs : List Candidate)
-    → ReadsAt around allowed (OfKind 47) (Is (tree (boolean truth) true)) place cs (written (98 ∷ cond truth 49 48 ∷ []) cs)
+    → ReadsAt around allowed (OfKind LITERAL) (Is (tree (boolean truth) true)) place cs (written (98 ∷ cond truth 49 48 ∷ []) cs)
 unfolding choose alternatives pick is_in in_ranges among kinds is_chain parts_of number_of_kind between opening close unfolding_.behind meaning letter_of part
 boolean-literal around allowed true place cs =
-    one-part Production.BoolLiteral 47 (98 ∷ []) around allowed place (OfKind 48) (letter 49) (tree (boolean true) true) cs (written (49 ∷ []) cs)
-    (takes-byte 47 Kind.Literal Production.BoolLiteral 98 refl refl (omega arith) refl) refl (λ s. refl) (λ f s. refl) (λ began s. refl)
-    (mark-reads around allowed 48 Kind.Bit 49 (place + 1) cs refl refl (omega arith))
+    one-part Production.BoolLiteral 47 (98 ∷ []) around allowed place (OfKind BIT) (letter 49) (tree (boolean true) true) cs (written (49 ∷ []) cs)
+    (takes-byte LITERAL Kind.Literal Production.BoolLiteral 98 refl refl (omega arith) refl) refl (λ s. refl) (λ f s. refl) (λ began s. refl)
+    (mark-reads around allowed BIT Kind.Bit 49 (place + 1) cs refl refl (omega arith))
 boolean-literal around allowed false place cs =
-    one-part Production.BoolLiteral 47 (98 ∷ []) around allowed place (OfKind 48) (letter 48) (tree (boolean false) true) cs (written (48 ∷ []) cs)
-    (takes-byte 47 Kind.Literal Production.BoolLiteral 98 refl refl (omega arith) refl) refl (λ s. refl) (λ f s. refl) (λ began s. refl)
-    (mark-reads around allowed 48 Kind.Bit 48 (place + 1) cs refl refl (omega arith))
+    one-part Production.BoolLiteral 47 (98 ∷ []) around allowed place (OfKind BIT) (letter 48) (tree (boolean false) true) cs (written (48 ∷ []) cs)
+    (takes-byte LITERAL Kind.Literal Production.BoolLiteral 98 refl refl (omega arith) refl) refl (λ s. refl) (λ f s. refl) (λ began s. refl)
+    (mark-reads around allowed BIT Kind.Bit 48 (place + 1) cs refl refl (omega arith))
 
 pub null-literal : (around : Around) (allowed : Option ℕ) (place : ℕ) (cs : List Candidate)
-    → ReadsAt around allowed (OfKind 47) (Is (tree null_pointer true)) place cs (written (68 ∷ 110 ∷ []) cs)
+    → ReadsAt around allowed (OfKind LITERAL) (Is (tree null_pointer true)) place cs (written (68 ∷ 110 ∷ []) cs)
 unfolding choose alternatives pick is_in in_ranges among kinds is_chain parts_of number_of_kind may_be_empty between opening close unfolding_.behind meaning part
 null-literal around allowed place cs =
-    one-part Production.LiteralWithD 47 (68 ∷ []) around allowed place (OfKind 49) (tree null_pointer true) (tree null_pointer true) cs
+    one-part Production.LiteralWithD 47 (68 ∷ []) around allowed place (OfKind LITERAL_AFTER_D) (tree null_pointer true) (tree null_pointer true) cs
     (written (110 ∷ []) cs)
-    (takes-byte 47 Kind.Literal Production.LiteralWithD 68 refl refl (omega arith) refl) refl (λ s. refl) (λ f s. refl) (λ began s. refl)
-    (one-part Production.NullLiteral 49 (110 ∷ []) around allowed (place + 1) (OfKind 50) nothing_there (tree null_pointer true) cs (written [] cs)
-    (takes-byte 49 Kind.LiteralAfterD Production.NullLiteral 110 refl refl (omega arith) refl) refl (λ s. refl) (λ f s. refl) (λ began s. refl)
-    (empty-reads around allowed 50 Kind.MaybeZero (place + 1 + 1) cs refl refl))
+    (takes-byte LITERAL Kind.Literal Production.LiteralWithD 68 refl refl (omega arith) refl) refl (λ s. refl) (λ f s. refl) (λ began s. refl)
+    (one-part Production.NullLiteral 49 (110 ∷ []) around allowed (place + 1) (OfKind MAYBE_ZERO) nothing_there (tree null_pointer true) cs (written [] cs)
+    (takes-byte LITERAL_AFTER_D Kind.LiteralAfterD Production.NullLiteral 110 refl refl (omega arith) refl) refl (λ s. refl) (λ f s. refl) (λ began s. refl)
+    (empty-reads around allowed MAYBE_ZERO Kind.MaybeZero (place + 1 + 1) cs refl refl))
 
 -- a literal of a builtin type of two letters
 pub char-literal : (around : Around) (allowed : Option ℕ) (byte : ℕ) (n : Signed) (place : ℕ) (cs : List Candidate) → byte < 256
     → choose Kind.LiteralAfterD byte ≡ Some Production.CharLiteral → IsSpellableNumber n
-    → (w : Written) → ReadsAt around allowed (OfKind 7) (Is (signed n)) (place + 1 + 1) cs w
-    → ReadsAt around allowed (OfKind 47) (Is (tree (integer (builtin (68 ∷ byte ∷ [])) n) true)) place cs (written (68 ∷ byte ∷ w.bytes) w.components)
+    → (w : Written) → ReadsAt around allowed (OfKind INTEGER) (Is (signed n)) (place + 1 + 1) cs w
+    → ReadsAt around allowed (OfKind LITERAL) (Is (tree (integer (builtin (68 ∷ byte ∷ [])) n) true)) place cs (written (68 ∷ byte ∷ w.bytes) w.components)
 unfolding choose alternatives pick is_in in_ranges among kinds is_chain parts_of number_of_kind between opening close unfolding_.behind meaning signed_of part byte_of
 char-literal around allowed byte n place cs small chosen good w one =
-    one-part Production.LiteralWithD 47 (68 ∷ []) around allowed place (OfKind 49) (tree (integer (builtin (68 ∷ byte ∷ [])) n) true)
+    one-part Production.LiteralWithD 47 (68 ∷ []) around allowed place (OfKind LITERAL_AFTER_D) (tree (integer (builtin (68 ∷ byte ∷ [])) n) true)
     (tree (integer (builtin (68 ∷ byte ∷ [])) n) true) cs (written (byte ∷ w.bytes) w.components)
-    (takes-byte 47 Kind.Literal Production.LiteralWithD 68 refl refl (omega arith) refl) refl (λ s. refl) (λ f s. refl) (λ began s. refl)
-    (one-part Production.CharLiteral 49 (byte ∷ []) around allowed (place + 1) (OfKind 7) (signed n)
+    (takes-byte LITERAL Kind.Literal Production.LiteralWithD 68 refl refl (omega arith) refl) refl (λ s. refl) (λ f s. refl) (λ began s. refl)
+    (one-part Production.CharLiteral 49 (byte ∷ []) around allowed (place + 1) (OfKind INTEGER) (signed n)
     (tree (integer (builtin (68 ∷ byte ∷ [])) n) true) cs w
-    (takes-byte 49 Kind.LiteralAfterD Production.CharLiteral byte refl chosen small refl) refl (λ s. refl) (λ f s. refl) (λ began s. refl) one)
+    (takes-byte LITERAL_AFTER_D Kind.LiteralAfterD Production.CharLiteral byte refl chosen small refl) refl (λ s. refl) (λ f s. refl) (λ began s. refl) one)
 
 -- an integer whose type becomes a component in front of its number
 pub integer-literal : (around : Around) (allowed : Option ℕ) (t : Term) (n : Signed) (place : ℕ) (cs : List Candidate) (first rest : Written)
-    → ReadsAt around allowed (OfKind 51) (Is (tree t false)) (place + 0) cs first
-    → ReadsAt around allowed (OfKind 7) (Is (signed n)) (place + 0 + length first.bytes) (more around first.components t) rest
-    → ReadsAt around allowed (OfKind 47) (Is (tree (integer t n) true)) place cs (written (first.bytes ++ rest.bytes) rest.components)
+    → ReadsAt around allowed (OfKind LITERAL_TYPE) (Is (tree t false)) (place + 0) cs first
+    → ReadsAt around allowed (OfKind INTEGER) (Is (signed n)) (place + 0 + length first.bytes) (more around first.components t) rest
+    → ReadsAt around allowed (OfKind LITERAL) (Is (tree (integer t n) true)) place cs (written (first.bytes ++ rest.bytes) rest.components)
 unfolding choose alternatives pick is_in in_ranges among kinds is_chain parts_of number_of_kind between opening close unfolding_.behind meaning with_type tree_of is_listed signed_of part appended
 integer-literal around allowed t n place cs first rest one two =
     whole-same Production.IntegerLiteral 47 [] around allowed place (tree t false ∷ signed n ∷ []) (tree (integer t n) true) cs
-    (OfKind 51 ∷ OfKind 7 ∷ []) (written (first.bytes ++ rest.bytes) rest.components)
-    (takes-none 47 Kind.Literal Production.IntegerLiteral 80 refl refl (omega arith) refl) refl (λ f s. refl) (λ began s. refl)
-    (then-part Production.IntegerLiteral [] around allowed place (OfKind 51) (OfKind 7 ∷ []) [] (tree t false)
+    (OfKind LITERAL_TYPE ∷ OfKind INTEGER ∷ []) (written (first.bytes ++ rest.bytes) rest.components)
+    (takes-none LITERAL Kind.Literal Production.IntegerLiteral 80 refl refl (omega arith) refl) refl (λ f s. refl) (λ began s. refl)
+    (then-part Production.IntegerLiteral [] around allowed place (OfKind LITERAL_TYPE) (OfKind INTEGER ∷ []) [] (tree t false)
     (AreOnly (tree t false ∷ signed n ∷ [])) (place + 0) cs first rest (λ s. refl) one
-    (row-last Production.IntegerLiteral [] around around allowed allowed place (OfKind 7) (tree t false ∷ []) (tree t false ∷ []) (Is (signed n))
+    (row-last Production.IntegerLiteral [] around around allowed allowed place (OfKind INTEGER) (tree t false ∷ []) (tree t false ∷ []) (Is (signed n))
     (AreOnly (tree t false ∷ signed n ∷ [])) (place + 0 + length first.bytes) first.components (more around first.components t) rest
     (λ s same packs. record { state = appended around t s; goes = refl; candidates = ap (λ l. more around l t) same; packs = packs })
     two (λ v h. ap (λ x. tree t false ∷ x ∷ []) h)))
 
 -- one whose type is a component already, or never is one
 pub integer-literal-same : (around : Around) (allowed : Option ℕ) (t : Term) (n : Signed) (place : ℕ) (cs : List Candidate) (first rest : Written)
-    → ReadsAt around allowed (OfKind 51) (Is (tree t true)) (place + 0) cs first
-    → ReadsAt around allowed (OfKind 7) (Is (signed n)) (place + 0 + length first.bytes) first.components rest
-    → ReadsAt around allowed (OfKind 47) (Is (tree (integer t n) true)) place cs (written (first.bytes ++ rest.bytes) rest.components)
+    → ReadsAt around allowed (OfKind LITERAL_TYPE) (Is (tree t true)) (place + 0) cs first
+    → ReadsAt around allowed (OfKind INTEGER) (Is (signed n)) (place + 0 + length first.bytes) first.components rest
+    → ReadsAt around allowed (OfKind LITERAL) (Is (tree (integer t n) true)) place cs (written (first.bytes ++ rest.bytes) rest.components)
 unfolding choose alternatives pick is_in in_ranges among kinds is_chain parts_of number_of_kind between opening close unfolding_.behind meaning with_type tree_of is_listed signed_of part
 integer-literal-same around allowed t n place cs first rest one two =
-    two-parts Production.IntegerLiteral 47 [] around allowed place (OfKind 51) (OfKind 7) (tree t true) (signed n) (tree (integer t n) true) cs
+    two-parts Production.IntegerLiteral 47 [] around allowed place (OfKind LITERAL_TYPE) (OfKind INTEGER) (tree t true) (signed n) (tree (integer t n) true) cs
     first rest
-    (takes-none 47 Kind.Literal Production.IntegerLiteral 80 refl refl (omega arith) refl) refl (λ s. refl) (λ s. refl) (λ f s. refl)
+    (takes-none LITERAL Kind.Literal Production.IntegerLiteral 80 refl refl (omega arith) refl) refl (λ s. refl) (λ s. refl) (λ f s. refl)
     (λ began s. refl) one two
 
 pub encoding-literal : (around : Around) (allowed : Option ℕ) (e : Term) (place : ℕ) (cs : List Candidate) (w : Written)
-    → ReadsAt around allowed (OfKind 4) (Is (tree e true)) (place + 1 + 1) cs w
-    → ReadsAt around allowed (OfKind 47) (Is (tree (encoding_literal e) true)) place cs (written (95 ∷ 90 ∷ w.bytes) w.components)
+    → ReadsAt around allowed (OfKind ENCODING) (Is (tree e true)) (place + 1 + 1) cs w
+    → ReadsAt around allowed (OfKind LITERAL) (Is (tree (encoding_literal e) true)) place cs (written (95 ∷ 90 ∷ w.bytes) w.components)
 unfolding choose alternatives pick is_in in_ranges among kinds is_chain parts_of number_of_kind between opening close unfolding_.behind meaning tree_of part
 encoding-literal around allowed e place cs w one =
-    two-parts Production.EncodingLiteral 47 (95 ∷ []) around allowed place (Byte 90) (OfKind 4) nothing_there (tree e true)
+    two-parts Production.EncodingLiteral 47 (95 ∷ []) around allowed place (Byte 90) (OfKind ENCODING) nothing_there (tree e true)
     (tree (encoding_literal e) true) cs (written (90 ∷ []) cs) w
-    (takes-byte 47 Kind.Literal Production.EncodingLiteral 95 refl refl (omega arith) refl) refl (λ s. refl) (λ s. refl) (λ f s. refl)
+    (takes-byte LITERAL Kind.Literal Production.EncodingLiteral 95 refl refl (omega arith) refl) refl (λ s. refl) (λ s. refl) (λ f s. refl)
     (λ began s. refl)
     (fixed-reads around allowed 90 (place + 1) cs) one
 
@@ -103,94 +104,94 @@ encoding-literal around allowed e place cs w one =
 -- a literal between L and E, and the arguments behind it
 pub literal-argument : (around : Around) (allowed : Option ℕ) (t items : Term) (last : Value) (place : ℕ) (cs : List Candidate)
     (first rest : Written) → no_items last ≡ items
-    → ReadsAt around allowed (OfKind 47) (Is (tree t true)) (place + 1) cs first
-    → ReadsAt around allowed (OfKind 44) (Is last) (place + 1 + length first.bytes + 1) first.components rest
-    → ReadsAt around allowed (OfKind 44) (Is (tree (list t items) true)) place cs (written (76 ∷ (first.bytes ++ (69 ∷ rest.bytes))) rest.components)
+    → ReadsAt around allowed (OfKind LITERAL) (Is (tree t true)) (place + 1) cs first
+    → ReadsAt around allowed (OfKind ARGUMENT_LIST) (Is last) (place + 1 + length first.bytes + 1) first.components rest
+    → ReadsAt around allowed (OfKind ARGUMENT_LIST) (Is (tree (list t items) true)) place cs (written (76 ∷ (first.bytes ++ (69 ∷ rest.bytes))) rest.components)
 unfolding choose alternatives pick is_in in_ranges among kinds is_chain parts_of number_of_kind between opening close unfolding_.behind meaning tree_of part
 literal-argument around allowed t items last place cs first rest are one two =
     whole-same Production.LiteralArgument 44 (76 ∷ []) around allowed place (tree t true ∷ nothing_there ∷ last ∷ []) (tree (list t items) true)
-    cs (OfKind 47 ∷ Byte 69 ∷ OfKind 44 ∷ []) (written (first.bytes ++ (69 ∷ rest.bytes)) rest.components)
-    (takes-byte 44 Kind.ArgumentList Production.LiteralArgument 76 refl refl (omega arith) refl) refl (λ f s. refl)
+    cs (OfKind LITERAL ∷ Byte 69 ∷ OfKind ARGUMENT_LIST ∷ []) (written (first.bytes ++ (69 ∷ rest.bytes)) rest.components)
+    (takes-byte ARGUMENT_LIST Kind.ArgumentList Production.LiteralArgument 76 refl refl (omega arith) refl) refl (λ f s. refl)
     (λ began s. ap (λ l. Ok (found (tree (list t l) true) s)) are)
-    (then-part Production.LiteralArgument (76 ∷ []) around allowed place (OfKind 47) (Byte 69 ∷ OfKind 44 ∷ []) [] (tree t true)
+    (then-part Production.LiteralArgument (76 ∷ []) around allowed place (OfKind LITERAL) (Byte 69 ∷ OfKind ARGUMENT_LIST ∷ []) [] (tree t true)
     (AreOnly (tree t true ∷ nothing_there ∷ last ∷ [])) (place + 1) cs first (written (69 ∷ rest.bytes) rest.components) (λ s. refl) one
-    (then-part Production.LiteralArgument (76 ∷ []) around allowed place (Byte 69) (OfKind 44 ∷ []) (tree t true ∷ []) nothing_there
+    (then-part Production.LiteralArgument (76 ∷ []) around allowed place (Byte 69) (OfKind ARGUMENT_LIST ∷ []) (tree t true ∷ []) nothing_there
     (AreOnly (tree t true ∷ nothing_there ∷ last ∷ [])) (place + 1 + length first.bytes) first.components
     (written (69 ∷ []) first.components) rest (λ s. refl)
     (fixed-reads around allowed 69 (place + 1 + length first.bytes) first.components)
-    (then-last Production.LiteralArgument (76 ∷ []) around allowed place (OfKind 44) (tree t true ∷ nothing_there ∷ []) last
+    (then-last Production.LiteralArgument (76 ∷ []) around allowed place (OfKind ARGUMENT_LIST) (tree t true ∷ nothing_there ∷ []) last
     (place + 1 + length first.bytes + 1) first.components rest (λ s. refl) two)))
 
 pub literal-element : (around : Around) (allowed : Option ℕ) (t items : Term) (last : Value) (place : ℕ) (cs : List Candidate)
     (first rest : Written) → no_items last ≡ items
-    → ReadsAt around allowed (OfKind 47) (Is (tree t true)) (place + 1) cs first
-    → ReadsAt around allowed (OfKind 45) (Is last) (place + 1 + length first.bytes + 1) first.components rest
-    → ReadsAt around allowed (OfKind 45) (Is (tree (list t items) true)) place cs (written (76 ∷ (first.bytes ++ (69 ∷ rest.bytes))) rest.components)
+    → ReadsAt around allowed (OfKind LITERAL) (Is (tree t true)) (place + 1) cs first
+    → ReadsAt around allowed (OfKind PACK_LIST) (Is last) (place + 1 + length first.bytes + 1) first.components rest
+    → ReadsAt around allowed (OfKind PACK_LIST) (Is (tree (list t items) true)) place cs (written (76 ∷ (first.bytes ++ (69 ∷ rest.bytes))) rest.components)
 unfolding choose alternatives pick is_in in_ranges among kinds is_chain parts_of number_of_kind between opening close unfolding_.behind meaning tree_of part
 literal-element around allowed t items last place cs first rest are one two =
     whole-same Production.LiteralElement 45 (76 ∷ []) around allowed place (tree t true ∷ nothing_there ∷ last ∷ []) (tree (list t items) true)
-    cs (OfKind 47 ∷ Byte 69 ∷ OfKind 45 ∷ []) (written (first.bytes ++ (69 ∷ rest.bytes)) rest.components)
-    (takes-byte 45 Kind.PackList Production.LiteralElement 76 refl refl (omega arith) refl) refl (λ f s. refl)
+    cs (OfKind LITERAL ∷ Byte 69 ∷ OfKind PACK_LIST ∷ []) (written (first.bytes ++ (69 ∷ rest.bytes)) rest.components)
+    (takes-byte PACK_LIST Kind.PackList Production.LiteralElement 76 refl refl (omega arith) refl) refl (λ f s. refl)
     (λ began s. ap (λ l. Ok (found (tree (list t l) true) s)) are)
-    (then-part Production.LiteralElement (76 ∷ []) around allowed place (OfKind 47) (Byte 69 ∷ OfKind 45 ∷ []) [] (tree t true)
+    (then-part Production.LiteralElement (76 ∷ []) around allowed place (OfKind LITERAL) (Byte 69 ∷ OfKind PACK_LIST ∷ []) [] (tree t true)
     (AreOnly (tree t true ∷ nothing_there ∷ last ∷ [])) (place + 1) cs first (written (69 ∷ rest.bytes) rest.components) (λ s. refl) one
-    (then-part Production.LiteralElement (76 ∷ []) around allowed place (Byte 69) (OfKind 45 ∷ []) (tree t true ∷ []) nothing_there
+    (then-part Production.LiteralElement (76 ∷ []) around allowed place (Byte 69) (OfKind PACK_LIST ∷ []) (tree t true ∷ []) nothing_there
     (AreOnly (tree t true ∷ nothing_there ∷ last ∷ [])) (place + 1 + length first.bytes) first.components
     (written (69 ∷ []) first.components) rest (λ s. refl)
     (fixed-reads around allowed 69 (place + 1 + length first.bytes) first.components)
-    (then-last Production.LiteralElement (76 ∷ []) around allowed place (OfKind 45) (tree t true ∷ nothing_there ∷ []) last
+    (then-last Production.LiteralElement (76 ∷ []) around allowed place (OfKind PACK_LIST) (tree t true ∷ nothing_there ∷ []) last
     (place + 1 + length first.bytes + 1) first.components rest (λ s. refl) two)))
 
 -- a pack between J and E, and the arguments behind it
 pub pack-argument : (around : Around) (allowed : Option ℕ) (elements items : Term) (inside_ last : Value) (place : ℕ) (cs : List Candidate)
     (first rest : Written) → no_items inside_ ≡ elements → no_items last ≡ items
-    → ReadsAt around allowed (OfKind 45) (Is inside_) (place + 1) cs first
-    → ReadsAt around allowed (OfKind 44) (Is last) (place + 1 + length first.bytes + 1) first.components rest
-    → ReadsAt around allowed (OfKind 44) (Is (tree (list (pack elements) items) true)) place cs
+    → ReadsAt around allowed (OfKind PACK_LIST) (Is inside_) (place + 1) cs first
+    → ReadsAt around allowed (OfKind ARGUMENT_LIST) (Is last) (place + 1 + length first.bytes + 1) first.components rest
+    → ReadsAt around allowed (OfKind ARGUMENT_LIST) (Is (tree (list (pack elements) items) true)) place cs
     (written (74 ∷ (first.bytes ++ (69 ∷ rest.bytes))) rest.components)
 unfolding choose alternatives pick is_in in_ranges among kinds is_chain parts_of number_of_kind between opening close unfolding_.behind meaning tree_of part
 pack-argument around allowed elements items inside_ last place cs first rest are_in are one two =
     whole-same Production.PackArgument 44 (74 ∷ []) around allowed place (tree (pack (no_items inside_)) true ∷ nothing_there ∷ last ∷ [])
-    (tree (list (pack elements) items) true) cs (OfKind 45 ∷ Byte 69 ∷ OfKind 44 ∷ [])
+    (tree (list (pack elements) items) true) cs (OfKind PACK_LIST ∷ Byte 69 ∷ OfKind ARGUMENT_LIST ∷ [])
     (written (first.bytes ++ (69 ∷ rest.bytes)) rest.components)
-    (takes-byte 44 Kind.ArgumentList Production.PackArgument 74 refl refl (omega arith) refl) refl (λ f s. refl)
+    (takes-byte ARGUMENT_LIST Kind.ArgumentList Production.PackArgument 74 refl refl (omega arith) refl) refl (λ f s. refl)
     (λ began s. ap (λ l. Ok (found (tree (list (pack l) (no_items last)) true) s)) are_in ∙ ap
     (λ l. Ok (found (tree (list (pack elements) l) true) s)) are)
-    (then-part Production.PackArgument (74 ∷ []) around allowed place (OfKind 45) (Byte 69 ∷ OfKind 44 ∷ []) [] inside_
+    (then-part Production.PackArgument (74 ∷ []) around allowed place (OfKind PACK_LIST) (Byte 69 ∷ OfKind ARGUMENT_LIST ∷ []) [] inside_
     (AreOnly (tree (pack (no_items inside_)) true ∷ nothing_there ∷ last ∷ [])) (place + 1) cs first
     (written (69 ∷ rest.bytes) rest.components) (λ s. refl) one
-    (row-part Production.PackArgument (74 ∷ []) around around allowed allowed place (Byte 69) (OfKind 44 ∷ []) (inside_ ∷ [])
+    (row-part Production.PackArgument (74 ∷ []) around around allowed allowed place (Byte 69) (OfKind ARGUMENT_LIST ∷ []) (inside_ ∷ [])
     (tree (pack (no_items inside_)) true ∷ []) (Is nothing_there) (AreOnly (tree (pack (no_items inside_)) true ∷ nothing_there ∷ last ∷ []))
     (place + 1 + length first.bytes) first.components first.components (written (69 ∷ []) first.components) rest
     (passes-by Production.PackArgument around allowed place (inside_ ∷ []) first.components around (tree (pack (no_items inside_)) true ∷ [])
     (λ s. refl))
     (fixed-reads around allowed 69 (place + 1 + length first.bytes) first.components) (λ packs h. h)
-    (λ v h. subst (λ x. RowAt Production.PackArgument (74 ∷ []) around allowed place (OfKind 44 ∷ [])
+    (λ v h. subst (λ x. RowAt Production.PackArgument (74 ∷ []) around allowed place (OfKind ARGUMENT_LIST ∷ [])
     (tree (pack (no_items inside_)) true ∷ x ∷ []) (AreOnly (tree (pack (no_items inside_)) true ∷ nothing_there ∷ last ∷ []))
     (place + 1 + length first.bytes + 1) first.components rest) (sym h)
-    (then-last Production.PackArgument (74 ∷ []) around allowed place (OfKind 44) (tree (pack (no_items inside_)) true ∷ nothing_there ∷ []) last
+    (then-last Production.PackArgument (74 ∷ []) around allowed place (OfKind ARGUMENT_LIST) (tree (pack (no_items inside_)) true ∷ nothing_there ∷ []) last
     (place + 1 + length first.bytes + 1) first.components rest (λ s. refl) two))))
 
 -- ## Addresses
 
 -- an encoding's address
 pub address-reads : (around : Around) (allowed : Option ℕ) (e : Term) (place : ℕ) (cs : List Candidate) (w : Written)
-    → ReadsAt around allowed (OfKind 4) (Is (tree e true)) (place + 1 + 1 + 1) cs w
-    → ReadsAt around allowed (OfKind 46) (Is (tree (address_of e) true)) place cs (written (76 ∷ 95 ∷ 90 ∷ (w.bytes ++ (69 ∷ 69 ∷ []))) w.components)
+    → ReadsAt around allowed (OfKind ENCODING) (Is (tree e true)) (place + 1 + 1 + 1) cs w
+    → ReadsAt around allowed (OfKind ADDRESS) (Is (tree (address_of e) true)) place cs (written (76 ∷ 95 ∷ 90 ∷ (w.bytes ++ (69 ∷ 69 ∷ []))) w.components)
 unfolding choose alternatives pick is_in in_ranges among kinds is_chain parts_of number_of_kind between opening close unfolding_.behind meaning tree_of part
 address-reads around allowed e place cs w one =
     let all : List Value = nothing_there ∷ nothing_there ∷ tree e true ∷ nothing_there ∷ nothing_there ∷ [] in
     let end : ℕ = place + 1 + 1 + 1 + length w.bytes in
     whole-same Production.Address 46 (76 ∷ []) around allowed place all (tree (address_of e) true) cs
-    (Byte 95 ∷ Byte 90 ∷ OfKind 4 ∷ Byte 69 ∷ Byte 69 ∷ []) (written (95 ∷ 90 ∷ (w.bytes ++ (69 ∷ 69 ∷ []))) w.components)
-    (takes-byte 46 Kind.Address Production.Address 76 refl refl (omega arith) refl) refl (λ f s. refl) (λ began s. refl)
-    (then-part Production.Address (76 ∷ []) around allowed place (Byte 95) (Byte 90 ∷ OfKind 4 ∷ Byte 69 ∷ Byte 69 ∷ []) [] nothing_there
+    (Byte 95 ∷ Byte 90 ∷ OfKind ENCODING ∷ Byte 69 ∷ Byte 69 ∷ []) (written (95 ∷ 90 ∷ (w.bytes ++ (69 ∷ 69 ∷ []))) w.components)
+    (takes-byte ADDRESS Kind.Address Production.Address 76 refl refl (omega arith) refl) refl (λ f s. refl) (λ began s. refl)
+    (then-part Production.Address (76 ∷ []) around allowed place (Byte 95) (Byte 90 ∷ OfKind ENCODING ∷ Byte 69 ∷ Byte 69 ∷ []) [] nothing_there
     (AreOnly all) (place + 1) cs (written (95 ∷ []) cs) (written (90 ∷ (w.bytes ++ (69 ∷ 69 ∷ []))) w.components) (λ s. refl)
     (fixed-reads around allowed 95 (place + 1) cs)
-    (then-part Production.Address (76 ∷ []) around allowed place (Byte 90) (OfKind 4 ∷ Byte 69 ∷ Byte 69 ∷ []) (nothing_there ∷ []) nothing_there
+    (then-part Production.Address (76 ∷ []) around allowed place (Byte 90) (OfKind ENCODING ∷ Byte 69 ∷ Byte 69 ∷ []) (nothing_there ∷ []) nothing_there
     (AreOnly all) (place + 1 + 1) cs (written (90 ∷ []) cs) (written (w.bytes ++ (69 ∷ 69 ∷ [])) w.components) (λ s. refl)
     (fixed-reads around allowed 90 (place + 1 + 1) cs)
-    (then-part Production.Address (76 ∷ []) around allowed place (OfKind 4) (Byte 69 ∷ Byte 69 ∷ []) (nothing_there ∷ nothing_there ∷ [])
+    (then-part Production.Address (76 ∷ []) around allowed place (OfKind ENCODING) (Byte 69 ∷ Byte 69 ∷ []) (nothing_there ∷ nothing_there ∷ [])
     (tree e true) (AreOnly all) (place + 1 + 1 + 1) cs w (written (69 ∷ 69 ∷ []) w.components) (λ s. refl) one
     (then-part Production.Address (76 ∷ []) around allowed place (Byte 69) (Byte 69 ∷ []) (nothing_there ∷ nothing_there ∷ tree e true ∷ [])
     nothing_there (AreOnly all) end w.components (written (69 ∷ []) w.components) (written (69 ∷ []) w.components) (λ s. refl)
@@ -201,48 +202,48 @@ address-reads around allowed e place cs w one =
 
 pub address-argument : (around : Around) (allowed : Option ℕ) (t items : Term) (last : Value) (place : ℕ) (cs : List Candidate)
     (first rest : Written) → no_items last ≡ items
-    → ReadsAt around allowed (OfKind 46) (Is (tree t true)) (place + 1 + 1 + 1) cs first
-    → ReadsAt around allowed (OfKind 44) (Is last) (place + 1 + 1 + 1 + length first.bytes) first.components rest
-    → ReadsAt around allowed (OfKind 44) (Is (tree (list t items) true)) place cs
+    → ReadsAt around allowed (OfKind ADDRESS) (Is (tree t true)) (place + 1 + 1 + 1) cs first
+    → ReadsAt around allowed (OfKind ARGUMENT_LIST) (Is last) (place + 1 + 1 + 1 + length first.bytes) first.components rest
+    → ReadsAt around allowed (OfKind ARGUMENT_LIST) (Is (tree (list t items) true)) place cs
     (written (88 ∷ 97 ∷ 100 ∷ (first.bytes ++ rest.bytes)) rest.components)
 unfolding choose alternatives pick is_in in_ranges among kinds is_chain parts_of number_of_kind between opening close unfolding_.behind meaning tree_of part
 address-argument around allowed t items last place cs first rest are one two =
     let all : List Value = nothing_there ∷ nothing_there ∷ tree t true ∷ last ∷ [] in
     whole-same Production.AddressArgument 44 (88 ∷ []) around allowed place all (tree (list t items) true) cs
-    (Byte 97 ∷ Byte 100 ∷ OfKind 46 ∷ OfKind 44 ∷ []) (written (97 ∷ 100 ∷ (first.bytes ++ rest.bytes)) rest.components)
-    (takes-byte 44 Kind.ArgumentList Production.AddressArgument 88 refl refl (omega arith) refl) refl (λ f s. refl)
+    (Byte 97 ∷ Byte 100 ∷ OfKind ADDRESS ∷ OfKind ARGUMENT_LIST ∷ []) (written (97 ∷ 100 ∷ (first.bytes ++ rest.bytes)) rest.components)
+    (takes-byte ARGUMENT_LIST Kind.ArgumentList Production.AddressArgument 88 refl refl (omega arith) refl) refl (λ f s. refl)
     (λ began s. ap (λ l. Ok (found (tree (list t l) true) s)) are)
-    (then-part Production.AddressArgument (88 ∷ []) around allowed place (Byte 97) (Byte 100 ∷ OfKind 46 ∷ OfKind 44 ∷ []) [] nothing_there
+    (then-part Production.AddressArgument (88 ∷ []) around allowed place (Byte 97) (Byte 100 ∷ OfKind ADDRESS ∷ OfKind ARGUMENT_LIST ∷ []) [] nothing_there
     (AreOnly all) (place + 1) cs (written (97 ∷ []) cs) (written (100 ∷ (first.bytes ++ rest.bytes)) rest.components) (λ s. refl)
     (fixed-reads around allowed 97 (place + 1) cs)
-    (then-part Production.AddressArgument (88 ∷ []) around allowed place (Byte 100) (OfKind 46 ∷ OfKind 44 ∷ []) (nothing_there ∷ [])
+    (then-part Production.AddressArgument (88 ∷ []) around allowed place (Byte 100) (OfKind ADDRESS ∷ OfKind ARGUMENT_LIST ∷ []) (nothing_there ∷ [])
     nothing_there (AreOnly all) (place + 1 + 1) cs (written (100 ∷ []) cs) (written (first.bytes ++ rest.bytes) rest.components) (λ s. refl)
     (fixed-reads around allowed 100 (place + 1 + 1) cs)
-    (then-part Production.AddressArgument (88 ∷ []) around allowed place (OfKind 46) (OfKind 44 ∷ []) (nothing_there ∷ nothing_there ∷ [])
+    (then-part Production.AddressArgument (88 ∷ []) around allowed place (OfKind ADDRESS) (OfKind ARGUMENT_LIST ∷ []) (nothing_there ∷ nothing_there ∷ [])
     (tree t true) (AreOnly all) (place + 1 + 1 + 1) cs first rest (λ s. refl) one
-    (then-last Production.AddressArgument (88 ∷ []) around allowed place (OfKind 44) (nothing_there ∷ nothing_there ∷ tree t true ∷ []) last
+    (then-last Production.AddressArgument (88 ∷ []) around allowed place (OfKind ARGUMENT_LIST) (nothing_there ∷ nothing_there ∷ tree t true ∷ []) last
     (place + 1 + 1 + 1 + length first.bytes) first.components rest (λ s. refl) two))))
 
 pub address-element : (around : Around) (allowed : Option ℕ) (t items : Term) (last : Value) (place : ℕ) (cs : List Candidate)
     (first rest : Written) → no_items last ≡ items
-    → ReadsAt around allowed (OfKind 46) (Is (tree t true)) (place + 1 + 1 + 1) cs first
-    → ReadsAt around allowed (OfKind 45) (Is last) (place + 1 + 1 + 1 + length first.bytes) first.components rest
-    → ReadsAt around allowed (OfKind 45) (Is (tree (list t items) true)) place cs
+    → ReadsAt around allowed (OfKind ADDRESS) (Is (tree t true)) (place + 1 + 1 + 1) cs first
+    → ReadsAt around allowed (OfKind PACK_LIST) (Is last) (place + 1 + 1 + 1 + length first.bytes) first.components rest
+    → ReadsAt around allowed (OfKind PACK_LIST) (Is (tree (list t items) true)) place cs
     (written (88 ∷ 97 ∷ 100 ∷ (first.bytes ++ rest.bytes)) rest.components)
 unfolding choose alternatives pick is_in in_ranges among kinds is_chain parts_of number_of_kind between opening close unfolding_.behind meaning tree_of part
 address-element around allowed t items last place cs first rest are one two =
     let all : List Value = nothing_there ∷ nothing_there ∷ tree t true ∷ last ∷ [] in
     whole-same Production.AddressElement 45 (88 ∷ []) around allowed place all (tree (list t items) true) cs
-    (Byte 97 ∷ Byte 100 ∷ OfKind 46 ∷ OfKind 45 ∷ []) (written (97 ∷ 100 ∷ (first.bytes ++ rest.bytes)) rest.components)
-    (takes-byte 45 Kind.PackList Production.AddressElement 88 refl refl (omega arith) refl) refl (λ f s. refl)
+    (Byte 97 ∷ Byte 100 ∷ OfKind ADDRESS ∷ OfKind PACK_LIST ∷ []) (written (97 ∷ 100 ∷ (first.bytes ++ rest.bytes)) rest.components)
+    (takes-byte PACK_LIST Kind.PackList Production.AddressElement 88 refl refl (omega arith) refl) refl (λ f s. refl)
     (λ began s. ap (λ l. Ok (found (tree (list t l) true) s)) are)
-    (then-part Production.AddressElement (88 ∷ []) around allowed place (Byte 97) (Byte 100 ∷ OfKind 46 ∷ OfKind 45 ∷ []) [] nothing_there
+    (then-part Production.AddressElement (88 ∷ []) around allowed place (Byte 97) (Byte 100 ∷ OfKind ADDRESS ∷ OfKind PACK_LIST ∷ []) [] nothing_there
     (AreOnly all) (place + 1) cs (written (97 ∷ []) cs) (written (100 ∷ (first.bytes ++ rest.bytes)) rest.components) (λ s. refl)
     (fixed-reads around allowed 97 (place + 1) cs)
-    (then-part Production.AddressElement (88 ∷ []) around allowed place (Byte 100) (OfKind 46 ∷ OfKind 45 ∷ []) (nothing_there ∷ [])
+    (then-part Production.AddressElement (88 ∷ []) around allowed place (Byte 100) (OfKind ADDRESS ∷ OfKind PACK_LIST ∷ []) (nothing_there ∷ [])
     nothing_there (AreOnly all) (place + 1 + 1) cs (written (100 ∷ []) cs) (written (first.bytes ++ rest.bytes) rest.components) (λ s. refl)
     (fixed-reads around allowed 100 (place + 1 + 1) cs)
-    (then-part Production.AddressElement (88 ∷ []) around allowed place (OfKind 46) (OfKind 45 ∷ []) (nothing_there ∷ nothing_there ∷ [])
+    (then-part Production.AddressElement (88 ∷ []) around allowed place (OfKind ADDRESS) (OfKind PACK_LIST ∷ []) (nothing_there ∷ nothing_there ∷ [])
     (tree t true) (AreOnly all) (place + 1 + 1 + 1) cs first rest (λ s. refl) one
-    (then-last Production.AddressElement (88 ∷ []) around allowed place (OfKind 45) (nothing_there ∷ nothing_there ∷ tree t true ∷ []) last
+    (then-last Production.AddressElement (88 ∷ []) around allowed place (OfKind PACK_LIST) (nothing_there ∷ nothing_there ∷ tree t true ∷ []) last
     (place + 1 + 1 + 1 + length first.bytes) first.components rest (λ s. refl) two))))

@@ -11,6 +11,7 @@ use Rattle.sym_shape.specs.Tree as shape
 use Rattle.sym_link.specs.Unfold.{found}
 use Rattle.cpp_grammar.specs.declared.kind.Kind.{Kind}
 use Rattle.cpp_grammar.specs.declared.production.Production.{Production}
+use Rattle.cpp_grammar.specs.KindNumbers.{ANONYMOUS, ITEM, ITEMS}
 use Rattle.cpp_grammar.specs.Grammar.{in_ranges, among, is_in, pick, number_of_kind, alternatives, choose, kinds, parts_of, is_chain}
 use Rattle.cpp_grammar.specs.Term.{Term, lambda, unnamed, list}
 use Rattle.cpp_grammar.specs.Values as value
@@ -57,14 +58,14 @@ last-digits (fixed x) empty byte t digits = refl
 last-digits (fixed x) (fixed y) byte t digits = refl
 
 pub unnamed-reads : (around : Around) (allowed : Option ℕ) (j place : ℕ) (cs : List Candidate) → j < greatest → nat_lt (j + 1) (2 ^ 64) ≡ true
-    → ReadsAt around allowed (OfKind 27) (Is (piece (unnamed (j + 1)))) place cs (written (116 ∷ ordinal j) cs)
+    → ReadsAt around allowed (OfKind ANONYMOUS) (Is (piece (unnamed (j + 1)))) place cs (written (116 ∷ ordinal j) cs)
 unfolding choose alternatives pick is_in in_ranges among kinds is_chain parts_of between opening close unfolding_.behind meaning text_of part last_token row-last number-reads byte_of
 unnamed-reads around allowed j place cs small below =
-    same-written around allowed (OfKind 27) (Is (piece (unnamed (j + 1)))) place cs cs
+    same-written around allowed (OfKind ANONYMOUS) (Is (piece (unnamed (j + 1)))) place cs cs
     (116 ∷ (((ordinal_token j).before ++ ordinal_digits j) ++ (95 ∷ []))) (116 ∷ ordinal j) (ap (λ l. 116 ∷ l) (ordinal-spelled j))
     (production-opened Production.Unnamed 27 (116 ∷ []) around allowed allowed place (AreOnly (value.text (ordinal_digits j) ∷ []))
     (Is (piece (unnamed (j + 1)))) cs cs (Number Decimal ∷ []) (written (((ordinal_token j).before ++ ordinal_digits j) ++ (95 ∷ [])) cs)
-    (takes-byte 27 Kind.Anonymous Production.Unnamed 116 refl refl (omega arith) refl) refl
+    (takes-byte ANONYMOUS Kind.Anonymous Production.Unnamed 116 refl refl (omega arith) refl) refl
     (row-last Production.Unnamed (116 ∷ []) around around allowed allowed place (Number Decimal) [] [] (Is (value.text (ordinal_digits j)))
     (AreOnly (value.text (ordinal_digits j) ∷ [])) (place + 1) cs cs (written (((ordinal_token j).before ++ ordinal_digits j) ++ (95 ∷ []))
     cs)
@@ -76,9 +77,9 @@ unnamed-reads around allowed j place cs small below =
 
 pub lambda-reads : (around : Around) (allowed : Option ℕ) (t items : Term) (last : Value) (j place : ℕ) (cs : List Candidate)
     (first rest : Written) → no_items last ≡ items → j < greatest → nat_lt (j + 1) (2 ^ 64) ≡ true
-    → ReadsAt (in_signature around) allowed (OfKind 30) (Is (tree t true)) (place + 1) cs first
-    → ReadsAt (in_signature around) allowed (OfKind 41) (Is last) (place + 1 + length first.bytes) first.components rest
-    → ReadsAt around allowed (OfKind 27) (Is (piece (lambda (parameters (list t items)) (j + 1)))) place cs
+    → ReadsAt (in_signature around) allowed (OfKind ITEM) (Is (tree t true)) (place + 1) cs first
+    → ReadsAt (in_signature around) allowed (OfKind ITEMS) (Is last) (place + 1 + length first.bytes) first.components rest
+    → ReadsAt around allowed (OfKind ANONYMOUS) (Is (piece (lambda (parameters (list t items)) (j + 1)))) place cs
     (written (108 ∷ (first.bytes ++ (rest.bytes ++ (69 ∷ ordinal j)))) rest.components)
 unfolding choose alternatives pick is_in in_ranges among kinds is_chain parts_of number_of_kind between opening close unfolding_.behind meaning tree_of text_of part row-joined row-part row-last then-in last-in fixed-reads number-reads byte_of
 lambda-reads around allowed t items last j place cs first rest are small below one two =
@@ -86,16 +87,16 @@ lambda-reads around allowed t items last j place cs first rest are small below o
     let number : Written = written (((ordinal_token j).before ++ ordinal_digits j) ++ (95 ∷ [])) rest.components in
     let at : ℕ = place + 1 + length first.bytes in
     let all : List Value = tree t true ∷ last ∷ nothing_there ∷ value.text (ordinal_digits j) ∷ [] in
-    same-written around allowed (OfKind 27) (Is (piece (lambda (parameters (list t items)) (j + 1)))) place cs rest.components
+    same-written around allowed (OfKind ANONYMOUS) (Is (piece (lambda (parameters (list t items)) (j + 1)))) place cs rest.components
     (108 ∷ (first.bytes ++ (rest.bytes ++ (69 ∷ number.bytes)))) (108 ∷ (first.bytes ++ (rest.bytes ++ (69 ∷ ordinal j))))
     (ap (λ l. 108 ∷ (first.bytes ++ (rest.bytes ++ (69 ∷ l)))) (ordinal-spelled j))
     (production-opened Production.Lambda 27 (108 ∷ []) around allowed allowed place (AreOnly all)
-    (Is (piece (lambda (parameters (list t items)) (j + 1)))) cs rest.components (OfKind 30 ∷ OfKind 41 ∷ Byte 69 ∷ Number Decimal ∷ [])
+    (Is (piece (lambda (parameters (list t items)) (j + 1)))) cs rest.components (OfKind ITEM ∷ OfKind ITEMS ∷ Byte 69 ∷ Number Decimal ∷ [])
     (written (first.bytes ++ (rest.bytes ++ (69 ∷ number.bytes))) rest.components)
-    (takes-byte 27 Kind.Anonymous Production.Lambda 108 refl refl (omega arith) refl) refl
-    (then-in Production.Lambda (108 ∷ []) around inner allowed place (OfKind 30) (OfKind 41 ∷ Byte 69 ∷ Number Decimal ∷ []) [] (tree t true)
+    (takes-byte ANONYMOUS Kind.Anonymous Production.Lambda 108 refl refl (omega arith) refl) refl
+    (then-in Production.Lambda (108 ∷ []) around inner allowed place (OfKind ITEM) (OfKind ITEMS ∷ Byte 69 ∷ Number Decimal ∷ []) [] (tree t true)
     (AreOnly all) (place + 1) cs first (written (rest.bytes ++ (69 ∷ number.bytes)) rest.components) (λ s. refl) one
-    (then-in Production.Lambda (108 ∷ []) around inner allowed place (OfKind 41) (Byte 69 ∷ Number Decimal ∷ []) (tree t true ∷ []) last
+    (then-in Production.Lambda (108 ∷ []) around inner allowed place (OfKind ITEMS) (Byte 69 ∷ Number Decimal ∷ []) (tree t true ∷ []) last
     (AreOnly all) at first.components rest (written (69 ∷ number.bytes) rest.components) (λ s. refl) two
     (then-in Production.Lambda (108 ∷ []) around inner allowed place (Byte 69) (Number Decimal ∷ []) (tree t true ∷ last ∷ []) nothing_there
     (AreOnly all) (at + length rest.bytes) rest.components (written (69 ∷ []) rest.components) number (λ s. refl)

@@ -6,6 +6,7 @@ use Rattle.sym_shape.specs.declared.rule.Sym.TheVariants.{Kind as OfKind}
 use Rattle.sym_shape.specs.Tree.{TakesRule}
 use Rattle.cpp_grammar.specs.declared.kind.Kind.{Kind}
 use Rattle.cpp_grammar.specs.declared.production.Production.{Production}
+use Rattle.cpp_grammar.specs.KindNumbers.{COMPLETE_NAME, UNQUALIFIED, COMPONENT, CONSTRUCTOR_DIGIT, DESTRUCTOR_DIGIT, ENTITY, TYPE_ENTITY, ANONYMOUS, ITEM, SOLID, SOURCE_OR_LOCAL, ITEMS, MAYBE_ARGUMENTS, LITERAL_TYPE, OPERATOR}
 use Rattle.cpp_grammar.specs.Grammar.{in_ranges, among, is_in, pick, alternatives, choose, kinds, is_chain}
 use Rattle.cpp_grammar.specs.Table.{abi, rule_of}
 use Rattle.cpp_grammar.specs.Term.{Term, source, operator, literal_operator, constructor, destructor, lambda, unnamed, list}
@@ -50,78 +51,78 @@ PieceRule k _ = ⊥
 -- solid types, types of literals
 pub type-rule : (p : Term) → names_type p ≡ true → NameRule 34 p
 unfolding names_type begins_name choose alternatives pick is_in in_ranges among kinds is_chain
-type-rule (source false name) h = takes-none 34 Kind.Solid Production.SourceName 48 refl refl (omega arith) refl
-type-rule (lambda parameters j) h = takes-byte 34 Kind.Solid Production.LocalTypeName 85 refl refl (omega arith) refl
-type-rule (unnamed j) h = takes-byte 34 Kind.Solid Production.LocalTypeName 85 refl refl (omega arith) refl
+type-rule (source false name) h = takes-none SOLID Kind.Solid Production.SourceName 48 refl refl (omega arith) refl
+type-rule (lambda parameters j) h = takes-byte SOLID Kind.Solid Production.LocalTypeName 85 refl refl (omega arith) refl
+type-rule (unnamed j) h = takes-byte SOLID Kind.Solid Production.LocalTypeName 85 refl refl (omega arith) refl
 type-rule (source true name) h = absurd (let e : false ≡ true = h in cc)
 type-rule _ h = absurd (let e : false ≡ true = h in cc)
 
 pub literal-type-rule : (p : Term) → names_type p ≡ true → NameRule 51 p
 unfolding names_type begins_name choose alternatives pick is_in in_ranges among kinds is_chain
-literal-type-rule (source false name) h = takes-none 51 Kind.LiteralType Production.SourceName 48 refl refl (omega arith) refl
-literal-type-rule (lambda parameters j) h = takes-byte 51 Kind.LiteralType Production.LocalTypeName 85 refl refl (omega arith) refl
-literal-type-rule (unnamed j) h = takes-byte 51 Kind.LiteralType Production.LocalTypeName 85 refl refl (omega arith) refl
+literal-type-rule (source false name) h = takes-none LITERAL_TYPE Kind.LiteralType Production.SourceName 48 refl refl (omega arith) refl
+literal-type-rule (lambda parameters j) h = takes-byte LITERAL_TYPE Kind.LiteralType Production.LocalTypeName 85 refl refl (omega arith) refl
+literal-type-rule (unnamed j) h = takes-byte LITERAL_TYPE Kind.LiteralType Production.LocalTypeName 85 refl refl (omega arith) refl
 literal-type-rule (source true name) h = absurd (let e : false ≡ true = h in cc)
 literal-type-rule _ h = absurd (let e : false ≡ true = h in cc)
 
 -- an encoding's own name
 pub own-rule : (p : Term) → names_function p ≡ true → NameRule 8 p
 unfolding names_function begins_name choose alternatives pick is_in in_ranges among kinds is_chain
-own-rule (source true name) h = takes-byte 8 Kind.CompleteName Production.InternalName 76 refl refl (omega arith) refl
-own-rule (source false name) h = takes-none 8 Kind.CompleteName Production.SourceName 48 refl refl (omega arith) refl
-own-rule (operator a b) h = takes-none 8 Kind.CompleteName Production.OperatorName 110 refl refl (omega arith) refl
-own-rule (literal_operator name) h = takes-none 8 Kind.CompleteName Production.OperatorName 110 refl refl (omega arith) refl
-own-rule (lambda parameters j) h = takes-byte 8 Kind.CompleteName Production.LocalTypeName 85 refl refl (omega arith) refl
-own-rule (unnamed j) h = takes-byte 8 Kind.CompleteName Production.LocalTypeName 85 refl refl (omega arith) refl
+own-rule (source true name) h = takes-byte COMPLETE_NAME Kind.CompleteName Production.InternalName 76 refl refl (omega arith) refl
+own-rule (source false name) h = takes-none COMPLETE_NAME Kind.CompleteName Production.SourceName 48 refl refl (omega arith) refl
+own-rule (operator a b) h = takes-none COMPLETE_NAME Kind.CompleteName Production.OperatorName 110 refl refl (omega arith) refl
+own-rule (literal_operator name) h = takes-none COMPLETE_NAME Kind.CompleteName Production.OperatorName 110 refl refl (omega arith) refl
+own-rule (lambda parameters j) h = takes-byte COMPLETE_NAME Kind.CompleteName Production.LocalTypeName 85 refl refl (omega arith) refl
+own-rule (unnamed j) h = takes-byte COMPLETE_NAME Kind.CompleteName Production.LocalTypeName 85 refl refl (omega arith) refl
 own-rule _ h = absurd (let e : false ≡ true = h in cc)
 
 -- behind a prefix
 pub member-rule : (p : Term) → names_member p ≡ true → NameRule 19 p
 unfolding names_member names_function begins_name choose alternatives pick is_in in_ranges among kinds is_chain
-member-rule (source true name) h = takes-byte 19 Kind.Component Production.InternalName 76 refl refl (omega arith) refl
-member-rule (source false name) h = takes-none 19 Kind.Component Production.SourceName 48 refl refl (omega arith) refl
-member-rule (operator a b) h = takes-none 19 Kind.Component Production.OperatorName 110 refl refl (omega arith) refl
-member-rule (literal_operator name) h = takes-none 19 Kind.Component Production.OperatorName 110 refl refl (omega arith) refl
+member-rule (source true name) h = takes-byte COMPONENT Kind.Component Production.InternalName 76 refl refl (omega arith) refl
+member-rule (source false name) h = takes-none COMPONENT Kind.Component Production.SourceName 48 refl refl (omega arith) refl
+member-rule (operator a b) h = takes-none COMPONENT Kind.Component Production.OperatorName 110 refl refl (omega arith) refl
+member-rule (literal_operator name) h = takes-none COMPONENT Kind.Component Production.OperatorName 110 refl refl (omega arith) refl
 member-rule (constructor digit) h = refl
 member-rule (destructor digit) h = refl
-member-rule (lambda parameters j) h = takes-byte 19 Kind.Component Production.LocalTypeName 85 refl refl (omega arith) refl
-member-rule (unnamed j) h = takes-byte 19 Kind.Component Production.LocalTypeName 85 refl refl (omega arith) refl
+member-rule (lambda parameters j) h = takes-byte COMPONENT Kind.Component Production.LocalTypeName 85 refl refl (omega arith) refl
+member-rule (unnamed j) h = takes-byte COMPONENT Kind.Component Production.LocalTypeName 85 refl refl (omega arith) refl
 member-rule _ h = absurd (let e : false ≡ true = h in cc)
 
 -- a local entity, in a name and in a type
 pub entity-rule : (p : Term) → begins_name p ≡ true → NameRule 23 p
 unfolding begins_name choose alternatives pick is_in in_ranges among kinds is_chain
-entity-rule (source true name) h = takes-byte 23 Kind.Entity Production.InternalName 76 refl refl (omega arith) refl
-entity-rule (source false name) h = takes-none 23 Kind.Entity Production.SourceName 48 refl refl (omega arith) refl
-entity-rule (lambda parameters j) h = takes-byte 23 Kind.Entity Production.LocalTypeName 85 refl refl (omega arith) refl
-entity-rule (unnamed j) h = takes-byte 23 Kind.Entity Production.LocalTypeName 85 refl refl (omega arith) refl
+entity-rule (source true name) h = takes-byte ENTITY Kind.Entity Production.InternalName 76 refl refl (omega arith) refl
+entity-rule (source false name) h = takes-none ENTITY Kind.Entity Production.SourceName 48 refl refl (omega arith) refl
+entity-rule (lambda parameters j) h = takes-byte ENTITY Kind.Entity Production.LocalTypeName 85 refl refl (omega arith) refl
+entity-rule (unnamed j) h = takes-byte ENTITY Kind.Entity Production.LocalTypeName 85 refl refl (omega arith) refl
 entity-rule _ h = absurd (let e : false ≡ true = h in cc)
 
 pub type-entity-rule : (p : Term) → begins_name p ≡ true → NameRule 24 p
 unfolding begins_name choose alternatives pick is_in in_ranges among kinds is_chain
-type-entity-rule (source true name) h = takes-byte 24 Kind.TypeEntity Production.InternalName 76 refl refl (omega arith) refl
-type-entity-rule (source false name) h = takes-none 24 Kind.TypeEntity Production.SourceName 48 refl refl (omega arith) refl
-type-entity-rule (lambda parameters j) h = takes-byte 24 Kind.TypeEntity Production.LocalTypeName 85 refl refl (omega arith) refl
-type-entity-rule (unnamed j) h = takes-byte 24 Kind.TypeEntity Production.LocalTypeName 85 refl refl (omega arith) refl
+type-entity-rule (source true name) h = takes-byte TYPE_ENTITY Kind.TypeEntity Production.InternalName 76 refl refl (omega arith) refl
+type-entity-rule (source false name) h = takes-none TYPE_ENTITY Kind.TypeEntity Production.SourceName 48 refl refl (omega arith) refl
+type-entity-rule (lambda parameters j) h = takes-byte TYPE_ENTITY Kind.TypeEntity Production.LocalTypeName 85 refl refl (omega arith) refl
+type-entity-rule (unnamed j) h = takes-byte TYPE_ENTITY Kind.TypeEntity Production.LocalTypeName 85 refl refl (omega arith) refl
 type-entity-rule _ h = absurd (let e : false ≡ true = h in cc)
 
 -- behind St in a name, and in a type
 pub std-rule : (p : Term) → names_function p ≡ true → PieceRule 14 p
 unfolding names_function begins_name choose alternatives pick is_in in_ranges among kinds is_chain
-std-rule (source true name) h = takes-byte 14 Kind.Unqualified Production.InternalPiece 76 refl refl (omega arith) refl
-std-rule (source false name) h = takes-none 14 Kind.Unqualified Production.SourcePiece 48 refl refl (omega arith) refl
+std-rule (source true name) h = takes-byte UNQUALIFIED Kind.Unqualified Production.InternalPiece 76 refl refl (omega arith) refl
+std-rule (source false name) h = takes-none UNQUALIFIED Kind.Unqualified Production.SourcePiece 48 refl refl (omega arith) refl
 std-rule (operator a b) h = refl
 std-rule (literal_operator name) h = refl
-std-rule (lambda parameters j) h = takes-byte 14 Kind.Unqualified Production.LocalTypePiece 85 refl refl (omega arith) refl
-std-rule (unnamed j) h = takes-byte 14 Kind.Unqualified Production.LocalTypePiece 85 refl refl (omega arith) refl
+std-rule (lambda parameters j) h = takes-byte UNQUALIFIED Kind.Unqualified Production.LocalTypePiece 85 refl refl (omega arith) refl
+std-rule (unnamed j) h = takes-byte UNQUALIFIED Kind.Unqualified Production.LocalTypePiece 85 refl refl (omega arith) refl
 std-rule _ h = absurd (let e : false ≡ true = h in cc)
 
 pub std-type-rule : (p : Term) → begins_name p ≡ true → PieceRule 37 p
 unfolding begins_name choose alternatives pick is_in in_ranges among kinds is_chain
-std-type-rule (source true name) h = takes-byte 37 Kind.SourceOrLocal Production.InternalPiece 76 refl refl (omega arith) refl
-std-type-rule (source false name) h = takes-none 37 Kind.SourceOrLocal Production.SourcePiece 48 refl refl (omega arith) refl
-std-type-rule (lambda parameters j) h = takes-byte 37 Kind.SourceOrLocal Production.LocalTypePiece 85 refl refl (omega arith) refl
-std-type-rule (unnamed j) h = takes-byte 37 Kind.SourceOrLocal Production.LocalTypePiece 85 refl refl (omega arith) refl
+std-type-rule (source true name) h = takes-byte SOURCE_OR_LOCAL Kind.SourceOrLocal Production.InternalPiece 76 refl refl (omega arith) refl
+std-type-rule (source false name) h = takes-none SOURCE_OR_LOCAL Kind.SourceOrLocal Production.SourcePiece 48 refl refl (omega arith) refl
+std-type-rule (lambda parameters j) h = takes-byte SOURCE_OR_LOCAL Kind.SourceOrLocal Production.LocalTypePiece 85 refl refl (omega arith) refl
+std-type-rule (unnamed j) h = takes-byte SOURCE_OR_LOCAL Kind.SourceOrLocal Production.LocalTypePiece 85 refl refl (omega arith) refl
 std-type-rule _ h = absurd (let e : false ≡ true = h in cc)
 
 -- ## What a piece is read as
@@ -130,7 +131,7 @@ std-type-rule _ h = absurd (let e : false ≡ true = h in cc)
 abbrev pub NamesAt : Around → Option ℕ → (k : ℕ) → (p : Term) → (place : ℕ) → List Candidate → Written → Type 0
 NamesAt around allowed k p place cs w =
     (last : Value) (rest : Written)
-    → ReadsAt (after (extended around.prefix p) false around) allowed (OfKind 42) (Is last) (place + length w.bytes) w.components rest
+    → ReadsAt (after (extended around.prefix p) false around) allowed (OfKind MAYBE_ARGUMENTS) (Is last) (place + length w.bytes) w.components rest
     → ReadsAt around allowed (OfKind k) (Is (tree (applied (extended around.prefix p) last) false)) place cs
     (written (w.bytes ++ rest.bytes) rest.components)
 
@@ -144,14 +145,14 @@ pub source-reads : (around : Around) (allowed : Option ℕ) (internal : Bool) (n
     → PieceReads around allowed (source internal name) place cs (written (cond internal (codes "L") [] ++ counted name) cs)
 source-reads around allowed true name place cs good = record {
   names = λ k takes last rest one. internal-name k around allowed name last place cs rest takes good
-      (subst (λ q. ReadsAt (after (extended around.prefix (source true name)) false around) allowed (OfKind 42) (Is last) q cs rest)
+      (subst (λ q. ReadsAt (after (extended around.prefix (source true name)) false around) allowed (OfKind MAYBE_ARGUMENTS) (Is last) q cs rest)
       (omega arith) one);
   pieces = λ k takes. internal-piece k around allowed name place cs takes good;
   begins = λ h. nest-internal around allowed name place cs good;
 }
 source-reads around allowed false name place cs good = record {
   names = λ k takes last rest one. source-name k around allowed name last place cs rest takes good
-      (subst (λ q. ReadsAt (after (extended around.prefix (source false name)) false around) allowed (OfKind 42) (Is last) q cs rest)
+      (subst (λ q. ReadsAt (after (extended around.prefix (source false name)) false around) allowed (OfKind MAYBE_ARGUMENTS) (Is last) q cs rest)
       (omega arith) one);
   pieces = λ k takes. source-piece k around allowed name place cs takes good;
   begins = λ h. nest-source around allowed name place cs good;
@@ -161,10 +162,10 @@ source-reads around allowed false name place cs good = record {
 operators-read : (around : Around) (allowed : Option ℕ) (p : Term) (place : ℕ) (cs : List Candidate) (w : Written)
     → ((k : ℕ) → NameRule k p → TakesRule abi k (rule_of Production.OperatorName) []) → ((k : ℕ) → PieceRule k p → k ≡ 14)
     → begins_name p ≡ false
-    → ReadsAt around allowed (OfKind 52) (Is (piece p)) (place + 0) cs w → PieceReads around allowed p place cs w
+    → ReadsAt around allowed (OfKind OPERATOR) (Is (piece p)) (place + 0) cs w → PieceReads around allowed p place cs w
 operators-read around allowed p place cs w rule fourteen none one = record {
   names = λ k takes last rest two. operator-name k around allowed p last place cs w rest (rule k takes) one
-      (subst (λ q. ReadsAt (after (extended around.prefix p) false around) allowed (OfKind 42) (Is last) q w.components rest)
+      (subst (λ q. ReadsAt (after (extended around.prefix p) false around) allowed (OfKind MAYBE_ARGUMENTS) (Is last) q w.components rest)
       (omega arith) two);
   pieces = λ k is. subst (λ j. ReadsAt around allowed (OfKind j) (Is (piece p)) place cs w) (sym (fourteen k is))
       (operator-piece around allowed p place cs w one);
@@ -194,8 +195,8 @@ constructor-piece-reads around allowed digit place cs small chosen = record {
       subst (λ j. ReadsAt around allowed (OfKind j) (Is (tree (applied (extended around.prefix (constructor digit)) last) false)) place cs
       (written (67 ∷ digit ∷ rest.bytes) rest.components)) (sym is)
       (constructor-name around allowed digit last place cs (written (digit ∷ []) cs) rest
-      (mark-reads around allowed 20 Kind.ConstructorDigit digit (place + 1) cs refl chosen small)
-      (subst (λ q. ReadsAt (after (extended around.prefix (constructor digit)) false around) allowed (OfKind 42) (Is last) q cs rest)
+      (mark-reads around allowed CONSTRUCTOR_DIGIT Kind.ConstructorDigit digit (place + 1) cs refl chosen small)
+      (subst (λ q. ReadsAt (after (extended around.prefix (constructor digit)) false around) allowed (OfKind MAYBE_ARGUMENTS) (Is last) q cs rest)
       (omega arith) one));
   pieces = λ k is. absurd is;
   begins = λ h. absurd (let e : false ≡ true = h in cc);
@@ -210,8 +211,8 @@ destructor-piece-reads around allowed digit place cs small chosen = record {
       subst (λ j. ReadsAt around allowed (OfKind j) (Is (tree (applied (extended around.prefix (destructor digit)) last) false)) place cs
       (written (68 ∷ digit ∷ rest.bytes) rest.components)) (sym is)
       (destructor-name around allowed digit last place cs (written (digit ∷ []) cs) rest
-      (mark-reads around allowed 21 Kind.DestructorDigit digit (place + 1) cs refl chosen small)
-      (subst (λ q. ReadsAt (after (extended around.prefix (destructor digit)) false around) allowed (OfKind 42) (Is last) q cs rest)
+      (mark-reads around allowed DESTRUCTOR_DIGIT Kind.DestructorDigit digit (place + 1) cs refl chosen small)
+      (subst (λ q. ReadsAt (after (extended around.prefix (destructor digit)) false around) allowed (OfKind MAYBE_ARGUMENTS) (Is last) q cs rest)
       (omega arith) one));
   pieces = λ k is. absurd is;
   begins = λ h. absurd (let e : false ≡ true = h in cc);
@@ -223,11 +224,11 @@ destructor-piece-reads around allowed digit place cs small chosen = record {
 local-type-reads : (around : Around) (allowed : Option ℕ) (p : Term) (place : ℕ) (cs : List Candidate) (w : Written)
     → ((k : ℕ) → NameRule k p → TakesRule abi k (rule_of Production.LocalTypeName) (85 ∷ []))
     → ((k : ℕ) → PieceRule k p → TakesRule abi k (rule_of Production.LocalTypePiece) (85 ∷ []))
-    → ReadsAt around allowed (OfKind 27) (Is (piece p)) (place + 1) cs w
+    → ReadsAt around allowed (OfKind ANONYMOUS) (Is (piece p)) (place + 1) cs w
     → PieceReads around allowed p place cs (written (85 ∷ w.bytes) w.components)
 local-type-reads around allowed p place cs w rule also one = record {
   names = λ k takes last rest two. local-type-name k around allowed p last place cs w rest (rule k takes) one
-      (subst (λ q. ReadsAt (after (extended around.prefix p) false around) allowed (OfKind 42) (Is last) q w.components rest)
+      (subst (λ q. ReadsAt (after (extended around.prefix p) false around) allowed (OfKind MAYBE_ARGUMENTS) (Is last) q w.components rest)
       (omega arith) two);
   pieces = λ k takes. local-type-piece k around allowed p place cs w (also k takes) one;
   begins = λ h. nest-local-type around allowed p place cs w one;
@@ -246,7 +247,7 @@ pub unnamed-piece-reads : (around : Around) (allowed : Option ℕ) (k place : �
     → PieceReads around allowed (unnamed k) place cs (written (codes "Ut" ++ ordinal (k - 1)) cs)
 unnamed-piece-reads around allowed k place cs is =
     local-type-reads around allowed (unnamed k) place cs (written (116 ∷ ordinal (k - 1)) cs) (λ j takes. takes) (λ j takes. takes)
-    (subst (λ n. ReadsAt around allowed (OfKind 27) (Is (piece (unnamed n))) (place + 1) cs (written (116 ∷ ordinal (k - 1)) cs))
+    (subst (λ n. ReadsAt around allowed (OfKind ANONYMOUS) (Is (piece (unnamed n))) (place + 1) cs (written (116 ∷ ordinal (k - 1)) cs))
     (number-back k is.0)
     (unnamed-reads around allowed (k - 1) (place + 1) cs (number-small k is) (number-tested k is)))
 
@@ -261,8 +262,8 @@ pub record ItemsRead (around : Around) (allowed : Option ℕ) (t : Term) (place 
   pub means : parameters (list first items) ≡ t
   pub split : one.bytes ++ rest.bytes ≡ w.bytes
   pub components : rest.components ≡ w.components
-  pub reads_one : ReadsAt around allowed (OfKind 30) (Is (tree first true)) place cs one
-  pub reads_rest : ReadsAt around allowed (OfKind 41) (Is last) (place + length one.bytes) one.components rest
+  pub reads_one : ReadsAt around allowed (OfKind ITEM) (Is (tree first true)) place cs one
+  pub reads_rest : ReadsAt around allowed (OfKind ITEMS) (Is last) (place + length one.bytes) one.components rest
 
 pub lambda-piece-reads : (around : Around) (allowed : Option ℕ) (ps : Term) (k place : ℕ) (cs : List Candidate) (w : Written)
     → IsLocalNumber k
@@ -272,13 +273,13 @@ lambda-piece-reads around allowed ps k place cs w is i =
     let inner : Around = in_signature around in
     let wanted : Written = written (108 ∷ (w.bytes ++ (69 ∷ ordinal (k - 1)))) w.components in
     local-type-reads around allowed (lambda ps k) place cs wanted (λ j takes. takes) (λ j takes. takes)
-    (subst (λ n. ReadsAt around allowed (OfKind 27) (Is (piece (lambda ps n))) (place + 1) cs wanted) (number-back k is.0)
-    (subst (λ t. ReadsAt around allowed (OfKind 27) (Is (piece (lambda t (k - 1 + 1)))) (place + 1) cs wanted) i.means
-    (subst (λ ds. ReadsAt around allowed (OfKind 27) (Is (piece (lambda (parameters (list i.first i.items)) (k - 1 + 1)))) (place + 1) cs
+    (subst (λ n. ReadsAt around allowed (OfKind ANONYMOUS) (Is (piece (lambda ps n))) (place + 1) cs wanted) (number-back k is.0)
+    (subst (λ t. ReadsAt around allowed (OfKind ANONYMOUS) (Is (piece (lambda t (k - 1 + 1)))) (place + 1) cs wanted) i.means
+    (subst (λ ds. ReadsAt around allowed (OfKind ANONYMOUS) (Is (piece (lambda (parameters (list i.first i.items)) (k - 1 + 1)))) (place + 1) cs
     (written (108 ∷ (w.bytes ++ (69 ∷ ordinal (k - 1)))) ds)) i.components
-    (same-written around allowed (OfKind 27) (Is (piece (lambda (parameters (list i.first i.items)) (k - 1 + 1)))) (place + 1) cs
+    (same-written around allowed (OfKind ANONYMOUS) (Is (piece (lambda (parameters (list i.first i.items)) (k - 1 + 1)))) (place + 1) cs
     i.rest.components (108 ∷ (i.one.bytes ++ (i.rest.bytes ++ (69 ∷ ordinal (k - 1))))) (108 ∷ (w.bytes ++ (69 ∷ ordinal (k - 1))))
     (ap (λ l. 108 ∷ l) (sym (append_assoc i.one.bytes i.rest.bytes (69 ∷ ordinal (k - 1))) ∙ ap (λ l. l ++ (69 ∷ ordinal (k - 1))) i.split))
     (lambda-reads around allowed i.first i.items i.last (k - 1) (place + 1) cs i.one i.rest i.are (number-small k is) (number-tested k is)
-    (subst (λ q. ReadsAt inner allowed (OfKind 30) (Is (tree i.first true)) q cs i.one) (omega arith) i.reads_one)
-    (subst (λ q. ReadsAt inner allowed (OfKind 41) (Is i.last) q i.one.components i.rest) (omega arith) i.reads_rest))))))
+    (subst (λ q. ReadsAt inner allowed (OfKind ITEM) (Is (tree i.first true)) q cs i.one) (omega arith) i.reads_one)
+    (subst (λ q. ReadsAt inner allowed (OfKind ITEMS) (Is i.last) q i.one.components i.rest) (omega arith) i.reads_rest))))))

@@ -6,6 +6,7 @@ use Rattle.sym_shape.specs.Tree.{Forest, TakesRule}
 use Rattle.sym_link.specs.Unfold.{found}
 use Rattle.cpp_grammar.specs.declared.kind.Kind.{Kind}
 use Rattle.cpp_grammar.specs.declared.production.Production.{Production}
+use Rattle.cpp_grammar.specs.KindNumbers.{NEST, NEST_TAIL, COMPONENT, CONSTRUCTOR_DIGIT, DESTRUCTOR_DIGIT, ANONYMOUS, MAYBE_ARGUMENTS, ARGUMENT_LIST, OPERATOR}
 use Rattle.cpp_grammar.specs.Grammar.{in_ranges, among, is_in, pick, number_of_kind, alternatives, choose, kinds, parts_of, is_chain, may_be_empty}
 use Rattle.cpp_grammar.specs.Table.{abi, rule_of}
 use Rattle.cpp_grammar.specs.Term.{Term, source, constructor, destructor}
@@ -27,7 +28,7 @@ use Rattle.cpp_press_laws.proofs.ReadBack.Arguments.{arguments-read}
 -- a name that has been made from a piece, and the arguments behind it
 pub name-with : (p : Production) (k : ℕ) (taken : List ℕ) (around : Around) (allowed : Option ℕ) (place : ℕ) (x : Sym) (u : Value) (t : Term)
     (last : Value) (cs : List Candidate) (first rest : Written)
-    → TakesRule abi k (rule_of p) taken → parts_of p ≡ x ∷ OfKind 42 ∷ []
+    → TakesRule abi k (rule_of p) taken → parts_of p ≡ x ∷ OfKind MAYBE_ARGUMENTS ∷ []
     → ((s : State) → ◌≡◌ {A = Going} (between p around place [] s) (Ok (record { context = around; values = []; state = s })))
     → ((s : State) → ◌≡◌ {A = Going} (between p around place (u ∷ []) s) (Ok (record {
       context = after t false around;
@@ -38,38 +39,38 @@ pub name-with : (p : Production) (k : ℕ) (taken : List ℕ) (around : Around) 
     → ((f : Forest) (s : State) → opening p f place s ≡ Ok s)
     → ((began s : State) → close p (byte_of taken) around place began (tree t false ∷ last ∷ []) s ≡ Ok (found (tree (applied t last) false) s))
     → ReadsAt around allowed x (Is u) (place + length taken) cs first
-    → ReadsAt (after t false around) allowed (OfKind 42) (Is last) (place + length taken + length first.bytes) first.components rest
+    → ReadsAt (after t false around) allowed (OfKind MAYBE_ARGUMENTS) (Is last) (place + length taken + length first.bytes) first.components rest
     → ReadsAt around allowed (OfKind k) (Is (tree (applied t last) false)) place cs (written (taken ++ (first.bytes ++ rest.bytes)) rest.components)
 name-with p k taken around allowed place x u t last cs first rest takes parts goes makes opens means one two =
-    whole-same p k taken around allowed place (tree t false ∷ last ∷ []) (tree (applied t last) false) cs (x ∷ OfKind 42 ∷ [])
+    whole-same p k taken around allowed place (tree t false ∷ last ∷ []) (tree (applied t last) false) cs (x ∷ OfKind MAYBE_ARGUMENTS ∷ [])
     (written (first.bytes ++ rest.bytes) rest.components) takes parts opens means
-    (then-part p taken around allowed place x (OfKind 42 ∷ []) [] u (AreOnly (tree t false ∷ last ∷ [])) (place + length taken) cs first rest goes one
-    (row-last p taken around (after t false around) allowed allowed place (OfKind 42) (u ∷ []) (tree t false ∷ []) (Is last)
+    (then-part p taken around allowed place x (OfKind MAYBE_ARGUMENTS ∷ []) [] u (AreOnly (tree t false ∷ last ∷ [])) (place + length taken) cs first rest goes one
+    (row-last p taken around (after t false around) allowed allowed place (OfKind MAYBE_ARGUMENTS) (u ∷ []) (tree t false ∷ []) (Is last)
     (AreOnly (tree t false ∷ last ∷ [])) (place + length taken + length first.bytes) first.components first.components rest
     (passes-by p around allowed place (u ∷ []) first.components (after t false around) (tree t false ∷ []) makes) two
     (λ v h. ap (λ y. tree t false ∷ y ∷ []) h)))
 
 -- no arguments
 pub no-arguments : (around : Around) (allowed : Option ℕ) (place : ℕ) (cs : List Candidate)
-    → ReadsAt around allowed (OfKind 42) (Is nothing_there) place cs (written [] cs)
+    → ReadsAt around allowed (OfKind MAYBE_ARGUMENTS) (Is nothing_there) place cs (written [] cs)
 unfolding kinds may_be_empty
-no-arguments around allowed place cs = empty-reads around allowed 42 Kind.MaybeArguments place cs refl refl
+no-arguments around allowed place cs = empty-reads around allowed MAYBE_ARGUMENTS Kind.MaybeArguments place cs refl refl
 
 -- the name so far becomes a component in front of its arguments
 pub some-arguments : (around : Around) (allowed : Option ℕ) (t items : Term) (last : Value) (place : ℕ) (cs : List Candidate) (w : Written)
     → no_items last ≡ items
-    → ReadsAt (inside around) allowed (OfKind 44) (Is last) (place + 1) (more around cs t) w
-    → ReadsAt (after t false around) allowed (OfKind 42) (Is (tree items true)) place cs (written (73 ∷ (w.bytes ++ (69 ∷ []))) w.components)
+    → ReadsAt (inside around) allowed (OfKind ARGUMENT_LIST) (Is last) (place + 1) (more around cs t) w
+    → ReadsAt (after t false around) allowed (OfKind MAYBE_ARGUMENTS) (Is (tree items true)) place cs (written (73 ∷ (w.bytes ++ (69 ∷ []))) w.components)
 unfolding choose alternatives pick is_in in_ranges among kinds is_chain between with_prefix appended after inside prefix_listed prefix_tree
 some-arguments around allowed t items last place cs w are one =
     arguments-read (after t false around) allowed 42 items last place cs (more around cs t) w
-    (takes-byte 42 Kind.MaybeArguments Production.Arguments 73 refl refl (omega arith) refl) are
+    (takes-byte MAYBE_ARGUMENTS Kind.MaybeArguments Production.Arguments 73 refl refl (omega arith) refl) are
     (λ s same packs. record { state = appended around t s; goes = refl; candidates = ap (λ l. more around l t) same; packs = packs }) one
 
 -- a name of a source piece, with what is behind it
 pub source-name : (k : ℕ) (around : Around) (allowed : Option ℕ) (name : List ℕ) (last : Value) (place : ℕ) (cs : List Candidate)
     (rest : Written) → TakesRule abi k (rule_of Production.SourceName) [] → IsSpellableName name
-    → ReadsAt (after (extended around.prefix (source false name)) false around) allowed (OfKind 42) (Is last) (place + 0 + length (counted name))
+    → ReadsAt (after (extended around.prefix (source false name)) false around) allowed (OfKind MAYBE_ARGUMENTS) (Is last) (place + 0 + length (counted name))
     cs rest
     → ReadsAt around allowed (OfKind k) (Is (tree (applied (extended around.prefix (source false name)) last) false)) place cs
     (written (counted name ++ rest.bytes) rest.components)
@@ -83,7 +84,7 @@ source-name k around allowed name last place cs rest takes good one =
 
 pub internal-name : (k : ℕ) (around : Around) (allowed : Option ℕ) (name : List ℕ) (last : Value) (place : ℕ) (cs : List Candidate)
     (rest : Written) → TakesRule abi k (rule_of Production.InternalName) (76 ∷ []) → IsSpellableName name
-    → ReadsAt (after (extended around.prefix (source true name)) false around) allowed (OfKind 42) (Is last) (place + 1 + length (counted name))
+    → ReadsAt (after (extended around.prefix (source true name)) false around) allowed (OfKind MAYBE_ARGUMENTS) (Is last) (place + 1 + length (counted name))
     cs rest
     → ReadsAt around allowed (OfKind k) (Is (tree (applied (extended around.prefix (source true name)) last) false)) place cs
     (written (76 ∷ (counted name ++ rest.bytes)) rest.components)
@@ -98,51 +99,51 @@ internal-name k around allowed name last place cs rest takes good one =
 -- a name of an operator
 pub operator-name : (k : ℕ) (around : Around) (allowed : Option ℕ) (p : Term) (last : Value) (place : ℕ) (cs : List Candidate)
     (first rest : Written) → TakesRule abi k (rule_of Production.OperatorName) []
-    → ReadsAt around allowed (OfKind 52) (Is (piece p)) (place + 0) cs first
-    → ReadsAt (after (extended around.prefix p) false around) allowed (OfKind 42) (Is last) (place + 0 + length first.bytes) first.components rest
+    → ReadsAt around allowed (OfKind OPERATOR) (Is (piece p)) (place + 0) cs first
+    → ReadsAt (after (extended around.prefix p) false around) allowed (OfKind MAYBE_ARGUMENTS) (Is last) (place + 0 + length first.bytes) first.components rest
     → ReadsAt around allowed (OfKind k) (Is (tree (applied (extended around.prefix p) last) false)) place cs
     (written (first.bytes ++ rest.bytes) rest.components)
 unfolding parts_of number_of_kind between opening close unfolding_.behind meaning piece_so_far named_so_far tree_of piece_of part
 operator-name k around allowed p last place cs first rest takes one two =
-    name-with Production.OperatorName k [] around allowed place (OfKind 52) (piece p) (extended around.prefix p) last cs first rest takes refl
+    name-with Production.OperatorName k [] around allowed place (OfKind OPERATOR) (piece p) (extended around.prefix p) last cs first rest takes refl
     (λ s. refl) (λ s. refl) (λ f s. refl) (λ began s. refl) one two
 
 -- a lambda's or an unnamed type's name
 pub local-type-name : (k : ℕ) (around : Around) (allowed : Option ℕ) (p : Term) (last : Value) (place : ℕ) (cs : List Candidate)
     (first rest : Written) → TakesRule abi k (rule_of Production.LocalTypeName) (85 ∷ [])
-    → ReadsAt around allowed (OfKind 27) (Is (piece p)) (place + 1) cs first
-    → ReadsAt (after (extended around.prefix p) false around) allowed (OfKind 42) (Is last) (place + 1 + length first.bytes) first.components rest
+    → ReadsAt around allowed (OfKind ANONYMOUS) (Is (piece p)) (place + 1) cs first
+    → ReadsAt (after (extended around.prefix p) false around) allowed (OfKind MAYBE_ARGUMENTS) (Is last) (place + 1 + length first.bytes) first.components rest
     → ReadsAt around allowed (OfKind k) (Is (tree (applied (extended around.prefix p) last) false)) place cs
     (written (85 ∷ (first.bytes ++ rest.bytes)) rest.components)
 unfolding parts_of number_of_kind between opening close unfolding_.behind meaning piece_so_far named_so_far tree_of piece_of part
 local-type-name k around allowed p last place cs first rest takes one two =
-    name-with Production.LocalTypeName k (85 ∷ []) around allowed place (OfKind 27) (piece p) (extended around.prefix p) last cs first rest takes
+    name-with Production.LocalTypeName k (85 ∷ []) around allowed place (OfKind ANONYMOUS) (piece p) (extended around.prefix p) last cs first rest takes
     refl (λ s. refl) (λ s. refl) (λ f s. refl) (λ began s. refl) one two
 
 pub constructor-name : (around : Around) (allowed : Option ℕ) (digit : ℕ) (last : Value) (place : ℕ) (cs : List Candidate) (first rest : Written)
-    → ReadsAt around allowed (OfKind 20) (Is (letter digit)) (place + 1) cs first
-    → ReadsAt (after (extended around.prefix (constructor digit)) false around) allowed (OfKind 42) (Is last) (place + 1 + length first.bytes)
+    → ReadsAt around allowed (OfKind CONSTRUCTOR_DIGIT) (Is (letter digit)) (place + 1) cs first
+    → ReadsAt (after (extended around.prefix (constructor digit)) false around) allowed (OfKind MAYBE_ARGUMENTS) (Is last) (place + 1 + length first.bytes)
     first.components rest
-    → ReadsAt around allowed (OfKind 19) (Is (tree (applied (extended around.prefix (constructor digit)) last) false)) place cs
+    → ReadsAt around allowed (OfKind COMPONENT) (Is (tree (applied (extended around.prefix (constructor digit)) last) false)) place cs
     (written (67 ∷ (first.bytes ++ rest.bytes)) rest.components)
 unfolding choose alternatives pick is_in in_ranges among kinds is_chain parts_of number_of_kind between opening close unfolding_.behind meaning piece_so_far named_so_far tree_of letter_of part
 constructor-name around allowed digit last place cs first rest one two =
-    name-with Production.Constructor 19 (67 ∷ []) around allowed place (OfKind 20) (letter digit) (extended around.prefix (constructor digit))
+    name-with Production.Constructor 19 (67 ∷ []) around allowed place (OfKind CONSTRUCTOR_DIGIT) (letter digit) (extended around.prefix (constructor digit))
     last cs first rest
-    (takes-byte 19 Kind.Component Production.Constructor 67 refl refl (omega arith) refl) refl (λ s. refl) (λ s. refl) (λ f s. refl)
+    (takes-byte COMPONENT Kind.Component Production.Constructor 67 refl refl (omega arith) refl) refl (λ s. refl) (λ s. refl) (λ f s. refl)
     (λ began s. refl) one two
 
 pub destructor-name : (around : Around) (allowed : Option ℕ) (digit : ℕ) (last : Value) (place : ℕ) (cs : List Candidate) (first rest : Written)
-    → ReadsAt around allowed (OfKind 21) (Is (letter digit)) (place + 1) cs first
-    → ReadsAt (after (extended around.prefix (destructor digit)) false around) allowed (OfKind 42) (Is last) (place + 1 + length first.bytes)
+    → ReadsAt around allowed (OfKind DESTRUCTOR_DIGIT) (Is (letter digit)) (place + 1) cs first
+    → ReadsAt (after (extended around.prefix (destructor digit)) false around) allowed (OfKind MAYBE_ARGUMENTS) (Is last) (place + 1 + length first.bytes)
     first.components rest
-    → ReadsAt around allowed (OfKind 19) (Is (tree (applied (extended around.prefix (destructor digit)) last) false)) place cs
+    → ReadsAt around allowed (OfKind COMPONENT) (Is (tree (applied (extended around.prefix (destructor digit)) last) false)) place cs
     (written (68 ∷ (first.bytes ++ rest.bytes)) rest.components)
 unfolding choose alternatives pick is_in in_ranges among kinds is_chain parts_of number_of_kind between opening close unfolding_.behind meaning piece_so_far named_so_far tree_of letter_of part
 destructor-name around allowed digit last place cs first rest one two =
-    name-with Production.Destructor 19 (68 ∷ []) around allowed place (OfKind 21) (letter digit) (extended around.prefix (destructor digit)) last
+    name-with Production.Destructor 19 (68 ∷ []) around allowed place (OfKind DESTRUCTOR_DIGIT) (letter digit) (extended around.prefix (destructor digit)) last
     cs first rest
-    (takes-byte 19 Kind.Component Production.Destructor 68 refl refl (omega arith) refl) refl (λ s. refl) (λ s. refl) (λ f s. refl)
+    (takes-byte COMPONENT Kind.Component Production.Destructor 68 refl refl (omega arith) refl) refl (λ s. refl) (λ s. refl) (λ f s. refl)
     (λ began s. refl) one two
 
 -- ## Between N and E
@@ -151,41 +152,41 @@ destructor-name around allowed digit last place cs first rest one two =
 abbrev pub SoFar : Around → Option ℕ → (t : Term) → (listed : Bool) → (k : ℕ) → (place : ℕ) → List Candidate → Written → Type 0
 SoFar around allowed t listed k place cs w =
     (v : Value) (rest : Written) → ReadsAt (after t listed around) allowed (OfKind k) (Is v) (place + length w.bytes) w.components rest
-    → ReadsAt around allowed (OfKind 15) (Is v) place cs (written (w.bytes ++ rest.bytes) rest.components)
+    → ReadsAt around allowed (OfKind NEST) (Is v) place cs (written (w.bytes ++ rest.bytes) rest.components)
 
 -- A prefix, which is a component: a piece is read behind it as a longer name, and then what is left.
 abbrev pub Extends : Around → Option ℕ → (t : Term) → (place : ℕ) → List Candidate → Written → Type 0
 Extends around allowed t place cs w =
-    (u : Term) (v : Value) (one rest : Written) → ReadsAt (after t true around) allowed (OfKind 19) (Is (tree u false)) (place + length w.bytes)
+    (u : Term) (v : Value) (one rest : Written) → ReadsAt (after t true around) allowed (OfKind COMPONENT) (Is (tree u false)) (place + length w.bytes)
     w.components one
-    → ReadsAt (after u false around) allowed (OfKind 18) (Is v) (place + length w.bytes + length one.bytes) one.components rest
-    → ReadsAt around allowed (OfKind 15) (Is v) place cs (written (w.bytes ++ (one.bytes ++ rest.bytes)) rest.components)
+    → ReadsAt (after u false around) allowed (OfKind NEST_TAIL) (Is v) (place + length w.bytes + length one.bytes) one.components rest
+    → ReadsAt around allowed (OfKind NEST) (Is v) place cs (written (w.bytes ++ (one.bytes ++ rest.bytes)) rest.components)
 
 -- the end of a name
 pub nest-ends : (around : Around) (allowed : Option ℕ) (t : Term) (listed : Bool) (place : ℕ) (cs : List Candidate)
-    → ReadsAt (after t listed around) allowed (OfKind 18) (Is (tree t listed)) place cs (written (69 ∷ []) cs)
+    → ReadsAt (after t listed around) allowed (OfKind NEST_TAIL) (Is (tree t listed)) place cs (written (69 ∷ []) cs)
 unfolding choose alternatives pick is_in in_ranges among kinds is_chain parts_of opening close unfolding_.behind meaning after prefix_tree prefix_listed
 nest-ends around allowed t listed place cs =
-    no-part Production.NestEnd 18 (69 ∷ []) (after t listed around) allowed place (tree t listed) cs
-    (takes-byte 18 Kind.NestTail Production.NestEnd 69 refl refl (omega arith) refl) refl (λ f s. refl) (λ began s. refl)
+    no-part Production.NestEnd NEST_TAIL (69 ∷ []) (after t listed around) allowed place (tree t listed) cs
+    (takes-byte NEST_TAIL Kind.NestTail Production.NestEnd 69 refl refl (omega arith) refl) refl (λ f s. refl) (λ began s. refl)
 
 -- one more piece, in front of which the name so far becomes a component
 pub nest-next : (k : ℕ) (around : Around) (allowed : Option ℕ) (t u : Term) (v : Value) (place : ℕ) (cs : List Candidate) (one rest : Written)
     → TakesRule abi k (rule_of Production.NestNext) []
-    → ReadsAt (after t true around) allowed (OfKind 19) (Is (tree u false)) (place + 0) (more around cs t) one
-    → ReadsAt (after u false around) allowed (OfKind 18) (Is v) (place + 0 + length one.bytes) one.components rest
+    → ReadsAt (after t true around) allowed (OfKind COMPONENT) (Is (tree u false)) (place + 0) (more around cs t) one
+    → ReadsAt (after u false around) allowed (OfKind NEST_TAIL) (Is v) (place + 0 + length one.bytes) one.components rest
     → ReadsAt (after t false around) allowed (OfKind k) (Is v) place cs (written (one.bytes ++ rest.bytes) rest.components)
 unfolding parts_of number_of_kind between opening close unfolding_.behind meaning with_prefix appended after prefix_tree prefix_listed tree_of part
 nest-next k around allowed t u v place cs one rest takes first second =
-    whole-same Production.NestNext k [] (after t false around) allowed place (tree u false ∷ v ∷ []) v cs (OfKind 19 ∷ OfKind 18 ∷ [])
+    whole-same Production.NestNext k [] (after t false around) allowed place (tree u false ∷ v ∷ []) v cs (OfKind COMPONENT ∷ OfKind NEST_TAIL ∷ [])
     (written (one.bytes ++ rest.bytes) rest.components) takes refl (λ f s. refl) (λ began s. refl)
-    (row-part Production.NestNext [] (after t false around) (after t true around) allowed allowed place (OfKind 19) (OfKind 18 ∷ []) [] []
+    (row-part Production.NestNext [] (after t false around) (after t true around) allowed allowed place (OfKind COMPONENT) (OfKind NEST_TAIL ∷ []) [] []
     (Is (tree u false)) (AreOnly (tree u false ∷ v ∷ [])) (place + 0) cs (more around cs t) one rest
     (λ s same packs. record { state = appended around t s; goes = refl; candidates = ap (λ l. more around l t) same; packs = packs }) first
     (λ packs h. h)
-    (λ z h. subst (λ x. RowAt Production.NestNext [] (after t false around) allowed place (OfKind 18 ∷ []) (x ∷ [])
+    (λ z h. subst (λ x. RowAt Production.NestNext [] (after t false around) allowed place (OfKind NEST_TAIL ∷ []) (x ∷ [])
     (AreOnly (tree u false ∷ v ∷ [])) (place + 0 + length one.bytes) one.components rest) (sym h)
-    (row-last Production.NestNext [] (after t false around) (after u false around) allowed allowed place (OfKind 18) (tree u false ∷ [])
+    (row-last Production.NestNext [] (after t false around) (after u false around) allowed allowed place (OfKind NEST_TAIL) (tree u false ∷ [])
     (tree u false ∷ []) (Is v) (AreOnly (tree u false ∷ v ∷ [])) (place + 0 + length one.bytes) one.components one.components rest
     (passes-by Production.NestNext (after t false around) allowed place (tree u false ∷ []) one.components (after u false around)
     (tree u false ∷ []) (λ s. refl)) second (λ y i. ap (λ q. tree u false ∷ q ∷ []) i))))
@@ -193,19 +194,19 @@ nest-next k around allowed t u v place cs one rest takes first second =
 -- behind a name that is a component already, or never is one
 pub nest-next-same : (k : ℕ) (around : Around) (allowed : Option ℕ) (t u : Term) (v : Value) (place : ℕ) (cs : List Candidate)
     (one rest : Written) → TakesRule abi k (rule_of Production.NestNext) []
-    → ReadsAt (after t true around) allowed (OfKind 19) (Is (tree u false)) (place + 0) cs one
-    → ReadsAt (after u false around) allowed (OfKind 18) (Is v) (place + 0 + length one.bytes) one.components rest
+    → ReadsAt (after t true around) allowed (OfKind COMPONENT) (Is (tree u false)) (place + 0) cs one
+    → ReadsAt (after u false around) allowed (OfKind NEST_TAIL) (Is v) (place + 0 + length one.bytes) one.components rest
     → ReadsAt (after t true around) allowed (OfKind k) (Is v) place cs (written (one.bytes ++ rest.bytes) rest.components)
 unfolding parts_of number_of_kind between opening close unfolding_.behind meaning with_prefix after prefix_tree prefix_listed tree_of part
 nest-next-same k around allowed t u v place cs one rest takes first second =
-    whole-same Production.NestNext k [] (after t true around) allowed place (tree u false ∷ v ∷ []) v cs (OfKind 19 ∷ OfKind 18 ∷ [])
+    whole-same Production.NestNext k [] (after t true around) allowed place (tree u false ∷ v ∷ []) v cs (OfKind COMPONENT ∷ OfKind NEST_TAIL ∷ [])
     (written (one.bytes ++ rest.bytes) rest.components) takes refl (λ f s. refl) (λ began s. refl)
-    (row-part Production.NestNext [] (after t true around) (after t true around) allowed allowed place (OfKind 19) (OfKind 18 ∷ []) [] []
+    (row-part Production.NestNext [] (after t true around) (after t true around) allowed allowed place (OfKind COMPONENT) (OfKind NEST_TAIL ∷ []) [] []
     (Is (tree u false)) (AreOnly (tree u false ∷ v ∷ [])) (place + 0) cs cs one rest
     (passes-by Production.NestNext (after t true around) allowed place [] cs (after t true around) [] (λ s. refl)) first (λ packs h. h)
-    (λ z h. subst (λ x. RowAt Production.NestNext [] (after t true around) allowed place (OfKind 18 ∷ []) (x ∷ [])
+    (λ z h. subst (λ x. RowAt Production.NestNext [] (after t true around) allowed place (OfKind NEST_TAIL ∷ []) (x ∷ [])
     (AreOnly (tree u false ∷ v ∷ [])) (place + 0 + length one.bytes) one.components rest) (sym h)
-    (row-last Production.NestNext [] (after t true around) (after u false around) allowed allowed place (OfKind 18) (tree u false ∷ [])
+    (row-last Production.NestNext [] (after t true around) (after u false around) allowed allowed place (OfKind NEST_TAIL) (tree u false ∷ [])
     (tree u false ∷ []) (Is v) (AreOnly (tree u false ∷ v ∷ [])) (place + 0 + length one.bytes) one.components one.components rest
     (passes-by Production.NestNext (after t true around) allowed place (tree u false ∷ []) one.components (after u false around)
     (tree u false ∷ []) (λ s. refl)) second (λ y i. ap (λ q. tree u false ∷ q ∷ []) i))))
@@ -213,13 +214,13 @@ nest-next-same k around allowed t u v place cs one rest takes first second =
 -- a longer name so far, of a prefix and a piece
 pub so-far-within : (around : Around) (allowed : Option ℕ) (t u : Term) (place : ℕ) (cs : List Candidate) (w one : Written)
     → Extends around allowed t place cs w
-    → ReadsAt (after t true around) allowed (OfKind 19) (Is (tree u false)) (place + length w.bytes) w.components one
+    → ReadsAt (after t true around) allowed (OfKind COMPONENT) (Is (tree u false)) (place + length w.bytes) w.components one
     → SoFar around allowed u false 18 place cs (written (w.bytes ++ one.bytes) one.components)
 so-far-within around allowed t u place cs w one extends first v rest second =
-    same-written around allowed (OfKind 15) (Is v) place cs rest.components (w.bytes ++ (one.bytes ++ rest.bytes))
+    same-written around allowed (OfKind NEST) (Is v) place cs rest.components (w.bytes ++ (one.bytes ++ rest.bytes))
     ((w.bytes ++ one.bytes) ++ rest.bytes) (sym (append_assoc w.bytes one.bytes rest.bytes))
     (extends u v one rest first
-    (subst (λ q. ReadsAt (after u false around) allowed (OfKind 18) (Is v) q one.components rest)
+    (subst (λ q. ReadsAt (after u false around) allowed (OfKind NEST_TAIL) (Is v) q one.components rest)
     (omega (arith, length-append w.bytes one.bytes)) second))
 
 -- a name so far becomes a prefix
@@ -229,8 +230,8 @@ pub extends-more : (k : ℕ) (around : Around) (allowed : Option ℕ) (t : Term)
 extends-more k around allowed t place cs w takes so_far u v one rest first second =
     so_far v (written (one.bytes ++ rest.bytes) rest.components)
     (nest-next k around allowed t u v (place + length w.bytes) w.components one rest takes
-    (subst (λ q. ReadsAt (after t true around) allowed (OfKind 19) (Is (tree u false)) q (more around w.components t) one) (omega arith) first)
-    (subst (λ q. ReadsAt (after u false around) allowed (OfKind 18) (Is v) q one.components rest) (omega arith) second))
+    (subst (λ q. ReadsAt (after t true around) allowed (OfKind COMPONENT) (Is (tree u false)) q (more around w.components t) one) (omega arith) first)
+    (subst (λ q. ReadsAt (after u false around) allowed (OfKind NEST_TAIL) (Is v) q one.components rest) (omega arith) second))
 
 pub extends-same : (k : ℕ) (around : Around) (allowed : Option ℕ) (t : Term) (place : ℕ) (cs : List Candidate) (w : Written)
     → TakesRule abi k (rule_of Production.NestNext) []
@@ -238,12 +239,12 @@ pub extends-same : (k : ℕ) (around : Around) (allowed : Option ℕ) (t : Term)
 extends-same k around allowed t place cs w takes so_far u v one rest first second =
     so_far v (written (one.bytes ++ rest.bytes) rest.components)
     (nest-next-same k around allowed t u v (place + length w.bytes) w.components one rest takes
-    (subst (λ q. ReadsAt (after t true around) allowed (OfKind 19) (Is (tree u false)) q w.components one) (omega arith) first)
-    (subst (λ q. ReadsAt (after u false around) allowed (OfKind 18) (Is v) q one.components rest) (omega arith) second))
+    (subst (λ q. ReadsAt (after t true around) allowed (OfKind COMPONENT) (Is (tree u false)) q w.components one) (omega arith) first)
+    (subst (λ q. ReadsAt (after u false around) allowed (OfKind NEST_TAIL) (Is v) q one.components rest) (omega arith) second))
 
 -- a whole name between N and E
 pub nest-whole : (around : Around) (allowed : Option ℕ) (t : Term) (place : ℕ) (cs : List Candidate) (w : Written)
     → SoFar around allowed t false 18 place cs w
-    → ReadsAt around allowed (OfKind 15) (Is (tree t false)) place cs (written (w.bytes ++ (69 ∷ [])) w.components)
+    → ReadsAt around allowed (OfKind NEST) (Is (tree t false)) place cs (written (w.bytes ++ (69 ∷ [])) w.components)
 nest-whole around allowed t place cs w so_far = so_far (tree t false) (written (69 ∷ []) w.components)
     (nest-ends around allowed t false (place + length w.bytes) w.components)

@@ -7,6 +7,7 @@ use Rattle.sym_shape.specs.Tree.{Forest, TakesRule}
 use Rattle.sym_link.specs.Unfold.{found}
 use Rattle.cpp_grammar.specs.declared.kind.Kind.{Kind}
 use Rattle.cpp_grammar.specs.declared.production.Production.{Production}
+use Rattle.cpp_grammar.specs.KindNumbers.{UNQUALIFIED, NEST, NEST_AFTER_S, NEST_REST, NEST_TAIL, COMPONENT, ABBREVIATION, ANONYMOUS, MAYBE_ARGUMENTS, ARGUMENT_LIST}
 use Rattle.cpp_grammar.specs.Grammar.{in_ranges, among, is_in, pick, number_of_kind, alternatives, choose, kinds, parts_of, is_chain}
 use Rattle.cpp_grammar.specs.Table.{abi, rule_of}
 use Rattle.cpp_grammar.specs.Term.{Term, source, in_std, instance, parameter}
@@ -51,14 +52,14 @@ unfolding choose alternatives pick is_in in_ranges among kinds is_chain parts_of
 nest-source around allowed name place cs good v rest second =
     first-with Production.NestSource 15 17 [] around allowed place Name (value.text name) (extended around.prefix (source false name)) false v cs
     cs (written (counted name) cs) rest
-    (takes-none 15 Kind.Nest Production.NestSource 48 refl refl (omega arith) refl) refl (λ s. refl)
+    (takes-none NEST Kind.Nest Production.NestSource 48 refl refl (omega arith) refl) refl (λ s. refl)
     (passes-by Production.NestSource around allowed place (value.text name ∷ []) cs
     (after (extended around.prefix (source false name)) false around) (tree (extended around.prefix (source false name)) false ∷ [])
     (λ s. refl))
     (λ f s. refl) (λ began s. refl)
     (same-written around allowed Name (Is (value.text name)) (place + 0) cs cs ((name_token name).before ++ name ++ []) (counted name)
     (name-spelled name) (name-reads around allowed (name_token name) (place + 0) cs (name-is-token name good)))
-    (subst (λ q. ReadsAt (after (extended around.prefix (source false name)) false around) allowed (OfKind 17) (Is v) q cs rest) (omega arith) second)
+    (subst (λ q. ReadsAt (after (extended around.prefix (source false name)) false around) allowed (OfKind NEST_REST) (Is v) q cs rest) (omega arith) second)
 
 pub nest-internal : (around : Around) (allowed : Option ℕ) (name : List ℕ) (place : ℕ) (cs : List Candidate) → IsSpellableName name
     → SoFar around allowed (extended around.prefix (source true name)) false 17 place cs (written (76 ∷ counted name) cs)
@@ -66,27 +67,27 @@ unfolding choose alternatives pick is_in in_ranges among kinds is_chain parts_of
 nest-internal around allowed name place cs good v rest second =
     first-with Production.NestInternal 15 17 (76 ∷ []) around allowed place Name (value.text name) (extended around.prefix (source true name))
     false v cs cs (written (counted name) cs) rest
-    (takes-byte 15 Kind.Nest Production.NestInternal 76 refl refl (omega arith) refl) refl (λ s. refl)
+    (takes-byte NEST Kind.Nest Production.NestInternal 76 refl refl (omega arith) refl) refl (λ s. refl)
     (passes-by Production.NestInternal around allowed place (value.text name ∷ []) cs
     (after (extended around.prefix (source true name)) false around) (tree (extended around.prefix (source true name)) false ∷ [])
     (λ s. refl))
     (λ f s. refl) (λ began s. refl)
     (same-written around allowed Name (Is (value.text name)) (place + 1) cs cs ((name_token name).before ++ name ++ []) (counted name)
     (name-spelled name) (name-reads around allowed (name_token name) (place + 1) cs (name-is-token name good)))
-    (subst (λ q. ReadsAt (after (extended around.prefix (source true name)) false around) allowed (OfKind 17) (Is v) q cs rest) (omega arith) second)
+    (subst (λ q. ReadsAt (after (extended around.prefix (source true name)) false around) allowed (OfKind NEST_REST) (Is v) q cs rest) (omega arith) second)
 
 pub nest-local-type : (around : Around) (allowed : Option ℕ) (p : Term) (place : ℕ) (cs : List Candidate) (first : Written)
-    → ReadsAt around allowed (OfKind 27) (Is (piece p)) (place + 1) cs first
+    → ReadsAt around allowed (OfKind ANONYMOUS) (Is (piece p)) (place + 1) cs first
     → SoFar around allowed (extended around.prefix p) false 17 place cs (written (85 ∷ first.bytes) first.components)
 unfolding choose alternatives pick is_in in_ranges among kinds is_chain parts_of number_of_kind between opening close unfolding_.behind meaning piece_so_far named_so_far piece_of part
 nest-local-type around allowed p place cs first one v rest second =
-    first-with Production.NestLocalType 15 17 (85 ∷ []) around allowed place (OfKind 27) (piece p) (extended around.prefix p) false v cs
+    first-with Production.NestLocalType 15 17 (85 ∷ []) around allowed place (OfKind ANONYMOUS) (piece p) (extended around.prefix p) false v cs
     first.components first rest
-    (takes-byte 15 Kind.Nest Production.NestLocalType 85 refl refl (omega arith) refl) refl (λ s. refl)
+    (takes-byte NEST Kind.Nest Production.NestLocalType 85 refl refl (omega arith) refl) refl (λ s. refl)
     (passes-by Production.NestLocalType around allowed place (piece p ∷ []) first.components (after (extended around.prefix p) false around)
     (tree (extended around.prefix p) false ∷ []) (λ s. refl))
     (λ f s. refl) (λ began s. refl) one
-    (subst (λ q. ReadsAt (after (extended around.prefix p) false around) allowed (OfKind 17) (Is v) q first.components rest) (omega arith) second)
+    (subst (λ q. ReadsAt (after (extended around.prefix p) false around) allowed (OfKind NEST_REST) (Is v) q first.components rest) (omega arith) second)
 
 pub nest-parameter : (around : Around) (allowed : Option ℕ) (k place : ℕ) (cs : List Candidate) → IsInScope around allowed k
     → SoFar around allowed (parameter k) true 17 place cs (written (84 ∷ ordinal k) (more around cs (parameter k)))
@@ -94,62 +95,62 @@ unfolding choose alternatives pick is_in in_ranges among kinds is_chain parts_of
 nest-parameter around allowed k place cs is v rest second =
     first-with Production.NestParameter 15 17 (84 ∷ []) around allowed place (Number Decimal) (value.text (ordinal_digits k)) (parameter k) true
     v cs (more around cs (parameter k)) (written (ordinal k) cs) rest
-    (takes-byte 15 Kind.Nest Production.NestParameter 84 refl refl (omega arith) refl) refl (λ s. refl)
+    (takes-byte NEST Kind.Nest Production.NestParameter 84 refl refl (omega arith) refl) refl (λ s. refl)
     (parameter-passes Production.NestParameter around allowed place k cs is (λ s. refl))
     (λ f s. refl) (λ began s. refl)
     (same-written around allowed (Number Decimal) (Is (value.text (ordinal_digits k))) (place + 1) cs cs
     (((ordinal_token k).before ++ ordinal_digits k) ++ (95 ∷ [])) (ordinal k) (ordinal-spelled k)
     (number-reads around allowed Decimal (ordinal_token k) (place + 1) cs (ordinal-is-token k)))
-    (subst (λ q. ReadsAt (after (parameter k) true around) allowed (OfKind 17) (Is v) q (more around cs (parameter k)) rest) (omega arith) second)
+    (subst (λ q. ReadsAt (after (parameter k) true around) allowed (OfKind NEST_REST) (Is v) q (more around cs (parameter k)) rest) (omega arith) second)
 
 -- an abbreviation or a reference behind an S
 pub nest-behind-s : (around : Around) (allowed : Option ℕ) (t : Term) (place : ℕ) (cs : List Candidate) (first : Written)
-    → ReadsAt around allowed (OfKind 22) (Is (tree t true)) (place + 1 + 0) cs first
+    → ReadsAt around allowed (OfKind ABBREVIATION) (Is (tree t true)) (place + 1 + 0) cs first
     → SoFar around allowed t true 17 place cs (written (83 ∷ first.bytes) first.components)
 unfolding choose alternatives pick is_in in_ranges among kinds is_chain parts_of number_of_kind between opening close unfolding_.behind meaning listed_so_far tree_of part
 nest-behind-s around allowed t place cs first one v rest second =
-    one-part Production.NestWithS 15 (83 ∷ []) around allowed place (OfKind 16) v v cs (written (first.bytes ++ rest.bytes) rest.components)
-    (takes-byte 15 Kind.Nest Production.NestWithS 83 refl refl (omega arith) refl) refl (λ s. refl) (λ f s. refl) (λ began s. refl)
-    (first-with Production.NestAbbreviated 16 17 [] around allowed (place + 1) (OfKind 22) (tree t true) t true v cs first.components first rest
-    (takes-none 16 Kind.NestAfterS Production.NestAbbreviated 95 refl refl (omega arith) refl) refl (λ s. refl)
+    one-part Production.NestWithS 15 (83 ∷ []) around allowed place (OfKind NEST_AFTER_S) v v cs (written (first.bytes ++ rest.bytes) rest.components)
+    (takes-byte NEST Kind.Nest Production.NestWithS 83 refl refl (omega arith) refl) refl (λ s. refl) (λ f s. refl) (λ began s. refl)
+    (first-with Production.NestAbbreviated 16 17 [] around allowed (place + 1) (OfKind ABBREVIATION) (tree t true) t true v cs first.components first rest
+    (takes-none NEST_AFTER_S Kind.NestAfterS Production.NestAbbreviated 95 refl refl (omega arith) refl) refl (λ s. refl)
     (passes-by Production.NestAbbreviated around allowed (place + 1) (tree t true ∷ []) first.components (after t true around) (tree t true ∷ [])
     (λ s. refl))
     (λ f s. refl) (λ began s. refl) one
-    (subst (λ q. ReadsAt (after t true around) allowed (OfKind 17) (Is v) q first.components rest) (omega arith) second))
+    (subst (λ q. ReadsAt (after t true around) allowed (OfKind NEST_REST) (Is v) q first.components rest) (omega arith) second))
 
 -- a piece in std, with or without arguments
 pub nest-std : (around : Around) (allowed : Option ℕ) (p : Term) (last : Value) (place : ℕ) (cs : List Candidate) (first args : Written)
-    → ReadsAt around allowed (OfKind 14) (Is (piece p)) (place + 1 + 1) cs first
-    → ReadsAt (after (in_std p) false around) allowed (OfKind 42) (Is last) (place + 1 + 1 + length first.bytes) first.components args
+    → ReadsAt around allowed (OfKind UNQUALIFIED) (Is (piece p)) (place + 1 + 1) cs first
+    → ReadsAt (after (in_std p) false around) allowed (OfKind MAYBE_ARGUMENTS) (Is last) (place + 1 + 1 + length first.bytes) first.components args
     → SoFar around allowed (applied (in_std p) last) false 18 place cs (written (83 ∷ 116 ∷ (first.bytes ++ args.bytes)) args.components)
 unfolding choose alternatives pick is_in in_ranges among kinds is_chain parts_of number_of_kind between opening close unfolding_.behind meaning named_so_far tree_of piece_of part
 nest-std around allowed p last place cs first args one two v rest third =
     let whole : Term = applied (in_std p) last in
-    same-written around allowed (OfKind 15) (Is v) place cs rest.components (83 ∷ 116 ∷ (first.bytes ++ (args.bytes ++ rest.bytes)))
+    same-written around allowed (OfKind NEST) (Is v) place cs rest.components (83 ∷ 116 ∷ (first.bytes ++ (args.bytes ++ rest.bytes)))
     (83 ∷ 116 ∷ ((first.bytes ++ args.bytes) ++ rest.bytes))
     (ap (λ l. 83 ∷ 116 ∷ l) (sym (append_assoc first.bytes args.bytes rest.bytes)))
-    (one-part Production.NestWithS 15 (83 ∷ []) around allowed place (OfKind 16) v v cs
+    (one-part Production.NestWithS 15 (83 ∷ []) around allowed place (OfKind NEST_AFTER_S) v v cs
     (written (116 ∷ (first.bytes ++ (args.bytes ++ rest.bytes))) rest.components)
-    (takes-byte 15 Kind.Nest Production.NestWithS 83 refl refl (omega arith) refl) refl (λ s. refl) (λ f s. refl) (λ began s. refl)
+    (takes-byte NEST Kind.Nest Production.NestWithS 83 refl refl (omega arith) refl) refl (λ s. refl) (λ f s. refl) (λ began s. refl)
     (whole-same Production.NestStd 16 (116 ∷ []) around allowed (place + 1) (tree whole false ∷ last ∷ v ∷ []) v cs
-    (OfKind 14 ∷ OfKind 42 ∷ OfKind 18 ∷ []) (written (first.bytes ++ (args.bytes ++ rest.bytes)) rest.components)
-    (takes-byte 16 Kind.NestAfterS Production.NestStd 116 refl refl (omega arith) refl) refl (λ f s. refl) (λ began s. refl)
-    (then-part Production.NestStd (116 ∷ []) around allowed (place + 1) (OfKind 14) (OfKind 42 ∷ OfKind 18 ∷ []) [] (piece p)
+    (OfKind UNQUALIFIED ∷ OfKind MAYBE_ARGUMENTS ∷ OfKind NEST_TAIL ∷ []) (written (first.bytes ++ (args.bytes ++ rest.bytes)) rest.components)
+    (takes-byte NEST_AFTER_S Kind.NestAfterS Production.NestStd 116 refl refl (omega arith) refl) refl (λ f s. refl) (λ began s. refl)
+    (then-part Production.NestStd (116 ∷ []) around allowed (place + 1) (OfKind UNQUALIFIED) (OfKind MAYBE_ARGUMENTS ∷ OfKind NEST_TAIL ∷ []) [] (piece p)
     (AreOnly (tree whole false ∷ last ∷ v ∷ [])) (place + 1 + 1) cs first (written (args.bytes ++ rest.bytes) rest.components)
     (λ s. refl) one
-    (row-part Production.NestStd (116 ∷ []) around (after (in_std p) false around) allowed allowed (place + 1) (OfKind 42) (OfKind 18 ∷ [])
+    (row-part Production.NestStd (116 ∷ []) around (after (in_std p) false around) allowed allowed (place + 1) (OfKind MAYBE_ARGUMENTS) (OfKind NEST_TAIL ∷ [])
     (piece p ∷ []) (tree (in_std p) false ∷ []) (Is last) (AreOnly (tree whole false ∷ last ∷ v ∷ [])) (place + 1 + 1 + length first.bytes)
     first.components first.components args rest
     (passes-by Production.NestStd around allowed (place + 1) (piece p ∷ []) first.components (after (in_std p) false around)
     (tree (in_std p) false ∷ []) (λ s. refl)) two (λ packs h. h)
-    (λ z h. subst (λ x. RowAt Production.NestStd (116 ∷ []) around allowed (place + 1) (OfKind 18 ∷ []) (tree (in_std p) false ∷ x ∷ [])
+    (λ z h. subst (λ x. RowAt Production.NestStd (116 ∷ []) around allowed (place + 1) (OfKind NEST_TAIL ∷ []) (tree (in_std p) false ∷ x ∷ [])
     (AreOnly (tree whole false ∷ last ∷ v ∷ [])) (place + 1 + 1 + length first.bytes + length args.bytes) args.components rest) (sym h)
-    (row-last Production.NestStd (116 ∷ []) around (after whole false around) allowed allowed (place + 1) (OfKind 18)
+    (row-last Production.NestStd (116 ∷ []) around (after whole false around) allowed allowed (place + 1) (OfKind NEST_TAIL)
     (tree (in_std p) false ∷ last ∷ []) (tree whole false ∷ last ∷ []) (Is v) (AreOnly (tree whole false ∷ last ∷ v ∷ []))
     (place + 1 + 1 + length first.bytes + length args.bytes) args.components args.components rest
     (passes-by Production.NestStd around allowed (place + 1) (tree (in_std p) false ∷ last ∷ []) args.components (after whole false around)
     (tree whole false ∷ last ∷ []) (λ s. refl))
-    (subst (λ q. ReadsAt (after whole false around) allowed (OfKind 18) (Is v) q args.components rest)
+    (subst (λ q. ReadsAt (after whole false around) allowed (OfKind NEST_TAIL) (Is v) q args.components rest)
     (omega (arith, length-append first.bytes args.bytes)) third)
     (λ y i. ap (λ q. tree whole false ∷ last ∷ q ∷ []) i)))))))
 
@@ -164,7 +165,7 @@ listed_now around false cs t = more around cs t
 pub nest-arguments : (around : Around) (allowed : Option ℕ) (t items : Term) (listed : Bool) (last : Value) (place : ℕ) (cs : List Candidate)
     (w args : Written) → no_items last ≡ items
     → SoFar around allowed t listed 17 place cs w
-    → ReadsAt (inside around) allowed (OfKind 44) (Is last) (place + length w.bytes + 1) (listed_now around listed w.components t) args
+    → ReadsAt (inside around) allowed (OfKind ARGUMENT_LIST) (Is last) (place + length w.bytes + 1) (listed_now around listed w.components t) args
     → Extends around allowed (instance t items) place cs (written (w.bytes ++ (73 ∷ (args.bytes ++ (69 ∷ []))))
     (more around args.components (instance t items)))
 unfolding choose alternatives pick is_in in_ranges among kinds is_chain parts_of number_of_kind between opening close unfolding_.behind meaning with_prefix appended after inside prefix_tree prefix_listed listed_so_far tree_of part
@@ -173,39 +174,39 @@ nest-arguments around allowed t items listed last place cs w args are so_far one
     let whole : Term = instance t items in
     let at : ℕ = place + length w.bytes in
     let made : List Candidate = more around args.components whole in
-    same-written around allowed (OfKind 15) (Is v) place cs rest.components (w.bytes ++ (73 ∷ (args.bytes ++ (69 ∷ (comp.bytes ++ rest.bytes)))))
+    same-written around allowed (OfKind NEST) (Is v) place cs rest.components (w.bytes ++ (73 ∷ (args.bytes ++ (69 ∷ (comp.bytes ++ rest.bytes)))))
     ((w.bytes ++ (73 ∷ (args.bytes ++ (69 ∷ [])))) ++ (comp.bytes ++ rest.bytes))
     (joined w.bytes args.bytes (comp.bytes ++ rest.bytes))
     (so_far v (written (73 ∷ (args.bytes ++ (69 ∷ (comp.bytes ++ rest.bytes)))) rest.components)
     (whole-same Production.NestArguments 17 (73 ∷ []) here allowed at (tree whole true ∷ nothing_there ∷ tree u false ∷ v ∷ []) v w.components
-    (OfKind 44 ∷ Byte 69 ∷ OfKind 19 ∷ OfKind 18 ∷ []) (written (args.bytes ++ (69 ∷ (comp.bytes ++ rest.bytes))) rest.components)
-    (takes-byte 17 Kind.NestRest Production.NestArguments 73 refl refl (omega arith) refl) refl (λ f s. refl) (λ began s. refl)
-    (row-part Production.NestArguments (73 ∷ []) here (inside around) allowed allowed at (OfKind 44) (Byte 69 ∷ OfKind 19 ∷ OfKind 18 ∷ []) [] []
+    (OfKind ARGUMENT_LIST ∷ Byte 69 ∷ OfKind COMPONENT ∷ OfKind NEST_TAIL ∷ []) (written (args.bytes ++ (69 ∷ (comp.bytes ++ rest.bytes))) rest.components)
+    (takes-byte NEST_REST Kind.NestRest Production.NestArguments 73 refl refl (omega arith) refl) refl (λ f s. refl) (λ began s. refl)
+    (row-part Production.NestArguments (73 ∷ []) here (inside around) allowed allowed at (OfKind ARGUMENT_LIST) (Byte 69 ∷ OfKind COMPONENT ∷ OfKind NEST_TAIL ∷ []) [] []
     (Is last) (AreOnly (tree whole true ∷ nothing_there ∷ tree u false ∷ v ∷ [])) (at + 1) w.components
     (listed_now around listed w.components t) args (written (69 ∷ (comp.bytes ++ rest.bytes)) rest.components)
     (begins listed at) one (λ packs h. h)
-    (λ z h. subst (λ x. RowAt Production.NestArguments (73 ∷ []) here allowed at (Byte 69 ∷ OfKind 19 ∷ OfKind 18 ∷ []) (x ∷ [])
+    (λ z h. subst (λ x. RowAt Production.NestArguments (73 ∷ []) here allowed at (Byte 69 ∷ OfKind COMPONENT ∷ OfKind NEST_TAIL ∷ []) (x ∷ [])
     (AreOnly (tree whole true ∷ nothing_there ∷ tree u false ∷ v ∷ [])) (at + 1 + length args.bytes) args.components
     (written (69 ∷ (comp.bytes ++ rest.bytes)) rest.components)) (sym h)
-    (then-part Production.NestArguments (73 ∷ []) here allowed at (Byte 69) (OfKind 19 ∷ OfKind 18 ∷ []) (last ∷ []) nothing_there
+    (then-part Production.NestArguments (73 ∷ []) here allowed at (Byte 69) (OfKind COMPONENT ∷ OfKind NEST_TAIL ∷ []) (last ∷ []) nothing_there
     (AreOnly (tree whole true ∷ nothing_there ∷ tree u false ∷ v ∷ [])) (at + 1 + length args.bytes) args.components
     (written (69 ∷ []) args.components) (written (comp.bytes ++ rest.bytes) rest.components)
     (λ s. refl) (fixed-reads here allowed 69 (at + 1 + length args.bytes) args.components)
-    (row-part Production.NestArguments (73 ∷ []) here (after whole true around) allowed allowed at (OfKind 19) (OfKind 18 ∷ [])
+    (row-part Production.NestArguments (73 ∷ []) here (after whole true around) allowed allowed at (OfKind COMPONENT) (OfKind NEST_TAIL ∷ [])
     (last ∷ nothing_there ∷ []) (tree whole true ∷ nothing_there ∷ []) (Is (tree u false))
     (AreOnly (tree whole true ∷ nothing_there ∷ tree u false ∷ v ∷ [])) (at + 1 + length args.bytes + 1) args.components made comp rest
     (λ s same packs. record { state = appended around whole s; goes = rw are refl; candidates = ap (λ l. more around l whole) same; packs = packs })
-    (subst (λ q. ReadsAt (after whole true around) allowed (OfKind 19) (Is (tree u false)) q made comp) (omega (arith, long)) third) (λ packs h. h)
-    (λ y i. subst (λ x. RowAt Production.NestArguments (73 ∷ []) here allowed at (OfKind 18 ∷ []) (tree whole true ∷ nothing_there ∷ x ∷ [])
+    (subst (λ q. ReadsAt (after whole true around) allowed (OfKind COMPONENT) (Is (tree u false)) q made comp) (omega (arith, long)) third) (λ packs h. h)
+    (λ y i. subst (λ x. RowAt Production.NestArguments (73 ∷ []) here allowed at (OfKind NEST_TAIL ∷ []) (tree whole true ∷ nothing_there ∷ x ∷ [])
     (AreOnly (tree whole true ∷ nothing_there ∷ tree u false ∷ v ∷ [])) (at + 1 + length args.bytes + 1 + length comp.bytes) comp.components
     rest) (sym i)
-    (row-last Production.NestArguments (73 ∷ []) here (after u false around) allowed allowed at (OfKind 18)
+    (row-last Production.NestArguments (73 ∷ []) here (after u false around) allowed allowed at (OfKind NEST_TAIL)
     (tree whole true ∷ nothing_there ∷ tree u false ∷ []) (tree whole true ∷ nothing_there ∷ tree u false ∷ []) (Is v)
     (AreOnly (tree whole true ∷ nothing_there ∷ tree u false ∷ v ∷ [])) (at + 1 + length args.bytes + 1 + length comp.bytes) comp.components
     comp.components rest
     (passes-by Production.NestArguments here allowed at (tree whole true ∷ nothing_there ∷ tree u false ∷ []) comp.components
     (after u false around) (tree whole true ∷ nothing_there ∷ tree u false ∷ []) (λ s. refl))
-    (subst (λ q. ReadsAt (after u false around) allowed (OfKind 18) (Is v) q comp.components rest) (omega (arith, long)) fourth)
+    (subst (λ q. ReadsAt (after u false around) allowed (OfKind NEST_TAIL) (Is v) q comp.components rest) (omega (arith, long)) fourth)
     (λ b j. ap (λ q. tree whole true ∷ nothing_there ∷ tree u false ∷ q ∷ []) j)))))))))
   where
     long : length (w.bytes ++ (73 ∷ (args.bytes ++ (69 ∷ [])))) ≡ length w.bytes + 1 + length args.bytes + 1

@@ -4,6 +4,7 @@ use Rattle.std.specs.Prelude.{codes}
 use Rattle.sym_shape.specs.declared.rule.Sym.TheVariants.{Kind as OfKind}
 use Rattle.cpp_grammar.specs.declared.kind.Kind.{Kind}
 use Rattle.cpp_grammar.specs.declared.production.Production.{Production}
+use Rattle.cpp_grammar.specs.KindNumbers.{SOLID, FUNCTION_REST}
 use Rattle.cpp_grammar.specs.Grammar.{in_ranges, among, is_in, pick, alternatives, choose, kinds, is_chain}
 use Rattle.cpp_grammar.specs.Term.{RefQualifier, any_value, lvalue_only, rvalue_only, Term, builtin, nil, list}
 use Rattle.cpp_grammar.specs.Values.{Candidate, Around, signature}
@@ -16,7 +17,7 @@ use Rattle.cpp_press_laws.proofs.ReadBack.Solids.{builtin-solid}
 
 -- what is left of a function type's parameters, with these items and this mark
 abbrev pub RestReads : Around → Option ℕ → (items : Term) → RefQualifier → (place : ℕ) → List Candidate → Written → Type 0
-RestReads around allowed items ref place cs w = ReadsAt around allowed (OfKind 38) (Is (signature items ref)) place cs w
+RestReads around allowed items ref place cs w = ReadsAt around allowed (OfKind FUNCTION_REST) (Is (signature items ref)) place cs w
 
 -- its end
 pub end-reads : (around : Around) (allowed : Option ℕ) (ref : RefQualifier) (place : ℕ) (cs : List Candidate)
@@ -33,5 +34,5 @@ unfolding choose alternatives pick is_in in_ranges among kinds is_chain ways_of 
 none-read around allowed ref place cs =
     rest-item around allowed (builtin (118 ∷ [])) nil ref place cs (written (118 ∷ []) cs) (written (mark_letter ref ++ codes "E") cs)
     ((types-31 around allowed (builtin (118 ∷ []))).solid.keeps (place + 0) cs (written (118 ∷ []) cs)
-    (builtin-solid 34 around allowed 118 (place + 0 + 0) cs (takes-byte 34 Kind.Solid Production.Builtin 118 refl refl (omega arith) refl)))
+    (builtin-solid SOLID around allowed 118 (place + 0 + 0) cs (takes-byte SOLID Kind.Solid Production.Builtin 118 refl refl (omega arith) refl)))
     (end-reads around allowed ref (place + 0 + 1) cs)

@@ -6,6 +6,7 @@ use Rattle.sym_shape.specs.Tree.{Forest, TakesRule}
 use Rattle.sym_link.specs.Unfold.{found}
 use Rattle.cpp_grammar.specs.declared.kind.Kind.{Kind}
 use Rattle.cpp_grammar.specs.declared.production.Production.{Production}
+use Rattle.cpp_grammar.specs.KindNumbers.{UNQUALIFIED, ANONYMOUS, OPERATOR, OPERATOR_AFTER_L}
 use Rattle.cpp_grammar.specs.Grammar.{in_ranges, among, is_in, pick, number_of_kind, alternatives, choose, kinds, parts_of, is_chain}
 use Rattle.cpp_grammar.specs.Table.{abi, rule_of}
 use Rattle.cpp_grammar.specs.Term.{Term, source, operator, literal_operator}
@@ -49,19 +50,19 @@ internal-piece k around allowed name place cs takes good =
 
 pub local-type-piece : (k : ℕ) (around : Around) (allowed : Option ℕ) (p : Term) (place : ℕ) (cs : List Candidate) (w : Written)
     → TakesRule abi k (rule_of Production.LocalTypePiece) (85 ∷ [])
-    → ReadsAt around allowed (OfKind 27) (Is (piece p)) (place + 1) cs w
+    → ReadsAt around allowed (OfKind ANONYMOUS) (Is (piece p)) (place + 1) cs w
     → ReadsAt around allowed (OfKind k) (Is (piece p)) place cs (written (85 ∷ w.bytes) w.components)
 unfolding parts_of number_of_kind between opening close unfolding_.behind meaning part
 local-type-piece k around allowed p place cs w takes one =
-    one-part Production.LocalTypePiece k (85 ∷ []) around allowed place (OfKind 27) (piece p) (piece p) cs w takes refl (λ s. refl) (λ f s. refl)
+    one-part Production.LocalTypePiece k (85 ∷ []) around allowed place (OfKind ANONYMOUS) (piece p) (piece p) cs w takes refl (λ s. refl) (λ f s. refl)
     (λ began s. refl) one
 
 pub operator-piece : (around : Around) (allowed : Option ℕ) (p : Term) (place : ℕ) (cs : List Candidate) (w : Written)
-    → ReadsAt around allowed (OfKind 52) (Is (piece p)) (place + 0) cs w → ReadsAt around allowed (OfKind 14) (Is (piece p)) place cs w
+    → ReadsAt around allowed (OfKind OPERATOR) (Is (piece p)) (place + 0) cs w → ReadsAt around allowed (OfKind UNQUALIFIED) (Is (piece p)) place cs w
 unfolding choose alternatives pick is_in in_ranges among kinds is_chain parts_of number_of_kind between opening close unfolding_.behind meaning part
 operator-piece around allowed p place cs w one =
-    one-part Production.OperatorPiece 14 [] around allowed place (OfKind 52) (piece p) (piece p) cs w
-    (takes-none 14 Kind.Unqualified Production.OperatorPiece 110 refl refl (omega arith) refl) refl (λ s. refl) (λ f s. refl) (λ began s. refl) one
+    one-part Production.OperatorPiece 14 [] around allowed place (OfKind OPERATOR) (piece p) (piece p) cs w
+    (takes-none UNQUALIFIED Kind.Unqualified Production.OperatorPiece 110 refl refl (omega arith) refl) refl (λ s. refl) (λ f s. refl) (λ began s. refl) one
 
 -- ## Operators
 
@@ -83,23 +84,23 @@ pub record IsOperator (first second : ℕ) : Type 0 where
 
 pub operator-reads : (around : Around) (allowed : Option ℕ) (first second place : ℕ) (cs : List Candidate) → first < 256 → second < 256
     → IsOperator first second
-    → ReadsAt around allowed (OfKind 52) (Is (piece (operator first second))) place cs (written (first ∷ second ∷ []) cs)
+    → ReadsAt around allowed (OfKind OPERATOR) (Is (piece (operator first second))) place cs (written (first ∷ second ∷ []) cs)
 unfolding kinds byte_of
 operator-reads around allowed first second place cs small also is =
     one-part is.production 52 (first ∷ []) around allowed place (OfKind is.number) (letter second) (piece (operator first second)) cs
     (written (second ∷ []) cs)
-    (takes-byte 52 Kind.Operator is.production first refl is.chosen small is.own) is.parts (is.goes around place) (is.opens place)
+    (takes-byte OPERATOR Kind.Operator is.production first refl is.chosen small is.own) is.parts (is.goes around place) (is.opens place)
     (is.means around place)
     (mark-reads around allowed is.number is.kind second (place + 1) cs is.at is.marked also)
 
 pub literal-operator-reads : (around : Around) (allowed : Option ℕ) (name : List ℕ) (place : ℕ) (cs : List Candidate) → IsSpellableName name
-    → ReadsAt around allowed (OfKind 52) (Is (piece (literal_operator name))) place cs (written (108 ∷ 105 ∷ counted name) cs)
+    → ReadsAt around allowed (OfKind OPERATOR) (Is (piece (literal_operator name))) place cs (written (108 ∷ 105 ∷ counted name) cs)
 unfolding choose alternatives pick is_in in_ranges among kinds is_chain parts_of number_of_kind between opening close unfolding_.behind meaning operator_or_literal text_of part
 literal-operator-reads around allowed name place cs good =
-    one-part Production.OperatorL 52 (108 ∷ []) around allowed place (OfKind 62) (piece (literal_operator name)) (piece (literal_operator name))
+    one-part Production.OperatorL 52 (108 ∷ []) around allowed place (OfKind OPERATOR_AFTER_L) (piece (literal_operator name)) (piece (literal_operator name))
     cs (written (105 ∷ counted name) cs)
-    (takes-byte 52 Kind.Operator Production.OperatorL 108 refl refl (omega arith) refl) refl (λ s. refl) (λ f s. refl) (λ began s. refl)
+    (takes-byte OPERATOR Kind.Operator Production.OperatorL 108 refl refl (omega arith) refl) refl (λ s. refl) (λ f s. refl) (λ began s. refl)
     (one-part Production.LiteralOperator 62 (105 ∷ []) around allowed (place + 1) Name (value.text name) (piece (literal_operator name)) cs
     (written (counted name) cs)
-    (takes-byte 62 Kind.OperatorAfterL Production.LiteralOperator 105 refl refl (omega arith) refl) refl (λ s. refl) (λ f s. refl) (λ began s. refl)
+    (takes-byte OPERATOR_AFTER_L Kind.OperatorAfterL Production.LiteralOperator 105 refl refl (omega arith) refl) refl (λ s. refl) (λ f s. refl) (λ began s. refl)
     (name-token-reads around allowed name (place + 1 + 1) cs good))

@@ -11,6 +11,7 @@ use Rattle.sym_link.specs.Reading.{Found, ◌>>=◌}
 use Rattle.sym_link.specs.Unfold.{found}
 use Rattle.cpp_grammar.specs.declared.kind.Kind.{Kind}
 use Rattle.cpp_grammar.specs.declared.production.Production.{Production}
+use Rattle.cpp_grammar.specs.KindNumbers.{ABBREVIATION}
 use Rattle.cpp_grammar.specs.Grammar.{in_ranges, among, is_in, pick, alternatives, choose, kinds, parts_of, is_chain}
 use Rattle.cpp_grammar.specs.Term.{Term}
 use Rattle.cpp_grammar.specs.Scope.{is_open}
@@ -155,12 +156,12 @@ reference-state around allowed place own c s may same scoped before =
 pub number-refers : (around : Around) (allowed : Option ℕ) (own : Term) (number place : ℕ) (cs : List Candidate) → length cs ≤ greatest
     → MayBeReferred around allowed own
     → IsFirst around.encoding own cs number
-    → ReadsAt around allowed (OfKind 22) (λ v. v ≡ tree own true) place cs (written (seq_id number ++ 95 ∷ []) cs)
+    → ReadsAt around allowed (OfKind ABBREVIATION) (λ v. v ≡ tree own true) place cs (written (seq_id number ++ 95 ∷ []) cs)
 unfolding choose alternatives pick is_in in_ranges among kinds is_chain parts_of opening close between text_of part
 number-refers around allowed own number place cs few may first =
     production-reads Production.Substitution 22 [] around allowed allowed place (λ values. values ≡ text (seq_id number) ∷ [])
     (λ v. v ≡ tree own true) cs cs (Number Seq36 ∷ []) (written (seq_id number ++ 95 ∷ []) cs)
-    (takes-none 22 Kind.Abbreviation Production.Substitution 95 refl refl (omega arith) refl) refl
+    (takes-none ABBREVIATION Kind.Abbreviation Production.Substitution 95 refl refl (omega arith) refl) refl
     (row-last Production.Substitution [] around around allowed allowed place (Number Seq36) [] [] (λ v. v ≡ text (seq_id number))
     (λ values. values ≡ text (seq_id number) ∷ []) (place + 0) cs cs (written (seq_id number ++ 95 ∷ []) cs)
     (passes-by Production.Substitution around allowed place [] cs around [] (λ s. refl))

@@ -6,6 +6,7 @@ use Rattle.sym_shape.specs.Tree.{TakesRule}
 use Rattle.sym_spell.specs.Pressing.{◌and◌}
 use Rattle.cpp_grammar.specs.declared.kind.Kind.{Kind}
 use Rattle.cpp_grammar.specs.declared.production.Production.{Production}
+use Rattle.cpp_grammar.specs.KindNumbers.{ABBREVIATION, TYPE, PLAIN, ITEM, ITEM_BUT_REF, SOLID, TYPE_AFTER_S, LITERAL, LITERAL_TYPE}
 use Rattle.cpp_grammar.specs.Grammar.{in_ranges, among, is_in, pick, number_of_kind, alternatives, choose, kinds, parts_of, is_chain}
 use Rattle.cpp_grammar.specs.Table.{abi, rule_of}
 use Rattle.cpp_grammar.specs.Term.{RefQualifier, Signed, Term, integer, list}
@@ -85,15 +86,15 @@ room-component n own spelling place cs none room =
 
 -- What is written is read as a type: as a parameter of a function type with those behind it, and as a literal's with its number.
 abbrev pub ReadsAs : Slot → Around → Option ℕ → Term → (place : ℕ) → List Candidate → Written → Type 0
-ReadsAs any_type around allowed t place cs w = ReadsAt around allowed (OfKind 28) (Is (tree t true)) place cs w
-ReadsAs bare_type around allowed t place cs w = ReadsAt around allowed (OfKind 29) (Is (tree t true)) place cs w
-ReadsAs item_type around allowed t place cs w = ReadsAt around allowed (OfKind 30) (Is (tree t true)) place cs w
+ReadsAs any_type around allowed t place cs w = ReadsAt around allowed (OfKind TYPE) (Is (tree t true)) place cs w
+ReadsAs bare_type around allowed t place cs w = ReadsAt around allowed (OfKind PLAIN) (Is (tree t true)) place cs w
+ReadsAs item_type around allowed t place cs w = ReadsAt around allowed (OfKind ITEM) (Is (tree t true)) place cs w
 ReadsAs parameter_type around allowed t place cs w =
     (items : Term) (ref : RefQualifier) (rest : Written) → RestReads around allowed items ref (place + length w.bytes) w.components rest
     → RestReads around allowed (list t items) ref place cs (written (w.bytes ++ rest.bytes) rest.components)
 ReadsAs literal_type around allowed t place cs w =
     (n : Signed) → IsSpellableNumber n
-    → ReadsAt around allowed (OfKind 47) (Is (tree (integer t n) true)) place cs (written (w.bytes ++ signed_text n) w.components)
+    → ReadsAt around allowed (OfKind LITERAL) (Is (tree (integer t n) true)) place cs (written (w.bytes ++ signed_text n) w.components)
 
 -- the kind of types there that have a letter of their own, or a name
 abbrev pub solid_kind : Slot → ℕ
@@ -102,7 +103,7 @@ solid_kind _ = 34
 
 -- how types become what is read: a component or an abbreviation behind an S, and what is spelled out
 pub record InSlot (around : Around) (allowed : Option ℕ) (t : Term) (solid : ℕ) (reads : ℕ → List Candidate → Written → Type 0) : Type 0 where
-  pub behind_s : (place : ℕ) (cs : List Candidate) (w : Written) → ReadsAt around allowed (OfKind 22) (Is (tree t true)) (place + 1) cs w
+  pub behind_s : (place : ℕ) (cs : List Candidate) (w : Written) → ReadsAt around allowed (OfKind ABBREVIATION) (Is (tree t true)) (place + 1) cs w
       → reads place cs (written (83 ∷ w.bytes) w.components)
   pub adds : (place : ℕ) (cs : List Candidate) (w : Written) → ReadsAt around allowed (OfKind solid) (Is (tree t false)) place cs w
       → reads place cs (written w.bytes (more around w.components t))
@@ -113,24 +114,24 @@ in-kind : (k : ℕ) (around : Around) (allowed : Option ℕ) (t : Term) → HasT
     → InSlot around allowed t 34 (λ place cs w. ReadsAt around allowed (OfKind k) (Is (tree t true)) place cs w)
 in-kind k around allowed t has = record {
   behind_s = λ place cs w one. type-behind-s k around allowed place t cs w has
-      (subst (λ q. ReadsAt around allowed (OfKind 22) (Is (tree t true)) q cs w) (omega arith) one);
+      (subst (λ q. ReadsAt around allowed (OfKind ABBREVIATION) (Is (tree t true)) q cs w) (omega arith) one);
   adds = λ place cs w one. has.solid.adds place cs w
-      (subst (λ q. ReadsAt around allowed (OfKind 34) (Is (tree t false)) q cs w) (omega arith) one);
+      (subst (λ q. ReadsAt around allowed (OfKind SOLID) (Is (tree t false)) q cs w) (omega arith) one);
   keeps = λ place cs w one. has.solid.keeps place cs w
-      (subst (λ q. ReadsAt around allowed (OfKind 34) (Is (tree t true)) q cs w) (omega arith) one);
+      (subst (λ q. ReadsAt around allowed (OfKind SOLID) (Is (tree t true)) q cs w) (omega arith) one);
 }
 
 -- a parameter of a function type that begins with neither an R nor an O
 pub in-rest : (around : Around) (allowed : Option ℕ) (t : Term) (place : ℕ) (cs : List Candidate) (w : Written)
-    → ReadsAt around allowed (OfKind 31) (Is (tree t true)) place cs w → ReadsAs parameter_type around allowed t place cs w
+    → ReadsAt around allowed (OfKind ITEM_BUT_REF) (Is (tree t true)) place cs w → ReadsAs parameter_type around allowed t place cs w
 in-rest around allowed t place cs w one items ref rest two =
     rest-item around allowed t items ref place cs w rest
-    (subst (λ q. ReadsAt around allowed (OfKind 31) (Is (tree t true)) q cs w) (omega arith) one)
+    (subst (λ q. ReadsAt around allowed (OfKind ITEM_BUT_REF) (Is (tree t true)) q cs w) (omega arith) one)
     (subst (λ q. RestReads around allowed items ref q w.components rest) (omega arith) two)
 
 in-parameter : (around : Around) (allowed : Option ℕ) (t : Term) → InSlot around allowed t 34 (ReadsAs parameter_type around allowed t)
 in-parameter around allowed t =
-    let i = in-kind 31 around allowed t (types-31 around allowed t) in
+    let i = in-kind ITEM_BUT_REF around allowed t (types-31 around allowed t) in
     record {
       behind_s = λ place cs w one. in-rest around allowed t place cs _ (i.behind_s place cs w one);
       adds = λ place cs w one. in-rest around allowed t place cs _ (i.adds place cs w one);
@@ -139,34 +140,34 @@ in-parameter around allowed t =
 
 -- the type of a literal
 literal-keeps : (around : Around) (allowed : Option ℕ) (t : Term) (place : ℕ) (cs : List Candidate) (w : Written)
-    → ReadsAt around allowed (OfKind 51) (Is (tree t true)) place cs w → ReadsAs literal_type around allowed t place cs w
+    → ReadsAt around allowed (OfKind LITERAL_TYPE) (Is (tree t true)) place cs w → ReadsAs literal_type around allowed t place cs w
 literal-keeps around allowed t place cs w one n good =
     integer-literal-same around allowed t n place cs w (written (signed_text n) w.components)
-    (subst (λ q. ReadsAt around allowed (OfKind 51) (Is (tree t true)) q cs w) (omega arith) one)
+    (subst (λ q. ReadsAt around allowed (OfKind LITERAL_TYPE) (Is (tree t true)) q cs w) (omega arith) one)
     (integer-reads around allowed n (place + 0 + length w.bytes) w.components good)
 
 -- an abbreviation or a reference as a type behind an S
 pub behind-s : (around : Around) (allowed : Option ℕ) (t : Term) (place : ℕ) (cs : List Candidate) (w : Written)
-    → ReadsAt around allowed (OfKind 22) (Is (tree t true)) place cs w → ReadsAt around allowed (OfKind 36) (Is (tree t true)) place cs w
+    → ReadsAt around allowed (OfKind ABBREVIATION) (Is (tree t true)) place cs w → ReadsAt around allowed (OfKind TYPE_AFTER_S) (Is (tree t true)) place cs w
 unfolding choose alternatives pick is_in in_ranges among kinds is_chain parts_of number_of_kind between opening close unfolding_.behind meaning part
 behind-s around allowed t place cs w one =
-    one-part Production.AbbreviatedType 36 [] around allowed place (OfKind 22) (tree t true) (tree t true) cs w
-    (takes-none 36 Kind.TypeAfterS Production.AbbreviatedType 95 refl refl (omega arith) refl) refl (λ s. refl) (λ f s. refl)
+    one-part Production.AbbreviatedType 36 [] around allowed place (OfKind ABBREVIATION) (tree t true) (tree t true) cs w
+    (takes-none TYPE_AFTER_S Kind.TypeAfterS Production.AbbreviatedType 95 refl refl (omega arith) refl) refl (λ s. refl) (λ f s. refl)
     (λ began s. refl)
-    (subst (λ q. ReadsAt around allowed (OfKind 22) (Is (tree t true)) q cs w) (omega arith) one)
+    (subst (λ q. ReadsAt around allowed (OfKind ABBREVIATION) (Is (tree t true)) q cs w) (omega arith) one)
 
 pub takes-S : (slot : Slot) → TakesRule abi (solid_kind slot) (rule_of Production.TypeWithS) (83 ∷ [])
 unfolding choose alternatives pick is_in in_ranges among kinds is_chain
-takes-S literal_type = takes-byte 51 Kind.LiteralType Production.TypeWithS 83 refl refl (omega arith) refl
-takes-S _ = takes-byte 34 Kind.Solid Production.TypeWithS 83 refl refl (omega arith) refl
+takes-S literal_type = takes-byte LITERAL_TYPE Kind.LiteralType Production.TypeWithS 83 refl refl (omega arith) refl
+takes-S _ = takes-byte SOLID Kind.Solid Production.TypeWithS 83 refl refl (omega arith) refl
 
 in-literal : (around : Around) (allowed : Option ℕ) (t : Term) → InSlot around allowed t 51 (ReadsAs literal_type around allowed t)
 in-literal around allowed t = record {
   behind_s = λ place cs w one. literal-keeps around allowed t place cs (written (83 ∷ w.bytes) w.components)
-      (solid-with-s 51 around allowed place t true cs w (takes-S literal_type) (behind-s around allowed t (place + 1) cs w one));
+      (solid-with-s LITERAL_TYPE around allowed place t true cs w (takes-S literal_type) (behind-s around allowed t (place + 1) cs w one));
   adds = λ place cs w one n good.
       integer-literal around allowed t n place cs w (written (signed_text n) (more around w.components t))
-      (subst (λ q. ReadsAt around allowed (OfKind 51) (Is (tree t false)) q cs w) (omega arith) one)
+      (subst (λ q. ReadsAt around allowed (OfKind LITERAL_TYPE) (Is (tree t false)) q cs w) (omega arith) one)
       (integer-reads around allowed n (place + 0 + length w.bytes) (more around w.components t) good);
   keeps = literal-keeps around allowed t;
 }
@@ -179,13 +180,13 @@ is_bare _ = false
 pub in-slot : (slot : Slot) (around : Around) (allowed : Option ℕ) (t : Term) → is_function_type t && is_bare slot ≡ false
     → InSlot around allowed t (solid_kind slot) (ReadsAs slot around allowed t)
 unfolding is_bare
-in-slot any_type around allowed t h = in-kind 28 around allowed t (types-28 around allowed t)
-in-slot bare_type around allowed t h = in-kind 29 around allowed t (types-29 around allowed t (go (is_function_type t) h))
+in-slot any_type around allowed t h = in-kind TYPE around allowed t (types-28 around allowed t)
+in-slot bare_type around allowed t h = in-kind PLAIN around allowed t (types-29 around allowed t (go (is_function_type t) h))
   where
     go : (b : Bool) → b && true ≡ false → b ≡ false
     go true k = k
     go false k = refl
-in-slot item_type around allowed t h = in-kind 30 around allowed t (types-30 around allowed t)
+in-slot item_type around allowed t h = in-kind ITEM around allowed t (types-30 around allowed t)
 in-slot parameter_type around allowed t h = in-parameter around allowed t
 in-slot literal_type around allowed t h = in-literal around allowed t
 
@@ -194,7 +195,7 @@ in-slot literal_type around allowed t h = in-literal around allowed t
 -- what a reference, or an abbreviation, becomes behind an S
 abbrev pub BehindS : Around → Option ℕ → Term → (ℕ → List Candidate → Written → Type 0) → Type 0
 BehindS around allowed t reads =
-    (place : ℕ) (cs : List Candidate) (w : Written) → ReadsAt around allowed (OfKind 22) (Is (tree t true)) (place + 1) cs w
+    (place : ℕ) (cs : List Candidate) (w : Written) → ReadsAt around allowed (OfKind ABBREVIATION) (Is (tree t true)) (place + 1) cs w
     → reads place cs (written (83 ∷ w.bytes) w.components)
 
 -- a component: a reference where an equal one stands before, or else its own spelling

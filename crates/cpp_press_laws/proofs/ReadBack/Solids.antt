@@ -11,6 +11,7 @@ use Rattle.sym_shape.specs.Tree.{Forest, TakesRule}
 use Rattle.sym_link.specs.Unfold.{found}
 use Rattle.cpp_grammar.specs.declared.kind.Kind.{Kind}
 use Rattle.cpp_grammar.specs.declared.production.Production.{Production}
+use Rattle.cpp_grammar.specs.KindNumbers.{ABBREVIATION, TYPE, AFTER_D, SOLID}
 use Rattle.cpp_grammar.specs.Grammar.{in_ranges, among, is_in, pick, number_of_kind, alternatives, choose, kinds, parts_of, is_chain}
 use Rattle.cpp_grammar.specs.Table.{abi, rule_of}
 use Rattle.cpp_grammar.specs.Term.{Term, abbreviation, builtin, vendor, pointer, lvalue, rvalue, array, member_pointer, complex}
@@ -37,51 +38,51 @@ builtin-solid k around allowed byte place cs takes =
 -- behind a D
 pub builtin-behind-d : (around : Around) (allowed : Option ℕ) (byte place : ℕ) (cs : List Candidate) → byte < 256
     → choose Kind.AfterD byte ≡ Some Production.BuiltinWithD
-    → ReadsAt around allowed (OfKind 33) (Is (tree (builtin (68 ∷ byte ∷ [])) true)) place cs (written (byte ∷ []) cs)
+    → ReadsAt around allowed (OfKind AFTER_D) (Is (tree (builtin (68 ∷ byte ∷ [])) true)) place cs (written (byte ∷ []) cs)
 unfolding kinds is_chain parts_of opening close unfolding_.behind meaning byte_of
 builtin-behind-d around allowed byte place cs small chosen =
-    no-part Production.BuiltinWithD 33 (byte ∷ []) around allowed place (tree (builtin (68 ∷ byte ∷ [])) true) cs
-    (takes-byte 33 Kind.AfterD Production.BuiltinWithD byte refl chosen small refl) refl
+    no-part Production.BuiltinWithD AFTER_D (byte ∷ []) around allowed place (tree (builtin (68 ∷ byte ∷ [])) true) cs
+    (takes-byte AFTER_D Kind.AfterD Production.BuiltinWithD byte refl chosen small refl) refl
     (λ f s. refl) (λ began s. refl)
 
 -- behind an S
 pub abbreviation-behind-s : (around : Around) (allowed : Option ℕ) (letter place : ℕ) (cs : List Candidate) → letter < 256
     → choose Kind.Abbreviation letter ≡ Some Production.Abbreviation
-    → ReadsAt around allowed (OfKind 22) (Is (tree (abbreviation letter) true)) place cs (written (letter ∷ []) cs)
+    → ReadsAt around allowed (OfKind ABBREVIATION) (Is (tree (abbreviation letter) true)) place cs (written (letter ∷ []) cs)
 unfolding kinds is_chain parts_of opening close unfolding_.behind meaning byte_of
 abbreviation-behind-s around allowed letter place cs small chosen =
-    no-part Production.Abbreviation 22 (letter ∷ []) around allowed place (tree (abbreviation letter) true) cs
-    (takes-byte 22 Kind.Abbreviation Production.Abbreviation letter refl chosen small refl) refl (λ f s. refl) (λ began s. refl)
+    no-part Production.Abbreviation ABBREVIATION (letter ∷ []) around allowed place (tree (abbreviation letter) true) cs
+    (takes-byte ABBREVIATION Kind.Abbreviation Production.Abbreviation letter refl chosen small refl) refl (λ f s. refl) (λ began s. refl)
 
 pub vendor-solid : (around : Around) (allowed : Option ℕ) (name : List ℕ) (place : ℕ) (cs : List Candidate) → IsSpellableName name
-    → ReadsAt around allowed (OfKind 34) (Is (tree (vendor name) false)) place cs (written (117 ∷ counted name) cs)
+    → ReadsAt around allowed (OfKind SOLID) (Is (tree (vendor name) false)) place cs (written (117 ∷ counted name) cs)
 unfolding choose alternatives pick is_in in_ranges among kinds is_chain parts_of between opening close unfolding_.behind meaning text_of part
 vendor-solid around allowed name place cs good =
-    same-written around allowed (OfKind 34) (Is (tree (vendor name) false)) place cs cs (117 ∷ ((name_token name).before ++ name ++ []))
+    same-written around allowed (OfKind SOLID) (Is (tree (vendor name) false)) place cs cs (117 ∷ ((name_token name).before ++ name ++ []))
     (117 ∷ counted name) (ap (λ l. 117 ∷ l) (name-spelled name))
     (one-part Production.Vendor 34 (117 ∷ []) around allowed place Name (value.text name) (tree (vendor name) false) cs
     (written ((name_token name).before ++ name ++ []) cs)
-    (takes-byte 34 Kind.Solid Production.Vendor 117 refl refl (omega arith) refl) refl (λ s. refl) (λ f s. refl) (λ began s. refl)
+    (takes-byte SOLID Kind.Solid Production.Vendor 117 refl refl (omega arith) refl) refl (λ s. refl) (λ f s. refl) (λ began s. refl)
     (name-reads around allowed (name_token name) (place + 1) cs (name-is-token name good)))
 
 -- ## Types of a type
 
 pub pointer-solid : (k : ℕ) (around : Around) (allowed : Option ℕ) (t : Term) (place : ℕ) (cs : List Candidate) (w : Written)
     → TakesRule abi k (rule_of Production.Pointer) (80 ∷ [])
-    → ReadsAt around allowed (OfKind 28) (Is (tree t true)) (place + 1) cs w
+    → ReadsAt around allowed (OfKind TYPE) (Is (tree t true)) (place + 1) cs w
     → ReadsAt around allowed (OfKind k) (Is (tree (pointer t) false)) place cs (written (80 ∷ w.bytes) w.components)
 unfolding choose alternatives pick is_in in_ranges among kinds is_chain parts_of number_of_kind between opening close unfolding_.behind meaning tree_of part
 pointer-solid k around allowed t place cs w takes one =
-    one-part Production.Pointer k (80 ∷ []) around allowed place (OfKind 28) (tree t true) (tree (pointer t) false) cs w
+    one-part Production.Pointer k (80 ∷ []) around allowed place (OfKind TYPE) (tree t true) (tree (pointer t) false) cs w
     takes refl (λ s. refl) (λ f s. refl) (λ began s. refl) one
 
 pub complex-solid : (around : Around) (allowed : Option ℕ) (t : Term) (place : ℕ) (cs : List Candidate) (w : Written)
-    → ReadsAt around allowed (OfKind 28) (Is (tree t true)) (place + 1) cs w
-    → ReadsAt around allowed (OfKind 34) (Is (tree (complex t) false)) place cs (written (67 ∷ w.bytes) w.components)
+    → ReadsAt around allowed (OfKind TYPE) (Is (tree t true)) (place + 1) cs w
+    → ReadsAt around allowed (OfKind SOLID) (Is (tree (complex t) false)) place cs (written (67 ∷ w.bytes) w.components)
 unfolding choose alternatives pick is_in in_ranges among kinds is_chain parts_of number_of_kind between opening close unfolding_.behind meaning tree_of part
 complex-solid around allowed t place cs w one =
-    one-part Production.Complex 34 (67 ∷ []) around allowed place (OfKind 28) (tree t true) (tree (complex t) false) cs w
-    (takes-byte 34 Kind.Solid Production.Complex 67 refl refl (omega arith) refl) refl (λ s. refl) (λ f s. refl) (λ began s. refl) one
+    one-part Production.Complex 34 (67 ∷ []) around allowed place (OfKind TYPE) (tree t true) (tree (complex t) false) cs w
+    (takes-byte SOLID Kind.Solid Production.Complex 67 refl refl (omega arith) refl) refl (λ s. refl) (λ f s. refl) (λ began s. refl) one
 
 -- ## Two parts
 
@@ -112,13 +113,13 @@ two-parts p k taken around allowed place x y a b v cs first second takes parts g
 pub member-pointer-solid : (k : ℕ) (around : Around) (allowed : Option ℕ) (class member : Term) (place : ℕ) (cs : List Candidate)
     (first second : Written)
     → TakesRule abi k (rule_of Production.MemberPointer) (77 ∷ [])
-    → ReadsAt around allowed (OfKind 28) (Is (tree class true)) (place + 1) cs first
-    → ReadsAt around allowed (OfKind 28) (Is (tree member true)) (place + 1 + length first.bytes) first.components second
+    → ReadsAt around allowed (OfKind TYPE) (Is (tree class true)) (place + 1) cs first
+    → ReadsAt around allowed (OfKind TYPE) (Is (tree member true)) (place + 1 + length first.bytes) first.components second
     → ReadsAt around allowed (OfKind k) (Is (tree (member_pointer class member) false)) place cs
     (written (77 ∷ (first.bytes ++ second.bytes)) second.components)
 unfolding choose alternatives pick is_in in_ranges among kinds is_chain parts_of number_of_kind between opening close unfolding_.behind meaning tree_of part
 member-pointer-solid k around allowed class member place cs first second takes one two =
-    two-parts Production.MemberPointer k (77 ∷ []) around allowed place (OfKind 28) (OfKind 28) (tree class true) (tree member true)
+    two-parts Production.MemberPointer k (77 ∷ []) around allowed place (OfKind TYPE) (OfKind TYPE) (tree class true) (tree member true)
     (tree (member_pointer class member) false) cs first second
     takes refl (λ s. refl) (λ s. refl) (λ f s. refl) (λ began s. refl) one two
 
@@ -132,13 +133,13 @@ array_token digits = record { before = []; own = digits; behind = 95 ∷ [] }
 
 pub array-solid : (around : Around) (allowed : Option ℕ) (digits : List ℕ) (t : Term) (place : ℕ) (cs : List Candidate) (w : Written)
     → AreSpellableDigits Decimal digits
-    → ReadsAt around allowed (OfKind 28) (Is (tree t true)) (place + 1 + length (digits ++ 95 ∷ [])) cs w
-    → ReadsAt around allowed (OfKind 34) (Is (tree (array digits t) false)) place cs (written (65 ∷ ((digits ++ 95 ∷ []) ++ w.bytes)) w.components)
+    → ReadsAt around allowed (OfKind TYPE) (Is (tree t true)) (place + 1 + length (digits ++ 95 ∷ [])) cs w
+    → ReadsAt around allowed (OfKind SOLID) (Is (tree (array digits t) false)) place cs (written (65 ∷ ((digits ++ 95 ∷ []) ++ w.bytes)) w.components)
 unfolding choose alternatives pick is_in in_ranges among kinds is_chain parts_of number_of_kind between opening close unfolding_.behind meaning tree_of text_of part
 array-solid around allowed digits t place cs w good one =
-    two-parts Production.Array 34 (65 ∷ []) around allowed place (Number Decimal) (OfKind 28) (value.text digits) (tree t true)
+    two-parts Production.Array 34 (65 ∷ []) around allowed place (Number Decimal) (OfKind TYPE) (value.text digits) (tree t true)
     (tree (array digits t) false) cs (written (digits ++ 95 ∷ []) cs) w
-    (takes-byte 34 Kind.Solid Production.Array 65 refl refl (omega arith) refl) refl (λ s. refl) (λ s. refl) (λ f s. refl)
+    (takes-byte SOLID Kind.Solid Production.Array 65 refl refl (omega arith) refl) refl (λ s. refl) (λ s. refl) (λ f s. refl)
     (λ began s. rw good.normal_are refl)
     (number-reads around allowed Decimal (array_token digits) (place + 1) cs (record { bare = refl; digits = good.are; ends = refl })) one
 
@@ -146,13 +147,13 @@ array-solid around allowed digits t place cs w good one =
 
 pub lvalue-reads : (around : Around) (allowed : Option ℕ) (k : ℕ) (t : Term) (place : ℕ) (cs : List Candidate) (w : Written)
     → TakesRule abi k (rule_of Production.ReferenceType) (82 ∷ [])
-    → ReadsAt around allowed (OfKind 28) (Is (tree t true)) (place + 1) cs w
+    → ReadsAt around allowed (OfKind TYPE) (Is (tree t true)) (place + 1) cs w
     → ReadsAt around allowed (OfKind k) (Is (tree (lvalue t) true)) place cs (written (82 ∷ w.bytes) (more around w.components (lvalue t)))
 unfolding parts_of number_of_kind between opening close unfolding_.behind meaning listed_value reference_to tree_of part byte_of
 lvalue-reads around allowed k t place cs w takes one =
     production-reads Production.ReferenceType k (82 ∷ []) around allowed allowed place (AreOnly (tree t true ∷ [])) (Is (tree (lvalue t) true))
-    cs (more around w.components (lvalue t)) (OfKind 28 ∷ []) w takes refl
-    (row-last Production.ReferenceType (82 ∷ []) around around allowed allowed place (OfKind 28) [] [] (Is (tree t true))
+    cs (more around w.components (lvalue t)) (OfKind TYPE ∷ []) w takes refl
+    (row-last Production.ReferenceType (82 ∷ []) around around allowed allowed place (OfKind TYPE) [] [] (Is (tree t true))
     (AreOnly (tree t true ∷ [])) (place + 1) cs cs w
     (passes-by Production.ReferenceType around allowed place [] cs around [] (λ s. refl)) one (λ x h. ap (λ y. y ∷ []) h))
     (λ f s. refl)
@@ -161,13 +162,13 @@ lvalue-reads around allowed k t place cs w takes one =
 
 pub rvalue-reads : (around : Around) (allowed : Option ℕ) (k : ℕ) (t : Term) (place : ℕ) (cs : List Candidate) (w : Written)
     → TakesRule abi k (rule_of Production.ReferenceType) (79 ∷ [])
-    → ReadsAt around allowed (OfKind 28) (Is (tree t true)) (place + 1) cs w
+    → ReadsAt around allowed (OfKind TYPE) (Is (tree t true)) (place + 1) cs w
     → ReadsAt around allowed (OfKind k) (Is (tree (rvalue t) true)) place cs (written (79 ∷ w.bytes) (more around w.components (rvalue t)))
 unfolding parts_of number_of_kind between opening close unfolding_.behind meaning listed_value reference_to tree_of part byte_of
 rvalue-reads around allowed k t place cs w takes one =
     production-reads Production.ReferenceType k (79 ∷ []) around allowed allowed place (AreOnly (tree t true ∷ [])) (Is (tree (rvalue t) true))
-    cs (more around w.components (rvalue t)) (OfKind 28 ∷ []) w takes refl
-    (row-last Production.ReferenceType (79 ∷ []) around around allowed allowed place (OfKind 28) [] [] (Is (tree t true))
+    cs (more around w.components (rvalue t)) (OfKind TYPE ∷ []) w takes refl
+    (row-last Production.ReferenceType (79 ∷ []) around around allowed allowed place (OfKind TYPE) [] [] (Is (tree t true))
     (AreOnly (tree t true ∷ [])) (place + 1) cs cs w
     (passes-by Production.ReferenceType around allowed place [] cs around [] (λ s. refl)) one (λ x h. ap (λ y. y ∷ []) h))
     (λ f s. refl)

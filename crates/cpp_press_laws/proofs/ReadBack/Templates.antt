@@ -7,6 +7,7 @@ use Rattle.sym_spell.specs.Pressing.{◌and◌, text}
 use Rattle.std.specs.Prelude.{codes}
 use Rattle.cpp_grammar.specs.declared.kind.Kind.{Kind}
 use Rattle.cpp_grammar.specs.declared.production.Production.{Production}
+use Rattle.cpp_grammar.specs.KindNumbers.{ABBREVIATION, SOLID, MAYBE_ARGUMENTS, ARGUMENTS, ARGUMENT_LIST, LITERAL_TYPE}
 use Rattle.cpp_grammar.specs.Grammar.{in_ranges, among, is_in, pick, number_of_kind, alternatives, choose, kinds, parts_of, is_chain}
 use Rattle.cpp_grammar.specs.Table.{abi, rule_of}
 use Rattle.cpp_grammar.specs.Term.{Term, instance, parameter}
@@ -46,24 +47,24 @@ pub record TypeRules (k : ℕ) : Type 0 where
 solid-rules : TypeRules 34
 unfolding choose alternatives pick is_in in_ranges among kinds is_chain
 solid-rules = record {
-  with_s = takes-byte 34 Kind.Solid Production.TypeWithS 83 refl refl (omega arith) refl;
-  nested = takes-byte 34 Kind.Solid Production.NestedType 78 refl refl (omega arith) refl;
-  parameters = takes-byte 34 Kind.Solid Production.Parameter 84 refl refl (omega arith) refl;
-  locals = takes-byte 34 Kind.Solid Production.LocalType 90 refl refl (omega arith) refl;
-  pointers = takes-byte 34 Kind.Solid Production.Pointer 80 refl refl (omega arith) refl;
-  members = takes-byte 34 Kind.Solid Production.MemberPointer 77 refl refl (omega arith) refl;
+  with_s = takes-byte SOLID Kind.Solid Production.TypeWithS 83 refl refl (omega arith) refl;
+  nested = takes-byte SOLID Kind.Solid Production.NestedType 78 refl refl (omega arith) refl;
+  parameters = takes-byte SOLID Kind.Solid Production.Parameter 84 refl refl (omega arith) refl;
+  locals = takes-byte SOLID Kind.Solid Production.LocalType 90 refl refl (omega arith) refl;
+  pointers = takes-byte SOLID Kind.Solid Production.Pointer 80 refl refl (omega arith) refl;
+  members = takes-byte SOLID Kind.Solid Production.MemberPointer 77 refl refl (omega arith) refl;
   names = type-rule;
 }
 
 literal-rules : TypeRules 51
 unfolding choose alternatives pick is_in in_ranges among kinds is_chain
 literal-rules = record {
-  with_s = takes-byte 51 Kind.LiteralType Production.TypeWithS 83 refl refl (omega arith) refl;
-  nested = takes-byte 51 Kind.LiteralType Production.NestedType 78 refl refl (omega arith) refl;
-  parameters = takes-byte 51 Kind.LiteralType Production.Parameter 84 refl refl (omega arith) refl;
-  locals = takes-byte 51 Kind.LiteralType Production.LocalType 90 refl refl (omega arith) refl;
-  pointers = takes-byte 51 Kind.LiteralType Production.Pointer 80 refl refl (omega arith) refl;
-  members = takes-byte 51 Kind.LiteralType Production.MemberPointer 77 refl refl (omega arith) refl;
+  with_s = takes-byte LITERAL_TYPE Kind.LiteralType Production.TypeWithS 83 refl refl (omega arith) refl;
+  nested = takes-byte LITERAL_TYPE Kind.LiteralType Production.NestedType 78 refl refl (omega arith) refl;
+  parameters = takes-byte LITERAL_TYPE Kind.LiteralType Production.Parameter 84 refl refl (omega arith) refl;
+  locals = takes-byte LITERAL_TYPE Kind.LiteralType Production.LocalType 90 refl refl (omega arith) refl;
+  pointers = takes-byte LITERAL_TYPE Kind.LiteralType Production.Pointer 80 refl refl (omega arith) refl;
+  members = takes-byte LITERAL_TYPE Kind.LiteralType Production.MemberPointer 77 refl refl (omega arith) refl;
   names = literal-type-rule;
 }
 
@@ -91,27 +92,27 @@ InstancedAt around allowed k t place cs w =
 
 takes-42 : TakesRule abi 42 (rule_of Production.Arguments) (73 ∷ [])
 unfolding choose alternatives pick is_in in_ranges among kinds is_chain
-takes-42 = takes-byte 42 Kind.MaybeArguments Production.Arguments 73 refl refl (omega arith) refl
+takes-42 = takes-byte MAYBE_ARGUMENTS Kind.MaybeArguments Production.Arguments 73 refl refl (omega arith) refl
 
 takes-43 : TakesRule abi 43 (rule_of Production.Arguments) (73 ∷ [])
 unfolding choose alternatives pick is_in in_ranges among kinds is_chain
-takes-43 = takes-byte 43 Kind.Arguments Production.Arguments 73 refl refl (omega arith) refl
+takes-43 = takes-byte ARGUMENTS Kind.Arguments Production.Arguments 73 refl refl (omega arith) refl
 
 pub instanced-behind-s : (typed : Bool) (k : ℕ) (around : Around) (allowed : Option ℕ) (t : Term) → TemplateKind typed k → (place : ℕ)
-    (cs : List Candidate) (w : Written) → ReadsAt around allowed (OfKind 22) (Is (tree t true)) (place + 1) cs w
+    (cs : List Candidate) (w : Written) → ReadsAt around allowed (OfKind ABBREVIATION) (Is (tree t true)) (place + 1) cs w
     → InstancedAt around allowed k t place cs (written (83 ∷ w.bytes) w.components)
 instanced-behind-s true k around allowed t rules place cs w one items last args are two =
     type-with-arguments k around allowed t items true place cs w (written (in_I_and_E args.bytes) args.components) rules.with_s
     (behind-s around allowed t (place + 1) cs w one)
     (listed-arguments 42 around allowed t items last (place + 1 + length w.bytes) w.components args takes-42 are
-    (subst (λ q. ReadsAt (inside around) allowed (OfKind 44) (Is last) q w.components args) (omega arith) two))
+    (subst (λ q. ReadsAt (inside around) allowed (OfKind ARGUMENT_LIST) (Is last) q w.components args) (omega arith) two))
 instanced-behind-s false k around allowed t eight place cs w one items last args are two =
     subst (λ j. ReadsAt around allowed (OfKind j) (Is (tree (instance t items) false)) place cs
     (written ((83 ∷ w.bytes) ++ in_I_and_E args.bytes) args.components)) (sym eight)
     (abbreviated-name around allowed t items place cs w (written (in_I_and_E args.bytes) args.components)
-    (subst (λ q. ReadsAt around allowed (OfKind 22) (Is (tree t true)) q cs w) (omega arith) one)
+    (subst (λ q. ReadsAt around allowed (OfKind ABBREVIATION) (Is (tree t true)) q cs w) (omega arith) one)
     (listed-arguments 43 around allowed t items last (place + 1 + 0 + length w.bytes) w.components args takes-43 are
-    (subst (λ q. ReadsAt (inside around) allowed (OfKind 44) (Is last) q w.components args) (omega arith) two)))
+    (subst (λ q. ReadsAt (inside around) allowed (OfKind ARGUMENT_LIST) (Is last) q w.components args) (omega arith) two)))
 
 -- a parameter with arguments
 pub parameter-instanced : (kind : ℕ) (around : Around) (allowed : Option ℕ) (k place : ℕ) (cs : List Candidate) → IsInScope around allowed k
@@ -127,15 +128,15 @@ parameter-instanced kind around allowed k place cs is takes items last args are 
     same-written around allowed (OfKind kind) (Is (tree (instance (parameter k) items) false)) place cs args.components
     (84 ∷ (digits.bytes ++ behind.bytes)) (84 ∷ (ordinal k ++ behind.bytes)) (ap (λ l. 84 ∷ (l ++ behind.bytes)) (ordinal-spelled k))
     (whole-same Production.Parameter kind (84 ∷ []) around allowed place all (tree (instance (parameter k) items) false) cs
-    (Number Decimal ∷ OfKind 42 ∷ []) (written (digits.bytes ++ behind.bytes) args.components) takes refl (λ f s. refl) (λ began s. refl)
-    (then-part Production.Parameter (84 ∷ []) around allowed place (Number Decimal) (OfKind 42 ∷ []) [] (value.text (ordinal_digits k))
+    (Number Decimal ∷ OfKind MAYBE_ARGUMENTS ∷ []) (written (digits.bytes ++ behind.bytes) args.components) takes refl (λ f s. refl) (λ began s. refl)
+    (then-part Production.Parameter (84 ∷ []) around allowed place (Number Decimal) (OfKind MAYBE_ARGUMENTS ∷ []) [] (value.text (ordinal_digits k))
     (AreOnly all) (place + 1) cs digits behind (λ s. refl)
     (number-reads around allowed Decimal (ordinal_token k) (place + 1) cs (ordinal-is-token k))
-    (row-last Production.Parameter (84 ∷ []) around inner allowed allowed place (OfKind 42) (value.text (ordinal_digits k) ∷ [])
+    (row-last Production.Parameter (84 ∷ []) around inner allowed allowed place (OfKind MAYBE_ARGUMENTS) (value.text (ordinal_digits k) ∷ [])
     (tree (parameter k) true ∷ []) (Is (tree items true)) (AreOnly all) (place + 1 + length digits.bytes) cs after_it behind
     (parameter-passes Production.Parameter around allowed place k cs is (λ s. refl))
     (listed-arguments 42 around allowed (parameter k) items last (place + 1 + length digits.bytes) after_it args takes-42 are
-    (subst (λ q. ReadsAt (inside around) allowed (OfKind 44) (Is last) q after_it args) (omega (arith, ap length (ordinal-spelled k))) one))
+    (subst (λ q. ReadsAt (inside around) allowed (OfKind ARGUMENT_LIST) (Is last) q after_it args) (omega (arith, ap length (ordinal-spelled k))) one))
     (λ v h. ap (λ x. tree (parameter k) true ∷ x ∷ []) h))))
 
 -- ## Template names

@@ -9,6 +9,7 @@ use Rattle.sym_link.specs.Reading.{Found}
 use Rattle.sym_link.specs.Unfold.{found}
 use Rattle.cpp_grammar.specs.declared.kind.Kind.{Kind}
 use Rattle.cpp_grammar.specs.declared.production.Production.{Production}
+use Rattle.cpp_grammar.specs.KindNumbers.{ABBREVIATION, TYPE, PLAIN, ITEM, ITEM_BUT_REF, ITEM_AFTER_D, AFTER_D, SOLID, TYPE_AFTER_S, MAYBE_ARGUMENTS}
 use Rattle.cpp_grammar.specs.Grammar.{in_ranges, among, is_in, pick, number_of_kind, alternatives, choose, kinds, parts_of, is_chain, may_be_empty}
 use Rattle.cpp_grammar.specs.Table.{abi, rule_of}
 use Rattle.cpp_grammar.specs.Term.{Term}
@@ -184,33 +185,33 @@ wraps-both around allowed k between_ inner taken t outer through = record {
 }
 
 item-is-type : (around : Around) (allowed : Option ℕ) (t : Term) (listed : Bool) (place : ℕ) (cs : List Candidate) (w : Written)
-    → ReadsAt around allowed (OfKind 33) (Is (tree t listed)) (place + 0) cs w
-    → ReadsAt around allowed (OfKind 32) (Is (tree t listed)) place cs w
+    → ReadsAt around allowed (OfKind AFTER_D) (Is (tree t listed)) (place + 0) cs w
+    → ReadsAt around allowed (OfKind ITEM_AFTER_D) (Is (tree t listed)) place cs w
 unfolding choose alternatives pick is_in in_ranges among kinds is_chain parts_of number_of_kind between opening close unfolding_.behind meaning part
 item-is-type around allowed t listed place cs w one =
-    one-part Production.ItemIsType 32 [] around allowed place (OfKind 33) (tree t listed) (tree t listed) cs w
-    (takes-none 32 Kind.ItemAfterD Production.ItemIsType 118 refl refl (omega arith) refl) refl (λ s. refl) (λ f s. refl) (λ began s. refl) one
+    one-part Production.ItemIsType 32 [] around allowed place (OfKind AFTER_D) (tree t listed) (tree t listed) cs w
+    (takes-none ITEM_AFTER_D Kind.ItemAfterD Production.ItemIsType 118 refl refl (omega arith) refl) refl (λ s. refl) (λ f s. refl) (λ began s. refl) one
 
 plain-wraps : (around : Around) (allowed : Option ℕ) (k : ℕ) (t : Term) → TakesRule abi k (rule_of Production.PlainType) []
     → Wraps around allowed k 34 [] t
 unfolding parts_of number_of_kind between opening close unfolding_.behind meaning listed_value with_type tree_of is_listed part
-plain-wraps around allowed k t takes = wraps Production.PlainType around allowed k 34 [] t takes refl (λ place s. refl) (λ place f s. refl)
+plain-wraps around allowed k t takes = wraps Production.PlainType around allowed k SOLID [] t takes refl (λ place s. refl) (λ place f s. refl)
     (λ place began s. refl) (λ place began s. refl)
 
 item-wraps : (around : Around) (allowed : Option ℕ) (k : ℕ) (t : Term) → TakesRule abi k (rule_of Production.ItemWithD) (68 ∷ [])
     → Wraps around allowed k 33 (68 ∷ []) t
 unfolding parts_of number_of_kind between opening close unfolding_.behind meaning listed_value with_type tree_of is_listed part
 item-wraps around allowed k t takes =
-    wraps-both around allowed k 32 33 (68 ∷ []) t
-    (wraps Production.ItemWithD around allowed k 32 (68 ∷ []) t takes refl (λ place s. refl) (λ place f s. refl) (λ place began s. refl)
+    wraps-both around allowed k ITEM_AFTER_D AFTER_D (68 ∷ []) t
+    (wraps Production.ItemWithD around allowed k ITEM_AFTER_D (68 ∷ []) t takes refl (λ place s. refl) (λ place f s. refl) (λ place began s. refl)
     (λ place began s. refl))
     (item-is-type around allowed t)
 
 pub types-28 : (around : Around) (allowed : Option ℕ) (t : Term) → HasTypes around allowed 28 t
 unfolding choose alternatives pick is_in in_ranges among kinds is_chain parts_of number_of_kind between opening close unfolding_.behind meaning listed_value with_type tree_of is_listed part
 types-28 around allowed t = record {
-  solid = plain-wraps around allowed 28 t (takes-none 28 Kind.Type Production.PlainType 80 refl refl (omega arith) refl);
-  with_d = wraps Production.TypeWithD around allowed 28 33 (68 ∷ []) t (takes-byte 28 Kind.Type Production.TypeWithD 68 refl refl (omega arith)
+  solid = plain-wraps around allowed TYPE t (takes-none TYPE Kind.Type Production.PlainType 80 refl refl (omega arith) refl);
+  with_d = wraps Production.TypeWithD around allowed TYPE AFTER_D (68 ∷ []) t (takes-byte TYPE Kind.Type Production.TypeWithD 68 refl refl (omega arith)
       refl) refl
       (λ place s. refl) (λ place f s. refl) (λ place began s. refl) (λ place began s. refl);
 }
@@ -218,25 +219,25 @@ types-28 around allowed t = record {
 pub types-30 : (around : Around) (allowed : Option ℕ) (t : Term) → HasTypes around allowed 30 t
 unfolding choose alternatives pick is_in in_ranges among kinds is_chain
 types-30 around allowed t = record {
-  solid = plain-wraps around allowed 30 t (takes-none 30 Kind.Item Production.PlainType 80 refl refl (omega arith) refl);
-  with_d = item-wraps around allowed 30 t (takes-byte 30 Kind.Item Production.ItemWithD 68 refl refl (omega arith) refl);
+  solid = plain-wraps around allowed ITEM t (takes-none ITEM Kind.Item Production.PlainType 80 refl refl (omega arith) refl);
+  with_d = item-wraps around allowed ITEM t (takes-byte ITEM Kind.Item Production.ItemWithD 68 refl refl (omega arith) refl);
 }
 
 pub types-31 : (around : Around) (allowed : Option ℕ) (t : Term) → HasTypes around allowed 31 t
 unfolding choose alternatives pick is_in in_ranges among kinds is_chain
 types-31 around allowed t = record {
-  solid = plain-wraps around allowed 31 t (takes-none 31 Kind.ItemButRef Production.PlainType 80 refl refl (omega arith) refl);
-  with_d = item-wraps around allowed 31 t (takes-byte 31 Kind.ItemButRef Production.ItemWithD 68 refl refl (omega arith) refl);
+  solid = plain-wraps around allowed ITEM_BUT_REF t (takes-none ITEM_BUT_REF Kind.ItemButRef Production.PlainType 80 refl refl (omega arith) refl);
+  with_d = item-wraps around allowed ITEM_BUT_REF t (takes-byte ITEM_BUT_REF Kind.ItemButRef Production.ItemWithD 68 refl refl (omega arith) refl);
 }
 
 -- under qualifiers a function type is no component
 pub types-29 : (around : Around) (allowed : Option ℕ) (t : Term) → is_function_type t ≡ false → HasTypes around allowed 29 t
 unfolding choose alternatives pick is_in in_ranges among kinds is_chain parts_of number_of_kind between opening close unfolding_.behind meaning listed_value with_unqualified with_type tree_of is_listed part is_function_type appended
 types-29 around allowed t other = record {
-  solid = wraps Production.QualifiedPlain around allowed 29 34 [] t (takes-none 29 Kind.Plain Production.QualifiedPlain 80 refl refl
+  solid = wraps Production.QualifiedPlain around allowed PLAIN SOLID [] t (takes-none PLAIN Kind.Plain Production.QualifiedPlain 80 refl refl
       (omega arith) refl) refl
       (λ place s. refl) (λ place f s. refl) (λ place began s. rw other refl) (λ place began s. rw other refl);
-  with_d = wraps Production.PlainWithD around allowed 29 33 (68 ∷ []) t (takes-byte 29 Kind.Plain Production.PlainWithD 68 refl refl
+  with_d = wraps Production.PlainWithD around allowed PLAIN AFTER_D (68 ∷ []) t (takes-byte PLAIN Kind.Plain Production.PlainWithD 68 refl refl
       (omega arith) refl) refl
       (λ place s. refl) (λ place f s. refl) (λ place began s. rw other refl) (λ place began s. rw other refl);
 }
@@ -244,45 +245,45 @@ types-29 around allowed t other = record {
 -- a function type right under qualifiers
 pub function-under-qualifiers : (around : Around) (allowed : Option ℕ) (t : Term) (place : ℕ) (cs : List Candidate) (w : Written)
     → is_function_type t ≡ true
-    → ReadsAt around allowed (OfKind 34) (Is (tree t false)) (place + 0) cs w → ReadsAt around allowed (OfKind 29) (Is (tree t true)) place cs w
+    → ReadsAt around allowed (OfKind SOLID) (Is (tree t false)) (place + 0) cs w → ReadsAt around allowed (OfKind PLAIN) (Is (tree t true)) place cs w
 unfolding choose alternatives pick is_in in_ranges among kinds is_chain parts_of number_of_kind between opening close unfolding_.behind meaning listed_value with_unqualified tree_of part is_function_type
 function-under-qualifiers around allowed t place cs w is one =
-    one-part Production.QualifiedPlain 29 [] around allowed place (OfKind 34) (tree t false) (tree t true) cs w
-    (takes-none 29 Kind.Plain Production.QualifiedPlain 80 refl refl (omega arith) refl) refl (λ s. refl) (λ f s. refl) (λ began s. rw is refl) one
+    one-part Production.QualifiedPlain 29 [] around allowed place (OfKind SOLID) (tree t false) (tree t true) cs w
+    (takes-none PLAIN Kind.Plain Production.QualifiedPlain 80 refl refl (omega arith) refl) refl (λ s. refl) (λ f s. refl) (λ began s. rw is refl) one
 
 pub noexcept-under-qualifiers : (around : Around) (allowed : Option ℕ) (t : Term) (place : ℕ) (cs : List Candidate) (w : Written)
     → is_function_type t ≡ true
-    → ReadsAt around allowed (OfKind 33) (Is (tree t false)) (place + 1) cs w
-    → ReadsAt around allowed (OfKind 29) (Is (tree t true)) place cs (written (68 ∷ w.bytes) w.components)
+    → ReadsAt around allowed (OfKind AFTER_D) (Is (tree t false)) (place + 1) cs w
+    → ReadsAt around allowed (OfKind PLAIN) (Is (tree t true)) place cs (written (68 ∷ w.bytes) w.components)
 unfolding choose alternatives pick is_in in_ranges among kinds is_chain parts_of number_of_kind between opening close unfolding_.behind meaning listed_value with_unqualified tree_of part is_function_type
 noexcept-under-qualifiers around allowed t place cs w is one =
-    one-part Production.PlainWithD 29 (68 ∷ []) around allowed place (OfKind 33) (tree t false) (tree t true) cs w
-    (takes-byte 29 Kind.Plain Production.PlainWithD 68 refl refl (omega arith) refl) refl (λ s. refl) (λ f s. refl) (λ began s. rw is refl) one
+    one-part Production.PlainWithD 29 (68 ∷ []) around allowed place (OfKind AFTER_D) (tree t false) (tree t true) cs w
+    (takes-byte PLAIN Kind.Plain Production.PlainWithD 68 refl refl (omega arith) refl) refl (λ s. refl) (λ f s. refl) (λ began s. rw is refl) one
 
 -- ## What begins with an S
 
 -- a name behind S, without arguments
 pub solid-with-s : (k : ℕ) (around : Around) (allowed : Option ℕ) (place : ℕ) (t : Term) (listed : Bool) (cs : List Candidate) (w : Written)
     → TakesRule abi k (rule_of Production.TypeWithS) (83 ∷ [])
-    → ReadsAt around allowed (OfKind 36) (Is (tree t listed)) (place + 1) cs w
+    → ReadsAt around allowed (OfKind TYPE_AFTER_S) (Is (tree t listed)) (place + 1) cs w
     → ReadsAt around allowed (OfKind k) (Is (tree t listed)) place cs (written (83 ∷ w.bytes) w.components)
 unfolding choose alternatives pick is_in in_ranges among kinds is_chain parts_of number_of_kind may_be_empty between opening close unfolding_.behind meaning after applied tree_of is_listed is_there part byte_of
 solid-with-s k around allowed place t listed cs w takes one =
     same-written around allowed (OfKind k) (Is (tree t listed)) place cs w.components (83 ∷ (w.bytes ++ [])) (83 ∷ w.bytes)
     (ap (λ l. 83 ∷ l) (append-nil w.bytes))
     (production-reads Production.TypeWithS k (83 ∷ []) around allowed allowed place (AreOnly (tree t listed ∷ nothing_there ∷ []))
-    (Is (tree t listed)) cs w.components (OfKind 36 ∷ OfKind 42 ∷ []) (written (w.bytes ++ []) w.components)
+    (Is (tree t listed)) cs w.components (OfKind TYPE_AFTER_S ∷ OfKind MAYBE_ARGUMENTS ∷ []) (written (w.bytes ++ []) w.components)
     takes refl
-    (row-part Production.TypeWithS (83 ∷ []) around around allowed allowed place (OfKind 36) (OfKind 42 ∷ []) [] [] (Is (tree t listed))
+    (row-part Production.TypeWithS (83 ∷ []) around around allowed allowed place (OfKind TYPE_AFTER_S) (OfKind MAYBE_ARGUMENTS ∷ []) [] [] (Is (tree t listed))
     (AreOnly (tree t listed ∷ nothing_there ∷ [])) (place + 1) cs cs w (written [] w.components)
     (passes-by Production.TypeWithS around allowed place [] cs around [] (λ s. refl)) one (λ packs h. h)
-    (λ v h. subst (λ x. RowAt Production.TypeWithS (83 ∷ []) around allowed place (OfKind 42 ∷ []) (x ∷ [])
+    (λ v h. subst (λ x. RowAt Production.TypeWithS (83 ∷ []) around allowed place (OfKind MAYBE_ARGUMENTS ∷ []) (x ∷ [])
     (AreOnly (tree t listed ∷ nothing_there ∷ [])) (place + 1 + length w.bytes) w.components (written [] w.components)) (sym h)
-    (row-last Production.TypeWithS (83 ∷ []) around (after t listed around) allowed allowed place (OfKind 42) (tree t listed ∷ [])
+    (row-last Production.TypeWithS (83 ∷ []) around (after t listed around) allowed allowed place (OfKind MAYBE_ARGUMENTS) (tree t listed ∷ [])
     (tree t listed ∷ []) (Is nothing_there) (AreOnly (tree t listed ∷ nothing_there ∷ [])) (place + 1 + length w.bytes) w.components
     w.components (written [] w.components)
     (passes-by Production.TypeWithS around allowed place (tree t listed ∷ []) w.components (after t listed around) (tree t listed ∷ []) (λ s. refl))
-    (empty-reads (after t listed around) allowed 42 Kind.MaybeArguments (place + 1 + length w.bytes) w.components refl refl)
+    (empty-reads (after t listed around) allowed MAYBE_ARGUMENTS Kind.MaybeArguments (place + 1 + length w.bytes) w.components refl refl)
     (λ x i. ap (λ y. tree t listed ∷ y ∷ []) i))))
     (λ f s. refl)
     (closes-same Production.TypeWithS 83 around allowed place (AreOnly (tree t listed ∷ nothing_there ∷ [])) w.components (tree t listed)
@@ -295,11 +296,11 @@ solid-with-s k around allowed place t listed cs w takes one =
 -- an abbreviation or a reference behind S, as a type
 pub type-behind-s : (k : ℕ) (around : Around) (allowed : Option ℕ) (place : ℕ) (t : Term) (cs : List Candidate) (w : Written)
     → HasTypes around allowed k t
-    → ReadsAt around allowed (OfKind 22) (Is (tree t true)) (place + 0 + 1 + 0) cs w
+    → ReadsAt around allowed (OfKind ABBREVIATION) (Is (tree t true)) (place + 0 + 1 + 0) cs w
     → ReadsAt around allowed (OfKind k) (Is (tree t true)) place cs (written (83 ∷ w.bytes) w.components)
 unfolding choose alternatives pick is_in in_ranges among kinds is_chain parts_of number_of_kind between opening close unfolding_.behind meaning part
 type-behind-s k around allowed place t cs w has one =
     has.solid.keeps place cs (written (83 ∷ w.bytes) w.components)
-    (solid-with-s 34 around allowed (place + 0) t true cs w (takes-byte 34 Kind.Solid Production.TypeWithS 83 refl refl (omega arith) refl)
-    (one-part Production.AbbreviatedType 36 [] around allowed (place + 0 + 1) (OfKind 22) (tree t true) (tree t true) cs w
-    (takes-none 36 Kind.TypeAfterS Production.AbbreviatedType 95 refl refl (omega arith) refl) refl (λ s. refl) (λ f s. refl) (λ began s. refl) one))
+    (solid-with-s SOLID around allowed (place + 0) t true cs w (takes-byte SOLID Kind.Solid Production.TypeWithS 83 refl refl (omega arith) refl)
+    (one-part Production.AbbreviatedType 36 [] around allowed (place + 0 + 1) (OfKind ABBREVIATION) (tree t true) (tree t true) cs w
+    (takes-none TYPE_AFTER_S Kind.TypeAfterS Production.AbbreviatedType 95 refl refl (omega arith) refl) refl (λ s. refl) (λ f s. refl) (λ began s. refl) one))

@@ -1,6 +1,6 @@
 use Rattle.std.proofs.Common.{◌∙◌, arith}
 use Rattle.cpp_grammar.specs.Grammar.{productions}
-use Rattle.cpp_link.specs.Stepping.{quiet_parts}
+use Rattle.cpp_link.specs.Tables.{quiet_parts}
 use Rattle.cpp_link.proofs.Reading.{count_got}
 use Rattle.cpp_link.proofs.between.quiet_parts.Goals as goal
 

@@ -3,6 +3,7 @@ use Rattle.cpp_layout.proofs.Growing.{fills, starts}
 use Rattle.cpp_layout.proofs.Typing.{no-name}
 use Rattle.cpp_layout.specs.Layout.{context_of, own_piece, table_of}
 use Rattle.cpp_layout.specs.Texts.{fixed_text}
+use Rattle.cpp_layout.specs.declared.texts.TheConstants.{STD}
 use Rattle.cpp_term.specs.Parts.{as_item, left_parts}
 use Rattle.cpp_tree.specs.Nodes.{tree_of, trees}
 use Rattle.sym_print.specs.Unfold.{text}
@@ -15,7 +16,7 @@ returns-in-Alone-clause-shows g c = fills c.args.self.now c.args.ctx.detail _ _ 
 
 pub returns-in-InStd-clause-shows : goal.returns-in-InStd-clause-shows
 unfolding tree_of left_parts own_piece
-returns-in-InStd-clause-shows g c = fills c.args.self.now c.args.ctx.detail _ _ _ c.fill_in_std.ensures.shows (ap (λ t. text (fixed_text 7) ∷ as_item heads.piece (context_of c.args.ctx) (own_piece t) ∷ []) (c.stored-stored.ensures.tree ∙ ap (λ n. tree_of c.args.self.now.bytes c.args.self.now.table.thunks (trees (table_of c.args.self.now)) n) c.in-InStd.is) ∙ ap (λ n. left_parts c.args.ctx.detail (context_of c.args.ctx) (tree_of c.args.self.now.bytes c.args.self.now.table.thunks (trees (table_of c.args.self.now)) n)) (sym c.in-InStd.is) ∙ ap (λ t. left_parts c.args.ctx.detail (context_of c.args.ctx) t) (sym c.stored-stored.ensures.tree))
+returns-in-InStd-clause-shows g c = fills c.args.self.now c.args.ctx.detail _ _ _ c.fill_in_std.ensures.shows (ap (λ t. text (fixed_text STD) ∷ as_item heads.piece (context_of c.args.ctx) (own_piece t) ∷ []) (c.stored-stored.ensures.tree ∙ ap (λ n. tree_of c.args.self.now.bytes c.args.self.now.table.thunks (trees (table_of c.args.self.now)) n) c.in-InStd.is) ∙ ap (λ n. left_parts c.args.ctx.detail (context_of c.args.ctx) (tree_of c.args.self.now.bytes c.args.self.now.table.thunks (trees (table_of c.args.self.now)) n)) (sym c.in-InStd.is) ∙ ap (λ t. left_parts c.args.ctx.detail (context_of c.args.ctx) t) (sym c.stored-stored.ensures.tree))
 
 pub fill_within-requires-clause-own : goal.fill_within-requires-clause-own
 unfolding tree_of own_piece

@@ -1,5 +1,6 @@
 use Rattle.std.proofs.Common.{arith, sym, rules}
-use Rattle.rust_tree.proofs.Showing.{text-changed, below-basic, fixed-basic, some-basic}
+use Rattle.rust_tree.proofs.BasicTypes.{below-basic}
+use Rattle.rust_tree.proofs.Showing.{text-changed, fixed-basic, some-basic}
 use Rattle.rust_tree.proofs.symbol.Symbol.push_basic.Goals as goal
 
 pub returns-then-letter-lt97-clause-shows : goal.returns-then-letter-lt97-clause-shows
