@@ -4,7 +4,7 @@ use std::alloc::{AllocError, Global};
 use sym_core::Refusal;
 
 /// Bytes as a row spells them: a backslash, a tab, a line's end and the byte 0xFF as two bytes each.
-fn spelled(alloc: Global, bytes: &[u8]) -> Result<Vec<u8>, AllocError> {
+pub fn spelled(alloc: Global, bytes: &[u8]) -> Result<Vec<u8>, AllocError> {
     let mut spelled = Vec::new(alloc);
     for byte in bytes {
         match *byte {
@@ -16,6 +16,23 @@ fn spelled(alloc: Global, bytes: &[u8]) -> Result<Vec<u8>, AllocError> {
         }
     }
     Ok(spelled)
+}
+
+/// The bytes that a row spells.
+pub fn unspelled(alloc: Global, field: &[u8]) -> Result<Vec<u8>, AllocError> {
+    let mut bytes = Vec::new(alloc);
+    let mut escapes = false;
+    for byte in field {
+        match (escapes, *byte) {
+            (false, b'\\') => {}
+            (true, b't') => bytes.push(b'\t')?,
+            (true, b'n') => bytes.push(b'\n')?,
+            (true, b'f') => bytes.push(0xff)?,
+            (_, byte) => bytes.push(byte)?,
+        }
+        escapes = !escapes && *byte == b'\\';
+    }
+    Ok(bytes)
 }
 
 /// Why a symbol has no text.

@@ -1,10 +1,12 @@
 // A symbol through each call: whole and in pieces, step by step, with lists of its own and with lists that are used again.
 
-ghost use Rattle.std.specs.Prelude.{◌≡◌, true, IfOk, IfSome};
 ghost use Rattle.sym_core.specs.Number.{FitsSymbol};
 
 use crate::answer::says;
+use crate::feeding::most_steps;
+use crate::linking::linked_in_steps;
 use crate::mangling::Calls;
+use crate::printing::{printed_in_steps, put_together};
 use std::alloc::Global;
 use sym_core::{Counts, Refusal, fits};
 use sym_demangle::{Linker, Workspace};
@@ -25,7 +27,7 @@ fn are_few(counts: Counts, len: usize) -> bool {
     rows <= steps
         && rows as usize <= len.saturating_mul(4).saturating_add(4)
         && nodes as usize <= len.saturating_mul(4).saturating_add(8)
-        && steps as usize <= len.saturating_mul(32).saturating_add(48)
+        && steps as usize <= most_steps(len)
 }
 
 /// What a demangler answered for a symbol of so many bytes, with what a list then has.
@@ -54,7 +56,7 @@ fn refused(alloc: Global, refusal: Refusal, appended: &[u8]) -> Result<Vec<u8>, 
     }
 }
 
-/// The answer of a demangler, which appends it to a list.
+/// The answer of a demangler, which appends it to a list and counts.
 pub fn by_demangler<D: Demangler>(
     alloc: Global,
     demangler: &D,
@@ -67,6 +69,49 @@ pub fn by_demangler<D: Demangler>(
     let mut out = Vec::from_slice(alloc, BEFORE)?;
     let answer = demangler.demangle(lists, kind, s, &mut out);
     answered(alloc, answer, s.len(), &out)
+}
+
+/// What was appended to a list, or why nothing was.
+fn appended(alloc: Global, answer: Result<(), Refusal>, out: &[u8]) -> Result<Vec<u8>, Refusal> {
+    match (answer, out.strip_prefix(BEFORE)) {
+        (Ok(()), Some(text)) => Ok(Vec::from_slice(alloc, text)?),
+        (Err(refusal), Some(b"")) => Err(refusal),
+        _ => broken(alloc, b"(the list was changed)"),
+    }
+}
+
+/// The answer of a demangler, which appends it to a list and counts nothing.
+fn by_append<D: Demangler>(
+    alloc: Global,
+    demangler: &D,
+    lists: &mut D::Lists,
+    kind: Kind,
+    s: &[u8],
+) -> Result<Vec<u8>, Refusal>
+    requires { FitsSymbol s.now }
+{
+    let mut out = Vec::from_slice(alloc, BEFORE)?;
+    let answer = demangler.append(lists, kind, s, &mut out);
+    appended(alloc, answer, &out)
+}
+
+/// Whether both calls of a demangler answer this for a symbol.
+pub fn demangler_says<D: Demangler>(
+    alloc: Global,
+    demangler: &D,
+    lists: &mut D::Lists,
+    kind: Kind,
+    s: &[u8],
+    wanted: &[u8],
+) -> Result<bool, Refusal>
+    requires { FitsSymbol s.now }
+{
+    let counted = by_demangler(alloc, demangler, lists, kind, s);
+    if !says(alloc, &counted, wanted)? {
+        return Ok(false);
+    }
+    let answer = by_append(alloc, demangler, lists, kind, s);
+    says(alloc, &answer, wanted)
 }
 
 /// A symbol that is fed in pieces.
@@ -91,48 +136,7 @@ fn linker_of<M: Calls>(alloc: Global, s: &[u8]) -> Result<Linker<M>, Refusal>
     Linker::<M>::new(alloc, bytes, shape)
 }
 
-/// One step of a linker that took so many: whether nothing is left to do, or none where it isn't counted, or answers otherwise
-/// when it is asked again.
-fn step<M: Calls>(linker: &mut Linker<M>, taken: u32) -> Result<Option<bool>, Refusal>
-    ensures { IfOk result (λ step. IfSome step (λ done. done ≡ true → linker.new.done ≡ true)) }
-{
-    if linker.steps() != taken {
-        return Ok(None);
-    }
-    match linker.step() {
-        Ok(false) => Ok(Some(false)),
-        Ok(true) => {
-            if linker.steps() == taken && linker.step()? {
-                Ok(Some(true))
-            } else {
-                Ok(None)
-            }
-        }
-        Err(refusal) => {
-            if linker.step() == Err(refusal) {
-                Err(refusal)
-            } else {
-                Ok(None)
-            }
-        }
-    }
-}
-
-/// Steps until nothing is left to do; false where a step isn't as it has to be.
-fn step_all<M: Calls>(linker: &mut Linker<M>) -> Result<bool, Refusal>
-    ensures { IfOk result (λ done. done ≡ true → linker.new.done ≡ true) }
-{
-    for taken in 0..u32::MAX {
-        match step(linker, taken)? {
-            Some(true) => return Ok(true),
-            Some(false) => {}
-            None => return Ok(false),
-        }
-    }
-    Ok(false)
-}
-
-/// A symbol that is linked step by step, each of which is counted.
+/// A symbol that is read, linked and printed step by step, each of which is counted.
 fn step_by_step<M: Calls>(
     alloc: Global,
     s: &[u8],
@@ -141,12 +145,32 @@ fn step_by_step<M: Calls>(
 ) -> Result<Vec<u8>, Refusal>
     requires { FitsSymbol s.now }
 {
-    let mut linker = linker_of::<M>(alloc, s)?;
-    if !step_all(&mut linker)? {
-        return broken(alloc, b"(a linker stepped otherwise)");
+    let Some(symbol) = linked_in_steps::<M>(alloc, s)? else {
+        return broken(alloc, b"(a reader or linker stepped otherwise)");
+    };
+    if !are_few(M::counts(&symbol), s.len()) {
+        return broken(alloc, b"(the counts are too great)");
     }
-    let symbol = linker.finish();
-    M::text_as(&symbol, limit, detail)
+    match printed_in_steps(alloc, &symbol, M::root(&symbol, detail), limit)? {
+        Some(text) => Ok(text),
+        None => broken(alloc, b"(a printer stepped otherwise)"),
+    }
+}
+
+/// A symbol whose text is put together part by part.
+fn part_by_part<M: Calls>(
+    alloc: Global,
+    s: &[u8],
+    limit: u32,
+    detail: Detail,
+) -> Result<Vec<u8>, Refusal>
+    requires { FitsSymbol s.now }
+{
+    let symbol = M::read(alloc, s)?;
+    match put_together(alloc, &symbol, M::root(&symbol, detail), limit)? {
+        Some(text) => Ok(text),
+        None => broken(alloc, b"(the parts are too many)"),
+    }
 }
 
 /// A symbol that is read whole, and printed.
@@ -210,11 +234,7 @@ fn kept<M: Calls>(
         }
     }
     let answer = workspace.demangle_into(s, limit, detail, &mut out);
-    match (answer, out.strip_prefix(BEFORE)) {
-        (Ok(()), Some(text)) => Ok(Vec::from_slice(alloc, text)?),
-        (Err(refusal), Some(b"")) => Err(refusal),
-        _ => broken(alloc, b"(the list was changed)"),
-    }
+    appended(alloc, answer, &out)
 }
 
 /// Whether each call answers this for a symbol.
@@ -252,6 +272,10 @@ pub fn calls_say<M: Calls>(
     }
     let stepped = step_by_step::<M>(alloc, s, limit, detail);
     if !says(alloc, &stepped, wanted)? {
+        return Ok(false);
+    }
+    let put_together = part_by_part::<M>(alloc, s, limit, detail);
+    if !says(alloc, &put_together, wanted)? {
         return Ok(false);
     }
     let kept = kept(alloc, workspace, s, limit, detail);

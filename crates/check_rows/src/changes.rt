@@ -1,7 +1,6 @@
 // Symbols cut and changed at each byte.
 
-use crate::answer::says;
-use crate::calls::by_demangler;
+use crate::calls::demangler_says;
 use std::alloc::Global;
 use sym_core::{Refusal, fits};
 use sym_filter::languages::Lists;
@@ -66,8 +65,7 @@ pub fn hold(
         if !fits(&changed) {
             return Ok(false);
         }
-        let answer = by_demangler(alloc, languages, lists, kind, &changed);
-        if !says(alloc, &answer, &wanted)? {
+        if !demangler_says(alloc, languages, lists, kind, &changed, &wanted)? {
             return Ok(false);
         }
     }

@@ -6,30 +6,55 @@ use std::alloc::Global;
 use sym_core::Refusal;
 use sym_shape::{Grammar, Reader};
 
-/// Feeds a reader a piece, and reads what is there step by step, each of which is counted.
-fn feed<G: Grammar>(reader: &mut Reader<G>, grammar: &G, piece: &[u8]) -> Result<bool, Refusal> {
-    if reader.ended() || reader.len() > 8_000_000 || piece.len() > 8_000_000 {
-        return Ok(false);
+/// How many steps a symbol of so many bytes may take, those of its reader and of its linker together.
+pub fn most_steps(len: usize) -> usize {
+    len.saturating_mul(32).saturating_add(48)
+}
+
+/// Whether a reader that had so many bytes before the last piece, and has so many with it, refuses as soon as these show why.
+fn is_prompt(refusal: Refusal, before: u32, len: u32, ended: bool) -> bool {
+    match refusal {
+        Refusal::Malformed { at } => before <= at && (at < len || ended),
+        Refusal::Memory => true,
+        _ => false,
+    }
+}
+
+/// Feeds a reader that took so many steps a piece, and reads what is there step by step. It answers how many steps were taken
+/// then, or none where one isn't as it has to be.
+fn feed<G: Grammar>(
+    reader: &mut Reader<G>,
+    grammar: &G,
+    piece: &[u8],
+    taken: usize,
+) -> Result<Option<usize>, Refusal> {
+    let before = reader.len();
+    if reader.ended() || before > 8_000_000 || piece.len() > 8_000_000 {
+        return Ok(None);
     }
     reader.feed(piece)?;
-    for _ in 0..u32::MAX {
-        let before = reader.steps();
+    let most = most_steps(reader.len() as usize);
+    for taken in taken..=most {
+        if reader.steps() as usize != taken {
+            return Ok(None);
+        }
         match reader.step(grammar) {
-            Ok(true) => return Ok(true),
-            Ok(false) => {
-                if reader.steps() <= before {
-                    return Ok(false);
-                }
+            Ok(true) => {
+                let uncounted = reader.steps() as usize == taken;
+                return Ok(uncounted.then_some(taken));
             }
+            Ok(false) => {}
             Err(refusal) => {
-                if reader.step(grammar) != Err(refusal) {
-                    return Ok(false);
+                let again = reader.step(grammar) == Err(refusal);
+                let counted = reader.steps() as usize == taken.saturating_add(1) && taken < most;
+                if again && counted && is_prompt(refusal, before, reader.len(), reader.ended()) {
+                    return Err(refusal);
                 }
-                return Err(refusal);
+                return Ok(None);
             }
         }
     }
-    Ok(false)
+    Ok(None)
 }
 
 /// Feeds a reader pieces, and then its end.
@@ -38,12 +63,18 @@ fn feed_all<G: Grammar>(
     grammar: &G,
     pieces: &[&[u8]],
 ) -> Result<bool, Refusal> {
+    let mut taken = 0;
     for piece in pieces {
-        if !piece.is_empty() && !feed(reader, grammar, piece)? {
-            return Ok(false);
+        if piece.is_empty() {
+            continue;
+        }
+        match feed(reader, grammar, piece, taken)? {
+            Some(count) => taken = count,
+            None => return Ok(false),
         }
     }
-    feed(reader, grammar, b"")
+    let last = feed(reader, grammar, b"", taken)?;
+    Ok(last.is_some())
 }
 
 /// A reader that was fed these pieces and its end, or none where it stepped otherwise than it has to.

@@ -5,8 +5,11 @@
 mod answer;
 mod calls;
 mod changes;
+mod commands;
 mod feeding;
+mod linking;
 mod mangling;
+mod printing;
 mod rows;
 
 use rows::holds;

@@ -1,8 +1,9 @@
 // Rows: a word that says what a row is of, and fields behind it, with tabs between.
 
-use crate::answer::says;
-use crate::calls::{by_demangler, calls_say, pieces_say, presses_say};
+use crate::answer::spelled;
+use crate::calls::{by_demangler, calls_say, demangler_says, pieces_say, presses_say};
 use crate::changes::{self, Change};
+use crate::commands::{is_ended, is_filtered};
 use itanium::Abi;
 use rust_v0::{Detail, V0};
 use std::alloc::Global;
@@ -13,6 +14,9 @@ use sym_filter::{Kind, Lang, Languages, Pressing, kind_of};
 
 /// The limit where a row has none.
 const LIMIT: u32 = 1_000_000;
+
+/// Why a symbol that is read has no text.
+const TOO_LONG: &[u8] = b"too long";
 
 /// The number of these digits.
 fn number(digits: &[u8]) -> Option<u32> {
@@ -48,8 +52,7 @@ fn is_answered(
         return Ok(false);
     }
     let languages = Languages { limit, detail };
-    let answer = by_demangler(alloc, &languages, lists, kind, s);
-    if !says(alloc, &answer, wanted)? {
+    if !demangler_says(alloc, &languages, lists, kind, s, wanted)? {
         return Ok(false);
     }
     match kind.lang {
@@ -83,15 +86,36 @@ fn has_text(
     cost: u32,
     text: &[u8],
 ) -> Result<bool, Refusal> {
-    let too_long = b"too long";
     let below = cost.saturating_sub(1);
     Ok(
         cost > 0
             && is_answered(alloc, lists, kind, s, cost, detail, text)?
-            && is_answered(alloc, lists, kind, s, below, detail, too_long)?
-            && is_answered(alloc, lists, kind, s, 0, detail, too_long)?
+            && is_answered(alloc, lists, kind, s, below, detail, TOO_LONG)?
+            && is_answered(alloc, lists, kind, s, 0, detail, TOO_LONG)?
             && is_answered_in_pieces(alloc, kind, s, cost, detail, text)?,
     )
+}
+
+/// Whether a symbol that isn't read is refused for this reason at the greatest limit, too. One that is too long at others may
+/// have a text there.
+fn is_refused_at_most(
+    alloc: Global,
+    lists: &mut Lists,
+    kind: Kind,
+    s: &[u8],
+    reason: &[u8],
+) -> Result<bool, Refusal> {
+    if reason == TOO_LONG {
+        return Ok(true);
+    }
+    if !fits(s) {
+        return Ok(false);
+    }
+    let languages = Languages {
+        limit: u32::MAX,
+        detail: Detail::Full,
+    };
+    demangler_says(alloc, &languages, lists, kind, s, reason)
 }
 
 /// Whether a symbol is refused for this reason, whatever the limit.
@@ -105,6 +129,7 @@ fn is_refused(
     Ok(
         is_answered(alloc, lists, kind, s, LIMIT, Detail::Full, reason)?
             && is_answered(alloc, lists, kind, s, 0, Detail::Brief, reason)?
+            && is_refused_at_most(alloc, lists, kind, s, reason)?
             && is_answered_in_pieces(alloc, kind, s, 0, Detail::Full, reason)?
             && is_unpressed(alloc, lists, kind, s, reason)?,
     )
@@ -131,8 +156,12 @@ fn has_length(
     if text.len() != len as usize || cost == 0 {
         return Ok(false);
     }
+    let text = spelled(alloc, &text)?;
     let below = cost.saturating_sub(1);
-    is_answered(alloc, lists, kind, s, below, detail, b"too long")
+    Ok(
+        is_answered(alloc, lists, kind, s, cost, detail, &text)?
+            && is_answered(alloc, lists, kind, s, below, detail, TOO_LONG)?,
+    )
 }
 
 /// A front, with bytes behind it so many times, and an end.
@@ -165,8 +194,7 @@ fn is_pressed_to(
     if !fits(s) {
         return Ok(false);
     }
-    let answer = by_demangler(alloc, &Pressing, lists, kind, s);
-    if !says(alloc, &answer, pressed)? {
+    if !demangler_says(alloc, &Pressing, lists, kind, s, pressed)? {
         return Ok(false);
     }
     let pressed_symbol = pressed_kind.symbol_of(pressed);
@@ -200,14 +228,12 @@ fn is_unpressed(
     if !fits(s) {
         return Ok(false);
     }
-    let answer = by_demangler(alloc, &Pressing, lists, kind, s);
-    match reason {
-        b"too long" => {
-            answer?;
-            Ok(true)
-        }
-        _ => says(alloc, &answer, reason),
+    if reason == TOO_LONG {
+        let pressed = by_demangler(alloc, &Pressing, lists, kind, s)?;
+        let pressed = spelled(alloc, &pressed)?;
+        return demangler_says(alloc, &Pressing, lists, kind, s, &pressed);
     }
+    demangler_says(alloc, &Pressing, lists, kind, s, reason)
 }
 
 /// Whether a symbol that is cut, or changed, at each place in turn is answered as a row says.
@@ -314,6 +340,25 @@ fn of_press(alloc: Global, lists: &mut Lists, fields: &[&[u8]]) -> Result<bool, 
     }
 }
 
+/// Whether a row `filter` holds.
+fn of_filter(alloc: Global, fields: &[&[u8]]) -> Result<bool, Refusal> {
+    match fields {
+        [options, text, filtered] => is_filtered(alloc, options, text, filtered),
+        _ => Ok(false),
+    }
+}
+
+/// Whether a row `command` holds.
+fn of_command(alloc: Global, fields: &[&[u8]]) -> Result<bool, Refusal> {
+    let [status, words, out, err] = fields else {
+        return Ok(false);
+    };
+    match number(status) {
+        Some(status) => is_ended(alloc, status, words, out, err),
+        None => Ok(false),
+    }
+}
+
 /// The change that a row is of.
 fn change_of(what: &[u8]) -> Option<Change> {
     match what {
@@ -349,8 +394,8 @@ fn hold(alloc: Global, lists: &mut Lists, what: &[u8], fields: &[&[u8]]) -> Resu
         b"repeated" => of_repeated(alloc, lists, fields),
         b"refused" => of_refused(alloc, lists, fields),
         b"press" => of_press(alloc, lists, fields),
-        // the program's own, which tests/vectors.py runs
-        b"filter" | b"command" => Ok(true),
+        b"filter" => of_filter(alloc, fields),
+        b"command" => of_command(alloc, fields),
         _ => Ok(false),
     }
 }

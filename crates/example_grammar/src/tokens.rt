@@ -27,7 +27,16 @@ fn numbers_are_spelled_by_kind(rt: HostRuntime) {
     assert_eq!(rt; spelled(b"03foo", NumberKind::Length), Ok((0, 1)));
     assert_eq!(rt; spelled(b"1234567890", NumberKind::Length), Ok((0, 9)));
     assert_eq!(rt; spelled(b"x", NumberKind::Length), Err(0));
-    assert_eq!(rt; spelled(b"", NumberKind::Digits), Err(0));
+    for kind in [
+        NumberKind::Decimal,
+        NumberKind::Seq36,
+        NumberKind::Base62,
+        NumberKind::Hex,
+        NumberKind::Length,
+        NumberKind::Digits,
+    ] {
+        assert_eq!(rt; spelled(b"", kind), Err(0));
+    }
     assert_eq!(rt; spelled(b"007x", NumberKind::Digits), Ok((0, 3)));
     assert_eq!(rt; spelled(b"_", NumberKind::Base62), Ok((0, 0)));
     assert_eq!(rt; spelled(b"zzzzzzzzzzz_", NumberKind::Base62), Ok((0, 11)));
@@ -98,8 +107,14 @@ fn bytes_are_of_a_kind(rt: HostRuntime) {
 }
 
 #[test]
-fn fits_short_symbols(rt: HostRuntime) {
+fn fits_symbols_up_to_the_longest(rt: HostRuntime) -> Result<(), Fail> {
     assert!(rt; fits(b""));
+    let mut symbol = Vec::new(rt.alloc());
+    symbol.resize(16_777_216, b'i')?;
+    assert!(rt; fits(&symbol));
+    symbol.push(b'i')?;
+    assert!(rt; !fits(&symbol));
+    Ok(())
 }
 
 /// Where a token was found.

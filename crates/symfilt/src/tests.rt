@@ -235,6 +235,19 @@ fn reads_command_lines(rt: HostRuntime) {
 }
 
 #[test]
+fn says_what_failed(rt: HostRuntime) -> Result<(), Fail> {
+    for (fault, words) in [
+        (FilterFault::Read, "read failed"),
+        (FilterFault::Write, "write failed"),
+        (FilterFault::Memory, "out of memory"),
+    ] {
+        let said = format!(in rt.alloc(); "{fault}")?;
+        assert!(rt; said.as_str() == words);
+    }
+    Ok(())
+}
+
+#[test]
 fn says_why_there_is_no_text(rt: HostRuntime) {
     let mut out = Vec::new(rt.alloc());
     let mut err = Vec::new(rt.alloc());

@@ -1,0 +1,93 @@
+// The command line and the filter, as the program has them.
+
+use crate::answer::{says, unspelled};
+use std::alloc::Global;
+use std::str;
+use sym_command::{FAULT, Run, run};
+use sym_core::Refusal;
+use sym_filter::{ListSink, ReaderSource, filter_as};
+use sym_print::Detail;
+
+/// The words of a command line, the program's name first, as blanks keep them apart; `-` is none. There is no such line where
+/// they aren't text.
+fn words_of<'a>(alloc: Global, field: &'a [u8]) -> Result<Option<Vec<&'a str>>, Refusal> {
+    let Ok(field) = str::from_utf8(field) else {
+        return Ok(None);
+    };
+    let mut words = Vec::new(alloc);
+    words.push("symfilt")?;
+    if field != "-" {
+        for word in field.split(' ') {
+            words.push(word)?;
+        }
+    }
+    Ok(Some(words))
+}
+
+/// A text, filtered. Nothing but memory can fail here.
+fn filtered(alloc: Global, text: &[u8], limit: u32, detail: Detail) -> Result<Vec<u8>, Refusal> {
+    let mut source = ReaderSource::new(text);
+    let mut sink = ListSink::new(Vec::new(alloc));
+    match filter_as(alloc, &mut source, &mut sink, limit, detail) {
+        Ok(_) => Ok(sink.into_list()),
+        Err(_) => Err(Refusal::Memory),
+    }
+}
+
+/// Whether the program with these options filters a text to this one.
+///
+/// # Errors
+///
+/// `Memory`, where the program's status stands for that.
+pub fn is_filtered(
+    alloc: Global,
+    options: &[u8],
+    text: &[u8],
+    wanted: &[u8],
+) -> Result<bool, Refusal> {
+    let Some(words) = words_of(alloc, options)? else {
+        return Ok(false);
+    };
+    let mut out = Vec::new(alloc);
+    let mut err = Vec::new(alloc);
+    match run(alloc, &words, &mut out, &mut err) {
+        Run::Filter { limit, detail } => {
+            let text = unspelled(alloc, text)?;
+            let answer = filtered(alloc, &text, limit, detail);
+            Ok(out.is_empty() && err.is_empty() && says(alloc, &answer, wanted)?)
+        }
+        Run::Done(FAULT) => Err(Refusal::Memory),
+        Run::Done(_) => Ok(false),
+    }
+}
+
+/// Whether the program ends with this status on these words, and says these lines; the errors may be `*`, any.
+///
+/// # Errors
+///
+/// `Memory`, where the program's status stands for that.
+pub fn is_ended(
+    alloc: Global,
+    status: u32,
+    words: &[u8],
+    wanted: &[u8],
+    errors: &[u8],
+) -> Result<bool, Refusal> {
+    let Some(words) = words_of(alloc, words)? else {
+        return Ok(false);
+    };
+    let mut out = Vec::new(alloc);
+    let mut err = Vec::new(alloc);
+    match run(alloc, &words, &mut out, &mut err) {
+        Run::Done(FAULT) => Err(Refusal::Memory),
+        Run::Done(ended) => {
+            let any = errors == b"*".as_slice() && !err.is_empty();
+            Ok(
+                u32::from(ended) == status
+                    && says(alloc, &Ok(out), wanted)?
+                    && (any || says(alloc, &Ok(err), errors)?),
+            )
+        }
+        Run::Filter { .. } => Ok(false),
+    }
+}

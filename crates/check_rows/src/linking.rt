@@ -1,0 +1,80 @@
+// Linkers, step by step.
+
+ghost use Rattle.std.specs.Prelude.{◌≡◌, true, IfOk, IfSome};
+ghost use Rattle.sym_core.specs.Number.{FitsSymbol};
+
+use crate::feeding::{fed, most_steps};
+use crate::mangling::Calls;
+use std::alloc::Global;
+use sym_core::Refusal;
+use sym_demangle::Linker;
+
+/// One step of a linker that took so many: whether nothing is left to do, or none where it isn't counted, or answers otherwise
+/// when it is asked again.
+fn step<M: Calls>(linker: &mut Linker<M>, taken: usize) -> Result<Option<bool>, Refusal>
+    ensures { IfOk result (λ step. IfSome step (λ done. done ≡ true → linker.new.done ≡ true)) }
+{
+    if linker.steps() as usize != taken {
+        return Ok(None);
+    }
+    match linker.step() {
+        Ok(false) => Ok(Some(false)),
+        Ok(true) => {
+            if linker.steps() as usize == taken && linker.step()? {
+                Ok(Some(true))
+            } else {
+                Ok(None)
+            }
+        }
+        Err(refusal) => {
+            let again = linker.step() == Err(refusal);
+            if again && linker.steps() as usize == taken.saturating_add(1) {
+                Err(refusal)
+            } else {
+                Ok(None)
+            }
+        }
+    }
+}
+
+/// Steps until nothing is left to do, and answers how many steps that took: at most these, or none.
+fn step_all<M: Calls>(linker: &mut Linker<M>, most: usize) -> Result<Option<usize>, Refusal>
+    ensures { IfOk result (λ taken. IfSome taken (λ _. linker.new.done ≡ true)) }
+{
+    for taken in 0..=most {
+        match step(linker, taken)? {
+            Some(true) => return Ok(Some(taken)),
+            Some(false) => {}
+            None => return Ok(None),
+        }
+    }
+    Ok(None)
+}
+
+/// A symbol that is read and linked step by step, each of which is counted; none where a step isn't as it has to be, or the
+/// symbol's counts are others.
+pub fn linked_in_steps<M: Calls>(alloc: Global, s: &[u8]) -> Result<Option<M::Symbol>, Refusal>
+    requires { FitsSymbol s.now }
+{
+    let bytes: Vec<&[u8]> = s.chunks(1).collect(alloc)?;
+    let Some(reader) = fed(alloc, &M::grammar(), &bytes)? else {
+        return Ok(None);
+    };
+    let read = reader.steps() as usize;
+    let shape = sym_shape::read(alloc, &M::grammar(), s)?;
+    let rows = shape.rows().len();
+    let bytes = Vec::from_slice(alloc, s)?;
+    let mut linker = Linker::<M>::new(alloc, bytes, shape)?;
+    let left = most_steps(s.len()).saturating_sub(read);
+    let Some(linked) = step_all(&mut linker, left)? else {
+        return Ok(None);
+    };
+    let symbol = linker.finish();
+    let counts = M::counts(&symbol);
+    let steps = read.saturating_add(linked);
+    if counts.rows as usize == rows && counts.steps as usize == steps {
+        Ok(Some(symbol))
+    } else {
+        Ok(None)
+    }
+}
