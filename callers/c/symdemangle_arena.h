@@ -22,13 +22,12 @@
        C++                       688    3,616   21,584   33,040   62,128   (a symbol of 631 bytes)
        Rust                    9,216   17,152   37,936   52,560   76,528   (868 bytes)
 
-   So 16 KiB served 97 % and 88 % of them, 32 KiB all but 22 and 286, 64 KiB all but two, 128 KiB all. A hostile symbol takes
-   more and is refused, or lower the limit. symdemangle_filter and symdemangle_texts keep all their texts in the block too. Of
+   So 16 KiB served 97 % and 88 % of them, 32 KiB all but 22 and 286, 64 KiB all but two, 128 KiB all. A hostile symbol may
+   take more, and is refused then. symdemangle_filter and symdemangle_texts keep all their texts in the block too. Of
    the stack a handler with such a call used less than 10 KiB, the kernel's frame in it: give 16 KiB at least, which the old
    SIGSTKSZ of 8 KiB isn't.
 
-   The library itself is proved; that
-   what it takes from the block is given out rightly is tested, not proved, as that of malloc isn't. */
+   The library itself is proved. That the block is given out rightly is tested, not proved; so it is of malloc. */
 #ifndef SYMDEMANGLE_ARENA_H
 #define SYMDEMANGLE_ARENA_H
 
