@@ -14,13 +14,13 @@ fi
 [ $# -eq 1 ] || { echo "usage: $0 [-i] FILE" >&2; exit 2; }
 file=$(realpath "$1")
 cd "$(dirname "$0")/.."
-kit=$(dirname "$(rt doc)")
 work=$(mktemp -d)
 trap 'rm -rf "$work"' EXIT
 
 [ -f crates/symdemangle/out/libsymdemangle.a ] || (cd crates/symdemangle && rt lib)
+tools/pack.sh "$work"
 flags="-std=c++17 -O2 -I callers/c"
-libraries="crates/symdemangle/out/libsymdemangle.a $kit/c/liblibc_c.a"
+libraries="$work/libsymdemangle.a"
 if [ -f /usr/include/libiberty/demangle.h ]; then
     flags="$flags -DWITH_LIBIBERTY"
     libraries="$libraries -liberty"

@@ -114,7 +114,8 @@ for file in "$work/symbols" ${files[@]+"${files[@]}"}; do
     "$work/usual" "$file" >"$work/texts" 2>/dev/null
     "$work/arena" "$file" $((4 << 20)) >"$work/out"
     cmp "$work/texts" "$work/out"
-    for size in 16384 32768 65536 131072; do "$work/arena" "$file" $size >/dev/null; done
+    for size in 16384 32768 65536; do "$work/arena" "$file" $size >/dev/null; done
+    "$work/arena" "$file" >/dev/null
     sum=$("$work/interrupted" "$file" 2>/dev/null)
     [ "$("$work/interrupted" "$file" ticks)" = "$sum" ] || { echo 'calls that are interrupted answer otherwise'; exit 1; }
     [ "$("$work/threads" "$file")" = "$("$work/threads_arena" "$file")" ] || { echo 'threads answer otherwise'; exit 1; }

@@ -54,7 +54,7 @@ for lib in "$work/tar/lib" "$work/deb/usr/lib/x86_64-linux-gnu"; do
 done
 dpkg-deb -I "$work"/one/*.deb | sed -n 's/^ \(Package\|Version\|Depends\)/\1/p'
 if command -v lintian >/dev/null; then
-    lintian --fail-on error --suppress-tags no-maintainer-address,malformed-maintainer-field,bogus-mail-host "$work"/one/*.deb || fail 'lintian finds errors'
+    lintian --allow-root --fail-on error --suppress-tags bogus-mail-host,bogus-mail-host-in-debian-changelog "$work"/one/*.deb 2>/dev/null || fail 'lintian finds errors'
 fi
 
 # What isn't committed isn't released.

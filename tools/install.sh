@@ -58,8 +58,8 @@ LIST
 644 callers/shims/shims.c share/doc/symfilt/examples/shims.c
 LIST
     for document in README.md CHANGELOG.md SECURITY.md LICENSE-MIT LICENSE-APACHE docs/GRAMMARS.md docs/PROMISES.md \
-        docs/SCALE.md docs/hostile.svg docs/speed.svg; do
-        echo "644 $document share/doc/symfilt/$document"
+        docs/SCALE.md docs/*.svg; do
+        [ ! -f "$document" ] || echo "644 $document share/doc/symfilt/$document"
     done
 }
 

@@ -6,7 +6,7 @@
 #
 # The tree has to be committed, and proved: `rt run` in crates/symfilt and `rt lib` in crates/symdemangle have built what stands
 # there now. The same commit gives the same bytes each time, with the same compiler, binutils, tar, gzip and dpkg; all times are
-# SOURCE_DATE_EPOCH, that of the commit where it isn't set.
+# SOURCE_DATE_EPOCH, that of the commit where it isn't set. MAINTAINER is whom the Debian package names, as `Name <address>`.
 set -euo pipefail
 [ $# -eq 1 ] || { echo "usage: $0 OUT" >&2; exit 2; }
 mkdir -p "$1"
@@ -39,18 +39,23 @@ trap 'rm -rf "$work"' EXIT
 whole=symfilt-$version-x86_64-linux
 DESTDIR=$work/tar PREFIX=/usr/local LIBDIR=lib tools/install.sh
 mv "$work/tar/usr/local" "$work/$whole"
+strip "$work/$whole/bin/symfilt"
 tar -C "$work" --sort=name --mtime="@$SOURCE_DATE_EPOCH" --owner=0 --group=0 --numeric-owner --format=gnu -cf - "$whole" |
     gzip -9n >"$out/$whole.tar.gz"
 
 # The Debian package.
 deb=$work/deb
 DESTDIR=$deb PREFIX=/usr LIBDIR=lib/x86_64-linux-gnu tools/install.sh
+strip "$deb/usr/bin/symfilt"
 documents=$deb/usr/share/doc/symfilt
+maintainer=${MAINTAINER:-symfilt <symfilt@localhost>}
 mkdir -p "$deb/usr/share/zsh/vendor-completions"
 mv "$deb/usr/share/zsh/site-functions/_symfilt" "$deb/usr/share/zsh/vendor-completions/_symfilt"
 rmdir "$deb/usr/share/zsh/site-functions"
 mv "$documents/CHANGELOG.md" "$documents/changelog"
-gzip -9n "$documents/changelog" "$deb/usr/share/man/man1/symfilt.1"
+printf 'symfilt (%s-1) unstable; urgency=medium\n\n  * Version %s; see changelog.gz.\n\n -- %s  %s\n' "$version" "$version" \
+    "$maintainer" "$(date -R -d "@$SOURCE_DATE_EPOCH")" >"$documents/changelog.Debian"
+gzip -9n "$documents/changelog" "$documents/changelog.Debian" "$deb/usr/share/man/man1/symfilt.1"
 {
     printf 'Format: https://www.debian.org/doc/packaging-manuals/copyright-format/1.0/\nUpstream-Name: symfilt\n\n'
     printf 'Files: *\nCopyright: %s\nLicense: Expat or Apache-2.0\n\n' "$(sed -n 's/^Copyright (c) //p' LICENSE-MIT | head -n 1)"
@@ -64,11 +69,11 @@ libc=$(objdump -T "$deb/usr/bin/symfilt" "$deb/usr/lib/x86_64-linux-gnu/libsymde
 mkdir "$deb/DEBIAN"
 cat >"$deb/DEBIAN/control" <<CONTROL
 Package: symfilt
-Version: $version
+Version: $version-1
 Section: devel
 Priority: optional
 Architecture: amd64
-Maintainer: ${MAINTAINER:-symfilt <symfilt@localhost>}
+Maintainer: $maintainer
 Installed-Size: $(du -k --apparent-size -s "$deb/usr" | cut -f 1)
 Depends: libc6 (>= $libc)
 Description: demangler for C++ and Rust symbols, proved, with bounded time and memory
@@ -79,8 +84,9 @@ Description: demangler for C++ and Rust symbols, proved, with bounded time and m
  header, a library for signal handlers, and a crate for cargo.
 CONTROL
 printf 'activate-noawait ldconfig\n' >"$deb/DEBIAN/triggers"
+printf 'libsymdemangle %s symfilt (>= %s)\n' "${version%%.*}" "$version" >"$deb/DEBIAN/shlibs"
 (cd "$deb" && find usr -type f | sort | xargs md5sum >DEBIAN/md5sums)
 find "$deb" -depth -exec touch -h -d "@$SOURCE_DATE_EPOCH" {} +
-dpkg-deb --root-owner-group -Zxz --build "$deb" "$out/symfilt_${version}_amd64.deb" >/dev/null
+dpkg-deb --root-owner-group -Zxz --build "$deb" "$out/symfilt_${version}-1_amd64.deb" >/dev/null
 
-(cd "$out" && sha256sum "$whole.tar.gz" "symfilt_${version}_amd64.deb" | tee SHA256SUMS)
+(cd "$out" && sha256sum "$whole.tar.gz" "symfilt_${version}-1_amd64.deb" | tee SHA256SUMS)

@@ -16,10 +16,18 @@
    - The library is linked statically into a program, or into a shared object that is loaded when the program starts: the
      thread's block stands where a handler finds it without a call of the loader.
 
-   How much: @FIGURES@
+   How much symdemangle_text took at a limit of 1,000,000, for 20,000 real symbols of each language (tests/callers/arena.c):
 
-   symdemangle_filter and symdemangle_texts keep the texts of all symbols in the block too. The library itself is proved; that
-   what it takes from the block is given out rightly is tested, not proved, as that of malloc isn't. */
+       bytes of the block     median     90 %     99 %   99.9 %     most
+       C++                       688    3,616   21,584   33,040   62,128   (a symbol of 631 bytes)
+       Rust                    9,216   17,152   37,936   52,560   76,528   (868 bytes)
+
+   So 16 KiB served 97 % and 88 % of them, 32 KiB all but 22 and 286, 64 KiB all but two, 128 KiB all. A hostile symbol may
+   take more, and is refused then. symdemangle_filter and symdemangle_texts keep all their texts in the block too. Of
+   the stack a handler with such a call used less than 10 KiB, the kernel's frame in it: give 16 KiB at least, which the old
+   SIGSTKSZ of 8 KiB isn't.
+
+   The library itself is proved. That the block is given out rightly is tested, not proved; so it is of malloc. */
 #ifndef SYMDEMANGLE_ARENA_H
 #define SYMDEMANGLE_ARENA_H
 

@@ -2,7 +2,8 @@
    It prints the texts of the symbols, and says on standard error what they took of the block. Compiled with -DUSUAL it makes
    the same calls over the usual library, without any of this, so that both can be compared.
 
-     arena FILE [SIZE]     the symbols of a file, one a line; a block of SIZE bytes (128 KiB) */
+     arena FILE SIZE       the symbols of a file, one a line, in a block of SIZE bytes
+     arena FILE            the same in 128 KiB, and then the calls in blocks of each size */
 #include "symdemangle.h"
 #ifndef USUAL
 #include "symdemangle_arena.h"
@@ -14,12 +15,12 @@
 #include <string.h>
 #include <unistd.h>
 
-enum { SYMBOLS = 300000, EDGE = 64, STACK = 16 << 10 };
+enum { SYMBOLS = 300000, EDGE = 64, STACK = 16 << 10, SMALL = 100000 };
 
-static int armed;
+static int armed, size_given;
 static uint8_t block[(4 << 20) + 2 * EDGE], room[1 << 20], stack[STACK];
 static const uint8_t *symbols[SYMBOLS];
-static size_t lengths[SYMBOLS], most[SYMBOLS], count, size = 128 << 10;
+static size_t lengths[SYMBOLS], most[SYMBOLS], count, deepest, size;
 static unsigned statuses[12];
 static uint8_t *out;
 static size_t written;
@@ -79,7 +80,7 @@ static void each_text(void)
     }
 }
 
-/* The calls of the header in a block of each size: all that happens for want of room is status 5. */
+#ifndef USUAL
 static uint32_t one_call(int call, symdemangle_answer *answer)
 {
     static const char symbol[] = "_ZN3foo3barEN3foo3bazEPNS_1AIiEE", log[] = "at _Z1fv. (_RNvC3foo3bar)";
@@ -103,14 +104,14 @@ static uint32_t one_call(int call, symdemangle_answer *answer)
     }
 }
 
-#ifndef USUAL
+/* The calls of the header in a block of each size: all that happens for want of room is status 5. */
 static void small_blocks(void)
 {
     for (int call = 0; call < 6; call++) {
         unsigned refused = 0, answered = 0;
-        for (size_t bytes = 0; bytes < 100000; bytes += bytes < 4096 ? 8 : 512) {
+        for (size_t bytes = 0; bytes < SMALL; bytes += bytes < 4096 ? 8 : 512) {
             symdemangle_answer answer = {7, 7};
-            memset(block, 0xA5, sizeof block);
+            memset(block, 0xA5, SMALL + 2 * EDGE);
             memset(room, '#', 200);
             lend(bytes);
             uint32_t status = one_call(call, &answer);
@@ -126,7 +127,7 @@ static void small_blocks(void)
                 fail("another status than 0 or 5");
             if (taken() > bytes)
                 fail("more was taken than lent");
-            for (size_t i = 0; i < sizeof block; i++)
+            for (size_t i = 0; i < SMALL + 2 * EDGE; i++)
                 if ((i < EDGE || i >= EDGE + bytes) && block[i] != 0xA5)
                     fail("bytes that weren't lent were written");
         }
@@ -148,13 +149,11 @@ static int by_size(const void *a, const void *b)
 
 static void finish(void)
 {
-    size_t deep = 0, least = 0;
-    while (deep < sizeof stack && stack[deep] == 0xA5)
-        deep++;
+    size_t greediest = 0;
     for (size_t i = 0; i < count; i++)
-        if (most[i] > most[least])
-            least = i;
-    size_t longest = count ? lengths[least] : 0;
+        if (most[i] > most[greediest])
+            greediest = i;
+    size_t longest = count ? lengths[greediest] : 0;
     qsort(most, count, sizeof *most, by_size);
     if (count)
         fprintf(stderr,
@@ -162,7 +161,7 @@ static void finish(void)
                 "99 %% %zu, 99.9 %% %zu, most %zu (a symbol of %zu); stack %zu\n",
                 count, size, statuses[0], statuses[1] + statuses[2] + statuses[3], statuses[4], statuses[5], most[count / 2],
                 most[count * 9 / 10], most[count * 99 / 100], most[count * 999 / 1000], most[count - 1], longest,
-                sizeof stack - deep);
+                deepest);
     fwrite(out, 1, written, stdout);
     fflush(stdout);
     _exit(0);
@@ -172,8 +171,12 @@ static void on_fault(int signal)
 {
     (void)signal;
     each_text();
+    while (deepest < sizeof stack && stack[deepest] == 0xA5)
+        deepest++;
+    deepest = sizeof stack - deepest;
 #ifndef USUAL
-    small_blocks();
+    if (!size_given)
+        small_blocks();
 #endif
     armed = 0;
     finish();
@@ -192,8 +195,8 @@ int main(int words, char **word)
             lengths[count++] = i - start;
             start = i + 1;
         }
-    if (words > 2)
-        size = strtoul(word[2], NULL, 10);
+    size_given = words > 2;
+    size = size_given ? strtoul(word[2], NULL, 10) : 128 << 10;
     out = malloc((size_t)256 << 20);
     if (!out || size > sizeof block - 2 * EDGE)
         fail("no room");

@@ -18,7 +18,7 @@ static volatile int wrong;
 
 static uint32_t text_of(size_t i, uint8_t *into, size_t length, symdemangle_answer *answer)
 {
-    return symdemangle_text(all + starts[i], starts[i + 1] - starts[i] - 1, 1000000, SYMDEMANGLE_FULL, into, length, answer);
+    return symdemangle_text(all + starts[i], starts[i + 1] - starts[i] - 1, 10000, SYMDEMANGLE_FULL, into, length, answer);
 }
 
 static void on_tick(int signal)
@@ -52,7 +52,7 @@ int main(int words, char **word)
     unsigned long sum = 0;
     symdemangle_answer answer;
     symdemangle_arena_set(block, sizeof block);
-    for (size_t done = 0; done < 40000; done++) {
+    for (size_t done = 0; done < 20000; done++) {
         uint32_t status = text_of(done % count, room, sizeof room, &answer);
         sum = sum * 31 + status;
         for (size_t j = 0; j < answer.length && !status; j++)

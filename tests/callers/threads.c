@@ -23,11 +23,11 @@ static void *calls(void *number)
     symdemangle_answer answer;
     unsigned long sum = 0;
 #ifdef ARENA
-    void *block = malloc(1 << 17);
-    symdemangle_arena_set(block, 1 << 17);
+    void *block = malloc(1 << 20);
+    symdemangle_arena_set(block, 1 << 20);
 #endif
     for (size_t i = 0; i < count && room; i++) {
-        uint32_t status = symdemangle_text(all + starts[i], starts[i + 1] - starts[i] - 1, 1000000, SYMDEMANGLE_FULL, room,
+        uint32_t status = symdemangle_text(all + starts[i], starts[i + 1] - starts[i] - 1, 10000, SYMDEMANGLE_FULL, room,
                                            length, &answer);
         sum = sum * 31 + status;
         for (size_t j = 0; j < answer.length && !status; j++)

@@ -85,7 +85,7 @@ fn as_rustc_demangle() {
     assert_eq!(format!("{:#}", Symbol::new(&suffixed)), "core::panicking::panic (.llvm.42)");
     let not_a_hash = "_ZN4core5panic17h0123456789abcdegE";
     assert_eq!(format!("{:#}", Symbol::new(not_a_hash)), "core::panic::h0123456789abcdeg");
-    assert_eq!(format!("{:#}", Symbol::new("_ZN3fooE")), "foo");
+    assert_eq!(format!("{:#}", Symbol::new("_ZN3foo3barE")), "foo::bar");
     assert_eq!(try_demangle("_RNvC3foo3bar").unwrap().to_string(), "foo::bar");
     assert_eq!(try_demangle("__RNvC3foo3bar").unwrap().to_string(), "foo::bar");
     assert_eq!(try_demangle("__Z1fv").unwrap().as_str(), "__Z1fv");
