@@ -9,7 +9,13 @@ use sym_print::Detail;
 fn main(rt: HostRuntime) -> ExitCode {
     let mut reader = ReaderSource::new(rt.reader());
     let mut writer = WriterSink::new(io::writer(&rt));
-    match filter_as(rt.alloc(), &mut reader, &mut writer, 1_000_000, Detail::Full) {
+    match filter_as(
+        rt.alloc(),
+        &mut reader,
+        &mut writer,
+        1_000_000,
+        Detail::Full,
+    ) {
         Ok(_) => ExitCode::SUCCESS,
         Err(_) => ExitCode::from(3),
     }
