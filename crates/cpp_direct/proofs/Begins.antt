@@ -74,19 +74,19 @@ third-tells (x ∷ []) b stands = cc stands.1
 third-tells [] b stands = cc stands.1
 
 -- the encoding of a symbol is expected, and nothing is written yet
-pub encoding-awaited : (s : List ℕ) (w : Direct) → w.text.bytes.items ≡ [] → w.candidates.items ≡ [] → StandsAt s 0 (95 ∷ 90 ∷ []) → w.at ≡ 2
+pub encoding-awaited : (s : List ℕ) (w : Direct) → w.text.list.items ≡ [] → w.candidates.list.items ≡ [] → StandsAt s 0 (95 ∷ 90 ∷ []) → w.at ≡ 2
     → is_local s ≡ false → AwaitsEncoding s w
 unfolding first_state
 encoding-awaited s w no_text no_candidate starts at_is apart =
     let opened_ = symbol-starts s starts in
     record {
       state = first_state;
-      candidates = subst (λ ks. AreCandidates w.text.bytes.items ks []) (sym no_candidate) tt;
+      candidates = subst (λ ks. AreCandidates w.text.list.items ks []) (sym no_candidate) tt;
       around = first_around;
       outer = opened_.inner;
       awaits = subst (λ n. Expects s Kind.Encoding first_around opened_.inner n first_state) (sym at_is) opened_.awaits;
       onward = λ e at st comes.
-          whole-behind s w.text.bytes.items e at apart (record {
+          whole-behind s w.text.list.items e at apart (record {
             made = e;
             encoded = encoded-whole s opened_ e at st comes;
             shows = λ bytes p. subst (λ l. Shows e (l ++ bytes)) (sym no_text) p;
@@ -99,7 +99,7 @@ encoding-expected s w p = encoding-opens s p.outer p.around w.at p.state p.await
 
 -- a name that comes awaits its items
 items-await : (s : List ℕ) (w : Direct) (p : AwaitsEncoding s w) (v : Value) (at : ℕ) (st : State) → Comes s (encoding-expected s w p).inner v at st
-    → AwaitsItems s w.text.bytes.items v at st
+    → AwaitsItems s w.text.list.items v at st
 unfolding in_types
 items-await s w p v at st comes =
     let items = (encoding-expected s w p).onward v at st comes in
@@ -115,17 +115,17 @@ items-await s w p v at st comes =
 
 -- the encoding that a thunk calls is expected, behind the thunk's text
 thunk-awaited : (s : List ℕ) (opened_ : SymbolOpened s) (by : Adjustment) (w : Direct)
-    → is_local s ≡ false → ThunkOpened s opened_.inner 2 by w.at first_state → w.text.bytes.items ≡ thunk_text (adjusting by) → w.candidates.items ≡ []
+    → is_local s ≡ false → ThunkOpened s opened_.inner 2 by w.at first_state → w.text.list.items ≡ thunk_text (adjusting by) → w.candidates.list.items ≡ []
     → AwaitsEncoding s w
 unfolding first_state
 thunk-awaited s opened_ by w apart thunk_ text_is no_candidate = record {
   state = first_state;
-  candidates = subst (λ ks. AreCandidates w.text.bytes.items ks []) (sym no_candidate) tt;
+  candidates = subst (λ ks. AreCandidates w.text.list.items ks []) (sym no_candidate) tt;
   around = in_name 2;
   outer = thunk_.inner;
   awaits = thunk_.awaits;
   onward = λ e at st comes.
-      whole-behind s w.text.bytes.items e at apart (record {
+      whole-behind s w.text.list.items e at apart (record {
         made = thunk (adjusting by) e;
         encoded = encoded-whole s opened_ (thunk (adjusting by) e) at st (thunk_.onward e at st comes);
         shows = λ bytes p. subst (λ l. Shows (thunk (adjusting by) e) (l ++ bytes)) (sym text_is) (thunk-shows (adjusting by) e bytes p);
@@ -134,10 +134,10 @@ thunk-awaited s opened_ by w apart thunk_ text_is no_candidate = record {
 
 -- what was read without a text and written behind it, where nothing was there before
 thunk-written : (old middle new : Direct) (text : List ℕ) → IsFresh old → Reads old middle [] → Writes middle new text
-    → (new.text.bytes.items ≡ text) × (new.candidates.items ≡ [])
+    → (new.text.list.items ≡ text) × (new.candidates.list.items ≡ [])
 thunk-written old middle new text fresh reads writes = (
   writes.text ∙ ap (λ l. l ++ text) (reads.text ∙ ap (λ l. l ++ []) fresh.no_text),
-  ap (λ v. v.items) writes.candidates ∙ ap (λ v. v.items) reads.candidates ∙ fresh.no_candidate,
+  ap (λ v. v.list.items) writes.candidates ∙ ap (λ v. v.list.items) reads.candidates ∙ fresh.no_candidate,
 )
 
 -- a thunk begins
@@ -203,28 +203,23 @@ pub special-stands : (s : List ℕ) (letter : ℕ) → look_up (letter ∷ []) s
 special-stands s letter filled first there =
     stands-join s 2 (84 ∷ []) (letter ∷ []) first (there (λ e. filled (ap (λ l. look_up (l ∷ []) special_texts) e ∙ no-special)))
 
--- what was pushed stands alone
-pub pushed-alone : (new old : List Open) (x : Open) (b : Bool) → new ≡ (if b then old ++ x ∷ [] else old) → b ≡ true → old ≡ [] → new ≡ x ∷ []
-pushed-alone new old x true e is none = e ∙ ap (λ l. l ++ x ∷ []) none
-pushed-alone new old x false e is none = absurd (false≢true is)
-
 -- a special object begins
 pub special-begins : (s : List ℕ) (w : Direct) (letter : ℕ) → StandsAt s 0 (95 ∷ 90 ∷ []) → StandsAt s 2 (84 ∷ letter ∷ []) → w.at ≡ 4
-    → w.text.bytes.items ≡ look_up (letter ∷ []) special_texts → look_up (letter ∷ []) special_texts ≢ [] → w.candidates.items ≡ []
-    → w.waiting.items ≡ opens.Special ∷ [] → IsWriting s w steps.Type
+    → w.text.list.items ≡ look_up (letter ∷ []) special_texts → look_up (letter ∷ []) special_texts ≢ [] → w.candidates.list.items ≡ []
+    → w.waiting.list.items ≡ opens.Special ∷ [] → IsWriting s w steps.Type
 unfolding in_name first_state
 special-begins s w letter starts stands at_is written filled none_ waiting =
     let opened_ = symbol-starts s starts in
     let here = special-opens s opened_.inner first_around letter 2 first_state (special-known letter filled) opened_.awaits stands in
     record {
       state = first_state;
-      candidates = subst (λ ks. AreCandidates w.text.bytes.items ks []) (sym none_) tt;
+      candidates = subst (λ ks. AreCandidates w.text.list.items ks []) (sym none_) tt;
       is_before = (
         here.inner,
         in_name 2,
         refl,
         inl (subst (λ n. Expects s Kind.Type (in_name 2) here.inner n first_state) (sym at_is) here.awaits),
-        subst (λ ws. Stands s (reverse ws) here.inner w.text.bytes.items) (sym waiting) (
+        subst (λ ws. Stands s (reverse ws) here.inner w.text.list.items) (sym waiting) (
           letter,
           written,
           (λ e. filled (sym written ∙ e)),
@@ -274,7 +269,7 @@ record HasName (s : List ℕ) (lead : List ℕ) (encoding : ℕ) (t : Term) (at 
   pub argued : (a : Term) (at : ℕ) (st : State) → Comes s inner (tree a true) at st → AwaitsItems s lead (tree (instance t a) false) at st
 
 named-has : (s : List ℕ) (w : Direct) (p : AwaitsEncoding s w) (t : Term) (at : ℕ)
-    → Named s (encoding-expected s w p).inner (in_name w.at) t at p.state → HasName s w.text.bytes.items w.at t at p.state
+    → Named s (encoding-expected s w p).inner (in_name w.at) t at p.state → HasName s w.text.list.items w.at t at p.state
 named-has s w p t at is = record {
   inner = is.inner;
   awaits = is.awaits;
@@ -284,7 +279,7 @@ named-has s w p t at is = record {
 
 name-has : (s : List ℕ) (internal : Bool) (w : Direct) (p : AwaitsEncoding s w) (at : ℕ) (name : List ℕ) (end : ℕ)
     → (internal ≡ true → StandsAt s w.at (76 ∷ [])) → at ≡ w.at + cond internal 1 0 → IsNameAt s at name end
-    → HasName s w.text.bytes.items w.at (alone (source internal name)) end p.state
+    → HasName s w.text.list.items w.at (alone (source internal name)) end p.state
 unfolding in_name
 name-has s true w p at name end letter at_is is =
     let encoding = encoding-expected s w p in
@@ -298,7 +293,7 @@ name-has s false w p at name end letter at_is is =
 
 -- the name of an encoding, by what awaited it
 source-has : (s : List ℕ) (internal : Bool) (w : Direct) (p : AwaitsSource s w internal) (name : List ℕ) (end : ℕ) → IsNameAt s w.at name end
-    → HasName s w.text.bytes.items p.before (alone (source internal name)) end p.awaits.state
+    → HasName s w.text.list.items p.before (alone (source internal name)) end p.awaits.state
 source-has s internal w p name end is = name-has s internal (record w { at = p.before }) p.awaits w.at name end p.letter p.at_is is
 
 -- a name without arguments
@@ -317,7 +312,7 @@ name-bare s internal old new name p is filled reads =
       tree_is = refl;
       qualifiers_are = refl;
       mark_is = refl;
-      lead = old.text.bytes.items;
+      lead = old.text.list.items;
       name = source_text name;
       written = reads.text;
       prints = source-prints internal name filled;
@@ -327,28 +322,28 @@ name-bare s internal old new name p is filled reads =
 
 -- where arguments were opened behind a name
 list-stands : (s : List ℕ) (internal : Bool) (old read new : Direct) (name : List ℕ) (from : ℕ) → AwaitsSource s old internal
-    → from ≡ length old.text.bytes.items → IsNameAt s old.at name read.at → name ≢ [] → Reads old read (source_text name)
-    → StandsAt s read.at (73 ∷ []) → new.candidates.items ≡ added read from false → new.text.bytes.items ≡ read.text.bytes.items ++ codes "<"
-    → new.waiting.items ≡ read.waiting.items ++ opens.NameArguments ∷ [] → new.at ≡ read.at + 1 → IsWriting s new (steps.List true)
+    → from ≡ length old.text.list.items → IsNameAt s old.at name read.at → name ≢ [] → Reads old read (source_text name)
+    → StandsAt s read.at (73 ∷ []) → new.candidates.list.items ≡ added read from false → new.text.list.items ≡ read.text.list.items ++ codes "<"
+    → new.waiting.list.items ≡ read.waiting.list.items ++ opens.NameArguments ∷ [] → new.at ≡ read.at + 1 → IsWriting s new (steps.List true)
 unfolding in_name inside
 list-stands s internal old read new name from p from_is is filled reads there candidates_are text_is waiting_is here_is =
     let own = alone (source internal name) in
     let st = p.awaits.state in
     let place = p.before in
-    let front = old.text.bytes.items in
+    let front = old.text.list.items in
     let has = source-has s internal old p name read.at is in
     let list = arguments-open s has.inner (in_name place) own false read.at st has.awaits there in
     let prints = source-prints internal name filled in
     let state = with_candidate place own st in
     record {
       state = state;
-      candidates = subst (λ l. AreCandidates l new.candidates.items state.candidates) (sym text_is)
-          (subst (λ ks. AreCandidates (read.text.bytes.items ++ codes "<") ks state.candidates) (sym candidates_are)
-          (candidates-stay read.text.bytes.items (codes "<") (added read from false) state.candidates
+      candidates = subst (λ l. AreCandidates l new.candidates.list.items state.candidates) (sym text_is)
+          (subst (λ ks. AreCandidates (read.text.list.items ++ codes "<") ks state.candidates) (sym candidates_are)
+          (candidates-stay read.text.list.items (codes "<") (added read from false) state.candidates
           (candidates-with read st front (source_text name) from own place false
           (candidates-read old read (source_text name) st.candidates reads p.awaits.candidates) reads.text from_is prints)));
-      is_before = arguments-begun s new state opens.NameArguments (reverse read.waiting.items) front (source_text name) own
-          (ap reverse waiting_is ∙ reverse-last read.waiting.items opens.NameArguments) prints
+      is_before = arguments-begun s new state opens.NameArguments (reverse read.waiting.list.items) front (source_text name) own
+          (ap reverse waiting_is ∙ reverse-last read.waiting.list.items opens.NameArguments) prints
           (text_is ∙ ap (λ l. l ++ codes "<") reads.text) (
             inside (in_name place),
             list.inner,
@@ -360,15 +355,15 @@ list-stands s internal old read new name from p from_is is filled reads there ca
 
 -- a name with arguments
 pub name-argued : (s : List ℕ) (internal : Bool) (old read kept new : Direct) (name : List ℕ) (from : ℕ) (r : Option Step) → AwaitsSource s old internal
-    → from ≡ length old.text.bytes.items → IsNameAt s old.at name read.at → name ≢ [] → Reads old read (source_text name)
-    → StandsAt s read.at (73 ∷ []) → kept.candidates.items ≡ added read from false → kept.text ≡ read.text → kept.waiting ≡ read.waiting → kept.at ≡ read.at
-    → IfSome r (λ next. next ≡ steps.List true) → OnSome r (new.waiting.items ≡ kept.waiting.items ++ opens.NameArguments ∷ []) → OnSome r (new.at ≡ kept.at + 1)
-    → OnSome r (new.text.bytes.items ≡ kept.text.bytes.items ++ codes "<") → OnSome r (new.candidates ≡ kept.candidates) → IfSome r (IsWriting s new)
+    → from ≡ length old.text.list.items → IsNameAt s old.at name read.at → name ≢ [] → Reads old read (source_text name)
+    → StandsAt s read.at (73 ∷ []) → kept.candidates.list.items ≡ added read from false → kept.text ≡ read.text → kept.waiting ≡ read.waiting → kept.at ≡ read.at
+    → IfSome r (λ next. next ≡ steps.List true) → OnSome r (new.waiting.list.items ≡ kept.waiting.list.items ++ opens.NameArguments ∷ []) → OnSome r (new.at ≡ kept.at + 1)
+    → OnSome r (new.text.list.items ≡ kept.text.list.items ++ codes "<") → OnSome r (new.candidates ≡ kept.candidates) → IfSome r (IsWriting s new)
 name-argued s internal old read kept new name from None p from_is is filled reads there ks same_text same_open same_at step open_ at_ text_ candidates_ = tt
 name-argued s internal old read kept new name from (Some next) p from_is is filled reads there ks same_text same_open same_at step open_ at_ text_ candidates_ =
     subst (λ x. IsWriting s new x) (sym step)
     (list-stands s internal old read new name from p from_is is filled reads there
-    (ap (λ v. v.items) candidates_ ∙ ks)
-    (text_ ∙ ap (λ v. v.bytes.items ++ codes "<") same_text)
-    (open_ ∙ ap (λ v. v.items ++ opens.NameArguments ∷ []) same_open)
+    (ap (λ v. v.list.items) candidates_ ∙ ks)
+    (text_ ∙ ap (λ v. v.list.items ++ codes "<") same_text)
+    (open_ ∙ ap (λ v. v.list.items ++ opens.NameArguments ∷ []) same_open)
     (at_ ∙ ap (λ n. n + 1) same_at))

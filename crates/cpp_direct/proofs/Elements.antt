@@ -43,10 +43,10 @@ element-read s old new t bytes a prints reads g =
       state = a.state;
       candidates = candidates-read old new bytes a.state.candidates reads a.candidates;
       is_before = (
-        listing-at (reverse old.waiting.items) old.text.bytes.items (reverse new.waiting.items) new.text.bytes.items p
-            (subst (λ v. Belongs p.listing (reverse v.items) p.owner p.rest) (sym reads.waiting) p.belongs)
+        listing-at (reverse old.waiting.list.items) old.text.list.items (reverse new.waiting.list.items) new.text.list.items p
+            (subst (λ v. Belongs p.listing (reverse v.list.items) p.owner p.rest) (sym reads.waiting) p.belongs)
             (subst (λ l. IsTemplate p.owner p.front p.template p.name l) (sym reads.text)
-            (template-stays p.owner p.front p.template p.name old.text.bytes.items bytes p.is_template)),
+            (template-stays p.owner p.front p.template p.name old.text.list.items bytes p.is_template)),
         a.ts ++ t ∷ [],
         in_front_of_next a.ts a.texts ++ bytes,
         next-prints extra a.ts a.texts t bytes a.elements (type-element extra t bytes false prints),
@@ -128,32 +128,32 @@ integer-element-read s old begun middle new a first next nothing read ended =
 -- an argument was begun that is an enumerator
 pub enumerator-expected : (s : List ℕ) (old begun pushed new : Direct) (a : AwaitsNextArgument s old) → StandsAt s old.at (76 ∷ [])
     → begun.at ≡ old.at + 1 → Reads old begun [] → Writes begun pushed (codes "(")
-    → new.text.bytes.items ≡ pushed.text.bytes.items → new.candidates ≡ pushed.candidates → new.waiting.items ≡ pushed.waiting.items ++ opens.Enumerator ∷ []
+    → new.text.list.items ≡ pushed.text.list.items → new.candidates ≡ pushed.candidates → new.waiting.list.items ≡ pushed.waiting.list.items ++ opens.Enumerator ∷ []
     → new.at ≡ pushed.at → AwaitsNamedType s new
 enumerator-expected s old begun pushed new a stands next nothing writes text candidates waits at =
     let p = a.place in
     let e = enumerator-opens s (element_kind p.listing) a.goes.1 a.goes.0 old.at a.state (element-kind p.listing) a.goes.3 stands in
-    let same : begun.text.bytes.items ≡ old.text.bytes.items = nothing.text ∙ append-nil old.text.bytes.items in
-    let written : new.text.bytes.items ≡ old.text.bytes.items ++ codes "(" = text ∙ writes.text ∙ ap (λ l. l ++ codes "(") same in
-    let waiting : new.waiting.items ≡ old.waiting.items ++ opens.Enumerator ∷ [] =
-    waits ∙ ap (λ v. v.items ++ opens.Enumerator ∷ []) (writes.waiting ∙ nothing.waiting) in
+    let same : begun.text.list.items ≡ old.text.list.items = nothing.text ∙ append-nil old.text.list.items in
+    let written : new.text.list.items ≡ old.text.list.items ++ codes "(" = text ∙ writes.text ∙ ap (λ l. l ++ codes "(") same in
+    let waiting : new.waiting.list.items ≡ old.waiting.list.items ++ opens.Enumerator ∷ [] =
+    waits ∙ ap (λ v. v.list.items ++ opens.Enumerator ∷ []) (writes.waiting ∙ nothing.waiting) in
     record {
       state = a.state;
-      candidates = subst (λ v. AreCandidates new.text.bytes.items v.items a.state.candidates) (sym (candidates ∙ writes.candidates ∙ nothing.candidates))
-          (subst (λ l. AreCandidates l old.candidates.items a.state.candidates) (sym written)
-          (candidates-stay old.text.bytes.items (codes "(") old.candidates.items a.state.candidates a.candidates));
+      candidates = subst (λ v. AreCandidates new.text.list.items v.list.items a.state.candidates) (sym (candidates ∙ writes.candidates ∙ nothing.candidates))
+          (subst (λ l. AreCandidates l old.candidates.list.items a.state.candidates) (sym written)
+          (candidates-stay old.text.list.items (codes "(") old.candidates.list.items a.state.candidates a.candidates));
       kind = Kind.LiteralType;
       is_named = tt;
       around = a.goes.0;
       outside = a.goes.2;
       os = e.inner;
       begins = subst (λ k. TreeOpens s Kind.LiteralType e.inner a.goes.0 k a.state) (sym (at ∙ writes.at ∙ next)) e.opens;
-      stands = subst (λ ws. Stands s ws e.inner new.text.bytes.items)
-          (sym (ap reverse waiting ∙ reverse-last old.waiting.items opens.Enumerator))
-          (enumerator-stands s (reverse old.waiting.items) new.text.bytes.items e.inner
-          (listing-at (reverse old.waiting.items) old.text.bytes.items (reverse old.waiting.items) new.text.bytes.items p p.belongs
+      stands = subst (λ ws. Stands s ws e.inner new.text.list.items)
+          (sym (ap reverse waiting ∙ reverse-last old.waiting.list.items opens.Enumerator))
+          (enumerator-stands s (reverse old.waiting.list.items) new.text.list.items e.inner
+          (listing-at (reverse old.waiting.list.items) old.text.list.items (reverse old.waiting.list.items) new.text.list.items p p.belongs
           (subst (λ l. IsTemplate p.owner p.front p.template p.name l) (sym written)
-          (template-stays p.owner p.front p.template p.name old.text.bytes.items (codes "(") p.is_template)))
+          (template-stays p.owner p.front p.template p.name old.text.list.items (codes "(") p.is_template)))
           a.ts a.texts a.elements (written ∙ ap (λ l. l ++ codes "(") a.written)
           (λ t here now comes negative digits end minus digits_there ended.
           element-goes-on s (element_kind p.listing) (λ l now then. Closes s p.listing p.owner (Stands s p.rest) p.front p.template l now then)
@@ -181,8 +181,8 @@ no-integer-type text front bytes e int long ending = go ending.1
 
 -- the number of an enumerator was read behind its type, and an E
 pub enumerator-read : (s : List ℕ) (old begun pushed middle new : Direct) (a : AwaitsNumber s old)
-    → ends_with nat_eq old.text.bytes.items (codes "int") ≡ false → ends_with nat_eq old.text.bytes.items (codes "long") ≡ false
-    → begun.text ≡ old.text → begun.candidates ≡ old.candidates → begun.at ≡ old.at → reverse begun.waiting.items ≡ a.opened
+    → ends_with nat_eq old.text.list.items (codes "int") ≡ false → ends_with nat_eq old.text.list.items (codes "long") ≡ false
+    → begun.text ≡ old.text → begun.candidates ≡ old.candidates → begun.at ≡ old.at → reverse begun.waiting.list.items ≡ a.opened
     → Writes begun pushed (codes ")") → (read : IsNumberRead s pushed middle)
     → StandsAt s middle.at (69 ∷ []) × (new.at ≡ middle.at + 1) × Reads middle new [] → IsWriting s new (steps.List false)
 unfolding signed_digits
@@ -198,24 +198,24 @@ enumerator-read s old begun pushed middle new a int long text candidates at wait
     let before = in_front_of_next a.ts a.texts in
     let more = codes ")" ++ number_text n in
     let own = codes "(" ++ a.bytes ++ codes ")" ++ sign_text n ++ n.digits in
-    let wrote : new.text.bytes.items ≡ old.text.bytes.items ++ more =
-    ended.2.text ∙ append-nil middle.text.bytes.items ∙ read.4.text ∙ ap (λ l. l ++ number_text n) (writes.text ∙ ap (λ v. v.bytes.items ++ codes ")") text)
-    ∙ append_assoc old.text.bytes.items (codes ")") (number_text n) in
+    let wrote : new.text.list.items ≡ old.text.list.items ++ more =
+    ended.2.text ∙ append-nil middle.text.list.items ∙ read.4.text ∙ ap (λ l. l ++ number_text n) (writes.text ∙ ap (λ v. v.list.items ++ codes ")") text)
+    ∙ append_assoc old.text.list.items (codes ")") (number_text n) in
     let filled : ds ≢ [] = λ none. absurd (omega (arith, read.3.is_number.digits.1, ap length read.3.own, ap (λ (l : List ℕ). length l) none)) in
     let prints = enumerator-prints a.type a.bytes a.is_reference a.prints (not-integer a.type a.bytes a.is_reference a.prints
-    (no-integer-type old.text.bytes.items (front ++ before ++ codes "(") a.bytes a.written int long)) n (normal-filled ds filled) in
+    (no-integer-type old.text.list.items (front ++ before ++ codes "(") a.bytes a.written int long)) n (normal-filled ds filled) in
     record {
       state = a.state;
-      candidates = subst (λ v. AreCandidates new.text.bytes.items v.items a.state.candidates)
+      candidates = subst (λ v. AreCandidates new.text.list.items v.list.items a.state.candidates)
           (sym (ended.2.candidates ∙ read.4.candidates ∙ writes.candidates ∙ candidates))
-          (subst (λ l. AreCandidates l old.candidates.items a.state.candidates) (sym wrote)
-          (candidates-stay old.text.bytes.items more old.candidates.items a.state.candidates a.candidates));
+          (subst (λ l. AreCandidates l old.candidates.list.items a.state.candidates) (sym wrote)
+          (candidates-stay old.text.list.items more old.candidates.list.items a.state.candidates a.candidates));
       is_before = (
-        listing-at a.opened old.text.bytes.items (reverse new.waiting.items) new.text.bytes.items p
+        listing-at a.opened old.text.list.items (reverse new.waiting.list.items) new.text.list.items p
             (subst (λ ws. Belongs p.listing ws p.owner p.rest)
-            (sym (ap (λ v. reverse v.items) (ended.2.waiting ∙ read.4.waiting ∙ writes.waiting) ∙ waits)) p.belongs)
+            (sym (ap (λ v. reverse v.list.items) (ended.2.waiting ∙ read.4.waiting ∙ writes.waiting) ∙ waits)) p.belongs)
             (subst (λ l. IsTemplate p.owner p.front p.template p.name l) (sym wrote)
-            (template-stays p.owner p.front p.template p.name old.text.bytes.items more p.is_template)),
+            (template-stays p.owner p.front p.template p.name old.text.list.items more p.is_template)),
         a.ts ++ t ∷ [],
         before ++ own,
         next-prints extra a.ts a.texts t own a.elements (type-element extra t own false prints),

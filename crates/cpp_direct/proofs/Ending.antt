@@ -70,7 +70,7 @@ const-written s old new p writes = record {
   e = p.e;
   lead = p.lead;
   bytes = p.bytes;
-  written = append-nil new.text.bytes.items ∙ writes.text ∙ p.written;
+  written = append-nil new.text.list.items ∙ writes.text ∙ p.written;
   shows = p.shows;
   encloses = p.encloses;
   behind = subst (λ n. EncodedBehind s p.lead p.e n) (sym writes.at) p.behind;
@@ -94,7 +94,7 @@ symbol-ended s w p apart =
       candidates = p.candidates;
       e = behind.made;
       encoded = behind.encoded;
-      shows = subst (λ l. Shows behind.made l) (sym p.written ∙ append-nil w.text.bytes.items) (behind.shows p.bytes p.shows);
+      shows = subst (λ l. Shows behind.made l) (sym p.written ∙ append-nil w.text.list.items) (behind.shows p.bytes p.shows);
     }
 
 -- the symbol is written where it has no suffix
@@ -103,7 +103,7 @@ pub ends-plain : (s suffix : List ℕ) (w : Direct) → IsSymbolEnded s w → w.
 ends-plain s suffix w p inside is none = record {
   state = p.state;
   candidates = p.candidates;
-  is_before = whole-plain s p.e w.at w.text.bytes.items p.encoded p.shows
+  is_before = whole-plain s p.e w.at w.text.list.items p.encoded p.shows
       (omega (arith, none, (rest-stands s suffix w.at inside is).1));
 }
 
@@ -113,7 +113,7 @@ pub ends-suffixed : (s suffix : List ℕ) (w first second last : Direct) → IsS
     → Writes w first (codes " (") → Writes first second suffix → Writes second last (codes ")") → IsWriting s last steps.Ended
 ends-suffixed s suffix w first second last p inside is is_suffix one two three =
     let there = rest-stands s suffix w.at inside is in
-    let text : last.text.bytes.items ≡ w.text.bytes.items ++ codes " (" ++ suffix ++ codes ")" =
+    let text : last.text.list.items ≡ w.text.list.items ++ codes " (" ++ suffix ++ codes ")" =
     three.text ∙ ap (λ l. l ++ codes ")") (two.text ∙ ap (λ l. l ++ suffix) one.text) in
     record {
       state = p.state;
@@ -121,7 +121,7 @@ ends-suffixed s suffix w first second last p inside is is_suffix one two three =
           (candidates-written first second suffix p.state.candidates two
           (candidates-written w first (codes " (") p.state.candidates one p.candidates));
       is_before = subst (λ l. IsWhole s l) (sym text)
-          (whole-suffixed s p.e w.at w.text.bytes.items suffix p.encoded p.shows
+          (whole-suffixed s p.e w.at w.text.list.items suffix p.encoded p.shows
           there.0 there.1 is_suffix);
     }
 
@@ -188,13 +188,13 @@ void-ended s w first here last is_const p stands one text candidates at two =
     let e = encoding_of p.v (list_of (builtin (118 ∷ []) ∷ [])) in
     let none : has_return_type (tree_of p.v) ≡ false = ap has_return_type p.tree_is ∙ p.no_return refl in
     let behind : EncodedBehind s p.lead e (w.at + 1) = void-read s p.lead p.v w.at p.state p.awaits stands in
-    let written : last.text.bytes.items ≡ p.lead ++ b ++ codes "()" =
-    two.text ∙ ap (λ l. l.bytes.items ++ codes ")") text ∙ ap (λ l. l ++ codes ")") one.text ∙ append_assoc w.text.bytes.items (codes "(") (codes ")")
+    let written : last.text.list.items ≡ p.lead ++ b ++ codes "()" =
+    two.text ∙ ap (λ l. l.list.items ++ codes ")") text ∙ ap (λ l. l ++ codes ")") one.text ∙ append_assoc w.text.list.items (codes "(") (codes ")")
     ∙ ap (λ l. l ++ codes "()") p.written in
     let known = candidates-written w first (codes "(") p.state.candidates one p.candidates in
-    let moved : AreCandidates here.text.bytes.items here.candidates.items p.state.candidates =
-    subst (λ l. AreCandidates l.bytes.items here.candidates.items p.state.candidates) (sym text)
-    (subst (λ l. AreCandidates first.text.bytes.items l.items p.state.candidates) (sym candidates) known) in
+    let moved : AreCandidates here.text.list.items here.candidates.list.items p.state.candidates =
+    subst (λ l. AreCandidates l.list.items here.candidates.list.items p.state.candidates) (sym text)
+    (subst (λ l. AreCandidates first.text.list.items l.list.items p.state.candidates) (sym candidates) known) in
     let shows : Shows e (b ++ codes "()" ++ q) =
     subst (λ l. Shows e (b ++ codes "()" ++ l)) (qualifiers-text p.v is_const p.qualifiers_are p.mark_is)
     (void-encoded p.v b (subst (λ t. Prints t b false) (sym p.tree_is) p.prints) none) in
@@ -245,12 +245,12 @@ parameter-goes_on s lead v ts at st p t here now goes = record {
 -- a parameter comes next
 pub parameter-expected : (s : List ℕ) (w : Direct) (st : State) (is_const : Bool) (rest : List Open) (lead : List ℕ) (v : Value) (ts : List Term)
     (name parameters : List ℕ)
-    → AreCandidates w.text.bytes.items w.candidates.items st.candidates → reverse w.waiting.items ≡ opens.Parameters is_const ∷ rest
-    → IsFunction is_const v ts name parameters → w.text.bytes.items ≡ lead ++ name ++ codes "(" ++ in_front_of_next ts parameters
+    → AreCandidates w.text.list.items w.candidates.list.items st.candidates → reverse w.waiting.list.items ≡ opens.Parameters is_const ∷ rest
+    → IsFunction is_const v ts name parameters → w.text.list.items ≡ lead ++ name ++ codes "(" ++ in_front_of_next ts parameters
     → ParametersGoOn s lead v ts w.at st → IsWriting s w steps.Type
 parameter-expected s w st is_const rest lead v ts name parameters candidates open_is is_function written p =
     let element = element-awaits s Kind.Items p.inner p.around w.at st tt p.awaits in
-    let stands : Stands s (opens.Parameters is_const ∷ rest) element.inner w.text.bytes.items = (
+    let stands : Stands s (opens.Parameters is_const ∷ rest) element.inner w.text.list.items = (
       lead,
       v,
       ts,
@@ -263,21 +263,21 @@ parameter-expected s w st is_const rest lead v ts name parameters candidates ope
     record {
       state = st;
       candidates = candidates;
-      is_before = (element.inner, p.around, p.outside, inr (inl element.awaits), subst (λ os. Stands s os element.inner w.text.bytes.items) (sym open_is) stands);
+      is_before = (element.inner, p.around, p.outside, inr (inl element.awaits), subst (λ os. Stands s os element.inner w.text.list.items) (sym open_is) stands);
     }
 
 -- the first parameter comes next
 pub first-expected : (s : List ℕ) (w first last : Direct) (is_const : Bool) → IsNameEnded s w is_const false → Writes w first (codes "(")
     → last.text ≡ first.text → last.candidates ≡ first.candidates → last.at ≡ first.at
-    → last.waiting.items ≡ first.waiting.items ++ opens.Parameters is_const ∷ []
+    → last.waiting.list.items ≡ first.waiting.list.items ++ opens.Parameters is_const ∷ []
     → IsWriting s last steps.Type
 first-expected s w first last is_const p one text candidates at waiting =
     let known = candidates-written w first (codes "(") p.state.candidates one p.candidates in
-    let moved : AreCandidates last.text.bytes.items last.candidates.items p.state.candidates =
-    subst (λ l. AreCandidates l.bytes.items last.candidates.items p.state.candidates) (sym text)
-    (subst (λ l. AreCandidates first.text.bytes.items l.items p.state.candidates) (sym candidates) known) in
-    parameter-expected s last p.state is_const (reverse first.waiting.items) p.lead p.v [] p.name [] moved
-    (ap reverse waiting ∙ reverse-last first.waiting.items (opens.Parameters is_const))
+    let moved : AreCandidates last.text.list.items last.candidates.list.items p.state.candidates =
+    subst (λ l. AreCandidates l.list.items last.candidates.list.items p.state.candidates) (sym text)
+    (subst (λ l. AreCandidates first.text.list.items l.list.items p.state.candidates) (sym candidates) known) in
+    parameter-expected s last p.state is_const (reverse first.waiting.list.items) p.lead p.v [] p.name [] moved
+    (ap reverse waiting ∙ reverse-last first.waiting.list.items (opens.Parameters is_const))
     (record {
       own = p.own;
       tree_is = p.tree_is;
@@ -287,7 +287,7 @@ first-expected s w first last is_const p one text candidates at waiting =
       no_return = p.no_return refl;
       elements = none-print 0;
     })
-    (ap (λ l. l.bytes.items) text ∙ one.text ∙ ap (λ l. l ++ codes "(") p.written ∙ sym (append-nil (p.lead ++ p.name ++ codes "(")))
+    (ap (λ l. l.list.items) text ∙ one.text ∙ ap (λ l. l ++ codes "(") p.written ∙ sym (append-nil (p.lead ++ p.name ++ codes "(")))
     (subst (λ n. ParametersGoOn s p.lead p.v [] n p.state) (sym (at ∙ one.at)) (none-go_on s p.lead p.v w.at p.state p.awaits))
 
 -- another parameter comes next
@@ -296,7 +296,7 @@ pub next-expected : (s : List ℕ) (w last : Direct) (is_const : Bool) → IsPar
 next-expected s w last is_const p one =
     parameter-expected s last p.state is_const p.rest p.lead p.v p.ts p.name p.parameters
     (candidates-written w last (codes ", ") p.state.candidates one p.candidates)
-    (ap (λ l. reverse l.items) one.waiting ∙ p.open_is) p.is_function
+    (ap (λ l. reverse l.list.items) one.waiting ∙ p.open_is) p.is_function
     (one.text ∙ ap (λ l. l ++ codes ", ") p.written ∙ append_assoc (p.lead ++ p.name ++ codes "(") p.parameters (codes ", ")
     ∙ ap (λ l. p.lead ++ p.name ++ codes "(" ++ l) (sym (next-written p.ts p.parameters p.some)))
     (subst (λ n. ParametersGoOn s p.lead p.v p.ts n p.state) (sym one.at) p.goes)
@@ -315,7 +315,7 @@ function-ended s w last is_const p apart one =
     let kept = parameters-kept p.ts l f.elements apart in
     let behind : EncodedBehind s p.lead e w.at = subst (λ u. EncodedBehind s p.lead (encoding_of p.v u) w.at) (list-ends p.ts)
     (p.goes.onward nothing_there w.at p.state (expects-empty s Kind.Items p.goes.around p.goes.inner w.at p.state p.goes.awaits refl)) in
-    let written : last.text.bytes.items ++ q ≡ p.lead ++ (b ++ codes "(" ++ l ++ codes ")" ++ q) =
+    let written : last.text.list.items ++ q ≡ p.lead ++ (b ++ codes "(" ++ l ++ codes ")" ++ q) =
     ap (λ x. x ++ q) (one.text ∙ ap (λ x. x ++ codes ")") p.written) ∙ behind-five p.lead b (codes "(") l (codes ")") q in
     let shows : Shows e (b ++ codes "(" ++ l ++ codes ")" ++ q) =
     subst (λ x. Shows e (b ++ codes "(" ++ l ++ codes ")" ++ x)) (qualifiers-text p.v is_const f.qualifiers_are f.mark_is)
@@ -344,8 +344,3 @@ pub no-void : (text name parameters : List ℕ) → text ≡ name ++ codes "(" +
     → parameters ≢ codes "void"
 no-void text name parameters e other same =
     false≢true (sym other ∙ void-last text name (e ∙ ap (λ l. name ++ codes "(" ++ l) same ∙ append_assoc name (codes "(") (codes "void")))
-
--- what a vector has behind a push that succeeded
-pub pushed : (new old more : List Open) (b : Bool) → new ≡ (if b then more else old) → b ≡ true → new ≡ more
-pushed new old more true e is = e
-pushed new old more false e is = absurd (false≢true is)

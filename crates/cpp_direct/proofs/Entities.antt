@@ -47,7 +47,7 @@ local-begins s w fresh starts letter =
     let here : LocalOpened s encoding_.inner (in_name 2) 3 first_state = local-opens s encoding_.inner (in_name 2) 2 first_state encoding_.awaits letter in
     record {
       state = first_state;
-      candidates = subst (λ ks. AreCandidates w.text.bytes.items ks []) (sym fresh.no_candidate) tt;
+      candidates = subst (λ ks. AreCandidates w.text.list.items ks []) (sym fresh.no_candidate) tt;
       around = in_name 2;
       outer = here.inner;
       awaits = here.awaits;
@@ -75,10 +75,10 @@ guard-begins s old new fresh starts marks letter stands writes =
     let opened_ = symbol-starts s starts in
     let guard_ : GuardOpened s opened_.inner 2 4 first_state = guard-opens s opened_.inner first_around 2 first_state opened_.awaits marks in
     let here : LocalOpened s guard_.inner (in_name 2) 5 first_state = local-opens s guard_.inner (in_name 2) 4 first_state guard_.awaits stands in
-    let text_is : new.text.bytes.items ≡ codes "guard variable for " = writes.text ∙ ap (λ l. l ++ codes "guard variable for ") fresh.no_text in
+    let text_is : new.text.list.items ≡ codes "guard variable for " = writes.text ∙ ap (λ l. l ++ codes "guard variable for ") fresh.no_text in
     record {
       state = first_state;
-      candidates = subst (λ ks. AreCandidates new.text.bytes.items ks []) (sym (ap (λ v. v.items) writes.candidates ∙ fresh.no_candidate)) tt;
+      candidates = subst (λ ks. AreCandidates new.text.list.items ks []) (sym (ap (λ v. v.list.items) writes.candidates ∙ fresh.no_candidate)) tt;
       around = in_name 2;
       outer = here.inner;
       awaits = here.awaits;
@@ -117,9 +117,9 @@ entity-ended s internal old pushed read last p one name is_name filled two digit
     } in
     let behind : EntityBehind s e.lead e.e name last.at = e.behind.entity p.is_entity internal name digit last.at is in
     let whole = reads-then old read last (codes "::" ++ n) [] (reads-then old pushed read (codes "::") n (reads-of old pushed (codes "::") one) two) three in
-    let written : last.text.bytes.items ≡ e.lead ++ (e.bytes ++ codes "::" ++ n) =
-    whole.text ∙ ap (λ l. old.text.bytes.items ++ l) (append-nil (codes "::" ++ n)) ∙ sym (append_assoc old.text.bytes.items (codes "::") n)
-    ∙ ap (λ l. l ++ codes "::" ++ n) (sym (append-nil old.text.bytes.items) ∙ e.written) ∙ behind-three e.lead e.bytes (codes "::") n in
+    let written : last.text.list.items ≡ e.lead ++ (e.bytes ++ codes "::" ++ n) =
+    whole.text ∙ ap (λ l. old.text.list.items ++ l) (append-nil (codes "::" ++ n)) ∙ sym (append_assoc old.text.list.items (codes "::") n)
+    ∙ ap (λ l. l ++ codes "::" ++ n) (sym (append-nil old.text.list.items) ∙ e.written) ∙ behind-three e.lead e.bytes (codes "::") n in
     record {
       state = e.state;
       candidates = candidates-read old last (codes "::" ++ n ++ []) e.state.candidates whole e.candidates;

@@ -109,27 +109,27 @@ some-by (Some x) h f = f h
 -- a text was written behind a place that was changed
 pub reads-written : (old middle new : Direct) (bytes text : List ℕ) → Writes middle new bytes → middle.text ≡ old.text
     → middle.candidates ≡ old.candidates
-    → middle.waiting ≡ old.waiting → middle.nest ≡ old.nest → middle.most ≡ old.most → bytes ≡ text → Reads old new text
-reads-written old middle new bytes text w same_text same_candidates same_waiting same_nest same_most is = record {
-  text = w.text ∙ ap (λ v. v.bytes.items ++ bytes) same_text ∙ ap (λ l. old.text.bytes.items ++ l) is;
+    → middle.waiting ≡ old.waiting → middle.nest ≡ old.nest → middle.rounds ≡ old.rounds → bytes ≡ text → Reads old new text
+reads-written old middle new bytes text w same_text same_candidates same_waiting same_nest same_rounds is = record {
+  text = w.text ∙ ap (λ v. v.list.items ++ bytes) same_text ∙ ap (λ l. old.text.list.items ++ l) is;
   candidates = w.candidates ∙ same_candidates;
   waiting = w.waiting ∙ same_waiting;
   nest = w.nest ∙ same_nest;
-  most = w.most ∙ same_most;
+  rounds = w.rounds ∙ same_rounds;
 }
 
 -- a name was read and written
 pub name-read : (s : List ℕ) (old middle new : Direct) (place : TokenPlace) (bytes : List ℕ) → HasToken (IsName Cpp) (drop old.at s) old.at place
     → old.at ≤ length s → bytes ≡ source_text (take (place.to - place.from) (drop place.from s)) → middle.at ≡ place.end
-    → middle.text ≡ old.text → middle.candidates ≡ old.candidates → middle.waiting ≡ old.waiting → middle.nest ≡ old.nest → middle.most ≡ old.most
+    → middle.text ≡ old.text → middle.candidates ≡ old.candidates → middle.waiting ≡ old.waiting → middle.nest ≡ old.nest → middle.rounds ≡ old.rounds
     → Writes middle new bytes
     → (name : List ℕ) × IsNameAt s old.at name new.at × (name ≢ []) × Reads old new (source_text name)
-name-read s old middle new place bytes h le is there same_text same_candidates same_waiting same_nest same_most w =
+name-read s old middle new place bytes h le is there same_text same_candidates same_waiting same_nest same_rounds w =
     let n = name-found s old.at place h le in (
       n.0,
       subst (λ e. IsNameAt s old.at n.0 e) (sym (w.at ∙ there)) n.1,
       n.2,
-      reads-written old middle new bytes (source_text n.0) w same_text same_candidates same_waiting same_nest same_most (is ∙ ap source_text n.3),
+      reads-written old middle new bytes (source_text n.0) w same_text same_candidates same_waiting same_nest same_rounds (is ∙ ap source_text n.3),
     )
 
 -- ## Substitutions
@@ -144,16 +144,16 @@ there-at ks slice index counted k same number inside is =
 -- what was read in two steps
 pub reads-then : (a b c : Direct) (x y : List ℕ) → Reads a b x → Reads b c y → Reads a c (x ++ y)
 reads-then a b c x y first second = record {
-  text = second.text ∙ ap (λ l. l ++ y) first.text ∙ append_assoc a.text.bytes.items x y;
+  text = second.text ∙ ap (λ l. l ++ y) first.text ∙ append_assoc a.text.list.items x y;
   candidates = second.candidates ∙ first.candidates;
   waiting = second.waiting ∙ first.waiting;
   nest = second.nest ∙ first.nest;
-  most = second.most ∙ first.most;
+  rounds = second.rounds ∙ first.rounds;
 }
 
 -- what was written was read
 pub reads-of : (a b : Direct) (x : List ℕ) → Writes a b x → Reads a b x
-reads-of a b x w = record { text = w.text; candidates = w.candidates; waiting = w.waiting; nest = w.nest; most = w.most }
+reads-of a b x w = record { text = w.text; candidates = w.candidates; waiting = w.waiting; nest = w.nest; rounds = w.rounds }
 
 -- the digits of a number were read, and written behind a sign
 pub digits-read : (s : List ℕ) (old new : Direct) (place : TokenPlace) (is_negative : Bool) (written : List ℕ)
@@ -168,12 +168,12 @@ digits-read s old new place is_negative written h le there reads is =
     )
 
 -- nothing was written yet
-pub reads-begun : (a b : Direct) → b.text ≡ a.text → b.candidates ≡ a.candidates → b.waiting ≡ a.waiting → b.nest ≡ a.nest → b.most ≡ a.most
+pub reads-begun : (a b : Direct) → b.text ≡ a.text → b.candidates ≡ a.candidates → b.waiting ≡ a.waiting → b.nest ≡ a.nest → b.rounds ≡ a.rounds
     → Reads a b []
-reads-begun a b same_text same_candidates same_waiting same_nest same_most = record {
-  text = ap (λ v. v.bytes.items) same_text ∙ sym (append-nil a.text.bytes.items);
+reads-begun a b same_text same_candidates same_waiting same_nest same_rounds = record {
+  text = ap (λ v. v.list.items) same_text ∙ sym (append-nil a.text.list.items);
   candidates = same_candidates;
   waiting = same_waiting;
   nest = same_nest;
-  most = same_most;
+  rounds = same_rounds;
 }

@@ -46,8 +46,8 @@ return-opens s false kind os around at st whole outside expects stands = functio
 
 -- a function type begins, where what was opened last takes one
 pub function-begins : (s : List ℕ) (old new : Direct) (is_pointer : Bool) (o : Open) → IsWriting s old steps.Type
-    → StandsAt s old.at (if is_pointer then 80 ∷ 70 ∷ [] else 70 ∷ []) → slice_get old.waiting.items (length old.waiting.items - 1) ≡ Some o
-    → ((rest : List Open) → TakesFunction (o ∷ rest)) → new.waiting.items ≡ old.waiting.items ++ opens.Returned is_pointer ∷ []
+    → StandsAt s old.at (if is_pointer then 80 ∷ 70 ∷ [] else 70 ∷ []) → slice_get old.waiting.list.items (length old.waiting.list.items - 1) ≡ Some o
+    → ((rest : List Open) → TakesFunction (o ∷ rest)) → new.waiting.list.items ≡ old.waiting.list.items ++ opens.Returned is_pointer ∷ []
     → new.at ≡ old.at + (if is_pointer then 2 else 1) → new.text ≡ old.text → new.candidates ≡ old.candidates → IsWriting s new steps.Type
 function-begins s old new is_pointer o p letters found takes waits at text candidates = go p.is_before.3
   where
@@ -57,24 +57,24 @@ function-begins s old new is_pointer o p letters found takes waits at text candi
     around : Around
     around = p.is_before.1
 
-    last : (rest : List Open) × (reverse old.waiting.items ≡ o ∷ rest)
-    last = last-found old.waiting.items o found
+    last : (rest : List Open) × (reverse old.waiting.list.items ≡ o ∷ rest)
+    last = last-found old.waiting.list.items o found
 
     begun : (kind : Kind) → IsQualifiable kind → Expects s kind around os old.at p.state → IsWriting s new steps.Type
     begun kind whole expects =
         let f = return-opens s is_pointer kind os around old.at p.state whole p.is_before.2 expects letters in
         record {
           state = p.state;
-          candidates = subst (λ v. AreCandidates new.text.bytes.items v.items p.state.candidates) (sym candidates)
-              (subst (λ v. AreCandidates v.bytes.items old.candidates.items p.state.candidates) (sym text) p.candidates);
+          candidates = subst (λ v. AreCandidates new.text.list.items v.list.items p.state.candidates) (sym candidates)
+              (subst (λ v. AreCandidates v.list.items old.candidates.list.items p.state.candidates) (sym text) p.candidates);
           is_before = (
             f.inner,
             around,
             p.is_before.2,
             inl (subst (λ k. Expects s Kind.Type around f.inner k p.state) (sym at) f.awaits),
-            subst (λ l. Stands s l f.inner new.text.bytes.items)
-                (sym (ap reverse waits ∙ reverse-last old.waiting.items (opens.Returned is_pointer)))
-                (subst (λ v. Stands s (opens.Returned is_pointer ∷ reverse old.waiting.items) f.inner v.bytes.items) (sym text)
+            subst (λ l. Stands s l f.inner new.text.list.items)
+                (sym (ap reverse waits ∙ reverse-last old.waiting.list.items (opens.Returned is_pointer)))
+                (subst (λ v. Stands s (opens.Returned is_pointer ∷ reverse old.waiting.list.items) f.inner v.list.items) (sym text)
                 (os, around.encoding, f.onward, subst (λ l. TakesFunction l) (sym last.1) (takes last.0), p.is_before.4)),
           );
         }

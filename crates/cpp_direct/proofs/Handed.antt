@@ -17,7 +17,7 @@ use Rattle.cpp_direct.proofs.Kept.{template-stays}
 
 -- it is marked
 pub value-marked : (s : List ℕ) (w : Direct) (is_reference marked_reference : Bool) (entry : Open) (from : ℕ) (made : Term → Term) (mark : List ℕ)
-    → IsWriting s w (steps.Value is_reference) → slice_get w.waiting.items (length w.waiting.items - 1) ≡ Some entry
+    → IsWriting s w (steps.Value is_reference) → slice_get w.waiting.list.items (length w.waiting.list.items - 1) ≡ Some entry
     → ((rest : List Open) (os : List Opened) (text : List ℕ) → Stands s (entry ∷ rest) os text → Marks s (Stands s rest) os text from made)
     → ((t : Term) (b : List ℕ) → Prints t b is_reference → Prints (made t) (b ++ mark) marked_reference)
     → AwaitsMark s w mark from marked_reference
@@ -30,7 +30,7 @@ value-marked s w is_reference marked_reference entry from made mark p found stan
     let prints = p.is_before.5 in
     let comes = p.is_before.6 in
     let stands = p.is_before.7 in
-    let last = last-found w.waiting.items entry found in
+    let last = last-found w.waiting.list.items entry found in
     let marks = stands_as last.0 os front (subst (λ ws. Stands s ws os front) last.1 stands) in
     record {
       state = p.state;
@@ -52,9 +52,9 @@ value-marked s w is_reference marked_reference entry from made mark p found stan
 
 -- it is an element or a parameter
 pub value-element : (s : List ℕ) (w : Direct) (is_reference : Bool) (o : Open) → IsWriting s w (steps.Value is_reference)
-    → slice_get w.waiting.items (length w.waiting.items - 1) ≡ Some o → IsElementRead s w o
+    → slice_get w.waiting.list.items (length w.waiting.list.items - 1) ≡ Some o → IsElementRead s w o
 value-element s w is_reference o p found =
-    let last = last-found w.waiting.items o found in
+    let last = last-found w.waiting.list.items o found in
     record {
       state = p.state;
       candidates = p.candidates;
@@ -106,7 +106,7 @@ parameter-read s w is_const p =
 
 -- it is what a special symbol is of
 pub value-special : (s : List ℕ) (w : Direct) (is_reference : Bool) → IsWriting s w (steps.Value is_reference)
-    → slice_get w.waiting.items (length w.waiting.items - 1) ≡ Some opens.Special → IsSymbolEnded s w
+    → slice_get w.waiting.list.items (length w.waiting.list.items - 1) ≡ Some opens.Special → IsSymbolEnded s w
 value-special s w is_reference p found =
     let os = p.is_before.0 in
     let t = p.is_before.1 in
@@ -116,7 +116,7 @@ value-special s w is_reference p found =
     let prints = p.is_before.5 in
     let comes = p.is_before.6 in
     let stands = p.is_before.7 in
-    let last = last-found w.waiting.items opens.Special found in
+    let last = last-found w.waiting.list.items opens.Special found in
     let waits : Stands s (opens.Special ∷ last.0) os front = subst (λ ws. Stands s ws os front) last.1 stands in
     let letter = waits.0 in
     let front_is = waits.1 in
@@ -133,12 +133,12 @@ value-special s w is_reference p found =
 
 -- it is the type of an enumerator
 pub value-enumerator : (s : List ℕ) (w : Direct) (is_reference : Bool) → IsWriting s w (steps.Value is_reference)
-    → slice_get w.waiting.items (length w.waiting.items - 1) ≡ Some opens.Enumerator → AwaitsNumber s w
+    → slice_get w.waiting.list.items (length w.waiting.list.items - 1) ≡ Some opens.Enumerator → AwaitsNumber s w
 value-enumerator s w is_reference p found =
-    let last = last-found w.waiting.items opens.Enumerator found in
+    let last = last-found w.waiting.list.items opens.Enumerator found in
     go last.0 last.1 (subst (λ ws. Stands s ws p.is_before.0 p.is_before.2) last.1 p.is_before.7)
   where
-    number : (l : Listing) (opened : List Open) (owner : Open) (rest : List Open) → reverse w.waiting.items ≡ opens.Enumerator ∷ opened
+    number : (l : Listing) (opened : List Open) (owner : Open) (rest : List Open) → reverse w.waiting.list.items ≡ opens.Enumerator ∷ opened
         → Belongs l opened owner rest → AwaitsEnumerator s l owner (Stands s rest) p.is_before.0 p.is_before.2 → AwaitsNumber s w
     number l opened owner rest is belongs waits =
         let t = p.is_before.1 in
@@ -171,7 +171,7 @@ value-enumerator s w is_reference p found =
           goes = waits.8 t w.at p.state p.is_before.6;
         }
 
-    go : (rest : List Open) → reverse w.waiting.items ≡ opens.Enumerator ∷ rest
+    go : (rest : List Open) → reverse w.waiting.list.items ≡ opens.Enumerator ∷ rest
         → Stands s (opens.Enumerator ∷ rest) p.is_before.0 p.is_before.2 → AwaitsNumber s w
     go [] is waits = absurd waits
     go (opens.Pack ∷ []) is waits = absurd waits
@@ -208,7 +208,7 @@ argument-read s w o p takes =
       state = p.state;
       candidates = p.candidates;
       is_before = (
-        listing-at (o ∷ p.rest) front (reverse w.waiting.items) w.text.bytes.items place
+        listing-at (o ∷ p.rest) front (reverse w.waiting.list.items) w.text.list.items place
             (subst (λ ws. Belongs place.listing ws place.owner place.rest) (sym p.open_is) place.belongs)
             (subst (λ l. IsTemplate place.owner place.front place.template place.name l) (sym p.written)
             (template-stays place.owner place.front place.template place.name front p.bytes place.is_template)),
@@ -227,12 +227,12 @@ argument-read s w o p takes =
 
 -- it is the return type of a function type
 pub value-returned : (s : List ℕ) (w : Direct) (is_reference is_pointer : Bool) → IsWriting s w (steps.Value is_reference)
-    → slice_get w.waiting.items (length w.waiting.items - 1) ≡ Some (opens.Returned is_pointer) → IsReturned s w is_pointer
+    → slice_get w.waiting.list.items (length w.waiting.list.items - 1) ≡ Some (opens.Returned is_pointer) → IsReturned s w is_pointer
 value-returned s w is_reference is_pointer p found =
     let os = p.is_before.0 in
     let t = p.is_before.1 in
     let front = p.is_before.2 in
-    let last = last-found w.waiting.items (opens.Returned is_pointer) found in
+    let last = last-found w.waiting.list.items (opens.Returned is_pointer) found in
     let waits : Stands s (opens.Returned is_pointer ∷ last.0) os front = subst (λ ws. Stands s ws os front) last.1 p.is_before.7 in
     record {
       state = p.state;
@@ -254,12 +254,12 @@ value-returned s w is_reference is_pointer p found =
 
 -- it is a parameter of one
 pub value-signature : (s : List ℕ) (w : Direct) (is_reference is_pointer : Bool) → IsWriting s w (steps.Value is_reference)
-    → slice_get w.waiting.items (length w.waiting.items - 1) ≡ Some (opens.Signature is_pointer) → AwaitsSignature s w is_pointer false
+    → slice_get w.waiting.list.items (length w.waiting.list.items - 1) ≡ Some (opens.Signature is_pointer) → AwaitsSignature s w is_pointer false
 value-signature s w is_reference is_pointer p found =
     let os = p.is_before.0 in
     let t = p.is_before.1 in
     let b = p.is_before.3 in
-    let last = last-found w.waiting.items (opens.Signature is_pointer) found in
+    let last = last-found w.waiting.list.items (opens.Signature is_pointer) found in
     let waits : Stands s (opens.Signature is_pointer ∷ last.0) os p.is_before.2 = subst (λ ws. Stands s ws os p.is_before.2) last.1 p.is_before.7 in
     let front = waits.2 in
     let bytes = waits.4 in

@@ -85,33 +85,33 @@ candidates-added text ks cs front bytes from t e r p written from_is prints =
 
 -- the same of a writer and a state
 pub candidates-with : (w : Direct) (st : State) (front bytes : List ℕ) (from : ℕ) (t : Term) (e : ℕ) (r : Bool)
-    → AreCandidates w.text.bytes.items w.candidates.items st.candidates → w.text.bytes.items ≡ front ++ bytes → from ≡ length front → Prints t bytes r
-    → AreCandidates w.text.bytes.items (added w from r) (with_candidate e t st).candidates
+    → AreCandidates w.text.list.items w.candidates.list.items st.candidates → w.text.list.items ≡ front ++ bytes → from ≡ length front → Prints t bytes r
+    → AreCandidates w.text.list.items (added w from r) (with_candidate e t st).candidates
 candidates-with w st front bytes from t e r p written from_is prints =
-    candidates-added w.text.bytes.items w.candidates.items st.candidates front bytes from t e r p written from_is prints
+    candidates-added w.text.list.items w.candidates.list.items st.candidates front bytes from t e r p written from_is prints
 
 -- the same unless it is one already
 pub candidates-unless : (w : Direct) (st : State) (listed : Bool) (front bytes : List ℕ) (from : ℕ) (t : Term) (e : ℕ)
-    → AreCandidates w.text.bytes.items w.candidates.items st.candidates → w.text.bytes.items ≡ front ++ bytes → from ≡ length front → Prints t bytes false
-    → AreCandidates w.text.bytes.items (added_unless w listed from) (unless_listed listed e t st).candidates
+    → AreCandidates w.text.list.items w.candidates.list.items st.candidates → w.text.list.items ≡ front ++ bytes → from ≡ length front → Prints t bytes false
+    → AreCandidates w.text.list.items (added_unless w listed from) (unless_listed listed e t st).candidates
 candidates-unless w st true front bytes from t e p written from_is prints = p
 candidates-unless w st false front bytes from t e p written from_is prints = candidates-with w st front bytes from t e false p written from_is prints
 
 -- a text was written
 pub candidates-written : (old new : Direct) (bytes : List ℕ) (cs : List values.Candidate) → Writes old new bytes
-    → AreCandidates old.text.bytes.items old.candidates.items cs → AreCandidates new.text.bytes.items new.candidates.items cs
+    → AreCandidates old.text.list.items old.candidates.list.items cs → AreCandidates new.text.list.items new.candidates.list.items cs
 candidates-written old new bytes cs writes p =
-    subst (λ l. AreCandidates l new.candidates.items cs) (sym writes.text)
-    (subst (λ v. AreCandidates (old.text.bytes.items ++ bytes) v.items cs) (sym writes.candidates)
-    (candidates-stay old.text.bytes.items bytes old.candidates.items cs p))
+    subst (λ l. AreCandidates l new.candidates.list.items cs) (sym writes.text)
+    (subst (λ v. AreCandidates (old.text.list.items ++ bytes) v.list.items cs) (sym writes.candidates)
+    (candidates-stay old.text.list.items bytes old.candidates.list.items cs p))
 
 -- the same where something was read
 pub candidates-read : (old new : Direct) (bytes : List ℕ) (cs : List values.Candidate) → Reads old new bytes
-    → AreCandidates old.text.bytes.items old.candidates.items cs → AreCandidates new.text.bytes.items new.candidates.items cs
+    → AreCandidates old.text.list.items old.candidates.list.items cs → AreCandidates new.text.list.items new.candidates.list.items cs
 candidates-read old new bytes cs reads p =
-    subst (λ l. AreCandidates l new.candidates.items cs) (sym reads.text)
-    (subst (λ v. AreCandidates (old.text.bytes.items ++ bytes) v.items cs) (sym reads.candidates)
-    (candidates-stay old.text.bytes.items bytes old.candidates.items cs p))
+    subst (λ l. AreCandidates l new.candidates.list.items cs) (sym reads.text)
+    (subst (λ v. AreCandidates (old.text.list.items ++ bytes) v.list.items cs) (sym reads.candidates)
+    (candidates-stay old.text.list.items bytes old.candidates.list.items cs p))
 
 -- what a substitution names
 pub candidate-found : (text : List ℕ) (ks : List Candidate) (cs : List values.Candidate) (n : ℕ) (k : Candidate)
@@ -165,7 +165,7 @@ template-stays _ front t name text more p = p
 
 -- arguments begin
 pub arguments-begun : (s : List ℕ) (w : Direct) (st : State) (owner : Open) (rest : List Open) (front name : List ℕ) (t : Term)
-    → reverse w.waiting.items ≡ owner ∷ rest → IsTemplate owner front t name w.text.bytes.items → w.text.bytes.items ≡ front ++ name ++ codes "<"
+    → reverse w.waiting.list.items ≡ owner ∷ rest → IsTemplate owner front t name w.text.list.items → w.text.list.items ≡ front ++ name ++ codes "<"
     → ArgumentsGoOn s owner (Stands s rest) front t [] w.at st → IsBefore s w st (steps.List true)
 arguments-begun s w st owner rest front name t open_is is_template written goes = (
   record {

@@ -119,7 +119,7 @@ in-front (t ∷ ts) l false none some = refl
 -- The arguments of what was opened last are read and written.
 pub record IsClosed (s : List ℕ) (w : Direct) (owner : Open) : Type 0 where
   pub state : State
-  pub candidates : AreCandidates w.text.bytes.items w.candidates.items state.candidates
+  pub candidates : AreCandidates w.text.list.items w.candidates.list.items state.candidates
   pub front : List ℕ
   pub template : Term
   pub name : List ℕ
@@ -127,10 +127,10 @@ pub record IsClosed (s : List ℕ) (w : Direct) (owner : Open) : Type 0 where
   pub tail : Term
   pub is_tail : IsTail tail
   pub arguments : List ℕ
-  pub is_template : IsTemplate owner front template name w.text.bytes.items
+  pub is_template : IsTemplate owner front template name w.text.list.items
   pub elements : PrintAll 3 ts arguments
-  pub written : w.text.bytes.items ≡ front ++ (name ++ codes "<" ++ arguments ++ codes ">")
-  pub owns : Owns s owner (Stands s (reverse w.waiting.items)) front (instance template (list_with ts tail)) w.at state
+  pub written : w.text.list.items ≡ front ++ (name ++ codes "<" ++ arguments ++ codes ">")
+  pub owns : Owns s owner (Stands s (reverse w.waiting.list.items)) front (instance template (list_with ts tail)) w.at state
 
 closing : (a b d : List ℕ) → (a ++ b ++ codes "<" ++ d) ++ codes ">" ≡ a ++ (b ++ codes "<" ++ d ++ codes ">")
 closing a b d =
@@ -138,16 +138,16 @@ closing a b d =
     ∙ append_assoc a (b ++ codes "<" ++ d) (codes ">")
 
 -- the last bracket is written, and what was opened last is taken away
-pub closes : (s : List ℕ) (old new : Direct) (owner : Open) → IsListEnded s old → new.text.bytes.items ≡ old.text.bytes.items ++ codes ">"
-    → new.candidates.items ≡ old.candidates.items → new.at ≡ old.at → old.waiting.items ≡ new.waiting.items ++ owner ∷ [] → IsClosed s new owner
+pub closes : (s : List ℕ) (old new : Direct) (owner : Open) → IsListEnded s old → new.text.list.items ≡ old.text.list.items ++ codes ">"
+    → new.candidates.list.items ≡ old.candidates.list.items → new.at ≡ old.at → old.waiting.list.items ≡ new.waiting.list.items ++ owner ∷ [] → IsClosed s new owner
 closes s old new owner p text candidates at opened =
-    let last = opened-last old.waiting.items new.waiting.items owner p.owner p.rest p.open_is opened in
+    let last = opened-last old.waiting.list.items new.waiting.list.items owner p.owner p.rest p.open_is opened in
     let made = instance p.template (list_with p.ts p.tail) in
     record {
       state = p.state;
-      candidates = subst (λ l. AreCandidates l new.candidates.items p.state.candidates) (sym text)
-          (subst (λ ks. AreCandidates (old.text.bytes.items ++ codes ">") ks p.state.candidates) (sym candidates)
-          (candidates-stay old.text.bytes.items (codes ">") old.candidates.items p.state.candidates p.candidates));
+      candidates = subst (λ l. AreCandidates l new.candidates.list.items p.state.candidates) (sym text)
+          (subst (λ ks. AreCandidates (old.text.list.items ++ codes ">") ks p.state.candidates) (sym candidates)
+          (candidates-stay old.text.list.items (codes ">") old.candidates.list.items p.state.candidates p.candidates));
       front = p.front;
       template = p.template;
       name = p.name;
@@ -156,27 +156,27 @@ closes s old new owner p text candidates at opened =
       is_tail = p.is_tail;
       arguments = p.arguments;
       is_template = subst (λ l. IsTemplate owner p.front p.template p.name l) (sym text)
-          (subst (λ o. IsTemplate o p.front p.template p.name (old.text.bytes.items ++ codes ">")) last.0
-          (template-stays p.owner p.front p.template p.name old.text.bytes.items (codes ">") p.is_template));
+          (subst (λ o. IsTemplate o p.front p.template p.name (old.text.list.items ++ codes ">")) last.0
+          (template-stays p.owner p.front p.template p.name old.text.list.items (codes ">") p.is_template));
       elements = p.elements;
       written = text ∙ ap (λ l. l ++ codes ">") p.written ∙ closing p.front p.name p.arguments;
-      owns = subst (λ n. Owns s owner (Stands s (reverse new.waiting.items)) p.front made n p.state) (sym at)
+      owns = subst (λ n. Owns s owner (Stands s (reverse new.waiting.list.items)) p.front made n p.state) (sym at)
           (subst (λ r. Owns s owner (Stands s r) p.front made old.at p.state) last.1
           (subst (λ o. Owns s o (Stands s p.rest) p.front made old.at p.state) last.0 p.owns));
     }
 
 -- the same by what was written and taken away
 pub closed-by : (s : List ℕ) (old mid new : Direct) (x owner : Open) → IsListEnded s old → Writes old mid (codes ">")
-    → new.text ≡ mid.text → new.candidates ≡ mid.candidates → new.at ≡ mid.at → mid.waiting.items ≡ new.waiting.items ++ x ∷ [] → x ≡ owner
+    → new.text ≡ mid.text → new.candidates ≡ mid.candidates → new.at ≡ mid.at → mid.waiting.list.items ≡ new.waiting.list.items ++ x ∷ [] → x ≡ owner
     → IsClosed s new owner
 closed-by s old mid new x owner p writes text candidates at items is =
-    closes s old new owner p (subst (λ v. v.bytes.items ≡ old.text.bytes.items ++ codes ">") (sym text) writes.text)
-    (subst (λ v. v.items ≡ old.candidates.items) (sym (candidates ∙ writes.candidates)) refl) (at ∙ writes.at)
-    (subst (λ v. v.items ≡ new.waiting.items ++ owner ∷ []) writes.waiting (items ∙ ap (λ o. new.waiting.items ++ o ∷ []) is))
+    closes s old new owner p (subst (λ v. v.list.items ≡ old.text.list.items ++ codes ">") (sym text) writes.text)
+    (subst (λ v. v.list.items ≡ old.candidates.list.items) (sym (candidates ∙ writes.candidates)) refl) (at ∙ writes.at)
+    (subst (λ v. v.list.items ≡ new.waiting.list.items ++ owner ∷ []) writes.waiting (items ∙ ap (λ o. new.waiting.list.items ++ o ∷ []) is))
 
 -- the arguments of a type
 pub type-closed : (s : List ℕ) (w new : Direct) (from : ℕ) → IsClosed s w (opens.TypeArguments from)
-    → new.candidates.items ≡ added w from false → new.text ≡ w.text → new.waiting ≡ w.waiting → new.at ≡ w.at → IsWriting s new (steps.Value false)
+    → new.candidates.list.items ≡ added w from false → new.text ≡ w.text → new.waiting ≡ w.waiting → new.at ≡ w.at → IsWriting s new (steps.Value false)
 type-closed s w new from p candidates text waiting at =
     let t = instance p.template (list_with p.ts p.tail) in
     let bytes = p.name ++ codes "<" ++ p.arguments ++ codes ">" in
@@ -185,18 +185,18 @@ type-closed s w new from p candidates text waiting at =
     let prints = instance-prints p.template p.name p.is_template.1 p.ts p.tail p.arguments p.is_tail p.elements in
     record {
       state = state;
-      candidates = subst (λ v. AreCandidates v.bytes.items new.candidates.items state.candidates) (sym text)
-          (subst (λ ks. AreCandidates w.text.bytes.items ks state.candidates) (sym candidates)
+      candidates = subst (λ v. AreCandidates v.list.items new.candidates.list.items state.candidates) (sym text)
+          (subst (λ ks. AreCandidates w.text.list.items ks state.candidates) (sym candidates)
           (candidates-with w p.state p.front bytes from t p.owns.1 false p.candidates p.written p.is_template.0 prints));
       is_before = (
         outer,
         t,
         p.front,
         bytes,
-        subst (λ v. v.bytes.items ≡ p.front ++ bytes) (sym text) p.written,
+        subst (λ v. v.list.items ≡ p.front ++ bytes) (sym text) p.written,
         prints,
         subst (λ n. Comes s outer (tree t true) n state) (sym at) p.owns.2,
-        subst (λ v. Stands s (reverse v.items) outer p.front) (sym waiting) p.owns.3,
+        subst (λ v. Stands s (reverse v.list.items) outer p.front) (sym waiting) p.owns.3,
       );
     }
 
@@ -238,7 +238,7 @@ nest-closed s w nest p =
           outer = p.owns.1;
           bytes = p.name ++ codes "<" ++ p.arguments ++ codes ">";
           written = p.written;
-          is_nest = instance-nest p.front p.name w.text.bytes.items nest false nest.has_class p.template p.ts p.tail p.arguments p.is_tail p.is_template.0
+          is_nest = instance-nest p.front p.name w.text.list.items nest false nest.has_class p.template p.ts p.tail p.arguments p.is_tail p.is_template.0
               p.elements p.written;
           goes = p.owns.2;
           serves = p.owns.3;
@@ -249,7 +249,7 @@ nest-closed s w nest p =
 
 -- the arguments of the first piece of a nested name
 pub first-closed : (s : List ℕ) (w new : Direct) (nest : Nest) → IsClosed s w (opens.FirstArguments nest)
-    → new.candidates.items ≡ added w nest.from false → new.text ≡ w.text → new.waiting ≡ w.waiting → new.at ≡ w.at
+    → new.candidates.list.items ≡ added w nest.from false → new.text ≡ w.text → new.waiting ≡ w.waiting → new.at ≡ w.at
     → IsWriting s (record new { nest = nest }) steps.Component
 first-closed s w new nest p candidates text waiting at =
     let t = instance p.template (list_with p.ts p.tail) in
@@ -257,13 +257,13 @@ first-closed s w new nest p candidates text waiting at =
     let around = p.owns.0 in
     let outer = p.owns.1 in
     let state = with_candidate around.encoding t p.state in
-    let is_nest : IsNest p.front bytes w.text.bytes.items nest t
-    = instance-nest p.front p.name w.text.bytes.items nest nest.is_listed nest.is_instance p.template p.ts p.tail p.arguments p.is_tail p.is_template
+    let is_nest : IsNest p.front bytes w.text.list.items nest t
+    = instance-nest p.front p.name w.text.list.items nest nest.is_listed nest.is_instance p.template p.ts p.tail p.arguments p.is_tail p.is_template
     p.elements p.written in
     record {
       state = state;
-      candidates = subst (λ v. AreCandidates v.bytes.items new.candidates.items state.candidates) (sym text)
-          (subst (λ ks. AreCandidates w.text.bytes.items ks state.candidates) (sym candidates)
+      candidates = subst (λ v. AreCandidates v.list.items new.candidates.list.items state.candidates) (sym text)
+          (subst (λ ks. AreCandidates w.text.list.items ks state.candidates) (sym candidates)
           (candidates-with w p.state p.front bytes nest.from t around.encoding false p.candidates p.written p.is_template.from_is is_nest.prints));
       is_before = (
         t,
@@ -271,10 +271,10 @@ first-closed s w new nest p candidates text waiting at =
         bytes,
         around,
         outer,
-        subst (λ v. v.bytes.items ≡ p.front ++ bytes) (sym text) p.written,
-        subst (λ v. IsNest p.front bytes v.bytes.items nest t) (sym text) is_nest,
+        subst (λ v. v.list.items ≡ p.front ++ bytes) (sym text) p.written,
+        subst (λ v. IsNest p.front bytes v.list.items nest t) (sym text) is_nest,
         subst (λ n. AwaitsComponent s outer around t n state) (sym at) p.owns.2,
-        subst (λ v. Serves s nest.purpose (Stands s (reverse v.items)) outer p.front) (sym waiting) p.owns.3,
+        subst (λ v. Serves s nest.purpose (Stands s (reverse v.list.items)) outer p.front) (sym waiting) p.owns.3,
       );
     }
 
@@ -304,21 +304,21 @@ name-closed s w p =
 
 -- an E ends the arguments
 pub list-ends : (s : List ℕ) (w : Direct) (first : Bool) (owner : Open) → IsWriting s w (steps.List first) → StandsAt s w.at (69 ∷ [])
-    → slice_get w.waiting.items (length w.waiting.items - 1) ≡ Some owner → (owner ≡ opens.Pack → ⊥)
+    → slice_get w.waiting.list.items (length w.waiting.list.items - 1) ≡ Some owner → (owner ≡ opens.Pack → ⊥)
     → IsListEnded s (record w { at = w.at + 1 })
 unfolding no_items may_be_empty
 list-ends s w first owner p stands found other = go p.is_before.0.listing refl
   where
-    place : IsListing (reverse w.waiting.items) w.text.bytes.items
+    place : IsListing (reverse w.waiting.list.items) w.text.list.items
     place = p.is_before.0
 
-    last : (rest : List Open) × (reverse w.waiting.items ≡ owner ∷ rest)
-    last = last-found w.waiting.items owner found
+    last : (rest : List Open) × (reverse w.waiting.list.items ≡ owner ∷ rest)
+    last = last-found w.waiting.list.items owner found
 
     go : (l : Listing) → p.is_before.0.listing ≡ l → IsListEnded s (record w { at = w.at + 1 })
-    go (of_pack before written) is = absurd (packed (subst (λ l. Belongs l (reverse w.waiting.items) p.is_before.0.owner p.is_before.0.rest) is p.is_before.0.belongs).0)
+    go (of_pack before written) is = absurd (packed (subst (λ l. Belongs l (reverse w.waiting.list.items) p.is_before.0.owner p.is_before.0.rest) is p.is_before.0.belongs).0)
       where
-        packed : reverse w.waiting.items ≡ opens.Pack ∷ p.is_before.0.owner ∷ p.is_before.0.rest → ⊥
+        packed : reverse w.waiting.list.items ≡ opens.Pack ∷ p.is_before.0.owner ∷ p.is_before.0.rest → ⊥
         packed e = other (cc (sym last.1 ∙ e))
     go of_template is =
         let place = p.is_before.0 in
@@ -330,7 +330,7 @@ list-ends s w first owner p stands found other = go p.is_before.0.listing refl
           candidates = p.candidates;
           owner = place.owner;
           rest = place.rest;
-          open_is = subst (λ l. Belongs l (reverse w.waiting.items) place.owner place.rest) is place.belongs;
+          open_is = subst (λ l. Belongs l (reverse w.waiting.list.items) place.owner place.rest) is place.belongs;
           front = place.front;
           template = place.template;
           name = place.name;
@@ -340,25 +340,25 @@ list-ends s w first owner p stands found other = go p.is_before.0.listing refl
           arguments = texts;
           is_template = place.is_template;
           elements = subst (λ l. PrintAll (extra_of l) ts texts) is p.is_before.3;
-          written = subst (λ l. w.text.bytes.items ≡ led_by l place.front place.name ++ texts) is p.is_before.4;
+          written = subst (λ l. w.text.list.items ≡ led_by l place.front place.name ++ texts) is p.is_before.4;
           owns = goes.4 nothing_there w.at p.state (expects-empty s Kind.ArgumentList goes.0 goes.1 w.at p.state goes.3 refl) stands;
         }
 
 -- a pack of nothing and an E end them too
 pub empty-pack-ends : (s : List ℕ) (w : Direct) (first : Bool) (owner : Open) → IsWriting s w (steps.List first)
     → StandsAt s w.at (74 ∷ 69 ∷ 69 ∷ [])
-    → slice_get w.waiting.items (length w.waiting.items - 1) ≡ Some owner → (owner ≡ opens.Pack → ⊥)
+    → slice_get w.waiting.list.items (length w.waiting.list.items - 1) ≡ Some owner → (owner ≡ opens.Pack → ⊥)
     → IsListEnded s (record w { at = w.at + 3 })
 unfolding no_items may_be_empty tree_of
 empty-pack-ends s w first owner p stands found other = go p.is_before.0.listing refl
   where
-    last : (rest : List Open) × (reverse w.waiting.items ≡ owner ∷ rest)
-    last = last-found w.waiting.items owner found
+    last : (rest : List Open) × (reverse w.waiting.list.items ≡ owner ∷ rest)
+    last = last-found w.waiting.list.items owner found
 
     go : (l : Listing) → p.is_before.0.listing ≡ l → IsListEnded s (record w { at = w.at + 3 })
     go (of_pack before written) is =
         absurd (other (cc (sym last.1
-        ∙ (subst (λ l. Belongs l (reverse w.waiting.items) p.is_before.0.owner p.is_before.0.rest) is p.is_before.0.belongs).0)))
+        ∙ (subst (λ l. Belongs l (reverse w.waiting.list.items) p.is_before.0.owner p.is_before.0.rest) is p.is_before.0.belongs).0)))
     go of_template is =
         let place = p.is_before.0 in
         let ts = p.is_before.1 in
@@ -376,7 +376,7 @@ empty-pack-ends s w first owner p stands found other = go p.is_before.0.listing 
           candidates = p.candidates;
           owner = place.owner;
           rest = place.rest;
-          open_is = subst (λ l. Belongs l (reverse w.waiting.items) place.owner place.rest) is place.belongs;
+          open_is = subst (λ l. Belongs l (reverse w.waiting.list.items) place.owner place.rest) is place.belongs;
           front = place.front;
           template = place.template;
           name = place.name;
@@ -386,7 +386,7 @@ empty-pack-ends s w first owner p stands found other = go p.is_before.0.listing 
           arguments = texts;
           is_template = place.is_template;
           elements = subst (λ l. PrintAll (extra_of l) ts texts) is p.is_before.3;
-          written = subst (λ l. w.text.bytes.items ≡ led_by l place.front place.name ++ texts) is p.is_before.4;
+          written = subst (λ l. w.text.list.items ≡ led_by l place.front place.name ++ texts) is p.is_before.4;
           owns = subst (λ k. Owns s place.owner (Stands s place.rest) place.front (instance place.template (list_with ts (list (pack nil) nil))) k p.state)
               (omega arith)
               (subst (λ l. Owns s place.owner (Stands s place.rest) place.front (instance place.template l) (w.at + 1 + 1 + 1) p.state)
@@ -397,36 +397,36 @@ empty-pack-ends s w first owner p stands found other = go p.is_before.0.listing 
 
 -- an E ends a pack, which is an argument
 pub pack-ends : (s : List ℕ) (w new : Direct) → IsWriting s w (steps.List false) → StandsAt s w.at (69 ∷ [])
-    → slice_get w.waiting.items (length w.waiting.items - 1) ≡ Some opens.Pack
+    → slice_get w.waiting.list.items (length w.waiting.list.items - 1) ≡ Some opens.Pack
     → new.text ≡ w.text → new.candidates ≡ w.candidates → new.at ≡ w.at + 1
-    → ((opened : List Open) → reverse w.waiting.items ≡ opens.Pack ∷ opened → reverse new.waiting.items ≡ opened)
+    → ((opened : List Open) → reverse w.waiting.list.items ≡ opens.Pack ∷ opened → reverse new.waiting.list.items ≡ opened)
     → IsWriting s new (steps.List false)
 unfolding no_items may_be_empty
 pack-ends s w new p stands found text candidates at popped = go p.is_before.0.listing refl
   where
-    last : (rest : List Open) × (reverse w.waiting.items ≡ opens.Pack ∷ rest)
-    last = last-found w.waiting.items opens.Pack found
+    last : (rest : List Open) × (reverse w.waiting.list.items ≡ opens.Pack ∷ rest)
+    last = last-found w.waiting.list.items opens.Pack found
 
     go : (l : Listing) → p.is_before.0.listing ≡ l → IsWriting s new (steps.List false)
     go of_template is = absurd (no-template p.is_before.0.owner p.is_before.0.is_template
-        (cc (sym last.1 ∙ subst (λ l. Belongs l (reverse w.waiting.items) p.is_before.0.owner p.is_before.0.rest) is p.is_before.0.belongs)))
+        (cc (sym last.1 ∙ subst (λ l. Belongs l (reverse w.waiting.list.items) p.is_before.0.owner p.is_before.0.rest) is p.is_before.0.belongs)))
       where
-        no-template : (o : Open) → IsTemplate o p.is_before.0.front p.is_before.0.template p.is_before.0.name w.text.bytes.items → opens.Pack ≡ o → ⊥
-        no-template o t e = subst (λ x. IsTemplate x p.is_before.0.front p.is_before.0.template p.is_before.0.name w.text.bytes.items) (sym e) t
+        no-template : (o : Open) → IsTemplate o p.is_before.0.front p.is_before.0.template p.is_before.0.name w.text.list.items → opens.Pack ≡ o → ⊥
+        no-template o t e = subst (λ x. IsTemplate x p.is_before.0.front p.is_before.0.template p.is_before.0.name w.text.list.items) (sym e) t
     go (of_pack before written) is =
         let place = p.is_before.0 in
         let us = p.is_before.1 in
         let texts = p.is_before.2 in
-        let belongs = subst (λ l. Belongs l (reverse w.waiting.items) place.owner place.rest) is place.belongs in
+        let belongs = subst (λ l. Belongs l (reverse w.waiting.list.items) place.owner place.rest) is place.belongs in
         let goes = subst (λ l. GoesOn s l place.owner (Stands s place.rest) place.front place.template us w.at p.state) is p.is_before.7 in
         let us_print = subst (λ l. PrintAll (extra_of l) us texts) is p.is_before.3 in
-        let us_written = subst (λ l. w.text.bytes.items ≡ led_by l place.front place.name ++ texts) is p.is_before.4 in
+        let us_written = subst (λ l. w.text.list.items ≡ led_by l place.front place.name ++ texts) is p.is_before.4 in
         let made = pack (list_of us) in
-        let same : new.text.bytes.items ≡ w.text.bytes.items = ap (λ v. v.bytes.items) text in
+        let same : new.text.list.items ≡ w.text.list.items = ap (λ v. v.list.items) text in
         record {
           state = p.state;
-          candidates = subst (λ v. AreCandidates new.text.bytes.items v.items p.state.candidates) (sym candidates)
-              (subst (λ v. AreCandidates v.bytes.items w.candidates.items p.state.candidates) (sym text) p.candidates);
+          candidates = subst (λ v. AreCandidates new.text.list.items v.list.items p.state.candidates) (sym candidates)
+              (subst (λ v. AreCandidates v.list.items w.candidates.list.items p.state.candidates) (sym text) p.candidates);
           is_before = (
             record {
               listing = of_template;
@@ -436,7 +436,7 @@ pack-ends s w new p stands found text candidates at popped = go p.is_before.0.li
               front = place.front;
               template = place.template;
               name = place.name;
-              is_template = subst (λ v. IsTemplate place.owner place.front place.template place.name v.bytes.items) (sym text) place.is_template;
+              is_template = subst (λ v. IsTemplate place.owner place.front place.template place.name v.list.items) (sym text) place.is_template;
             },
             before ++ made ∷ [],
             in_front_of_next before written ++ texts,
@@ -453,7 +453,7 @@ pack-ends s w new p stands found text candidates at popped = go p.is_before.0.li
 
 -- one more element is expected, and a comma stands before it but at the first
 pub argument-expected : (s : List ℕ) (w new : Direct) (first : Bool) → IsWriting s w (steps.List first)
-    → new.text.bytes.items ≡ w.text.bytes.items ++ comma first → new.candidates.items ≡ w.candidates.items → new.waiting ≡ w.waiting → new.at ≡ w.at
+    → new.text.list.items ≡ w.text.list.items ++ comma first → new.candidates.list.items ≡ w.candidates.list.items → new.waiting ≡ w.waiting → new.at ≡ w.at
     → AwaitsNextArgument s new
 argument-expected s w new first p text candidates waiting at =
     let place = p.is_before.0 in
@@ -462,13 +462,13 @@ argument-expected s w new first p text candidates waiting at =
     let led = led_by place.listing place.front place.name in
     record {
       state = p.state;
-      candidates = subst (λ l. AreCandidates l new.candidates.items p.state.candidates) (sym text)
-          (subst (λ ks. AreCandidates (w.text.bytes.items ++ comma first) ks p.state.candidates) (sym candidates)
-          (candidates-stay w.text.bytes.items (comma first) w.candidates.items p.state.candidates p.candidates));
-      place = listing-at (reverse w.waiting.items) w.text.bytes.items (reverse new.waiting.items) new.text.bytes.items place
-          (subst (λ v. Belongs place.listing (reverse v.items) place.owner place.rest) (sym waiting) place.belongs)
+      candidates = subst (λ l. AreCandidates l new.candidates.list.items p.state.candidates) (sym text)
+          (subst (λ ks. AreCandidates (w.text.list.items ++ comma first) ks p.state.candidates) (sym candidates)
+          (candidates-stay w.text.list.items (comma first) w.candidates.list.items p.state.candidates p.candidates));
+      place = listing-at (reverse w.waiting.list.items) w.text.list.items (reverse new.waiting.list.items) new.text.list.items place
+          (subst (λ v. Belongs place.listing (reverse v.list.items) place.owner place.rest) (sym waiting) place.belongs)
           (subst (λ l. IsTemplate place.owner place.front place.template place.name l) (sym text)
-          (template-stays place.owner place.front place.template place.name w.text.bytes.items (comma first) place.is_template));
+          (template-stays place.owner place.front place.template place.name w.text.list.items (comma first) place.is_template));
       ts = ts;
       texts = texts;
       elements = p.is_before.3;
@@ -483,57 +483,57 @@ pub another-expected : (s : List ℕ) (w new self : Direct) (first : Bool) → I
 another-expected s w new self first p is writes same =
     subst (λ d. AwaitsNextArgument s d) (sym same)
     (argument-expected s w new false (subst (λ f. IsWriting s w (steps.List f)) is p) writes.text
-    (subst (λ v. v.items ≡ w.candidates.items) (sym writes.candidates) refl) writes.waiting writes.at)
+    (subst (λ v. v.list.items ≡ w.candidates.list.items) (sym writes.candidates) refl) writes.waiting writes.at)
 
 -- none is written at the first
 pub first-expected : (s : List ℕ) (w self : Direct) (first : Bool) → IsWriting s w (steps.List first) → first ≡ true
     → self ≡ w → AwaitsNextArgument s self
 first-expected s w self first p is same =
     subst (λ d. AwaitsNextArgument s d) (sym same)
-    (argument-expected s w w true (subst (λ f. IsWriting s w (steps.List f)) is p) (sym (append-nil w.text.bytes.items)) refl refl refl)
+    (argument-expected s w w true (subst (λ f. IsWriting s w (steps.List f)) is p) (sym (append-nil w.text.list.items)) refl refl refl)
 
 -- a pack begins
 pub pack-begins : (s : List ℕ) (old new : Direct) (owner : Open) → AwaitsNextArgument s old → StandsAt s old.at (74 ∷ [])
-    → slice_get old.waiting.items (length old.waiting.items - 1) ≡ Some owner → (owner ≡ opens.Pack → ⊥)
-    → new.waiting.items ≡ old.waiting.items ++ opens.Pack ∷ [] → new.at ≡ old.at + 1 → new.text ≡ old.text → new.candidates ≡ old.candidates
+    → slice_get old.waiting.list.items (length old.waiting.list.items - 1) ≡ Some owner → (owner ≡ opens.Pack → ⊥)
+    → new.waiting.list.items ≡ old.waiting.list.items ++ opens.Pack ∷ [] → new.at ≡ old.at + 1 → new.text ≡ old.text → new.candidates ≡ old.candidates
     → IsWriting s new (steps.List true)
 pack-begins s old new owner a stands found other waits at text candidates = go a.place.listing refl
   where
-    last : (rest : List Open) × (reverse old.waiting.items ≡ owner ∷ rest)
-    last = last-found old.waiting.items owner found
+    last : (rest : List Open) × (reverse old.waiting.list.items ≡ owner ∷ rest)
+    last = last-found old.waiting.list.items owner found
 
     go : (l : Listing) → a.place.listing ≡ l → IsWriting s new (steps.List true)
     go (of_pack before written) is =
-        absurd (other (cc (sym last.1 ∙ (subst (λ l. Belongs l (reverse old.waiting.items) a.place.owner a.place.rest) is a.place.belongs).0)))
+        absurd (other (cc (sym last.1 ∙ (subst (λ l. Belongs l (reverse old.waiting.list.items) a.place.owner a.place.rest) is a.place.belongs).0)))
     go of_template is =
         let p = a.place in
         let goes = subst (λ l. GoesOn s l p.owner (Stands s p.rest) p.front p.template a.ts old.at a.state) is a.goes in
         let opened = pack-opens s goes.1 goes.0 old.at a.state goes.3 stands in
-        let belongs = subst (λ l. Belongs l (reverse old.waiting.items) p.owner p.rest) is p.belongs in
+        let belongs = subst (λ l. Belongs l (reverse old.waiting.list.items) p.owner p.rest) is p.belongs in
         let elements = subst (λ l. PrintAll (extra_of l) a.ts a.texts) is a.elements in
-        let written = subst (λ l. old.text.bytes.items ≡ led_by l p.front p.name ++ in_front_of_next a.ts a.texts) is a.written in
+        let written = subst (λ l. old.text.list.items ≡ led_by l p.front p.name ++ in_front_of_next a.ts a.texts) is a.written in
         record {
           state = a.state;
-          candidates = subst (λ v. AreCandidates new.text.bytes.items v.items a.state.candidates) (sym candidates)
-              (subst (λ v. AreCandidates v.bytes.items old.candidates.items a.state.candidates) (sym text) a.candidates);
+          candidates = subst (λ v. AreCandidates new.text.list.items v.list.items a.state.candidates) (sym candidates)
+              (subst (λ v. AreCandidates v.list.items old.candidates.list.items a.state.candidates) (sym text) a.candidates);
           is_before = (
             record {
               listing = of_pack a.ts a.texts;
               owner = p.owner;
               rest = p.rest;
               belongs = (
-                ap reverse waits ∙ reverse-last old.waiting.items opens.Pack ∙ ap (λ ws. opens.Pack ∷ ws) belongs,
+                ap reverse waits ∙ reverse-last old.waiting.list.items opens.Pack ∙ ap (λ ws. opens.Pack ∷ ws) belongs,
                 elements,
               );
               front = p.front;
               template = p.template;
               name = p.name;
-              is_template = subst (λ v. IsTemplate p.owner p.front p.template p.name v.bytes.items) (sym text) p.is_template;
+              is_template = subst (λ v. IsTemplate p.owner p.front p.template p.name v.list.items) (sym text) p.is_template;
             },
             [],
             [],
             none-print 0,
-            ap (λ v. v.bytes.items) text ∙ written ∙ sym (append-nil (p.front ++ p.name ++ codes "<" ++ in_front_of_next a.ts a.texts)),
+            ap (λ v. v.list.items) text ∙ written ∙ sym (append-nil (p.front ++ p.name ++ codes "<" ++ in_front_of_next a.ts a.texts)),
             (λ e. refl),
             (λ e. absurd (false≢true (sym e))),
             (
@@ -686,7 +686,7 @@ type-expected s w a =
         a.goes.0,
         a.goes.2,
         inr (inl element.awaits),
-        list-stands s (reverse w.waiting.items) element.inner w.text.bytes.items (record {
+        list-stands s (reverse w.waiting.list.items) element.inner w.text.list.items (record {
           place = p;
           ts = a.ts;
           texts = a.texts;

@@ -33,17 +33,17 @@ piece-keeps text front bytes back more e = ap (λ l. l ++ more) e ∙ append_ass
 
 -- This was written behind what was, and the nested name begins and serves as before.
 pub record Goes (old new : Direct) (bytes : List ℕ) : Type 0 where
-  pub text : new.text.bytes.items ≡ old.text.bytes.items ++ bytes
-  pub candidates : new.candidates.items ≡ old.candidates.items
-  pub waiting : new.waiting.items ≡ old.waiting.items
+  pub text : new.text.list.items ≡ old.text.list.items ++ bytes
+  pub candidates : new.candidates.list.items ≡ old.candidates.list.items
+  pub waiting : new.waiting.list.items ≡ old.waiting.list.items
   pub from : new.nest.from ≡ old.nest.from
   pub purpose : new.nest.purpose ≡ old.nest.purpose
 
 -- the place is another one, and nothing else
 pub record Moves (old new : Direct) (by : ℕ) : Type 0 where
-  pub text : new.text.bytes.items ≡ old.text.bytes.items
-  pub candidates : new.candidates.items ≡ old.candidates.items
-  pub waiting : new.waiting.items ≡ old.waiting.items
+  pub text : new.text.list.items ≡ old.text.list.items
+  pub candidates : new.candidates.list.items ≡ old.candidates.list.items
+  pub waiting : new.waiting.list.items ≡ old.waiting.list.items
   pub nest : new.nest ≡ old.nest
   pub at : new.at ≡ old.at + by
 
@@ -58,25 +58,25 @@ goes-marked old between new by bytes m w = record {
 }
 
 candidates-go : (old new : Direct) (bytes : List ℕ) (cs : List values.Candidate) → Goes old new bytes
-    → AreCandidates old.text.bytes.items old.candidates.items cs → AreCandidates new.text.bytes.items new.candidates.items cs
+    → AreCandidates old.text.list.items old.candidates.list.items cs → AreCandidates new.text.list.items new.candidates.list.items cs
 candidates-go old new bytes cs g p =
-    subst (λ l. AreCandidates l new.candidates.items cs) (sym g.text)
-    (subst (λ ks. AreCandidates (old.text.bytes.items ++ bytes) ks cs) (sym g.candidates) (candidates-stay old.text.bytes.items bytes old.candidates.items cs p))
+    subst (λ l. AreCandidates l new.candidates.list.items cs) (sym g.text)
+    (subst (λ ks. AreCandidates (old.text.list.items ++ bytes) ks cs) (sym g.candidates) (candidates-stay old.text.list.items bytes old.candidates.list.items cs p))
 
 serves-go : (s : List ℕ) (old new : Direct) (bytes : List ℕ) (outer : List Opened) (front : List ℕ) → Goes old new bytes
-    → Serves s old.nest.purpose (Stands s (reverse old.waiting.items)) outer front
-    → Serves s new.nest.purpose (Stands s (reverse new.waiting.items)) outer front
+    → Serves s old.nest.purpose (Stands s (reverse old.waiting.list.items)) outer front
+    → Serves s new.nest.purpose (Stands s (reverse new.waiting.list.items)) outer front
 serves-go s old new bytes outer front g p =
     subst (λ (o : List Open). Serves s new.nest.purpose (Stands s (reverse o)) outer front) (sym g.waiting)
-    (subst (λ (u : Purpose). Serves s u (Stands s (reverse old.waiting.items)) outer front) (sym g.purpose) p)
+    (subst (λ (u : Purpose). Serves s u (Stands s (reverse old.waiting.list.items)) outer front) (sym g.purpose) p)
 
 -- ## The name of a class once more
 
 -- a constructor or a destructor stands behind a name, and was written but for the name of its class
 class-awaits : (s : List ℕ) (old new : Direct) (st : State) (t own : Term) (front bytes mark : List ℕ) (around : Around) (outer : List Opened)
-    → AreCandidates old.text.bytes.items old.candidates.items st.candidates → old.text.bytes.items ≡ front ++ bytes
-    → (is : IsNest front bytes old.text.bytes.items old.nest t)
-    → Serves s old.nest.purpose (Stands s (reverse old.waiting.items)) outer front
+    → AreCandidates old.text.list.items old.candidates.list.items st.candidates → old.text.list.items ≡ front ++ bytes
+    → (is : IsNest front bytes old.text.list.items old.nest t)
+    → Serves s old.nest.purpose (Stands s (reverse old.waiting.list.items)) outer front
     → Goes old new mark → new.nest ≡ old.nest → NestNamed s outer around own new.at st
     → Prints own (bytes ++ mark ++ is.class) false → has_return_type own ≡ false → is_structor own ≡ true → AwaitsClass s new
 class-awaits s old new st t own front bytes mark around outer candidates written is serves g same named prints no_return structor = record {
@@ -93,7 +93,7 @@ class-awaits s old new st t own front bytes mark around outer candidates written
   class_front = is.class_front;
   class = is.class;
   class_back = is.class_back ++ mark;
-  class_written = g.text ∙ piece-keeps old.text.bytes.items is.class_front is.class is.class_back mark is.class_written;
+  class_written = g.text ∙ piece-keeps old.text.list.items is.class_front is.class is.class_back mark is.class_written;
   class_from = rw same is.class_from;
   class_to = rw same is.class_to;
   prints = prints;
@@ -143,7 +143,7 @@ named-again : (s : List ℕ) (old new : Direct) (p : AwaitsClass s old) → Goes
     → new.nest.class_from ≡ old.nest.class_from → new.nest.class_to ≡ old.nest.class_to → new.nest.is_listed ≡ false
     → new.nest.has_class ≡ false → new.nest.is_instance ≡ false → IsNestNamed s new
 named-again s old new p g at from to unlisted classless no_instance =
-    let written : new.text.bytes.items ≡ p.front ++ (p.bytes ++ p.class)
+    let written : new.text.list.items ≡ p.front ++ (p.bytes ++ p.class)
     = g.text ∙ ap (λ l. l ++ p.class) p.written ∙ append_assoc p.front p.bytes p.class in
     record {
       state = p.state;
@@ -163,7 +163,7 @@ named-again s old new p g at from to unlisted classless no_instance =
         class_front = p.class_front;
         class = p.class;
         class_back = p.class_back ++ p.class;
-        class_written = g.text ∙ piece-keeps old.text.bytes.items p.class_front p.class p.class_back p.class p.class_written;
+        class_written = g.text ∙ piece-keeps old.text.list.items p.class_front p.class p.class_back p.class p.class_written;
         class_from = from ∙ p.class_from;
         class_to = to ∙ p.class_to;
         names_class = λ e. absurd (false≢true (sym classless ∙ e));
@@ -177,13 +177,13 @@ named-again s old new p g at from to unlisted classless no_instance =
 
 -- the same by what stands at the place of the class
 pub class-named : (s : List ℕ) (old between new : Direct) (p : AwaitsClass s old)
-    → Writes old between (take (old.nest.class_to - old.nest.class_from) (drop old.nest.class_from old.text.bytes.items))
-    → new.text.bytes.items ≡ between.text.bytes.items → new.candidates.items ≡ between.candidates.items → new.waiting.items ≡ between.waiting.items
+    → Writes old between (take (old.nest.class_to - old.nest.class_from) (drop old.nest.class_from old.text.list.items))
+    → new.text.list.items ≡ between.text.list.items → new.candidates.list.items ≡ between.candidates.list.items → new.waiting.list.items ≡ between.waiting.list.items
     → new.at ≡ between.at → new.nest.from ≡ between.nest.from → new.nest.purpose ≡ between.nest.purpose
     → new.nest.class_from ≡ between.nest.class_from → new.nest.class_to ≡ between.nest.class_to → new.nest.is_listed ≡ false
     → new.nest.has_class ≡ false → new.nest.is_instance ≡ false → IsNestNamed s new
 class-named s old between new p w text candidates waiting at nest_from purpose from to unlisted classless no_instance =
-    let g : Goes old new (take (old.nest.class_to - old.nest.class_from) (drop old.nest.class_from old.text.bytes.items)) = record {
+    let g : Goes old new (take (old.nest.class_to - old.nest.class_from) (drop old.nest.class_from old.text.list.items)) = record {
       text = text ∙ w.text;
       candidates = rw (candidates, w.candidates) refl;
       waiting = rw (waiting, w.waiting) refl;
@@ -192,24 +192,24 @@ class-named s old between new p w text candidates waiting at nest_from purpose f
     } in
     named-again s old new p
     (subst (λ l. Goes old new l)
-    (piece-found old.text.bytes.items p.class_front p.class p.class_back old.nest.class_from old.nest.class_to p.class_written p.class_from p.class_to).2 g)
+    (piece-found old.text.list.items p.class_front p.class p.class_back old.nest.class_from old.nest.class_to p.class_written p.class_from p.class_to).2 g)
     (rw (at, w.at) refl) (rw (from, w.nest) refl) (rw (to, w.nest) refl) unlisted classless no_instance
 
 -- ## A piece of a name
 
 -- A piece is written behind the name so far.
 piece-named : (s : List ℕ) (old new : Direct) (st : State) (t piece : Term) (x front bytes : List ℕ) (around : Around) (outer : List Opened)
-    → AreCandidates old.text.bytes.items old.candidates.items st.candidates → old.text.bytes.items ≡ front ++ bytes
-    → IsNest front bytes old.text.bytes.items old.nest t → Serves s old.nest.purpose (Stands s (reverse old.waiting.items)) outer front
+    → AreCandidates old.text.list.items old.candidates.list.items st.candidates → old.text.list.items ≡ front ++ bytes
+    → IsNest front bytes old.text.list.items old.nest t → Serves s old.nest.purpose (Stands s (reverse old.waiting.list.items)) outer front
     → Goes old new (codes "::" ++ x) → NestNamed s outer around (within t piece) new.at st → IsPiece piece x
-    → new.nest.class_from ≡ length (old.text.bytes.items ++ codes "::") → new.nest.class_to ≡ length new.text.bytes.items → new.nest.is_listed ≡ false
+    → new.nest.class_from ≡ length (old.text.list.items ++ codes "::") → new.nest.class_to ≡ length new.text.list.items → new.nest.is_listed ≡ false
     → new.nest.has_class ≡ true → new.nest.is_instance ≡ false → IsNestNamed s new
 unfolding has_return_type arguments_of
 piece-named s old new st t piece x front bytes around outer candidates before is serves g named is_piece from to unlisted has no_instance =
     let m : List ℕ = codes "::" in
-    let written : new.text.bytes.items ≡ front ++ (bytes ++ m ++ x)
+    let written : new.text.list.items ≡ front ++ (bytes ++ m ++ x)
     = g.text ∙ ap (λ l. l ++ (m ++ x)) before ∙ append_assoc front bytes (m ++ x) ∙ ap (λ l. front ++ l) (sym (append_assoc bytes m x)) in
-    let class_written : new.text.bytes.items ≡ (old.text.bytes.items ++ m) ++ x = g.text ∙ sym (append_assoc old.text.bytes.items m x) in
+    let class_written : new.text.list.items ≡ (old.text.list.items ++ m) ++ x = g.text ∙ sym (append_assoc old.text.list.items m x) in
     record {
       state = st;
       candidates = candidates-go old new (m ++ x) st.candidates g candidates;
@@ -225,12 +225,12 @@ piece-named s old new st t piece x front bytes around outer candidates before is
         written = written ∙ sym (append-nil (front ++ (bytes ++ m ++ x)));
         from_is = g.from ∙ is.from_is;
         prints = within-prints t bytes is.prints piece x is_piece;
-        class_front = old.text.bytes.items ++ m;
+        class_front = old.text.list.items ++ m;
         class = x;
         class_back = [];
-        class_written = class_written ∙ sym (append-nil (old.text.bytes.items ++ m ++ x));
+        class_written = class_written ∙ sym (append-nil (old.text.list.items ++ m ++ x));
         class_from = from;
-        class_to = to ∙ ap length class_written ∙ length-append (old.text.bytes.items ++ m) x;
+        class_to = to ∙ ap length class_written ∙ length-append (old.text.list.items ++ m) x;
         names_class = λ e. within-class t bytes is.prints piece x is_piece;
       };
       unlisted = unlisted;
@@ -254,15 +254,15 @@ moves-to old new at by same e =
 piece-follows : (s : List ℕ) (old start marked read new : Direct) (by : ℕ) (piece : Term) (x : List ℕ) (p : IsWriting s old steps.Component)
     → IsPiece piece x → Moves old start by → Writes start marked (codes "::") → Reads marked read x
     → NestNamed s p.is_before.4 p.is_before.3 (within p.is_before.0 piece) new.at p.state
-    → new.text.bytes.items ≡ read.text.bytes.items → new.candidates.items ≡ read.candidates.items → new.waiting.items ≡ read.waiting.items
+    → new.text.list.items ≡ read.text.list.items → new.candidates.list.items ≡ read.candidates.list.items → new.waiting.list.items ≡ read.waiting.list.items
     → new.nest.from ≡ read.nest.from → new.nest.purpose ≡ read.nest.purpose
-    → new.nest.class_from ≡ length marked.text.bytes.items → new.nest.class_to ≡ length read.text.bytes.items → new.nest.is_listed ≡ false
+    → new.nest.class_from ≡ length marked.text.list.items → new.nest.class_to ≡ length read.text.list.items → new.nest.is_listed ≡ false
     → new.nest.has_class ≡ true → new.nest.is_instance ≡ false → IsNestNamed s new
 piece-follows s old start marked read new by piece x p is m w r named text candidates waiting nest_from purpose from to unlisted has no_instance =
     let b = p.is_before in
-    let m1 : marked.text.bytes.items ≡ old.text.bytes.items ++ codes "::" = rw (w.text, m.text) refl in
+    let m1 : marked.text.list.items ≡ old.text.list.items ++ codes "::" = rw (w.text, m.text) refl in
     let g : Goes old new (codes "::" ++ x) = record {
-      text = text ∙ r.text ∙ ap (λ l. l ++ x) m1 ∙ append_assoc old.text.bytes.items (codes "::") x;
+      text = text ∙ r.text ∙ ap (λ l. l ++ x) m1 ∙ append_assoc old.text.list.items (codes "::") x;
       candidates = rw (candidates, r.candidates, w.candidates, m.candidates) refl;
       waiting = rw (waiting, r.waiting, w.waiting, m.waiting) refl;
       from = rw (nest_from, r.nest, w.nest, m.nest) refl;
@@ -291,9 +291,9 @@ source-read s os around t at st a false name to from end letter is moved same =
 pub source-follows : (s : List ℕ) (old start marked read new : Direct) (internal : Bool) → IsWriting s old steps.Component
     → (internal ≡ true → StandsAt s old.at (76 ∷ [])) → Moves old start (letters internal) → Writes start marked (codes "::")
     → (name : List ℕ) → IsNameAt s marked.at name read.at → name ≢ [] → Reads marked read (source_text name)
-    → new.text.bytes.items ≡ read.text.bytes.items → new.candidates.items ≡ read.candidates.items → new.waiting.items ≡ read.waiting.items
+    → new.text.list.items ≡ read.text.list.items → new.candidates.list.items ≡ read.candidates.list.items → new.waiting.list.items ≡ read.waiting.list.items
     → new.at ≡ read.at → new.nest.from ≡ read.nest.from → new.nest.purpose ≡ read.nest.purpose
-    → new.nest.class_from ≡ length marked.text.bytes.items → new.nest.class_to ≡ length read.text.bytes.items → new.nest.is_listed ≡ false
+    → new.nest.class_from ≡ length marked.text.list.items → new.nest.class_to ≡ length read.text.list.items → new.nest.is_listed ≡ false
     → new.nest.has_class ≡ true → new.nest.is_instance ≡ false → IsNestNamed s new
 source-follows s old start marked read new internal p letter m w name is filled r text candidates waiting at nest_from purpose from to unlisted has
     no_instance =
@@ -311,9 +311,9 @@ pub operator-follows : (s : List ℕ) (old start marked read new : Direct) (firs
     → (first ≢ 0 → StandsAt s old.at (first ∷ [])) → (second ≢ 0 → StandsAt s (old.at + 1) (second ∷ []))
     → Writes start marked (codes "::") → Moves old start 2
     → Writes marked read (codes "operator" ++ look_up (first ∷ second ∷ []) operator_texts)
-    → new.text.bytes.items ≡ read.text.bytes.items → new.candidates.items ≡ read.candidates.items → new.waiting.items ≡ read.waiting.items
+    → new.text.list.items ≡ read.text.list.items → new.candidates.list.items ≡ read.candidates.list.items → new.waiting.list.items ≡ read.waiting.list.items
     → new.at ≡ read.at → new.nest.from ≡ read.nest.from → new.nest.purpose ≡ read.nest.purpose
-    → new.nest.class_from ≡ length marked.text.bytes.items → new.nest.class_to ≡ length read.text.bytes.items → new.nest.is_listed ≡ false
+    → new.nest.class_from ≡ length marked.text.list.items → new.nest.class_to ≡ length read.text.list.items → new.nest.is_listed ≡ false
     → new.nest.has_class ≡ true → new.nest.is_instance ≡ false → IsNestNamed s new
 operator-follows s old start marked read new first second p known plain letter next w m r text candidates waiting at nest_from purpose from to
     unlisted has no_instance =
@@ -321,7 +321,7 @@ operator-follows s old start marked read new first second p known plain letter n
     let is : IsOperator first second = operator-listed first second known in
     piece-follows s old start marked read new 2 (operator first second) (codes "operator" ++ look_up (first ∷ second ∷ []) operator_texts) p
     (operator-piece first second plain) m w
-    (record { text = r.text; candidates = r.candidates; waiting = r.waiting; nest = r.nest; most = r.most })
+    (record { text = r.text; candidates = r.candidates; waiting = r.waiting; nest = r.nest; rounds = r.rounds })
     (component-named s b.4 b.3 b.0 (within b.0 (operator first second)) old.at p.state b.7 (old.at + 2) new.at (at ∙ r.at ∙ w.at ∙ m.at)
     (component-operator s b.7.inner b.3 b.0 old.at p.state first second is b.7.awaits
     (stands-join s old.at (first ∷ []) (second ∷ []) (letter is.first_filled) (next is.second_filled))))

@@ -38,7 +38,7 @@ use Rattle.cpp_direct.proofs.PrintedNames.{source-prints, source-class, std-prin
 
 -- the candidates are these, and nothing else changed
 pub record Keeps (old new : Direct) (ks : List Candidate) : Type 0 where
-  pub candidates : new.candidates.items ≡ ks
+  pub candidates : new.candidates.list.items ≡ ks
   pub text : new.text ≡ old.text
   pub waiting : new.waiting ≡ old.waiting
   pub nest : new.nest ≡ old.nest
@@ -46,8 +46,8 @@ pub record Keeps (old new : Direct) (ks : List Candidate) : Type 0 where
 
 -- arguments were opened
 pub record OpensArguments (old new : Direct) (owner : Open) : Type 0 where
-  pub text : new.text.bytes.items ≡ old.text.bytes.items ++ codes "<"
-  pub waiting : new.waiting.items ≡ old.waiting.items ++ owner ∷ []
+  pub text : new.text.list.items ≡ old.text.list.items ++ codes "<"
+  pub waiting : new.waiting.list.items ≡ old.waiting.list.items ++ owner ∷ []
   pub at : new.at ≡ old.at + 1
   pub candidates : new.candidates ≡ old.candidates
 
@@ -57,24 +57,24 @@ byte-there s at byte known is some there = subst (λ b. StandsAt s at (b ∷ [])
 
 -- arguments begin behind a name
 list-begins : (s : List ℕ) (old mid new : Direct) (ks : List Candidate) (st : State) (owner : Open) (front name : List ℕ) (t : Term)
-    → Keeps old mid ks → OpensArguments mid new owner → AreCandidates old.text.bytes.items ks st.candidates
-    → IsTemplate owner front t name (old.text.bytes.items ++ codes "<") → old.text.bytes.items ≡ front ++ name
-    → ArgumentsGoOn s owner (Stands s (reverse old.waiting.items)) front t [] (old.at + 1) st
+    → Keeps old mid ks → OpensArguments mid new owner → AreCandidates old.text.list.items ks st.candidates
+    → IsTemplate owner front t name (old.text.list.items ++ codes "<") → old.text.list.items ≡ front ++ name
+    → ArgumentsGoOn s owner (Stands s (reverse old.waiting.list.items)) front t [] (old.at + 1) st
     → IsWriting s new (steps.List true)
 list-begins s old mid new ks st owner front name t keeps opening_ candidates template written goes =
-    let text_is : new.text.bytes.items ≡ old.text.bytes.items ++ codes "<" = cc (opening_.text, keeps.text) in
-    let candidates_are : new.candidates.items ≡ ks = cc (opening_.candidates, keeps.candidates) in
-    let waiting_is : new.waiting.items ≡ old.waiting.items ++ owner ∷ [] = cc (opening_.waiting, keeps.waiting) in
+    let text_is : new.text.list.items ≡ old.text.list.items ++ codes "<" = cc (opening_.text, keeps.text) in
+    let candidates_are : new.candidates.list.items ≡ ks = cc (opening_.candidates, keeps.candidates) in
+    let waiting_is : new.waiting.list.items ≡ old.waiting.list.items ++ owner ∷ [] = cc (opening_.waiting, keeps.waiting) in
     let at_is : new.at ≡ old.at + 1 = cc (opening_.at, keeps.at) in
     record {
       state = st;
-      candidates = subst (λ l. AreCandidates l new.candidates.items st.candidates) (sym text_is)
-          (subst (λ l. AreCandidates (old.text.bytes.items ++ codes "<") l st.candidates) (sym candidates_are)
-          (candidates-stay old.text.bytes.items (codes "<") ks st.candidates candidates));
-      is_before = arguments-begun s new st owner (reverse old.waiting.items) front name t
-          (ap reverse waiting_is ∙ reverse-last old.waiting.items owner)
+      candidates = subst (λ l. AreCandidates l new.candidates.list.items st.candidates) (sym text_is)
+          (subst (λ l. AreCandidates (old.text.list.items ++ codes "<") l st.candidates) (sym candidates_are)
+          (candidates-stay old.text.list.items (codes "<") ks st.candidates candidates));
+      is_before = arguments-begun s new st owner (reverse old.waiting.list.items) front name t
+          (ap reverse waiting_is ∙ reverse-last old.waiting.list.items owner)
           (subst (λ l. IsTemplate owner front t name l) (sym text_is) template) (text_is ∙ ap (λ l. l ++ codes "<") written)
-          (subst (λ n. ArgumentsGoOn s owner (Stands s (reverse old.waiting.items)) front t [] n st) (sym at_is) goes);
+          (subst (λ n. ArgumentsGoOn s owner (Stands s (reverse old.waiting.list.items)) front t [] n st) (sym at_is) goes);
     }
 
 -- ## A name with or without arguments
@@ -112,7 +112,7 @@ named-opens s old mid new n here keeps opening_ =
     list-begins s old mid new (added old old.nest.from false) (with_candidate e n.own n.state) (opens.NestArguments old.nest) n.front n.bytes n.own
     keeps (subst (λ x. OpensArguments mid new (opens.NestArguments x)) keeps.nest opening_)
     (candidates-with old n.state n.front n.bytes old.nest.from n.own e false n.candidates n.written n.is_nest.from_is n.is_nest.prints)
-    (nest-stays n.front n.bytes old.text.bytes.items (codes "<") old.nest n.own n.is_nest, n.structor) n.written (
+    (nest-stays n.front n.bytes old.text.list.items (codes "<") old.nest n.own n.is_nest, n.structor) n.written (
       inside n.around,
       begun.inner,
       refl,
@@ -135,18 +135,18 @@ component-outside s inner outer around t at st passes a = record {
 
 -- a component follows
 pub component-next : (s : List ℕ) (kind : Kind) (old new : Direct) (st : State) (t : Term) → IsRest kind
-    → AreCandidates old.text.bytes.items old.candidates.items st.candidates → IsNesting s kind old t st
+    → AreCandidates old.text.list.items old.candidates.list.items st.candidates → IsNesting s kind old t st
     → Keeps old new (added_unless old old.nest.is_listed old.nest.from) → IsWriting s new steps.Component
 component-next s kind old new st t rest candidates n keeps =
     let e = n.around.encoding in
     let listed = old.nest.is_listed in
-    let text_is : new.text.bytes.items ≡ old.text.bytes.items = cc (keeps.text) in
-    let waiting_is : new.waiting.items ≡ old.waiting.items = cc (keeps.waiting) in
+    let text_is : new.text.list.items ≡ old.text.list.items = cc (keeps.text) in
+    let waiting_is : new.waiting.list.items ≡ old.waiting.list.items = cc (keeps.waiting) in
     let later = unless_listed listed e t st in
     record {
       state = later;
-      candidates = subst (λ l. AreCandidates l new.candidates.items later.candidates) (sym text_is)
-          (subst (λ l. AreCandidates old.text.bytes.items l later.candidates) (sym keeps.candidates)
+      candidates = subst (λ l. AreCandidates l new.candidates.list.items later.candidates) (sym text_is)
+          (subst (λ l. AreCandidates old.text.list.items l later.candidates) (sym keeps.candidates)
           (candidates-unless old st listed n.front n.bytes old.nest.from t e candidates n.written n.is_nest.from_is n.is_nest.prints));
       is_before = (
         t,
@@ -155,19 +155,19 @@ component-next s kind old new st t rest candidates n keeps =
         n.around,
         n.outer,
         text_is ∙ n.written,
-        subst (λ x. IsNest n.front n.bytes new.text.bytes.items x t) (sym keeps.nest)
+        subst (λ x. IsNest n.front n.bytes new.text.list.items x t) (sym keeps.nest)
             (subst (λ l. IsNest n.front n.bytes l old.nest t) (sym text_is) n.is_nest),
         subst (λ m. AwaitsComponent s n.outer n.around t m later) (sym keeps.at)
             (component-outside s n.goes.inner n.outer n.around t old.at later n.goes.passes
             (component-awaits s kind n.goes.inner n.around t listed old.at st rest n.goes.awaits)),
-        subst (λ x. Serves s x.purpose (Stands s (reverse new.waiting.items)) n.outer n.front) (sym keeps.nest)
+        subst (λ x. Serves s x.purpose (Stands s (reverse new.waiting.list.items)) n.outer n.front) (sym keeps.nest)
             (subst (λ l. Serves s old.nest.purpose (Stands s (reverse l)) n.outer n.front) (sym waiting_is) n.serves),
       );
     }
 
 -- arguments of the first piece follow
 pub first-opens : (s : List ℕ) (old mid new : Direct) (st : State) (t : Term)
-    → AreCandidates old.text.bytes.items old.candidates.items st.candidates → IsNesting s Kind.NestRest old t st → StandsAt s old.at (73 ∷ [])
+    → AreCandidates old.text.list.items old.candidates.list.items st.candidates → IsNesting s Kind.NestRest old t st → StandsAt s old.at (73 ∷ [])
     → Keeps old mid (added_unless old old.nest.is_listed old.nest.from) → OpensArguments mid new (opens.FirstArguments mid.nest)
     → IsWriting s new (steps.List true)
 unfolding inside
@@ -178,7 +178,7 @@ first-opens s old mid new st t candidates n here keeps opening_ =
     list-begins s old mid new (added_unless old listed old.nest.from) (unless_listed listed e t st) (opens.FirstArguments old.nest) n.front n.bytes t
     keeps (subst (λ x. OpensArguments mid new (opens.FirstArguments x)) keeps.nest opening_)
     (candidates-unless old st listed n.front n.bytes old.nest.from t e candidates n.written n.is_nest.from_is n.is_nest.prints)
-    (nest-stays n.front n.bytes old.text.bytes.items (codes "<") old.nest t n.is_nest) n.written (
+    (nest-stays n.front n.bytes old.text.list.items (codes "<") old.nest t n.is_nest) n.written (
       inside n.around,
       begun.inner,
       refl,
@@ -202,19 +202,19 @@ nest-comes s old st t n here = n.goes.passes (tree t old.nest.is_listed) (old.at
 
 -- it is a type
 pub type-ended : (s : List ℕ) (old new : Direct) (st : State) (t : Term)
-    → AreCandidates old.text.bytes.items old.candidates.items st.candidates → IsNesting s Kind.NestTail old t st → StandsAt s old.at (69 ∷ [])
+    → AreCandidates old.text.list.items old.candidates.list.items st.candidates → IsNesting s Kind.NestTail old t st → StandsAt s old.at (69 ∷ [])
     → old.nest.purpose ≡ purposes.Type → Keeps (record old { at = old.at + 1 }) new (added_unless old old.nest.is_listed old.nest.from)
     → IsWriting s new (steps.Value false)
 type-ended s old new st t candidates n here is_type keeps =
     let listed = old.nest.is_listed in
-    let serves = subst (λ p. Serves s p (Stands s (reverse old.waiting.items)) n.outer n.front) is_type n.serves in
-    let text_is : new.text.bytes.items ≡ old.text.bytes.items = cc (keeps.text) in
-    let waiting_is : new.waiting.items ≡ old.waiting.items = cc (keeps.waiting) in
+    let serves = subst (λ p. Serves s p (Stands s (reverse old.waiting.list.items)) n.outer n.front) is_type n.serves in
+    let text_is : new.text.list.items ≡ old.text.list.items = cc (keeps.text) in
+    let waiting_is : new.waiting.list.items ≡ old.waiting.list.items = cc (keeps.waiting) in
     let later = unless_listed listed serves.1 t st in
     record {
       state = later;
-      candidates = subst (λ l. AreCandidates l new.candidates.items later.candidates) (sym text_is)
-          (subst (λ l. AreCandidates old.text.bytes.items l later.candidates) (sym keeps.candidates)
+      candidates = subst (λ l. AreCandidates l new.candidates.list.items later.candidates) (sym text_is)
+          (subst (λ l. AreCandidates old.text.list.items l later.candidates) (sym keeps.candidates)
           (candidates-unless old st listed n.front n.bytes old.nest.from t serves.1 candidates n.written n.is_nest.from_is n.is_nest.prints));
       is_before = (
         serves.0,
@@ -231,12 +231,12 @@ type-ended s old new st t candidates n here is_type keeps =
 
 -- it is the name of the encoding
 pub name-comes : (s : List ℕ) (old : Direct) (st : State) (t : Term) (is_const : Bool)
-    → AreCandidates old.text.bytes.items old.candidates.items st.candidates → IsNesting s Kind.NestTail old t st
+    → AreCandidates old.text.list.items old.candidates.list.items st.candidates → IsNesting s Kind.NestTail old t st
     → (old.nest.is_instance ≡ false → has_return_type t ≡ false) → StandsAt s old.at (69 ∷ [])
     → old.nest.purpose ≡ purposes.Name is_const → IsNameEnded s (record old { at = old.at + 1 }) is_const old.nest.is_instance
 unfolding tree_of qualifiers_of ref_of
 name-comes s old st t is_const candidates n no_return here is_name =
-    let serves = subst (λ p. Serves s p (Stands s (reverse old.waiting.items)) n.outer n.front) is_name n.serves in
+    let serves = subst (λ p. Serves s p (Stands s (reverse old.waiting.list.items)) n.outer n.front) is_name n.serves in
     record {
       state = st;
       candidates = candidates;
@@ -292,27 +292,27 @@ classless-nest front bytes nest t from_is class_from class_to none prints = reco
 
 -- the rest is expected behind a first piece
 nest-begins : (s : List ℕ) (old new : Direct) (purpose : Purpose) (a : AwaitsNest s old purpose) (t : Term) (bytes : List ℕ)
-    → new.text.bytes.items ≡ old.text.bytes.items ++ bytes → new.candidates ≡ old.candidates → new.waiting ≡ old.waiting → new.nest.purpose ≡ purpose
-    → IsNest old.text.bytes.items bytes (old.text.bytes.items ++ bytes) new.nest t
+    → new.text.list.items ≡ old.text.list.items ++ bytes → new.candidates ≡ old.candidates → new.waiting ≡ old.waiting → new.nest.purpose ≡ purpose
+    → IsNest old.text.list.items bytes (old.text.list.items ++ bytes) new.nest t
     → NestGoesOn s Kind.NestRest a.outer a.around t new.nest.is_listed new.at a.state
     → IsWriting s new steps.Rest
 nest-begins s old new purpose a t bytes text_is candidates_are waiting_is purpose_is is_nest goes = record {
   state = a.state;
-  candidates = subst (λ l. AreCandidates l new.candidates.items a.state.candidates) (sym text_is)
-      (subst (λ k. AreCandidates (old.text.bytes.items ++ bytes) k.items a.state.candidates) (sym candidates_are)
-      (candidates-stay old.text.bytes.items bytes old.candidates.items a.state.candidates a.candidates));
+  candidates = subst (λ l. AreCandidates l new.candidates.list.items a.state.candidates) (sym text_is)
+      (subst (λ k. AreCandidates (old.text.list.items ++ bytes) k.list.items a.state.candidates) (sym candidates_are)
+      (candidates-stay old.text.list.items bytes old.candidates.list.items a.state.candidates a.candidates));
   is_before = (
     t,
     record {
-      front = old.text.bytes.items;
+      front = old.text.list.items;
       around = a.around;
       outer = a.outer;
       bytes = bytes;
       written = text_is;
-      is_nest = subst (λ l. IsNest old.text.bytes.items bytes l new.nest t) (sym text_is) is_nest;
+      is_nest = subst (λ l. IsNest old.text.list.items bytes l new.nest t) (sym text_is) is_nest;
       goes = goes;
-      serves = subst (λ p. Serves s p (Stands s (reverse new.waiting.items)) a.outer old.text.bytes.items) (sym purpose_is)
-          (subst (λ o. Serves s purpose (Stands s (reverse o.items)) a.outer old.text.bytes.items) (sym waiting_is) a.serves);
+      serves = subst (λ p. Serves s p (Stands s (reverse new.waiting.list.items)) a.outer old.text.list.items) (sym purpose_is)
+          (subst (λ o. Serves s purpose (Stands s (reverse o.list.items)) a.outer old.text.list.items) (sym waiting_is) a.serves);
     },
   );
 }
@@ -332,14 +332,14 @@ nest_of from class_from class_to purpose is_listed has_class = record {
 -- a name begins a nested one
 pub source-begins : (s : List ℕ) (old mid : Direct) (purpose : Purpose) (name : List ℕ) → AwaitsNest s old purpose
     → IsNameAt s old.at name mid.at → name ≢ [] → Reads old mid (source_text name) → (from to : ℕ)
-    → from ≡ length old.text.bytes.items → to ≡ length mid.text.bytes.items
+    → from ≡ length old.text.list.items → to ≡ length mid.text.list.items
     → IsWriting s (record mid { nest = nest_of from from to purpose false true }) steps.Rest
 source-begins s old mid purpose name a is filled reads from to from_is to_is =
     let nest = nest_of from from to purpose false true in
     let t : Term = alone (source false name) in
     nest-begins s old (record mid { nest = nest }) purpose a t (source_text name) reads.text reads.candidates reads.waiting refl
-    (class-nest old.text.bytes.items [] (source_text name) nest t from_is (from_is ∙ ap length (sym (append-nil old.text.bytes.items)))
-    (omega (arith, to_is, ap length reads.text, length-append old.text.bytes.items (source_text name), ap length (append-nil old.text.bytes.items)))
+    (class-nest old.text.list.items [] (source_text name) nest t from_is (from_is ∙ ap length (sym (append-nil old.text.list.items)))
+    (omega (arith, to_is, ap length reads.text, length-append old.text.list.items (source_text name), ap length (append-nil old.text.list.items)))
     (source-prints false name filled) (source-class false name filled))
     (nest-source s a.outer a.around old.at a.state name mid.at a.outside a.awaits is)
 
@@ -375,8 +375,8 @@ abbreviation-letter letter there =
 -- an abbreviation begins a nested name
 pub abbreviation-begins : (s : List ℕ) (old mid : Direct) (purpose : Purpose) (letter : ℕ) → AwaitsNest s old purpose → StandsAt s old.at (83 ∷ [])
     → (letter ≢ 0 → StandsAt s (old.at + 1) (letter ∷ [])) → look_up (letter ∷ []) abbreviation_texts ≢ []
-    → mid.text.bytes.items ≡ old.text.bytes.items ++ look_up (letter ∷ []) abbreviation_texts → mid.candidates ≡ old.candidates → mid.waiting ≡ old.waiting
-    → mid.at ≡ old.at + 1 + 1 → (from : ℕ) → from ≡ length old.text.bytes.items
+    → mid.text.list.items ≡ old.text.list.items ++ look_up (letter ∷ []) abbreviation_texts → mid.candidates ≡ old.candidates → mid.waiting ≡ old.waiting
+    → mid.at ≡ old.at + 1 + 1 → (from : ℕ) → from ≡ length old.text.list.items
     → IsWriting s (record mid { nest = nest_of from from from purpose true false }) steps.Rest
 unfolding look_up abbreviation_texts same_bytes
 abbreviation-begins s old mid purpose letter a here behind there text_is candidates_are waiting_is at_is from from_is =
@@ -385,77 +385,77 @@ abbreviation-begins s old mid purpose letter a here behind there text_is candida
     let bytes = look_up (letter ∷ []) abbreviation_texts in
     let some : letter ≢ 0 = λ e. there (ap (λ l. look_up (l ∷ []) abbreviation_texts) e) in
     nest-begins s old (record mid { nest = nest }) purpose a t bytes text_is candidates_are waiting_is refl
-    (classless-nest old.text.bytes.items bytes nest t from_is from_is from_is refl (abbreviation-prints letter there))
+    (classless-nest old.text.list.items bytes nest t from_is from_is from_is refl (abbreviation-prints letter there))
     (subst (λ n. NestGoesOn s Kind.NestRest a.outer a.around t true n a.state) (omega (arith, at_is))
     (nest-abbreviation s a.outer a.around old.at a.state letter a.awaits (stands-join s old.at (83 ∷ []) (letter ∷ []) here (behind some))
     (abbreviation-letter letter there)))
 
 -- what a candidate says of the text
 pub candidate-text : (s : List ℕ) (w : Direct) (purpose : Purpose) (a : AwaitsNest s w purpose) (n : ℕ) (k : Candidate)
-    → k.from ≤ k.to → slice_get w.candidates.items n ≡ Some k → (k.from ≤ k.to) × (k.to ≤ length w.text.bytes.items)
+    → k.from ≤ k.to → slice_get w.candidates.list.items n ≡ Some k → (k.from ≤ k.to) × (k.to ≤ length w.text.list.items)
 candidate-text s w purpose a n k ordered found =
-    let one = candidate-found w.text.bytes.items w.candidates.items a.state.candidates n k a.candidates ordered found in
+    let one = candidate-found w.text.list.items w.candidates.list.items a.state.candidates n k a.candidates ordered found in
     let is = one.2 in
-    let piece = piece-found w.text.bytes.items is.front is.bytes is.back k.from k.to is.written is.from_is is.to_is in
+    let piece = piece-found w.text.list.items is.front is.bytes is.back k.from k.to is.written is.from_is is.to_is in
     (piece.0, piece.1)
 
 -- a reference begins a nested name
 pub reference-begins : (s : List ℕ) (old mid : Direct) (purpose : Purpose) (digits : List ℕ) (k : Candidate) → AwaitsNest s old purpose
     → StandsAt s old.at (83 ∷ []) → IsSeqAt s (old.at + 1) digits mid.at
-    → k.from ≤ k.to → slice_get old.candidates.items (counted_value Seq36 digits) ≡ Some k → k.is_reference ≡ false
-    → mid.text.bytes.items ≡ old.text.bytes.items ++ take (k.to - k.from) (drop k.from old.text.bytes.items) → mid.candidates ≡ old.candidates
-    → mid.waiting ≡ old.waiting → (from : ℕ) → from ≡ length old.text.bytes.items
+    → k.from ≤ k.to → slice_get old.candidates.list.items (counted_value Seq36 digits) ≡ Some k → k.is_reference ≡ false
+    → mid.text.list.items ≡ old.text.list.items ++ take (k.to - k.from) (drop k.from old.text.list.items) → mid.candidates ≡ old.candidates
+    → mid.waiting ≡ old.waiting → (from : ℕ) → from ≡ length old.text.list.items
     → IsWriting s (record mid { nest = nest_of from from from purpose true false }) steps.Rest
 reference-begins s old mid purpose digits k a here is ordered found plain text_is candidates_are waiting_is from from_is =
     let nest = nest_of from from from purpose true false in
-    let one = candidate-found old.text.bytes.items old.candidates.items a.state.candidates (counted_value Seq36 digits) k a.candidates ordered found in
+    let one = candidate-found old.text.list.items old.candidates.list.items a.state.candidates (counted_value Seq36 digits) k a.candidates ordered found in
     let c = one.0 in
     let it = one.2 in
-    let piece = piece-found old.text.bytes.items it.front it.bytes it.back k.from k.to it.written it.from_is it.to_is in
+    let piece = piece-found old.text.list.items it.front it.bytes it.back k.from k.to it.written it.from_is it.to_is in
     let prints = subst (λ b. Prints c.tree it.bytes b) plain it.prints in
-    nest-begins s old (record mid { nest = nest }) purpose a c.tree it.bytes (text_is ∙ ap (λ l. old.text.bytes.items ++ l) piece.2) candidates_are
-    waiting_is refl (classless-nest old.text.bytes.items it.bytes nest c.tree from_is from_is from_is refl prints)
+    nest-begins s old (record mid { nest = nest }) purpose a c.tree it.bytes (text_is ∙ ap (λ l. old.text.list.items ++ l) piece.2) candidates_are
+    waiting_is refl (classless-nest old.text.list.items it.bytes nest c.tree from_is from_is from_is refl prints)
     (nest-substitution s a.outer a.around old.at a.state digits mid.at c a.awaits here is one.1 prints.is_closed prints.packless)
 
 -- a name in std begins a nested one
 pub std-begins : (s : List ℕ) (old mid : Direct) (purpose : Purpose) (before : ℕ) (name : List ℕ)
     → AwaitsNest s (record old { at = before }) purpose → StandsAt s before (83 ∷ 116 ∷ []) → IsNameAt s (before + 2) name mid.at → name ≢ []
-    → mid.text.bytes.items ≡ old.text.bytes.items ++ codes "std::" ++ source_text name → mid.candidates ≡ old.candidates → mid.waiting ≡ old.waiting
-    → (from class_from to : ℕ) → from ≡ length old.text.bytes.items → class_from ≡ length (old.text.bytes.items ++ codes "std::") → to ≡ length mid.text.bytes.items
+    → mid.text.list.items ≡ old.text.list.items ++ codes "std::" ++ source_text name → mid.candidates ≡ old.candidates → mid.waiting ≡ old.waiting
+    → (from class_from to : ℕ) → from ≡ length old.text.list.items → class_from ≡ length (old.text.list.items ++ codes "std::") → to ≡ length mid.text.list.items
     → IsNestNamed s (record mid { nest = nest_of from class_from to purpose false true })
 unfolding has_return_type arguments_of
 std-begins s old mid purpose before name a here is filled text_is candidates_are waiting_is from class_from to from_is class_from_is to_is =
     let nest = nest_of from class_from to purpose false true in
     let t : Term = in_std (source false name) in
     let bytes = codes "std::" ++ source_text name in
-    let written : mid.text.bytes.items ≡ old.text.bytes.items ++ bytes = text_is ∙ append_assoc old.text.bytes.items (codes "std::") (source_text name) in
+    let written : mid.text.list.items ≡ old.text.list.items ++ bytes = text_is ∙ append_assoc old.text.list.items (codes "std::") (source_text name) in
     record {
       state = a.state;
-      candidates = subst (λ l. AreCandidates l mid.candidates.items a.state.candidates) (sym written)
-          (subst (λ k. AreCandidates (old.text.bytes.items ++ bytes) k.items a.state.candidates) (sym candidates_are)
-          (candidates-stay old.text.bytes.items bytes old.candidates.items a.state.candidates a.candidates));
+      candidates = subst (λ l. AreCandidates l mid.candidates.list.items a.state.candidates) (sym written)
+          (subst (λ k. AreCandidates (old.text.list.items ++ bytes) k.list.items a.state.candidates) (sym candidates_are)
+          (candidates-stay old.text.list.items bytes old.candidates.list.items a.state.candidates a.candidates));
       around = a.around;
       outer = a.outer;
       own = t;
       named = nest-std s a.outer a.around before a.state name mid.at a.awaits here is;
-      front = old.text.bytes.items;
+      front = old.text.list.items;
       bytes = bytes;
       written = written;
-      is_nest = subst (λ l. IsNest old.text.bytes.items bytes l nest t) (sym written)
-          (class-nest old.text.bytes.items (codes "std::") (source_text name) nest t from_is class_from_is
-          (omega (arith, to_is, ap length text_is, length-append (old.text.bytes.items ++ codes "std::") (source_text name)))
+      is_nest = subst (λ l. IsNest old.text.list.items bytes l nest t) (sym written)
+          (class-nest old.text.list.items (codes "std::") (source_text name) nest t from_is class_from_is
+          (omega (arith, to_is, ap length text_is, length-append (old.text.list.items ++ codes "std::") (source_text name)))
           (std-prints false name filled) (std-class false name filled));
       unlisted = refl;
       no_instance = refl;
       no_return = refl;
       structor = λ e. absurd (false≢true (sym e));
-      serves = subst (λ o. Serves s purpose (Stands s (reverse o.items)) a.outer old.text.bytes.items) (sym waiting_is) a.serves;
+      serves = subst (λ o. Serves s purpose (Stands s (reverse o.list.items)) a.outer old.text.list.items) (sym waiting_is) a.serves;
     }
 
 -- what opening arguments says where there was memory
 pub opened-by : (s : List ℕ) (r : Option Step) (old new : Direct) (owner : Open) → IfSome r (λ next. next ≡ steps.List true)
-    → OnSome r (new.waiting.items ≡ old.waiting.items ++ owner ∷ []) → OnSome r (new.at ≡ old.at + 1)
-    → OnSome r (new.text.bytes.items ≡ old.text.bytes.items ++ codes "<") → OnSome r (new.candidates ≡ old.candidates)
+    → OnSome r (new.waiting.list.items ≡ old.waiting.list.items ++ owner ∷ []) → OnSome r (new.at ≡ old.at + 1)
+    → OnSome r (new.text.list.items ≡ old.text.list.items ++ codes "<") → OnSome r (new.candidates ≡ old.candidates)
     → (OpensArguments old new owner → IsWriting s new (steps.List true)) → IfSome r (IsWriting s new)
 opened-by s None old new owner step waiting at text candidates goes = tt
 opened-by s (Some next) old new owner step waiting at text candidates goes =

@@ -35,16 +35,16 @@ use Rattle.cpp_direct.proofs.TypesRead.{by-step, given, popped}
 -- ## Behind the return type
 
 -- what is kept where a text is written
-kept : (old new : Direct) (more : List ℕ) (cs : List values.Candidate) → new.text.bytes.items ≡ old.text.bytes.items ++ more → new.candidates ≡ old.candidates
-    → AreCandidates old.text.bytes.items old.candidates.items cs → AreCandidates new.text.bytes.items new.candidates.items cs
+kept : (old new : Direct) (more : List ℕ) (cs : List values.Candidate) → new.text.list.items ≡ old.text.list.items ++ more → new.candidates ≡ old.candidates
+    → AreCandidates old.text.list.items old.candidates.list.items cs → AreCandidates new.text.list.items new.candidates.list.items cs
 kept old new more cs text same p =
-    subst (λ l. AreCandidates l new.candidates.items cs) (sym text)
-    (subst (λ v. AreCandidates (old.text.bytes.items ++ more) v.items cs) (sym same) (candidates-stay old.text.bytes.items more old.candidates.items cs p))
+    subst (λ l. AreCandidates l new.candidates.list.items cs) (sym text)
+    (subst (λ v. AreCandidates (old.text.list.items ++ more) v.list.items cs) (sym same) (candidates-stay old.text.list.items more old.candidates.list.items cs p))
 
 -- the parameters come
 pub signature-begins : (s : List ℕ) (old new : Direct) (is_pointer : Bool) (p : IsReturned s old is_pointer)
-    → new.text.bytes.items ≡ old.text.bytes.items ++ opening_text is_pointer → new.candidates ≡ old.candidates
-    → reverse new.waiting.items ≡ opens.Signature is_pointer ∷ p.rest → new.at ≡ old.at → AwaitsSignature s new is_pointer true
+    → new.text.list.items ≡ old.text.list.items ++ opening_text is_pointer → new.candidates ≡ old.candidates
+    → reverse new.waiting.list.items ≡ opens.Signature is_pointer ∷ p.rest → new.at ≡ old.at → AwaitsSignature s new is_pointer true
 signature-begins s old new is_pointer p text candidates waits at =
     let opening = opening_text is_pointer in
     record {
@@ -108,7 +108,7 @@ another-next s old new is_pointer a one =
       state = a.state;
       candidates = candidates-written old new (codes ", ") a.state.candidates one a.candidates;
       rest = a.rest;
-      open_is = ap (λ v. reverse v.items) one.waiting ∙ a.open_is;
+      open_is = ap (λ v. reverse v.list.items) one.waiting ∙ a.open_is;
       outer = a.outer;
       encoding = a.encoding;
       front = a.front;
@@ -146,7 +146,7 @@ one-more s outer encoding is_pointer returned ts t at st g = record {
 signature-stands : (s : List ℕ) (w : Direct) (is_pointer : Bool) (a : AwaitsParameter s w is_pointer) (os : List Opened)
     → ((t : Term) (at : ℕ) (st : State) → Comes s os (tree t true) at st
     → SignatureGoesOn s a.outer a.encoding is_pointer (λ l. plain_function a.returned (list_with a.ts (list t l))) at st)
-    → Stands s (opens.Signature is_pointer ∷ a.rest) os w.text.bytes.items
+    → Stands s (opens.Signature is_pointer ∷ a.rest) os w.text.list.items
 signature-stands s w is_pointer a os onward = (
   a.outer,
   a.encoding,
@@ -176,7 +176,7 @@ parameter-comes s w is_pointer a none =
         p.around,
         p.outside,
         inr (inr (p.awaits, none)),
-        subst (λ ws. Stands s ws p.inner w.text.bytes.items) (sym a.open_is) (signature-stands s w is_pointer a p.inner p.onward),
+        subst (λ ws. Stands s ws p.inner w.text.list.items) (sym a.open_is) (signature-stands s w is_pointer a p.inner p.onward),
       );
     }
 
@@ -200,32 +200,32 @@ reference-stands s false rest os text from marks = marks
 
 -- a parameter comes that is a reference
 pub reference-comes : (s : List ℕ) (old new : Direct) (o : Option Step) (is_pointer is_lvalue : Bool) (from : ℕ) → AwaitsParameter s old is_pointer
-    → from ≡ length old.text.bytes.items → StandsAt s old.at (reference_letter is_lvalue ∷ []) → IfSome o (λ next. next ≡ steps.Type)
-    → OnSome o (new.waiting.items ≡ old.waiting.items ++ reference_entry is_lvalue from ∷ []) → OnSome o (new.at ≡ old.at + 1)
+    → from ≡ length old.text.list.items → StandsAt s old.at (reference_letter is_lvalue ∷ []) → IfSome o (λ next. next ≡ steps.Type)
+    → OnSome o (new.waiting.list.items ≡ old.waiting.list.items ++ reference_entry is_lvalue from ∷ []) → OnSome o (new.at ≡ old.at + 1)
     → new.text ≡ old.text → new.candidates ≡ old.candidates → IfSome o (IsWriting s new)
 reference-comes s old new o is_pointer is_lvalue from a begins stands is waits at text candidates =
     by-step o steps.Type (IsWriting s new) is
     (λ e. go (given _ o steps.Type e waits) (given _ o steps.Type e at))
   where
-    go : new.waiting.items ≡ old.waiting.items ++ reference_entry is_lvalue from ∷ [] → new.at ≡ old.at + 1 → IsWriting s new steps.Type
+    go : new.waiting.list.items ≡ old.waiting.list.items ++ reference_entry is_lvalue from ∷ [] → new.at ≡ old.at + 1 → IsWriting s new steps.Type
     go waits at =
         let p = reference-opens s a.outer a.encoding is_pointer is_lvalue (λ l. plain_function a.returned (list_with a.ts l)) old.at a.state a.goes stands in
         let entry = reference_entry is_lvalue from in
-        let turned : reverse new.waiting.items ≡ entry ∷ opens.Signature is_pointer ∷ a.rest =
-        ap reverse waits ∙ reverse-last old.waiting.items entry ∙ ap (λ ws. entry ∷ ws) a.open_is in
+        let turned : reverse new.waiting.list.items ≡ entry ∷ opens.Signature is_pointer ∷ a.rest =
+        ap reverse waits ∙ reverse-last old.waiting.list.items entry ∙ ap (λ ws. entry ∷ ws) a.open_is in
         let whole = signature-stands s old is_pointer a p.whole p.onward in
         record {
           state = a.state;
-          candidates = subst (λ v. AreCandidates v.bytes.items new.candidates.items a.state.candidates) (sym text)
-              (subst (λ v. AreCandidates old.text.bytes.items v.items a.state.candidates) (sym candidates) a.candidates);
+          candidates = subst (λ v. AreCandidates v.list.items new.candidates.list.items a.state.candidates) (sym text)
+              (subst (λ v. AreCandidates old.text.list.items v.list.items a.state.candidates) (sym candidates) a.candidates);
           is_before = (
             p.inner,
             p.around,
             p.outside,
             inl (subst (λ n. Expects s Kind.Type p.around p.inner n a.state) (sym at) p.awaits),
-            subst (λ v. Stands s (reverse new.waiting.items) p.inner v.bytes.items) (sym text)
-                (subst (λ ws. Stands s ws p.inner old.text.bytes.items) (sym turned)
-                (reference-stands s is_lvalue (opens.Signature is_pointer ∷ a.rest) p.inner old.text.bytes.items from
+            subst (λ v. Stands s (reverse new.waiting.list.items) p.inner v.list.items) (sym text)
+                (subst (λ ws. Stands s ws p.inner old.text.list.items) (sym turned)
+                (reference-stands s is_lvalue (opens.Signature is_pointer ∷ a.rest) p.inner old.text.list.items from
                 (p.whole, p.around.encoding, begins, p.passes, whole))),
           );
         }
@@ -234,23 +234,23 @@ reference-comes s old new o is_pointer is_lvalue from a begins stands is waits a
 
 -- an E ends a function type whose parameters aren't a lone void
 pub signature-closed : (s : List ℕ) (old new : Direct) (is_pointer is_first : Bool) (a : AwaitsSignature s old is_pointer is_first)
-    → StandsAt s old.at (69 ∷ []) → ends_with nat_eq old.text.bytes.items (codes "(void") ≡ false → new.text ≡ old.text → new.candidates ≡ old.candidates
+    → StandsAt s old.at (69 ∷ []) → ends_with nat_eq old.text.list.items (codes "(void") ≡ false → new.text ≡ old.text → new.candidates ≡ old.candidates
     → new.waiting ≡ old.waiting → new.at ≡ old.at + 1 → IsFunctionRead s new is_pointer
 signature-closed s old new is_pointer is_first a ends apart text candidates waits at =
     let opening = opening_text is_pointer in
     let made = plain_function a.returned (list_with a.ts nil) in
     record {
       state = a.state;
-      candidates = subst (λ v. AreCandidates v.bytes.items new.candidates.items a.state.candidates) (sym text)
-          (subst (λ v. AreCandidates old.text.bytes.items v.items a.state.candidates) (sym candidates) a.candidates);
+      candidates = subst (λ v. AreCandidates v.list.items new.candidates.list.items a.state.candidates) (sym text)
+          (subst (λ v. AreCandidates old.text.list.items v.list.items a.state.candidates) (sym candidates) a.candidates);
       rest = a.rest;
-      open_is = ap (λ v. reverse v.items) waits ∙ a.open_is;
+      open_is = ap (λ v. reverse v.list.items) waits ∙ a.open_is;
       outer = a.outer;
       encoding = a.encoding;
       made = made;
       front = a.front;
       bytes = (a.bytes ++ opening) ++ a.texts;
-      written = ap (λ v. v.bytes.items) text ∙ a.written ∙ append_assoc a.front (a.bytes ++ opening) a.texts;
+      written = ap (λ v. v.list.items) text ∙ a.written ∙ append_assoc a.front (a.bytes ++ opening) a.texts;
       element = λ extra. function-element extra is_pointer a.returned a.bytes a.is_reference a.ts a.texts a.prints a.elements (kept-apart is_pointer refl);
       comes = subst (λ n. Comes s a.outer (tree (pointed is_pointer made) true) n (with_pointed is_pointer a.encoding made a.state)) (sym at)
           (a.goes.passes nil (old.at + 1) a.state
@@ -259,15 +259,15 @@ signature-closed s old new is_pointer is_first a ends apart text candidates wait
       stands = a.stands;
     }
   where
-    apart-behind : (head : List ℕ) → old.text.bytes.items ≡ a.front ++ (a.bytes ++ (head ++ codes "(")) ++ a.texts → a.texts ≢ codes "void"
+    apart-behind : (head : List ℕ) → old.text.list.items ≡ a.front ++ (a.bytes ++ (head ++ codes "(")) ++ a.texts → a.texts ≢ codes "void"
     apart-behind head e =
-        no-void old.text.bytes.items (a.front ++ (a.bytes ++ head)) a.texts
+        no-void old.text.list.items (a.front ++ (a.bytes ++ head)) a.texts
         (e ∙ ap (λ l. l ++ a.texts) (ap (λ l. a.front ++ l) (sym (append_assoc a.bytes head (codes "(")))
         ∙ sym (append_assoc a.front (a.bytes ++ head) (codes "(")))) apart
 
     kept-apart : (b : Bool) → is_pointer ≡ b → a.texts ≢ codes "void"
-    kept-apart true e = apart-behind (codes " (*)") (subst (λ b. old.text.bytes.items ≡ a.front ++ (a.bytes ++ opening_text b) ++ a.texts) e a.written)
-    kept-apart false e = apart-behind (codes " ") (subst (λ b. old.text.bytes.items ≡ a.front ++ (a.bytes ++ opening_text b) ++ a.texts) e a.written)
+    kept-apart true e = apart-behind (codes " (*)") (subst (λ b. old.text.list.items ≡ a.front ++ (a.bytes ++ opening_text b) ++ a.texts) e a.written)
+    kept-apart false e = apart-behind (codes " ") (subst (λ b. old.text.list.items ≡ a.front ++ (a.bytes ++ opening_text b) ++ a.texts) e a.written)
 
 none-written : (l : List ℕ) → PrintAll 0 [] l → l ≡ []
 none-written l all = go all.0 all.1 all.2
@@ -293,16 +293,16 @@ void-closed s old new is_pointer a stands text candidates waits at =
     (builtin-comes s Kind.ItemButRef p.around p.inner old.at a.state 118 tt refl p.awaits both.0) in
     record {
       state = a.state;
-      candidates = subst (λ x. AreCandidates x.bytes.items new.candidates.items a.state.candidates) (sym text)
-          (subst (λ x. AreCandidates old.text.bytes.items x.items a.state.candidates) (sym candidates) a.candidates);
+      candidates = subst (λ x. AreCandidates x.list.items new.candidates.list.items a.state.candidates) (sym text)
+          (subst (λ x. AreCandidates old.text.list.items x.list.items a.state.candidates) (sym candidates) a.candidates);
       rest = a.rest;
-      open_is = ap (λ x. reverse x.items) waits ∙ a.open_is;
+      open_is = ap (λ x. reverse x.list.items) waits ∙ a.open_is;
       outer = a.outer;
       encoding = a.encoding;
       made = made;
       front = a.front;
       bytes = a.bytes ++ opening;
-      written = ap (λ x. x.bytes.items) text ∙ a.written
+      written = ap (λ x. x.list.items) text ∙ a.written
           ∙ ap (λ l. a.front ++ (a.bytes ++ opening) ++ l) (none-written a.texts (subst (λ ts. PrintAll 0 ts a.texts) none a.elements))
           ∙ append-nil (a.front ++ (a.bytes ++ opening));
       element = λ extra. void-function-element extra is_pointer a.returned a.bytes a.is_reference a.prints;
@@ -320,39 +320,39 @@ one-hidden : (text : List ℕ) (ks : List Candidate) (cs : List values.Candidate
     → AreCandidates text (ks ++ hidden ∷ []) (cs ++ c ∷ [])
 one-hidden text ks cs c p = candidates-more text ks cs hidden c p (λ ordered. absurd (omega (arith, ordered)))
 
-hidden-candidates : (w : Direct) (is_pointer : Bool) (text : List ℕ) (e : ℕ) (t : Term) (st : State) → AreCandidates text w.candidates.items st.candidates
+hidden-candidates : (w : Direct) (is_pointer : Bool) (text : List ℕ) (e : ℕ) (t : Term) (st : State) → AreCandidates text w.candidates.list.items st.candidates
     → AreCandidates text (with_hidden w is_pointer) (with_pointed is_pointer e t st).candidates
 hidden-candidates w true text e t st p =
-    one-hidden text (w.candidates.items ++ hidden ∷ []) (with_candidate e t st).candidates (record { tree = pointer t; encoding = e })
-    (one-hidden text w.candidates.items st.candidates (record { tree = t; encoding = e }) p)
-hidden-candidates w false text e t st p = one-hidden text w.candidates.items st.candidates (record { tree = t; encoding = e }) p
+    one-hidden text (w.candidates.list.items ++ hidden ∷ []) (with_candidate e t st).candidates (record { tree = pointer t; encoding = e })
+    (one-hidden text w.candidates.list.items st.candidates (record { tree = t; encoding = e }) p)
+hidden-candidates w false text e t st p = one-hidden text w.candidates.list.items st.candidates (record { tree = t; encoding = e }) p
 
 -- they are added to the candidates as they were
 pub hidden-behind : (old new : Direct) (is_pointer : Bool) → new.candidates ≡ old.candidates → with_hidden new is_pointer ≡ with_hidden old is_pointer
-hidden-behind old new true same = ap (λ v. (v.items ++ hidden ∷ []) ++ hidden ∷ []) same
-hidden-behind old new false same = ap (λ v. v.items ++ hidden ∷ []) same
+hidden-behind old new true same = ap (λ v. (v.list.items ++ hidden ∷ []) ++ hidden ∷ []) same
+hidden-behind old new false same = ap (λ v. v.list.items ++ hidden ∷ []) same
 
 -- what waits for the function type, once its own entry is taken away
 pub still-popped : (s : List ℕ) (old new : Direct) (is_pointer : Bool) (p : IsFunctionRead s old is_pointer) (left : List Open) (size : ℕ)
-    → new.waiting ≡ old.waiting → size ≡ length new.waiting.items → left ≡ take (size - 1) new.waiting.items → reverse left ≡ p.rest
+    → new.waiting ≡ old.waiting → size ≡ length new.waiting.list.items → left ≡ take (size - 1) new.waiting.list.items → reverse left ≡ p.rest
 still-popped s old new is_pointer p left size same length_is is =
-    popped old.waiting.items left p.rest (opens.Signature is_pointer) size (length_is ∙ ap (λ v. length v.items) same) p.open_is
-    (is ∙ ap (λ v. take (size - 1) v.items) same)
+    popped old.waiting.list.items left p.rest (opens.Signature is_pointer) size (length_is ∙ ap (λ v. length v.list.items) same) p.open_is
+    (is ∙ ap (λ v. take (size - 1) v.list.items) same)
 
 -- a function type is an element or a parameter
 pub function-handed : (s : List ℕ) (old new : Direct) (is_pointer : Bool) (o : Open) (p : IsFunctionRead s old is_pointer)
-    → new.text.bytes.items ≡ old.text.bytes.items ++ codes ")" → new.candidates.items ≡ with_hidden old is_pointer → reverse new.waiting.items ≡ p.rest
-    → new.at ≡ old.at → slice_get new.waiting.items (length new.waiting.items - 1) ≡ Some o → IsElementRead s new o
+    → new.text.list.items ≡ old.text.list.items ++ codes ")" → new.candidates.list.items ≡ with_hidden old is_pointer → reverse new.waiting.list.items ≡ p.rest
+    → new.at ≡ old.at → slice_get new.waiting.list.items (length new.waiting.list.items - 1) ≡ Some o → IsElementRead s new o
 function-handed s old new is_pointer o p text candidates waits at found =
-    let last = last-found new.waiting.items o found in
+    let last = last-found new.waiting.list.items o found in
     let own = pointed is_pointer p.made in
     let then_ = with_pointed is_pointer p.encoding p.made p.state in
     record {
       state = then_;
-      candidates = subst (λ l. AreCandidates l new.candidates.items then_.candidates) (sym text)
-          (subst (λ l. AreCandidates (old.text.bytes.items ++ codes ")") l then_.candidates) (sym candidates)
-          (hidden-candidates old is_pointer (old.text.bytes.items ++ codes ")") p.encoding p.made p.state
-          (candidates-stay old.text.bytes.items (codes ")") old.candidates.items p.state.candidates p.candidates)));
+      candidates = subst (λ l. AreCandidates l new.candidates.list.items then_.candidates) (sym text)
+          (subst (λ l. AreCandidates (old.text.list.items ++ codes ")") l then_.candidates) (sym candidates)
+          (hidden-candidates old is_pointer (old.text.list.items ++ codes ")") p.encoding p.made p.state
+          (candidates-stay old.text.list.items (codes ")") old.candidates.list.items p.state.candidates p.candidates)));
       rest = last.0;
       open_is = last.1;
       os = p.outer;

@@ -66,19 +66,19 @@ popped xs ys rest x n size e is =
 
 -- a type ends with its mark
 pub mark-done : (s : List ℕ) (old new : Direct) (mark : List ℕ) (from : ℕ) (r : Bool) (a : AwaitsMark s old mark from r)
-    → reverse new.waiting.items ≡ a.rest → new.text.bytes.items ≡ old.text.bytes.items ++ mark
-    → new.candidates.items ≡ old.candidates.items ++ record { from = from; to = length new.text.bytes.items; is_reference = r } ∷ []
+    → reverse new.waiting.list.items ≡ a.rest → new.text.list.items ≡ old.text.list.items ++ mark
+    → new.candidates.list.items ≡ old.candidates.list.items ++ record { from = from; to = length new.text.list.items; is_reference = r } ∷ []
     → new.at ≡ old.at → IsWriting s new (steps.Value r)
 mark-done s old new mark from r a waits text candidates at =
-    let written : new.text.bytes.items ≡ a.front ++ (a.bytes ++ mark)
+    let written : new.text.list.items ≡ a.front ++ (a.bytes ++ mark)
     = text ∙ ap (λ l. l ++ mark) a.written ∙ append_assoc a.front a.bytes mark in
     let state : State = with_candidate a.encoding a.made a.state in
     record {
       state = state;
-      candidates = subst (λ l. AreCandidates new.text.bytes.items l state.candidates) (sym candidates)
-          (candidates-added new.text.bytes.items old.candidates.items a.state.candidates a.front (a.bytes ++ mark) from a.made a.encoding r
-          (subst (λ l. AreCandidates l old.candidates.items a.state.candidates) (sym text)
-          (candidates-stay old.text.bytes.items mark old.candidates.items a.state.candidates a.candidates)) written a.from_is a.prints);
+      candidates = subst (λ l. AreCandidates new.text.list.items l state.candidates) (sym candidates)
+          (candidates-added new.text.list.items old.candidates.list.items a.state.candidates a.front (a.bytes ++ mark) from a.made a.encoding r
+          (subst (λ l. AreCandidates l old.candidates.list.items a.state.candidates) (sym text)
+          (candidates-stay old.text.list.items mark old.candidates.list.items a.state.candidates a.candidates)) written a.from_is a.prints);
       is_before = (
         a.outer,
         a.made,
@@ -93,37 +93,37 @@ mark-done s old new mark from r a waits text candidates at =
 
 -- the same, by what the calls give
 pub mark-answer : (s : List ℕ) (old mid new : Direct) (mark : List ℕ) (from : ℕ) (r : Bool) (a : AwaitsMark s old mark from r)
-    → reverse mid.waiting.items ≡ a.rest → mid.text.bytes.items ≡ old.text.bytes.items ++ mark → mid.candidates ≡ old.candidates → mid.at ≡ old.at
-    → new.candidates.items ≡ added mid from r → new.text ≡ mid.text → new.waiting ≡ mid.waiting → new.at ≡ mid.at → IsWriting s new (steps.Value r)
+    → reverse mid.waiting.list.items ≡ a.rest → mid.text.list.items ≡ old.text.list.items ++ mark → mid.candidates ≡ old.candidates → mid.at ≡ old.at
+    → new.candidates.list.items ≡ added mid from r → new.text ≡ mid.text → new.waiting ≡ mid.waiting → new.at ≡ mid.at → IsWriting s new (steps.Value r)
 mark-answer s old mid new mark from r a waits text candidates at more same_text same_waits same_at =
-    mark-done s old new mark from r a (ap (λ v. reverse v.items) same_waits ∙ waits) (ap (λ v. v.bytes.items) same_text ∙ text)
-    (more ∙ ap (λ v. v.items ++ record { from = from; to = length mid.text.bytes.items; is_reference = r } ∷ []) candidates
-    ∙ ap (λ v. old.candidates.items ++ record { from = from; to = length v.bytes.items; is_reference = r } ∷ []) (sym same_text))
+    mark-done s old new mark from r a (ap (λ v. reverse v.list.items) same_waits ∙ waits) (ap (λ v. v.list.items) same_text ∙ text)
+    (more ∙ ap (λ v. v.list.items ++ record { from = from; to = length mid.text.list.items; is_reference = r } ∷ []) candidates
+    ∙ ap (λ v. old.candidates.list.items ++ record { from = from; to = length v.list.items; is_reference = r } ∷ []) (sym same_text))
     (same_at ∙ at)
 
 -- ## Names of types
 
 named-candidates : (s : List ℕ) (old new : Direct) (from : ℕ) (listed r : Bool) (a : IsTypeNamed s old from listed r)
-    → new.candidates.items ≡ added_unless old listed from
-    → AreCandidates old.text.bytes.items new.candidates.items (unless_listed listed a.around.encoding a.own a.state).candidates
+    → new.candidates.list.items ≡ added_unless old listed from
+    → AreCandidates old.text.list.items new.candidates.list.items (unless_listed listed a.around.encoding a.own a.state).candidates
 named-candidates s old new from true r a candidates =
-    subst (λ l. AreCandidates old.text.bytes.items l a.state.candidates) (sym candidates) a.candidates
+    subst (λ l. AreCandidates old.text.list.items l a.state.candidates) (sym candidates) a.candidates
 named-candidates s old new from false r a candidates =
     let state : State = with_candidate a.around.encoding a.own a.state in
-    subst (λ l. AreCandidates old.text.bytes.items l state.candidates) (sym candidates)
-    (candidates-added old.text.bytes.items old.candidates.items a.state.candidates a.front a.bytes from a.own a.around.encoding false a.candidates a.written
+    subst (λ l. AreCandidates old.text.list.items l state.candidates) (sym candidates)
+    (candidates-added old.text.list.items old.candidates.list.items a.state.candidates a.front a.bytes from a.own a.around.encoding false a.candidates a.written
     a.from_is (subst (λ b. Prints a.own a.bytes b) (a.no_reference refl) a.prints))
 
 -- nothing stands behind the name of a type
 pub bare-done : (s : List ℕ) (old new : Direct) (from : ℕ) (listed r : Bool) → IsTypeNamed s old from listed r
-    → new.waiting.items ≡ old.waiting.items → new.text.bytes.items ≡ old.text.bytes.items → new.candidates.items ≡ added_unless old listed from
+    → new.waiting.list.items ≡ old.waiting.list.items → new.text.list.items ≡ old.text.list.items → new.candidates.list.items ≡ added_unless old listed from
     → new.at ≡ old.at → IsWriting s new (steps.Value r)
 unfolding may_be_empty
 bare-done s old new from listed r a waits text candidates at =
     let state : State = unless_listed listed a.around.encoding a.own a.state in
     record {
       state = state;
-      candidates = subst (λ l. AreCandidates l new.candidates.items state.candidates) (sym text)
+      candidates = subst (λ l. AreCandidates l new.candidates.list.items state.candidates) (sym text)
           (named-candidates s old new from listed r a candidates);
       is_before = (
         a.outer,
@@ -140,19 +140,19 @@ bare-done s old new from listed r a waits text candidates at =
 
 -- and arguments do
 pub argued-done : (s : List ℕ) (old new : Direct) (from : ℕ) (listed : Bool) → IsTypeNamed s old from listed false → StandsAt s old.at (73 ∷ [])
-    → new.waiting.items ≡ old.waiting.items ++ opens.TypeArguments from ∷ [] → new.text.bytes.items ≡ old.text.bytes.items ++ codes "<"
-    → new.candidates.items ≡ added_unless old listed from → new.at ≡ old.at + 1 → IsWriting s new (steps.List true)
+    → new.waiting.list.items ≡ old.waiting.list.items ++ opens.TypeArguments from ∷ [] → new.text.list.items ≡ old.text.list.items ++ codes "<"
+    → new.candidates.list.items ≡ added_unless old listed from → new.at ≡ old.at + 1 → IsWriting s new (steps.List true)
 unfolding inside
 argued-done s old new from listed a stands waits text candidates at =
     let state : State = unless_listed listed a.around.encoding a.own a.state in
     let o = arguments-open s a.named.inner a.around a.own listed old.at a.state a.named.awaits stands in
     record {
       state = state;
-      candidates = subst (λ l. AreCandidates l new.candidates.items state.candidates) (sym text)
-          (candidates-stay old.text.bytes.items (codes "<") new.candidates.items state.candidates
+      candidates = subst (λ l. AreCandidates l new.candidates.list.items state.candidates) (sym text)
+          (candidates-stay old.text.list.items (codes "<") new.candidates.list.items state.candidates
           (named-candidates s old new from listed false a candidates));
-      is_before = arguments-begun s new state (opens.TypeArguments from) (reverse old.waiting.items) a.front a.bytes a.own
-          (ap reverse waits ∙ reverse-last old.waiting.items (opens.TypeArguments from)) (a.from_is, a.prints)
+      is_before = arguments-begun s new state (opens.TypeArguments from) (reverse old.waiting.list.items) a.front a.bytes a.own
+          (ap reverse waits ∙ reverse-last old.waiting.list.items (opens.TypeArguments from)) (a.from_is, a.prints)
           (text ∙ ap (λ l. l ++ codes "<") a.written) (
             inside a.around,
             o.inner,
@@ -169,16 +169,16 @@ argued-done s old new from listed a stands waits text candidates at =
 
 -- the same, by what the calls give
 pub argued-answer : (s : List ℕ) (old mid new : Direct) (from : ℕ) (listed r : Bool) (o : Option Step) → IsTypeNamed s old from listed r → r ≡ false
-    → mid.candidates.items ≡ added_unless old listed from → mid.text ≡ old.text → mid.waiting ≡ old.waiting → mid.at ≡ old.at
+    → mid.candidates.list.items ≡ added_unless old listed from → mid.text ≡ old.text → mid.waiting ≡ old.waiting → mid.at ≡ old.at
     → StandsAt s mid.at (73 ∷ []) → IfSome o (λ next. next ≡ steps.List true)
-    → OnSome o (new.waiting.items ≡ mid.waiting.items ++ opens.TypeArguments from ∷ []) → OnSome o (new.at ≡ mid.at + 1)
-    → OnSome o (new.text.bytes.items ≡ mid.text.bytes.items ++ codes "<") → OnSome o (new.candidates ≡ mid.candidates) → IfSome o (IsWriting s new)
+    → OnSome o (new.waiting.list.items ≡ mid.waiting.list.items ++ opens.TypeArguments from ∷ []) → OnSome o (new.at ≡ mid.at + 1)
+    → OnSome o (new.text.list.items ≡ mid.text.list.items ++ codes "<") → OnSome o (new.candidates ≡ mid.candidates) → IfSome o (IsWriting s new)
 argued-answer s old mid new from listed r o a none candidates text waits at stands is new_waits new_at new_text new_candidates =
     by-step o (steps.List true) (IsWriting s new) is
     (λ e. argued-done s old new from listed (subst (λ b. IsTypeNamed s old from listed b) none a) (subst (λ k. StandsAt s k (73 ∷ [])) at stands)
-    (given _ o (steps.List true) e new_waits ∙ ap (λ v. v.items ++ opens.TypeArguments from ∷ []) waits)
-    (given _ o (steps.List true) e new_text ∙ ap (λ v. v.bytes.items ++ codes "<") text)
-    (ap (λ v. v.items) (given _ o (steps.List true) e new_candidates) ∙ candidates)
+    (given _ o (steps.List true) e new_waits ∙ ap (λ v. v.list.items ++ opens.TypeArguments from ∷ []) waits)
+    (given _ o (steps.List true) e new_text ∙ ap (λ v. v.list.items ++ codes "<") text)
+    (ap (λ v. v.list.items) (given _ o (steps.List true) e new_candidates) ∙ candidates)
     (given _ o (steps.List true) e new_at ∙ ap (λ k. k + 1) at))
 
 -- ## Letters of tables
@@ -291,26 +291,26 @@ awaits-type s w false p = go p.is_before.3
 
 -- a builtin type is read
 pub builtin-done : (s : List ℕ) (old new : Direct) (letter : ℕ) → AwaitsType s old → (letter ≢ 0 → StandsAt s old.at (letter ∷ []))
-    → look_up (letter ∷ []) builtin_texts ≢ [] → new.text.bytes.items ≡ old.text.bytes.items ++ look_up (letter ∷ []) builtin_texts
-    → new.candidates.items ≡ old.candidates.items → new.waiting.items ≡ old.waiting.items → new.at ≡ old.at + 1 → IsWriting s new (steps.Value false)
+    → look_up (letter ∷ []) builtin_texts ≢ [] → new.text.list.items ≡ old.text.list.items ++ look_up (letter ∷ []) builtin_texts
+    → new.candidates.list.items ≡ old.candidates.list.items → new.waiting.list.items ≡ old.waiting.list.items → new.at ≡ old.at + 1 → IsWriting s new (steps.Value false)
 builtin-done s old new letter a stands has text candidates waits at =
     let is = builtin-listed letter has in
     let bytes : List ℕ = look_up (letter ∷ []) builtin_texts in
     record {
       state = a.state;
-      candidates = subst (λ l. AreCandidates new.text.bytes.items l a.state.candidates) (sym candidates)
-          (subst (λ l. AreCandidates l old.candidates.items a.state.candidates) (sym text)
-          (candidates-stay old.text.bytes.items bytes old.candidates.items a.state.candidates a.candidates));
+      candidates = subst (λ l. AreCandidates new.text.list.items l a.state.candidates) (sym candidates)
+          (subst (λ l. AreCandidates l old.candidates.list.items a.state.candidates) (sym text)
+          (candidates-stay old.text.list.items bytes old.candidates.list.items a.state.candidates a.candidates));
       is_before = (
         a.os,
         builtin (letter ∷ []),
-        old.text.bytes.items,
+        old.text.list.items,
         bytes,
         text,
         builtin-prints letter has,
         subst (λ k. Comes s a.os (tree (builtin (letter ∷ [])) true) k a.state) (sym at)
             (builtin-comes s a.kind a.around a.os old.at a.state letter a.typed is a.awaits (stands (no-builtin letter is))),
-        subst (λ l. Stands s (reverse l) a.os old.text.bytes.items) (sym waits) a.stands,
+        subst (λ l. Stands s (reverse l) a.os old.text.list.items) (sym waits) a.stands,
       );
     }
 
@@ -321,27 +321,27 @@ no-builtin-with-d letter is none = absurd (false≢true (subst (λ l. is_builtin
 -- and so is one with a code of two letters
 pub builtin-with-d-done : (s : List ℕ) (old new : Direct) (letter : ℕ) → AwaitsType s old → StandsAt s old.at (68 ∷ [])
     → (letter ≢ 0 → StandsAt s (old.at + 1) (letter ∷ []))
-    → look_up (68 ∷ letter ∷ []) builtin_texts ≢ [] → new.text.bytes.items ≡ old.text.bytes.items ++ look_up (68 ∷ letter ∷ []) builtin_texts
+    → look_up (68 ∷ letter ∷ []) builtin_texts ≢ [] → new.text.list.items ≡ old.text.list.items ++ look_up (68 ∷ letter ∷ []) builtin_texts
     → new.candidates ≡ old.candidates → new.waiting ≡ old.waiting → new.at ≡ old.at + 1 + 1 → IsWriting s new (steps.Value false)
 builtin-with-d-done s old new letter a first stands has text candidates waits at =
     let is = builtin-with-d-listed letter has in
     let bytes : List ℕ = look_up (68 ∷ letter ∷ []) builtin_texts in
     record {
       state = a.state;
-      candidates = subst (λ v. AreCandidates new.text.bytes.items v.items a.state.candidates) (sym candidates)
-          (subst (λ l. AreCandidates l old.candidates.items a.state.candidates) (sym text)
-          (candidates-stay old.text.bytes.items bytes old.candidates.items a.state.candidates a.candidates));
+      candidates = subst (λ v. AreCandidates new.text.list.items v.list.items a.state.candidates) (sym candidates)
+          (subst (λ l. AreCandidates l old.candidates.list.items a.state.candidates) (sym text)
+          (candidates-stay old.text.list.items bytes old.candidates.list.items a.state.candidates a.candidates));
       is_before = (
         a.os,
         builtin (68 ∷ letter ∷ []),
-        old.text.bytes.items,
+        old.text.list.items,
         bytes,
         text,
         builtin-with-d-prints letter has,
         subst (λ k. Comes s a.os (tree (builtin (68 ∷ letter ∷ [])) true) k a.state) (omega (arith, at))
             (builtin-with-d-comes s a.kind a.around a.os old.at a.state letter a.typed is a.awaits
             (stands-join s old.at (68 ∷ []) (letter ∷ []) first (stands (no-builtin-with-d letter is)))),
-        subst (λ v. Stands s (reverse v.items) a.os old.text.bytes.items) (sym waits) a.stands,
+        subst (λ v. Stands s (reverse v.list.items) a.os old.text.list.items) (sym waits) a.stands,
       );
     }
 
@@ -363,7 +363,7 @@ names-awaited s w a = record {
 
 -- a name with its length is read
 pub source-named : (s : List ℕ) (old new : Direct) (from : ℕ) (name : List ℕ) → AwaitsNamedType s old → IsNameAt s old.at name new.at → name ≢ []
-    → Reads old new (source_text name) → from ≡ length old.text.bytes.items → IsTypeNamed s new from false false
+    → Reads old new (source_text name) → from ≡ length old.text.list.items → IsTypeNamed s new from false false
 source-named s old new from name a is some reads begins = record {
   state = a.state;
   candidates = candidates-read old new (source_text name) a.state.candidates reads a.candidates;
@@ -372,54 +372,54 @@ source-named s old new from name a is some reads begins = record {
   outer = a.os;
   own = alone (source false name);
   named = source-opens s a.kind a.around a.os old.at a.state name new.at a.is_named a.outside a.begins is;
-  front = old.text.bytes.items;
+  front = old.text.list.items;
   bytes = source_text name;
   written = reads.text;
   from_is = begins;
   prints = source-prints false name some;
   no_reference = λ e. refl;
-  stands = subst (λ v. Stands s (reverse v.items) a.os old.text.bytes.items) (sym reads.waiting) a.stands;
+  stands = subst (λ v. Stands s (reverse v.list.items) a.os old.text.list.items) (sym reads.waiting) a.stands;
 }
 
 -- a name in std
 pub std-named : (s : List ℕ) (old mid new : Direct) (from : ℕ) (name : List ℕ) → AwaitsNamedType s old → StandsAt s old.at (83 ∷ [])
     → StandsAt s (old.at + 1) (116 ∷ [])
-    → mid.text.bytes.items ≡ old.text.bytes.items ++ codes "std::" → mid.candidates ≡ old.candidates → mid.waiting ≡ old.waiting → mid.at ≡ old.at + 1 + 1
-    → IsNameAt s mid.at name new.at → name ≢ [] → Reads mid new (source_text name) → from ≡ length old.text.bytes.items → IsTypeNamed s new from false false
+    → mid.text.list.items ≡ old.text.list.items ++ codes "std::" → mid.candidates ≡ old.candidates → mid.waiting ≡ old.waiting → mid.at ≡ old.at + 1 + 1
+    → IsNameAt s mid.at name new.at → name ≢ [] → Reads mid new (source_text name) → from ≡ length old.text.list.items → IsTypeNamed s new from false false
 std-named s old mid new from name a s_stands t_stands text candidates waits at is some reads begins = record {
   state = a.state;
   candidates = candidates-read mid new (source_text name) a.state.candidates reads
-      (subst (λ v. AreCandidates mid.text.bytes.items v.items a.state.candidates) (sym candidates)
-      (subst (λ l. AreCandidates l old.candidates.items a.state.candidates) (sym text)
-      (candidates-stay old.text.bytes.items (codes "std::") old.candidates.items a.state.candidates a.candidates)));
+      (subst (λ v. AreCandidates mid.text.list.items v.list.items a.state.candidates) (sym candidates)
+      (subst (λ l. AreCandidates l old.candidates.list.items a.state.candidates) (sym text)
+      (candidates-stay old.text.list.items (codes "std::") old.candidates.list.items a.state.candidates a.candidates)));
   around = a.around;
   outside = a.outside;
   outer = a.os;
   own = in_std (source false name);
   named = std-opens s a.kind a.around a.os old.at a.state name new.at a.is_named a.begins (stands-join s old.at (83 ∷ []) (116 ∷ []) s_stands t_stands)
       (subst (λ k. IsNameAt s k name new.at) (omega (arith, at)) is);
-  front = old.text.bytes.items;
+  front = old.text.list.items;
   bytes = codes "std::" ++ source_text name;
-  written = reads.text ∙ ap (λ l. l ++ source_text name) text ∙ append_assoc old.text.bytes.items (codes "std::") (source_text name);
+  written = reads.text ∙ ap (λ l. l ++ source_text name) text ∙ append_assoc old.text.list.items (codes "std::") (source_text name);
   from_is = begins;
   prints = std-prints false name some;
   no_reference = λ e. refl;
-  stands = subst (λ v. Stands s (reverse v.items) a.os old.text.bytes.items) (sym (reads.waiting ∙ waits)) a.stands;
+  stands = subst (λ v. Stands s (reverse v.list.items) a.os old.text.list.items) (sym (reads.waiting ∙ waits)) a.stands;
 }
 
 -- an abbreviation
 pub abbreviation-named : (s : List ℕ) (old new : Direct) (from letter : ℕ) → AwaitsNamedType s old → StandsAt s old.at (83 ∷ [])
     → (letter ≢ 0 → StandsAt s (old.at + 1) (letter ∷ [])) → look_up (letter ∷ []) abbreviation_texts ≢ []
-    → new.text.bytes.items ≡ old.text.bytes.items ++ look_up (letter ∷ []) abbreviation_texts → new.candidates ≡ old.candidates → new.waiting ≡ old.waiting
-    → new.at ≡ old.at + 1 + 1 → from ≡ length old.text.bytes.items → IsTypeNamed s new from true false
+    → new.text.list.items ≡ old.text.list.items ++ look_up (letter ∷ []) abbreviation_texts → new.candidates ≡ old.candidates → new.waiting ≡ old.waiting
+    → new.at ≡ old.at + 1 + 1 → from ≡ length old.text.list.items → IsTypeNamed s new from true false
 abbreviation-named s old new from letter a s_stands stands has text candidates waits at begins =
     let is = abbreviation-listed letter has in
     let bytes : List ℕ = look_up (letter ∷ []) abbreviation_texts in
     record {
       state = a.state;
-      candidates = subst (λ v. AreCandidates new.text.bytes.items v.items a.state.candidates) (sym candidates)
-          (subst (λ l. AreCandidates l old.candidates.items a.state.candidates) (sym text)
-          (candidates-stay old.text.bytes.items bytes old.candidates.items a.state.candidates a.candidates));
+      candidates = subst (λ v. AreCandidates new.text.list.items v.list.items a.state.candidates) (sym candidates)
+          (subst (λ l. AreCandidates l old.candidates.list.items a.state.candidates) (sym text)
+          (candidates-stay old.text.list.items bytes old.candidates.list.items a.state.candidates a.candidates));
       around = a.around;
       outside = a.outside;
       outer = a.os;
@@ -427,88 +427,88 @@ abbreviation-named s old new from letter a s_stands stands has text candidates w
       named = subst (λ k. TypeNamed s a.os a.around (abbreviation letter) true k a.state) (omega (arith, at))
           (abbreviation-opens s a.kind a.around a.os old.at a.state letter a.is_named is a.begins
           (stands-join s old.at (83 ∷ []) (letter ∷ []) s_stands (stands (no-abbreviation letter is))));
-      front = old.text.bytes.items;
+      front = old.text.list.items;
       bytes = bytes;
       written = text;
       from_is = begins;
       prints = abbreviation-prints letter has;
       no_reference = λ e. refl;
-      stands = subst (λ v. Stands s (reverse v.items) a.os old.text.bytes.items) (sym waits) a.stands;
+      stands = subst (λ v. Stands s (reverse v.list.items) a.os old.text.list.items) (sym waits) a.stands;
     }
 
 -- where a substitution's text stands
-pub substitution-stands : (s : List ℕ) (old : Direct) (n : ℕ) (k : Candidate) → AwaitsNamedType s old → k.from ≤ k.to → slice_get old.candidates.items n ≡ Some k
-    → (k.from ≤ k.to) × (k.to ≤ length old.text.bytes.items)
+pub substitution-stands : (s : List ℕ) (old : Direct) (n : ℕ) (k : Candidate) → AwaitsNamedType s old → k.from ≤ k.to → slice_get old.candidates.list.items n ≡ Some k
+    → (k.from ≤ k.to) × (k.to ≤ length old.text.list.items)
 substitution-stands s old n k a ordered found =
-    let c = candidate-found old.text.bytes.items old.candidates.items a.state.candidates n k a.candidates ordered found in
-    let piece = piece-found old.text.bytes.items c.2.front c.2.bytes c.2.back k.from k.to c.2.written c.2.from_is c.2.to_is in
+    let c = candidate-found old.text.list.items old.candidates.list.items a.state.candidates n k a.candidates ordered found in
+    let piece = piece-found old.text.list.items c.2.front c.2.bytes c.2.back k.from k.to c.2.written c.2.from_is c.2.to_is in
     (piece.0, piece.1)
 
 -- a substitution
 pub substitution-named : (s : List ℕ) (old new : Direct) (from : ℕ) (digits : List ℕ) (k : Candidate) → AwaitsNamedType s old → StandsAt s old.at (83 ∷ [])
-    → IsSeqAt s (old.at + 1) digits new.at → k.from ≤ k.to → slice_get old.candidates.items (counted_value Seq36 digits) ≡ Some k
-    → new.text.bytes.items ≡ old.text.bytes.items ++ take (k.to - k.from) (drop k.from old.text.bytes.items) → new.candidates ≡ old.candidates
-    → new.waiting ≡ old.waiting → from ≡ length old.text.bytes.items → IsTypeNamed s new from true k.is_reference
+    → IsSeqAt s (old.at + 1) digits new.at → k.from ≤ k.to → slice_get old.candidates.list.items (counted_value Seq36 digits) ≡ Some k
+    → new.text.list.items ≡ old.text.list.items ++ take (k.to - k.from) (drop k.from old.text.list.items) → new.candidates ≡ old.candidates
+    → new.waiting ≡ old.waiting → from ≡ length old.text.list.items → IsTypeNamed s new from true k.is_reference
 substitution-named s old new from digits k a stands is ordered found text candidates waits begins =
-    let c = candidate-found old.text.bytes.items old.candidates.items a.state.candidates (counted_value Seq36 digits) k a.candidates ordered found in
-    let piece = piece-found old.text.bytes.items c.2.front c.2.bytes c.2.back k.from k.to c.2.written c.2.from_is c.2.to_is in
-    let written : new.text.bytes.items ≡ old.text.bytes.items ++ c.2.bytes = text ∙ ap (λ l. old.text.bytes.items ++ l) piece.2 in
+    let c = candidate-found old.text.list.items old.candidates.list.items a.state.candidates (counted_value Seq36 digits) k a.candidates ordered found in
+    let piece = piece-found old.text.list.items c.2.front c.2.bytes c.2.back k.from k.to c.2.written c.2.from_is c.2.to_is in
+    let written : new.text.list.items ≡ old.text.list.items ++ c.2.bytes = text ∙ ap (λ l. old.text.list.items ++ l) piece.2 in
     record {
       state = a.state;
-      candidates = subst (λ v. AreCandidates new.text.bytes.items v.items a.state.candidates) (sym candidates)
-          (subst (λ l. AreCandidates l old.candidates.items a.state.candidates) (sym written)
-          (candidates-stay old.text.bytes.items c.2.bytes old.candidates.items a.state.candidates a.candidates));
+      candidates = subst (λ v. AreCandidates new.text.list.items v.list.items a.state.candidates) (sym candidates)
+          (subst (λ l. AreCandidates l old.candidates.list.items a.state.candidates) (sym written)
+          (candidates-stay old.text.list.items c.2.bytes old.candidates.list.items a.state.candidates a.candidates));
       around = a.around;
       outside = a.outside;
       outer = a.os;
       own = c.0.tree;
       named = substitution-opens s a.kind a.around a.os old.at a.state digits new.at c.0 a.is_named c.1 c.2.prints.is_closed c.2.prints.packless
           a.begins stands is;
-      front = old.text.bytes.items;
+      front = old.text.list.items;
       bytes = c.2.bytes;
       written = written;
       from_is = begins;
       prints = c.2.prints;
       no_reference = λ e. absurd (false≢true (sym e));
-      stands = subst (λ v. Stands s (reverse v.items) a.os old.text.bytes.items) (sym waits) a.stands;
+      stands = subst (λ v. Stands s (reverse v.list.items) a.os old.text.list.items) (sym waits) a.stands;
     }
 
 -- ## Types within types
 
 -- a type within another one is expected
 pub type-opened : (s : List ℕ) (old new : Direct) (o : Option Step) (entry : Open) (from : ℕ) (made : Term → Term) (a : AwaitsType s old)
-    (t : TypeOpens s Kind.Type a.os a.around made (old.at + 1) a.state) → from ≡ length old.text.bytes.items
-    → (Marks s (Stands s (reverse old.waiting.items)) t.inner old.text.bytes.items from made → Stands s (entry ∷ reverse old.waiting.items) t.inner old.text.bytes.items)
-    → IfSome o (λ next. next ≡ steps.Type) → OnSome o (new.waiting.items ≡ old.waiting.items ++ entry ∷ []) → OnSome o (new.at ≡ old.at + 1)
+    (t : TypeOpens s Kind.Type a.os a.around made (old.at + 1) a.state) → from ≡ length old.text.list.items
+    → (Marks s (Stands s (reverse old.waiting.list.items)) t.inner old.text.list.items from made → Stands s (entry ∷ reverse old.waiting.list.items) t.inner old.text.list.items)
+    → IfSome o (λ next. next ≡ steps.Type) → OnSome o (new.waiting.list.items ≡ old.waiting.list.items ++ entry ∷ []) → OnSome o (new.at ≡ old.at + 1)
     → new.text ≡ old.text → new.candidates ≡ old.candidates → IfSome o (IsWriting s new)
 type-opened s old new o entry from made a t begins stands is waits at text candidates = by-step o steps.Type (IsWriting s new) is (λ e.
     record {
       state = a.state;
-      candidates = subst (λ v. AreCandidates new.text.bytes.items v.items a.state.candidates) (sym candidates)
-          (subst (λ v. AreCandidates v.bytes.items old.candidates.items a.state.candidates) (sym text) a.candidates);
+      candidates = subst (λ v. AreCandidates new.text.list.items v.list.items a.state.candidates) (sym candidates)
+          (subst (λ v. AreCandidates v.list.items old.candidates.list.items a.state.candidates) (sym text) a.candidates);
       is_before = (
         t.inner,
         a.around,
         a.outside,
         inl (subst (λ k. Expects s Kind.Type a.around t.inner k a.state) (sym (given _ o steps.Type e at)) t.awaits),
-        subst (λ l. Stands s l t.inner new.text.bytes.items)
-            (sym (ap reverse (given _ o steps.Type e waits) ∙ reverse-last old.waiting.items entry))
-            (subst (λ v. Stands s (entry ∷ reverse old.waiting.items) t.inner v.bytes.items) (sym text)
+        subst (λ l. Stands s l t.inner new.text.list.items)
+            (sym (ap reverse (given _ o steps.Type e waits) ∙ reverse-last old.waiting.list.items entry))
+            (subst (λ v. Stands s (entry ∷ reverse old.waiting.list.items) t.inner v.list.items) (sym text)
             (stands (a.os, a.around.encoding, begins, t.passes, a.stands))),
       );
     })
 
 -- behind a P
-pub pointer-opened : (s : List ℕ) (old new : Direct) (o : Option Step) (from : ℕ) → AwaitsType s old → from ≡ length old.text.bytes.items
-    → StandsAt s old.at (80 ∷ []) → IfSome o (λ next. next ≡ steps.Type) → OnSome o (new.waiting.items ≡ old.waiting.items ++ opens.Pointer from ∷ [])
+pub pointer-opened : (s : List ℕ) (old new : Direct) (o : Option Step) (from : ℕ) → AwaitsType s old → from ≡ length old.text.list.items
+    → StandsAt s old.at (80 ∷ []) → IfSome o (λ next. next ≡ steps.Type) → OnSome o (new.waiting.list.items ≡ old.waiting.list.items ++ opens.Pointer from ∷ [])
     → OnSome o (new.at ≡ old.at + 1) → new.text ≡ old.text → new.candidates ≡ old.candidates → IfSome o (IsWriting s new)
 pointer-opened s old new o from a begins stands is waits at text candidates =
     type-opened s old new o (opens.Pointer from) from pointer a (pointer-opens s a.kind a.around a.os old.at a.state a.typed a.awaits stands) begins
     (λ m. m) is waits at text candidates
 
 -- behind an R
-pub lvalue-opened : (s : List ℕ) (old new : Direct) (o : Option Step) (from : ℕ) → AwaitsType s old → from ≡ length old.text.bytes.items
-    → StandsAt s old.at (82 ∷ []) → IfSome o (λ next. next ≡ steps.Type) → OnSome o (new.waiting.items ≡ old.waiting.items ++ opens.Lvalue from ∷ [])
+pub lvalue-opened : (s : List ℕ) (old new : Direct) (o : Option Step) (from : ℕ) → AwaitsType s old → from ≡ length old.text.list.items
+    → StandsAt s old.at (82 ∷ []) → IfSome o (λ next. next ≡ steps.Type) → OnSome o (new.waiting.list.items ≡ old.waiting.list.items ++ opens.Lvalue from ∷ [])
     → OnSome o (new.at ≡ old.at + 1) → new.text ≡ old.text → new.candidates ≡ old.candidates → IfSome o (IsWriting s new)
 lvalue-opened s old new o from a begins stands is waits at text candidates =
     go a.referable
@@ -520,8 +520,8 @@ lvalue-opened s old new o from a begins stands is waits at text candidates =
         (λ m. m) is waits at text candidates
 
 -- and behind an O
-pub rvalue-opened : (s : List ℕ) (old new : Direct) (o : Option Step) (from : ℕ) → AwaitsType s old → from ≡ length old.text.bytes.items
-    → StandsAt s old.at (79 ∷ []) → IfSome o (λ next. next ≡ steps.Type) → OnSome o (new.waiting.items ≡ old.waiting.items ++ opens.Rvalue from ∷ [])
+pub rvalue-opened : (s : List ℕ) (old new : Direct) (o : Option Step) (from : ℕ) → AwaitsType s old → from ≡ length old.text.list.items
+    → StandsAt s old.at (79 ∷ []) → IfSome o (λ next. next ≡ steps.Type) → OnSome o (new.waiting.list.items ≡ old.waiting.list.items ++ opens.Rvalue from ∷ [])
     → OnSome o (new.at ≡ old.at + 1) → new.text ≡ old.text → new.candidates ≡ old.candidates → IfSome o (IsWriting s new)
 rvalue-opened s old new o from a begins stands is waits at text candidates =
     go a.referable
@@ -534,33 +534,33 @@ rvalue-opened s old new o from a begins stands is waits at text candidates =
 
 -- a plain type is expected, where one with a qualifier may be
 plain-opened : (s : List ℕ) (old new : Direct) (o : Option Step) (from : ℕ) (a : AwaitsType s old) → IsQualifiable a.kind
-    → from ≡ length old.text.bytes.items
-    → StandsAt s old.at (75 ∷ []) → IfSome o (λ next. next ≡ steps.Plain) → OnSome o (new.waiting.items ≡ old.waiting.items ++ opens.Const from ∷ [])
+    → from ≡ length old.text.list.items
+    → StandsAt s old.at (75 ∷ []) → IfSome o (λ next. next ≡ steps.Plain) → OnSome o (new.waiting.list.items ≡ old.waiting.list.items ++ opens.Const from ∷ [])
     → OnSome o (new.at ≡ old.at + 1) → new.text ≡ old.text → new.candidates ≡ old.candidates → IfSome o (IsWriting s new)
 plain-opened s old new o from a may begins stands is waits at text candidates =
     let t = const-opens s a.kind a.around a.os old.at a.state may a.awaits stands in
     by-step o steps.Plain (IsWriting s new) is (λ e.
     record {
       state = a.state;
-      candidates = subst (λ v. AreCandidates new.text.bytes.items v.items a.state.candidates) (sym candidates)
-          (subst (λ v. AreCandidates v.bytes.items old.candidates.items a.state.candidates) (sym text) a.candidates);
+      candidates = subst (λ v. AreCandidates new.text.list.items v.list.items a.state.candidates) (sym candidates)
+          (subst (λ v. AreCandidates v.list.items old.candidates.list.items a.state.candidates) (sym text) a.candidates);
       is_before = (
         t.inner,
         a.around,
         a.outside,
         subst (λ k. Expects s Kind.Plain a.around t.inner k a.state) (sym (given _ o steps.Plain e at))
             t.awaits,
-        subst (λ l. Stands s l t.inner new.text.bytes.items)
-            (sym (ap reverse (given _ o steps.Plain e waits) ∙ reverse-last old.waiting.items (opens.Const from)))
-            (subst (λ v. Stands s (opens.Const from ∷ reverse old.waiting.items) t.inner v.bytes.items) (sym text)
+        subst (λ l. Stands s l t.inner new.text.list.items)
+            (sym (ap reverse (given _ o steps.Plain e waits) ∙ reverse-last old.waiting.list.items (opens.Const from)))
+            (subst (λ v. Stands s (opens.Const from ∷ reverse old.waiting.list.items) t.inner v.list.items) (sym text)
             (a.os, a.around.encoding, begins, t.passes, a.stands)),
       );
     })
 
 -- behind a K
 pub const-opened : (s : List ℕ) (old new : Direct) (o : Option Step) (from : ℕ) (is_plain : Bool)
-    → IsWriting s old (if is_plain then steps.Plain else steps.Type) → is_plain ≡ false → from ≡ length old.text.bytes.items
-    → StandsAt s old.at (75 ∷ []) → IfSome o (λ next. next ≡ steps.Plain) → OnSome o (new.waiting.items ≡ old.waiting.items ++ opens.Const from ∷ [])
+    → IsWriting s old (if is_plain then steps.Plain else steps.Type) → is_plain ≡ false → from ≡ length old.text.list.items
+    → StandsAt s old.at (75 ∷ []) → IfSome o (λ next. next ≡ steps.Plain) → OnSome o (new.waiting.list.items ≡ old.waiting.list.items ++ opens.Const from ∷ [])
     → OnSome o (new.at ≡ old.at + 1) → new.text ≡ old.text → new.candidates ≡ old.candidates → IfSome o (IsWriting s new)
 const-opened s old new o from true p plain begins stands is waits at text candidates = absurd (false≢true (sym plain))
 const-opened s old new o from false p plain begins stands is waits at text candidates = go p.is_before.3

@@ -326,39 +326,39 @@ pub record IsNesting (s : List ℕ) (kind : Kind) (w : Direct) (t : Term) (st : 
   pub around : Around
   pub outer : List Opened
   pub bytes : List ℕ
-  pub written : w.text.bytes.items ≡ front ++ bytes
-  pub is_nest : IsNest front bytes w.text.bytes.items w.nest t
+  pub written : w.text.list.items ≡ front ++ bytes
+  pub is_nest : IsNest front bytes w.text.list.items w.nest t
   pub goes : NestGoesOn s kind outer around t w.nest.is_listed w.at st
-  pub serves : Serves s w.nest.purpose (Stands s (reverse w.waiting.items)) outer front
+  pub serves : Serves s w.nest.purpose (Stands s (reverse w.waiting.list.items)) outer front
 
 -- where a writer is, before it takes a step
 abbrev pub IsBefore : (s : List ℕ) → Direct → State → Step → Type 0
 IsBefore s w st steps.Type =
     (os : List Opened) × (around : Around) × (around.prefix ≡ outermost)
     × (Expects s Kind.Type around os w.at st ⊎ Expects s Kind.Item around os w.at st
-    ⊎ (Expects s Kind.ItemButRef around os w.at st × NoReference s w.at)) × Stands s (reverse w.waiting.items) os w.text.bytes.items
+    ⊎ (Expects s Kind.ItemButRef around os w.at st × NoReference s w.at)) × Stands s (reverse w.waiting.list.items) os w.text.list.items
 IsBefore s w st steps.Plain =
     (os : List Opened) × (around : Around) × (around.prefix ≡ outermost)
-    × Expects s Kind.Plain around os w.at st × Stands s (reverse w.waiting.items) os w.text.bytes.items
+    × Expects s Kind.Plain around os w.at st × Stands s (reverse w.waiting.list.items) os w.text.list.items
 IsBefore s w st (steps.Value is_reference) =
     (os : List Opened) × (t : Term) × (front : List ℕ) × (bytes : List ℕ)
-    × (w.text.bytes.items ≡ front ++ bytes) × Prints t bytes is_reference
-    × Comes s os (tree t true) w.at st × Stands s (reverse w.waiting.items) os front
+    × (w.text.list.items ≡ front ++ bytes) × Prints t bytes is_reference
+    × Comes s os (tree t true) w.at st × Stands s (reverse w.waiting.list.items) os front
 IsBefore s w st (steps.List is_first) =
-    (place : IsListing (reverse w.waiting.items) w.text.bytes.items) × (ts : List Term) × (elements : List ℕ)
+    (place : IsListing (reverse w.waiting.list.items) w.text.list.items) × (ts : List Term) × (elements : List ℕ)
     × PrintAll (extra_of place.listing) ts elements
-    × (w.text.bytes.items ≡ led_by place.listing place.front place.name ++ elements)
+    × (w.text.list.items ≡ led_by place.listing place.front place.name ++ elements)
     × (is_first ≡ true → ts ≡ []) × (is_first ≡ false → ts ≢ [])
     × GoesOn s place.listing place.owner (Stands s place.rest) place.front place.template ts w.at st
 IsBefore s w st steps.Rest = (t : Term) × IsNesting s Kind.NestRest w t st
 IsBefore s w st steps.Tail = (t : Term) × IsNesting s Kind.NestTail w t st × (w.nest.is_instance ≡ false → has_return_type t ≡ false)
 IsBefore s w st steps.Component =
     (t : Term) × (front : List ℕ) × (bytes : List ℕ) × (around : Around) × (outer : List Opened)
-    × (w.text.bytes.items ≡ front ++ bytes) × IsNest front bytes w.text.bytes.items w.nest t × AwaitsComponent s outer around t w.at st × Serves s w.nest.purpose (Stands s (reverse w.waiting.items)) outer front
-IsBefore s w st steps.Ended = IsWhole s w.text.bytes.items
+    × (w.text.list.items ≡ front ++ bytes) × IsNest front bytes w.text.list.items w.nest t × AwaitsComponent s outer around t w.at st × Serves s w.nest.purpose (Stands s (reverse w.waiting.list.items)) outer front
+IsBefore s w st steps.Ended = IsWhole s w.text.list.items
 
 -- a writer that has come so far, and what comes next
 pub record IsWriting (s : List ℕ) (w : Direct) (step : Step) : Type 0 where
   pub state : State
-  pub candidates : AreCandidates w.text.bytes.items w.candidates.items state.candidates
+  pub candidates : AreCandidates w.text.list.items w.candidates.list.items state.candidates
   pub is_before : IsBefore s w state step

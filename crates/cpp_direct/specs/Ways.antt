@@ -24,18 +24,18 @@ const_text false = []
 
 -- nothing is written yet
 pub record IsFresh (w : Direct) : Type 0 where
-  pub no_text : w.text.bytes.items ≡ []
-  pub no_candidate : w.candidates.items ≡ []
-  pub none_open : w.waiting.items ≡ []
+  pub no_text : w.text.list.items ≡ []
+  pub no_candidate : w.candidates.list.items ≡ []
+  pub none_open : w.waiting.list.items ≡ []
 
 -- an encoding is expected behind what is written
 pub record AwaitsEncoding (s : List ℕ) (w : Direct) : Type 0 where
   pub state : State
-  pub candidates : AreCandidates w.text.bytes.items w.candidates.items state.candidates
+  pub candidates : AreCandidates w.text.list.items w.candidates.list.items state.candidates
   pub around : Around
   pub outer : List Opened
   pub awaits : Expects s Kind.Encoding around outer w.at state
-  pub onward : (e : Term) (at : ℕ) (st : State) → Comes s outer (tree e true) at st → EncodedBehind s w.text.bytes.items e at
+  pub onward : (e : Term) (at : ℕ) (st : State) → Comes s outer (tree e true) at st → EncodedBehind s w.text.list.items e at
 
 -- the name of an encoding that began before is expected, behind the L of internal linkage or without
 pub record AwaitsSource (s : List ℕ) (w : Direct) (is_internal : Bool) : Type 0 where
@@ -47,7 +47,7 @@ pub record AwaitsSource (s : List ℕ) (w : Direct) (is_internal : Bool) : Type 
 -- a type is expected
 pub record AwaitsType (s : List ℕ) (w : Direct) : Type 0 where
   pub state : State
-  pub candidates : AreCandidates w.text.bytes.items w.candidates.items state.candidates
+  pub candidates : AreCandidates w.text.list.items w.candidates.list.items state.candidates
   pub kind : Kind
   pub typed : IsTyped kind
   pub referable : IsReferable kind ⊎ NoReference s w.at
@@ -55,24 +55,24 @@ pub record AwaitsType (s : List ℕ) (w : Direct) : Type 0 where
   pub outside : around.prefix ≡ outermost
   pub os : List Opened
   pub awaits : Expects s kind around os w.at state
-  pub stands : Stands s (reverse w.waiting.items) os w.text.bytes.items
+  pub stands : Stands s (reverse w.waiting.list.items) os w.text.list.items
 
 -- a type is expected that is a name
 pub record AwaitsNamedType (s : List ℕ) (w : Direct) : Type 0 where
   pub state : State
-  pub candidates : AreCandidates w.text.bytes.items w.candidates.items state.candidates
+  pub candidates : AreCandidates w.text.list.items w.candidates.list.items state.candidates
   pub kind : Kind
   pub is_named : IsNamedKind kind
   pub around : Around
   pub outside : around.prefix ≡ outermost
   pub os : List Opened
   pub begins : TreeOpens s kind os around w.at state
-  pub stands : Stands s (reverse w.waiting.items) os w.text.bytes.items
+  pub stands : Stands s (reverse w.waiting.list.items) os w.text.list.items
 
 -- the name of a type was read, which is a candidate already or not, and was written from a place on
 pub record IsTypeNamed (s : List ℕ) (w : Direct) (from : ℕ) (is_listed is_reference : Bool) : Type 0 where
   pub state : State
-  pub candidates : AreCandidates w.text.bytes.items w.candidates.items state.candidates
+  pub candidates : AreCandidates w.text.list.items w.candidates.list.items state.candidates
   pub around : Around
   pub outside : around.prefix ≡ outermost
   pub outer : List Opened
@@ -80,26 +80,26 @@ pub record IsTypeNamed (s : List ℕ) (w : Direct) (from : ℕ) (is_listed is_re
   pub named : TypeNamed s outer around own is_listed w.at state
   pub front : List ℕ
   pub bytes : List ℕ
-  pub written : w.text.bytes.items ≡ front ++ bytes
+  pub written : w.text.list.items ≡ front ++ bytes
   pub from_is : from ≡ length front
   pub prints : Prints own bytes is_reference
   pub no_reference : is_listed ≡ false → is_reference ≡ false
-  pub stands : Stands s (reverse w.waiting.items) outer front
+  pub stands : Stands s (reverse w.waiting.list.items) outer front
 
 -- A type was read that what waits for it marks. It was written from a place on, but for its mark.
 pub record AwaitsMark (s : List ℕ) (w : Direct) (mark : List ℕ) (from : ℕ) (is_reference : Bool) : Type 0 where
   pub state : State
-  pub candidates : AreCandidates w.text.bytes.items w.candidates.items state.candidates
+  pub candidates : AreCandidates w.text.list.items w.candidates.list.items state.candidates
   pub entry : Open
   pub rest : List Open
-  pub open_is : reverse w.waiting.items ≡ entry ∷ rest
+  pub open_is : reverse w.waiting.list.items ≡ entry ∷ rest
   pub outer : List Opened
   pub encoding : ℕ
   pub made : Term
   pub comes : Comes s outer (tree made true) w.at (with_candidate encoding made state)
   pub front : List ℕ
   pub bytes : List ℕ
-  pub written : w.text.bytes.items ≡ front ++ bytes
+  pub written : w.text.list.items ≡ front ++ bytes
   pub from_is : from ≡ length front
   pub prints : Prints made (bytes ++ mark) is_reference
   pub stands : Stands s rest outer front
@@ -107,61 +107,61 @@ pub record AwaitsMark (s : List ℕ) (w : Direct) (mark : List ℕ) (from : ℕ)
 -- the first piece of a nested name is expected
 pub record AwaitsNest (s : List ℕ) (w : Direct) (purpose : Purpose) : Type 0 where
   pub state : State
-  pub candidates : AreCandidates w.text.bytes.items w.candidates.items state.candidates
+  pub candidates : AreCandidates w.text.list.items w.candidates.list.items state.candidates
   pub around : Around
   pub outside : around.prefix ≡ outermost
   pub outer : List Opened
   pub awaits : Expects s Kind.Nest around outer w.at state
-  pub serves : Serves s purpose (Stands s (reverse w.waiting.items)) outer w.text.bytes.items
+  pub serves : Serves s purpose (Stands s (reverse w.waiting.list.items)) outer w.text.list.items
 
 -- A component of a nested name was read, or a name in std. Arguments may stand behind it.
 pub record IsNestNamed (s : List ℕ) (w : Direct) : Type 0 where
   pub state : State
-  pub candidates : AreCandidates w.text.bytes.items w.candidates.items state.candidates
+  pub candidates : AreCandidates w.text.list.items w.candidates.list.items state.candidates
   pub around : Around
   pub outer : List Opened
   pub own : Term
   pub named : NestNamed s outer around own w.at state
   pub front : List ℕ
   pub bytes : List ℕ
-  pub written : w.text.bytes.items ≡ front ++ bytes
-  pub is_nest : IsNest front bytes w.text.bytes.items w.nest own
+  pub written : w.text.list.items ≡ front ++ bytes
+  pub is_nest : IsNest front bytes w.text.list.items w.nest own
   pub unlisted : w.nest.is_listed ≡ false
   pub no_instance : w.nest.is_instance ≡ false
   pub no_return : has_return_type own ≡ false
   pub structor : w.nest.has_class ≡ false → is_structor own ≡ true
-  pub serves : Serves s w.nest.purpose (Stands s (reverse w.waiting.items)) outer front
+  pub serves : Serves s w.nest.purpose (Stands s (reverse w.waiting.list.items)) outer front
 
 -- A constructor or a destructor was read, and was written but for the name of its class.
 pub record AwaitsClass (s : List ℕ) (w : Direct) : Type 0 where
   pub state : State
-  pub candidates : AreCandidates w.text.bytes.items w.candidates.items state.candidates
+  pub candidates : AreCandidates w.text.list.items w.candidates.list.items state.candidates
   pub around : Around
   pub outer : List Opened
   pub own : Term
   pub named : NestNamed s outer around own w.at state
   pub front : List ℕ
   pub bytes : List ℕ
-  pub written : w.text.bytes.items ≡ front ++ bytes
+  pub written : w.text.list.items ≡ front ++ bytes
   pub from_is : w.nest.from ≡ length front
   pub class_front : List ℕ
   pub class : List ℕ
   pub class_back : List ℕ
-  pub class_written : w.text.bytes.items ≡ class_front ++ class ++ class_back
+  pub class_written : w.text.list.items ≡ class_front ++ class ++ class_back
   pub class_from : w.nest.class_from ≡ length class_front
   pub class_to : w.nest.class_to ≡ length class_front + length class
   pub prints : Prints own (bytes ++ class) false
   pub no_return : has_return_type own ≡ false
   pub structor : is_structor own ≡ true
-  pub serves : Serves s w.nest.purpose (Stands s (reverse w.waiting.items)) outer front
+  pub serves : Serves s w.nest.purpose (Stands s (reverse w.waiting.list.items)) outer front
 
 -- The arguments of what was opened last are read and their E, but for their last bracket.
 pub record IsListEnded (s : List ℕ) (w : Direct) : Type 0 where
   pub state : State
-  pub candidates : AreCandidates w.text.bytes.items w.candidates.items state.candidates
+  pub candidates : AreCandidates w.text.list.items w.candidates.list.items state.candidates
   pub owner : Open
   pub rest : List Open
-  pub open_is : reverse w.waiting.items ≡ owner ∷ rest
+  pub open_is : reverse w.waiting.list.items ≡ owner ∷ rest
   pub front : List ℕ
   pub template : Term
   pub name : List ℕ
@@ -169,29 +169,29 @@ pub record IsListEnded (s : List ℕ) (w : Direct) : Type 0 where
   pub tail : Term
   pub is_tail : IsTail tail
   pub arguments : List ℕ
-  pub is_template : IsTemplate owner front template name w.text.bytes.items
+  pub is_template : IsTemplate owner front template name w.text.list.items
   pub elements : PrintAll 3 ts arguments
-  pub written : w.text.bytes.items ≡ front ++ name ++ codes "<" ++ arguments
+  pub written : w.text.list.items ≡ front ++ name ++ codes "<" ++ arguments
   pub owns : Owns s owner (Stands s rest) front (instance template (list_with ts tail)) w.at state
 
 -- An element is expected, and the comma before it is written.
 pub record AwaitsNextArgument (s : List ℕ) (w : Direct) : Type 0 where
   pub state : State
-  pub candidates : AreCandidates w.text.bytes.items w.candidates.items state.candidates
-  pub place : IsListing (reverse w.waiting.items) w.text.bytes.items
+  pub candidates : AreCandidates w.text.list.items w.candidates.list.items state.candidates
+  pub place : IsListing (reverse w.waiting.list.items) w.text.list.items
   pub ts : List Term
   pub texts : List ℕ
   pub elements : PrintAll (extra_of place.listing) ts texts
-  pub written : w.text.bytes.items ≡ led_by place.listing place.front place.name ++ in_front_of_next ts texts
+  pub written : w.text.list.items ≡ led_by place.listing place.front place.name ++ in_front_of_next ts texts
   pub goes : GoesOn s place.listing place.owner (Stands s place.rest) place.front place.template ts w.at state
 
 -- The type of an enumerator was read, which is an element. Its number is expected.
 pub record AwaitsNumber (s : List ℕ) (w : Direct) : Type 0 where
   pub state : State
-  pub candidates : AreCandidates w.text.bytes.items w.candidates.items state.candidates
+  pub candidates : AreCandidates w.text.list.items w.candidates.list.items state.candidates
   pub opened : List Open
-  pub open_is : reverse w.waiting.items ≡ opens.Enumerator ∷ opened
-  pub place : IsListing opened w.text.bytes.items
+  pub open_is : reverse w.waiting.list.items ≡ opens.Enumerator ∷ opened
+  pub place : IsListing opened w.text.list.items
   pub ts : List Term
   pub texts : List ℕ
   pub elements : PrintAll (extra_of place.listing) ts texts
@@ -199,13 +199,13 @@ pub record AwaitsNumber (s : List ℕ) (w : Direct) : Type 0 where
   pub bytes : List ℕ
   pub is_reference : Bool
   pub prints : Prints type bytes is_reference
-  pub written : w.text.bytes.items ≡ led_by place.listing place.front place.name ++ in_front_of_next ts texts ++ codes "(" ++ bytes
+  pub written : w.text.list.items ≡ led_by place.listing place.front place.name ++ in_front_of_next ts texts ++ codes "(" ++ bytes
   pub goes : EnumeratorGoesOn s place.listing place.owner (Stands s place.rest) place.front place.template ts type w.at state
 
 -- The name of an encoding was read and written, but for its qualifier.
 pub record IsNameEnded (s : List ℕ) (w : Direct) (is_const is_instance : Bool) : Type 0 where
   pub state : State
-  pub candidates : AreCandidates w.text.bytes.items w.candidates.items state.candidates
+  pub candidates : AreCandidates w.text.list.items w.candidates.list.items state.candidates
   pub own : Term
   pub v : Value
   pub tree_is : tree_of v ≡ own
@@ -213,7 +213,7 @@ pub record IsNameEnded (s : List ℕ) (w : Direct) (is_const is_instance : Bool)
   pub mark_is : ref_of v ≡ any_value
   pub lead : List ℕ
   pub name : List ℕ
-  pub written : w.text.bytes.items ≡ lead ++ name
+  pub written : w.text.list.items ≡ lead ++ name
   pub prints : Prints own name false
   pub no_return : is_instance ≡ false → has_return_type own ≡ false
   pub awaits : AwaitsItems s lead v w.at state
@@ -221,9 +221,9 @@ pub record IsNameEnded (s : List ℕ) (w : Direct) (is_const is_instance : Bool)
 -- A parameter of a function was read.
 pub record IsParameterEnded (s : List ℕ) (w : Direct) (is_const : Bool) : Type 0 where
   pub state : State
-  pub candidates : AreCandidates w.text.bytes.items w.candidates.items state.candidates
+  pub candidates : AreCandidates w.text.list.items w.candidates.list.items state.candidates
   pub rest : List Open
-  pub open_is : reverse w.waiting.items ≡ opens.Parameters is_const ∷ rest
+  pub open_is : reverse w.waiting.list.items ≡ opens.Parameters is_const ∷ rest
   pub v : Value
   pub ts : List Term
   pub some : ts ≢ []
@@ -231,17 +231,17 @@ pub record IsParameterEnded (s : List ℕ) (w : Direct) (is_const : Bool) : Type
   pub name : List ℕ
   pub parameters : List ℕ
   pub is_function : IsFunction is_const v ts name parameters
-  pub written : w.text.bytes.items ≡ lead ++ name ++ codes "(" ++ parameters
+  pub written : w.text.list.items ≡ lead ++ name ++ codes "(" ++ parameters
   pub goes : ParametersGoOn s lead v ts w.at state
 
 -- An encoding was read and written behind a text, but for its qualifier.
 pub record IsEncodingEnded (s : List ℕ) (w : Direct) (is_const : Bool) : Type 0 where
   pub state : State
-  pub candidates : AreCandidates w.text.bytes.items w.candidates.items state.candidates
+  pub candidates : AreCandidates w.text.list.items w.candidates.list.items state.candidates
   pub e : Term
   pub lead : List ℕ
   pub bytes : List ℕ
-  pub written : w.text.bytes.items ++ const_text is_const ≡ lead ++ bytes
+  pub written : w.text.list.items ++ const_text is_const ≡ lead ++ bytes
   pub shows : Shows e bytes
   pub encloses : Encloses e bytes
   pub behind : EncodedBehind s lead e w.at
@@ -249,10 +249,10 @@ pub record IsEncodingEnded (s : List ℕ) (w : Direct) (is_const : Bool) : Type 
 -- The encoding of a symbol was read and written.
 pub record IsSymbolEnded (s : List ℕ) (w : Direct) : Type 0 where
   pub state : State
-  pub candidates : AreCandidates w.text.bytes.items w.candidates.items state.candidates
+  pub candidates : AreCandidates w.text.list.items w.candidates.list.items state.candidates
   pub e : Term
   pub encoded : Encoded s e w.at
-  pub shows : Shows e w.text.bytes.items
+  pub shows : Shows e w.text.list.items
 
 -- ## Local entities
 
@@ -270,14 +270,14 @@ pub record AwaitsEntity (s : List ℕ) (w : Direct) (is_internal : Bool) : Type 
 -- A type was read behind a text, as an element or a parameter of what is open.
 pub record IsElementRead (s : List ℕ) (w : Direct) (o : Open) : Type 0 where
   pub state : State
-  pub candidates : AreCandidates w.text.bytes.items w.candidates.items state.candidates
+  pub candidates : AreCandidates w.text.list.items w.candidates.list.items state.candidates
   pub rest : List Open
-  pub open_is : reverse w.waiting.items ≡ o ∷ rest
+  pub open_is : reverse w.waiting.list.items ≡ o ∷ rest
   pub os : List Opened
   pub own : Term
   pub front : List ℕ
   pub bytes : List ℕ
-  pub written : w.text.bytes.items ≡ front ++ bytes
+  pub written : w.text.list.items ≡ front ++ bytes
   pub element : (extra : ℕ) → IsElement extra own bytes
   pub comes : Comes s os (tree own true) w.at state
   pub stands : Stands s (o ∷ rest) os front
@@ -285,9 +285,9 @@ pub record IsElementRead (s : List ℕ) (w : Direct) (o : Open) : Type 0 where
 -- Of a function type the return type was read, or a parameter.
 pub record AwaitsSignature (s : List ℕ) (w : Direct) (is_pointer is_first : Bool) : Type 0 where
   pub state : State
-  pub candidates : AreCandidates w.text.bytes.items w.candidates.items state.candidates
+  pub candidates : AreCandidates w.text.list.items w.candidates.list.items state.candidates
   pub rest : List Open
-  pub open_is : reverse w.waiting.items ≡ opens.Signature is_pointer ∷ rest
+  pub open_is : reverse w.waiting.list.items ≡ opens.Signature is_pointer ∷ rest
   pub outer : List Opened
   pub encoding : ℕ
   pub front : List ℕ
@@ -300,7 +300,7 @@ pub record AwaitsSignature (s : List ℕ) (w : Direct) (is_pointer is_first : Bo
   pub some : is_first ≡ false → ts ≢ []
   pub texts : List ℕ
   pub elements : PrintAll 0 ts texts
-  pub written : w.text.bytes.items ≡ front ++ (bytes ++ opening_text is_pointer) ++ texts
+  pub written : w.text.list.items ≡ front ++ (bytes ++ opening_text is_pointer) ++ texts
   pub goes : SignatureGoesOn s outer encoding is_pointer (λ l. plain_function returned (list_with ts l)) w.at state
   pub takes : TakesFunction rest
   pub stands : Stands s rest outer front
@@ -308,9 +308,9 @@ pub record AwaitsSignature (s : List ℕ) (w : Direct) (is_pointer is_first : Bo
 -- A parameter of a function type comes next.
 pub record AwaitsParameter (s : List ℕ) (w : Direct) (is_pointer : Bool) : Type 0 where
   pub state : State
-  pub candidates : AreCandidates w.text.bytes.items w.candidates.items state.candidates
+  pub candidates : AreCandidates w.text.list.items w.candidates.list.items state.candidates
   pub rest : List Open
-  pub open_is : reverse w.waiting.items ≡ opens.Signature is_pointer ∷ rest
+  pub open_is : reverse w.waiting.list.items ≡ opens.Signature is_pointer ∷ rest
   pub outer : List Opened
   pub encoding : ℕ
   pub front : List ℕ
@@ -321,7 +321,7 @@ pub record AwaitsParameter (s : List ℕ) (w : Direct) (is_pointer : Bool) : Typ
   pub ts : List Term
   pub texts : List ℕ
   pub elements : PrintAll 0 ts texts
-  pub written : w.text.bytes.items ≡ front ++ (bytes ++ opening_text is_pointer) ++ in_front_of_next ts texts
+  pub written : w.text.list.items ≡ front ++ (bytes ++ opening_text is_pointer) ++ in_front_of_next ts texts
   pub goes : SignatureGoesOn s outer encoding is_pointer (λ l. plain_function returned (list_with ts l)) w.at state
   pub takes : TakesFunction rest
   pub stands : Stands s rest outer front
@@ -329,9 +329,9 @@ pub record AwaitsParameter (s : List ℕ) (w : Direct) (is_pointer : Bool) : Typ
 -- The return type of a function type was read.
 pub record IsReturned (s : List ℕ) (w : Direct) (is_pointer : Bool) : Type 0 where
   pub state : State
-  pub candidates : AreCandidates w.text.bytes.items w.candidates.items state.candidates
+  pub candidates : AreCandidates w.text.list.items w.candidates.list.items state.candidates
   pub rest : List Open
-  pub open_is : reverse w.waiting.items ≡ opens.Returned is_pointer ∷ rest
+  pub open_is : reverse w.waiting.list.items ≡ opens.Returned is_pointer ∷ rest
   pub outer : List Opened
   pub encoding : ℕ
   pub front : List ℕ
@@ -339,7 +339,7 @@ pub record IsReturned (s : List ℕ) (w : Direct) (is_pointer : Bool) : Type 0 w
   pub bytes : List ℕ
   pub is_reference : Bool
   pub prints : Prints returned bytes is_reference
-  pub written : w.text.bytes.items ≡ front ++ bytes
+  pub written : w.text.list.items ≡ front ++ bytes
   pub goes : SignatureGoesOn s outer encoding is_pointer (λ l. plain_function returned l) w.at state
   pub takes : TakesFunction rest
   pub stands : Stands s rest outer front
@@ -347,15 +347,15 @@ pub record IsReturned (s : List ℕ) (w : Direct) (is_pointer : Bool) : Type 0 w
 -- A function type was read, or a pointer to one, and written but for its last bracket.
 pub record IsFunctionRead (s : List ℕ) (w : Direct) (is_pointer : Bool) : Type 0 where
   pub state : State
-  pub candidates : AreCandidates w.text.bytes.items w.candidates.items state.candidates
+  pub candidates : AreCandidates w.text.list.items w.candidates.list.items state.candidates
   pub rest : List Open
-  pub open_is : reverse w.waiting.items ≡ opens.Signature is_pointer ∷ rest
+  pub open_is : reverse w.waiting.list.items ≡ opens.Signature is_pointer ∷ rest
   pub outer : List Opened
   pub encoding : ℕ
   pub made : Term
   pub front : List ℕ
   pub bytes : List ℕ
-  pub written : w.text.bytes.items ≡ front ++ bytes
+  pub written : w.text.list.items ≡ front ++ bytes
   pub element : (extra : ℕ) → IsElement extra (pointed is_pointer made) (bytes ++ codes ")")
   pub comes : Comes s outer (tree (pointed is_pointer made) true) w.at (with_pointed is_pointer encoding made state)
   pub takes : TakesFunction rest

@@ -5,28 +5,28 @@ use Rattle.cpp_direct.specs.declared.direct.Direct.{Direct}
 
 -- a text was written, and nothing else changed
 pub record Writes (old new : Direct) (bytes : List ℕ) : Type 0 where
-  pub text : new.text.bytes.items ≡ old.text.bytes.items ++ bytes
+  pub text : new.text.list.items ≡ old.text.list.items ++ bytes
   pub candidates : new.candidates ≡ old.candidates
   pub waiting : new.waiting ≡ old.waiting
   pub nest : new.nest ≡ old.nest
   pub at : new.at ≡ old.at
-  pub most : new.most ≡ old.most
+  pub rounds : new.rounds ≡ old.rounds
 
 -- the same, and the place is another one
 pub record Reads (old new : Direct) (bytes : List ℕ) : Type 0 where
-  pub text : new.text.bytes.items ≡ old.text.bytes.items ++ bytes
+  pub text : new.text.list.items ≡ old.text.list.items ++ bytes
   pub candidates : new.candidates ≡ old.candidates
   pub waiting : new.waiting ≡ old.waiting
   pub nest : new.nest ≡ old.nest
-  pub most : new.most ≡ old.most
+  pub rounds : new.rounds ≡ old.rounds
 
 -- the candidates, and what is written from a place on
 abbrev pub added : Direct → (from : ℕ) → (is_reference : Bool) → List Candidate
-added w from is_reference = w.candidates.items ++ record { from = from; to = length w.text.bytes.items; is_reference = is_reference } ∷ []
+added w from is_reference = w.candidates.list.items ++ record { from = from; to = length w.text.list.items; is_reference = is_reference } ∷ []
 
 -- the same unless that is one already
 abbrev pub added_unless : Direct → (is_listed : Bool) → (from : ℕ) → List Candidate
-added_unless w true from = w.candidates.items
+added_unless w true from = w.candidates.list.items
 added_unless w false from = added w from false
 
 -- a candidate that ends before it begins
@@ -35,5 +35,5 @@ hidden = record { from = 1; to = 0; is_reference = false }
 
 -- the candidates, and such a one for a function type and for the pointer to it
 abbrev pub with_hidden : Direct → (is_pointer : Bool) → List Candidate
-with_hidden w true = (w.candidates.items ++ hidden ∷ []) ++ hidden ∷ []
-with_hidden w false = w.candidates.items ++ hidden ∷ []
+with_hidden w true = (w.candidates.list.items ++ hidden ∷ []) ++ hidden ∷ []
+with_hidden w false = w.candidates.list.items ++ hidden ∷ []

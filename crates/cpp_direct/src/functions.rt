@@ -22,7 +22,7 @@ impl Direct {
         requires writing { IsWriting s.now self.old steps.Type }
         ensures { IfSome result (IsWriting s.now self.new) }
     {
-        match *self.waiting.last()? {
+        match *self.waiting.as_slice().last()? {
             Open::Pointer { .. }
             | Open::Lvalue { .. }
             | Open::Rvalue { .. }
@@ -34,7 +34,7 @@ impl Direct {
             _ => {}
         }
         self.at = self.at.checked_add(if is_pointer { 2 } else { 1 })?;
-        self.waiting.push(Open::Returned { is_pointer }).ok()?;
+        self.waiting.push(Open::Returned { is_pointer })?;
         Some(Step::Type)
     }
 
@@ -47,7 +47,7 @@ impl Direct {
     {
         let _open = self.waiting.pop();
         self.push(if is_pointer { b" (*)(" } else { b" (" })?;
-        self.waiting.push(Open::Signature { is_pointer }).ok()?;
+        self.waiting.push(Open::Signature { is_pointer })?;
         self.first_parameter(s, is_pointer)
     }
 
@@ -80,7 +80,7 @@ impl Direct {
     {
         if byte_at(s, self.at) == b'E' {
             // a lone void is no parameter
-            if self.text.bytes.ends_with(b"(void") {
+            if self.text.as_slice().ends_with(b"(void") {
                 return None;
             }
             self.at = self.at.checked_add(1)?;
@@ -98,7 +98,7 @@ impl Direct {
         requires { AwaitsParameter s.now self.old _is_pointer }
         ensures { IfSome result (IsWriting s.now self.new) }
     {
-        let from = self.text.bytes.len();
+        let from = self.text.len();
         let byte = byte_at(s, self.at);
         if byte == b'R' {
             return self.open_type(Open::Lvalue { from }, Step::Type);
@@ -122,7 +122,7 @@ impl Direct {
         self.push_byte(b')')?;
         self.add_hidden(is_pointer)?;
         let _open = self.waiting.pop();
-        match *self.waiting.last()? {
+        match *self.waiting.as_slice().last()? {
             Open::Parameters { is_const } => self.parameter_ended(s, is_const),
             _ => Some(Step::List { is_first: false }),
         }

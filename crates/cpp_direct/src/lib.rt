@@ -1,7 +1,9 @@
 //! The text of a C++ symbol, written while its bytes are read.
 //!
-//! Names, classes, template arguments and types without functions or arrays are read so, which most symbols are made of. A symbol
-//! with anything else in it is given up, and is to be read by its grammar.
+//! Functions, variables, their local entities, thunks and special objects are read so, with names, nested names, operators of
+//! classes, constructors, template arguments, packs, literals, pointers, references and const; function types where they are
+//! arguments or parameters, by themselves or behind one pointer. A symbol with anything else in it is given up, and is to be read
+//! by its grammar: no answer depends on this crate, which one call in `sym_filter` (`languages`) makes and may leave out.
 #![tactic(auto)]
 
 mod direct;

@@ -123,7 +123,7 @@ impl Direct {
         requires awaits { AwaitsNextArgument s.now self.old }
         ensures { IfSome result (IsWriting s.now self.new) }
     {
-        match *self.waiting.last()? {
+        match *self.waiting.as_slice().last()? {
             Open::Pack => None,
             _ => self.open_type(Open::Pack, Step::List { is_first: true }),
         }
@@ -143,7 +143,7 @@ impl Direct {
             return None;
         }
         self.at = self.at.checked_add(1)?;
-        match *self.waiting.last()? {
+        match *self.waiting.as_slice().last()? {
             Open::Pack => None,
             _ => self.close_list(s),
         }
@@ -158,7 +158,7 @@ impl Direct {
         ensures { IfSome result (IsWriting s.now self.new) }
     {
         self.at = self.at.checked_add(1)?;
-        match *self.waiting.last()? {
+        match *self.waiting.as_slice().last()? {
             Open::Pack => {
                 // nothing stands for a pack of nothing, and no comma before it
                 if is_first {
@@ -219,7 +219,7 @@ impl Direct {
             }
             b'N' | b'S' | b'1'..=b'9' => {
                 self.push(b"(")?;
-                self.waiting.push(Open::Enumerator).ok()?;
+                self.waiting.push(Open::Enumerator)?;
                 self.named_type(s)
             }
             _ => {
@@ -238,10 +238,10 @@ impl Direct {
         ensures { IfSome result (IsWriting s.now self.new) }
     {
         // the integers of some builtin types stand without them
-        if self.text.bytes.ends_with(b"int") {
+        if self.text.as_slice().ends_with(b"int") {
             return None;
         }
-        if self.text.bytes.ends_with(b"long") {
+        if self.text.as_slice().ends_with(b"long") {
             return None;
         }
         let _open = self.waiting.pop();

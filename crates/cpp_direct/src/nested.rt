@@ -39,12 +39,12 @@ impl Direct {
         if byte_at(s, self.at) == b'S' {
             return self.nest_with_s(s, purpose);
         }
-        let from = self.text.bytes.len();
+        let from = self.text.len();
         self.name(s)?;
         self.nest = Nest {
             from,
             class_from: from,
-            class_to: self.text.bytes.len(),
+            class_to: self.text.len(),
             purpose,
             is_listed: false,
             has_class: true,
@@ -60,7 +60,7 @@ impl Direct {
         requires awaits { AwaitsNest s.now self.old purpose }
         ensures { IfSome result (IsWriting s.now self.new) }
     {
-        let from = self.text.bytes.len();
+        let from = self.text.len();
         self.at = self.at.checked_add(1)?;
         let letter = byte_at(s, self.at);
         if letter == b't' {
@@ -90,15 +90,15 @@ impl Direct {
             × AwaitsNest s.now (record self.old { at = before }) purpose }
         ensures { IfSome result (IsWriting s.now self.new) }
     {
-        let from = self.text.bytes.len();
+        let from = self.text.len();
         self.at = self.at.checked_add(1)?;
         self.push(b"std::")?;
-        let class_from = self.text.bytes.len();
+        let class_from = self.text.len();
         self.name(s)?;
         self.nest = Nest {
             from,
             class_from,
-            class_to: self.text.bytes.len(),
+            class_to: self.text.len(),
             purpose,
             is_listed: false,
             has_class: true,
@@ -194,11 +194,11 @@ impl Direct {
             self.at = self.at.checked_add(1)?;
         }
         self.push_pair(b':', b':')?;
-        let class_from = self.text.bytes.len();
+        let class_from = self.text.len();
         self.name(s)?;
         self.nest = Nest {
             class_from,
-            class_to: self.text.bytes.len(),
+            class_to: self.text.len(),
             is_listed: false,
             has_class: true,
             is_instance: false,
@@ -224,11 +224,11 @@ impl Direct {
         }
         self.at = self.at.checked_add(1)?;
         self.push_pair(b':', b':')?;
-        let class_from = self.text.bytes.len();
+        let class_from = self.text.len();
         self.push(text)?;
         self.nest = Nest {
             class_from,
-            class_to: self.text.bytes.len(),
+            class_to: self.text.len(),
             is_listed: false,
             has_class: true,
             is_instance: false,

@@ -9,13 +9,22 @@ ghost use Rattle.cpp_direct.specs.Holes.{StandsAt};
 ghost use Rattle.cpp_direct.specs.Stands.{IsWriting};
 ghost use Rattle.cpp_direct.specs.Ways.{IsFresh, AwaitsEncoding, AwaitsSource, IsNameEnded, IsParameterEnded, IsEncodingEnded, IsSymbolEnded};
 
-use crate::direct::{Direct, Text};
+use crate::direct::Direct;
 use crate::open::{Nest, Open, Purpose, Step};
 use crate::tokens::{byte_at, is_local, is_suffix, may_end};
 use std::alloc::Global;
+use sym_direct::Bounded;
 
 /// The longest symbol that is written so, in bytes: the lists stay small, and real symbols are shorter.
 const LONGEST: usize = 4_096;
+
+/// The most bytes of text that are written for each byte of a symbol, and those that are written anyway. Of 725,558 real symbols 70
+/// have longer texts.
+const BYTES_A_BYTE: usize = 8;
+const BYTES_ANYWAY: usize = 1_024;
+
+/// The most steps that are taken for each byte of a symbol: each reads a byte, or ends what was read.
+const ROUNDS_A_BYTE: usize = 8;
 
 /// Before the first nested name.
 const NO_NEST: Nest = Nest {
@@ -32,71 +41,93 @@ impl Direct {
     /// Lists that have no memory yet.
     pub fn new(alloc: Global) -> Direct {
         Direct {
-            text: Text {
-                bytes: Vec::new(alloc),
-                room: 0,
-            },
-            candidates: Vec::new(alloc),
-            waiting: Vec::new(alloc),
+            text: Bounded::new(alloc),
+            candidates: Bounded::new(alloc),
+            waiting: Bounded::new(alloc),
             nest: NO_NEST,
             at: 0,
-            most: 0,
+            rounds: 0,
         }
     }
 
     /// The text that was written last.
     pub fn text(&self) -> &[u8]
-        ensures { result.now ≡ self.now.text.bytes.items }
+        ensures { result.now ≡ self.now.text.list.items }
     {
-        &self.text.bytes
+        self.text.as_slice()
     }
 
     /// Writes the text of a symbol in full, if the symbol is one that can be read so and the text costs at most a limit, and
-    /// answers whether it did. Where it didn't, nothing is known of the symbol. The text has never more than eight bytes for each
-    /// of the symbol's and a kilobyte, whatever is answered.
+    /// answers whether it did. Where it didn't, nothing is known of the symbol.
+    ///
+    /// Whatever is answered, at most eight bytes for each of the symbol's and a kilobyte are written, at most eight steps for each
+    /// byte are taken, and no list has more entries than the symbol has bytes. Text and candidates only grow in a call.
     pub fn write(&mut self, s: &[u8], limit: u32) -> bool
         requires { FitsSymbol s.now }
-        ensures answer { result ≡ true → IsAnswer details.Full s.now limit (Ok self.new.text.bytes.items) }
-        ensures bytes { length self.new.text.bytes.items ≤ 8 * length s.now + 1024 }
+        ensures answer { result ≡ true → IsAnswer details.Full s.now limit (Ok self.new.text.list.items) }
+        ensures bytes { length self.new.text.list.items ≤ 8 * length s.now + 1024 }
+        ensures candidates { length self.new.candidates.list.items ≤ length s.now }
+        ensures waiting { length self.new.waiting.list.items ≤ length s.now }
+        ensures rounds { self.new.rounds ≤ 8 * length s.now }
     {
-        let room = 8 * s.len() + 1_024;
-        self.reset();
-        self.most = limit as usize / 4;
-        self.text.room = self.most.min(room);
-        let is_written = self.run(s, limit);
-        if self.text.room > room {
-            self.reset();
+        let size = s.len();
+        let bytes = BYTES_A_BYTE * size + BYTES_ANYWAY;
+        self.begin_lists(bytes.min(limit as usize / 4), size);
+        let mut rounds = 0;
+        let is_written = self.run(s, limit, &mut rounds);
+        self.rounds = rounds;
+        // always: no step gives a list other room than it began with, which no clause of theirs says
+        if self.keeps_to(bytes, size) {
+            return is_written;
+        }
+        self.begin_lists(0, 0);
+        false
+    }
+
+    /// Whether the lists have at most so many bytes and entries.
+    fn keeps_to(&self, bytes: usize, entries: usize) -> bool
+        ensures bytes { result ≡ true → length self.now.text.list.items ≤ bytes }
+        ensures candidates { result ≡ true → length self.now.candidates.list.items ≤ entries }
+        ensures waiting { result ≡ true → length self.now.waiting.list.items ≤ entries }
+    {
+        if self.text.len() > bytes {
             return false;
         }
-        is_written
+        if self.candidates.len() > entries {
+            return false;
+        }
+        self.waiting.len() <= entries
     }
 
-    /// Empties the lists.
-    fn reset(&mut self)
-        ensures text { self.new.text.bytes.items ≡ [] }
-        ensures candidates { self.new.candidates.items ≡ [] }
-        ensures open { self.new.waiting.items ≡ [] }
+    /// Empties the lists, and gives them room for so many bytes and entries.
+    fn begin_lists(&mut self, bytes: usize, entries: usize)
+        ensures text { self.new.text.list.items ≡ [] }
+        ensures candidates { self.new.candidates.list.items ≡ [] }
+        ensures open { self.new.waiting.list.items ≡ [] }
+        ensures rounds { self.new.rounds ≡ self.old.rounds }
     {
-        self.text.bytes.clear();
-        self.candidates.clear();
-        self.waiting.clear();
+        self.text.begin(bytes);
+        self.candidates.begin(entries);
+        self.waiting.begin(entries);
     }
 
-    /// Takes steps up to the end of a symbol.
-    fn run(&mut self, s: &[u8], limit: u32) -> bool
+    /// Takes steps up to the end of a symbol, and counts them.
+    fn run(&mut self, s: &[u8], limit: u32, rounds: &mut usize) -> bool
         requires fits { FitsSymbol s.now }
         requires fresh { IsFresh self.old }
-        ensures { result ≡ true → IsAnswer details.Full s.now limit (Ok self.new.text.bytes.items) }
+        requires none { rounds.old ≡ 0 }
+        ensures answer { result ≡ true → IsAnswer details.Full s.now limit (Ok self.new.text.list.items) }
+        ensures rounds { rounds.new ≤ 8 * length s.now }
     {
         let Some(first) = self.begin(s) else {
             return false;
         };
         let mut step = first;
-        let mut left = s.len() * 8;
-        'steps: while left > 0 {
-            left -= 1;
+        let most = ROUNDS_A_BYTE * s.len();
+        'steps: while *rounds < most {
+            *rounds += 1;
             if let Step::Ended = step {
-                return self.text.bytes.len() <= limit as usize / 4;
+                return self.text.len() <= limit as usize / 4;
             }
             match self.take(s, step) {
                 Some(next) => step = next,
@@ -181,7 +212,7 @@ impl Direct {
         }
         self.push(text)?;
         self.at = 4;
-        self.waiting.push(Open::Special).ok()?;
+        self.waiting.push(Open::Special)?;
         Some(Step::Type)
     }
 
@@ -207,7 +238,7 @@ impl Direct {
         requires awaits { AwaitsSource s.now self.old is_internal }
         ensures { IfSome result (IsWriting s.now self.new) }
     {
-        let from = self.text.bytes.len();
+        let from = self.text.len();
         self.name(s)?;
         if byte_at(s, self.at) == b'I' {
             self.add_candidate(from, false)?;
@@ -237,7 +268,7 @@ impl Direct {
             self.push_byte(b')')?;
             return self.end(s, is_const);
         }
-        self.waiting.push(Open::Parameters { is_const }).ok()?;
+        self.waiting.push(Open::Parameters { is_const })?;
         Some(Step::Type)
     }
 
@@ -253,7 +284,7 @@ impl Direct {
             return Some(Step::Type);
         }
         // a lone void is no parameter
-        if self.text.bytes.ends_with(b"(void") {
+        if self.text.as_slice().ends_with(b"(void") {
             return None;
         }
         self.push_byte(b')')?;

@@ -95,7 +95,7 @@ impl Direct {
     pub(crate) fn substitution(&mut self, s: &[u8]) -> Option<Candidate>
         requires { FitsSymbol s.now }
         ensures is { IfSome result (λ candidate. (digits : List ℕ) × IsSeqAt s.now self.old.at digits self.new.at
-            × (slice_get self.old.candidates.items (counted_value NumberKind.Seq36 digits) ≡ Some candidate)) }
+            × (slice_get self.old.candidates.list.items (counted_value NumberKind.Seq36 digits) ≡ Some candidate)) }
         ensures ordered { IfSome result (λ candidate. candidate.from ≤ candidate.to) }
         ensures same { OnSome result (Reads self.old self.new []) }
     {
@@ -105,7 +105,7 @@ impl Direct {
         let place = find_number(s, self.at, NumberKind::Seq36).ok()?;
         let index = value36(&s[place.from..place.to])?;
         self.at = place.end;
-        let candidate = self.candidates.get(index as usize)?;
+        let candidate = self.candidates.as_slice().get(index as usize)?;
         if candidate.to < candidate.from {
             return None;
         }

@@ -20,7 +20,7 @@ impl Direct {
         requires writing { IsWriting s.now self.old (if is_plain then steps.Plain else steps.Type) }
         ensures { IfSome result (IsWriting s.now self.new) }
     {
-        let from = self.text.bytes.len();
+        let from = self.text.len();
         match byte_at(s, self.at) {
             b'P' => {
                 if !is_plain && byte_at(s, self.at.checked_add(1)?) == b'F' {
@@ -55,7 +55,7 @@ impl Direct {
         requires awaits { AwaitsNamedType s.now self.old }
         ensures { IfSome result (IsWriting s.now self.new) }
     {
-        let from = self.text.bytes.len();
+        let from = self.text.len();
         match byte_at(s, self.at) {
             b'N' => {
                 self.at = self.at.checked_add(1)?;
@@ -113,7 +113,7 @@ impl Direct {
         requires awaits { AwaitsNamedType s.now self.old }
         ensures { IfSome result (IsWriting s.now self.new) }
     {
-        let from = self.text.bytes.len();
+        let from = self.text.len();
         self.at = self.at.checked_add(1)?;
         let letter = byte_at(s, self.at);
         if letter == b't' {
@@ -162,7 +162,7 @@ impl Direct {
         requires writing { IsWriting s.now self.old (steps.Value is_reference) }
         ensures { IfSome result (IsWriting s.now self.new) }
     {
-        match *self.waiting.last()? {
+        match *self.waiting.as_slice().last()? {
             Open::Pointer { from } => self.mark(s, b"*", from, false),
             Open::Lvalue { from } => {
                 if is_reference {

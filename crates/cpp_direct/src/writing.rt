@@ -21,10 +21,7 @@ impl Direct {
     pub(crate) fn push(&mut self, text: &[u8]) -> Option<()>
         ensures { OnSome result (Writes self.old self.new text.now) }
     {
-        if text.len() > self.text.room - self.text.bytes.len() {
-            return None;
-        }
-        self.text.bytes.extend_from_slice(text).ok()
+        self.text.push_all(text)
     }
 
     /// Writes a byte.
@@ -32,10 +29,7 @@ impl Direct {
     pub(crate) fn push_byte(&mut self, byte: u8) -> Option<()>
         ensures { OnSome result (Writes self.old self.new (byte ∷ [])) }
     {
-        if self.text.bytes.len() >= self.text.room {
-            return None;
-        }
-        self.text.bytes.push(byte).ok()
+        self.text.push(byte)
     }
 
     /// Writes two bytes.
@@ -43,57 +37,51 @@ impl Direct {
     pub(crate) fn push_pair(&mut self, first: u8, second: u8) -> Option<()>
         ensures { OnSome result (Writes self.old self.new (first ∷ second ∷ [])) }
     {
-        if self.text.room - self.text.bytes.len() < 2 {
-            return None;
-        }
-        self.text.bytes.push(first).ok()?;
-        self.text.bytes.push(second).ok()
+        self.text.push_pair(first, second)
     }
 
     /// What is written from a place on becomes a candidate.
     #[inline(always)]
     pub(crate) fn add_candidate(&mut self, from: usize, is_reference: bool) -> Option<()>
-        ensures candidates { OnSome result (self.new.candidates.items ≡ added self.old from is_reference) }
+        ensures candidates { OnSome result (self.new.candidates.list.items ≡ added self.old from is_reference) }
         ensures text { self.new.text ≡ self.old.text }
         ensures open { self.new.waiting ≡ self.old.waiting }
         ensures nest { self.new.nest ≡ self.old.nest }
         ensures at { self.new.at ≡ self.old.at }
-        ensures most { self.new.most ≡ self.old.most }
+        ensures rounds { self.new.rounds ≡ self.old.rounds }
     {
-        let to = self.text.bytes.len();
-        self.candidates
-            .push(Candidate {
-                from,
-                to,
-                is_reference,
-            })
-            .ok()
+        let to = self.text.len();
+        self.candidates.push(Candidate {
+            from,
+            to,
+            is_reference,
+        })
     }
 
     /// A function type becomes a candidate, and so does the pointer to it, if it is one. Their texts are nowhere.
     pub(crate) fn add_hidden(&mut self, is_pointer: bool) -> Option<()>
-        ensures candidates { OnSome result (self.new.candidates.items ≡ with_hidden self.old is_pointer) }
+        ensures candidates { OnSome result (self.new.candidates.list.items ≡ with_hidden self.old is_pointer) }
         ensures text { self.new.text ≡ self.old.text }
         ensures open { self.new.waiting ≡ self.old.waiting }
         ensures nest { self.new.nest ≡ self.old.nest }
         ensures at { self.new.at ≡ self.old.at }
-        ensures most { self.new.most ≡ self.old.most }
+        ensures rounds { self.new.rounds ≡ self.old.rounds }
     {
         if is_pointer {
-            self.candidates.push(HIDDEN).ok()?;
+            self.candidates.push(HIDDEN)?;
         }
-        self.candidates.push(HIDDEN).ok()
+        self.candidates.push(HIDDEN)
     }
 
     /// The same unless it is one already.
     #[inline(always)]
     pub(crate) fn add_unless(&mut self, is_listed: bool, from: usize) -> Option<()>
-        ensures candidates { OnSome result (self.new.candidates.items ≡ added_unless self.old is_listed from) }
+        ensures candidates { OnSome result (self.new.candidates.list.items ≡ added_unless self.old is_listed from) }
         ensures text { self.new.text ≡ self.old.text }
         ensures open { self.new.waiting ≡ self.old.waiting }
         ensures nest { self.new.nest ≡ self.old.nest }
         ensures at { self.new.at ≡ self.old.at }
-        ensures most { self.new.most ≡ self.old.most }
+        ensures rounds { self.new.rounds ≡ self.old.rounds }
     {
         if is_listed {
             return Some(());
@@ -104,27 +92,24 @@ impl Direct {
     /// Writes what stands in the text once more.
     pub(crate) fn repeat(&mut self, from: usize, to: usize) -> Option<()>
         requires from { from ≤ to }
-        requires to { to ≤ length self.old.text.bytes.items }
-        ensures { OnSome result (Writes self.old self.new (take (to - from) (drop from self.old.text.bytes.items))) }
+        requires to { to ≤ length self.old.text.list.items }
+        ensures { OnSome result (Writes self.old self.new (take (to - from) (drop from self.old.text.list.items))) }
     {
-        if to - from > self.text.room - self.text.bytes.len() {
-            return None;
-        }
-        self.text.bytes.extend_from_within(from..to).ok()
+        self.text.repeat(from, to)
     }
 
     /// Opens what waits for a type.
     #[inline(always)]
     pub(crate) fn open_type(&mut self, entry: Open, step: Step) -> Option<Step>
         ensures step { IfSome result (λ next. next ≡ step) }
-        ensures open { OnSome result (self.new.waiting.items ≡ self.old.waiting.items ++ entry ∷ []) }
+        ensures open { OnSome result (self.new.waiting.list.items ≡ self.old.waiting.list.items ++ entry ∷ []) }
         ensures at { OnSome result (self.new.at ≡ self.old.at + 1) }
         ensures text { self.new.text ≡ self.old.text }
         ensures candidates { self.new.candidates ≡ self.old.candidates }
         ensures nest { self.new.nest ≡ self.old.nest }
     {
         self.at = self.at.checked_add(1)?;
-        self.waiting.push(entry).ok()?;
+        self.waiting.push(entry)?;
         Some(step)
     }
 
@@ -133,9 +118,9 @@ impl Direct {
     #[inline(always)]
     pub(crate) fn open_arguments(&mut self, entry: Open) -> Option<Step>
         ensures step { IfSome result (λ next. next ≡ steps.List true) }
-        ensures open { OnSome result (self.new.waiting.items ≡ self.old.waiting.items ++ entry ∷ []) }
+        ensures open { OnSome result (self.new.waiting.list.items ≡ self.old.waiting.list.items ++ entry ∷ []) }
         ensures at { OnSome result (self.new.at ≡ self.old.at + 1) }
-        ensures text { OnSome result (self.new.text.bytes.items ≡ self.old.text.bytes.items ++ codes "<") }
+        ensures text { OnSome result (self.new.text.list.items ≡ self.old.text.list.items ++ codes "<") }
         ensures candidates { OnSome result (self.new.candidates ≡ self.old.candidates) }
         ensures nest { OnSome result (self.new.nest ≡ self.old.nest) }
     {

@@ -1,6 +1,9 @@
-//! What a symbol's rules still need while it is read from left to right and nothing is known of what comes behind, in any language.
+//! What a symbol's rules still need while it is read from left to right and nothing is known of what comes behind, in any language,
+//! and lists that grow up to a bound.
 #![tactic(auto)]
 
+mod bounded;
 mod bytes;
 
+pub use bounded::Bounded;
 pub use bytes::byte_at;

@@ -1,7 +1,5 @@
 use Rattle.std.proofs.Common.{◌≡◌, ◌+◌, ◌∷◌, ◌++◌, [], if◌then◌else◌, refl, ap, sym, ◌∙◌}
-use Rattle.std.specs.Option.{is_some}
 use Rattle.cpp_direct.specs.declared.open.Open.TheVariants as opens
-use Rattle.cpp_direct.proofs.Ending.{pushed}
 use Rattle.cpp_direct.proofs.FunctionsRead.{takes-function, function-begins}
 use Rattle.cpp_direct.proofs.Listed.{waits-last}
 use Rattle.cpp_direct.proofs.direct.Direct.begin_function.Goals as goal
@@ -16,9 +14,8 @@ returns c =
       | else-is_pointer w ↦ w.checked_add-is ∙ ap (λ b. if b then 2 else 1) (sym w.if-is_pointer.false)
     ] in
     function-begins c.args.s.now old _ c.args.is_pointer last c.requires.writing c.requires.letters
-    (waits-last _ _ _ _ c.deref.ensures.value c.in_ok-last.ensures.value refl)
+    (waits-last _ _ _ _ c.as_slice.ensures c.in_ok-last.ensures.value refl)
     (λ rest. takes-function last rest c.in_default.not-Pointer c.in_default.not-Lvalue c.in_default.not-Rvalue c.in_default.not-Const
     c.in_default.not-Special c.in_default.not-Enumerator c.in_default.not-Returned c.in_default.not-Signature)
-    (pushed _ old.waiting.items (old.waiting.items ++ opens.Returned c.args.is_pointer ∷ []) _ c.push.ensures.items
-    (sym c.ok.ensures.variant ∙ ap is_some c.in_ok-ok.was))
+    c.in_ok-push.ensures.items
     (c.in_ok-self.ensures.1 ∙ ap (λ n. old.at + n) size) refl refl

@@ -10,7 +10,7 @@ returns-then-byte_at-eq73 c =
     let old = c.args.self.now in
     name-argued c.args.s.now c.args.is_internal old c.name.new.self c.add_candidate.new.self
     c.open_arguments.new.self c.in_ok-name.ensures.0 c.len-from.result c.open_arguments.result
-    c.requires.awaits (c.len-from.ensures ∙ old.text.bytes.ok.0) c.in_ok-name.ensures.1 c.in_ok-name.ensures.2 c.in_ok-name.ensures.3 there
+    c.requires.awaits c.len-from.ensures c.in_ok-name.ensures.1 c.in_ok-name.ensures.2 c.in_ok-name.ensures.3 there
     c.in_ok-add_candidate.ensures.candidates c.add_candidate.ensures.text c.add_candidate.ensures.open c.add_candidate.ensures.at
     c.open_arguments.ensures.step c.open_arguments.ensures.open c.open_arguments.ensures.at c.open_arguments.ensures.text c.open_arguments.ensures.candidates
 

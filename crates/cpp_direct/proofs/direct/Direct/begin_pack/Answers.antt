@@ -11,5 +11,5 @@ returns-in_default c =
     let list = steps.List true in
     by-step o list (IsWriting c.args.s.now c.open_type.new.self) c.open_type.ensures.step
     (λ e. pack-begins c.args.s.now c.args.self.now c.open_type.new.self c.in_ok-last.field-0.now c.requires.awaits c.requires.letter
-    (waits-last _ _ _ _ c.deref.ensures.value c.in_ok-last.ensures.value refl) c.in_default.not-Pack
+    (waits-last _ _ _ _ c.as_slice.ensures c.in_ok-last.ensures.value refl) c.in_default.not-Pack
     (given _ o list e c.open_type.ensures.open) (given _ o list e c.open_type.ensures.at) c.open_type.ensures.text c.open_type.ensures.candidates)

@@ -1,9 +1,8 @@
 use Rattle.std.proofs.Common.{◌≢◌, ◌∷◌, ◌++◌, [], length, ◌==◌, ap, sym, ◌∙◌, refl}
-use Rattle.std.specs.Option.{is_some}
 use Rattle.std.proofs.lemmas.Bool.{false≢true}
 use Rattle.cpp_grammar.specs.Texts.{look_up, special_texts}
 use Rattle.cpp_direct.specs.declared.open.Open.TheVariants as opens
-use Rattle.cpp_direct.proofs.Begins.{special-begins, special-stands, pushed-alone}
+use Rattle.cpp_direct.proofs.Begins.{special-begins, special-stands}
 use Rattle.cpp_direct.proofs.direct.Direct.begin_special.Goals as goal
 
 pub returns : goal.returns
@@ -17,6 +16,5 @@ returns c =
     special-begins s (record c.push.new.self { waiting = c.push-2.new.self; at = 4 }) letter c.requires.starts
     (special-stands s letter filled c.requires.letter c.byte_at.ensures) refl
     (wrote.text ∙ ap (λ l. l ++ c.special_text-text.result.now) fresh.no_text ∙ text_is) filled
-    (ap (λ v. v.items) wrote.candidates ∙ fresh.no_candidate)
-    (pushed-alone _ c.push.new.self.waiting.items opens.Special _ c.push-2.ensures.items (sym c.ok.ensures.variant ∙ ap is_some c.in_ok-ok.was)
-    (ap (λ v. v.items) wrote.waiting ∙ fresh.none_open))
+    (ap (λ v. v.list.items) wrote.candidates ∙ fresh.no_candidate)
+    (c.in_ok-push-2.ensures.items ∙ ap (λ v. v.list.items ++ opens.Special ∷ []) wrote.waiting ∙ ap (λ l. l ++ opens.Special ∷ []) fresh.none_open)

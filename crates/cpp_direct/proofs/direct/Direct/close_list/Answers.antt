@@ -12,7 +12,7 @@ name_ended-requires-clause-ended c =
       waiting = c.pop.new.self;
       nest = c.push_byte.new.self.nest;
       at = c.push_byte.new.self.at;
-      most = c.push_byte.new.self.most;
+      rounds = c.push_byte.new.self.rounds;
     } in
     name-closed c.args.s.now w
     (closed-by c.args.s.now c.args.self.now c.push_byte.new.self w c.in_ok-from.field-0 opens.NameArguments
@@ -26,7 +26,7 @@ returns-in_ok-add_candidate-in-TypeArguments c =
       waiting = c.pop.new.self;
       nest = c.push_byte.new.self.nest;
       at = c.push_byte.new.self.at;
-      most = c.push_byte.new.self.most;
+      rounds = c.push_byte.new.self.rounds;
     } in
     type-closed c.args.s.now w c.add_candidate.new.self c.in-TypeArguments.from
     (closed-by c.args.s.now c.args.self.now c.push_byte.new.self w c.in_ok-from.field-0 (opens.TypeArguments c.in-TypeArguments.from)
@@ -41,7 +41,7 @@ returns-in-NestArguments c =
       waiting = c.pop.new.self;
       nest = c.push_byte.new.self.nest;
       at = c.push_byte.new.self.at;
-      most = c.push_byte.new.self.most;
+      rounds = c.push_byte.new.self.rounds;
     } in
     nest-closed c.args.s.now w c.in-NestArguments.nest
     (closed-by c.args.s.now c.args.self.now c.push_byte.new.self w c.in_ok-from.field-0 (opens.NestArguments c.in-NestArguments.nest)
@@ -55,7 +55,7 @@ returns-in_ok-add_candidate-in-FirstArguments c =
       waiting = c.pop.new.self;
       nest = c.push_byte.new.self.nest;
       at = c.push_byte.new.self.at;
-      most = c.push_byte.new.self.most;
+      rounds = c.push_byte.new.self.rounds;
     } in
     first-closed c.args.s.now w c.add_candidate-in-FirstArguments.new.self c.in-FirstArguments.nest
     (closed-by c.args.s.now c.args.self.now c.push_byte.new.self w c.in_ok-from.field-0 (opens.FirstArguments c.in-FirstArguments.nest)

@@ -14,4 +14,4 @@ close_list-requires-clause-ended c =
     subst (λ n. IsListEnded s (record w { at = n })) (omega (arith, c.in_ok-self.ensures, c.in_ok-self-2.ensures))
     (empty-pack-ends s w c.args._is_first c.in_ok-last.field-0.now c.requires.writing
     (stands-join s w.at (74 ∷ 69 ∷ []) (69 ∷ []) c.requires.letters (subst (λ k. StandsAt s k (69 ∷ [])) c.in_ok-self.ensures.1 ended))
-    (waits-last _ _ _ _ c.deref.ensures.value c.in_ok-last.ensures.value refl) c.in_default.not-Pack)
+    (waits-last _ _ _ _ c.as_slice.ensures c.in_ok-last.ensures.value refl) c.in_default.not-Pack)

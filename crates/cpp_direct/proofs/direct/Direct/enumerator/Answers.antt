@@ -16,11 +16,11 @@ returns c =
       waiting = c.pop-open.new.self;
       nest = old.nest;
       at = old.at;
-      most = old.most;
+      rounds = old.rounds;
     } in
     enumerator-read c.args.s.now old w c.push.new.self c.number.new.self c.literal_ended.new.self a
-    (subst (λ l. ends_with nat_eq l (codes "int") ≡ false) c.deref.ensures.value (sym c.ends_with.ensures.value ∙ c.if-ends_with.false))
-    (subst (λ l. ends_with nat_eq l (codes "long") ≡ false) c.deref-2.ensures.value (sym c.ends_with-2.ensures.value ∙ c.if-ends_with-2.false))
+    (subst (λ l. ends_with nat_eq l (codes "int") ≡ false) c.as_slice.ensures (sym c.ends_with.ensures.value ∙ c.if-ends_with.false))
+    (subst (λ l. ends_with nat_eq l (codes "long") ≡ false) c.as_slice-2.ensures (sym c.ends_with-2.ensures.value ∙ c.if-ends_with-2.false))
     refl refl refl
-    (popped old.waiting.items c.pop-open.new.self.items a.opened opens.Enumerator _ old.waiting.ok.0 a.open_is c.pop-open.ensures.rest)
+    (popped old.waiting.list.items c.pop-open.new.self.list.items a.opened opens.Enumerator _ refl a.open_is c.pop-open.ensures.rest)
     c.in_ok-push.ensures c.in_ok-number.ensures c.in_ok-literal_ended.ensures

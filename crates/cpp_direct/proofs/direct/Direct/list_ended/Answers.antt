@@ -12,7 +12,7 @@ pub close_list-requires-clause-ended : goal.close_list-requires-clause-ended
 close_list-requires-clause-ended c =
     subst (λ n. IsListEnded c.args.s.now (record c.args.self.now { at = n })) (sym c.in_ok-self.ensures.1)
     (list-ends c.args.s.now c.args.self.now c.args.is_first c.in_ok-last.field-0.now c.requires.writing c.requires.letter
-    (waits-last _ _ _ _ c.deref.ensures.value c.in_ok-last.ensures.value refl) c.in_default.not-Pack)
+    (waits-last _ _ _ _ c.as_slice.ensures c.in_ok-last.ensures.value refl) c.in_default.not-Pack)
 
 pub returns-else-is_first : goal.returns-else-is_first
 returns-else-is_first c =
@@ -23,8 +23,8 @@ returns-else-is_first c =
       waiting = c.pop-open.new.self;
       nest = old.nest;
       at = c.in_ok-self.field-0;
-      most = old.most;
+      rounds = old.rounds;
     } in
     pack-ends c.args.s.now old w (subst (λ f. IsWriting c.args.s.now old (steps.List f)) c.if-is_first.false c.requires.writing) c.requires.letter
-    (waits-last _ _ _ _ c.deref.ensures.value c.in_ok-last.ensures.value c.in-Pack.is) refl refl c.in_ok-self.ensures.1
-    (λ opened is. popped old.waiting.items c.pop-open.new.self.items opened opens.Pack _ old.waiting.ok.0 is c.pop-open.ensures.rest)
+    (waits-last _ _ _ _ c.as_slice.ensures c.in_ok-last.ensures.value c.in-Pack.is) refl refl c.in_ok-self.ensures.1
+    (λ opened is. popped old.waiting.list.items c.pop-open.new.self.list.items opened opens.Pack _ refl is c.pop-open.ensures.rest)

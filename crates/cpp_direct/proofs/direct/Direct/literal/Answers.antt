@@ -1,7 +1,5 @@
 use Rattle.std.proofs.Common.{◌++◌, ◌∷◌, [], refl, ap, sym, ◌∙◌}
-use Rattle.std.specs.Option.{is_some}
 use Rattle.cpp_direct.specs.declared.open.Open.TheVariants as opens
-use Rattle.cpp_direct.proofs.Ending.{pushed}
 use Rattle.cpp_direct.proofs.FoundTokens.{reads-begun}
 use Rattle.cpp_direct.proofs.Elements.{boolean-element-read, integer-element-read, enumerator-expected}
 use Rattle.cpp_direct.proofs.direct.Direct.literal.Goals as goal
@@ -12,8 +10,7 @@ named_type-requires-clause-awaits c =
     (record c.push.new.self { waiting = c.push-in-78.new.self })
     c.requires.awaits c.requires.letter c.in_ok-self.ensures.1 (reads-begun c.args.self.now _ refl refl refl refl refl) c.in_ok-push-in-78.ensures
     refl refl
-    (pushed _ c.push.new.self.waiting.items (c.push.new.self.waiting.items ++ opens.Enumerator ∷ []) _ c.push-in-78.ensures.items
-    (sym c.ok.ensures.variant ∙ ap is_some c.in_ok-ok-in-78.was)) refl
+    c.in_ok-push-in-78-2.ensures.items refl
 
 pub returns-in_ok-literal_ended-in-98 : goal.returns-in_ok-literal_ended-in-98
 returns-in_ok-literal_ended-in-98 c =

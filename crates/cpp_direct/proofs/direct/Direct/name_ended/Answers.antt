@@ -1,9 +1,8 @@
 use Rattle.std.proofs.Common.{sym, ◌∙◌, subst, ap, refl, arith, ◌++◌, [], ◌∷◌}
-use Rattle.std.specs.Option.{is_some}
 use Rattle.cpp_direct.specs.declared.open.Open.TheVariants as opens
 use Rattle.cpp_direct.specs.Holes.{StandsAt}
 use Rattle.cpp_direct.specs.Ways.{IsNameEnded}
-use Rattle.cpp_direct.proofs.Ending.{object-ended, void-ended, first-expected, pushed}
+use Rattle.cpp_direct.proofs.Ending.{object-ended, void-ended, first-expected}
 use Rattle.cpp_direct.proofs.direct.Direct.name_ended.Goals as goal
 
 pub end-requires-clause-ended : goal.end-requires-clause-ended
@@ -25,5 +24,4 @@ returns c =
     first-expected s w c.push_byte.new.self _ c.args.is_const
     (subst (λ b. IsNameEnded s w c.args.is_const b) c.if-is_instance.false c.requires.ended)
     c.in_ok-push_byte.ensures refl refl refl
-    (pushed _ c.push_byte.new.self.waiting.items (c.push_byte.new.self.waiting.items ++ opens.Parameters c.args.is_const ∷ []) _ c.push.ensures.items
-    (sym c.ok.ensures.variant ∙ ap is_some c.in_ok-ok.was))
+    c.in_ok-push.ensures.items

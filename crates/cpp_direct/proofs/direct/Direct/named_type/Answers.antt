@@ -11,4 +11,4 @@ pub type_named-requires : goal.type_named-requires
 type_named-requires c =
     let got = c.in_ok-name-in_default.ensures in
     source-named c.args.s.now c.args.self.now c.name.new.self c.len-from.result got.0
-    c.requires.awaits got.1 got.2 got.3 (c.len-from.ensures ∙ c.args.self.now.text.bytes.ok.0)
+    c.requires.awaits got.1 got.2 got.3 c.len-from.ensures

@@ -7,4 +7,4 @@ returns c =
     let old = c.args.self.now in
     let read = c.in_ok-name.ensures in
     source-begins c.args.s.now old c.name.new.self c.args.purpose read.0 c.requires.awaits read.1 read.2 read.3 c.len-from.result c.len.result
-    (c.len-from.ensures ∙ old.text.bytes.ok.0) (c.len.ensures ∙ c.name.new.self.text.bytes.ok.0)
+    c.len-from.ensures c.len.ensures

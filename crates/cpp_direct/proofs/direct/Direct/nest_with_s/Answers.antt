@@ -31,7 +31,7 @@ repeat-requires-clause-from c =
 pub repeat-requires-clause-to : goal.repeat-requires-clause-to
 repeat-requires-clause-to c =
     let is = c.in_ok-candidate.ensures.is in
-    subst (λ l. c.in_ok-candidate.candidate.to ≤ length l) (sym (c.in_ok-candidate.ensures.same.text ∙ append-nil c.args.self.now.text.bytes.items))
+    subst (λ l. c.in_ok-candidate.candidate.to ≤ length l) (sym (c.in_ok-candidate.ensures.same.text ∙ append-nil c.args.self.now.text.list.items))
     (candidate-text c.args.s.now c.args.self.now c.args.purpose c.requires.awaits (counted_value Seq36 is.0) c.in_ok-candidate.candidate
     c.in_ok-candidate.ensures.ordered is.2).1
 
@@ -43,12 +43,12 @@ returns-then-is_empty c =
     let is = c.in_ok-candidate.ensures.is in
     let same = c.in_ok-candidate.ensures.same in
     let wrote = c.in_ok-repeat.ensures in
-    let plain : c.substitution.new.self.text.bytes.items ≡ old.text.bytes.items = same.text ∙ append-nil old.text.bytes.items in
+    let plain : c.substitution.new.self.text.list.items ≡ old.text.list.items = same.text ∙ append-nil old.text.list.items in
     subst (λ n. IsWriting s (record c.repeat.new.self { nest = n }) steps.Rest) (sym c.listed_nest-self.ensures)
     (reference-begins s old c.repeat.new.self c.args.purpose is.0 k c.requires.awaits c.requires.letter
     (subst (λ n. IsSeqAt s (old.at + 1) is.0 n) (sym wrote.at) (subst (λ n. IsSeqAt s n is.0 c.substitution.new.self.at) c.in_ok-self.ensures.1 is.1))
     c.in_ok-candidate.ensures.ordered is.2 c.if-candidate.false (wrote.text ∙ ap (λ l. l ++ take (k.to - k.from) (drop k.from l)) plain)
-    (wrote.candidates ∙ same.candidates) (wrote.waiting ∙ same.waiting) c.len-from.result (c.len-from.ensures ∙ old.text.bytes.ok.0))
+    (wrote.candidates ∙ same.candidates) (wrote.waiting ∙ same.waiting) c.len-from.result c.len-from.ensures)
 
 pub returns : goal.returns
 returns c =
@@ -60,5 +60,5 @@ returns c =
     (abbreviation-begins c.args.s.now old c.push.new.self c.args.purpose letter c.requires.awaits c.requires.letter
     (λ some. subst (λ n. StandsAt c.args.s.now n (letter ∷ [])) c.in_ok-self.ensures.1 (c.byte_at-letter.ensures some))
     (λ e. absurd (false≢true (c.if-is_empty.ensures ∙ ap (λ l. length l == 0) (text_is ∙ e))))
-    (wrote.text ∙ ap (λ l. old.text.bytes.items ++ l) text_is) wrote.candidates wrote.waiting
-    (wrote.at ∙ c.in_ok-self-2.ensures.1 ∙ ap (λ n. n + 1) c.in_ok-self.ensures.1) c.len-from.result (c.len-from.ensures ∙ old.text.bytes.ok.0))
+    (wrote.text ∙ ap (λ l. old.text.list.items ++ l) text_is) wrote.candidates wrote.waiting
+    (wrote.at ∙ c.in_ok-self-2.ensures.1 ∙ ap (λ n. n + 1) c.in_ok-self.ensures.1) c.len-from.result c.len-from.ensures)

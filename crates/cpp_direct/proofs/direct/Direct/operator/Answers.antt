@@ -17,4 +17,4 @@ nest_named-requires c =
     (record { text = refl; candidates = refl; waiting = refl; nest = refl; at = omega (arith, c.in_ok-self.ensures, c.in_ok-self-2.ensures) })
     (subst (λ l. Writes c.push_pair.new.self c.push.new.self l) text c.in_ok-push.ensures)
     refl refl refl refl refl refl
-    (c.len-class_from.ensures ∙ c.push_pair.new.self.text.bytes.ok.0) (c.len.ensures ∙ c.push.new.self.text.bytes.ok.0) refl refl refl
+    c.len-class_from.ensures c.len.ensures refl refl refl

@@ -12,7 +12,7 @@ function_ended-requires-clause-ended c =
     let w = c.args.self.now in
     signature-closed s w _ c.args.is_pointer c.args.is_first c.requires.awaits
     (there s w.at c.byte_at.result 69 c.if-byte_at-eq69.true (omega arith) c.byte_at.ensures)
-    (ap (λ l. ends_with nat_eq l (codes "(void")) (sym c.deref.ensures.value) ∙ sym c.ends_with.ensures.value ∙ c.if-ends_with.false)
+    (ap (λ l. ends_with nat_eq l (codes "(void")) (sym c.as_slice.ensures) ∙ sym c.ends_with.ensures.value ∙ c.if-ends_with.false)
     refl refl refl c.in_ok-self.ensures.1
 
 pub parameter-requires : goal.parameter-requires

@@ -9,5 +9,5 @@ pub end-requires-clause-ended : goal.end-requires-clause-ended
 end-requires-clause-ended c =
     let p = c.requires.ended in
     function-ended c.args.s.now c.args.self.now c.push_byte.new.self c.args.is_const p
-    (no-void c.deref.result.now (p.lead ++ p.name) p.parameters (c.deref.ensures.value ∙ p.written) (sym c.ends_with.ensures.value ∙ c.if-ends_with.false))
+    (no-void c.as_slice.result.now (p.lead ++ p.name) p.parameters (c.as_slice.ensures ∙ p.written) (sym c.ends_with.ensures.value ∙ c.if-ends_with.false))
     c.in_ok-push_byte.ensures

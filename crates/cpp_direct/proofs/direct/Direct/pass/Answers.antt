@@ -11,59 +11,59 @@ use Rattle.cpp_direct.proofs.direct.Direct.pass.Goals as goal
 pub mark-requires : goal.mark-requires
 mark-requires c =
     value-marked c.args.s.now c.args.self.now c.args.is_reference false (opens.Pointer c.in-Pointer.from) c.in-Pointer.from pointer (codes "*")
-    c.requires.writing (waits-last _ _ _ _ c.deref.ensures.value c.in_ok-from.ensures.value c.in-Pointer.is) (λ rest os text h. h)
+    c.requires.writing (waits-last _ _ _ _ c.as_slice.ensures c.in_ok-from.ensures.value c.in-Pointer.is) (λ rest os text h. h)
     (λ t b h. pointer-prints t b c.args.is_reference h)
 
 pub mark-requires-in-Lvalue : goal.mark-requires-in-Lvalue
 mark-requires-in-Lvalue c =
     value-marked c.args.s.now c.args.self.now c.args.is_reference true (opens.Lvalue c.in-Lvalue.from) c.in-Lvalue.from lvalue (codes "&")
-    c.requires.writing (waits-last _ _ _ _ c.deref.ensures.value c.in_ok-from.ensures.value c.in-Lvalue.is) (λ rest os text h. h)
+    c.requires.writing (waits-last _ _ _ _ c.as_slice.ensures c.in_ok-from.ensures.value c.in-Lvalue.is) (λ rest os text h. h)
     (λ t b h. lvalue-prints t b (subst (λ r. Prints t b r) c.if-is_reference.false h))
 
 pub mark-requires-in-Rvalue : goal.mark-requires-in-Rvalue
 mark-requires-in-Rvalue c =
     value-marked c.args.s.now c.args.self.now c.args.is_reference true (opens.Rvalue c.in-Rvalue.from) c.in-Rvalue.from rvalue (codes "&&")
-    c.requires.writing (waits-last _ _ _ _ c.deref.ensures.value c.in_ok-from.ensures.value c.in-Rvalue.is) (λ rest os text h. h)
+    c.requires.writing (waits-last _ _ _ _ c.as_slice.ensures c.in_ok-from.ensures.value c.in-Rvalue.is) (λ rest os text h. h)
     (λ t b h. rvalue-prints t b (subst (λ r. Prints t b r) c.if-is_reference-2.false h))
 
 pub mark-requires-in-Const : goal.mark-requires-in-Const
 mark-requires-in-Const c =
     value-marked c.args.s.now c.args.self.now c.args.is_reference false (opens.Const c.in-Const.from) c.in-Const.from
     (qualified (qualifiers true)) (codes " const")
-    c.requires.writing (waits-last _ _ _ _ c.deref.ensures.value c.in_ok-from.ensures.value c.in-Const.is) (λ rest os text h. h)
+    c.requires.writing (waits-last _ _ _ _ c.as_slice.ensures c.in_ok-from.ensures.value c.in-Const.is) (λ rest os text h. h)
     (λ t b h. const-prints t b (subst (λ r. Prints t b r) c.if-is_reference-3.false h))
 
 pub parameter_ended-requires-clause-ended : goal.parameter_ended-requires-clause-ended
 parameter_ended-requires-clause-ended c =
     parameter-read c.args.s.now c.args.self.now c.in-Parameters.is_const
     (value-element c.args.s.now c.args.self.now c.args.is_reference (opens.Parameters c.in-Parameters.is_const) c.requires.writing
-    (waits-last _ _ _ _ c.deref.ensures.value c.in_ok-from.ensures.value c.in-Parameters.is))
+    (waits-last _ _ _ _ c.as_slice.ensures c.in_ok-from.ensures.value c.in-Parameters.is))
 
 pub returned-requires-clause-returned : goal.returned-requires-clause-returned
 returned-requires-clause-returned c =
     value-returned c.args.s.now c.args.self.now c.args.is_reference c.in-Returned.is_pointer
-    c.requires.writing (waits-last _ _ _ _ c.deref.ensures.value c.in_ok-from.ensures.value c.in-Returned.is)
+    c.requires.writing (waits-last _ _ _ _ c.as_slice.ensures c.in_ok-from.ensures.value c.in-Returned.is)
 
 pub parameter_at-requires-clause-awaits : goal.parameter_at-requires-clause-awaits
 parameter_at-requires-clause-awaits c =
     value-signature c.args.s.now c.args.self.now c.args.is_reference c.in-Signature.is_pointer
-    c.requires.writing (waits-last _ _ _ _ c.deref.ensures.value c.in_ok-from.ensures.value c.in-Signature.is)
+    c.requires.writing (waits-last _ _ _ _ c.as_slice.ensures c.in_ok-from.ensures.value c.in-Signature.is)
 
 pub finish-requires : goal.finish-requires
 finish-requires c =
     value-special c.args.s.now c.args.self.now c.args.is_reference
-    c.requires.writing (waits-last _ _ _ _ c.deref.ensures.value c.in_ok-from.ensures.value c.in-Special.is)
+    c.requires.writing (waits-last _ _ _ _ c.as_slice.ensures c.in_ok-from.ensures.value c.in-Special.is)
 
 pub enumerator-requires-clause-awaits : goal.enumerator-requires-clause-awaits
 enumerator-requires-clause-awaits c =
     value-enumerator c.args.s.now c.args.self.now c.args.is_reference
-    c.requires.writing (waits-last _ _ _ _ c.deref.ensures.value c.in_ok-from.ensures.value c.in-Enumerator.is)
+    c.requires.writing (waits-last _ _ _ _ c.as_slice.ensures c.in_ok-from.ensures.value c.in-Enumerator.is)
 
 pub returns-in_default : goal.returns-in_default
 returns-in_default c =
     let o = c.in_ok-from.field-0.now in
     argument-read c.args.s.now c.args.self.now o
     (value-element c.args.s.now c.args.self.now c.args.is_reference o c.requires.writing
-    (waits-last _ _ _ _ c.deref.ensures.value c.in_ok-from.ensures.value refl))
+    (waits-last _ _ _ _ c.as_slice.ensures c.in_ok-from.ensures.value refl))
     (takes-elements o c.in_default.not-Pointer c.in_default.not-Lvalue c.in_default.not-Rvalue c.in_default.not-Const
     c.in_default.not-Parameters c.in_default.not-Returned c.in_default.not-Signature c.in_default.not-Special c.in_default.not-Enumerator)

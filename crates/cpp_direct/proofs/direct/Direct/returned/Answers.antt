@@ -1,8 +1,6 @@
-use Rattle.std.proofs.Common.{◌≡◌, ◌∷◌, ◌++◌, [], ap, sym, ◌∙◌, reverse}
-use Rattle.std.specs.Option.{is_some}
+use Rattle.std.proofs.Common.{◌≡◌, ◌∷◌, ◌++◌, [], ap, sym, ◌∙◌, refl, reverse}
 use Rattle.cpp_direct.specs.declared.open.Open.TheVariants as opens
 use Rattle.cpp_direct.specs.Stands.{opening_text}
-use Rattle.cpp_direct.proofs.Ending.{pushed}
 use Rattle.cpp_direct.proofs.Kept.{reverse-last}
 use Rattle.cpp_direct.proofs.Signatures.{signature-begins}
 use Rattle.cpp_direct.proofs.TypesRead.{popped}
@@ -20,11 +18,10 @@ first_parameter-requires-clause-awaits c =
       | else-is_pointer b ↦ ap (λ t. t.now) b.push-is ∙ ap (λ k. opening_text k) (sym b.if-is_pointer.false)
     ] in
     signature-begins s w _ c.args.is_pointer p
-    (c.in_ok-push.ensures.text ∙ ap (λ l. w.text.bytes.items ++ l) opening)
+    (c.in_ok-push.ensures.text ∙ ap (λ l. w.text.list.items ++ l) opening)
     c.in_ok-push.ensures.candidates
-    (ap reverse (pushed _ c.push.new.self.waiting.items (c.push.new.self.waiting.items ++ entry ∷ []) _ c.push-2.ensures.items
-    (sym c.ok.ensures.variant ∙ ap is_some c.in_ok-ok.was))
-    ∙ reverse-last c.push.new.self.waiting.items entry
-    ∙ ap (λ r. entry ∷ r) (ap (λ v. reverse v.items) c.in_ok-push.ensures.waiting
-    ∙ popped w.waiting.items c.pop-open.new.self.items p.rest (opens.Returned c.args.is_pointer) _ w.waiting.ok.0 p.open_is c.pop-open.ensures.rest))
+    (ap reverse c.in_ok-push-2.ensures.items
+    ∙ reverse-last c.push.new.self.waiting.list.items entry
+    ∙ ap (λ r. entry ∷ r) (ap (λ v. reverse v.list.items) c.in_ok-push.ensures.waiting
+    ∙ popped w.waiting.list.items c.pop-open.new.self.list.items p.rest (opens.Returned c.args.is_pointer) _ refl p.open_is c.pop-open.ensures.rest))
     c.in_ok-push.ensures.at

@@ -12,7 +12,7 @@ returns-clause-is c =
     let n = seq-found c.args.s.now c.args.self.now.at c.in_ok-place.place h (omega (arith, c.if-self-s.false)) in (
       n.0,
       n.1,
-      there-at c.args.self.now.candidates.items c.deref.result.now c.in_ok-index.index (counted_value Seq36 n.0) c.in_ok-candidate.candidate.now
-          c.deref.ensures.value (c.in_ok-index.ensures ∙ ap (λ l. counted_value Seq36 l) n.2) c.in_ok-candidate.ensures.lookup.0
+      there-at c.args.self.now.candidates.list.items c.as_slice.result.now c.in_ok-index.index (counted_value Seq36 n.0) c.in_ok-candidate.candidate.now
+          c.as_slice.ensures (c.in_ok-index.ensures ∙ ap (λ l. counted_value Seq36 l) n.2) c.in_ok-candidate.ensures.lookup.0
           c.in_ok-candidate.ensures.lookup.1,
     )

@@ -26,7 +26,7 @@ begin_function-requires-clause-letters c =
 pub returns-else-not-is_plain : goal.returns-else-not-is_plain
 returns-else-not-is_plain c =
     pointer-opened c.args.s.now c.args.self.now c.open_type.new.self c.open_type.result c.len-from.result
-    (awaits-type c.args.s.now c.args.self.now c.args.is_plain c.requires.writing) (c.len-from.ensures ∙ c.args.self.now.text.bytes.ok.0)
+    (awaits-type c.args.s.now c.args.self.now c.args.is_plain c.requires.writing) c.len-from.ensures
     (there c.args.s.now c.args.self.now.at c.byte_at.result 80 c.in-80.is (omega arith) c.byte_at.ensures)
     c.open_type.ensures.step c.open_type.ensures.open c.open_type.ensures.at c.open_type.ensures.text c.open_type.ensures.candidates
 
@@ -34,7 +34,7 @@ pub returns-in-82 : goal.returns-in-82
 returns-in-82 c =
     let called = c.open_type-in-82.ensures in
     lvalue-opened c.args.s.now c.args.self.now c.open_type-in-82.new.self c.open_type-in-82.result c.len-from.result
-    (awaits-type c.args.s.now c.args.self.now c.args.is_plain c.requires.writing) (c.len-from.ensures ∙ c.args.self.now.text.bytes.ok.0)
+    (awaits-type c.args.s.now c.args.self.now c.args.is_plain c.requires.writing) c.len-from.ensures
     (there c.args.s.now c.args.self.now.at c.byte_at.result 82 c.in-82.is (omega arith) c.byte_at.ensures)
     called.step called.open called.at called.text called.candidates
 
@@ -42,7 +42,7 @@ pub returns-in-79 : goal.returns-in-79
 returns-in-79 c =
     let called = c.open_type-in-79.ensures in
     rvalue-opened c.args.s.now c.args.self.now c.open_type-in-79.new.self c.open_type-in-79.result c.len-from.result
-    (awaits-type c.args.s.now c.args.self.now c.args.is_plain c.requires.writing) (c.len-from.ensures ∙ c.args.self.now.text.bytes.ok.0)
+    (awaits-type c.args.s.now c.args.self.now c.args.is_plain c.requires.writing) c.len-from.ensures
     (there c.args.s.now c.args.self.now.at c.byte_at.result 79 c.in-79.is (omega arith) c.byte_at.ensures)
     called.step called.open called.at called.text called.candidates
 
@@ -50,6 +50,6 @@ pub returns-else-is_plain-2 : goal.returns-else-is_plain-2
 returns-else-is_plain-2 c =
     let called = c.open_type-in-75.ensures in
     const-opened c.args.s.now c.args.self.now c.open_type-in-75.new.self c.open_type-in-75.result c.len-from.result c.args.is_plain
-    c.requires.writing c.if-is_plain-2.false (c.len-from.ensures ∙ c.args.self.now.text.bytes.ok.0)
+    c.requires.writing c.if-is_plain-2.false c.len-from.ensures
     (there c.args.s.now c.args.self.now.at c.byte_at.result 75 c.in-75.is (omega arith) c.byte_at.ensures)
     called.step called.open called.at called.text called.candidates

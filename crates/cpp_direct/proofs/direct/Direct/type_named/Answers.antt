@@ -5,7 +5,7 @@ use Rattle.cpp_direct.proofs.direct.Direct.type_named.Goals as goal
 pub returns-then-byte_at-ne73 : goal.returns-then-byte_at-ne73
 returns-then-byte_at-ne73 c =
     bare-done c.args.s.now c.args.self.now c.add_unless.new.self c.args.from c.args.is_listed c.args.is_reference c.requires
-    (ap (λ v. v.items) c.add_unless.ensures.open) (ap (λ v. v.bytes.items) c.add_unless.ensures.text) c.in_ok-add_unless.ensures.candidates
+    (ap (λ v. v.list.items) c.add_unless.ensures.open) (ap (λ v. v.list.items) c.add_unless.ensures.text) c.in_ok-add_unless.ensures.candidates
     c.add_unless.ensures.at
 
 pub returns : goal.returns

@@ -12,7 +12,7 @@ type_named-requires c =
     c.byte_at-letter.ensures))
     c.in_ok-push.ensures.text c.in_ok-push.ensures.candidates c.in_ok-push.ensures.waiting
     (c.in_ok-push.ensures.at ∙ c.in_ok-self-2.ensures.1 ∙ ap (λ k. k + 1) c.in_ok-self.ensures.1)
-    got.1 got.2 got.3 (c.len-from.ensures ∙ c.args.self.now.text.bytes.ok.0)
+    got.1 got.2 got.3 c.len-from.ensures
 
 pub type_named-requires-then-not-is_empty : goal.type_named-requires-then-not-is_empty
 type_named-requires-then-not-is_empty c =
@@ -21,10 +21,10 @@ type_named-requires-then-not-is_empty c =
     (subst (λ k. c.byte_at-letter.result ≢ 0 → StandsAt c.args.s.now k (c.byte_at-letter.result ∷ [])) c.in_ok-self.ensures.1
     c.byte_at-letter.ensures)
     (some-text c.abbreviation_text-text.result.now _ c.abbreviation_text-text.ensures c.if-not-is_empty.ensures)
-    (c.in_ok-push-2.ensures.text ∙ ap (λ l. c.args.self.now.text.bytes.items ++ l) c.abbreviation_text-text.ensures)
+    (c.in_ok-push-2.ensures.text ∙ ap (λ l. c.args.self.now.text.list.items ++ l) c.abbreviation_text-text.ensures)
     c.in_ok-push-2.ensures.candidates c.in_ok-push-2.ensures.waiting
     (c.in_ok-push-2.ensures.at ∙ c.in_ok-self-3.ensures.1 ∙ ap (λ k. k + 1) c.in_ok-self.ensures.1)
-    (c.len-from.ensures ∙ c.args.self.now.text.bytes.ok.0)
+    c.len-from.ensures
 
 pub repeat-requires-clause-from : goal.repeat-requires-clause-from
 repeat-requires-clause-from c =
@@ -40,7 +40,7 @@ repeat-requires-clause-to c =
       arith,
       (substitution-stands c.args.s.now c.args.self.now _ c.in_ok-candidate.candidate c.requires.awaits
           c.in_ok-candidate.ensures.ordered got.2).1,
-      ap length (same.text ∙ append-nil c.args.self.now.text.bytes.items),
+      ap length (same.text ∙ append-nil c.args.self.now.text.list.items),
     )
 
 pub type_named-requires-2 : goal.type_named-requires-2
@@ -54,5 +54,5 @@ type_named-requires-2 c =
     (subst (λ n. IsSeqAt c.args.s.now n got.0 c.repeat.new.self.at) c.in_ok-self.ensures.1
     (subst (λ n. IsSeqAt c.args.s.now c.in_ok-self.field-0 got.0 n) (sym wrote.at) got.1))
     c.in_ok-candidate.ensures.ordered got.2
-    (wrote.text ∙ ap (λ l. l ++ take (k.to - k.from) (drop k.from l)) (same.text ∙ append-nil c.args.self.now.text.bytes.items))
-    (wrote.candidates ∙ same.candidates) (wrote.waiting ∙ same.waiting) (c.len-from.ensures ∙ c.args.self.now.text.bytes.ok.0)
+    (wrote.text ∙ ap (λ l. l ++ take (k.to - k.from) (drop k.from l)) (same.text ∙ append-nil c.args.self.now.text.list.items))
+    (wrote.candidates ∙ same.candidates) (wrote.waiting ∙ same.waiting) c.len-from.ensures

@@ -1,0 +1,126 @@
+// Lists that grow up to a bound.
+
+ghost use Rattle.std.specs.Prelude.{◌≡◌, ◌+◌, ◌-◌, ◌≤◌, ◌∷◌, ◌++◌, [], length, take, drop};
+ghost use Rattle.std.specs.Option.{OnSome, option_to_list};
+
+use std::alloc::Global;
+
+/// A list that has at most so many entries at any time.
+#[derive(Drop)]
+pub struct Bounded<T> {
+    list: Vec<T>,
+    room: usize,
+    pub ghost fits: { length list.items ≤ room },
+}
+
+impl<T: Copy> Bounded<T> {
+    /// A list without entries and without room.
+    pub fn new(alloc: Global) -> Bounded<T> {
+        Bounded {
+            list: Vec::new(alloc),
+            room: 0,
+        }
+    }
+
+    /// Empties the list, and gives it room for so many entries.
+    pub fn begin(&mut self, room: usize)
+        ensures items { self.new.list.items ≡ [] }
+        ensures room { self.new.room ≡ room }
+    {
+        self.list.clear();
+        self.room = room;
+    }
+
+    /// How many entries it has.
+    #[inline(always)]
+    pub fn len(&self) -> usize
+        ensures { result ≡ length self.now.list.items }
+    {
+        self.list.len()
+    }
+
+    /// The entries.
+    #[inline(always)]
+    pub fn as_slice(&self) -> &[T]
+        ensures { result.now ≡ self.now.list.items }
+    {
+        &self.list
+    }
+
+    /// Adds an entry, if there is room for it.
+    #[inline(always)]
+    pub fn push(&mut self, entry: T) -> Option<()>
+        ensures items { OnSome result (self.new.list.items ≡ self.old.list.items ++ entry ∷ []) }
+        ensures room { self.new.room ≡ self.old.room }
+    {
+        if self.list.len() >= self.room {
+            return None;
+        }
+        self.list.push(entry).ok()
+    }
+
+    /// Takes the last entry away.
+    #[inline(always)]
+    pub fn pop(&mut self) -> Option<T>
+        ensures items { self.old.list.items ≡ self.new.list.items ++ option_to_list result }
+        ensures rest { self.new.list.items ≡ take (length self.old.list.items - 1) self.old.list.items }
+        ensures room { self.new.room ≡ self.old.room }
+    {
+        self.list.pop()
+    }
+}
+
+impl Bounded<u8> {
+    /// Adds bytes, if there is room for them.
+    #[inline(always)]
+    pub fn push_all(&mut self, bytes: &[u8]) -> Option<()>
+        ensures items { OnSome result (self.new.list.items ≡ self.old.list.items ++ bytes.now) }
+        ensures room { self.new.room ≡ self.old.room }
+    {
+        if bytes.len() > self.room - self.list.len() {
+            return None;
+        }
+        self.list.extend_from_slice(bytes).ok()
+    }
+
+    /// Adds two bytes, if there is room for them.
+    #[inline(always)]
+    pub fn push_pair(&mut self, first: u8, second: u8) -> Option<()>
+        ensures items { OnSome result (self.new.list.items ≡ self.old.list.items ++ first ∷ second ∷ []) }
+        ensures room { self.new.room ≡ self.old.room }
+    {
+        if self.room - self.list.len() < 2 {
+            return None;
+        }
+        self.list.push(first).ok()?;
+        self.list.push(second).ok()
+    }
+
+    /// Adds bytes that stand in it, if there is room for them.
+    pub fn repeat(&mut self, from: usize, to: usize) -> Option<()>
+        requires from { from ≤ to }
+        requires to { to ≤ length self.old.list.items }
+        ensures items { OnSome result (self.new.list.items ≡ self.old.list.items ++ take (to - from) (drop from self.old.list.items)) }
+        ensures room { self.new.room ≡ self.old.room }
+    {
+        if to - from > self.room - self.list.len() {
+            return None;
+        }
+        copy_to_end(&mut self.list, from, to)
+    }
+}
+
+/// Adds bytes of a list to its end.
+fn copy_to_end(bytes: &mut Vec<u8>, from: usize, to: usize) -> Option<()>
+    requires from { from ≤ to }
+    requires to { to ≤ length bytes.old.items }
+    ensures items { OnSome result (bytes.new.items ≡ bytes.old.items ++ take (to - from) (drop from bytes.old.items)) }
+    ensures most { length bytes.new.items ≤ length bytes.old.items + (to - from) }
+{
+    let end = bytes.len();
+    let longer = end.checked_add(to - from)?;
+    bytes.resize(longer, 0).ok()?;
+    let (written, copied) = bytes.split_at_mut(end);
+    copied.copy_from_slice(&written[from..to]);
+    Some(())
+}
