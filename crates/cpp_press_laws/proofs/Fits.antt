@@ -1,5 +1,5 @@
 -- What a reader reads fits: it can be spelled so that it is read again, wherever the reader's candidates stand.
--- `Fit` says what fits, and what keeps it; `Read` what it means that what was read does. The others take the productions by sorts:
+-- `Fits` of the definitions says what fits, `Read` what it means that what was read does. The others take the productions by sorts:
 -- a tree that was made from parts that fit fits in each place where its rule may stand. `ByKind` takes these one by one.
 pub mod Packs
 pub mod FunctionsStand
@@ -22,5 +22,4 @@ pub mod Typed
 pub mod Rests
 pub mod Firsts
 pub mod Own
-pub mod Fit
 pub mod Places

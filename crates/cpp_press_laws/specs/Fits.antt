@@ -1,26 +1,32 @@
 -- Where a tree can be spelled so that it is read again: each component stands before or has a spelling where it stands, whose parts
 -- have theirs behind the components that are spelled before them. This is `ways_of` once more, way for way.
-use Rattle.std.proofs.Common.{◌≡◌, ℕ, ◌+◌, ◌<◌, ◌⊎◌, length, List, [], ◌∷◌, ◌++◌, Option, Some, None, Bool, true, false}
-use Rattle.std.specs.Prelude.{cond, not, ◌&&◌, ◌||◌, ◌^◌, nat_lt, codes}
+use Rattle.std.specs.Prelude.{◌≡◌, ℕ, ◌+◌, ◌<◌, ◌⊎◌, length, List, [], ◌∷◌, ◌++◌, Option, Some, None, Bool, true, false, cond, not, ◌&&◌, ◌||◌, ◌^◌, nat_lt, codes}
 use Rattle.sym_core.specs.declared.NumberKind.TheVariants.{Decimal, Digits}
 use Rattle.sym_spell.specs.Pressing.{◌and◌, text}
 use Rattle.cpp_grammar.specs.declared.kind.Kind.{Kind}
 use Rattle.cpp_grammar.specs.declared.production.Production.{Production}
 use Rattle.cpp_grammar.specs.Grammar.{choose}
 use Rattle.cpp_grammar.specs.Term.{Qualifiers, RefQualifier, Adjustment, non_virtual, by_table, Thunk, adjusting, covariant, Term, symbol, function, object, special, thunk, guard, alone, in_std, within, instance, local, abbreviation, parameter, source, operator, literal_operator, constructor, destructor, lambda, unnamed, string_literal, builtin, vendor, pointer, lvalue, rvalue, array, member_pointer, function_type, qualified, vector, complex, expansion, integer, boolean, null_pointer, encoding_literal, address_of, pack, nil, list, absent}
-use Rattle.cpp_grammar.specs.Scope.{count, element, length_if_pack, has_return_type}
+use Rattle.cpp_grammar.specs.Scope.{count, element, length_if_pack, has_return_type, is_open}
+use Rattle.cpp_grammar.specs.References.{packs_in}
 use Rattle.cpp_grammar.specs.Values.{Candidate, Prefix, outermost, behind, Around}
 use Rattle.cpp_grammar.specs.Between.{in_name, in_types, in_signature, under_expansion, after, inside}
 use Rattle.cpp_grammar.specs.Meaning.{is_void, is_nil}
 use Rattle.cpp_press_laws.specs.Texts.{qualifier_letters, name_letters, thunk_text}
 use Rattle.cpp_press_laws.specs.Components.{Spelling, ended, reference, first_equal}
 use Rattle.cpp_press_laws.specs.Pressing.{ways_of, is_operator, is_encoding}
-use Rattle.cpp_press_laws.proofs.ReadBack.Tokens.{IsSpellableName}
-use Rattle.cpp_press_laws.proofs.ReadBack.References.{MayBeReferred, PacksFit}
-use Rattle.cpp_press_laws.proofs.ReadBack.Solids.{AreSpellableDigits}
-use Rattle.cpp_press_laws.proofs.ReadBack.Arguments.{IsSpellableNumber}
-use Rattle.cpp_press_laws.proofs.ReadBack.Pieces.{IsOperator}
-use Rattle.cpp_press_laws.proofs.ReadBack.Symbols.{AreSuffixBytes}
+use Rattle.cpp_press_laws.specs.Spellable.{IsSpellableName, AreSpellableDigits, IsSpellableNumber, IsOperator, AreSuffixBytes}
+
+-- ## References
+
+-- the packs that a tree names have the length that is allowed
+abbrev pub PacksFit : Around → (allowed : Option ℕ) → (packs : Option ℕ) → Type 0
+PacksFit around allowed packs = (packs ≡ None) ⊎ ((around.in_expansion ≡ true) × (packs ≡ allowed))
+
+-- a tree may be referred to where it stands, if it stands before: one with free parameters not in the signature of a lambda
+pub record MayBeReferred (around : Around) (allowed : Option ℕ) (t : Term) : Type 0 where
+  pub lambda : is_open t && around.in_lambda ≡ false
+  pub packs : PacksFit around allowed (packs_in around.scope t)
 
 -- ## Places
 

@@ -5,4 +5,7 @@ pub mod Pressing
 pub mod Apart
 pub mod Repeated
 pub mod PressLaws
+pub mod Spellable
+pub mod Fits
+pub mod Subtrees
 pub mod Few

@@ -6,6 +6,7 @@ ghost use Rattle.cpp_press_laws.specs.Few.{ComponentsAreFew};
 ghost use Rattle.cpp_press_laws.specs.PressLaws.{PressedIsRead, PressedOnce, PressedTellsApart};
 ghost use Rattle.cpp_press_laws.specs.Repeated.{RepeatedComponentsHaveReasons};
 ghost use Rattle.cpp_press_laws.specs.Same.{same_tree};
+ghost use Rattle.cpp_press_laws.specs.Subtrees.{EncodingsAreRead, SymbolsFit, TypesAreRead};
 
 /// What some C++ symbol is read as, pressed, is well shaped, and every shape that spells it is read as the same: no qualifier, no
 /// discriminator and no suffix is lost. The pressed bytes are at most 2^64 - 1, as those of any list.
@@ -16,6 +17,15 @@ pub fn pressed_is_read()
 /// What a pressed spelling is read as is pressed to the same bytes, where it has at most 2^64 - 1.
 pub fn pressed_once()
     ensures { PressedOnce }
+{}
+
+/// Each type and each encoding is read as itself where it is pressed, at any place behind any components, where it fits there
+/// (`fits_of`): each component stands before or can be spelled out. What a symbol is read as fits from its first byte on. The laws of
+/// whole symbols follow.
+pub fn subtrees_are_read()
+    ensures types { TypesAreRead }
+    ensures encodings { EncodingsAreRead }
+    ensures symbols { SymbolsFit }
 {}
 
 /// What symbols with the same pressed bytes are read as is the same, where these are at most 2^64 - 1.

@@ -8,7 +8,7 @@ use Rattle.cpp_grammar.specs.Values.{State, outermost, Around, Value, tree, tree
 use Rattle.cpp_grammar.specs.Between.{between, no_items}
 use Rattle.cpp_grammar.specs.Unfolding as unfolding_
 use Rattle.cpp_grammar.specs.Unfolding.{byte_of}
-use Rattle.cpp_press_laws.proofs.Fits.Fit.{literal_type, IsBuiltin}
+use Rattle.cpp_press_laws.specs.Fits.{literal_type, IsBuiltin}
 use Rattle.cpp_press_laws.proofs.Fits.Symbols.{WholeFits}
 use Rattle.cpp_press_laws.proofs.Fits.Sorts.{KindFits, Meant}
 use Rattle.cpp_press_laws.proofs.Fits.Typed as step

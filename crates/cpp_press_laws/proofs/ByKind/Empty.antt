@@ -11,7 +11,7 @@ use Rattle.cpp_grammar.specs.Meaning.{discriminator_of}
 use Rattle.cpp_grammar.specs.Unfolding.{cpp}
 use Rattle.cpp_grammar.proofs.Choosing.{empty_at_kind}
 use Rattle.cpp_grammar.proofs.ClosedStates.{ok_same}
-use Rattle.cpp_press_laws.proofs.Fits.Fit.{item_type}
+use Rattle.cpp_press_laws.specs.Fits.{item_type}
 use Rattle.cpp_press_laws.proofs.ByKind.Rules.{kind-at}
 use Rattle.cpp_press_laws.proofs.ByKind.Leaves.{leaf-same}
 use Rattle.cpp_press_laws.proofs.Fits.Lists.{nil-fits}

@@ -24,7 +24,7 @@ use Rattle.cpp_grammar.proofs.ClosedStates.{Bare, AllOld, AllNew, Grows, old_lat
 use Rattle.cpp_grammar.proofs.ClosedTrees.{is_encoding as holds_encoding, old_inner, old_types, known, tree_good}
 use Rattle.cpp_press_laws.specs.Pressing.{is_encoding}
 use Rattle.cpp_press_laws.proofs.Components.Complete.{AllBefore}
-use Rattle.cpp_press_laws.proofs.Fits.Fit.{item_type, IsSpellableThunk}
+use Rattle.cpp_press_laws.specs.Fits.{item_type, IsSpellableThunk}
 use Rattle.cpp_press_laws.proofs.ByKind.Rules.{OneOf, Opened, opened}
 use Rattle.cpp_press_laws.proofs.Fits.Lists.{IsList, ListFits}
 use Rattle.cpp_press_laws.proofs.Fits.Nests.{OwnNameFits}

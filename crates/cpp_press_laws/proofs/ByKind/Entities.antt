@@ -13,7 +13,7 @@ use Rattle.cpp_grammar.specs.Unfolding as unfolding_
 use Rattle.cpp_grammar.specs.Unfolding.{byte_of}
 use Rattle.cpp_press_laws.specs.Texts.{qualifier_letters, mark_letter, name_letters}
 use Rattle.cpp_press_laws.specs.Pressing.{no_ways, type_ways, is_encoding, ways_of}
-use Rattle.cpp_press_laws.proofs.Fits.Fit.{Slot, bare_type, Role, in_type, in_name_with, letters_of, begins_name, names_type, names_entity, names_in, IsSpellableDiscriminator}
+use Rattle.cpp_press_laws.specs.Fits.{Slot, bare_type, Role, in_type, in_name_with, letters_of, begins_name, names_type, names_entity, names_in, IsSpellableDiscriminator}
 use Rattle.cpp_press_laws.proofs.Fits.Types.{SolidFits}
 use Rattle.cpp_press_laws.proofs.Fits.Names.{PieceFits}
 use Rattle.cpp_press_laws.proofs.Fits.Nests.{OwnNameFits, EntityFits}

@@ -19,10 +19,8 @@ use Rattle.cpp_grammar.specs.Meaning.{meaning, discriminator_of}
 use Rattle.cpp_grammar.specs.Unfolding as unfolding_
 use Rattle.cpp_grammar.specs.Unfolding.{close, byte_of, cpp}
 use Rattle.cpp_grammar.proofs.ClosedStates.{ok_same}
-use Rattle.cpp_press_laws.proofs.ReadBack.Tokens.{IsSpellableName}
-use Rattle.cpp_press_laws.proofs.Fits.Fit.{IsSpellableOffset, IsSpellableDiscriminator}
-use Rattle.cpp_press_laws.proofs.ReadBack.Solids.{AreSpellableDigits}
-use Rattle.cpp_press_laws.proofs.ReadBack.Arguments.{IsSpellableNumber}
+use Rattle.cpp_press_laws.specs.Fits.{IsSpellableOffset, IsSpellableDiscriminator}
+use Rattle.cpp_press_laws.specs.Spellable.{IsSpellableName, AreSpellableDigits, IsSpellableNumber}
 use Rattle.cpp_press_laws.proofs.ByKind.Rules.{AllOf, all-of, OneOf, Opened, opened, closed-as}
 use Rattle.cpp_press_laws.proofs.ByKind.Leaves.{LeafAs, leaf-same, name-read}
 

@@ -15,7 +15,7 @@ use Rattle.cpp_grammar.specs.Table.{abi}
 use Rattle.cpp_grammar.specs.Values.{State, Around, Value, text, text_of}
 use Rattle.cpp_grammar.specs.Unfolding.{cpp}
 use Rattle.cpp_grammar.proofs.ClosedStates.{ok_same}
-use Rattle.cpp_press_laws.proofs.ReadBack.Tokens.{IsSpellableName}
+use Rattle.cpp_press_laws.specs.Spellable.{IsSpellableName}
 
 -- a part that leaves the state as it is, and its value
 abbrev pub LeafAs : Sym → (Value → Type 0) → Shape → Type 0

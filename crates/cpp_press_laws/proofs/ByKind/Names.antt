@@ -13,7 +13,7 @@ use Rattle.cpp_grammar.specs.Between.{after, inside, extended, applied, no_items
 use Rattle.cpp_grammar.specs.Meaning.{meaning}
 use Rattle.cpp_grammar.specs.Unfolding as unfolding_
 use Rattle.cpp_grammar.specs.Unfolding.{byte_of}
-use Rattle.cpp_press_laws.proofs.Fits.Fit.{Slot, begins_name, names_type, names_function}
+use Rattle.cpp_press_laws.specs.Fits.{Slot, begins_name, names_type, names_function}
 use Rattle.cpp_press_laws.proofs.Fits.Types.{SolidFits}
 use Rattle.cpp_press_laws.proofs.Fits.Names.{PieceFits, std-between}
 use Rattle.cpp_press_laws.proofs.Fits.Templates.{std-template}

@@ -16,7 +16,7 @@ use Rattle.cpp_grammar.specs.Meaning.{meaning}
 use Rattle.cpp_grammar.specs.Unfolding as unfolding_
 use Rattle.cpp_grammar.specs.Unfolding.{byte_of}
 use Rattle.cpp_press_laws.specs.Pressing.{is_encoding}
-use Rattle.cpp_press_laws.proofs.Fits.Fit.{begins_name, names_type, names_function, names_member}
+use Rattle.cpp_press_laws.specs.Fits.{begins_name, names_type, names_function, names_member}
 use Rattle.cpp_press_laws.proofs.Fits.Read.{Wherever}
 use Rattle.cpp_press_laws.proofs.Fits.Names.{PrefixFits, PieceFits}
 use Rattle.cpp_press_laws.proofs.Fits.Nests.{NestFits}

@@ -10,7 +10,7 @@ use Rattle.cpp_grammar.specs.Between.{after, extended, applied, named_so_far, pi
 use Rattle.cpp_grammar.specs.Meaning.{meaning}
 use Rattle.cpp_grammar.specs.Unfolding as unfolding_
 use Rattle.cpp_grammar.specs.Unfolding.{byte_of}
-use Rattle.cpp_press_laws.proofs.Fits.Fit.{begins_name, names_type, names_function, names_member}
+use Rattle.cpp_press_laws.specs.Fits.{begins_name, names_type, names_function, names_member}
 use Rattle.cpp_press_laws.proofs.Fits.Names.{PieceFits}
 use Rattle.cpp_press_laws.proofs.Fits.Sorts.{KindFits}
 use Rattle.cpp_press_laws.proofs.ByKind.Pieces.{source-fits, constructor-fits, destructor-fits}

@@ -13,9 +13,8 @@ use Rattle.cpp_grammar.specs.Between.{in_signature}
 use Rattle.cpp_press_laws.specs.Texts.{counted, ordinal}
 use Rattle.cpp_press_laws.specs.Components.{Spelling}
 use Rattle.cpp_press_laws.specs.Pressing.{no_ways, piece_ways, ways_of}
-use Rattle.cpp_press_laws.proofs.ReadBack.Tokens.{IsSpellableName}
-use Rattle.cpp_press_laws.proofs.ReadBack.Pieces.{IsOperator}
-use Rattle.cpp_press_laws.proofs.Fits.Fit.{Fitting, item_type, begins_name, names_type, names_function, names_member, names_entity, IsLocalNumber, piece_fits, fits_nowhere, fits_of}
+use Rattle.cpp_press_laws.specs.Fits.{Fitting, item_type, begins_name, names_type, names_function, names_member, names_entity, IsLocalNumber, piece_fits, fits_nowhere, fits_of}
+use Rattle.cpp_press_laws.specs.Spellable.{IsSpellableName, IsOperator}
 use Rattle.cpp_press_laws.proofs.Fits.Read.{pressed_at, FunctionsStand, Fitted, refitted, text-fitted, bytes-fitted, fitted-bytes}
 use Rattle.cpp_press_laws.proofs.Fits.Types.{may-closed}
 use Rattle.cpp_press_laws.proofs.Fits.Lists.{ParametersFit}

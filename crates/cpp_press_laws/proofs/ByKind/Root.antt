@@ -18,7 +18,7 @@ use Rattle.cpp_grammar.proofs.Choosing.{empty_at_kind}
 use Rattle.cpp_grammar.proofs.ClosedStates.{ok_same, behind_bind}
 use Rattle.cpp_grammar.proofs.ClosedTrees.{is_encoding as holds_encoding}
 use Rattle.cpp_press_laws.specs.PressLaws.{IsReadFrom}
-use Rattle.cpp_press_laws.proofs.Fits.Fit.{SymbolFits}
+use Rattle.cpp_press_laws.specs.Fits.{SymbolFits}
 use Rattle.cpp_press_laws.proofs.ByKind.Rules.{OneOf, all-of, kind-at, one-value}
 use Rattle.cpp_press_laws.proofs.ByKind.Packs.{shape-kept}
 use Rattle.cpp_press_laws.proofs.Fits.Rests.{symbol-fits}

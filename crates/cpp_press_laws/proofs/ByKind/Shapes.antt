@@ -7,7 +7,7 @@ use Rattle.cpp_grammar.specs.declared.kind.Kind.{Kind}
 use Rattle.cpp_grammar.specs.Grammar.{alternatives, number_of_kind}
 use Rattle.cpp_grammar.specs.Term.{Term}
 use Rattle.cpp_press_laws.specs.PressLaws.{IsReadFrom}
-use Rattle.cpp_press_laws.proofs.Fits.Fit.{takes_all, SymbolFits}
+use Rattle.cpp_press_laws.specs.Fits.{takes_all, SymbolFits}
 use Rattle.cpp_press_laws.proofs.Fits.Sorts.{KindFits, takes_literals}
 use Rattle.cpp_press_laws.proofs.ByKind.Rules.{AllOf, OneOf, every-shape}
 use Rattle.cpp_press_laws.proofs.ByKind.Suffixes.{suffix-read}

@@ -16,8 +16,8 @@ use Rattle.cpp_grammar.specs.Meaning.{meaning}
 use Rattle.cpp_grammar.specs.Unfolding as unfolding_
 use Rattle.cpp_grammar.specs.Unfolding.{close, byte_of, cpp}
 use Rattle.cpp_grammar.proofs.ClosedStates.{ok_same}
-use Rattle.cpp_press_laws.proofs.Fits.Fit.{IsSpellableSuffix}
-use Rattle.cpp_press_laws.proofs.ReadBack.Symbols.{AreSuffixBytes}
+use Rattle.cpp_press_laws.specs.Fits.{IsSpellableSuffix}
+use Rattle.cpp_press_laws.specs.Spellable.{AreSuffixBytes}
 use Rattle.cpp_press_laws.proofs.ByKind.Rules.{AllOf, all-of, Opened, opened, closed-as, every-shape}
 use Rattle.cpp_press_laws.proofs.ByKind.Leaves.{LeafAs, leaf-same}
 

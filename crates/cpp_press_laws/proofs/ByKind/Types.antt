@@ -10,7 +10,7 @@ use Rattle.cpp_grammar.specs.Meaning.{meaning}
 use Rattle.cpp_grammar.specs.Unfolding as unfolding_
 use Rattle.cpp_grammar.specs.Unfolding.{byte_of}
 use Rattle.cpp_press_laws.proofs.ByKind.Rules.{OneOf}
-use Rattle.cpp_press_laws.proofs.Fits.Fit.{Slot, any_type, item_type, parameter_type, takes_all, takes_qualified, takes_expansions}
+use Rattle.cpp_press_laws.specs.Fits.{Slot, any_type, item_type, parameter_type, takes_all, takes_qualified, takes_expansions}
 use Rattle.cpp_press_laws.proofs.Components.AddedWays.{IsNotBare}
 use Rattle.cpp_press_laws.proofs.Fits.Types.{TypeFits, SolidFits}
 use Rattle.cpp_press_laws.proofs.Fits.Solids.{builtin-with-d}

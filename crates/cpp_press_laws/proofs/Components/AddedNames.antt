@@ -12,7 +12,7 @@ use Rattle.cpp_press_laws.specs.Components.{Spelling, ended, component}
 use Rattle.cpp_press_laws.specs.Pressing.{no_ways, type_ways, in_N_and_E, with_letters, name_ways, template_before, is_operator, is_encoding, is_one_piece, entity_text, local_text, encoding_ways, ways_of}
 use Rattle.cpp_press_laws.proofs.Components.Parts.{PrefixOr, Inside, Whole, prefix-whole}
 use Rattle.cpp_press_laws.proofs.Components.Complete.{Complete}
-use Rattle.cpp_press_laws.proofs.Fits.Fit.{Standing, Fitting, Behind, as_component, as_template, behind_bytes, one_piece, Slot, names_type, names_function, begins_name, Role, in_type, in_name_with, letters_of, names_in, fits_nowhere, type_fits, piece_fits, argument_fits, encoding_fits, fits_of, names_member, IsSpellableDiscriminator}
+use Rattle.cpp_press_laws.specs.Fits.{Standing, Fitting, Behind, as_component, as_template, behind_bytes, one_piece, Slot, names_type, names_function, begins_name, Role, in_type, in_name_with, letters_of, names_in, fits_nowhere, type_fits, piece_fits, argument_fits, encoding_fits, fits_of, names_member, IsSpellableDiscriminator}
 use Rattle.cpp_press_laws.proofs.Components.Adding.{AddsParts, Adds, Either, both-added, fewer-added, behind-and, at-once, and-adds, whole-adds, letters-add, no-letters-add}
 use Rattle.cpp_press_laws.proofs.Components.AddedWays.{way_at, AtSlot, WaysAdd, in-component, reference-adds, found-and-adds, in-template, in-nested-template, component-at}
 

@@ -11,7 +11,7 @@ use Rattle.cpp_press_laws.specs.Components.{Spelling, component}
 use Rattle.cpp_press_laws.specs.Pressing.{no_ways, type_ways, function_text, piece_ways, ways_of}
 use Rattle.cpp_press_laws.proofs.Components.Parts.{IsComponent, Shut, Inside, Whole}
 use Rattle.cpp_press_laws.proofs.Components.KnownTrees.{In}
-use Rattle.cpp_press_laws.proofs.Fits.Fit.{Standing, Fitting, Behind, as_component, either, Slot, any_type, bare_type, item_type, parameter_type, literal_type, nowhere, fits_nowhere, type_fits, piece_fits, fits_of, takes_all, NamesArgument, IsAbbreviation, IsBuiltin}
+use Rattle.cpp_press_laws.specs.Fits.{Standing, Fitting, Behind, as_component, either, Slot, any_type, bare_type, item_type, parameter_type, literal_type, nowhere, fits_nowhere, type_fits, piece_fits, fits_of, takes_all, NamesArgument, IsAbbreviation, IsBuiltin}
 use Rattle.cpp_press_laws.proofs.Components.Adding.{AddsParts, Adds, Either, No, none-added, fewer-added, behind-and, and-adds}
 use Rattle.cpp_press_laws.proofs.Components.AddedWays.{way_at, AtSlot, IsNotBare, WaysAdd, in-component, reference-adds, leaf-adds, no-whole, found-and-adds, component-at, type-ways-add, piece-ways-add, argument-ways-add, encoding-ways-add, nowhere-ways-add}
 use Rattle.cpp_press_laws.proofs.Components.AddedNames.{alone-add, in-std-add, within-add, instance-add, local-add}

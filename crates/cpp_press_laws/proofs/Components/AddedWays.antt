@@ -11,7 +11,7 @@ use Rattle.cpp_press_laws.specs.Pressing.{Ways, no_ways, type_ways, template_bef
 use Rattle.cpp_press_laws.proofs.Components.Parts.{IsComponent, Shut, Inside, Whole, Unqualified}
 use Rattle.cpp_press_laws.proofs.Components.KnownTrees.{In}
 use Rattle.cpp_press_laws.proofs.Components.Complete.{Complete}
-use Rattle.cpp_press_laws.proofs.Fits.Fit.{Standing, Fitting, as_component, as_reference, as_template, behind_bytes, Slot, any_type, bare_type, item_type, parameter_type, literal_type, Role, letters_of, Fits, nowhere, fits_nowhere, type_fits, piece_fits, argument_fits, encoding_fits}
+use Rattle.cpp_press_laws.specs.Fits.{Standing, Fitting, as_component, as_reference, as_template, behind_bytes, Slot, any_type, bare_type, item_type, parameter_type, literal_type, Role, letters_of, Fits, nowhere, fits_nowhere, type_fits, piece_fits, argument_fits, encoding_fits}
 use Rattle.cpp_press_laws.proofs.Components.Adding.{AddsParts, Adds, Either, No, both-added, fewer-added, tree-found, outside-added, text-adds, component-adds, template-adds, nested-template-adds}
 
 -- right under qualifiers a type has a way of its own

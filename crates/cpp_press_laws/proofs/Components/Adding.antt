@@ -10,7 +10,7 @@ use Rattle.cpp_press_laws.specs.Pressing.{in_N_and_E, with_letters, template_bef
 use Rattle.cpp_press_laws.proofs.Components.Parts.{Shut, Inside, Whole, Has, has-before, has-itself, has-closed, found-stands}
 use Rattle.cpp_press_laws.proofs.Components.KnownTrees.{In}
 use Rattle.cpp_press_laws.proofs.Components.Complete.{Complete, complete-ended, complete-has}
-use Rattle.cpp_press_laws.proofs.Fits.Fit.{Standing, Fitting, Behind, IsWithoutLetters, by_letters}
+use Rattle.cpp_press_laws.specs.Fits.{Standing, Fitting, Behind, IsWithoutLetters, by_letters}
 
 -- from these components to others, among which these trees stand
 pub record AddsParts (n : ℕ) (P : Term → Type 0) (cs ds : List Candidate) : Type 0 where

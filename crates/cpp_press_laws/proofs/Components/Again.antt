@@ -10,11 +10,10 @@ use Rattle.cpp_grammar.specs.Values.{Candidate, Around}
 use Rattle.cpp_grammar.specs.References.{packs_in}
 use Rattle.cpp_grammar.specs.Meaning.{is_void, is_nil}
 use Rattle.cpp_press_laws.specs.Pressing.{ways_of}
-use Rattle.cpp_press_laws.proofs.ReadBack.References.{PacksFit, MayBeReferred}
 use Rattle.cpp_press_laws.proofs.Components.Parts.{IsComponent, Inside, Whole, Has, stands-found}
 use Rattle.cpp_press_laws.proofs.Components.KnownTrees.{In}
 use Rattle.cpp_press_laws.proofs.Components.Complete.{Complete, complete-has}
-use Rattle.cpp_press_laws.proofs.Fits.Fit.{Slot, any_type, bare_type, item_type, parameter_type, literal_type, IsBuiltin, IsAbbreviation, type_fits, piece_fits, argument_fits, encoding_fits, fits_nowhere, fits_of}
+use Rattle.cpp_press_laws.specs.Fits.{Slot, any_type, bare_type, item_type, parameter_type, literal_type, IsBuiltin, IsAbbreviation, type_fits, piece_fits, argument_fits, encoding_fits, fits_nowhere, fits_of, PacksFit, MayBeReferred}
 use Rattle.cpp_press_laws.proofs.Components.Adding.{AddsParts}
 use Rattle.cpp_press_laws.proofs.Components.AddedWays.{IsNotBare, way_at}
 use Rattle.cpp_press_laws.proofs.Components.AddedTrees.{adds}

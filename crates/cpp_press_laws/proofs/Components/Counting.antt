@@ -10,13 +10,13 @@ use Rattle.cpp_grammar.specs.Between.{after, inside}
 use Rattle.cpp_press_laws.specs.Texts.{decimal, counted, ordinal, qualifier_letters, mark_letter, name_letters, discriminator_text}
 use Rattle.cpp_press_laws.specs.Components.{Spelling, reference, first_equal, ended, spelled_out, referred, component}
 use Rattle.cpp_press_laws.specs.Pressing.{no_ways, type_ways, piece_ways, argument_ways, encoding_ways, function_text, name_ways, with_letters, in_N_and_E, template_before, is_operator, is_one_piece, entity_text, local_text, ways_of}
-use Rattle.cpp_press_laws.proofs.ReadBack.Reading.{Written}
+use Rattle.cpp_press_laws.specs.Subtrees.{Written}
 use Rattle.cpp_press_laws.proofs.Components.Keeping.{choice}
 use Rattle.cpp_press_laws.proofs.ReadBack.Templates.{of_elements}
 use Rattle.cpp_press_laws.proofs.EveryWay.Std.{std_spelling, maybe_N}
 use Rattle.cpp_press_laws.proofs.EveryWay.Instances.{elements_of, instance_between, not-one-piece, one-piece-is}
 use Rattle.cpp_press_laws.proofs.EveryWay.Encodings.{CountsArguments}
-use Rattle.cpp_press_laws.proofs.Fits.Fit.{IsWithoutLetters, Fitting, IsFirst, Role, in_name_with, letters_of, item_type, IsBuiltin, has_letters, by_letters, Behind, as_template, nowhere, fits_nowhere, type_fits, piece_fits, argument_fits, encoding_fits, fits_of}
+use Rattle.cpp_press_laws.specs.Fits.{IsWithoutLetters, Fitting, IsFirst, Role, in_name_with, letters_of, item_type, IsBuiltin, has_letters, by_letters, Behind, as_template, nowhere, fits_nowhere, type_fits, piece_fits, argument_fits, encoding_fits, fits_of}
 
 -- ## Lengths
 

@@ -11,7 +11,7 @@ use Rattle.cpp_press_laws.specs.Components.{Spelling, ended, component}
 use Rattle.cpp_press_laws.specs.Pressing.{no_ways, type_ways, pressed, encoding_ways, begun, function_text, name_ways, with_letters, in_N_and_E, template_before, is_operator, is_encoding, is_one_piece, entity_text, local_text, ways_of}
 use Rattle.cpp_grammar.specs.Unfolding.{first_around}
 use Rattle.cpp_press_laws.specs.Apart.{spelled_components}
-use Rattle.cpp_press_laws.proofs.ReadBack.Reading.{Written}
+use Rattle.cpp_press_laws.specs.Subtrees.{Written}
 use Rattle.cpp_press_laws.proofs.Components.Keeping.{choice}
 use Rattle.cpp_press_laws.proofs.ReadBack.Templates.{of_elements}
 use Rattle.cpp_press_laws.proofs.EveryWay.Every.{slot_way}
@@ -20,7 +20,7 @@ use Rattle.cpp_press_laws.proofs.EveryWay.Std.{std_fits, std_spelling, maybe_N}
 use Rattle.cpp_press_laws.proofs.EveryWay.Within.{scope-first, no-encoding, joined_spelling, joined_fits, local_fits, begun_fits}
 use Rattle.cpp_press_laws.proofs.EveryWay.Instances.{instance_joined, not-one-piece, one-piece-is, elements_of, instance_between}
 use Rattle.cpp_press_laws.proofs.Components.Counting.{marks-long}
-use Rattle.cpp_press_laws.proofs.Fits.Fit.{SymbolFits, names_in, IsWithoutLetters, one_piece, names_type, Slot, any_type, bare_type, item_type, parameter_type, literal_type, Fitting, Role, in_type, in_name_with, letters_of, by_letters, either, Behind, behind_bytes, as_component, fits_nowhere, type_fits, fits_of}
+use Rattle.cpp_press_laws.specs.Fits.{SymbolFits, names_in, IsWithoutLetters, one_piece, names_type, Slot, any_type, bare_type, item_type, parameter_type, literal_type, Fitting, Role, in_type, in_name_with, letters_of, by_letters, either, Behind, behind_bytes, as_component, fits_nowhere, type_fits, fits_of}
 use Rattle.cpp_press_laws.proofs.Components.FewTrees.{few-and, few-component, few-behind, few-before, few-nested, ArgumentsFew, few-elements, few-made, few-referred, few-reference, LeadsFew, few-nowhere, few-encoding, Counts, few-pointer, few-lvalue, few-rvalue, few-complex, few-vendor, few-array, few-vector, few-expansion, few-qualified, few-member-pointer, few-source, few-operator, few-literal-operator, few-constructor, few-destructor, few-unnamed, few-string-literal, few-lambda, few-builtin, few-integer, few-boolean, few-null-pointer, few-encoding-literal, few-address, few-pack, few-nil, few-list, FewBy}
 
 -- ## Names

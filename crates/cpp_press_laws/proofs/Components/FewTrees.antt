@@ -8,11 +8,11 @@ use Rattle.cpp_grammar.specs.Between.{in_signature, under_expansion}
 use Rattle.cpp_press_laws.specs.Texts.{counted, ordinal, signed_text, qualifier_letters, name_letters}
 use Rattle.cpp_press_laws.specs.Components.{Spelling, reference, first_equal, ended, spelled_out, referred, component}
 use Rattle.cpp_press_laws.specs.Pressing.{Ways, no_ways, type_ways, piece_ways, argument_ways, in_N_and_E, entity_text, ways_of}
-use Rattle.cpp_press_laws.proofs.ReadBack.Reading.{Written, written}
+use Rattle.cpp_press_laws.specs.Subtrees.{Written, written}
 use Rattle.cpp_press_laws.proofs.ReadBack.Templates.{of_elements}
 use Rattle.cpp_press_laws.proofs.EveryWay.Every.{slot_way}
 use Rattle.cpp_press_laws.proofs.Components.Counting.{counted-long, letters-long}
-use Rattle.cpp_press_laws.proofs.Fits.Fit.{Slot, any_type, bare_type, item_type, parameter_type, literal_type, IsBuiltin, Fits, Fitting, Standing, IsFirst, Role, letters_of, Behind, as_component, as_template, nowhere, fits_nowhere, type_fits, piece_fits, argument_fits, encoding_fits, fits_of}
+use Rattle.cpp_press_laws.specs.Fits.{Slot, any_type, bare_type, item_type, parameter_type, literal_type, IsBuiltin, Fits, Fitting, Standing, IsFirst, Role, letters_of, Behind, as_component, as_template, nowhere, fits_nowhere, type_fits, piece_fits, argument_fits, encoding_fits, fits_of}
 
 -- ## Counts
 

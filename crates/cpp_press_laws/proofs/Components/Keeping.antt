@@ -7,7 +7,7 @@ use Rattle.cpp_grammar.specs.Values.{Candidate}
 use Rattle.cpp_press_laws.specs.Texts.{ordinal, signed_text, qualifier_letters, mark_letter, name_letters, thunk_text, discriminator_text}
 use Rattle.cpp_press_laws.specs.Components.{Spelling, reference, first_equal, ended, spelled_out, referred, component}
 use Rattle.cpp_press_laws.specs.Pressing.{Ways, no_ways, type_ways, function_text, in_N_and_E, with_letters, name_ways, template_before, is_operator, is_one_piece, entity_text, local_text, begun, encoding_ways, piece_ways, argument_ways, ways_of}
-use Rattle.cpp_press_laws.proofs.ReadBack.Reading.{Written}
+use Rattle.cpp_press_laws.specs.Subtrees.{Written}
 
 -- ## Spellings
 

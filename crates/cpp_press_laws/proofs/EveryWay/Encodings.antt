@@ -15,18 +15,19 @@ use Rattle.cpp_grammar.specs.Meaning.{encoding_of, parameters}
 use Rattle.cpp_press_laws.specs.Texts.{offset_text, thunk_text, name_letters, discriminator_text, signed_text}
 use Rattle.cpp_press_laws.specs.Components.{Spelling, component}
 use Rattle.cpp_press_laws.specs.Pressing.{begun, encoding_ways, in_N_and_E, is_one_piece, entity_text, local_text, ways_of, no_ways, type_ways}
-use Rattle.cpp_press_laws.proofs.ReadBack.Reading.{Written, written, ReadsAt, empty-reads}
-use Rattle.cpp_press_laws.proofs.ReadBack.Types.{Is, same-written}
+use Rattle.cpp_press_laws.specs.Subtrees.{Written, written, ReadsAt, Is, HasRoom, IsSmall}
+use Rattle.cpp_press_laws.proofs.ReadBack.Reading.{empty-reads}
+use Rattle.cpp_press_laws.proofs.ReadBack.Types.{same-written}
 use Rattle.cpp_press_laws.proofs.ReadBack.Arguments.{items-more, integer-reads}
 use Rattle.cpp_press_laws.proofs.ReadBack.Names.{Extends}
 use Rattle.cpp_press_laws.proofs.Components.Keeping.{Keeps, keeps-text, keeps-and, keeps-front, keeps-behind, keeps}
-use Rattle.cpp_press_laws.proofs.ReadBack.Slots.{HasRoom, IsSmall, room-first, room-rest, ReadsAs, solid_kind, in-slot, fitting-in}
+use Rattle.cpp_press_laws.proofs.ReadBack.Slots.{room-first, room-rest, ReadsAs, solid_kind, in-slot, fitting-in}
 use Rattle.cpp_press_laws.proofs.ReadBack.Named.{ItemsRead}
 use Rattle.cpp_press_laws.proofs.ReadBack.Between.{ExtendsWith, extends-with-behind-s, prefix-behind-s}
 use Rattle.cpp_press_laws.proofs.ReadBack.Templates.{TypeRules, slot-rules}
 use Rattle.cpp_press_laws.proofs.EveryWay.Every.{NameReads, EntityReads, template-value, Leads, slot_way, typed-argument, reads-encoding, referred-before}
 use Rattle.cpp_press_laws.proofs.EveryWay.Types.{Reading}
-use Rattle.cpp_press_laws.proofs.Fits.Fit.{IsSpellableOffset, IsSpellableThunk, either, Role, in_type, in_name_with, letters_of, IsSpellableDiscriminator, Slot, any_type, bare_type, item_type, parameter_type, literal_type, Fitting, as_component, nowhere, Behind, type_fits, fits_nowhere, fits_of}
+use Rattle.cpp_press_laws.specs.Fits.{IsSpellableOffset, IsSpellableThunk, either, Role, in_type, in_name_with, letters_of, IsSpellableDiscriminator, Slot, any_type, bare_type, item_type, parameter_type, literal_type, Fitting, as_component, nowhere, Behind, type_fits, fits_nowhere, fits_of}
 use Rattle.cpp_press_laws.proofs.ReadBack.Symbols.{discriminator_value, no-discriminator, one-digit, many-digits, local-type, local-name, encoding-reads, guard-reads, special-reads, special-type, non-virtual-thunk, virtual-thunk, covariant-thunk, non-virtual-offset, virtual-offset}
 use Rattle.cpp_grammar.specs.Values.{qualifiers_of, ref_of, named, adjusted}
 use Rattle.cpp_press_laws.proofs.Components.Keeping.{keeps-local, keeps-N-and-E, keeps-choice}

@@ -12,19 +12,18 @@ use Rattle.cpp_grammar.specs.Meaning.{parameters}
 use Rattle.cpp_press_laws.specs.Texts.{name_letters, mark_letter}
 use Rattle.cpp_press_laws.specs.Components.{Spelling, first_equal, seq_id, reference, spelled_out, component}
 use Rattle.cpp_press_laws.specs.Pressing.{Ways, no_ways, type_ways, is_one_piece, entity_text}
-use Rattle.cpp_press_laws.proofs.ReadBack.Tokens.{greatest}
-use Rattle.cpp_press_laws.proofs.ReadBack.Reading.{Written, written, ReadsAt}
+use Rattle.cpp_press_laws.specs.Subtrees.{greatest, Written, written, ReadsAt, Is, HasRoom, IsSmall}
 use Rattle.cpp_press_laws.proofs.ReadBack.References.{found-first, number-refers}
-use Rattle.cpp_press_laws.proofs.ReadBack.Types.{Is, more}
+use Rattle.cpp_press_laws.proofs.ReadBack.Types.{more}
 use Rattle.cpp_press_laws.proofs.ReadBack.Arguments.{items_value, type-argument, type-element}
 use Rattle.cpp_press_laws.proofs.ReadBack.Names.{SoFar, Extends}
 use Rattle.cpp_press_laws.proofs.ReadBack.Parameters.{RestReads}
 use Rattle.cpp_press_laws.proofs.Components.Keeping.{Keeps, keeps-component, keeps-and}
-use Rattle.cpp_press_laws.proofs.ReadBack.Slots.{HasRoom, IsSmall, few-before, ReadsAs, is_bare, in-slot, fitting-in}
+use Rattle.cpp_press_laws.proofs.ReadBack.Slots.{few-before, ReadsAs, is_bare, in-slot, fitting-in}
 use Rattle.cpp_press_laws.proofs.ReadBack.Named.{PieceReads, ItemsRead}
 use Rattle.cpp_press_laws.proofs.ReadBack.Between.{Named, SoFarWith, ExtendsWith, extends-with-behind-s, prefix-behind-s}
 use Rattle.cpp_press_laws.proofs.ReadBack.Templates.{TemplateKind, InstancedAt, instanced-behind-s, of_elements, ReadElements, elements-room}
-use Rattle.cpp_press_laws.proofs.Fits.Fit.{Slot, any_type, bare_type, item_type, parameter_type, literal_type, Standing, Fitting, as_component, as_template, Role, in_type, in_name_with, letters_of, Fits, nowhere, fits_nowhere, type_fits, piece_fits, argument_fits, encoding_fits}
+use Rattle.cpp_press_laws.specs.Fits.{Slot, any_type, bare_type, item_type, parameter_type, literal_type, Standing, Fitting, as_component, as_template, Role, in_type, in_name_with, letters_of, Fits, nowhere, fits_nowhere, type_fits, piece_fits, argument_fits, encoding_fits}
 
 -- ## What is read
 

@@ -9,11 +9,11 @@ use Rattle.cpp_grammar.specs.Between.{inside, no_items}
 use Rattle.cpp_press_laws.specs.Texts.{name_letters}
 use Rattle.cpp_press_laws.specs.Components.{Spelling, ended, component}
 use Rattle.cpp_press_laws.specs.Pressing.{ways_of, no_ways, name_ways, in_N_and_E, is_one_piece, entity_text}
-use Rattle.cpp_press_laws.proofs.ReadBack.Reading.{Written}
+use Rattle.cpp_press_laws.specs.Subtrees.{Written, HasRoom, IsSmall}
 use Rattle.cpp_press_laws.proofs.ReadBack.Types.{more}
 use Rattle.cpp_press_laws.proofs.ReadBack.Names.{SoFar, Extends}
 use Rattle.cpp_press_laws.proofs.Components.Keeping.{Keeps, keeps-text, keeps-and, keeps-front, keeps-behind, keeps-ended, choice, keeps}
-use Rattle.cpp_press_laws.proofs.ReadBack.Slots.{HasRoom, IsSmall, room-first, room-rest, ReadsAs, solid_kind, in-slot, fitting-in}
+use Rattle.cpp_press_laws.proofs.ReadBack.Slots.{room-first, room-rest, ReadsAs, solid_kind, in-slot, fitting-in}
 use Rattle.cpp_press_laws.proofs.ReadBack.Between.{ElementsRead, ExtendsWith, extends-with-behind-s, prefix-behind-s}
 use Rattle.cpp_press_laws.proofs.ReadBack.Templates.{slot-rules, TemplateKind, of_elements, ReadElements, elements-room}
 use Rattle.cpp_press_laws.proofs.EveryWay.Every.{referred-before, OnePiece, TemplateReads, template-value, EntityReads, Leads, slot_way, typed-argument}
@@ -21,7 +21,7 @@ use Rattle.cpp_press_laws.proofs.EveryWay.Types.{Reading}
 use Rattle.cpp_press_laws.proofs.EveryWay.Within.{no-encoding}
 use Rattle.cpp_press_laws.proofs.EveryWay.Std.{entity-nested}
 use Rattle.cpp_press_laws.proofs.EveryWay.Names.{plain-name, no-letters, nested-room, name-by-letters, elements-behind}
-use Rattle.cpp_press_laws.proofs.Fits.Fit.{nowhere, Slot, any_type, bare_type, item_type, parameter_type, literal_type, Fitting, as_component, behind_bytes, Behind, Role, in_type, in_name_with, letters_of, IsWithoutLetters, fits_nowhere, encoding_fits, piece_fits, argument_fits, type_fits, fits_of}
+use Rattle.cpp_press_laws.specs.Fits.{nowhere, Slot, any_type, bare_type, item_type, parameter_type, literal_type, Fitting, as_component, behind_bytes, Behind, Role, in_type, in_name_with, letters_of, IsWithoutLetters, fits_nowhere, encoding_fits, piece_fits, argument_fits, type_fits, fits_of}
 use Rattle.cpp_press_laws.proofs.ReadBack.Arguments.{items_value}
 
 pub items-kept : (t : Term) → no_items (items_value t) ≡ t

@@ -11,10 +11,8 @@ use Rattle.cpp_grammar.specs.Values.{Candidate, Around, Value, nothing_there, tr
 use Rattle.cpp_grammar.specs.Unfolding.{first_around, first_state, first_tree, unfold_cpp}
 use Rattle.cpp_press_laws.specs.Pressing.{ways_of, no_ways, piece_ways, pressed}
 use Rattle.cpp_press_laws.specs.PressLaws.{AreReadAs}
-use Rattle.cpp_press_laws.proofs.ReadBack.Reading.{Written, written, ReadsAt}
-use Rattle.cpp_press_laws.proofs.ReadBack.Types.{Is}
+use Rattle.cpp_press_laws.specs.Subtrees.{Written, written, ReadsAt, Is, HasRoom, IsSmall}
 use Rattle.cpp_press_laws.proofs.ReadBack.Symbols.{symbol-reads, no-suffix, suffix-reads}
-use Rattle.cpp_press_laws.proofs.ReadBack.Slots.{HasRoom, IsSmall}
 use Rattle.cpp_press_laws.proofs.ReadBack.Named.{PieceReads}
 use Rattle.cpp_press_laws.proofs.EveryWay.Every.{reads-nowhere, reads-piece}
 use Rattle.cpp_press_laws.proofs.EveryWay.Types.{Reading, reads-vendor, reads-pointer, reads-lvalue, reads-rvalue, reads-complex, reads-array, reads-vector, reads-expansion, reads-member-pointer, reads-qualified}
@@ -26,7 +24,7 @@ use Rattle.cpp_press_laws.proofs.EveryWay.Parts.{reads-source, reads-operator, r
 use Rattle.cpp_press_laws.proofs.EveryWay.Lists.{reads-nil, reads-list, reads-function-type}
 use Rattle.cpp_press_laws.proofs.EveryWay.Encodings.{CountsArguments, reads-local, reads-function, reads-object, reads-guard, reads-special, reads-thunk}
 use Rattle.cpp_press_laws.proofs.PressLaw.{read-by-one}
-use Rattle.cpp_press_laws.proofs.Fits.Fit.{begins_name, SymbolFits, fits_of}
+use Rattle.cpp_press_laws.specs.Fits.{begins_name, SymbolFits, fits_of}
 
 string-piece : (around : Around) (allowed : Option ℕ) (place : ℕ) (cs : List Candidate)
     → PieceReads around allowed string_literal place cs (written (codes "s") cs)

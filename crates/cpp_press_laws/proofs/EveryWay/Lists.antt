@@ -15,20 +15,21 @@ use Rattle.cpp_grammar.specs.Meaning.{is_void, is_nil, parameters}
 use Rattle.cpp_press_laws.specs.Texts.{mark_letter}
 use Rattle.cpp_press_laws.specs.Components.{Spelling, component}
 use Rattle.cpp_press_laws.specs.Pressing.{ways_of, no_ways, type_ways, function_text}
-use Rattle.cpp_press_laws.proofs.ReadBack.Reading.{Written, written, ReadsAt, takes-byte, empty-reads}
-use Rattle.cpp_press_laws.proofs.ReadBack.Types.{Is, more, function-under-qualifiers, noexcept-under-qualifiers}
+use Rattle.cpp_press_laws.specs.Subtrees.{Written, written, ReadsAt, Is, HasRoom, IsSmall}
+use Rattle.cpp_press_laws.proofs.ReadBack.Reading.{takes-byte, empty-reads}
+use Rattle.cpp_press_laws.proofs.ReadBack.Types.{more, function-under-qualifiers, noexcept-under-qualifiers}
 use Rattle.cpp_press_laws.proofs.ReadBack.Solids.{builtin-solid}
 use Rattle.cpp_press_laws.proofs.ReadBack.Functions.{function-solid, noexcept-behind-d}
 use Rattle.cpp_press_laws.proofs.ReadBack.Arguments.{items_value, items-more}
 use Rattle.cpp_press_laws.proofs.ReadBack.Names.{Extends}
 use Rattle.cpp_press_laws.proofs.ReadBack.Parameters.{RestReads, end-reads, none-read}
 use Rattle.cpp_press_laws.proofs.Components.Keeping.{Keeps, keeps-text, keeps-and, keeps-front, keeps-behind, keeps}
-use Rattle.cpp_press_laws.proofs.ReadBack.Slots.{HasRoom, IsSmall, room-first, room-rest, ReadsAs, is_bare, in-slot, fitting-in}
+use Rattle.cpp_press_laws.proofs.ReadBack.Slots.{room-first, room-rest, ReadsAs, is_bare, in-slot, fitting-in}
 use Rattle.cpp_press_laws.proofs.ReadBack.Between.{ExtendsWith, extends-with-behind-s, prefix-behind-s}
 use Rattle.cpp_press_laws.proofs.EveryWay.Every.{template-value, ListReads, list_kind, with_end, Leads, slot_way, typed-argument, referred-before}
 use Rattle.cpp_press_laws.proofs.EveryWay.Types.{Reading, solid-in-all, with-d-in-all}
 use Rattle.cpp_press_laws.proofs.EveryWay.Instances.{items-kept}
-use Rattle.cpp_press_laws.proofs.Fits.Fit.{takes_all, Slot, any_type, bare_type, item_type, parameter_type, literal_type, takes_all, Fitting, as_component, nowhere, Behind, type_fits, fits_nowhere, fits_of}
+use Rattle.cpp_press_laws.specs.Fits.{takes_all, Slot, any_type, bare_type, item_type, parameter_type, literal_type, takes_all, Fitting, as_component, nowhere, Behind, type_fits, fits_nowhere, fits_of}
 
 -- ## Lists
 

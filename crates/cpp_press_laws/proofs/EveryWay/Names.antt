@@ -16,19 +16,20 @@ use Rattle.cpp_grammar.specs.Between.{extended, inside}
 use Rattle.cpp_press_laws.specs.Texts.{qualifier_letters, mark_letter, name_letters}
 use Rattle.cpp_press_laws.specs.Components.{Spelling, ended, component}
 use Rattle.cpp_press_laws.specs.Pressing.{ways_of, no_ways, name_ways, with_letters, in_N_and_E, template_before}
-use Rattle.cpp_press_laws.proofs.ReadBack.Reading.{Written, written, ReadsAt, takes-byte}
-use Rattle.cpp_press_laws.proofs.ReadBack.Types.{Is, more}
+use Rattle.cpp_press_laws.specs.Subtrees.{Written, written, ReadsAt, Is, HasRoom}
+use Rattle.cpp_press_laws.proofs.ReadBack.Reading.{takes-byte}
+use Rattle.cpp_press_laws.proofs.ReadBack.Types.{more}
 use Rattle.cpp_press_laws.proofs.ReadBack.Functions.{mark_bytes}
 use Rattle.cpp_press_laws.proofs.ReadBack.Names.{SoFar, Extends, nest-whole}
 use Rattle.cpp_press_laws.proofs.ReadBack.Encodings.{ref_bytes, nested-name}
 use Rattle.cpp_press_laws.proofs.Components.Keeping.{keeps-text, keeps-and, keeps-ended, keeps}
-use Rattle.cpp_press_laws.proofs.ReadBack.Slots.{HasRoom, room-first, room-rest, ReadsAs, solid_kind, in-slot, fitting-in}
+use Rattle.cpp_press_laws.proofs.ReadBack.Slots.{room-first, room-rest, ReadsAs, solid_kind, in-slot, fitting-in}
 use Rattle.cpp_press_laws.proofs.ReadBack.Named.{NameRule, own-rule}
 use Rattle.cpp_press_laws.proofs.ReadBack.Between.{ElementsRead, named-piece, ExtendsWith, extends-with-behind-s, prefix-behind-s, prefix-piece, prefix-with-piece}
 use Rattle.cpp_press_laws.proofs.ReadBack.Templates.{slot-rules, TemplateKind, of_elements, ReadElements, elements-room, template-reads}
 use Rattle.cpp_press_laws.proofs.EveryWay.Every.{NameReads, TemplateReads, template-value, Leads, slot_way, typed-argument}
 use Rattle.cpp_press_laws.proofs.EveryWay.Types.{Reading}
-use Rattle.cpp_press_laws.proofs.Fits.Fit.{Slot, any_type, bare_type, item_type, parameter_type, literal_type, Fitting, as_component, one_piece, names_type, names_function, begins_name, IsWithoutLetters, by_letters, fits_nowhere, fits_of}
+use Rattle.cpp_press_laws.specs.Fits.{Slot, any_type, bare_type, item_type, parameter_type, literal_type, Fitting, as_component, one_piece, names_type, names_function, begins_name, IsWithoutLetters, by_letters, fits_nowhere, fits_of}
 
 -- ## Letters
 

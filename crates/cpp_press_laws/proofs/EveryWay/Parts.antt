@@ -16,8 +16,9 @@ use Rattle.cpp_grammar.specs.Between.{in_signature}
 use Rattle.cpp_press_laws.specs.Texts.{ordinal, signed_text}
 use Rattle.cpp_press_laws.specs.Components.{Spelling, component}
 use Rattle.cpp_press_laws.specs.Pressing.{ways_of, no_ways, type_ways, piece_ways, argument_ways}
-use Rattle.cpp_press_laws.proofs.ReadBack.Reading.{Written, written, ReadsAt, takes-byte}
-use Rattle.cpp_press_laws.proofs.ReadBack.Types.{Is, same-written, more}
+use Rattle.cpp_press_laws.specs.Subtrees.{Written, written, ReadsAt, Is, HasRoom, IsSmall}
+use Rattle.cpp_press_laws.proofs.ReadBack.Reading.{takes-byte}
+use Rattle.cpp_press_laws.proofs.ReadBack.Types.{same-written, more}
 use Rattle.cpp_press_laws.proofs.ReadBack.Solids.{builtin-solid, builtin-behind-d}
 use Rattle.cpp_press_laws.proofs.ReadBack.Functions.{IsInScope, parameter-solid}
 use Rattle.cpp_press_laws.proofs.ReadBack.Arguments.{items_value, integer-reads}
@@ -25,13 +26,13 @@ use Rattle.cpp_press_laws.proofs.ReadBack.Literals.{boolean-literal, null-litera
 use Rattle.cpp_press_laws.proofs.ReadBack.Names.{Extends}
 use Rattle.cpp_press_laws.proofs.ReadBack.Solids.{abbreviation-behind-s}
 use Rattle.cpp_press_laws.proofs.Components.Keeping.{keeps-text}
-use Rattle.cpp_press_laws.proofs.ReadBack.Slots.{HasRoom, IsSmall, room-first, room-rest, ReadsAs, solid_kind, in-slot, fitting-in}
+use Rattle.cpp_press_laws.proofs.ReadBack.Slots.{room-first, room-rest, ReadsAs, solid_kind, in-slot, fitting-in}
 use Rattle.cpp_press_laws.proofs.ReadBack.Named.{source-reads, operator-piece-reads, literal-operator-piece-reads, constructor-piece-reads, destructor-piece-reads, lambda-piece-reads, unnamed-piece-reads}
 use Rattle.cpp_press_laws.proofs.ReadBack.Between.{ExtendsWith, extends-with-behind-s, prefix-behind-s, prefix-parameter, prefix-with-parameter}
 use Rattle.cpp_press_laws.proofs.ReadBack.Templates.{slot-rules, TemplateKind, InstancedAt, instanced-behind-s, parameter-instanced, of_elements, elements-room}
 use Rattle.cpp_press_laws.proofs.EveryWay.Every.{template-value, ArgumentReads, Leads, slot_way, typed-argument, reads-piece, reads-argument}
 use Rattle.cpp_press_laws.proofs.EveryWay.Types.{Reading, with-d-kept}
-use Rattle.cpp_press_laws.proofs.Fits.Fit.{Slot, any_type, bare_type, item_type, parameter_type, literal_type, takes_all, IsBuiltin, IsAbbreviation, NamesArgument, Fitting, as_component, nowhere, type_fits, fits_nowhere, fits_of}
+use Rattle.cpp_press_laws.specs.Fits.{Slot, any_type, bare_type, item_type, parameter_type, literal_type, takes_all, IsBuiltin, IsAbbreviation, NamesArgument, Fitting, as_component, nowhere, type_fits, fits_nowhere, fits_of}
 
 -- ## Pieces
 

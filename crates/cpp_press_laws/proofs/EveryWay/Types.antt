@@ -18,17 +18,18 @@ use Rattle.cpp_grammar.specs.Unfolding as unfolding_
 use Rattle.cpp_grammar.specs.Unfolding.{opening, close}
 use Rattle.cpp_press_laws.specs.Texts.{counted, qualifier_letters}
 use Rattle.cpp_press_laws.specs.Pressing.{ways_of}
-use Rattle.cpp_press_laws.proofs.ReadBack.Reading.{Written, written, ReadsAt, takes-byte}
-use Rattle.cpp_press_laws.proofs.ReadBack.Types.{Is, more, wraps, types-28, types-29, types-30, types-31}
+use Rattle.cpp_press_laws.specs.Subtrees.{Written, written, ReadsAt, Is, HasRoom}
+use Rattle.cpp_press_laws.proofs.ReadBack.Reading.{takes-byte}
+use Rattle.cpp_press_laws.proofs.ReadBack.Types.{more, wraps, types-28, types-29, types-30, types-31}
 use Rattle.cpp_press_laws.proofs.ReadBack.Solids.{vendor-solid, pointer-solid, complex-solid, member-pointer-solid, array-solid, lvalue-reads, rvalue-reads}
 use Rattle.cpp_press_laws.proofs.ReadBack.Functions.{qualified_with, const-reads, volatile-reads, restrict-reads, vector-behind-d, rest-lvalue, rest-rvalue}
 use Rattle.cpp_press_laws.proofs.ReadBack.Arguments.{expansion-reads}
 use Rattle.cpp_press_laws.proofs.ReadBack.Parameters.{RestReads}
 use Rattle.cpp_press_laws.proofs.Components.Keeping.{keeps-text, keeps-and, keeps-front, keeps}
-use Rattle.cpp_press_laws.proofs.ReadBack.Slots.{HasRoom, room-first, room-rest, ReadsAs, solid_kind, is_bare, in-rest, in-slot}
+use Rattle.cpp_press_laws.proofs.ReadBack.Slots.{room-first, room-rest, ReadsAs, solid_kind, is_bare, in-rest, in-slot}
 use Rattle.cpp_press_laws.proofs.ReadBack.Templates.{slot-rules}
 use Rattle.cpp_press_laws.proofs.EveryWay.Every.{ReadsAll, reads-type}
-use Rattle.cpp_press_laws.proofs.Fits.Fit.{Slot, any_type, bare_type, item_type, parameter_type, literal_type, takes_all, takes_qualified, takes_expansions, has_letters, fits_of}
+use Rattle.cpp_press_laws.specs.Fits.{Slot, any_type, bare_type, item_type, parameter_type, literal_type, takes_all, takes_qualified, takes_expansions, has_letters, fits_of}
 
 -- ## What all slots but that of literals take
 

@@ -13,11 +13,12 @@ use Rattle.cpp_grammar.specs.Between.{after, extended}
 use Rattle.cpp_press_laws.specs.Texts.{name_letters}
 use Rattle.cpp_press_laws.specs.Components.{Spelling, ended, component}
 use Rattle.cpp_press_laws.specs.Pressing.{ways_of, no_ways, name_ways, with_letters, in_N_and_E, template_before, encoding_ways, piece_ways, is_encoding, is_one_piece, entity_text}
-use Rattle.cpp_press_laws.proofs.ReadBack.Reading.{Written, written, takes-byte}
+use Rattle.cpp_press_laws.specs.Subtrees.{Written, written, HasRoom, IsSmall}
+use Rattle.cpp_press_laws.proofs.ReadBack.Reading.{takes-byte}
 use Rattle.cpp_press_laws.proofs.ReadBack.Types.{more}
 use Rattle.cpp_press_laws.proofs.ReadBack.Names.{SoFar, Extends}
 use Rattle.cpp_press_laws.proofs.Components.Keeping.{Keeps, keeps-and, keeps-ended, keeps-N-and-E, choice, keeps}
-use Rattle.cpp_press_laws.proofs.ReadBack.Slots.{HasRoom, IsSmall, room-first, room-rest, ReadsAs, solid_kind, in-slot, fitting-in}
+use Rattle.cpp_press_laws.proofs.ReadBack.Slots.{room-first, room-rest, ReadsAs, solid_kind, in-slot, fitting-in}
 use Rattle.cpp_press_laws.proofs.ReadBack.Named.{member-rule, entity-rule, type-entity-rule, NameRule, PieceReads}
 use Rattle.cpp_press_laws.proofs.ReadBack.Between.{in_I_and_E, Named, named-piece, Nested, nested-within, whole-nested, ExtendsWith, extends-with-behind-s, prefix-behind-s, prefix-piece, prefix-with-piece, prefix-nested, prefix-with-nested}
 use Rattle.cpp_press_laws.proofs.ReadBack.Templates.{slot-rules, of_elements, template-reads}
@@ -25,7 +26,7 @@ use Rattle.cpp_press_laws.proofs.EveryWay.Every.{NameReads, TemplateReads, templ
 use Rattle.cpp_press_laws.proofs.EveryWay.Types.{Reading}
 use Rattle.cpp_press_laws.proofs.EveryWay.Std.{entity-nested, template-nested}
 use Rattle.cpp_press_laws.proofs.EveryWay.Names.{letters-nested, no-qualifiers, no-letters, nested-room, elements-behind}
-use Rattle.cpp_press_laws.proofs.Fits.Fit.{names_member, names_entity, names_in, Slot, any_type, bare_type, item_type, parameter_type, literal_type, Fitting, as_component, behind_bytes, one_piece, Behind, begins_name, Role, in_type, in_name_with, letters_of, IsWithoutLetters, fits_nowhere, encoding_fits, fits_of}
+use Rattle.cpp_press_laws.specs.Fits.{names_member, names_entity, names_in, Slot, any_type, bare_type, item_type, parameter_type, literal_type, Fitting, as_component, behind_bytes, one_piece, Behind, begins_name, Role, in_type, in_name_with, letters_of, IsWithoutLetters, fits_nowhere, encoding_fits, fits_of}
 use Rattle.cpp_press_laws.proofs.ReadBack.Symbols.{string-literal-reads}
 
 -- ## Encodings as prefixes

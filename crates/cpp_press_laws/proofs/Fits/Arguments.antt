@@ -10,8 +10,8 @@ use Rattle.cpp_grammar.specs.Between.{under_expansion}
 use Rattle.cpp_press_laws.specs.Texts.{signed_text}
 use Rattle.cpp_press_laws.specs.Components.{Spelling}
 use Rattle.cpp_press_laws.specs.Pressing.{type_ways, argument_ways, name_ways, no_ways, ways_of}
-use Rattle.cpp_press_laws.proofs.ReadBack.Arguments.{IsSpellableNumber}
-use Rattle.cpp_press_laws.proofs.Fits.Fit.{Fitting, Slot, any_type, bare_type, item_type, literal_type, takes_all, takes_expansions, type_fits, piece_fits, argument_fits, encoding_fits, fits_nowhere, fits_of}
+use Rattle.cpp_press_laws.specs.Fits.{Fitting, Slot, any_type, bare_type, item_type, literal_type, takes_all, takes_expansions, type_fits, piece_fits, argument_fits, encoding_fits, fits_nowhere, fits_of}
+use Rattle.cpp_press_laws.specs.Spellable.{IsSpellableNumber}
 use Rattle.cpp_press_laws.proofs.Fits.Names.{respelled}
 use Rattle.sym_spell.proofs.Spellings.{and-assoc-at}
 use Rattle.cpp_press_laws.proofs.Fits.Read.{pressed_at, Fitted, refitted, text-fitted, and-fitted, bytes-fitted, fitted-bytes}

@@ -13,7 +13,7 @@ use Rattle.cpp_press_laws.proofs.Components.Parts.{Has, has-closed}
 use Rattle.cpp_press_laws.proofs.Components.Complete.{EachStands, StandAmong, AllBefore, each-append, each-others, among-inner}
 use Rattle.cpp_press_laws.proofs.Fits.Packs.{closed-packs}
 use Rattle.cpp_press_laws.proofs.Components.Again.{ItemStands, ItemsStand, FunctionStands}
-use Rattle.cpp_press_laws.proofs.Fits.Fit.{Fitting, Slot, any_type, parameter_type, fits_of}
+use Rattle.cpp_press_laws.specs.Fits.{Fitting, Slot, any_type, parameter_type, fits_of}
 use Rattle.cpp_press_laws.proofs.Components.AddedTrees.{adds}
 use Rattle.cpp_press_laws.proofs.Fits.Read.{pressed_at, FunctionsStand, Front, Fitted}
 use Rattle.cpp_press_laws.proofs.Fits.Types.{may-closed}

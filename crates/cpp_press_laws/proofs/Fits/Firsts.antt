@@ -6,11 +6,10 @@ use Rattle.cpp_grammar.specs.Values.{Candidate, State, outermost, behind, Around
 use Rattle.cpp_grammar.specs.References.{appended, with_type, with_prefix}
 use Rattle.cpp_grammar.specs.Between.{after, inside, extended, no_items}
 use Rattle.cpp_press_laws.specs.Pressing.{no_ways, type_ways, is_encoding, ways_of}
-use Rattle.cpp_press_laws.proofs.ReadBack.References.{MayBeReferred}
 use Rattle.cpp_press_laws.proofs.Components.Parts.{IsComponent, Whole, Has, stands-found}
 use Rattle.cpp_press_laws.proofs.Components.Steps.{named-stands}
 use Rattle.cpp_press_laws.proofs.Components.NoneAdded.{prefix-none}
-use Rattle.cpp_press_laws.proofs.Fits.Fit.{any_type, begins_name, IsAbbreviation, type_fits, fits_nowhere, fits_of}
+use Rattle.cpp_press_laws.specs.Fits.{any_type, begins_name, IsAbbreviation, type_fits, fits_nowhere, fits_of, MayBeReferred}
 use Rattle.cpp_press_laws.proofs.Components.AddedTrees.{adds}
 use Rattle.cpp_press_laws.proofs.Fits.Read.{pressed_at}
 use Rattle.cpp_press_laws.proofs.Fits.References.{Referred, referred-fitted}

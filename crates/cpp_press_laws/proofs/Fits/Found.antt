@@ -6,11 +6,10 @@ use Rattle.cpp_grammar.specs.Term.{Term, symbol, function, object, special, thun
 use Rattle.cpp_grammar.specs.Values.{Candidate, State, Around}
 use Rattle.cpp_press_laws.specs.Components.{Spelling, first_equal, reference, spelled_out, referred, component}
 use Rattle.cpp_press_laws.specs.Pressing.{type_ways, name_ways, no_ways, template_before, ways_of}
-use Rattle.cpp_press_laws.proofs.ReadBack.References.{MayBeReferred}
 use Rattle.cpp_press_laws.proofs.Components.Parts.{IsComponent, Has, stands-found}
 use Rattle.cpp_press_laws.proofs.Components.Complete.{Complete, StandAmong}
 use Rattle.cpp_press_laws.proofs.Components.Steps.{named-stands}
-use Rattle.cpp_press_laws.proofs.Fits.Fit.{Standing, Fitting, Behind, type_fits, fits_nowhere, fits_of}
+use Rattle.cpp_press_laws.specs.Fits.{Standing, Fitting, Behind, type_fits, fits_nowhere, fits_of, MayBeReferred}
 use Rattle.cpp_press_laws.proofs.Fits.Read.{pressed_at, FunctionsStand, Front, Fitted, allows-before}
 use Rattle.cpp_press_laws.proofs.Fits.Names.{ElementsFit, arguments_standing, arguments_text, arguments-fitted, instance-may}
 use Rattle.cpp_press_laws.proofs.Fits.References.{Referred, referred-may}

@@ -6,8 +6,7 @@ use Rattle.cpp_grammar.specs.Scope.{first_of, pack_length}
 use Rattle.cpp_grammar.specs.Values.{Candidate, Around}
 use Rattle.cpp_grammar.specs.References.{packs_in}
 use Rattle.cpp_press_laws.specs.Pressing.{ways_of}
-use Rattle.cpp_press_laws.proofs.ReadBack.References.{PacksFit}
-use Rattle.cpp_press_laws.proofs.Fits.Fit.{Slot, any_type, bare_type, item_type, parameter_type, literal_type, type_fits, piece_fits, argument_fits, encoding_fits, fits_nowhere, fits_of}
+use Rattle.cpp_press_laws.specs.Fits.{Slot, any_type, bare_type, item_type, parameter_type, literal_type, type_fits, piece_fits, argument_fits, encoding_fits, fits_nowhere, fits_of, PacksFit}
 use Rattle.cpp_press_laws.proofs.Components.AddedWays.{IsNotBare}
 use Rattle.cpp_press_laws.proofs.Components.Again.{ItemStands, ItemsStand, IsNoVoid, FunctionStands}
 

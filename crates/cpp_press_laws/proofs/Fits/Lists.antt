@@ -16,7 +16,7 @@ use Rattle.cpp_press_laws.proofs.Components.Known.{KeepsTo, text-keeps, and-keep
 use Rattle.cpp_press_laws.proofs.Components.KnownTrees.{keeps}
 use Rattle.cpp_press_laws.proofs.Components.Complete.{StandAmong}
 use Rattle.cpp_press_laws.proofs.Fits.FunctionsStand.{function-stands}
-use Rattle.cpp_press_laws.proofs.Fits.Fit.{Fitting, Behind, as_component, Slot, any_type, bare_type, item_type, parameter_type, literal_type, takes_all, type_fits, fits_nowhere, fits_of}
+use Rattle.cpp_press_laws.specs.Fits.{Fitting, Behind, as_component, Slot, any_type, bare_type, item_type, parameter_type, literal_type, takes_all, type_fits, fits_nowhere, fits_of}
 use Rattle.cpp_press_laws.proofs.Components.AddedWays.{way_at, IsNotBare}
 use Rattle.cpp_press_laws.proofs.Components.AddedTrees.{adds}
 use Rattle.cpp_press_laws.proofs.Fits.Read.{pressed_at, Fitted, refitted, text-fitted, and-fitted, bytes-fitted, fitted-bytes, component-fitted, behind-both}

@@ -13,7 +13,7 @@ use Rattle.cpp_press_laws.specs.Components.{Spelling}
 use Rattle.cpp_press_laws.specs.Pressing.{no_ways, type_ways, entity_text, local_text, ways_of}
 use Rattle.cpp_press_laws.proofs.Components.Parts.{Whole}
 use Rattle.cpp_press_laws.proofs.Components.KnownTrees.{keeps}
-use Rattle.cpp_press_laws.proofs.Fits.Fit.{Fitting, Behind, Slot, Role, in_type, in_name_with, letters_of, IsSpellableDiscriminator, type_fits, fits_nowhere, fits_of}
+use Rattle.cpp_press_laws.specs.Fits.{Fitting, Behind, Slot, Role, in_type, in_name_with, letters_of, IsSpellableDiscriminator, type_fits, fits_nowhere, fits_of}
 use Rattle.cpp_press_laws.proofs.Fits.Read.{pressed_at, Fitted, refitted, and-fitted, bytes-fitted, fitted-bytes, component-fitted}
 use Rattle.cpp_press_laws.proofs.Fits.Types.{TypeFits, typed-complete, may-as}
 use Rattle.cpp_press_laws.proofs.Fits.Names.{respelled, moved}

@@ -12,13 +12,12 @@ use Rattle.cpp_grammar.specs.References.{appended}
 use Rattle.cpp_grammar.specs.Between.{after, inside}
 use Rattle.cpp_press_laws.specs.Components.{Spelling, ended, component}
 use Rattle.cpp_press_laws.specs.Pressing.{no_ways, name_ways, encoding_ways, is_encoding, ways_of}
-use Rattle.cpp_press_laws.proofs.ReadBack.References.{MayBeReferred}
 use Rattle.cpp_press_laws.proofs.Components.Parts.{IsComponent, Inside, Whole, prefix-whole}
 use Rattle.cpp_press_laws.proofs.Components.Known.{KeepsTo, text-keeps, and-keeps}
 use Rattle.cpp_press_laws.proofs.Components.KnownTrees.{In, keeps}
 use Rattle.cpp_press_laws.proofs.Components.Complete.{Complete, StandAmong, among-ended}
 use Rattle.cpp_press_laws.proofs.Components.Again.{FunctionStands}
-use Rattle.cpp_press_laws.proofs.Fits.Fit.{Fitting, Behind, as_component, one_piece, begins_name, names_function, names_member, fits_of}
+use Rattle.cpp_press_laws.specs.Fits.{Fitting, Behind, as_component, one_piece, begins_name, names_function, names_member, fits_of, MayBeReferred}
 use Rattle.cpp_press_laws.proofs.Components.Adding.{AddsParts, tree-ended}
 use Rattle.cpp_press_laws.proofs.Components.AddedTrees.{adds}
 use Rattle.cpp_press_laws.proofs.Fits.Read.{pressed_at, functions-append, Fitted, refitted, and-fitted, bytes-fitted, fitted-bytes, component-fitted}

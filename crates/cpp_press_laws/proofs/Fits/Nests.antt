@@ -11,7 +11,7 @@ use Rattle.cpp_press_laws.specs.Pressing.{no_ways, name_ways, in_N_and_E, with_l
 use Rattle.cpp_press_laws.proofs.Components.Parts.{IsComponent, Whole}
 use Rattle.cpp_press_laws.proofs.Components.Known.{KeepsTo, in-N-and-E-keeps}
 use Rattle.cpp_press_laws.proofs.Components.KnownTrees.{keeps}
-use Rattle.cpp_press_laws.proofs.Fits.Fit.{Fitting, Slot, Role, letters_of, by_letters, fits_of}
+use Rattle.cpp_press_laws.specs.Fits.{Fitting, Slot, Role, letters_of, by_letters, fits_of}
 use Rattle.cpp_press_laws.proofs.Fits.Read.{pressed_at, Fitted, Wherever, fitted-wherever, refitted, bytes-fitted, fitted-bytes, component-fitted}
 use Rattle.cpp_press_laws.proofs.Fits.Types.{TypeFits, typed-complete}
 use Rattle.cpp_press_laws.proofs.Fits.Names.{respelled, PrefixFits, BetweenFits, ElementsFit, arguments_text, arguments-keep, within-prefix, std-prefix, instance-between, instance-prefix}

@@ -7,7 +7,7 @@ use Rattle.cpp_grammar.specs.References.{appended, is_function_type, with_type, 
 use Rattle.cpp_grammar.specs.Between.{after, inside, applied}
 use Rattle.cpp_press_laws.specs.Texts.{qualifier_letters, mark_letter, name_letters}
 use Rattle.cpp_press_laws.specs.Pressing.{no_ways, type_ways, name_ways, with_letters, is_encoding, ways_of}
-use Rattle.cpp_press_laws.proofs.Fits.Fit.{Slot, bare_type, Role, letters_of, names_in, begins_name, names_type, names_function, IsAbbreviation, by_letters, fits_nowhere, fits_of}
+use Rattle.cpp_press_laws.specs.Fits.{Slot, bare_type, Role, letters_of, names_in, begins_name, names_type, names_function, IsAbbreviation, by_letters, fits_nowhere, fits_of}
 use Rattle.cpp_press_laws.proofs.Fits.Read.{Fitted}
 use Rattle.cpp_press_laws.proofs.Fits.Types.{BareFits, SolidFits}
 use Rattle.cpp_press_laws.proofs.Fits.Names.{respelled, PieceFits, ElementsFit, arguments_standing, arguments_text}

@@ -11,7 +11,7 @@ use Rattle.cpp_press_laws.specs.Components.{Spelling}
 use Rattle.cpp_press_laws.specs.Pressing.{no_ways, name_ways, in_N_and_E, with_letters, is_encoding, is_one_piece, entity_text, ways_of}
 use Rattle.cpp_press_laws.proofs.Components.Parts.{Whole}
 use Rattle.cpp_press_laws.proofs.Components.KnownTrees.{keeps}
-use Rattle.cpp_press_laws.proofs.Fits.Fit.{Fitting, Slot, Role, letters_of, IsWithoutLetters, one_piece, begins_name, names_type, names_function, names_in, by_letters, fits_of}
+use Rattle.cpp_press_laws.specs.Fits.{Fitting, Slot, Role, letters_of, IsWithoutLetters, one_piece, begins_name, names_type, names_function, names_in, by_letters, fits_of}
 use Rattle.cpp_press_laws.proofs.Components.AddedWays.{in-component}
 use Rattle.cpp_press_laws.proofs.Components.AddedTrees.{adds}
 use Rattle.cpp_press_laws.proofs.Fits.Read.{pressed_at, Fitted, refitted, component-fitted}

@@ -10,7 +10,7 @@ use Rattle.cpp_press_laws.specs.Pressing.{ways_of}
 use Rattle.cpp_press_laws.proofs.Fits.Symbols.{WholeFits}
 use Rattle.cpp_press_laws.proofs.Fits.Arguments.{EncodingFits}
 use Rattle.cpp_press_laws.proofs.Fits.Read.{bytes-fitted}
-use Rattle.cpp_press_laws.proofs.Fits.Fit.{fits_of}
+use Rattle.cpp_press_laws.specs.Fits.{fits_of}
 use Rattle.cpp_press_laws.proofs.Fits.Solids.{LambdasAreBare}
 use Rattle.cpp_press_laws.proofs.Fits.Sorts.{Meant, Later}
 

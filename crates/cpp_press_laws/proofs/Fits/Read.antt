@@ -7,14 +7,13 @@ use Rattle.cpp_grammar.specs.Scope.{is_open}
 use Rattle.cpp_grammar.specs.Values.{Candidate, State, Around}
 use Rattle.cpp_grammar.specs.References.{appended}
 use Rattle.cpp_press_laws.specs.Components.{Spelling, component}
-use Rattle.cpp_press_laws.proofs.ReadBack.References.{MayBeReferred}
 use Rattle.cpp_press_laws.proofs.Components.Parts.{IsComponent, Whole}
 use Rattle.cpp_press_laws.proofs.Components.Known.{KeepsTo}
 use Rattle.cpp_press_laws.proofs.Components.Complete.{Complete, StandAmong}
 use Rattle.cpp_press_laws.proofs.Components.Steps.{Allows, component-among}
 use Rattle.cpp_press_laws.proofs.Fits.Packs.{StayNamed}
 use Rattle.cpp_press_laws.proofs.Components.Again.{FunctionStands}
-use Rattle.cpp_press_laws.proofs.Fits.Fit.{Standing, Fitting, Behind, as_component}
+use Rattle.cpp_press_laws.specs.Fits.{Standing, Fitting, Behind, as_component, MayBeReferred}
 
 -- the same surroundings in pressed bytes
 abbrev pub pressed_at : (encoding : ℕ) → Around → Around

@@ -13,13 +13,12 @@ use Rattle.cpp_grammar.specs.References.{is_function_type, with_type, with_unqua
 use Rattle.cpp_grammar.proofs.ClosedStates.{ok_same, behind_bind}
 use Rattle.cpp_press_laws.specs.Components.{Spelling}
 use Rattle.cpp_press_laws.specs.Pressing.{ways_of}
-use Rattle.cpp_press_laws.proofs.ReadBack.References.{PacksFit, MayBeReferred}
 use Rattle.cpp_press_laws.proofs.Components.Parts.{IsComponent, Whole, Unqualified, Has, stands-found}
 use Rattle.cpp_press_laws.proofs.Components.Complete.{Complete, StandAmong, complete-has}
 use Rattle.cpp_press_laws.proofs.Components.Steps.{Allows, named-stands}
 use Rattle.cpp_press_laws.proofs.Fits.Packs.{PacksNamed, packs-named}
 use Rattle.cpp_press_laws.proofs.Components.Again.{ItemStands, FunctionStands, item-again, function-again}
-use Rattle.cpp_press_laws.proofs.Fits.Fit.{Fitting, Slot, any_type, bare_type, item_type, parameter_type, literal_type, type_fits, piece_fits, argument_fits, encoding_fits, fits_nowhere, fits_of}
+use Rattle.cpp_press_laws.specs.Fits.{Fitting, Slot, any_type, bare_type, item_type, parameter_type, literal_type, type_fits, piece_fits, argument_fits, encoding_fits, fits_nowhere, fits_of, PacksFit, MayBeReferred}
 use Rattle.cpp_press_laws.proofs.Components.AddedWays.{way_at, IsNotBare}
 use Rattle.cpp_press_laws.proofs.Components.AddedTrees.{adds}
 use Rattle.cpp_press_laws.proofs.Components.Adding.{Adds, AddsParts}

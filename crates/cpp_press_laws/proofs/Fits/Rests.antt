@@ -7,7 +7,7 @@ use Rattle.cpp_grammar.specs.References.{appended, with_prefix}
 use Rattle.cpp_grammar.specs.Between.{after, inside, applied}
 use Rattle.cpp_grammar.specs.Unfolding.{first_around, first_state}
 use Rattle.cpp_press_laws.specs.Pressing.{is_encoding}
-use Rattle.cpp_press_laws.proofs.Fits.Fit.{names_function, names_member, IsSpellableSuffix, SymbolFits}
+use Rattle.cpp_press_laws.specs.Fits.{names_function, names_member, IsSpellableSuffix, SymbolFits}
 use Rattle.cpp_press_laws.proofs.Fits.Read.{Wherever}
 use Rattle.cpp_press_laws.proofs.Fits.Names.{PrefixFits, TemplatePrefixFits, PieceFits, ElementsFit, within-joined, std-between}
 use Rattle.cpp_press_laws.proofs.Fits.Templates.{TemplateFits, within-template, std-template}

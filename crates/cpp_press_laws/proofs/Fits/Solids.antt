@@ -17,13 +17,12 @@ use Rattle.cpp_grammar.proofs.ClosedStates.{ok_same, behind_bind}
 use Rattle.cpp_press_laws.specs.Texts.{ordinal, counted}
 use Rattle.cpp_press_laws.specs.Components.{Spelling}
 use Rattle.cpp_press_laws.specs.Pressing.{type_ways, name_ways, no_ways, ways_of}
-use Rattle.cpp_press_laws.proofs.ReadBack.Tokens.{IsSpellableName}
-use Rattle.cpp_press_laws.proofs.ReadBack.References.{PacksFit}
+use Rattle.cpp_press_laws.specs.Spellable.{IsSpellableName}
 use Rattle.cpp_press_laws.proofs.Components.Parts.{Whole}
 use Rattle.cpp_press_laws.proofs.Components.Known.{text-keeps}
 use Rattle.cpp_press_laws.proofs.Components.KnownTrees.{keeps}
 use Rattle.cpp_press_laws.proofs.Fits.Packs.{PacksNamed, packs-named}
-use Rattle.cpp_press_laws.proofs.Fits.Fit.{Fitting, Slot, any_type, bare_type, takes_all, IsBuiltin, IsAbbreviation, NamesArgument, type_fits, fits_nowhere, fits_of, item_type, parameter_type, literal_type}
+use Rattle.cpp_press_laws.specs.Fits.{Fitting, Slot, any_type, bare_type, takes_all, IsBuiltin, IsAbbreviation, NamesArgument, type_fits, fits_nowhere, fits_of, item_type, parameter_type, literal_type, PacksFit}
 use Rattle.cpp_press_laws.proofs.Components.Complete.{StandAmong}
 use Rattle.cpp_press_laws.proofs.Fits.Read.{pressed_at, FunctionsStand, Fitted, text-fitted, and-fitted}
 use Rattle.cpp_press_laws.proofs.Fits.Types.{may-closed, SolidFits, spelled-solid, typed-complete}

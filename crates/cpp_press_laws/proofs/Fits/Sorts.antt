@@ -10,8 +10,8 @@ use Rattle.cpp_grammar.specs.References.{with_type, with_prefix, appended, is_fu
 use Rattle.cpp_grammar.specs.Between.{after, no_items, under_expansion}
 use Rattle.cpp_grammar.specs.Meaning.{signature_or, meaning, listed_value, qualified_by, reference_to, function_of, with_item, parameters}
 use Rattle.cpp_grammar.specs.Unfolding as unfolding_
-use Rattle.cpp_press_laws.proofs.ReadBack.Solids.{AreSpellableDigits}
-use Rattle.cpp_press_laws.proofs.Fits.Fit.{Slot, any_type, bare_type, item_type, parameter_type, literal_type, takes_all, takes_qualified, takes_expansions, has_letters, IsAbbreviation}
+use Rattle.cpp_press_laws.specs.Fits.{Slot, any_type, bare_type, item_type, parameter_type, literal_type, takes_all, takes_qualified, takes_expansions, has_letters, IsAbbreviation}
+use Rattle.cpp_press_laws.specs.Spellable.{AreSpellableDigits}
 use Rattle.cpp_press_laws.proofs.Components.AddedWays.{IsNotBare}
 use Rattle.cpp_press_laws.proofs.Fits.Types.{TypeFits, BareFits, SolidFits, lvalue-fits, rvalue-fits, qualified-fits, pointer-fits, complex-fits, array-fits, vector-fits, member-pointer-fits}
 use Rattle.cpp_press_laws.proofs.Fits.Lists.{ListFits, IsList, nil-fits, list-fits, parameters-fit, function-fits}

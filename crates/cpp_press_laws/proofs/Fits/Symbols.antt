@@ -15,7 +15,7 @@ use Rattle.cpp_press_laws.specs.Texts.{name_letters, thunk_text}
 use Rattle.cpp_press_laws.specs.Components.{Spelling}
 use Rattle.cpp_press_laws.specs.Pressing.{no_ways, type_ways, name_ways, encoding_ways, piece_ways, argument_ways, begun, ways_of}
 use Rattle.cpp_press_laws.proofs.Components.Complete.{AllBefore}
-use Rattle.cpp_press_laws.proofs.Fits.Fit.{Standing, Fitting, Slot, any_type, item_type, Behind, either, type_fits, piece_fits, argument_fits, encoding_fits, fits_nowhere, IsSpellableThunk, fits_of}
+use Rattle.cpp_press_laws.specs.Fits.{Standing, Fitting, Slot, any_type, item_type, Behind, either, type_fits, piece_fits, argument_fits, encoding_fits, fits_nowhere, IsSpellableThunk, fits_of}
 use Rattle.cpp_press_laws.proofs.Fits.Read.{pressed_at, Fitted, refitted, behind-both, and-fitted, bytes-fitted}
 use Rattle.cpp_press_laws.proofs.Fits.Types.{TypeFits, may-closed}
 use Rattle.cpp_press_laws.proofs.Fits.Lists.{ListFits, void-adds-none}

@@ -14,7 +14,7 @@ use Rattle.cpp_press_laws.proofs.Components.Adding.{AddsParts}
 use Rattle.cpp_press_laws.proofs.Components.AddedTrees.{adds}
 use Rattle.cpp_press_laws.proofs.Components.Again.{FunctionStands}
 use Rattle.cpp_press_laws.proofs.Components.Complete.{Complete, StandAmong}
-use Rattle.cpp_press_laws.proofs.Fits.Fit.{Standing, Fitting, Behind, as_component, as_template, fits_of}
+use Rattle.cpp_press_laws.specs.Fits.{Standing, Fitting, Behind, as_component, as_template, fits_of}
 use Rattle.cpp_press_laws.proofs.Fits.Read.{pressed_at, Fitted, Wherever, refitted, behind-both, and-fitted, bytes-fitted, fitted-bytes}
 use Rattle.cpp_press_laws.proofs.Fits.Names.{respelled, ended-fitted, BetweenFits, TemplateBetweenFits, TemplatePrefixFits, within-prefix, within-prefix-template, std-prefix, ElementsFit, arguments_standing, arguments_text, arguments-fitted, instance-may}
 

@@ -12,9 +12,8 @@ use Rattle.cpp_grammar.specs.Between.{after, applied, inside, no_items}
 use Rattle.cpp_grammar.specs.Meaning.{signature_or, meaning, with_item}
 use Rattle.cpp_grammar.specs.Unfolding as unfolding_
 use Rattle.sym_link.specs.Reading.{Found}
-use Rattle.cpp_press_laws.proofs.ReadBack.Tokens.{IsSpellableName}
-use Rattle.cpp_press_laws.proofs.ReadBack.Arguments.{IsSpellableNumber}
-use Rattle.cpp_press_laws.proofs.Fits.Fit.{Slot, any_type, bare_type, item_type, parameter_type, literal_type, takes_all, IsBuiltin, IsAbbreviation}
+use Rattle.cpp_press_laws.specs.Fits.{Slot, any_type, bare_type, item_type, parameter_type, literal_type, takes_all, IsBuiltin, IsAbbreviation}
+use Rattle.cpp_press_laws.specs.Spellable.{IsSpellableName, IsSpellableNumber}
 use Rattle.cpp_press_laws.proofs.Fits.Types.{TypeFits, SolidFits, lvalue-fits, rvalue-fits}
 use Rattle.cpp_press_laws.proofs.Fits.Lists.{list-fits}
 use Rattle.cpp_press_laws.proofs.Fits.References.{Referred, referred-solid, Substituted}

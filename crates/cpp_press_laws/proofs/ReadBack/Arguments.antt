@@ -19,9 +19,11 @@ use Rattle.cpp_grammar.specs.Meaning.{meaning}
 use Rattle.cpp_grammar.specs.Unfolding as unfolding_
 use Rattle.cpp_grammar.specs.Unfolding.{opening, close, byte_of}
 use Rattle.cpp_press_laws.specs.Texts.{signed_text}
-use Rattle.cpp_press_laws.proofs.ReadBack.Reading.{Written, written, ReadsAt, RowAt, PassesAt, row-part, row-last, takes-byte, takes-none, production-reads, fixed-reads, number-reads}
-use Rattle.cpp_press_laws.proofs.ReadBack.Types.{Is, AreOnly, same-written, one-part, then-last, whole-same}
-use Rattle.cpp_press_laws.proofs.ReadBack.Solids.{AreSpellableDigits, two-parts}
+use Rattle.cpp_press_laws.specs.Spellable.{AreSpellableDigits, IsSpellableNumber}
+use Rattle.cpp_press_laws.specs.Subtrees.{Written, written, ReadsAt, Is}
+use Rattle.cpp_press_laws.proofs.ReadBack.Reading.{RowAt, PassesAt, row-part, row-last, takes-byte, takes-none, production-reads, fixed-reads, number-reads}
+use Rattle.cpp_press_laws.proofs.ReadBack.Types.{AreOnly, same-written, one-part, then-last, whole-same}
+use Rattle.cpp_press_laws.proofs.ReadBack.Solids.{two-parts}
 
 -- ## Lists
 
@@ -128,11 +130,6 @@ expansion-reads around allowed inner t place cs w one =
     })
 
 -- ## Numbers
-
--- a number as it is spelled: digits without zeros in front, and no minus before zero
-pub record IsSpellableNumber (n : Signed) : Type 0 where
-  pub digits : AreSpellableDigits Digits n.digits
-  pub minus : n.negative ≡ true → is_zero n.digits ≡ false
 
 abbrev digits_token : List ℕ → Token
 digits_token digits = record { before = []; own = digits; behind = [] }

@@ -9,8 +9,8 @@ use Rattle.cpp_grammar.specs.Term.{Term, in_std, within, instance, parameter}
 use Rattle.cpp_grammar.specs.Values.{Candidate, Around, Value, nothing_there, tree, piece, tree_of, is_there}
 use Rattle.cpp_grammar.specs.Between.{after, inside, extended, applied, no_items}
 use Rattle.cpp_press_laws.specs.Texts.{ordinal}
-use Rattle.cpp_press_laws.proofs.ReadBack.Reading.{Written, written, ReadsAt}
-use Rattle.cpp_press_laws.proofs.ReadBack.Types.{Is, same-written, more, solid-with-s}
+use Rattle.cpp_press_laws.specs.Subtrees.{Written, written, ReadsAt, Is}
+use Rattle.cpp_press_laws.proofs.ReadBack.Types.{same-written, more, solid-with-s}
 use Rattle.cpp_press_laws.proofs.ReadBack.Functions.{IsInScope}
 use Rattle.cpp_press_laws.proofs.ReadBack.Names.{SoFar, Extends, no-arguments, some-arguments, so-far-within, extends-more, extends-same, nest-whole}
 use Rattle.cpp_press_laws.proofs.ReadBack.Nests.{nest-parameter, nest-behind-s, nest-std, nest-arguments}

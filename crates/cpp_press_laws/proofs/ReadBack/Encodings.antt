@@ -16,8 +16,9 @@ use Rattle.cpp_grammar.specs.Between.{between, after, inside, applied, no_items,
 use Rattle.cpp_grammar.specs.Meaning.{meaning}
 use Rattle.cpp_grammar.specs.Unfolding as unfolding_
 use Rattle.cpp_grammar.specs.Unfolding.{opening, close, byte_of}
-use Rattle.cpp_press_laws.proofs.ReadBack.Reading.{Written, written, ReadsAt, passes-by, row-last, takes-byte, takes-none, empty-reads}
-use Rattle.cpp_press_laws.proofs.ReadBack.Types.{Is, AreOnly, one-part, then-part, then-last, whole-same}
+use Rattle.cpp_press_laws.specs.Subtrees.{Written, written, ReadsAt, Is}
+use Rattle.cpp_press_laws.proofs.ReadBack.Reading.{passes-by, row-last, takes-byte, takes-none, empty-reads}
+use Rattle.cpp_press_laws.proofs.ReadBack.Types.{AreOnly, one-part, then-part, then-last, whole-same}
 use Rattle.cpp_press_laws.proofs.ReadBack.Functions.{mark_value, mark_bytes, mark-reads, maybe-mark-reads}
 use Rattle.cpp_press_laws.proofs.ReadBack.Arguments.{arguments-read}
 use Rattle.cpp_press_laws.proofs.ReadBack.Names.{name-with}

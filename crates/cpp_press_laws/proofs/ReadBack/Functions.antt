@@ -24,11 +24,14 @@ use Rattle.cpp_grammar.specs.Meaning.{meaning, listed_value, qualified_by, funct
 use Rattle.cpp_grammar.specs.Unfolding as unfolding_
 use Rattle.cpp_grammar.specs.Unfolding.{opening, close, byte_of}
 use Rattle.cpp_press_laws.specs.Texts.{ordinal}
-use Rattle.cpp_press_laws.proofs.ReadBack.Tokens.{greatest, ordinal_digits, ordinal_token, ordinal-spelled, ordinal-is-token, ordinal-value}
-use Rattle.cpp_press_laws.proofs.ReadBack.Reading.{Written, written, ReadsAt, PassesAt, row-last, takes-byte, takes-none, fixed-reads, empty-reads, number-reads}
-use Rattle.cpp_press_laws.proofs.ReadBack.References.{PacksFit, packs-fit}
-use Rattle.cpp_press_laws.proofs.ReadBack.Types.{Is, AreOnly, same-written, one-part, no-part, more, then-part, then-last, whole-same, whole-more}
-use Rattle.cpp_press_laws.proofs.ReadBack.Solids.{AreSpellableDigits, two-parts}
+use Rattle.cpp_press_laws.specs.Fits.{PacksFit}
+use Rattle.cpp_press_laws.specs.Spellable.{AreSpellableDigits}
+use Rattle.cpp_press_laws.specs.Subtrees.{greatest, Written, written, ReadsAt, Is}
+use Rattle.cpp_press_laws.proofs.ReadBack.Tokens.{ordinal_digits, ordinal_token, ordinal-spelled, ordinal-is-token, ordinal-value}
+use Rattle.cpp_press_laws.proofs.ReadBack.Reading.{PassesAt, row-last, takes-byte, takes-none, fixed-reads, empty-reads, number-reads}
+use Rattle.cpp_press_laws.proofs.ReadBack.References.{packs-fit}
+use Rattle.cpp_press_laws.proofs.ReadBack.Types.{AreOnly, same-written, one-part, no-part, more, then-part, then-last, whole-same, whole-more}
+use Rattle.cpp_press_laws.proofs.ReadBack.Solids.{two-parts}
 
 -- ## Parameters
 

@@ -14,11 +14,12 @@ use Rattle.cpp_grammar.specs.Between.{between, no_items}
 use Rattle.cpp_grammar.specs.Meaning.{meaning}
 use Rattle.cpp_grammar.specs.Unfolding as unfolding_
 use Rattle.cpp_grammar.specs.Unfolding.{opening, close, byte_of}
-use Rattle.cpp_press_laws.proofs.ReadBack.Reading.{Written, written, ReadsAt, RowAt, passes-by, row-part, row-last, takes-byte, takes-none, fixed-reads, empty-reads}
-use Rattle.cpp_press_laws.proofs.ReadBack.Types.{Is, AreOnly, one-part, more, then-part, then-last, whole-same}
+use Rattle.cpp_press_laws.specs.Spellable.{IsSpellableNumber}
+use Rattle.cpp_press_laws.specs.Subtrees.{Written, written, ReadsAt, Is}
+use Rattle.cpp_press_laws.proofs.ReadBack.Reading.{RowAt, passes-by, row-part, row-last, takes-byte, takes-none, fixed-reads, empty-reads}
+use Rattle.cpp_press_laws.proofs.ReadBack.Types.{AreOnly, one-part, more, then-part, then-last, whole-same}
 use Rattle.cpp_press_laws.proofs.ReadBack.Solids.{two-parts}
 use Rattle.cpp_press_laws.proofs.ReadBack.Functions.{mark-reads}
-use Rattle.cpp_press_laws.proofs.ReadBack.Arguments.{IsSpellableNumber}
 
 -- ## Literals
 

@@ -21,9 +21,10 @@ use Rattle.cpp_grammar.specs.Meaning.{meaning, parameters}
 use Rattle.cpp_grammar.specs.Unfolding as unfolding_
 use Rattle.cpp_grammar.specs.Unfolding.{last_token, number_tested, opening, close, byte_of}
 use Rattle.cpp_press_laws.specs.Texts.{ordinal}
-use Rattle.cpp_press_laws.proofs.ReadBack.Tokens.{greatest, ordinal_digits, ordinal_token, ordinal-spelled, ordinal-is-token, ordinal-value}
-use Rattle.cpp_press_laws.proofs.ReadBack.Reading.{Written, written, ReadsAt, row-joined, row-part, row-last, passes-by, takes-byte, closes-same, production-opened, fixed-reads, number-reads}
-use Rattle.cpp_press_laws.proofs.ReadBack.Types.{Is, AreOnly, same-written, then-in, last-in}
+use Rattle.cpp_press_laws.specs.Subtrees.{greatest, Written, written, ReadsAt, Is}
+use Rattle.cpp_press_laws.proofs.ReadBack.Tokens.{ordinal_digits, ordinal_token, ordinal-spelled, ordinal-is-token, ordinal-value}
+use Rattle.cpp_press_laws.proofs.ReadBack.Reading.{row-joined, row-part, row-last, passes-by, takes-byte, closes-same, production-opened, fixed-reads, number-reads}
+use Rattle.cpp_press_laws.proofs.ReadBack.Types.{AreOnly, same-written, then-in, last-in}
 
 -- the number of a lambda or an unnamed type is that of its digits, and has 64 bits
 number-kept : (j : ℕ) → j < greatest → local_number (ordinal_digits j) ≡ j + 1

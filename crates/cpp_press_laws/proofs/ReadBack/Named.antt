@@ -14,15 +14,16 @@ use Rattle.cpp_grammar.specs.Values.{Candidate, Around, Value, tree, piece}
 use Rattle.cpp_grammar.specs.Between.{in_signature, after, extended, applied, no_items}
 use Rattle.cpp_grammar.specs.Meaning.{parameters}
 use Rattle.cpp_press_laws.specs.Texts.{counted, ordinal}
-use Rattle.cpp_press_laws.proofs.ReadBack.Tokens.{greatest, IsSpellableName}
-use Rattle.cpp_press_laws.proofs.ReadBack.Reading.{Written, written, ReadsAt, takes-none, takes-byte}
-use Rattle.cpp_press_laws.proofs.ReadBack.Types.{Is, same-written}
+use Rattle.cpp_press_laws.specs.Spellable.{IsSpellableName, IsOperator}
+use Rattle.cpp_press_laws.specs.Subtrees.{greatest, Written, written, ReadsAt, Is}
+use Rattle.cpp_press_laws.proofs.ReadBack.Reading.{takes-none, takes-byte}
+use Rattle.cpp_press_laws.proofs.ReadBack.Types.{same-written}
 use Rattle.cpp_press_laws.proofs.ReadBack.Functions.{mark-reads}
 use Rattle.cpp_press_laws.proofs.ReadBack.Names.{SoFar, source-name, internal-name, operator-name, local-type-name, constructor-name, destructor-name}
 use Rattle.cpp_press_laws.proofs.ReadBack.Nests.{nest-source, nest-internal, nest-local-type}
-use Rattle.cpp_press_laws.proofs.ReadBack.Pieces.{IsOperator, source-piece, internal-piece, local-type-piece, operator-piece, operator-reads, literal-operator-reads}
+use Rattle.cpp_press_laws.proofs.ReadBack.Pieces.{source-piece, internal-piece, local-type-piece, operator-piece, operator-reads, literal-operator-reads}
 use Rattle.cpp_press_laws.proofs.ReadBack.Locals.{lambda-reads, unnamed-reads}
-use Rattle.cpp_press_laws.proofs.Fits.Fit.{begins_name, names_type, names_function, names_member, IsLocalNumber}
+use Rattle.cpp_press_laws.specs.Fits.{begins_name, names_type, names_function, names_member, IsLocalNumber}
 
 -- ## What a kind takes
 

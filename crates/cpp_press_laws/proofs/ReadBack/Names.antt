@@ -18,9 +18,11 @@ use Rattle.cpp_grammar.specs.Meaning.{meaning}
 use Rattle.cpp_grammar.specs.Unfolding as unfolding_
 use Rattle.cpp_grammar.specs.Unfolding.{opening, close, byte_of}
 use Rattle.cpp_press_laws.specs.Texts.{counted}
-use Rattle.cpp_press_laws.proofs.ReadBack.Tokens.{IsSpellableName, name_token, name-spelled, name-is-token}
-use Rattle.cpp_press_laws.proofs.ReadBack.Reading.{Written, written, ReadsAt, RowAt, passes-by, row-part, row-last, takes-byte, empty-reads, name-reads}
-use Rattle.cpp_press_laws.proofs.ReadBack.Types.{Is, AreOnly, same-written, no-part, more, then-part, whole-same}
+use Rattle.cpp_press_laws.specs.Spellable.{IsSpellableName}
+use Rattle.cpp_press_laws.specs.Subtrees.{Written, written, ReadsAt, Is}
+use Rattle.cpp_press_laws.proofs.ReadBack.Tokens.{name_token, name-spelled, name-is-token}
+use Rattle.cpp_press_laws.proofs.ReadBack.Reading.{RowAt, passes-by, row-part, row-last, takes-byte, empty-reads, name-reads}
+use Rattle.cpp_press_laws.proofs.ReadBack.Types.{AreOnly, same-written, no-part, more, then-part, whole-same}
 use Rattle.cpp_press_laws.proofs.ReadBack.Arguments.{arguments-read}
 
 -- ## A piece and its arguments

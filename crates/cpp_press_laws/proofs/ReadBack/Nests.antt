@@ -19,9 +19,11 @@ use Rattle.cpp_grammar.specs.Meaning.{meaning}
 use Rattle.cpp_grammar.specs.Unfolding as unfolding_
 use Rattle.cpp_grammar.specs.Unfolding.{opening, close, byte_of}
 use Rattle.cpp_press_laws.specs.Texts.{counted, ordinal}
-use Rattle.cpp_press_laws.proofs.ReadBack.Tokens.{IsSpellableName, name_token, name-spelled, name-is-token, ordinal_digits, ordinal_token, ordinal-spelled, ordinal-is-token}
-use Rattle.cpp_press_laws.proofs.ReadBack.Reading.{Written, written, ReadsAt, RowAt, PassesAt, passes-by, row-part, row-last, takes-byte, takes-none, fixed-reads, name-reads, number-reads}
-use Rattle.cpp_press_laws.proofs.ReadBack.Types.{Is, AreOnly, same-written, one-part, more, then-part, whole-same}
+use Rattle.cpp_press_laws.specs.Spellable.{IsSpellableName}
+use Rattle.cpp_press_laws.specs.Subtrees.{Written, written, ReadsAt, Is}
+use Rattle.cpp_press_laws.proofs.ReadBack.Tokens.{name_token, name-spelled, name-is-token, ordinal_digits, ordinal_token, ordinal-spelled, ordinal-is-token}
+use Rattle.cpp_press_laws.proofs.ReadBack.Reading.{RowAt, PassesAt, passes-by, row-part, row-last, takes-byte, takes-none, fixed-reads, name-reads, number-reads}
+use Rattle.cpp_press_laws.proofs.ReadBack.Types.{AreOnly, same-written, one-part, more, then-part, whole-same}
 use Rattle.cpp_press_laws.proofs.ReadBack.Functions.{IsInScope, parameter-passes}
 use Rattle.cpp_press_laws.proofs.ReadBack.Names.{SoFar, Extends}
 

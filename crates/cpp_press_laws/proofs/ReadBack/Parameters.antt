@@ -10,8 +10,9 @@ use Rattle.cpp_grammar.specs.Term.{RefQualifier, any_value, lvalue_only, rvalue_
 use Rattle.cpp_grammar.specs.Values.{Candidate, Around, signature}
 use Rattle.cpp_press_laws.specs.Texts.{mark_letter}
 use Rattle.cpp_press_laws.specs.Pressing.{ways_of, type_ways}
-use Rattle.cpp_press_laws.proofs.ReadBack.Reading.{Written, written, ReadsAt, takes-byte}
-use Rattle.cpp_press_laws.proofs.ReadBack.Types.{Is, types-31}
+use Rattle.cpp_press_laws.specs.Subtrees.{Written, written, ReadsAt, Is}
+use Rattle.cpp_press_laws.proofs.ReadBack.Reading.{takes-byte}
+use Rattle.cpp_press_laws.proofs.ReadBack.Types.{types-31}
 use Rattle.cpp_press_laws.proofs.ReadBack.Functions.{rest-ends, rest-ends-lvalue, rest-ends-rvalue, rest-item}
 use Rattle.cpp_press_laws.proofs.ReadBack.Solids.{builtin-solid}
 

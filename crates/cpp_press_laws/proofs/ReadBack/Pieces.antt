@@ -17,9 +17,11 @@ use Rattle.cpp_grammar.specs.Meaning.{meaning, operator_or_literal}
 use Rattle.cpp_grammar.specs.Unfolding as unfolding_
 use Rattle.cpp_grammar.specs.Unfolding.{last_token, number_tested, opening, close, byte_of}
 use Rattle.cpp_press_laws.specs.Texts.{counted}
-use Rattle.cpp_press_laws.proofs.ReadBack.Tokens.{IsSpellableName, name_token, name-spelled, name-is-token}
-use Rattle.cpp_press_laws.proofs.ReadBack.Reading.{Written, written, ReadsAt, takes-byte, takes-none, name-reads}
-use Rattle.cpp_press_laws.proofs.ReadBack.Types.{Is, same-written, one-part}
+use Rattle.cpp_press_laws.specs.Spellable.{IsSpellableName, IsOperator}
+use Rattle.cpp_press_laws.specs.Subtrees.{Written, written, ReadsAt, Is}
+use Rattle.cpp_press_laws.proofs.ReadBack.Tokens.{name_token, name-spelled, name-is-token}
+use Rattle.cpp_press_laws.proofs.ReadBack.Reading.{takes-byte, takes-none, name-reads}
+use Rattle.cpp_press_laws.proofs.ReadBack.Types.{same-written, one-part}
 use Rattle.cpp_press_laws.proofs.ReadBack.Functions.{mark-reads}
 
 -- ## Names
@@ -65,22 +67,6 @@ operator-piece around allowed p place cs w one =
     (takes-none UNQUALIFIED Kind.Unqualified Production.OperatorPiece 110 refl refl (omega arith) refl) refl (λ s. refl) (λ f s. refl) (λ began s. refl) one
 
 -- ## Operators
-
--- an operator of two letters: the first chooses a production, whose part is the second
-pub record IsOperator (first second : ℕ) : Type 0 where
-  pub production : Production
-  pub kind : Kind
-  pub number : ℕ
-  pub at : slice_get kinds number ≡ Some kind
-  pub chosen : choose Kind.Operator first ≡ Some production
-  pub parts : parts_of production ≡ OfKind number ∷ []
-  pub marked : choose kind second ≡ Some Production.Mark
-  pub own : is_chain production ≡ false
-  pub goes : (around : Around) (place : ℕ) (s : State) → ◌≡◌ {A = Going} (between production around place [] s)
-      (Ok (record { context = around; values = []; state = s }))
-  pub opens : (place : ℕ) (f : Forest) (s : State) → opening production f place s ≡ Ok s
-  pub means : (around : Around) (place : ℕ) (began s : State)
-      → close production first around place began (letter second ∷ []) s ≡ Ok (found (piece (operator first second)) s)
 
 pub operator-reads : (around : Around) (allowed : Option ℕ) (first second place : ℕ) (cs : List Candidate) → first < 256 → second < 256
     → IsOperator first second

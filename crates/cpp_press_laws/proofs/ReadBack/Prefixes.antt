@@ -9,8 +9,8 @@ use Rattle.cpp_grammar.specs.Grammar.{in_ranges, among, is_in, pick, alternative
 use Rattle.cpp_grammar.specs.Table.{abi, rule_of}
 use Rattle.cpp_grammar.specs.Term.{Term}
 use Rattle.cpp_grammar.specs.Values.{Candidate, Around, tree}
-use Rattle.cpp_press_laws.proofs.ReadBack.Reading.{Written, written, ReadsAt, takes-none}
-use Rattle.cpp_press_laws.proofs.ReadBack.Types.{Is}
+use Rattle.cpp_press_laws.specs.Subtrees.{Written, written, ReadsAt, Is}
+use Rattle.cpp_press_laws.proofs.ReadBack.Reading.{takes-none}
 use Rattle.cpp_press_laws.proofs.ReadBack.Names.{Extends, extends-same}
 use Rattle.cpp_press_laws.proofs.ReadBack.Nests.{nest-behind-s}
 

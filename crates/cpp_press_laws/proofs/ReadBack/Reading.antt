@@ -21,30 +21,7 @@ use Rattle.cpp_grammar.specs.Between.{Going, between}
 use Rattle.cpp_grammar.specs.Unfolding.{cpp, opening, close, byte_of}
 use Rattle.cpp_grammar.proofs.Choosing.{rule_at_kind, empty_at_kind}
 use Rattle.cpp_grammar.proofs.ClosedTrees.{at_number, its_symbols}
-
--- what was written, and the components behind it
-abbrev pub Written : Type 0
-Written = spell.Pressed Candidate
-
-abbrev pub written : (bytes : List ℕ) → (components : List Candidate) → Written
-written bytes components = record { bytes = bytes; components = components }
-
--- the packs that the innermost expansion has named so far have the length that they may have
-abbrev pub IsAllowed : Option ℕ → Option ℕ → Type 0
-IsAllowed allowed packs = (packs ≡ None) ⊎ (packs ≡ allowed)
-
--- What is written at a place is spelled by a shape of the grammar for a symbol, which is read there as a value with Q, and the
--- components are what may be named behind it.
-pub record Reads (around : Around) (allowed : Option ℕ) (symbol : Sym) (Q : Value → Type 0) (place : ℕ) (start : State) (w : Written) : Type 0 where
-  pub shape : Shape
-  pub spelled : spell shape ≡ w.bytes
-  pub shaped : IsTree abi symbol shape
-  pub value : Value
-  pub good : Q value
-  pub state : State
-  pub unfolds : unfold_tree cpp around place shape start ≡ Ok (found (value ∷ []) state)
-  pub candidates : state.candidates ≡ w.components
-  pub packs : IsAllowed allowed state.packs
+use Rattle.cpp_press_laws.specs.Subtrees.{Written, written, IsAllowed, Reads, ReadsAt}
 
 -- the same for the parts that are left of a production that began at a place in a state, behind parts that are known
 pub record ReadsRow (p : Production) (taken : List ℕ) (around : Around) (allowed : Option ℕ) (at : ℕ) (began : State) (symbols : List Sym)
@@ -58,11 +35,6 @@ pub record ReadsRow (p : Production) (taken : List ℕ) (around : Around) (allow
   pub unfolds : unfold_forest cpp (standing (rule_of p) taken at around began) known place forest start ≡ Ok (found values state)
   pub candidates : state.candidates ≡ w.components
   pub packs : IsAllowed allowed state.packs
-
--- at a place behind components, in any state there
-abbrev pub ReadsAt : Around → Option ℕ → Sym → (Value → Type 0) → (place : ℕ) → List Candidate → Written → Type 0
-ReadsAt around allowed symbol Q place components w =
-    (s : State) → s.candidates ≡ components → IsAllowed allowed s.packs → Reads around allowed symbol Q place s w
 
 abbrev pub RowAt : Production → (taken : List ℕ) → Around → Option ℕ → (at : ℕ) → List Sym → (known : List Value) → (List Value → Type 0)
     → (place : ℕ) → List Candidate → Written → Type 0

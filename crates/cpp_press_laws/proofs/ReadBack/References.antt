@@ -21,20 +21,13 @@ use Rattle.cpp_grammar.specs.Between.{between}
 use Rattle.cpp_grammar.specs.Unfolding.{opening, close}
 use Rattle.cpp_press_laws.specs.Same.{same_tree}
 use Rattle.cpp_press_laws.specs.Components.{is_same, first_equal, seq_id}
+use Rattle.cpp_press_laws.specs.Fits.{PacksFit, MayBeReferred}
+use Rattle.cpp_press_laws.specs.Subtrees.{greatest, written, IsAllowed, ReadsAt}
 use Rattle.cpp_press_laws.proofs.Components.Sameness.{equal-tree}
-use Rattle.cpp_press_laws.proofs.ReadBack.Tokens.{greatest, seq_token, seq-is-token, seq-value}
-use Rattle.cpp_press_laws.proofs.ReadBack.Reading.{written, IsAllowed, ReadsAt, passes-by, row-last, takes-none, production-reads, number-reads}
+use Rattle.cpp_press_laws.proofs.ReadBack.Tokens.{seq_token, seq-is-token, seq-value}
+use Rattle.cpp_press_laws.proofs.ReadBack.Reading.{passes-by, row-last, takes-none, production-reads, number-reads}
 
 -- ## What may be referred to
-
--- the packs that a tree names have the length that is allowed
-abbrev pub PacksFit : Around → (allowed : Option ℕ) → (packs : Option ℕ) → Type 0
-PacksFit around allowed packs = (packs ≡ None) ⊎ ((around.in_expansion ≡ true) × (packs ≡ allowed))
-
--- a tree may be referred to where it stands, if it stands before: one with free parameters not in the signature of a lambda
-pub record MayBeReferred (around : Around) (allowed : Option ℕ) (t : Term) : Type 0 where
-  pub lambda : is_open t && around.in_lambda ≡ false
-  pub packs : PacksFit around allowed (packs_in around.scope t)
 
 -- where packs fit nothing is refused, and the state keeps its candidates
 pub record HasPacks (around : Around) (allowed packs : Option ℕ) (place : ℕ) (s : State) : Type 0 where

@@ -19,27 +19,19 @@ use Rattle.cpp_grammar.specs.Unfolding as unfolding_
 use Rattle.cpp_grammar.specs.Unfolding.{opening, close}
 use Rattle.cpp_press_laws.specs.Texts.{signed_text}
 use Rattle.cpp_press_laws.specs.Components.{Spelling, first_equal, seq_id, reference, ended, spelled_out, component}
-use Rattle.cpp_press_laws.proofs.ReadBack.Tokens.{greatest}
-use Rattle.cpp_press_laws.proofs.ReadBack.Reading.{Written, written, ReadsAt, takes-none, takes-byte}
-use Rattle.cpp_press_laws.proofs.ReadBack.References.{MayBeReferred, found-first, number-refers}
-use Rattle.cpp_press_laws.proofs.ReadBack.Types.{Is, one-part, more, HasTypes, types-28, types-29, types-30, types-31, solid-with-s, type-behind-s}
+use Rattle.cpp_press_laws.specs.Spellable.{IsSpellableNumber}
+use Rattle.cpp_press_laws.specs.Subtrees.{greatest, Written, written, ReadsAt, Is, HasRoom}
+use Rattle.cpp_press_laws.proofs.ReadBack.Reading.{takes-none, takes-byte}
+use Rattle.cpp_press_laws.proofs.ReadBack.References.{found-first, number-refers}
+use Rattle.cpp_press_laws.proofs.ReadBack.Types.{one-part, more, HasTypes, types-28, types-29, types-30, types-31, solid-with-s, type-behind-s}
 use Rattle.cpp_press_laws.proofs.ReadBack.Functions.{rest-item}
-use Rattle.cpp_press_laws.proofs.ReadBack.Arguments.{IsSpellableNumber, integer-reads}
+use Rattle.cpp_press_laws.proofs.ReadBack.Arguments.{integer-reads}
 use Rattle.cpp_press_laws.proofs.ReadBack.Literals.{integer-literal, integer-literal-same}
 use Rattle.cpp_press_laws.proofs.ReadBack.Parameters.{RestReads}
 use Rattle.cpp_press_laws.proofs.Components.Keeping.{Keeps, keeps-component}
-use Rattle.cpp_press_laws.proofs.Fits.Fit.{Slot, any_type, bare_type, item_type, parameter_type, literal_type, IsFirst, Fitting, as_component}
+use Rattle.cpp_press_laws.specs.Fits.{Slot, any_type, bare_type, item_type, parameter_type, literal_type, IsFirst, Fitting, as_component, MayBeReferred}
 
 -- ## Room
-
--- what is written has a length of 64 bits, and so has the list of components
-pub record HasRoom (w : Written) : Type 0 where
-  pub short : length w.bytes ≤ greatest
-  pub few : length w.components ≤ greatest
-
--- so has the list of the arguments that parameters name
-abbrev pub IsSmall : Around → Type 0
-IsSmall around = (arguments : Term) → around.scope ≡ Some arguments → count arguments ≤ greatest
 
 pub room-first : (first rest : Spelling) (place : ℕ) (cs : List Candidate) → Keeps rest → HasRoom ((first and rest) place cs)
     → HasRoom (first place cs)

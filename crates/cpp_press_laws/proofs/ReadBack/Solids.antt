@@ -22,9 +22,11 @@ use Rattle.cpp_grammar.specs.Meaning.{meaning, listed_value, reference_to}
 use Rattle.cpp_grammar.specs.Unfolding as unfolding_
 use Rattle.cpp_grammar.specs.Unfolding.{opening, close, byte_of}
 use Rattle.cpp_press_laws.specs.Texts.{counted}
-use Rattle.cpp_press_laws.proofs.ReadBack.Tokens.{IsSpellableName, name_token, name-spelled, name-is-token}
-use Rattle.cpp_press_laws.proofs.ReadBack.Reading.{Written, written, ReadsAt, RowAt, passes-by, row-part, row-last, takes-byte, closes-same, closes-more, production-reads, name-reads, number-reads}
-use Rattle.cpp_press_laws.proofs.ReadBack.Types.{Is, AreOnly, same-written, one-part, no-part, more}
+use Rattle.cpp_press_laws.specs.Spellable.{IsSpellableName, AreSpellableDigits}
+use Rattle.cpp_press_laws.specs.Subtrees.{Written, written, ReadsAt, Is}
+use Rattle.cpp_press_laws.proofs.ReadBack.Tokens.{name_token, name-spelled, name-is-token}
+use Rattle.cpp_press_laws.proofs.ReadBack.Reading.{RowAt, passes-by, row-part, row-last, takes-byte, closes-same, closes-more, production-reads, name-reads, number-reads}
+use Rattle.cpp_press_laws.proofs.ReadBack.Types.{AreOnly, same-written, one-part, no-part, more}
 
 -- ## Letters
 
@@ -122,11 +124,6 @@ member-pointer-solid k around allowed class member place cs first second takes o
     two-parts Production.MemberPointer k (77 ∷ []) around allowed place (OfKind TYPE) (OfKind TYPE) (tree class true) (tree member true)
     (tree (member_pointer class member) false) cs first second
     takes refl (λ s. refl) (λ s. refl) (λ f s. refl) (λ began s. refl) one two
-
--- digits as they are spelled: those of the number's kind, without zeros in front
-pub record AreSpellableDigits (kind : NumberKind) (digits : List ℕ) : Type 0 where
-  pub are : AreDigitsOf kind digits
-  pub normal_are : normal digits ≡ digits
 
 abbrev array_token : List ℕ → Token
 array_token digits = record { before = []; own = digits; behind = 95 ∷ [] }

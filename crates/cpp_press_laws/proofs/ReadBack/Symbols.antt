@@ -17,9 +17,10 @@ use Rattle.cpp_grammar.specs.Between.{between, in_name, in_types, after, extende
 use Rattle.cpp_grammar.specs.Meaning.{meaning, encoding_of, discriminator_of}
 use Rattle.cpp_grammar.specs.Unfolding as unfolding_
 use Rattle.cpp_grammar.specs.Unfolding.{opening, close, byte_of}
-use Rattle.cpp_press_laws.proofs.ReadBack.Reading.{Written, written, ReadsAt, takes-byte, takes-none, fixed-reads, empty-reads, number-reads}
-use Rattle.cpp_press_laws.proofs.ReadBack.Types.{Is, AreOnly, one-part, no-part, then-in, last-in, then-part, then-last, whole-same}
-use Rattle.cpp_press_laws.proofs.ReadBack.Solids.{AreSpellableDigits}
+use Rattle.cpp_press_laws.specs.Spellable.{AreSpellableDigits, AreSuffixBytes}
+use Rattle.cpp_press_laws.specs.Subtrees.{Written, written, ReadsAt, Is}
+use Rattle.cpp_press_laws.proofs.ReadBack.Reading.{takes-byte, takes-none, fixed-reads, empty-reads, number-reads}
+use Rattle.cpp_press_laws.proofs.ReadBack.Types.{AreOnly, one-part, no-part, then-in, last-in, then-part, then-last, whole-same}
 
 -- ## Local names
 
@@ -321,11 +322,6 @@ covariant-thunk around allowed this result e place cs first second w one two thr
     (place + 1 + length first.bytes + length second.bytes) second.components w (λ s. refl) three)))
 
 -- ## Suffixes
-
--- the bytes behind the first of a suffix: none, or each a byte of suffixes
-abbrev pub AreSuffixBytes : List ℕ → Type 0
-AreSuffixBytes [] = Unit {0}
-AreSuffixBytes (b ∷ bs) = (b < 256) × (choose Kind.SuffixMore b ≡ Some Production.SuffixByte) × AreSuffixBytes bs
 
 abbrev suffix_value : List ℕ → Value
 suffix_value [] = nothing_there

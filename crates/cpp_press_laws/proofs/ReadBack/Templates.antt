@@ -19,17 +19,18 @@ use Rattle.cpp_grammar.specs.Unfolding as unfolding_
 use Rattle.cpp_grammar.specs.Unfolding.{opening, close}
 use Rattle.cpp_press_laws.specs.Texts.{ordinal}
 use Rattle.cpp_press_laws.specs.Components.{Spelling, first_equal, seq_id, reference, referred}
-use Rattle.cpp_press_laws.proofs.ReadBack.Tokens.{greatest, ordinal_digits, ordinal_token, ordinal-spelled, ordinal-is-token}
-use Rattle.cpp_press_laws.proofs.ReadBack.Reading.{Written, written, ReadsAt, row-last, takes-byte, number-reads}
+use Rattle.cpp_press_laws.specs.Subtrees.{greatest, Written, written, ReadsAt, Is, HasRoom}
+use Rattle.cpp_press_laws.proofs.ReadBack.Tokens.{ordinal_digits, ordinal_token, ordinal-spelled, ordinal-is-token}
+use Rattle.cpp_press_laws.proofs.ReadBack.Reading.{row-last, takes-byte, number-reads}
 use Rattle.cpp_press_laws.proofs.ReadBack.References.{found-first, number-refers}
-use Rattle.cpp_press_laws.proofs.ReadBack.Types.{Is, AreOnly, same-written, more, then-part, whole-same}
+use Rattle.cpp_press_laws.proofs.ReadBack.Types.{AreOnly, same-written, more, then-part, whole-same}
 use Rattle.cpp_press_laws.proofs.ReadBack.Functions.{IsInScope, parameter-passes}
 use Rattle.cpp_press_laws.proofs.ReadBack.Encodings.{listed-arguments, abbreviated-name, type-with-arguments}
 use Rattle.cpp_press_laws.proofs.Components.Keeping.{Keeps, keeps-referred}
-use Rattle.cpp_press_laws.proofs.ReadBack.Slots.{HasRoom, room-rest, few-before, behind-s}
+use Rattle.cpp_press_laws.proofs.ReadBack.Slots.{room-rest, few-before, behind-s}
 use Rattle.cpp_press_laws.proofs.ReadBack.Named.{NameRule, type-rule, literal-type-rule}
 use Rattle.cpp_press_laws.proofs.ReadBack.Between.{in_I_and_E, ElementsRead}
-use Rattle.cpp_press_laws.proofs.Fits.Fit.{Slot, any_type, bare_type, item_type, parameter_type, literal_type, names_type, IsFirst, Fitting, as_template}
+use Rattle.cpp_press_laws.specs.Fits.{Slot, any_type, bare_type, item_type, parameter_type, literal_type, names_type, IsFirst, Fitting, as_template}
 use Rattle.cpp_press_laws.proofs.ReadBack.Slots.{solid_kind}
 
 -- ## Kinds of template names

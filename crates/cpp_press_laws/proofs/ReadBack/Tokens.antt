@@ -10,17 +10,10 @@ use Rattle.sym_spell.specs.Digits.{decimal_digit, digit36}
 use Rattle.sym_spell.proofs.DigitValues.{Divides, divides10, digits-all, counted-digits, length-form, length-digits, length-value}
 use Rattle.cpp_press_laws.specs.Texts.{decimal, counted, ordinal}
 use Rattle.cpp_press_laws.specs.Components.{seq_id}
-
-abbrev pub greatest : ℕ
-greatest = 18446744073709551615
+use Rattle.cpp_press_laws.specs.Spellable.{IsSpellableName}
+use Rattle.cpp_press_laws.specs.Subtrees.{greatest}
 
 -- ## Names
-
--- a name as it can be spelled: its bytes, and its length, which a name has whose first byte is no digit
-pub record IsSpellableName (name : List ℕ) : Type 0 where
-  pub each : AreNameBytes Cpp name
-  pub short : length name ≤ 999999999
-  pub first : IsSeparator Cpp [] name
 
 abbrev pub name_token : (name : List ℕ) → Token
 name_token name = record { before = decimal (length name); own = name; behind = [] }

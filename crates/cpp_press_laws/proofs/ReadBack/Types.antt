@@ -19,11 +19,8 @@ use Rattle.cpp_grammar.specs.Between.{Going, between, after, applied}
 use Rattle.cpp_grammar.specs.Meaning.{meaning, listed_value}
 use Rattle.cpp_grammar.specs.Unfolding as unfolding_
 use Rattle.cpp_grammar.specs.Unfolding.{opening, close, byte_of}
-use Rattle.cpp_press_laws.proofs.ReadBack.Reading.{Written, written, ReadsAt, RowAt, passes-by, row-part, row-last, row-ends, takes-byte, takes-none, closes-same, closes-more, production-reads, empty-reads}
-
--- the value of a part is one that is known
-abbrev pub Is : Value → Value → Type 0
-Is v w = w ≡ v
+use Rattle.cpp_press_laws.specs.Subtrees.{Written, written, ReadsAt, Is}
+use Rattle.cpp_press_laws.proofs.ReadBack.Reading.{RowAt, passes-by, row-part, row-last, row-ends, takes-byte, takes-none, closes-same, closes-more, production-reads, empty-reads}
 
 abbrev pub AreOnly : List Value → List Value → Type 0
 AreOnly vs ws = ws ≡ vs

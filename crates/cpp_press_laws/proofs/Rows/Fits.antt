@@ -12,9 +12,8 @@ use Rattle.cpp_press_laws.specs.Same.{same_tree}
 use Rattle.cpp_press_laws.specs.Texts.{decimal, counted, name_letters, qualifier_letters, mark_letter}
 use Rattle.cpp_press_laws.specs.Components.{is_same, first_equal, reference, ended, spelled_out, component, seq_id}
 use Rattle.cpp_press_laws.specs.Pressing.{ways_of, no_ways, type_ways, piece_ways, name_ways, with_letters}
-use Rattle.cpp_press_laws.proofs.ReadBack.Tokens.{IsSpellableName}
-use Rattle.cpp_press_laws.proofs.ReadBack.References.{MayBeReferred}
-use Rattle.cpp_press_laws.proofs.Fits.Fit.{names_function, begins_name, either, fits_nowhere, type_fits, piece_fits, encoding_fits, fits_of, SymbolFits}
+use Rattle.cpp_press_laws.specs.Fits.{names_function, begins_name, either, fits_nowhere, type_fits, piece_fits, encoding_fits, fits_of, SymbolFits, MayBeReferred}
+use Rattle.cpp_press_laws.specs.Spellable.{IsSpellableName}
 
 abbrev pointer_to_int : Term
 pointer_to_int = pointer (builtin (105 ∷ []))
