@@ -16,8 +16,9 @@ use Rattle.rust_press.specs.PressLaws.{Presses}
 use Rattle.sym_spell.specs.Pressing.{◌and◌, letter}
 use Rattle.rust_press.specs.Pressing.{mark_if, press_name, press_disambiguator, press_binder, press_identifier, press_lifetime, some_lifetime, press_abi, spelled_out, press_constant, path_or_reference, type_or_reference, spell_path, spell_type, press_arguments, press_types, press_bounds, press_bindings}
 use Rattle.rust_press.specs.Spellable.{IsSpellable, AreSpellableArguments, IsSpellableType, AreSpellableTypes, AreSpellableBounds, AreSpellableBindings}
+use Rattle.rust_press.specs.Subtrees.{IsTypeValue}
 use Rattle.rust_press.proofs.PressParts.{takes-plain, takes-ends, chains-plain, and-presses, last-presses, empty-presses, byte-presses, letter-presses}
-use Rattle.rust_press.proofs.PressReferences.{HasPaths, paths-1, paths-11, path-presses, path-type-presses, own-type-presses, IsTypeValue}
+use Rattle.rust_press.proofs.PressReferences.{HasPaths, paths-1, paths-11, path-presses, path-type-presses, own-type-presses}
 use Rattle.rust_press.proofs.PressTokens.{Makes, Ends, name-at, disambiguator_values, disambiguator-presses, binder_values, binder-presses, identifier_values, identifier-presses, lifetime-presses, lifetime_values, some-lifetime-presses, unsafe_values, unsafe-presses, abi_values, abi-presses, namespace-presses, constant-kept, basic-presses}
 
 -- ## What the parts of a rule make

@@ -18,6 +18,7 @@ use Rattle.rust_v0.specs.Value as value
 use Rattle.rust_v0.specs.Value.{Value, State, Ended}
 use Rattle.rust_v0.specs.Unfold.{v0, ended_at, value62, greatest_u64}
 use Rattle.rust_press.specs.PressLaws.{as_value, AreListed, Agrees, state_of, Reads, Presses}
+use Rattle.rust_press.specs.Subtrees.{IsTypeValue}
 use Rattle.rust_press.specs.Same.{same_tree}
 use Rattle.rust_press.specs.Pressing.{Component, Pressing, digits62, first_place, reference, either, spelled_out, component, path_or_reference}
 use Rattle.rust_press.proofs.Sameness.{equal-tree}
@@ -116,10 +117,6 @@ path-presses s bound inside minus kind path spelling fits refers closed out fron
         let f = found-at (of_path path) ended place p components agrees.listed there in
         reference-reads s bound inside minus kind (taking rules.PathReference (Number Base62 ∷ [])) (value.a_path path) p place components ended refers refl refl from few f.to agrees
         (rw (referred-place p f.from (omega (arith, few, f.to)), f.there, le-leb (need path) bound closed) refl)
-
--- what a type is read as: itself, or the path that it is
-abbrev pub IsTypeValue : tree.Ty → List Value → Type 0
-IsTypeValue type values = (values ≡ value.a_type type ∷ []) ⊎ ((path : tree.Path) × (type ≡ tree.path_type path) × (values ≡ value.a_path path ∷ []))
 
 -- a type that is a path
 pub path-type-presses : (s : List ℕ) (bound : ℕ) (inside : Option Production) (minus : Bool) (path : tree.Path) (spelling : Pressing)

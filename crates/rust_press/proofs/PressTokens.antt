@@ -24,7 +24,8 @@ use Rattle.rust_press.specs.Pressing.{number62, digits62, number16, digits16, co
 use Rattle.rust_press.specs.Spellable.{most62, IsSpellableName, IsSpellableAbi, IsSpellableInteger, IsSpellableConstant, is_signed, is_unsigned}
 use Rattle.rust_press.proofs.PressParts.{takes-plain, takes-ends, chains-plain, and-presses, last-presses, behind-nothing, nothing-presses, number-presses, name-presses, empty-presses, byte-presses, letter-presses, letter-ends, reads-as}
 use Rattle.rust_press.proofs.PressNumbers.{spells62, spells16, spells-name}
-use Rattle.rust_press.proofs.PressReferences.{IsTypeValue, constant-presses}
+use Rattle.rust_press.specs.Subtrees.{IsTypeValue}
+use Rattle.rust_press.proofs.PressReferences.{constant-presses}
 
 -- what the parts of a rule make together, where it makes no component or is one
 abbrev pub Makes : Rule → (byte bound : ℕ) → Value → List Value → Type 0

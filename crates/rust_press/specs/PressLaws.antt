@@ -103,14 +103,15 @@ pub record IsReadAs (s : List ℕ) (symbol : tree.Symbol) : Type 0 where
 abbrev pub IsReadFrom : Shape → tree.Symbol → Type 0
 IsReadFrom shape symbol = IsTree v0_table (Kind 0) shape × (unfolded shape ≡ Ok symbol)
 
--- What some symbol is read as, pressed, is well shaped, and every shape of the grammar that spells it is read as the same.
+-- What some symbol is read as, pressed, is well shaped, and every shape of the grammar that spells it is read as the same. The
+-- pressed bytes are at most 2^64 - 1, as those of any list.
 abbrev pub PressedIsRead : Type 0
 PressedIsRead =
     (shape : Shape) (symbol : tree.Symbol) → IsReadFrom shape symbol → length (pressed symbol) ≤ greatest_u64
     → IsReadAs (pressed symbol) symbol
     × ((other : Shape) → IsTree v0_table (Kind 0) other → spell other ≡ pressed symbol → unfolded other ≡ Ok symbol)
 
--- what is pressed is pressed again unchanged
+-- so what is pressed is pressed again unchanged
 abbrev pub PressedOnce : Type 0
 PressedOnce =
     (shape : Shape) (symbol : tree.Symbol) → IsReadFrom shape symbol → length (pressed symbol) ≤ greatest_u64

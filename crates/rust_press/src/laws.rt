@@ -1,6 +1,7 @@
 // What holds of pressed spellings, whatever spelling they were read from.
 ghost use Rattle.rust_press.specs.PressLaws.{PressedIsRead, PressedOnce};
 ghost use Rattle.rust_press.specs.Apart.{ComponentsAreApart};
+ghost use Rattle.rust_press.specs.Subtrees.{ConstantsAreRead, PathsAreRead, TypesAreRead};
 
 /// What some Rust symbol stands for, pressed, is well shaped, and every shape that spells it stands for the same: no part, no
 /// disambiguator and no suffix is lost. The pressed bytes are at most 2^64 - 1, as those of any list.
@@ -11,6 +12,14 @@ pub fn pressed_is_read()
 /// What a pressed spelling is read as is pressed to the same bytes, where it has at most 2^64 - 1.
 pub fn pressed_once()
     ensures { PressedOnce }
+{}
+
+/// Each path, type or constant that a symbol may have is read as itself where it is pressed, behind any spelled beginning whose
+/// components have ended where it is read. The laws of whole symbols follow from it.
+pub fn subtrees_are_read()
+    ensures paths { PathsAreRead }
+    ensures types { TypesAreRead }
+    ensures constants { ConstantsAreRead }
 {}
 
 /// No two paths, types or constants that pressing spells out are the same.
