@@ -12,7 +12,7 @@ returns c =
     let bytes : AreBytes symbol = λ i. search (rules, c.type_inv.symbol i) in (
       c.text.result.now,
       ap (λ d. answer cpp_mangled d symbol c.args.limit) c.in-Full.is
-          ∙ sym (is_answer cpp_mangled Full symbol c.args.limit (Ok c.write.new.self.text.items) bytes (c.write.ensures c.if-write.true))
+          ∙ sym (is_answer cpp_mangled Full symbol c.args.limit (Ok c.write.new.self.text.bytes.items) bytes (c.write.ensures.answer c.if-write.true))
           ∙ ap (λ t. Ok t) (sym c.text.ensures),
       c.in_ok-extend_from_slice.ensures.items,
     )
