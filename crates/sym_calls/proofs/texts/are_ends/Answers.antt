@@ -1,0 +1,18 @@
+use Rattle.std.proofs.Common.{sym, ap, ◌∙◌, get_or, arith}
+use Rattle.std.proofs.lemmas.Bool.{lt-leb}
+use Rattle.std.proofs.lemmas.List.{drop_all}
+use Rattle.sym_calls.specs.Texts.{are_ends}
+use Rattle.sym_calls.proofs.Telling.{ends-on, ends-down}
+use Rattle.sym_calls.proofs.texts.are_ends.Goals as goal
+
+-- an end goes down
+pub returns-then-end-from : goal.returns-then-end-from
+returns-then-end-from c =
+    sym (c.loop-end.invariant ∙ ends-down c.loop-end.from c.args.len c.args.ends.now c.loop-end.end-index c.loop-end-test.true (lt-leb c.loop-end.from (get_or c.args.ends.now c.loop-end.end-index 0) c.if-end-from.true))
+
+pub loop-end-preserved : goal.loop-end-preserved
+loop-end-preserved c = c.loop-end.invariant ∙ ends-on c.loop-end.from c.args.len c.args.ends.now c.loop-end.end-index c.loop-end-test.true (omega (arith, c.if-end-from.false))
+
+pub returns : goal.returns
+unfolding are_ends
+returns c = sym (c.loop-end.invariant ∙ ap (λ l. are_ends c.loop-end.from c.args.len l) (drop_all c.loop-end.end-index c.args.ends.now (omega (arith, c.loop-end-test.false))))

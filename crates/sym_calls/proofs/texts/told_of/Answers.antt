@@ -1,0 +1,5 @@
+use Rattle.sym_calls.proofs.Telling.{told-within}
+use Rattle.sym_calls.proofs.texts.told_of.Goals as goal
+
+pub returns-clause-within : goal.returns-clause-within
+returns-clause-within c = told-within c.args.languages.detail c.args.languages.limit c.args.symbol.now c.args.room.now c.text_with-status.new.room _ c.text_with-status.ensures

@@ -1,0 +1,112 @@
+// The texts of many symbols, with one set of lists for all of them.
+ghost use Rattle.std.specs.Prelude.{◌≡◌, ◌≤◌, length, true};
+ghost use Rattle.sym_calls.specs.Calls.{detail_of};
+ghost use Rattle.sym_calls.specs.Texts.{AreTold, IsTold, TextsEndAs, are_ends, placed};
+
+use crate::answer::{Answer, DETAIL, ENDS, OK, Told};
+use crate::text::{detail_of, text_with};
+use std::alloc::Global;
+use sym_filter::Languages;
+use sym_filter::languages::Lists;
+
+/// Whether ends go up, from 0 to at most the length of a text.
+fn are_ends(ends: &[usize], len: usize) -> bool
+    ensures { result ≡ are_ends 0 len ends.now }
+{
+    let mut from = 0;
+    for end in ends {
+        if *end < from {
+            return false;
+        }
+        from = *end;
+    }
+    from <= len
+}
+
+/// Writes the text of one of many symbols to the front of the room that is left.
+fn told_of(
+    languages: Languages,
+    lists: &mut Lists,
+    text: &mut Vec<u8>,
+    symbol: &[u8],
+    room: &mut [u8],
+) -> Told
+    ensures told { IsTold languages.detail languages.limit symbol.now room.old result room.new }
+    ensures within { placed result ≤ length room.new }
+{
+    let mut answer = Answer {
+        length: 0,
+        place: 0,
+    };
+    let status = text_with(languages, lists, text, symbol, room, &mut answer);
+    Told {
+        length: answer.length,
+        place: answer.place,
+        status,
+    }
+}
+
+/// How many bytes of the room a symbol's text took.
+fn placed(told: Told) -> usize
+    ensures { result ≡ placed told }
+{
+    if told.status == OK { told.length } else { 0 }
+}
+
+/// Writes the texts of symbols to the room, one behind the other, and tells of each.
+fn tell_each(
+    alloc: Global,
+    text: &[u8],
+    ends: &[usize],
+    languages: Languages,
+    room: &mut [u8],
+    answers: &mut [Told],
+)
+    requires ends { are_ends 0 (length text.now) ends.now ≡ true }
+    requires answers { length answers.old ≡ length ends.now }
+    ensures { AreTold languages.detail languages.limit text.now 0 ends.now room.old room.new answers.new }
+{
+    let mut lists = Lists::new(alloc);
+    let mut spelled = Vec::new(alloc);
+    let mut from = 0;
+    let mut at = 0;
+    'symbols: for (i, end) in ends.iter().enumerate() {
+        let symbol = &text[from..*end];
+        let told = told_of(languages, &mut lists, &mut spelled, symbol, &mut room[at..]);
+        answers[i] = told;
+        at += placed(told);
+        from = *end;
+    }
+}
+
+/// Writes the texts of many symbols to the room, one behind the other, and tells each symbol's status. Symbol i stands in the
+/// text from the end before it, 0 for the first, to `ends[i]`. A symbol whose text finds too little room left is told how much
+/// it needs, and those behind it may still find some.
+///
+/// It answers 0 where each symbol was told of, `DETAIL` where no detail has the number, and `ENDS` where the ends go down, pass
+/// the text's length, or aren't as many as the answers; with these two nothing is written. Want of memory is told of a symbol.
+#[tactic(auto, unfolding(crate::specs::Texts::TextsEndAs))]
+pub fn texts_of(
+    alloc: Global,
+    text: &[u8],
+    ends: &[usize],
+    limit: u32,
+    detail: u32,
+    room: &mut [u8],
+    answers: &mut [Told],
+) -> u32
+    ensures { TextsEndAs (detail_of detail) limit text.now ends.now room.old room.new answers.old answers.new result }
+{
+    let Some(detail) = detail_of(detail) else {
+        return DETAIL;
+    };
+    if answers.len() != ends.len() {
+        return ENDS;
+    }
+    if !are_ends(ends, text.len()) {
+        return ENDS;
+    }
+    let languages = Languages { limit, detail };
+    tell_each(alloc, text, ends, languages, room, answers);
+    OK
+}

@@ -1,7 +1,0 @@
-use Rattle.std.proofs.Common.{refl}
-use Rattle.symdemangle.proofs.Ending.{count-ends}
-use Rattle.symdemangle.proofs.counting.symdemangle_counts_of.Goals as goal
-
--- the symbol isn't read
-pub returns : goal.returns
-returns c = count-ends c.args.symbol.now c.args.counts.now c.tell_refusal.result 0 c.tell_refusal.new.answer.place c.symbol_kind.result c.in-Refused.refusal c.symbol_kind.ensures c.in-Refused.ensures.0 _ refl refl c.tell_refusal.ensures
