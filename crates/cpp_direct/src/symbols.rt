@@ -21,6 +21,7 @@ const LONGEST: usize = 4_096;
 /// The most bytes of text that are written for each byte of a symbol, and those that are written anyway. Of 725,558 real symbols 70
 /// have longer texts.
 const BYTES_A_BYTE: usize = 8;
+
 const BYTES_ANYWAY: usize = 1_024;
 
 /// The most steps that are taken for each byte of a symbol: each reads a byte, or ends what was read.

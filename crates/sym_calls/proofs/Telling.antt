@@ -104,7 +104,7 @@ told-more detail limit text ends first room front after whole from at i told ans
     let kept : take (at + n) whole ++ new ≡ front ++ (take n after ++ new) = ap (λ l. take (at + n) l ++ new) is_whole ∙ ap (λ l. l ++ new) (take-behind front after at n is_at) ∙ append_assoc front (take n after) new in
     let told_of : take (i + 1) (set answers i told) ++ rest ≡ take i answers ++ (told ∷ rest) = ap (λ l. l ++ rest) (take_more_set answers i told in_answers) ∙ append_assoc (take i answers) (told ∷ []) rest in
     let here : AreTold detail limit text from (get_or ends i 0 ∷ drop (i + 1) ends) room (take n after ++ new) (told ∷ rest) =
-        (after, new, is, refl, subst (λ l. AreTold detail limit text (get_or ends i 0) (drop (i + 1) ends) l new rest) left given) in
+    (after, new, is, refl, subst (λ l. AreTold detail limit text (get_or ends i 0) (drop (i + 1) ends) l new rest) left given) in
     subst (λ l. AreTold detail limit text 0 ends first l (take (i + 1) (set answers i told) ++ rest)) (sym kept)
     (subst (λ l. AreTold detail limit text 0 ends first (front ++ (take n after ++ new)) l) (sym told_of)
     (sofar (take n after ++ new) (told ∷ rest) (subst (λ l. AreTold detail limit text from l room (take n after ++ new) (told ∷ rest)) (sym (drop_more ends i 0 in_ends)) here)))

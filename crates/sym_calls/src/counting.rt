@@ -2,7 +2,7 @@
 ghost use Rattle.std.specs.Prelude.{◌≡◌};
 ghost use Rattle.sym_calls.specs.Calls.{Counted};
 
-use crate::answer::{MEMORY, OK, SIZE, Answer, tell, tell_refusal};
+use crate::answer::{Answer, MEMORY, OK, SIZE, tell, tell_refusal};
 use crate::text::symbol_kind;
 use std::alloc::Global;
 use sym_core::{Counts, fits};

@@ -2,9 +2,7 @@
 ghost use Rattle.std.specs.Prelude.{◌≡◌, Some};
 ghost use Rattle.sym_calls.specs.Calls.{EndsAs, detail_of, filter_told, press_told, symbol_kind, text_told};
 
-use crate::answer::{
-    Answer, DETAIL, MEMORY, SIZE, finish, tell, tell_refusal, write,
-};
+use crate::answer::{Answer, DETAIL, MEMORY, SIZE, finish, tell, tell_refusal, write};
 use std::alloc::Global;
 use sym_core::fits;
 use sym_filter::languages::Lists;

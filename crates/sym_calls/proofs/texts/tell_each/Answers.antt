@@ -18,7 +18,7 @@ pub symbols-preserved : goal.symbols-preserved
 symbols-preserved c =
     let behind = room-behind c.symbols.at c.symbols.room c.told_of-told.new.room c.symbols.invariant.within in
     let is = subst (λ l. IsTold c.args.languages.detail c.args.languages.limit (take (get_or c.args.ends.now c.symbols.i 0 - c.symbols.from) (drop c.symbols.from c.args.text.now)) l c.told_of-told.result c.told_of-told.new.room)
-        (left-of-room c.symbols.at c.symbols.room) c.told_of-told.ensures.told in
+    (left-of-room c.symbols.at c.symbols.room) c.told_of-told.ensures.told in
     record {
       within = room-within c.symbols.at c.placed-at.result c.symbols.room c.told_of-told.new.room _ c.symbols.invariant.within behind (subst (λ n. n ≤ length c.told_of-told.new.room) (sym c.placed-at.ensures) c.told_of-told.ensures.within);
       ends = (ends-at c.symbols.from (length c.args.text.now) c.args.ends.now c.symbols.i c.symbols-test.true c.symbols.invariant.ends).2;
