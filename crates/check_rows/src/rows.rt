@@ -159,7 +159,7 @@ fn has_length(
     let text = spelled(alloc, &text)?;
     let below = cost.saturating_sub(1);
     Ok(
-        is_answered(alloc, lists, kind, s, cost, detail, &text)?
+        demangler_says(alloc, &languages, lists, kind, s, &text)?
             && is_answered(alloc, lists, kind, s, below, detail, TOO_LONG)?,
     )
 }
