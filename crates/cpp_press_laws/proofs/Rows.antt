@@ -1,7 +1,8 @@
 -- Symbols with their pressed spellings, and what the laws say, computed by the definitions.
--- `Row` has the tests. `tools/rows.py` writes `Listed` and `Generated`.
+-- `Row` has the tests; `Marks` has rows of which components are compared. `tools/rows.py` writes `Listed` and `Generated`.
 mod Row
 mod Listed
 mod Generated
 mod Laws
+mod Marks
 mod Fits

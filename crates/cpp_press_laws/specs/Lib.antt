@@ -2,6 +2,8 @@ pub mod Same
 pub mod Texts
 pub mod Components
 pub mod Pressing
+pub mod MarkedComponents
+pub mod MarkedPressing
 pub mod Apart
 pub mod Repeated
 pub mod PressLaws

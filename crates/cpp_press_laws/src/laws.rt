@@ -1,7 +1,7 @@
 // What holds of pressed spellings, and of the test by which pressing compares trees.
 ghost use Rattle.std.specs.Prelude.{◌≡◌, true};
 ghost use Rattle.cpp_grammar.specs.Term.{Term};
-ghost use Rattle.cpp_press_laws.specs.Apart.{ComponentsAreApart};
+ghost use Rattle.cpp_press_laws.specs.Apart.{ComponentsAreApart, ComponentsAreMarked};
 ghost use Rattle.cpp_press_laws.specs.Few.{ComponentsAreFew};
 ghost use Rattle.cpp_press_laws.specs.PressLaws.{PressedIsRead, PressedOnce, PressedTellsApart};
 ghost use Rattle.cpp_press_laws.specs.Repeated.{RepeatedComponentsHaveReasons};
@@ -40,11 +40,13 @@ pub fn trees_are_compared()
     ensures itself { (tree : Term) → same_tree tree tree ≡ true }
 {}
 
-/// A component that is spelled out is equal to none before it; where it has free parameters, to none of its own encoding. The law
-/// says nothing of a component that is equal to a template name for which, somewhere in the tree, no reference can stand: the
-/// exception goes by the tree of the component, and not by the place where it stands.
+/// A component that was compared with those before it, where it stands, is equal to none of them; with free parameters, to none of its
+/// own encoding. Only a template name can be one that wasn't compared, and only where its arguments end the name of an entity behind
+/// `Z..E`, or an own name with qualifiers or a reference mark: no reference can stand there. What gives the components these marks
+/// spells the pressed spelling, byte by byte.
 pub fn components_are_apart()
-    ensures { ComponentsAreApart }
+    ensures marked { ComponentsAreMarked }
+    ensures apart { ComponentsAreApart }
 {}
 
 /// A component whose tree is spelled out already, in whatever encoding, has free parameters or is a template name that stands

@@ -1,14 +1,16 @@
 -- Why the tree of a component is spelled out again.
-use Rattle.std.proofs.Common.{◌≡◌, ℕ, List, [], ◌∷◌, ◌++◌, ◌⊎◌, inl, inr, Bool, true, false, refl}
+use Rattle.std.proofs.Common.{◌≡◌, ℕ, List, [], ◌∷◌, ◌++◌, ◌⊎◌, inl, inr, Bool, true, false, refl, subst}
 use Rattle.std.specs.Prelude.{not, ◌&&◌, ◌||◌, nat_eq}
 use Rattle.cpp_grammar.specs.Term.{Term}
 use Rattle.cpp_grammar.specs.Scope.{is_open}
 use Rattle.cpp_grammar.specs.Values.{Candidate}
 use Rattle.cpp_press_laws.specs.Same.{same_tree}
 use Rattle.cpp_press_laws.specs.Components.{is_same}
-use Rattle.cpp_press_laws.specs.Apart.{IsNeverReferred, IsNew, AreApartBehind, spelled_components}
+use Rattle.cpp_press_laws.specs.MarkedComponents.{Component, candidates}
+use Rattle.cpp_press_laws.specs.Apart.{IsNeverReferred, IsNew, IsApart, AreApartBehind, marked_components}
 use Rattle.cpp_press_laws.specs.Repeated.{is_spelled, repeated, HaveReasons, RepeatedComponentsHaveReasons}
-use Rattle.cpp_press_laws.proofs.Components.Apart.{components-apart}
+use Rattle.cpp_press_laws.proofs.Components.Growing.{candidates-append}
+use Rattle.cpp_press_laws.proofs.Components.Apart.{components-apart, components-marked}
 
 -- a tree that isn't compared as equal with one that it is equal to has free parameters
 open-by : (same free other : Bool) → same && (not free || other) ≡ false → same ≡ true → free ≡ true
@@ -26,20 +28,27 @@ new-open n own (c ∷ cs) new is = go (same_tree own c.tree) refl is (new-open n
     go true same is more = open-by (same_tree own c.tree) (is_open own) (nat_eq c.encoding n) new.0 same
     go false same is more = more is
 
-reasons : (tree : Term) (before cs : List Candidate) → AreApartBehind tree before cs → HaveReasons tree (repeated before cs)
+-- of components that are apart those whose tree is spelled already
+reasons : (tree : Term) (before cs : List Component) → AreApartBehind tree before cs → HaveReasons tree (repeated (candidates before) (candidates cs))
 unfolding repeated
 reasons tree before [] apart = tt
-reasons tree before (c ∷ cs) apart = go (is_spelled c.tree before) refl (reasons tree (before ++ c ∷ []) cs apart.1)
+reasons tree before (c ∷ cs) apart =
+    go (is_spelled c.candidate.tree (candidates before)) refl
+    (subst (λ l. HaveReasons tree (repeated l (candidates cs))) (candidates-append before (c ∷ [])) (reasons tree (before ++ c ∷ []) cs apart.1))
   where
-    why : IsNew c.encoding c.tree before ⊎ IsNeverReferred c.tree tree → is_spelled c.tree before ≡ true
-        → (is_open c.tree ≡ true) ⊎ IsNeverReferred c.tree tree
-    why (inl new) is = inl (new-open c.encoding c.tree before new is)
-    why (inr never) is = inr never
+    later : List Candidate
+    later = repeated (candidates before ++ c.candidate ∷ []) (candidates cs)
 
-    go : (b : Bool) → is_spelled c.tree before ≡ b → HaveReasons tree (repeated (before ++ c ∷ []) cs)
-        → HaveReasons tree (elim b as (λ _. List Candidate) [ true ↦ c ∷ repeated (before ++ c ∷ []) cs | false ↦ repeated (before ++ c ∷ []) cs ])
+    why : IsApart tree before c → is_spelled c.candidate.tree (candidates before) ≡ true
+        → (is_open c.candidate.tree ≡ true) ⊎ IsNeverReferred c.candidate.tree tree
+    why (inl new) is = inl (new-open c.candidate.encoding c.candidate.tree (candidates before) new.1 is)
+    why (inr never) is = inr never.1
+
+    go : (b : Bool) → is_spelled c.candidate.tree (candidates before) ≡ b → HaveReasons tree later
+        → HaveReasons tree (elim b as (λ _. List Candidate) [ true ↦ c.candidate ∷ later | false ↦ later ])
     go true is more = (why apart.0 is, more)
     go false is more = more
 
 pub repeated-reasons : RepeatedComponentsHaveReasons
-repeated-reasons t = reasons t [] (spelled_components t) (components-apart t)
+repeated-reasons t =
+    subst (λ l. HaveReasons t (repeated [] l)) (components-marked t).1 (reasons t [] (marked_components t) (components-apart t))

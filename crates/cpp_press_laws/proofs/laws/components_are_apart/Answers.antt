@@ -1,5 +1,8 @@
-use Rattle.cpp_press_laws.proofs.Components.Apart.{components-apart}
+use Rattle.cpp_press_laws.proofs.Components.Apart.{components-apart, components-marked}
 use Rattle.cpp_press_laws.proofs.laws.components_are_apart.Goals as goal
 
-pub returns : goal.returns
-returns c = components-apart
+pub returns-clause-marked : goal.returns-clause-marked
+returns-clause-marked c = components-marked
+
+pub returns-clause-apart : goal.returns-clause-apart
+returns-clause-apart c = components-apart
