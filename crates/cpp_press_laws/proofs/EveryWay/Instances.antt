@@ -12,7 +12,7 @@ use Rattle.cpp_press_laws.specs.Pressing.{ways_of, no_ways, name_ways, in_N_and_
 use Rattle.cpp_press_laws.specs.Subtrees.{Written, HasRoom, IsSmall}
 use Rattle.cpp_press_laws.proofs.ReadBack.Types.{more}
 use Rattle.cpp_press_laws.proofs.ReadBack.Names.{SoFar, Extends}
-use Rattle.cpp_press_laws.proofs.Components.Keeping.{Keeps, keeps-text, keeps-and, keeps-front, keeps-behind, keeps-ended, choice, keeps}
+use Rattle.cpp_press_laws.proofs.Components.Keeping.{Keeps, keeps-text, keeps-and, keeps-front, keeps-behind, keeps-ended, choice, keeps, keeps_before}
 use Rattle.cpp_press_laws.proofs.ReadBack.Slots.{room-first, room-rest, ReadsAs, solid_kind, in-slot, fitting-in}
 use Rattle.cpp_press_laws.proofs.ReadBack.Between.{ElementsRead, ExtendsWith, extends-with-behind-s, prefix-behind-s}
 use Rattle.cpp_press_laws.proofs.ReadBack.Templates.{slot-rules, TemplateKind, of_elements, ReadElements, elements-room}
@@ -222,7 +222,7 @@ reads-instance t a rt ra = record {
         let n : ℕ = around.encoding in
         fitting-in around allowed (instance t a) (ReadsAs slot around allowed (instance t a)) place cs ((ways_of n t).before true
         (spelled_arguments n a))
-        ((fits_of t).before true (elements_of a)) s.behind_s ((keeps t n).before true (spelled_arguments n a) (keeps-arguments n a)) room h
+        ((fits_of t).before true (elements_of a)) s.behind_s (keeps_before t a n true) room h
         (λ fits enough. s.adds place cs ((ways_of n t).before true (spelled_arguments n a) place cs)
         (instance-own t a rt ra true (solid_kind slot) (slot-rules slot) around allowed place cs small enough fits))
 
