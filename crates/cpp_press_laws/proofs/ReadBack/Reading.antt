@@ -1,5 +1,5 @@
 -- What it means that a spelling is read, and how a production is read from its parts.
-use Rattle.std.proofs.Common.{◌≡◌, ℕ, ◌+◌, ◌<◌, ◌⊎◌, length, List, [], ◌∷◌, ◌++◌, Option, Some, None, true, false, Ok, refl, ap, sym, subst, ◌∙◌, append-nil}
+use Rattle.std.proofs.Common.{◌≡◌, ℕ, ◌+◌, ◌<◌, length, List, [], ◌∷◌, ◌++◌, Option, Some, true, false, Ok, refl, ap, sym, subst, ◌∙◌, append-nil}
 use Rattle.std.specs.Prelude.{slice_get, not, if◌then◌else◌}
 use Rattle.sym_shape.specs.declared.rule.Sym.{Sym}
 use Rattle.sym_shape.specs.declared.rule.Sym.TheVariants.{Kind as OfKind, Name, Number, Byte}
@@ -8,8 +8,7 @@ use Rattle.sym_core.specs.declared.NameClass.TheVariants.{Cpp}
 use Rattle.sym_core.specs.Token.{Token, bytes_of, IsName, IsNumberToken}
 use Rattle.sym_shape.specs.Tree.{Tree as Shape, Forest, branch, empty, token, fixed, grown, spell, spell_all, TakesRule, IsTree, AreTrees}
 use Rattle.sym_shape.specs.Tree as shape
-use Rattle.sym_link.specs.Unfold.{unfold_tree, unfold_forest, found, standing}
-use Rattle.sym_spell.specs.Pressing as spell
+use Rattle.sym_link.specs.Unfold.{unfold_forest, found, standing}
 use Rattle.cpp_grammar.specs.declared.kind.Kind.{Kind}
 use Rattle.cpp_grammar.specs.declared.production.Production.{Production}
 use Rattle.cpp_grammar.specs.Grammar.{kinds, choose, parts_of, is_chain, may_be_empty}

@@ -10,7 +10,6 @@ use Rattle.cpp_grammar.specs.KindNumbers.{ABBREVIATION, TYPE, PLAIN, ITEM, ITEM_
 use Rattle.cpp_grammar.specs.Grammar.{in_ranges, among, is_in, pick, number_of_kind, alternatives, choose, kinds, parts_of, is_chain}
 use Rattle.cpp_grammar.specs.Table.{abi, rule_of}
 use Rattle.cpp_grammar.specs.Term.{RefQualifier, Signed, Term, integer, list}
-use Rattle.cpp_grammar.specs.Scope.{count}
 use Rattle.cpp_grammar.specs.Values.{Candidate, Around, tree, part}
 use Rattle.cpp_grammar.specs.References.{is_function_type}
 use Rattle.cpp_grammar.specs.Between.{between}

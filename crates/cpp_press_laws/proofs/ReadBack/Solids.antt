@@ -1,10 +1,8 @@
 -- Types that have a letter of their own are read as what was pressed, from their parts.
 use Rattle.std.proofs.Common.{◌≡◌, ℕ, ◌+◌, length, List, [], ◌∷◌, ◌++◌, Option, Some, true, false, Ok, refl, ap, arith, sym, subst}
 use Rattle.std.specs.Prelude.{◌<◌}
-use Rattle.sym_core.specs.declared.NumberKind.{NumberKind}
 use Rattle.sym_core.specs.declared.NumberKind.TheVariants.{Decimal}
 use Rattle.sym_core.specs.Token.{Token}
-use Rattle.sym_core.specs.Number.{AreDigitsOf}
 use Rattle.sym_shape.specs.declared.rule.Sym.{Sym}
 use Rattle.sym_shape.specs.declared.rule.Sym.TheVariants.{Kind as OfKind, Name, Number}
 use Rattle.sym_shape.specs.Tree.{Forest, TakesRule}

@@ -5,7 +5,7 @@ use Rattle.sym_core.specs.declared.NumberKind.TheVariants.{Decimal, Seq36}
 use Rattle.sym_core.specs.declared.NameClass.TheVariants.{Cpp}
 use Rattle.sym_core.specs.Number.{is_digit_of}
 use Rattle.sym_core.specs.Value.{digit_value, counted_value}
-use Rattle.sym_core.specs.Token.{Token, IsName, IsSeparator, AreNameBytes, IsNumberToken, bytes_of}
+use Rattle.sym_core.specs.Token.{Token, IsName, IsNumberToken, bytes_of}
 use Rattle.sym_spell.specs.Digits.{decimal_digit, digit36}
 use Rattle.sym_spell.proofs.DigitValues.{Divides, divides10, digits-all, counted-digits, length-form, length-digits, length-value}
 use Rattle.cpp_press_laws.specs.Texts.{decimal, counted, ordinal}
