@@ -143,4 +143,27 @@ for program in 'nm -D -C' c++filt; do
 done
 # c++filt prints decltype(nullptr) where this library's text has a name
 grep -qxF 'f(std::nullptr_t)' "$work/out" || { echo 'c++filt: the preloaded call was not used'; cat "$work/out"; exit 1; }
+
+# rustc_demangle, in a program that knows its declaration alone, and in one that is packaged and loads the library by its name: the
+# parser of perf's records of Hotspot, from 1.4 on. PERFPARSER names it, or a script that runs it, where it stands elsewhere.
+if has rustc 'rustc_demangle'; then
+    cc -std=c99 -O2 -shared -fPIC "${warnings[@]}" -Wpedantic -DRUSTC callers/shims/shims.c -o "$work/librustc_demangle.so" "${static[@]}"
+    rustc --edition 2024 -O -g -C symbol-mangling-version=v0 -L "$work" tests/callers/rustc_demangle.rs -o "$work/rust_names"
+    export LD_LIBRARY_PATH=$work
+    echo "rustc_demangle: $("$work/rust_names")"
+    nm "$work/rust_names" | awk '$3 ~ /^_R/ { print $3 }' >"$work/names"
+    "$work/rust_names" names <"$work/names" >"$work/out"
+    if [ ! -s "$work/out" ] || grep '^_R' "$work/out"; then echo 'rustc_demangle: names that stay mangled'; exit 1; fi
+    echo "rustc_demangle: the $(wc -l <"$work/names") symbols of a program, as rustfilt: $(rustfilt <"$work/names" 2>/dev/null |
+        paste -d '\n' - "$work/out" | awk 'NR % 2 { its = $0; next } $0 == its { same++ } END { print same + 0 }')"
+    parser=${PERFPARSER:-/usr/libexec/hotspot-perfparser}
+    if [ -x "$parser" ] && has perf 'rustc_demangle in Hotspot' && HOME=$work perf record -q -e cpu-clock:u -o "$work/perf.data" "$work/rust_names" work >"$work/out"; then
+        "$parser" --input "$work/perf.data" --output "$work/parsed" 2>"$work/out" || { cat "$work/out"; exit 1; }
+        grep -qaF '<rustc_demangle::Deep<u32>>::work' "$work/parsed" || { echo 'Hotspot: the name stays mangled'; exit 1; }
+        echo 'rustc_demangle in Hotspot: ok'
+    else
+        echo "Hotspot isn't installed, or perf records nothing here: rustc_demangle isn't tested in it"
+    fi
+    unset LD_LIBRARY_PATH
+fi
 echo ok
