@@ -144,8 +144,9 @@ done
 # c++filt prints decltype(nullptr) where this library's text has a name
 grep -qxF 'f(std::nullptr_t)' "$work/out" || { echo 'c++filt: the preloaded call was not used'; cat "$work/out"; exit 1; }
 
-# rustc_demangle, in a program that knows its declaration alone, and in one that is packaged and loads the library by its name: the
-# parser of perf's records of Hotspot, from 1.4 on. PERFPARSER names it, or a script that runs it, where it stands elsewhere.
+# rustc_demangle, in a program that knows its declaration alone, and in one that is packaged and loads the library by its name:
+# Hotspot's parser of perf's records (1.6; 1.3 has no such call). PERFPARSER names it, or a script that runs it, where it stands
+# elsewhere.
 if has rustc 'rustc_demangle'; then
     cc -std=c99 -O2 -shared -fPIC "${warnings[@]}" -Wpedantic -DRUSTC callers/shims/shims.c -o "$work/librustc_demangle.so" "${static[@]}"
     rustc --edition 2024 -O -g -C symbol-mangling-version=v0 -L "$work" tests/callers/rustc_demangle.rs -o "$work/rust_names"
