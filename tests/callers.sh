@@ -120,6 +120,9 @@ for file in "$work/symbols" ${files[@]+"${files[@]}"}; do
     [ "$("$work/interrupted" "$file" ticks)" = "$sum" ] || { echo 'calls that are interrupted answer otherwise'; exit 1; }
     [ "$("$work/threads" "$file")" = "$("$work/threads_arena" "$file")" ] || { echo 'threads answer otherwise'; exit 1; }
 done
+cc "${plain[@]}" -pthread -Wl,-z,now tests/callers/stack.c -o "$work/stack" "${static[@]}"
+"$work/stack" "$work/symbols" >"$work/out" || { echo 'a call uses more of the stack than the header says'; cat "$work/out"; exit 1; }
+cat "$work/out"
 c++ -std=c++11 -O1 -rdynamic "${warnings[@]}" -Wpedantic callers/c/crash_reporter.cc -o "$work/reporter" "${arena[@]}" -ldl
 if "$work/reporter" 2>"$work/out"; then echo 'the crash reporter: no fault'; exit 1; fi
 [ "$(grep -c '^int app::open_box<int volatile>(app::Box<int volatile> const&, int)$' "$work/out")" -eq 3 ] && grep -qx main "$work/out" ||
