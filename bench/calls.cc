@@ -58,6 +58,23 @@ static size_t text_by_text()
     return bytes;
 }
 
+static size_t many_texts()
+{
+    static std::vector<unsigned char> large(all.size() * 8 + 1);
+    static std::vector<symdemangle_told> answers(symbols.size());
+    static std::vector<size_t> ends;
+    static std::string text;
+    if (ends.empty())
+        for (const std::string &s : symbols)
+            ends.push_back((text += s).size());
+    size_t bytes = 0;
+    if (symdemangle_texts((const uint8_t *)text.data(), text.size(), ends.data(), ends.size(), 1000000, 0, large.data(), large.size(),
+                          answers.data(), answers.size()) == SYMDEMANGLE_OK)
+        for (const symdemangle_told &told : answers)
+            bytes += told.status == SYMDEMANGLE_OK ? told.length : 0;
+    return bytes;
+}
+
 static size_t filtered()
 {
     static std::vector<unsigned char> large(all.size() * 8 + 1);
@@ -80,6 +97,7 @@ static size_t filtered()
 
 static const std::vector<Call> calls = {
     {"symdemangle_text", text_by_text},
+    {"symdemangle_texts", many_texts},
     {"symdemangle_filter", filtered},
 #ifdef WITH_LIBIBERTY
     {"cplus_demangle", [] { return freed([](const char *s) { return cplus_demangle(s, DMGL_PARAMS | DMGL_ANSI | DMGL_AUTO); }); }},

@@ -1,50 +1,86 @@
 #!/bin/bash
-# Runs symfilt beside the other filters that are installed, each several times in turn on one core, and prints a table
-# of the best times and of their ratios to symfilt's.
+# Runs symfilt beside the other filters that are installed, and prints a table with ratios to symfilt's figures.
 #
-#   bench/compare.sh [-n TIMES] [-c CORE] SYMFILT FILE..
+#   bench/compare.sh [-n TIMES] [-c CORE] SYMFILT FILE..     processor time (user and system), the least of several runs in turn
+#   bench/compare.sh -i [-s LINES] SYMFILT FILE..            instructions a line, counted by valgrind
 #
-# SYMFILT is the built program, each FILE a text with symbols, as one symbol a line or a log. Debian's binutils has
-# c++filt, llvm has llvm-cxxfilt, and cargo installs rustfilt.
-set -eu
+# SYMFILT is the built program, each FILE a text with symbols. bench/inputs.sh makes such files from installed libraries:
+#
+#   bench/inputs.sh inputs && bench/compare.sh -i crates/symfilt/out/symfilt inputs/*.txt
+#
+# Instructions don't depend on what else the machine does. They are those of LINES lines (5,000), taken evenly from the file, without
+# those of a run over no input. Debian's binutils has c++filt, llvm has llvm-cxxfilt, and rustfilt and valgrind are packages too.
+set -euo pipefail
 
+usage() {
+    echo "usage: $0 [-n TIMES] [-c CORE] SYMFILT FILE.. | $0 -i [-s LINES] SYMFILT FILE.." >&2
+    exit 2
+}
 times=5
 core=0
-while getopts n:c: option; do
+counts=no
+sample=5000
+while getopts n:c:is: option; do
     case $option in
         n) times=$OPTARG ;;
         c) core=$OPTARG ;;
-        *) exit 2 ;;
+        i) counts=yes ;;
+        s) sample=$OPTARG ;;
+        *) usage ;;
     esac
 done
 shift $((OPTIND - 1))
-if [ $# -lt 2 ]; then
-    echo "usage: $0 [-n TIMES] [-c CORE] SYMFILT FILE.." >&2
-    exit 2
-fi
+[ $# -ge 2 ] || usage
 symfilt=$1
 shift
+echo 'at _Z1fv' | "$symfilt" | grep -qx 'at f()' || { echo "$0: $symfilt is no filter of symbols" >&2; exit 1; }
 
 filters=("$symfilt")
 for name in c++filt llvm-cxxfilt rustfilt; do
-    if command -v "$name" >/dev/null; then
-        filters+=("$name")
-    fi
+    if command -v "$name" >/dev/null; then filters+=("$name"); fi
 done
-
-# seconds that a filter takes over a file, with what it needed of memory
-run_once() {
-    /usr/bin/time -f '%e %M' -o "$work/time" taskset -c "$core" "$1" <"$2" >/dev/null
-    cat "$work/time"
-}
-
 work=$(mktemp -d)
 trap 'rm -rf "$work"' EXIT
 
-printf '%-28s %10s %10s %12s %12s\n' filter seconds ratio MB/s 'resident KB'
+# run_once FILTER FILE: seconds of the processor, and what the filter needed of memory
+run_once() {
+    local TIMEFORMAT='%3U %3S'
+    { time /usr/bin/time -f %M -o "$work/memory" taskset -c "$core" "$1" <"$2" >/dev/null 2>&1; } 2>"$work/time"
+    awk -v memory="$(cat "$work/memory")" '{ print $1 + $2, memory }' "$work/time"
+}
+
+# instructions_of FILTER FILE
+instructions_of() {
+    valgrind --tool=callgrind --callgrind-out-file=/dev/null "$1" <"$2" 2>&1 >/dev/null | sed -n 's/^==[0-9]*== Collected : //p'
+}
+
+table() { # table FILTER OWN VALUE FORMAT MORE: a line, with the ratio to symfilt's value
+    awk -v name="$(basename "$1")" -v own="$2" -v value="$3" -v form="$4" -v more="$5" 'BEGIN {
+        printf "  %-26s " form " %8s%s\n", name, value, (own > 0 ? sprintf("%.2f", value / own) : "-"), (more ? "  " more : "")
+    }'
+}
+
+if [ $counts = yes ]; then
+    declare -A start=()
+    for filter in "${filters[@]}"; do start[$filter]=$(instructions_of "$filter" /dev/null); done
+    for file in "$@"; do
+        awk -v all="$(wc -l <"$file")" -v wanted="$sample" 'BEGIN { each = all > wanted ? all / wanted : 1; next_one = 1 } NR >= next_one { print; next_one += each }' \
+            "$file" >"$work/sample"
+        lines=$(wc -l <"$work/sample")
+        printf '%s: instructions a line, over %s lines of %s bytes\n' "$file" "$lines" "$(($(wc -c <"$work/sample") / lines))"
+        own=
+        for filter in "${filters[@]}"; do
+            count=$((($(instructions_of "$filter" "$work/sample") - ${start[$filter]}) / lines))
+            own=${own:-$count}
+            table "$filter" "$own" "$count" '%10d' ''
+        done
+    done
+    exit
+fi
+
 for file in "$@"; do
     bytes=$(stat -c %s "$file")
-    printf '%s, %s bytes, best of %s\n' "$file" "$bytes" "$times"
+    printf '%s, %s bytes: seconds of the processor, best of %s\n' "$file" "$bytes" "$times"
     declare -A best=() memory=()
     for ((round = 0; round < times; round++)); do
         for filter in "${filters[@]}"; do
@@ -54,11 +90,7 @@ for file in "$@"; do
         done
     done
     for filter in "${filters[@]}"; do
-        awk -v name="$(basename "$filter")" -v own="${best[$symfilt]}" -v seconds="${best[$filter]}" -v bytes="$bytes" \
-            -v resident="${memory[$filter]}" 'BEGIN {
-                ratio = (own > 0) ? sprintf("%.2f", seconds / own) : "-"
-                rate = (seconds > 0) ? sprintf("%.1f", bytes / seconds / 1e6) : "-"
-                printf "  %-26s %10.2f %10s %12s %12s\n", name, seconds, ratio, rate, resident
-            }'
+        table "$filter" "${best[$symfilt]}" "${best[$filter]}" '%10.3f' \
+            "$(awk -v s="${best[$filter]}" -v b="$bytes" 'BEGIN { if (s > 0) printf "%.1f MB/s, ", b / s / 1e6 }')${memory[$filter]} KB resident"
     done
 done

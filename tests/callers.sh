@@ -120,6 +120,9 @@ for file in "$work/symbols" ${files[@]+"${files[@]}"}; do
     [ "$("$work/interrupted" "$file" ticks)" = "$sum" ] || { echo 'calls that are interrupted answer otherwise'; exit 1; }
     [ "$("$work/threads" "$file")" = "$("$work/threads_arena" "$file")" ] || { echo 'threads answer otherwise'; exit 1; }
 done
+cc "${plain[@]}" -pthread -Wl,-z,now tests/callers/stack.c -o "$work/stack" "${static[@]}"
+"$work/stack" "$work/symbols" >"$work/out" || { echo 'a call uses more of the stack than the header says'; cat "$work/out"; exit 1; }
+cat "$work/out"
 c++ -std=c++11 -O1 -rdynamic "${warnings[@]}" -Wpedantic callers/c/crash_reporter.cc -o "$work/reporter" "${arena[@]}" -ldl
 if "$work/reporter" 2>"$work/out"; then echo 'the crash reporter: no fault'; exit 1; fi
 [ "$(grep -c '^int app::open_box<int volatile>(app::Box<int volatile> const&, int)$' "$work/out")" -eq 3 ] && grep -qx main "$work/out" ||
@@ -143,4 +146,28 @@ for program in 'nm -D -C' c++filt; do
 done
 # c++filt prints decltype(nullptr) where this library's text has a name
 grep -qxF 'f(std::nullptr_t)' "$work/out" || { echo 'c++filt: the preloaded call was not used'; cat "$work/out"; exit 1; }
+
+# rustc_demangle, in a program that knows its declaration alone, and in one that is packaged and loads the library by its name:
+# Hotspot's parser of perf's records (1.6; 1.3 has no such call). PERFPARSER names it, or a script that runs it, where it stands
+# elsewhere.
+if has rustc 'rustc_demangle'; then
+    cc -std=c99 -O2 -shared -fPIC "${warnings[@]}" -Wpedantic -DRUSTC callers/shims/shims.c -o "$work/librustc_demangle.so" "${static[@]}"
+    rustc --edition 2024 -O -g -C symbol-mangling-version=v0 -L "$work" tests/callers/rustc_demangle.rs -o "$work/rust_names"
+    export LD_LIBRARY_PATH=$work
+    echo "rustc_demangle: $("$work/rust_names")"
+    nm "$work/rust_names" | awk '$3 ~ /^_R/ { print $3 }' >"$work/names"
+    "$work/rust_names" names <"$work/names" >"$work/out"
+    if [ ! -s "$work/out" ] || grep '^_R' "$work/out"; then echo 'rustc_demangle: names that stay mangled'; exit 1; fi
+    echo "rustc_demangle: the $(wc -l <"$work/names") symbols of a program, as rustfilt: $(rustfilt <"$work/names" 2>/dev/null |
+        paste -d '\n' - "$work/out" | awk 'NR % 2 { its = $0; next } $0 == its { same++ } END { print same + 0 }')"
+    parser=${PERFPARSER:-/usr/libexec/hotspot-perfparser}
+    if [ -x "$parser" ] && has perf 'rustc_demangle in Hotspot' && HOME=$work perf record -q -e cpu-clock:u -o "$work/perf.data" "$work/rust_names" work >"$work/out"; then
+        "$parser" --input "$work/perf.data" --output "$work/parsed" 2>"$work/out" || { cat "$work/out"; exit 1; }
+        grep -qaF '<rustc_demangle::Deep<u32>>::work' "$work/parsed" || { echo 'Hotspot: the name stays mangled'; exit 1; }
+        echo 'rustc_demangle in Hotspot: ok'
+    else
+        echo "Hotspot isn't installed, or perf records nothing here: rustc_demangle isn't tested in it"
+    fi
+    unset LD_LIBRARY_PATH
+fi
 echo ok

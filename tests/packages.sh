@@ -52,6 +52,31 @@ for lib in "$work/tar/lib" "$work/deb/usr/lib/x86_64-linux-gnu"; do
     cc -std=c99 -I callers/c callers/c/calls.c "$lib/libsymdemangle.a" -o "$work/calls"
     "$work/calls" >/dev/null
 done
+# What is found in them: by CMake in the tarball, wherever that is unpacked; by pkg-config in the package, as in a system's root.
+if command -v cmake >/dev/null; then
+    cmake -S tests/callers -B "$work/cmake" -DCMAKE_PREFIX_PATH="$work/tar" -DCALLS="$PWD/callers/c/calls.c" >"$work/out" &&
+        cmake --build "$work/cmake" >>"$work/out" || fail "cmake: $(cat "$work/out")"
+    for program in symdemangle static shared; do "$work/cmake/calls_$program" >/dev/null || fail "cmake, $program"; done
+fi
+if command -v pkg-config >/dev/null; then
+    found() { PKG_CONFIG_SYSROOT_DIR=$work/deb PKG_CONFIG_LIBDIR=$work/deb/usr/lib/x86_64-linux-gnu/pkgconfig pkg-config "$@"; }
+    # shellcheck disable=SC2046
+    cc -std=c99 $(found --cflags symdemangle) callers/c/calls.c $(found --libs symdemangle) -o "$work/calls"
+    LD_LIBRARY_PATH=$work/deb/usr/lib/x86_64-linux-gnu "$work/calls" >/dev/null || fail 'pkg-config'
+fi
+
+# The Debian package is installed into a root of its own and removed again.
+if [ "$(id -u)" -eq 0 ]; then
+    mkdir -p "$work/root2/var/lib/dpkg/updates" "$work/root2/var/lib/dpkg/info" && touch "$work/root2/var/lib/dpkg/status"
+    inside() { dpkg --root="$work/root2" --log=/dev/null --force-depends --force-script-chrootless "$@" >"$work/out" 2>&1 || fail "dpkg $1: $(cat "$work/out")"; }
+    inside -i "$work"/one/*.deb
+    [ "$("$work/root2/usr/bin/symfilt" _Z1fv)" = 'f()' ] || fail 'the package that was installed'
+    inside -V symfilt
+    [ ! -s "$work/out" ] || fail "files of the package that aren't as it says: $(cat "$work/out")"
+    inside -P symfilt
+    left=$(cd "$work/root2" && find . -path ./var/lib/dpkg -prune -o -not -type d -print)
+    [ -z "$left" ] || fail "the package left behind: $left"
+fi
 dpkg-deb -I "$work"/one/*.deb | sed -n 's/^ \(Package\|Version\|Depends\)/\1/p'
 if command -v lintian >/dev/null; then
     lintian --allow-root --fail-on error --suppress-tags bogus-mail-host,bogus-mail-host-in-debian-changelog "$work"/one/*.deb 2>/dev/null || fail 'lintian finds errors'

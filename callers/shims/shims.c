@@ -7,7 +7,14 @@
    Each is there where its macro is defined:
      CXA     __cxa_demangle of the C++ runtimes (<cxxabi.h>), which their terminate handlers call too
      CPLUS   cplus_demangle and cplus_demangle_v3 of libiberty, which nm, objdump, addr2line and c++filt of binutils call
-     RUSTC   rustc_demangle of rustc-demangle's C library
+     RUSTC   rustc_demangle of rustc-demangle's C library, as `librustc_demangle.so` also for programs that load that by its name,
+             as Hotspot 1.6 does in its parser of perf's records (1.3 does not):
+
+               cc -shared -fPIC -O2 -DRUSTC shims.c -lsymdemangle -o librustc_demangle.so
+               LD_LIBRARY_PATH=. hotspot perf.data
+
+             gdb, valgrind and perf have a demangler of their own inside, which nothing replaces; binutils calls cplus_demangle
+             for Rust's names too.
 
    What differs from the real ones:
    - The texts are this library's, and programs that take them apart may expect another's: `std::nullptr_t` for libstdc++'s

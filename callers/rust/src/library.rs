@@ -17,8 +17,18 @@ pub struct Counts {
     pub steps: u32,
 }
 
+/// What is told of one of many symbols.
+#[repr(C)]
+#[derive(Clone, Default)]
+pub struct Told {
+    pub length: usize,
+    pub place: u32,
+    pub status: Status,
+}
+
 /// What a call answered.
-#[derive(Clone, Copy)]
+#[repr(transparent)]
+#[derive(Clone, Copy, Default)]
 pub struct Status(u32);
 
 impl Status {
@@ -32,7 +42,11 @@ impl Status {
 
     /// What it means, of a call whose room was large enough.
     pub fn outcome(self, answer: &Answer) -> Result<(), Error> {
-        let at = answer.place;
+        self.outcome_at(answer.place)
+    }
+
+    /// The same, with the place of the first bad byte.
+    pub fn outcome_at(self, at: u32) -> Result<(), Error> {
         match self.0 {
             0 => Ok(()),
             1 => Err(Error::Malformed { at }),
@@ -65,6 +79,18 @@ unsafe extern "C" {
         room: *mut u8,
         room_length: usize,
         answer: *mut Answer,
+    ) -> u32;
+    fn symdemangle_texts_of(
+        text: *const u8,
+        text_length: usize,
+        ends: *const usize,
+        ends_length: usize,
+        limit: u32,
+        detail: u32,
+        room: *mut u8,
+        room_length: usize,
+        answers: *mut Told,
+        answers_length: usize,
     ) -> u32;
     fn symdemangle_filter_of(
         text: *const u8,
@@ -136,6 +162,31 @@ pub fn word(
             room.as_mut_ptr(),
             room.len(),
             answer,
+        )
+    })
+}
+
+/// `ends` go up to the text's length, and are as many as the answers.
+pub fn texts(
+    text: &[u8],
+    ends: &[usize],
+    limit: u32,
+    detail: Detail,
+    room: &mut [u8],
+    answers: &mut [Told],
+) -> Status {
+    Status(unsafe {
+        symdemangle_texts_of(
+            text.as_ptr(),
+            text.len(),
+            ends.as_ptr(),
+            ends.len(),
+            limit,
+            number(detail),
+            room.as_mut_ptr(),
+            room.len(),
+            answers.as_mut_ptr(),
+            answers.len(),
         )
     })
 }

@@ -60,6 +60,30 @@ fn many_symbols() {
 }
 
 #[test]
+fn many_symbols_in_blocks() {
+    let long = format!("_RNvC3foo300000{}", "a".repeat(300_000));
+    let names = (0..2000).map(|i| match i % 7 {
+        0 => format!("_Z1f{i}"),
+        1 => format!("_RNvC3foo5a{i:04}"),
+        2 if i % 5 == 0 => String::new(),
+        3 if i == 997 || i == 1501 => long.clone(),
+        _ => format!("_ZN3foo5a{i:04}EPKc"),
+    });
+    let names: Vec<_> = names.collect();
+    for limit in [0, 12, DEFAULT_LIMIT] {
+        let mut told = 0;
+        for_each_text(names.iter().map(|s| s.as_bytes()), limit, Detail::Full, |symbol, text| {
+            assert_eq!(symbol, names[told].as_bytes());
+            let text = text.map(|text| String::from_utf8(text.to_vec()).unwrap());
+            assert_eq!(text, answer(&names[told], limit, Detail::Full));
+            told += 1;
+        });
+        assert_eq!(told, names.len());
+    }
+    for_each_text([], 9, Detail::Full, |_, _| unreachable!());
+}
+
+#[test]
 fn a_text_with_symbols_in_it() {
     let mut room = Vec::new();
     filter_into(b"at _RNvC3foo3bar. (_RNvC3fo)", 99, Detail::Full, &mut room).unwrap();

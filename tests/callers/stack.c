@@ -1,0 +1,107 @@
+/* How much of the stack each call uses over each symbol of a file, and over hostile ones: less than symdemangle.h says. A call runs
+   in a thread whose stack is filled before with a byte, and what isn't that byte afterwards was used; what a thread uses that calls
+   nothing is taken off. */
+#include "symdemangle.h"
+
+#include <pthread.h>
+#include <stdio.h>
+#include <stdlib.h>
+#include <string.h>
+
+enum { STACK = 256 << 10, ROOM = 1 << 20, FILL = 0xA5, SAID = 8 << 10 };
+
+static unsigned char stack[STACK] __attribute__((aligned(4096)));
+static uint8_t room[ROOM];
+static struct {
+    const uint8_t *symbol;
+    size_t length;
+    int call;
+} job;
+
+static void *run(void *unused)
+{
+    symdemangle_answer answer;
+    symdemangle_counts counts;
+    symdemangle_told told;
+    switch (job.call) {
+    case 1: symdemangle_text(job.symbol, job.length, 1000000, SYMDEMANGLE_FULL, room, ROOM, &answer); break;
+    case 2: symdemangle_word(job.symbol, job.length, 1000000, SYMDEMANGLE_BRIEF, room, ROOM, &answer); break;
+    case 3: symdemangle_texts(job.symbol, job.length, &job.length, 1, 1000000, SYMDEMANGLE_FULL, room, ROOM, &told, 1); break;
+    case 4: symdemangle_filter(job.symbol, job.length, 1000000, SYMDEMANGLE_FULL, room, ROOM, &answer); break;
+    case 5: symdemangle_count(job.symbol, job.length, &counts, &answer); break;
+    case 6: symdemangle_press(job.symbol, job.length, room, ROOM, &answer); break;
+    }
+    return unused;
+}
+
+static size_t used(int call)
+{
+    pthread_t thread;
+    pthread_attr_t attributes;
+    size_t at = 0;
+    job.call = call;
+    memset(stack, FILL, STACK);
+    if (pthread_attr_init(&attributes) || pthread_attr_setstack(&attributes, stack, STACK) ||
+        pthread_create(&thread, &attributes, run, 0) || pthread_join(thread, 0))
+        exit(2);
+    while (at < STACK && stack[at] == FILL)
+        at++;
+    return STACK - at;
+}
+
+static size_t most[7], none;
+
+static void measure(const char *symbol, size_t length)
+{
+    int call;
+    job.symbol = (const uint8_t *)symbol;
+    job.length = length;
+    for (call = 1; call < 7; call++) {
+        size_t bytes = used(call);
+        if (bytes > most[call])
+            most[call] = bytes;
+    }
+}
+
+/* A front, a part so many times, and an end. */
+static void measure_repeated(const char *front, const char *part, size_t times, const char *end)
+{
+    size_t at = strlen(front), each = strlen(part), i;
+    char *symbol = malloc(at + times * each + strlen(end) + 1);
+    if (!symbol)
+        exit(2);
+    memcpy(symbol, front, at);
+    for (i = 0; i < times; i++, at += each)
+        memcpy(symbol + at, part, each);
+    strcpy(symbol + at, end);
+    measure(symbol, strlen(symbol));
+    free(symbol);
+}
+
+int main(int words, char **files)
+{
+    static const char *const names[7] = {"", "text", "word", "texts", "filter", "count", "press"};
+    char line[1 << 16];
+    int call, failed = 0;
+    none = used(0);
+    for (; words > 1; words--) {
+        FILE *file = fopen(files[words - 1], "r");
+        if (!file)
+            return 2;
+        while (fgets(line, sizeof line, file))
+            measure(line, strcspn(line, "\n"));
+        fclose(file);
+    }
+    measure_repeated("_Z1f", "P", 60000, "i");
+    measure_repeated("_Z1f", "1AI", 20000, "i");
+    measure_repeated("_Z1fN", "1A", 30000, "E");
+    measure_repeated("_Z1f1AIiiE", "S_IS0_S0_E", 5000, "");
+    measure_repeated("_RINvC1a1b", "R", 60000, "uE");
+    measure_repeated("_R", "Nv", 30000, "C1a");
+    measure_repeated("_RINvC1a1b", "T", 30000, "u");
+    for (call = 1; call < 7; call++) {
+        printf("%s %zu%s", names[call], most[call] - none, call < 6 ? ", " : " bytes of stack at most\n");
+        failed |= most[call] - none > SAID;
+    }
+    return failed;
+}
