@@ -14,13 +14,18 @@ TOKENS = {NAME: DIG, DECIMAL: DIG + "_", SEQ36: DIG + "ABCDEFGHIJKLMNOPQRSTUVWXY
 P = {}
 # kinds: name -> (may be empty, [(class, production)], chain production or list of chains)
 K = {}
+# The wide grammar is the same list of kinds and productions, with more alternatives: those that `wide` marks here.
+MARKED = set()      # (kind, class, production)
+WIDENED = [False]   # whether they are among those of K
 def prod(name, *symbols, chain=False):
     v = (not chain, list(symbols))
     assert name not in P or P[name] == v, (name, P.get(name), v)
     P[name] = v
     return name
 def kind(name, *rules, empty=False):
-    K[name] = (empty, list(rules))
+    MARKED.update((name, *rule[:2]) for rule in rules if len(rule) == 3)
+    K[name] = (empty, [rule[:2] for rule in rules if len(rule) == 2 or WIDENED[0]])
+def wide(rule): return (*rule, "wide")
 def eats(cls, name, *symbols): return (cls, prod(name, *symbols))
 def chain(name, *symbols): return (None, prod(name, *symbols, chain=True))
 
@@ -38,8 +43,9 @@ OP_NAME = chain("OperatorName", "Operator", "MaybeArguments")
 BARE = [eats("L", "InternalPiece", NAME), eats("U", "LocalTypePiece", "Anonymous"), chain("SourcePiece", NAME)]
 NESTED = eats("N", "NestedName", "MaybeRestrict", "MaybeVolatile", "MaybeConst", "MaybeRef", "Nest")
 
-def build(extended=True):
-    P.clear(); K.clear()
+def build(extended=True, widened=False):
+    P.clear(); K.clear(); MARKED.clear()
+    WIDENED[0] = widened
     for r in (L_NAME, U_NAME, S_NAME, OP_NAME, *BARE, NESTED): pass
     prod("Mark"); prod("InternalName", NAME, "MaybeArguments"); prod("LocalTypeName", "Anonymous", "MaybeArguments")
     prod("SourceName", NAME, "MaybeArguments", chain=True); prod("OperatorName", "Operator", "MaybeArguments", chain=True)
@@ -69,8 +75,8 @@ def build(extended=True):
     kind("NestTail", eats("E", "NestEnd"), chain("NestNext", "Component", "NestTail"))
     kind("Component", eats("C", "Constructor", "ConstructorDigit", "MaybeArguments"), eats("D", "Destructor", "DestructorDigit", "MaybeArguments"),
          L_NAME, U_NAME, OP_NAME, S_NAME)
-    kind("ConstructorDigit", MARK("123"))
-    kind("DestructorDigit", MARK("012"))
+    kind("ConstructorDigit", MARK("123"), wide(MARK("45")))
+    kind("DestructorDigit", MARK("012"), wide(MARK("45")))
     kind("Abbreviation", eats(ABBREVIATED, "Abbreviation"), chain("Substitution", SEQ36))
     kind("Entity", eats("s", "StringLiteral"), NESTED, L_NAME, U_NAME, S_NAME)
     kind("TypeEntity", eats("N", "NestedType", "Nest"), L_NAME, U_NAME, S_NAME)
@@ -209,6 +215,7 @@ def laws():
     for k in K:
         if k not in height: bad.append(f"{k}: no completion")
     used = {p for _, r in K.values() for _, p in r}
+    used |= {p for _, _, p in MARKED}
     for p in P:
         if p not in used: bad.append(f"production {p} is unused")
     return bad, after, depth, height
@@ -300,43 +307,22 @@ def letters(rules):
         for byte in klass(c, p): row[ord(byte) - FIRST] = letter(list(P).index(p))
     return "".join(row)
 
-def rust_table():
+def rust_letters(name):
     columns = "".join(chr(b) for b in range(FIRST, LAST + 1))
-    out = [f"// {WRITTEN} The rule that a kind takes at a byte.",
-           "ghost use Rattle.std.specs.Prelude.{◌≡◌, ◌<◌, [], IfSome, MatchOption};",
-           "ghost use Rattle.sym_shape.specs.Listing.{StandsAt};", "ghost use Rattle.sym_shape.specs.Table.{symbols_of};",
-           "ghost use Rattle.cpp_grammar.specs.Table.{abi, abi_listed, listed_rule};",
-           "ghost use Rattle.cpp_grammar.specs.declared.table.Head.{Head};", "",
-           "use sym_core::NumberKind;",
-           "use sym_shape::{END, Rule, Sym, letter_in, place_of, symbol_at, symbols_from, symbols_listed};", "",
-           "/// In the place of a symbol that a rule doesn't have.", "const NONE: Sym = END;", ""]
-    for i, k in enumerate(K):
-        if any(k in syms for ate, syms in P.values()): out += [f"const {snake(k).upper()}: Sym = Sym::Kind({i});", ""]
-    for t in (NAME, DECIMAL, SEQ36, DIGITS): out += [f"const {t.upper()}: Sym = {rust_symbol(t)};", ""]
-    out += ["/// The letter of the production with number 0; the others have the letters behind it, in the order of their numbers.",
-            f"const FIRST_LETTER: u8 = b'{chr(FIRST_LETTER)}';", "",
-            f"// For each kind a row: for each byte from `{chr(FIRST)}` to `{chr(LAST)}` the letter of the production that the kind takes there.",
-            f"static LETTERS: [[u8; {LAST - FIRST + 1}]; {len(K)}] = [", f"    // {columns}"]
-    out += [f'    *b"{letters(rules)}", // {k}' for k, (e, rules) in K.items()] + ["];", ""]
-    out += ["/// A rule without its number and its symbols.", "struct Head {", "    eats: bool,", "    count: u8,", "}", ""]
-    for name, text, ate in (("TAKES", "that take the byte at which they are chosen", "true"), ("CHAINS", "that take no byte of their own", "false")):
-        out += [f"// Rules {text}, with so many symbols.", f"macro_rules! {name.lower()} {{", "    ($count:expr) => {", "        Head {",
-                f"            eats: {ate},", "            count: $count,", "        }", "    };", "}", ""]
-    out += ["// The rules of the productions, in the order of their numbers.", f"static HEADS: [Head; {len(P)}] = ["]
-    out += [f"    {'takes' if ate else 'chains'}!({len(syms)}), // {letter(i)} {p}" for i, (p, (ate, syms)) in enumerate(P.items())]
-    out += ["];", "", "// The symbols of the rules, in the same order.",
-            f"static SYMBOLS: [Sym; {6 * len(P) + 6}] = symbols_listed! {{"]
-    for i, (p, (ate, syms)) in enumerate(P.items()):
-        cells = [f"Sym::Byte(b{x})" if sym_class(x) == "byte" else x.upper() if sym_class(x) == "token" else snake(x).upper() for x in syms] + ["NONE"] * (5 - len(syms))
-        out.append(f"    [{', '.join(cells)}], // {letter(i)} {p}")
-    out += ["};", ""] + f'''/// The number of the rule that a kind takes at a byte, if it takes one.
+    out = [f"// For each kind a row: for each byte from `{chr(FIRST)}` to `{chr(LAST)}` the letter of the production that the kind takes there.",
+           f"static {name}: [[u8; {LAST - FIRST + 1}]; {len(K)}] = [", f"    // {columns}"]
+    return out + [f'    *b"{letters(rules)}", // {k}' for k, (e, rules) in K.items()] + ["];", ""]
+
+def rust_rules(table, letters):
+    """the calls that look a rule up"""
+    return f'''/// The number of the rule that a kind takes at a byte, if it takes one.
 #[inline]
 fn number(kind: u16, byte: u8) -> Option<usize>
-    requires {{ kind < abi.kinds }}
+    requires {{ kind < {table}.kinds }}
     ensures few {{ IfSome result (λ number. number < {len(P)}) }}
-    ensures rule {{ (head : Head) → MatchOption result (abi.rule kind byte ≡ None) (λ number. abi.rule kind byte ≡ Some (listed_rule head number)) }}
+    ensures rule {{ (head : Head) → MatchOption result ({table}.rule kind byte ≡ None) (λ number. {table}.rule kind byte ≡ Some (listed_rule head number)) }}
 {{
-    match letter_in(&LETTERS[kind as usize], byte) {{
+    match letter_in(&{letters}[kind as usize], byte) {{
         Some(letter) => Some(letter as usize - FIRST_LETTER as usize),
         None => None,
     }}
@@ -345,8 +331,8 @@ fn number(kind: u16, byte: u8) -> Option<usize>
 /// The rule that a kind takes at a byte, if it takes one.
 #[inline]
 pub fn rule(kind: u16, byte: u8) -> Option<Rule>
-    requires {{ kind < abi.kinds }}
-    ensures {{ result ≡ abi.rule kind byte }}
+    requires {{ kind < {table}.kinds }}
+    ensures {{ result ≡ {table}.rule kind byte }}
 {{
     match number(kind, byte) {{
         Some(number) => {{
@@ -365,22 +351,58 @@ pub fn rule(kind: u16, byte: u8) -> Option<Rule>
 /// The place of its first symbol.
 #[inline]
 pub fn place(kind: u16, byte: u8) -> u32
-    requires {{ kind < abi.kinds }}
-    ensures {{ IfSome (abi.rule kind byte) (λ rule. abi_listed result ≡ symbols_of rule) }}
+    requires {{ kind < {table}.kinds }}
+    ensures {{ IfSome ({table}.rule kind byte) (λ rule. abi_listed result ≡ symbols_of rule) }}
 {{
     match number(kind, byte) {{
         Some(number) => place_of(number) as u32,
         None => 0,
     }}
-}}
+}}'''.split("\n")
 
-/// The symbol at a place of `SYMBOLS`, or none where a rule's symbols end.
+def rust_wide_table():
+    out = [f"// {WRITTEN} The rule that a kind of the wide grammar takes at a byte.",
+           "ghost use Rattle.std.specs.Prelude.{◌≡◌, ◌<◌, IfSome, MatchOption};",
+           "ghost use Rattle.sym_shape.specs.Table.{symbols_of};",
+           "ghost use Rattle.cpp_grammar.specs.Table.{wide, abi_listed, listed_rule};",
+           "ghost use Rattle.cpp_grammar.specs.declared.table.Head.{Head};", "",
+           "use crate::table::{FIRST_LETTER, HEADS, SYMBOLS};",
+           "use sym_shape::{Rule, letter_in, place_of, symbols_from};", ""]
+    return "\n".join(out + rust_letters("WIDE_LETTERS") + rust_rules("wide", "WIDE_LETTERS")) + "\n"
+
+def rust_table():
+    out = [f"// {WRITTEN} The rule that a kind takes at a byte.",
+           "ghost use Rattle.std.specs.Prelude.{◌≡◌, ◌<◌, [], IfSome, MatchOption};",
+           "ghost use Rattle.sym_shape.specs.Listing.{StandsAt};", "ghost use Rattle.sym_shape.specs.Table.{symbols_of};",
+           "ghost use Rattle.cpp_grammar.specs.Table.{abi, abi_listed, listed_rule};",
+           "ghost use Rattle.cpp_grammar.specs.declared.table.Head.{Head};", "",
+           "use sym_core::NumberKind;",
+           "use sym_shape::{END, Rule, Sym, letter_in, place_of, symbol_at, symbols_from, symbols_listed};", "",
+           "/// In the place of a symbol that a rule doesn't have.", "const NONE: Sym = END;", ""]
+    for i, k in enumerate(K):
+        if any(k in syms for ate, syms in P.values()): out += [f"const {snake(k).upper()}: Sym = Sym::Kind({i});", ""]
+    for t in (NAME, DECIMAL, SEQ36, DIGITS): out += [f"const {t.upper()}: Sym = {rust_symbol(t)};", ""]
+    out += ["/// The letter of the production with number 0; the others have the letters behind it, in the order of their numbers.",
+            f"pub const FIRST_LETTER: u8 = b'{chr(FIRST_LETTER)}';", ""]
+    out += rust_letters("LETTERS")
+    out += ["/// A rule without its number and its symbols.", "pub struct Head {", "    pub eats: bool,", "    pub count: u8,", "}", ""]
+    for name, text, ate in (("TAKES", "that take the byte at which they are chosen", "true"), ("CHAINS", "that take no byte of their own", "false")):
+        out += [f"// Rules {text}, with so many symbols.", f"macro_rules! {name.lower()} {{", "    ($count:expr) => {", "        Head {",
+                f"            eats: {ate},", "            count: $count,", "        }", "    };", "}", ""]
+    out += ["// The rules of the productions, in the order of their numbers.", f"pub static HEADS: [Head; {len(P)}] = ["]
+    out += [f"    {'takes' if ate else 'chains'}!({len(syms)}), // {letter(i)} {p}" for i, (p, (ate, syms)) in enumerate(P.items())]
+    out += ["];", "", "// The symbols of the rules, in the same order.",
+            f"pub static SYMBOLS: [Sym; {6 * len(P) + 6}] = symbols_listed! {{"]
+    for i, (p, (ate, syms)) in enumerate(P.items()):
+        cells = [f"Sym::Byte(b{x})" if sym_class(x) == "byte" else x.upper() if sym_class(x) == "token" else snake(x).upper() for x in syms] + ["NONE"] * (5 - len(syms))
+        out.append(f"    [{', '.join(cells)}], // {letter(i)} {p}")
+    out += ["};", ""] + rust_rules("abi", "LETTERS") + ["", *'''/// The symbol at a place of `SYMBOLS`, or none where a rule's symbols end.
 #[inline]
 pub fn symbol(place: u32) -> Option<Sym>
-    ensures {{ MatchOption result (abi_listed place ≡ []) (StandsAt abi_listed place) }}
-{{
+    ensures { MatchOption result (abi_listed place ≡ []) (StandsAt abi_listed place) }
+{
     symbol_at(&SYMBOLS, place)
-}}'''.split("\n")
+}'''.split("\n")]
     return "\n".join(out) + "\n"
 
 GRAMMAR_HEAD = '''-- Generated by tools/grammar.py. The grammar of C++ symbols (ABI 5.1) as a table: what begins each kind, and the parts of each production.
@@ -425,13 +447,15 @@ pick (a ∷ rest) byte = cond (is_in a byte) (Some a.production) (pick rest byte
 
 '''
 
+def antt_alternatives(name):
+    return [f"{name} Kind.{k} = " + " ∷ ".join(on(klass(c, p), p) for c, p in rules) + " ∷ []" for k, (e, rules) in K.items()]
+
 def antt_grammar():
     out = [GRAMMAR_HEAD.rstrip("\n"), "", "-- the numbers of the kinds", "unfoldable pub number_of_kind : Kind → ℕ"]
     out += [f"number_of_kind Kind.{k} = {i}" for i, k in enumerate(K)]
     out += ["", "-- a kind as a symbol of a rule", "abbrev part : Kind → Sym", "part k = OfKind (number_of_kind k)", "",
             "-- what a kind may begin with, and the production that is then taken", "unfoldable pub alternatives : Kind → List Alternative"]
-    for k, (e, rules) in K.items():
-        out.append(f"alternatives Kind.{k} = " + " ∷ ".join(on(klass(c, p), p) for c, p in rules) + " ∷ []")
+    out += antt_alternatives("alternatives")
     out += ["", "-- the production that a kind takes at a byte", "unfoldable pub choose : Kind → ℕ → Option Production",
             "choose kind byte = pick (alternatives kind) byte", "",
             "-- the parts of a production, behind its own byte if it takes one", "unfoldable pub parts_of : Production → List Sym"]
@@ -465,6 +489,31 @@ def antt_follow(after, depth, height):
     out += [f"height Kind.{k} = {height[k]}" for k in K if height[k]] + ["height _ = 0"]
     return "\n".join(out) + "\n"
 
+ALTERNATIVES = '''abbrev on : String → Production → Alternative
+on singles production = record { ranges = []; singles = codes singles; production = production }
+
+abbrev on_ranges : String → String → Production → Alternative
+on_ranges ranges singles production = record { ranges = codes ranges; singles = codes singles; production = production }
+'''
+
+WIDE_HEAD = '''-- Generated by tools/grammar.py. The wide grammar: what begins each kind, with what compilers write beside the ABI's symbols.
+use Rattle.std.specs.Prelude.{ℕ, List, [], ◌∷◌, Option, codes}
+use Prim.Native.String.{String}
+use Rattle.cpp_grammar.specs.declared.kind.Kind.{Kind}
+use Rattle.cpp_grammar.specs.declared.production.Production.{Production}
+use Rattle.cpp_grammar.specs.Grammar.{Alternative, pick}
+
+''' + ALTERNATIVES + '''
+-- what a kind may begin with, and the production that is then taken
+unfoldable pub wide_alternatives : Kind → List Alternative
+'''
+
+def antt_wide():
+    out = [WIDE_HEAD.rstrip("\n")] + antt_alternatives("wide_alternatives")
+    out += ["", "-- the production that a kind takes at a byte", "unfoldable pub wide_choose : Kind → ℕ → Option Production",
+            "wide_choose kind byte = pick (wide_alternatives kind) byte"]
+    return "\n".join(out) + "\n"
+
 BEFORE_HEAD = '''-- Generated by tools/grammar.py. The grammar before vector types, noexcept function types and complex types were added.
 use Rattle.std.specs.Prelude.{ℕ, List, [], ◌∷◌, Option, codes}
 use Prim.Native.String.{String}
@@ -472,12 +521,7 @@ use Rattle.cpp_grammar.specs.declared.kind.Kind.{Kind}
 use Rattle.cpp_grammar.specs.declared.production.Production.{Production}
 use Rattle.cpp_grammar.specs.Grammar.{Alternative, alternatives, pick}
 
-abbrev on : String → Production → Alternative
-on singles production = record { ranges = []; singles = codes singles; production = production }
-
-abbrev on_ranges : String → String → Production → Alternative
-on_ranges ranges singles production = record { ranges = codes ranges; singles = codes singles; production = production }
-
+''' + ALTERNATIVES + '''
 -- what a kind may begin with, and the production that was then taken
 unfoldable pub alternatives_before : Kind → List Alternative
 '''
@@ -496,14 +540,19 @@ def antt_before():
 def files():
     """what is written: each file's path in the folder of the crates, and its text"""
     yield "cpp_grammar/specs/Before.antt", antt_before()
-    build(True); bad, after, depth, height = laws()
+    # what may come after each kind, and how its trees are bounded, is said once, of the wide grammar; the other is within it
+    build(True, widened=True); bad, after, depth, height = laws()
+    assert not bad, bad
+    yield "cpp_grammar/src/wide_table.rt", rust_wide_table()
+    yield "cpp_grammar/specs/Wide.antt", antt_wide()
+    yield "cpp_grammar/specs/Follow.antt", antt_follow(after, depth, height)
+    build(True); bad = laws()[0]
     assert not bad, bad
     yield "cpp_grammar/src/kind.rt", rust_kinds()
     yield "cpp_grammar/src/production.rt", rust_productions()
     yield "cpp_grammar/src/table.rt", rust_table()
     yield "cpp_grammar/specs/Grammar.antt", antt_grammar()
     yield "cpp_grammar/specs/KindNumbers.antt", antt_kind_numbers()
-    yield "cpp_grammar/specs/Follow.antt", antt_follow(after, depth, height)
     yield from written_words.files({p: symbols for p, (ate, symbols) in P.items()})
 
 def write(crates):
@@ -512,21 +561,22 @@ def write(crates):
         with open(f"{crates}/{path}", "w") as f: f.write(text)
 
 def markdown():
-    build(True); laws()
-    print("| Kind | Empty | Rules |\n|---|---|---|")
+    build(True, widened=True); laws()
+    print("| Kind | Empty | Rules (those in parentheses of the wide grammar alone) |\n|---|---|---|")
     for k, (e, rules) in K.items():
         cells = []
         for cls, p in rules:
             symbols = " ".join(P[p][1])
-            cells.append((f"`{cls}` " if cls is not None else "chain ") + f"**{p}**" + (f" {symbols}" if symbols else ""))
+            cell = (f"`{cls}` " if cls is not None else "chain ") + f"**{p}**" + (f" {symbols}" if symbols else "")
+            cells.append(f"({cell})" if (k, cls, p) in MARKED else cell)
         print(f"| {k} | {'yes' if e else ''} | {'; '.join(cells)} |")
 
 def main():
     what = sys.argv[1]
     if what == "laws":
-        for extended in (False, True):
-            build(extended); bad, after, depth, height = laws()
-            print(f"{'with' if extended else 'without'} vector, noexcept and complex types: {len(K)} kinds, {len(P)} productions, {sum(len(r) for _, r in K.values())} rules; "
+        for extended, widened in ((False, False), (True, False), (True, True)):
+            build(extended, widened); bad, after, depth, height = laws()
+            print(f"{'with' if extended else 'without'} vector, noexcept and complex types{', wide' if widened else ''}: {len(K)} kinds, {len(P)} productions, {sum(len(r) for _, r in K.values())} rules; "
                   f"most chains {max(depth.values())}, tallest completion {max(height.values())}")
             for b in bad: print("  BAD", b)
     elif what == "write": write(sys.argv[2])

@@ -10,7 +10,8 @@ use Rattle.sym_shape.specs.Sheet.{range, in_range, classes_of, choice_at}
 use Rattle.sym_shape.specs.Sheet as sheets
 use Rattle.cpp_grammar.specs.declared.kind.Kind.{Kind}
 use Rattle.cpp_grammar.specs.Grammar.{Alternative, in_ranges, among, is_in, pick, alternatives, choose, kinds, may_be_empty}
-use Rattle.cpp_grammar.specs.Table.{rule_of, rule_taken, ranges_of, class_of, choice_of, sheet_with, blank, sheet, abi}
+use Rattle.cpp_grammar.specs.Wide.{wide_alternatives, wide_choose}
+use Rattle.cpp_grammar.specs.Table.{rule_of, rule_taken, ranges_of, class_of, choice_of, sheet_with, blank, sheet, abi, wide_sheet, wide}
 
 is_above : (c byte : ℕ) → c ≤ byte → byte ≢ c → c < byte
 is_above c byte le other = elim (cases_order byte c) [ inl same ↦ absurd (other same) | inr apart ↦ elim apart [ inl below ↦ absurd (omega (arith, le, below)) | inr above ↦ above ] ]
@@ -76,4 +77,22 @@ pub is_kind : (k : ℕ) → k < abi.kinds → slice_get kinds k ≡ None → ⊥
 is_kind k lt none = elim (slice_get_cases kinds k).1 [
   | inl there ↦ (let clash : None ≡ Some there.0 = sym none ∙ there.2 in absurd cc)
   | inr past ↦ absurd (omega (arith, past.0, lt, kind_count))
+]
+
+pub wide_rule_at : (k : ℕ) (kind : Kind) (byte : ℕ) → slice_get kinds k ≡ Some kind → wide.rule k byte ≡ rule_taken (wide_choose kind byte)
+unfolding wide wide_sheet sheet_with wide_choose
+wide_rule_at k kind byte at = ap (λ s. choice_at s.choices byte) (sheet_at wide_alternatives k kind at) ∙ picked (wide_alternatives kind) byte
+
+pub wide_empty_at : (k : ℕ) (kind : Kind) → slice_get kinds k ≡ Some kind → wide.may_be_empty k ≡ may_be_empty kind
+unfolding wide wide_sheet sheet_with
+wide_empty_at k kind at = ap (λ s. s.may_be_empty) (sheet_at wide_alternatives k kind at)
+
+wide_count : wide.kinds ≡ length kinds
+unfolding wide wide_sheet kinds
+wide_count = refl
+
+pub is_wide_kind : (k : ℕ) → k < wide.kinds → slice_get kinds k ≡ None → ⊥
+is_wide_kind k lt none = elim (slice_get_cases kinds k).1 [
+  | inl there ↦ (let clash : None ≡ Some there.0 = sym none ∙ there.2 in absurd cc)
+  | inr past ↦ absurd (omega (arith, past.0, lt, wide_count))
 ]

@@ -1,4 +1,4 @@
--- Each tree of the earlier grammar is one of the grammar.
+-- Each tree of the earlier grammar is one of the grammar, and each of the grammar one of the wide one.
 use Rattle.std.proofs.Common.{◌≡◌, ℕ, zero, suc, ◌<◌, List, [], ◌∷◌, map, get_or, slice_get, Bool, true, false, ◌&&◌, nat_eq, Option, Some, None, inl, inr, refl, ap, sym, ◌∙◌, subst, arith}
 use Rattle.std.proofs.lemmas.Bool.{eqb-true, and_parts, false≢true, cases_lt}
 use Rattle.std.proofs.lemmas.Option.{slice_get_cases, slice_get-map, unwrap_or-slice_get}
@@ -6,15 +6,17 @@ use Rattle.std.specs.Option.{option_map, unwrap_or}
 use Rattle.sym_shape.specs.declared.rule.Rule.{Rule}
 use Rattle.sym_shape.specs.declared.rule.Sym.{Sym}
 use Rattle.sym_shape.specs.declared.rule.Sym.TheVariants.{Kind as OfKind, Name, Number, Byte}
-use Rattle.sym_shape.specs.Sheet.{choice_at}
-use Rattle.sym_shape.specs.Table.{symbols_of}
+use Rattle.sym_shape.specs.Sheet.{choice_at, table_of}
+use Rattle.sym_shape.specs.Table.{Table, symbols_of}
 use Rattle.sym_shape.specs.Tree.{Tree, Forest, branch, empty, token, fixed, nothing, grown, TakesRule, IsTree, AreTrees}
+use Rattle.sym_core.specs.declared.NameClass.TheVariants.{Cpp}
 use Rattle.cpp_grammar.specs.declared.kind.Kind.{Kind}
 use Rattle.cpp_grammar.specs.declared.production.Production.{Production}
-use Rattle.cpp_grammar.specs.Grammar.{in_ranges, among, is_in, pick, alternatives, choose, kinds, productions, number_of}
-use Rattle.cpp_grammar.specs.Before.{alternatives_before, choose_before}
-use Rattle.cpp_grammar.specs.Table.{rule_taken, sheet_with, sheet, blank, abi, sheet_before, abi_before}
-use Rattle.cpp_grammar.proofs.Choosing.{sheet_at, picked, rule_at_kind}
+use Rattle.cpp_grammar.specs.Grammar.{Alternative, in_ranges, among, is_in, pick, alternatives, kinds, productions, number_of}
+use Rattle.cpp_grammar.specs.Before.{alternatives_before}
+use Rattle.cpp_grammar.specs.Wide.{wide_alternatives}
+use Rattle.cpp_grammar.specs.Table.{rule_taken, sheet_with, sheet, blank, abi, sheet_before, abi_before, wide_sheet, wide}
+use Rattle.cpp_grammar.proofs.Choosing.{sheet_at, picked}
 
 -- the later choice is the earlier one
 unfoldable same_choice : Option Production → Option Production → Bool
@@ -26,13 +28,19 @@ unfoldable each_below : ℕ → (ℕ → Bool) → Bool
 each_below zero p = true
 each_below (suc n) p = p n && each_below n p
 
-unfoldable keeps_choices : Kind → Bool
-keeps_choices kind = each_below 256 (λ b. same_choice (choose_before kind b) (choose kind b))
+-- what is chosen among some alternatives is chosen among the later ones too
+unfoldable keeps_choices : (earlier later : List Alternative) → Bool
+keeps_choices earlier later = each_below 256 (λ b. same_choice (pick earlier b) (pick later b))
 
-each_keeps : (kind : Kind) → keeps_choices kind ≡ true
-unfolding in_ranges among is_in pick alternatives choose number_of alternatives_before choose_before same_choice each_below keeps_choices
-each_keeps Kind.Symbol = refl
-each_keeps _ = refl
+before_kept : (kind : Kind) → keeps_choices (alternatives_before kind) (alternatives kind) ≡ true
+unfolding in_ranges among is_in pick alternatives number_of alternatives_before same_choice each_below keeps_choices
+before_kept Kind.Symbol = refl
+before_kept _ = refl
+
+abi_kept : (kind : Kind) → keeps_choices (alternatives kind) (wide_alternatives kind) ≡ true
+unfolding in_ranges among is_in pick alternatives number_of wide_alternatives same_choice each_below keeps_choices
+abi_kept Kind.Symbol = refl
+abi_kept _ = refl
 
 numbered : (p : Production) → slice_get productions (number_of p) ≡ Some p
 unfolding productions number_of
@@ -55,63 +63,81 @@ kept None later p same is = absurd cc
 kept (Some q) None p same is = absurd (false≢true same)
 kept (Some q) (Some r) p same is = sym (numbered r) ∙ ap (slice_get productions) (sym (eqb-true (number_of q) (number_of r) same)) ∙ numbered q ∙ is
 
-kept_rule : (kind : Kind) (byte : ℕ) (rule : Rule) → byte < 256 → rule_taken (choose_before kind byte) ≡ Some rule → rule_taken (choose kind byte) ≡ Some rule
+kept_rule : (was now : List Alternative) (byte : ℕ) (rule : Rule) → keeps_choices was now ≡ true → byte < 256 → rule_taken (pick was byte) ≡ Some rule → rule_taken (pick now byte) ≡ Some rule
 unfolding keeps_choices rule_taken
-kept_rule kind byte rule lt is = go (choose_before kind byte) refl is
+kept_rule was now byte rule each lt is = go (pick was byte) refl is
   where
-    go : (earlier : Option Production) → choose_before kind byte ≡ earlier → rule_taken earlier ≡ Some rule → rule_taken (choose kind byte) ≡ Some rule
+    go : (earlier : Option Production) → pick was byte ≡ earlier → rule_taken earlier ≡ Some rule → rule_taken (pick now byte) ≡ Some rule
     go None at is = let clash : None ≡ Some rule = is in absurd cc
     go (Some p) at is =
-        ap rule_taken (kept (choose_before kind byte) (choose kind byte) p (below 256 (λ b. same_choice (choose_before kind b) (choose kind b)) byte (each_keeps kind) lt) at) ∙ is
+        ap rule_taken (kept (pick was byte) (pick now byte) p (below 256 (λ b. same_choice (pick was b) (pick now b)) byte each lt) at) ∙ is
 
-rule_before : (k : ℕ) (kind : Kind) (byte : ℕ) → slice_get kinds k ≡ Some kind → abi_before.rule k byte ≡ rule_taken (choose_before kind byte)
-unfolding abi_before sheet_before sheet_with choose_before
-rule_before k kind byte at = ap (λ s. choice_at s.choices byte) (sheet_at alternatives_before k kind at) ∙ picked (alternatives_before kind) byte
+-- the table of some alternatives
+abbrev table_with : (Kind → List Alternative) → Table
+table_with begins = table_of blank (map (sheet_with begins) kinds) Cpp
+
+rule_with : (begins : Kind → List Alternative) (k : ℕ) (kind : Kind) (byte : ℕ) → slice_get kinds k ≡ Some kind → (table_with begins).rule k byte ≡ rule_taken (pick (begins kind) byte)
+unfolding sheet_with
+rule_with begins k kind byte at = ap (λ s. choice_at s.choices byte) (sheet_at begins k kind at) ∙ picked (begins kind) byte
 
 -- past the kinds no rule is taken, and nothing may be empty
-past_kinds : (k : ℕ) → slice_get kinds k ≡ None → get_or sheet_before k blank ≡ blank
-unfolding sheet_before
-past_kinds k past =
-    sym (unwrap_or-slice_get (map (sheet_with alternatives_before) kinds) k blank)
-    ∙ ap (λ o. unwrap_or o blank) (slice_get-map (sheet_with alternatives_before) kinds k ∙ ap (option_map (sheet_with alternatives_before)) past)
+past_kinds : (begins : Kind → List Alternative) (k : ℕ) → slice_get kinds k ≡ None → get_or (map (sheet_with begins) kinds) k blank ≡ blank
+past_kinds begins k past =
+    sym (unwrap_or-slice_get (map (sheet_with begins) kinds) k blank)
+    ∙ ap (λ o. unwrap_or o blank) (slice_get-map (sheet_with begins) kinds k ∙ ap (option_map (sheet_with begins)) past)
 
-none_before : (k byte : ℕ) → slice_get kinds k ≡ None → abi_before.rule k byte ≡ None
-unfolding abi_before blank
-none_before k byte past = ap (λ s. choice_at s.choices byte) (past_kinds k past)
+none_past : (begins : Kind → List Alternative) (k byte : ℕ) → slice_get kinds k ≡ None → (table_with begins).rule k byte ≡ None
+unfolding blank
+none_past begins k byte past = ap (λ s. choice_at s.choices byte) (past_kinds begins k past)
 
-full_before : (k : ℕ) → slice_get kinds k ≡ None → abi_before.may_be_empty k ≡ false
-unfolding abi_before blank
-full_before k past = ap (λ s. s.may_be_empty) (past_kinds k past)
+full_past : (begins : Kind → List Alternative) (k : ℕ) → slice_get kinds k ≡ None → (table_with begins).may_be_empty k ≡ false
+unfolding blank
+full_past begins k past = ap (λ s. s.may_be_empty) (past_kinds begins k past)
 
-table_keeps : (k byte : ℕ) (rule : Rule) → byte < 256 → abi_before.rule k byte ≡ Some rule → abi.rule k byte ≡ Some rule
-table_keeps k byte rule lt found = elim (slice_get_cases kinds k).1 [
+-- each kind keeps what it chose
+abbrev Keeps : (was now : Kind → List Alternative) → Type 0
+Keeps was now = (kind : Kind) → keeps_choices (was kind) (now kind) ≡ true
+
+table_keeps : (was now : Kind → List Alternative) (k byte : ℕ) (rule : Rule) → Keeps was now → byte < 256 → (table_with was).rule k byte ≡ Some rule → (table_with now).rule k byte ≡ Some rule
+table_keeps was now k byte rule each lt found = elim (slice_get_cases kinds k).1 [
   | inl there ↦
-      rule_at_kind k there.0 byte there.2 ∙ kept_rule there.0 byte rule lt (sym (rule_before k there.0 byte there.2) ∙ found)
-  | inr past ↦ (let clash : None ≡ Some rule = sym (none_before k byte past.1) ∙ found in absurd cc)
+      rule_with now k there.0 byte there.2 ∙ kept_rule (was there.0) (now there.0) byte rule (each there.0) lt (sym (rule_with was k there.0 byte there.2) ∙ found)
+  | inr past ↦ (let clash : None ≡ Some rule = sym (none_past was k byte past.1) ∙ found in absurd cc)
 ]
 
-empty_keeps : (k : ℕ) → abi_before.may_be_empty k ≡ true → abi.may_be_empty k ≡ true
-unfolding abi_before abi sheet_before sheet sheet_with blank
-empty_keeps k is = elim (slice_get_cases kinds k).1 [
-  | inl there ↦ ap (λ s. s.may_be_empty) (sheet_at alternatives k there.0 there.2) ∙ sym (ap (λ s. s.may_be_empty) (sheet_at alternatives_before k there.0 there.2)) ∙ is
-  | inr past ↦ absurd (false≢true (sym (full_before k past.1) ∙ is))
+empty_keeps : (was now : Kind → List Alternative) (k : ℕ) → (table_with was).may_be_empty k ≡ true → (table_with now).may_be_empty k ≡ true
+unfolding sheet_with
+empty_keeps was now k is = elim (slice_get_cases kinds k).1 [
+  | inl there ↦ ap (λ s. s.may_be_empty) (sheet_at now k there.0 there.2) ∙ sym (ap (λ s. s.may_be_empty) (sheet_at was k there.0 there.2)) ∙ is
+  | inr past ↦ absurd (false≢true (sym (full_past was k past.1) ∙ is))
 ]
 
-takes : (k : ℕ) (rule : Rule) (taken : List ℕ) → TakesRule abi_before k rule taken → TakesRule abi k rule taken
-takes k rule taken t = record { byte = t.byte; is_byte = t.is_byte; found = table_keeps k t.byte rule t.is_byte t.found; takes = t.takes }
+takes : (was now : Kind → List Alternative) (k : ℕ) (rule : Rule) (taken : List ℕ) → Keeps was now → TakesRule (table_with was) k rule taken → TakesRule (table_with now) k rule taken
+takes was now k rule taken each t = record { byte = t.byte; is_byte = t.is_byte; found = table_keeps was now k t.byte rule each t.is_byte t.found; takes = t.takes }
 
 mutual
-  unfolding abi_before abi
+  tree_keeps : (was now : Kind → List Alternative) → Keeps was now → (x : Sym) (t : Tree) → IsTree (table_with was) x t → IsTree (table_with now) x t
+  tree_keeps was now each (OfKind k) (branch rule taken parts) is = (takes was now k rule taken each is.0, trees_keep was now each (symbols_of rule) parts is.1)
+  tree_keeps was now each (OfKind k) empty is = empty_keeps was now k is
+  tree_keeps was now each Name (token t) is = is
+  tree_keeps was now each (Number kind) (token t) is = is
+  tree_keeps was now each (Byte b) (fixed c) is = is
+  tree_keeps was now each _ _ is = absurd is
 
-  pub tree_keeps : (x : Sym) (t : Tree) → IsTree abi_before x t → IsTree abi x t
-  tree_keeps (OfKind k) (branch rule taken parts) is = (takes k rule taken is.0, trees_keep (symbols_of rule) parts is.1)
-  tree_keeps (OfKind k) empty is = empty_keeps k is
-  tree_keeps Name (token t) is = is
-  tree_keeps (Number kind) (token t) is = is
-  tree_keeps (Byte b) (fixed c) is = is
-  tree_keeps _ _ is = absurd is
+  trees_keep : (was now : Kind → List Alternative) → Keeps was now → (xs : List Sym) (f : Forest) → AreTrees (table_with was) xs f → AreTrees (table_with now) xs f
+  trees_keep was now each [] nothing is = is
+  trees_keep was now each (x ∷ xs) (grown t f) is = (tree_keeps was now each x t is.0, trees_keep was now each xs f is.1)
+  trees_keep was now each _ _ is = absurd is
 
-  trees_keep : (xs : List Sym) (f : Forest) → AreTrees abi_before xs f → AreTrees abi xs f
-  trees_keep [] nothing is = is
-  trees_keep (x ∷ xs) (grown t f) is = (tree_keeps x t is.0, trees_keep xs f is.1)
-  trees_keep _ _ is = absurd is
+pub earlier_tree : (x : Sym) (t : Tree) → IsTree abi_before x t → IsTree abi x t
+unfolding abi_before abi sheet_before sheet
+earlier_tree x t is = tree_keeps alternatives_before alternatives before_kept x t is
+
+-- a tree of the grammar is one of the wide grammar
+pub wide_tree : (x : Sym) (t : Tree) → IsTree abi x t → IsTree wide x t
+unfolding abi wide sheet wide_sheet
+wide_tree x t is = tree_keeps alternatives wide_alternatives abi_kept x t is
+
+pub wide_trees : (xs : List Sym) (f : Forest) → AreTrees abi xs f → AreTrees wide xs f
+unfolding abi wide sheet wide_sheet
+wide_trees xs f is = trees_keep alternatives wide_alternatives abi_kept xs f is

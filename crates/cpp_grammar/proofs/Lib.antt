@@ -1,5 +1,6 @@
 pub mod Choosing
 pub mod Letters
+pub mod WideLetters
 pub mod Growing
 pub mod Reader
 pub mod Row

@@ -1,6 +1,7 @@
 pub mod Grammar
 pub mod KindNumbers
 pub mod Before
+pub mod Wide
 pub mod Follow
 pub mod Table
 pub mod TableLaws

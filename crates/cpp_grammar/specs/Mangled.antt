@@ -4,14 +4,18 @@ use Rattle.sym_core.specs.declared.refusal.Refusal.{Refusal}
 use Rattle.sym_print.specs.declared.detail.Detail.{Detail}
 use Rattle.sym_demangle.specs.Mangled as demangle
 use Rattle.sym_demangle.specs.Mangled.{Mangled}
-use Rattle.cpp_grammar.specs.Table.{abi}
-use Rattle.cpp_grammar.specs.TableLaws.{lawful}
+use Rattle.cpp_grammar.specs.Table.{abi, wide}
+use Rattle.cpp_grammar.specs.TableLaws.{lawful, wide_lawful}
 use Rattle.cpp_grammar.specs.Term.{Term}
 use Rattle.cpp_grammar.specs.Unfolding.{unfold_cpp}
 use Rattle.cpp_grammar.specs.Answer.{shown, root_item}
 
 abbrev pub cpp_mangled : Mangled Term
 cpp_mangled = record { table = abi; unfolded = unfold_cpp; shown = λ detail t. shown detail (root_item t); lawful = lawful }
+
+-- the same over the wide grammar: what a tree stands for, and how that is shown, is said once
+abbrev pub wide_mangled : Mangled Term
+wide_mangled = record { table = wide; unfolded = unfold_cpp; shown = λ detail t. shown detail (root_item t); lawful = wide_lawful }
 
 -- what a symbol reads as, and the answer to it
 abbrev pub IsReading : List ℕ → Result Term Refusal → Type 0

@@ -16,6 +16,7 @@ use Rattle.cpp_grammar.specs.declared.production.Production.{Production}
 use Rattle.cpp_grammar.specs.Grammar.{Alternative, alternatives, parts_of, is_chain, number_of, may_be_empty, kinds}
 use Rattle.cpp_grammar.specs.Follow.{after_ranges, rank, height}
 use Rattle.cpp_grammar.specs.Before.{alternatives_before}
+use Rattle.cpp_grammar.specs.Wide.{wide_alternatives}
 
 -- five symbols, of which the last ones don't count
 unfoldable pub padded : ℕ → List Sym → List Sym
@@ -80,3 +81,10 @@ sheet_before = map (sheet_with alternatives_before) kinds
 -- the table before vector types, noexcept function types and complex types were added
 unfoldable pub abi_before : Table
 abi_before = table_of blank sheet_before Cpp
+
+unfoldable pub wide_sheet : List KindSheet
+wide_sheet = map (sheet_with wide_alternatives) kinds
+
+-- the wide table: that of C++ symbols, with what compilers write beside them
+unfoldable pub wide : Table
+wide = table_of blank wide_sheet Cpp

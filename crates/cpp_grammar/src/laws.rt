@@ -1,22 +1,25 @@
 // What holds of every C++ symbol.
-ghost use Rattle.std.specs.Prelude.{◌≤◌, ◌≡◌, ℕ, List, length, Ok};
+ghost use Rattle.std.specs.Prelude.{◌≤◌, ◌≡◌, ℕ, List, length, Result, Ok};
+ghost use Rattle.sym_core.specs.declared.refusal.Refusal.{Refusal};
 ghost use Rattle.sym_print.specs.declared.detail.Detail.{Detail};
 ghost use Rattle.sym_print.specs.Unfold.{RanksBelow};
+ghost use Rattle.sym_shape.specs.Decided.{AreBytes};
 ghost use Rattle.sym_shape.specs.Grown.{GrowsInto};
-ghost use Rattle.sym_shape.specs.Tree.{Tree, IsTree, AreRowsOf, IsFirstBad};
+ghost use Rattle.sym_shape.specs.Tree.{Tree, IsTree, AreRowsOf, IsFirstBad, IsWellShaped};
 ghost use Rattle.sym_shape.specs.declared.rule.Sym.TheVariants.{Kind};
 ghost use Rattle.sym_shape.specs.declared.rule.Row.{Row};
-ghost use Rattle.sym_demangle.specs.Mangled.{RefusesBadTokens};
-ghost use Rattle.cpp_grammar.specs.Mangled.{cpp_mangled};
+ghost use Rattle.sym_demangle.specs.Mangled.{RefusesBadTokens, StandsFor, IsAnswer, answer};
+ghost use Rattle.cpp_grammar.specs.Mangled.{cpp_mangled, wide_mangled};
 ghost use Rattle.cpp_grammar.specs.Closed.{ScopesAreClosed};
 ghost use Rattle.cpp_grammar.specs.Items.{Item};
 ghost use Rattle.cpp_grammar.specs.Parts.{parts};
 ghost use Rattle.cpp_grammar.specs.Ranks.{rank};
-ghost use Rattle.cpp_grammar.specs.Table.{abi, abi_before};
+ghost use Rattle.cpp_grammar.specs.Table.{abi, abi_before, wide};
 ghost use Rattle.cpp_grammar.specs.Term.{Term};
 ghost use Rattle.cpp_grammar.specs.Unfolding.{unfold_cpp};
 
 use crate::abi::Abi;
+use crate::wide::Wide;
 use sym_shape::grown_keeps;
 
 /// Each tree of the grammar before vector types, noexcept function types and complex types were added is one of
@@ -30,9 +33,28 @@ pub fn earlier_trees_stay()
     grown_keeps::<Abi>();
 }
 
+/// Each tree of the grammar of [`Abi`](crate::Abi) is one of that of [`Wide`](crate::Wide). So a symbol that is well shaped has
+/// the same rows there, and of one that isn't the first bad byte isn't earlier there.
+pub fn abi_trees_stay()
+    ensures trees { GrowsInto abi wide }
+    ensures rows { (s : List ℕ) (before now : List Row) → AreRowsOf abi s before → AreRowsOf wide s now → now ≡ before }
+    ensures places { (s : List ℕ) (before now : ℕ) → IsFirstBad abi s before → IsFirstBad wide s now → before ≤ now }
+{
+    grown_keeps::<Wide>();
+}
+
+/// What a symbol that is well shaped in [`Abi`](crate::Abi) reads as, a refusal too, it reads as in [`Wide`](crate::Wide), and its
+/// answer is the same there.
+pub fn abi_answers_stay()
+    ensures reads { (s : List ℕ) (result : Result Term Refusal) → StandsFor cpp_mangled s result → StandsFor wide_mangled s result }
+    ensures answers { (detail : Detail) (s : List ℕ) (limit : ℕ) → AreBytes s → IsWellShaped abi s → answer wide_mangled detail s limit ≡ answer cpp_mangled detail s limit }
+    ensures texts { (detail : Detail) (s text : List ℕ) (limit : ℕ) → IsAnswer cpp_mangled detail s limit (Ok text) → IsAnswer wide_mangled detail s limit (Ok text) }
+{}
+
 /// In the tree that a symbol stands for, the arguments that are the scope of an encoding have no free parameters.
 pub fn scopes_are_closed()
-    ensures { (shape : Tree) (t : Term) → IsTree abi (Kind 0) shape → unfold_cpp shape ≡ Ok t → ScopesAreClosed t }
+    ensures wide { (shape : Tree) (t : Term) → IsTree wide (Kind 0) shape → unfold_cpp shape ≡ Ok t → ScopesAreClosed t }
+    ensures abi { (shape : Tree) (t : Term) → IsTree abi (Kind 0) shape → unfold_cpp shape ≡ Ok t → ScopesAreClosed t }
 {}
 
 /// Each item has at most eight parts, and each item among them has a smaller rank, so printing ends.
@@ -44,5 +66,6 @@ pub fn parts_are_few_and_smaller()
 /// A well shaped symbol that can't be read is refused for a bad reference or for a number that is out of range, and for nothing
 /// else.
 pub fn refuses_bad_tokens()
-    ensures { RefusesBadTokens cpp_mangled }
+    ensures abi { RefusesBadTokens cpp_mangled }
+    ensures wide { RefusesBadTokens wide_mangled }
 {}

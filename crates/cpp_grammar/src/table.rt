@@ -150,7 +150,7 @@ const SEQ36: Sym = Sym::Number(NumberKind::Seq36);
 const DIGITS: Sym = Sym::Number(NumberKind::Digits);
 
 /// The letter of the production with number 0; the others have the letters behind it, in the order of their numbers.
-const FIRST_LETTER: u8 = b'!';
+pub const FIRST_LETTER: u8 = b'!';
 
 // For each kind a row: for each byte from `$` to `z` the letter of the production that the kind takes there.
 static LETTERS: [[u8; 87]; 66] = [
@@ -224,9 +224,9 @@ static LETTERS: [[u8; 87]; 66] = [
 ];
 
 /// A rule without its number and its symbols.
-struct Head {
-    eats: bool,
-    count: u8,
+pub struct Head {
+    pub eats: bool,
+    pub count: u8,
 }
 
 // Rules that take the byte at which they are chosen, with so many symbols.
@@ -250,7 +250,7 @@ macro_rules! chains {
 }
 
 // The rules of the productions, in the order of their numbers.
-static HEADS: [Head; 112] = [
+pub static HEADS: [Head; 112] = [
     takes!(0), // ! Mark
     takes!(2), // \" InternalName
     takes!(2), // # LocalTypeName
@@ -366,7 +366,7 @@ static HEADS: [Head; 112] = [
 ];
 
 // The symbols of the rules, in the same order.
-static SYMBOLS: [Sym; 678] = symbols_listed! {
+pub static SYMBOLS: [Sym; 678] = symbols_listed! {
     [NONE, NONE, NONE, NONE, NONE], // ! Mark
     [NAME, MAYBE_ARGUMENTS, NONE, NONE, NONE], // \" InternalName
     [ANONYMOUS, MAYBE_ARGUMENTS, NONE, NONE, NONE], // # LocalTypeName

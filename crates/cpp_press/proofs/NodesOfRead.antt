@@ -3,6 +3,7 @@ use Rattle.std.proofs.Common.{◌≡◌, ℕ, ◌+◌, ◌≤◌, List, length, 
 use Rattle.std.specs.Prelude.{Result}
 use Rattle.sym_core.specs.declared.refusal.Refusal.{Refusal}
 use Rattle.sym_core.specs.declared.refusal.Refusal.TheVariants.{Malformed}
+use Rattle.sym_shape.specs.declared.rule.Sym.TheVariants.{Kind}
 use Rattle.sym_link.specs.Unfold.{unfold_tree}
 use Rattle.sym_demangle.specs.Mangled.{misshapen, well_shaped}
 use Rattle.sym_demangle.specs.Standing.{AreNodesOf}
@@ -10,6 +11,7 @@ use Rattle.cpp_grammar.specs.Mangled.{IsReading}
 use Rattle.cpp_grammar.specs.Table.{abi}
 use Rattle.cpp_grammar.specs.Term.{Term}
 use Rattle.cpp_grammar.specs.Unfolding.{cpp, first_around, first_state, first_tree, unfold_cpp}
+use Rattle.cpp_grammar.proofs.Growing.{wide_tree}
 use Rattle.cpp_grammar.proofs.ClosedStates.{behind_bind}
 use Rattle.cpp_press_laws.specs.Apart.{spelled_components}
 use Rattle.cpp_press_laws.proofs.Components.FewPressed.{components-few}
@@ -26,6 +28,6 @@ components-below s t nodes (well_shaped (shape, is, spelled, e)) are =
     omega (
       arith,
       components-few shape t (is, sym e) whole.value whole.is,
-      candidates-few shape is whole.value whole.is,
+      candidates-few shape (wide_tree (Kind 0) shape is) whole.value whole.is,
       are shape is spelled,
     )

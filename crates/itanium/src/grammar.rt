@@ -46,3 +46,46 @@ impl Grammar for Abi {
 
     ghost lawful = { lawful };
 }
+
+/// The grammar of C++ symbols with what compilers write beside them, that of [`cpp_grammar::Wide`].
+#[derive(Clone, Copy, Debug)]
+pub struct Wide;
+
+impl Grammar for Wide {
+    ghost use Rattle.std.specs.Prelude.{refl};
+    ghost use Rattle.cpp_grammar.specs.Table.{wide, abi_listed};
+    ghost use Rattle.cpp_grammar.specs.TableLaws.{wide_lawful};
+
+    ghost table = { wide };
+
+    ghost listed = { abi_listed };
+
+    ghost start = { refl };
+
+    #[inline(always)]
+    fn rule(&self, kind: u16, byte: u8) -> Option<Rule> {
+        cpp_grammar::Wide.rule(kind, byte)
+    }
+
+    #[inline(always)]
+    fn place(&self, kind: u16, byte: u8) -> u32 {
+        cpp_grammar::Wide.place(kind, byte)
+    }
+
+    #[inline(always)]
+    fn symbol(&self, place: u32) -> Option<Sym> {
+        cpp_grammar::Wide.symbol(place)
+    }
+
+    #[inline(always)]
+    fn may_be_empty(&self, kind: u16) -> bool {
+        cpp_grammar::Wide.may_be_empty(kind)
+    }
+
+    #[inline(always)]
+    fn name_class(&self) -> NameClass {
+        cpp_grammar::Wide.name_class()
+    }
+
+    ghost lawful = { wide_lawful };
+}

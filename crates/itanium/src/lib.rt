@@ -4,13 +4,14 @@
 mod demangling;
 mod grammar;
 mod mangling;
+mod wide;
 
 pub use cpp_layout::{
     Adjustment, Detail, Node, Signed, Symbol, Thunk, equal_trees_have_equal_views,
     fields_make_the_tree, tree_production,
 };
 pub use demangling::{demangle, demangle_as, read, read_fed};
-pub use grammar::Abi;
+pub use grammar::{Abi, Wide};
 pub use sym_core::Counts;
 pub use sym_demangle::{each_has_an_answer, each_refusal_has_a_reason, one_answer, read_answers};
 pub use sym_shape::Reader;

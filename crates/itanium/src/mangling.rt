@@ -6,6 +6,7 @@ ghost use Rattle.sym_core.specs.declared.refusal.Refusal.TheVariants as refusals
 ghost use Rattle.sym_print.specs.declared.layout.Part.TheVariants as parts;
 ghost use Rattle.sym_shape.specs.Tree.{Tree};
 ghost use Rattle.sym_demangle.specs.Standing.{Begins, IsLinked};
+ghost use Rattle.cpp_grammar.specs.Table.{abi, wide};
 ghost use Rattle.cpp_grammar.specs.Answer.{shown, root_item};
 ghost use Rattle.cpp_grammar.specs.Unfolding.{unfold_cpp};
 ghost use Rattle.cpp_layout.specs.Layout.{MayBeAsked, unshared_of, whole_of};
@@ -35,6 +36,29 @@ fn whole_node(parts: &[Part]) -> u32
     }
 }
 
+/// The symbol whose shape was linked.
+#[inline]
+pub(crate) fn finished(
+    bytes: Vec<u8>,
+    linked: &mut Linked,
+    parts: &[Part],
+    rows: u32,
+    steps: u32,
+) -> Symbol
+    requires { (shape : Tree) × IsLinked wide (cpp_counted bytes.items) bytes.items linked.old parts.now rows steps shape }
+    ensures bytes { result.bytes ≡ bytes.items }
+    ensures whole { (shape : Tree) → IsLinked wide (cpp_counted bytes.items) bytes.items linked.old parts.now rows steps shape → Ok (whole_of result) ≡ unfold_cpp shape }
+    ensures rows { result.rows ≡ rows }
+    ensures steps { result.steps ≡ steps }
+    ensures nodes { (shape : Tree) → IsLinked wide (cpp_counted bytes.items) bytes.items linked.old parts.now rows steps shape → length result.table.nodes ≡ nodes_of_shape shape }
+{
+    symbols_are_read_as_trees();
+    let root = whole_node(parts);
+    let empty = Nodes::new(*bytes.allocator());
+    let nodes = mem::replace(&mut linked.nodes, empty);
+    Symbol::new(bytes, nodes, root, rows, steps)
+}
+
 impl Mangling for Abi {
     ghost use Rattle.std.specs.Prelude.{length, refl};
     ghost use Rattle.cpp_grammar.specs.Mangled.{cpp_mangled};
@@ -43,7 +67,7 @@ impl Mangling for Abi {
     ghost use Rattle.cpp_link.specs.NodeCount.{are_nodes};
     ghost use Rattle.itanium.specs.Counting as counting;
     ghost use Rattle.itanium.specs.Counting.{cpp_counts, node_count};
-    ghost use Rattle.itanium.specs.Failing.{cpp_fails};
+    ghost use Rattle.itanium.specs.Failing.{abi_grows, abi_fails};
 
     type Linked = Linked;
 
@@ -87,18 +111,14 @@ impl Mangling for Abi {
     }
 
     fn finish(bytes: Vec<u8>, linked: &mut Linked, parts: &[Part], rows: u32, steps: u32) -> Symbol
-        requires { (shape : Tree) × IsLinked (cpp_counted bytes.items) bytes.items linked.old parts.now rows steps shape }
+        requires { (shape : Tree) × IsLinked abi (cpp_counted bytes.items) bytes.items linked.old parts.now rows steps shape }
         ensures bytes { result.bytes ≡ bytes.items }
-        ensures whole { (shape : Tree) → IsLinked (cpp_counted bytes.items) bytes.items linked.old parts.now rows steps shape → Ok (whole_of result) ≡ unfold_cpp shape }
+        ensures whole { (shape : Tree) → IsLinked abi (cpp_counted bytes.items) bytes.items linked.old parts.now rows steps shape → Ok (whole_of result) ≡ unfold_cpp shape }
         ensures rows { result.rows ≡ rows }
         ensures steps { result.steps ≡ steps }
-        ensures nodes { (shape : Tree) → IsLinked (cpp_counted bytes.items) bytes.items linked.old parts.now rows steps shape → length result.table.nodes ≡ nodes_of_shape shape }
+        ensures nodes { (shape : Tree) → IsLinked abi (cpp_counted bytes.items) bytes.items linked.old parts.now rows steps shape → length result.table.nodes ≡ nodes_of_shape shape }
     {
-        symbols_are_read_as_trees();
-        let root = whole_node(parts);
-        let empty = Nodes::new(*bytes.allocator());
-        let nodes = mem::replace(&mut linked.nodes, empty);
-        Symbol::new(bytes, nodes, root, rows, steps)
+        finished(bytes, linked, parts, rows, steps)
     }
 
     fn root(symbol: &Symbol, detail: Detail) -> Item<Context>
@@ -122,7 +142,7 @@ impl Mangling for Abi {
 
     ghost counts_nodes = { cpp_counts };
 
-    ghost view_table = { λ s. refl };
+    ghost view_table = { λ s tree is. abi_grows tree is };
 
-    ghost fails = { cpp_fails };
+    ghost fails = { abi_fails };
 }

@@ -8,6 +8,7 @@ ghost use Rattle.sym_shape.specs.Tree.{Tree};
 ghost use Rattle.sym_demangle.specs.Standing.{Begins, IsLinked};
 ghost use Rattle.rust_tree.specs.Layout.{MayCome, unshared_of};
 ghost use Rattle.rust_tree.specs.Shown.{symbol_parts};
+ghost use Rattle.rust_v0.specs.Rules.{v0_table};
 ghost use Rattle.rust_v0.specs.declared.part.Part.TheVariants as part;
 ghost use Rattle.rust_v0.specs.NodeCount.{v0_counted, nodes_of_shape};
 ghost use Rattle.rust_v0.specs.Mangled.{whole_of};
@@ -88,12 +89,12 @@ impl Mangling for V0 {
         rows: u32,
         steps: u32,
     ) -> Symbol
-        requires { (shape : Tree) × IsLinked (v0_counted bytes.items) bytes.items linked.old parts.now rows steps shape }
+        requires { (shape : Tree) × IsLinked v0_table (v0_counted bytes.items) bytes.items linked.old parts.now rows steps shape }
         ensures bytes { result.bytes ≡ bytes.items }
-        ensures whole { (shape : Tree) → IsLinked (v0_counted bytes.items) bytes.items linked.old parts.now rows steps shape → Ok (whole_of result) ≡ unfolded shape }
+        ensures whole { (shape : Tree) → IsLinked v0_table (v0_counted bytes.items) bytes.items linked.old parts.now rows steps shape → Ok (whole_of result) ≡ unfolded shape }
         ensures rows { result.rows ≡ rows }
         ensures steps { result.steps ≡ steps }
-        ensures nodes { (shape : Tree) → IsLinked (v0_counted bytes.items) bytes.items linked.old parts.now rows steps shape → length result.table.nodes ≡ nodes_of_shape shape }
+        ensures nodes { (shape : Tree) → IsLinked v0_table (v0_counted bytes.items) bytes.items linked.old parts.now rows steps shape → length result.table.nodes ≡ nodes_of_shape shape }
     {
         let root = whole_node(parts);
         let nodes = mem::replace(&mut linked.nodes, Nodes::new(linked.alloc));
@@ -119,7 +120,7 @@ impl Mangling for V0 {
 
     ghost counts_nodes = { v0_counts };
 
-    ghost view_table = { λ s. refl };
+    ghost view_table = { λ s tree is. is };
 
     ghost fails = { v0_fails };
 }

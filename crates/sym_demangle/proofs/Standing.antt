@@ -6,6 +6,7 @@ use Rattle.sym_core.specs.declared.refusal.Refusal.{Refusal}
 use Rattle.sym_core.specs.declared.refusal.Refusal.TheVariants as refusals
 use Rattle.sym_shape.specs.declared.rule.Row.{Row}
 use Rattle.sym_shape.specs.declared.rule.Sym.TheVariants.{Kind}
+use Rattle.sym_shape.specs.Grown.{GrowsInto}
 use Rattle.sym_shape.specs.Law.{IsLawful}
 use Rattle.sym_shape.specs.Reader.{AreFew}
 use Rattle.sym_shape.specs.Table.{Table}
@@ -22,11 +23,12 @@ use Rattle.sym_demangle.specs.Mangled.{Mangled, IsRefused}
 use Rattle.sym_demangle.specs.Standing.{Begins, IsLinker, IsLinked, CountsNodes, AreLinkSteps, AreNodesOf}
 
 -- a linker in front of the first row
-pub begun : {N P K V S C : Type 0} (view : View N P K V S C) (g : Table) (s : List ℕ) (rows : List Row) (read : ℕ) (nodes : N) → view.table ≡ g
-    → FitsSymbol s → AreRowsOf g s rows → AreFew read (length rows) (length s) → Begins view nodes → IsLinker view s rows read nodes 0 None 0 [] [] false
-begun view g s rows read nodes table fits are few begins = record {
+pub begun : {N P K V S C : Type 0} (view : View N P K V S C) (g : Table) (s : List ℕ) (rows : List Row) (read : ℕ) (nodes : N) → GrowsInto g view.table
+    → FitsSymbol s → AreRowsOf g s rows → AreFew read (length rows) (length s) → Begins view nodes → IsLinker g view s rows read nodes 0 None 0 [] [] false
+begun view g s rows read nodes grows fits are few begins = record {
   shape = are.0;
-  is_shape = record { is_tree = subst (λ t. IsTree t (Kind 0) are.0) (sym table) are.1; spelled = are.2; rows_are = are.3 };
+  is_tree = are.1;
+  is_shape = record { is_tree = grows are.0 are.1; spelled = are.2; rows_are = are.3 };
   fits = record { symbol = fits; rows = few.rows_few };
   few = few;
   driving = (
@@ -40,11 +42,12 @@ begun view g s rows read nodes table fits are few begins = record {
 }
 
 -- a linker that is done has linked its symbol
-pub linked_of : {N P K V S C : Type 0} (view : View N P K V S C) (s : List ℕ) (rows : List Row) (read_steps : ℕ) (nodes : N) (steps : ℕ) (refused : Option Refusal) (next : ℕ)
-    (frames : List (Frame K)) (parts : List P) (done : Bool) (is : IsLinker view s rows read_steps nodes steps refused next frames parts done) (count all : ℕ)
-    → done ≡ true → count ≡ length rows → all ≡ read_steps + steps → IsLinked view s nodes parts count all is.shape
-linked_of view s rows read_steps nodes steps refused next frames parts done is count all ended counted total = record {
+pub linked_of : {N P K V S C : Type 0} (g : Table) (view : View N P K V S C) (s : List ℕ) (rows : List Row) (read_steps : ℕ) (nodes : N) (steps : ℕ) (refused : Option Refusal) (next : ℕ)
+    (frames : List (Frame K)) (parts : List P) (done : Bool) (is : IsLinker g view s rows read_steps nodes steps refused next frames parts done) (count all : ℕ)
+    → done ≡ true → count ≡ length rows → all ≡ read_steps + steps → IsLinked g view s nodes parts count all is.shape
+linked_of g view s rows read_steps nodes steps refused next frames parts done is count all ended counted total = record {
   rows = rows;
+  is_tree = is.is_tree;
   is_shape = is.is_shape;
   fits = is.fits.symbol;
   done = is.ended ended;
@@ -55,9 +58,9 @@ linked_of view s rows read_steps nodes steps refused next frames parts done is c
 }
 
 -- the steps of a symbol's tree are those of its one tree
-pub shape_steps : (g own : Table) (lawful : IsLawful g) (s bytes : List ℕ) (rows : List Row) (shape : Tree) (steps : ℕ) → own ≡ g → IsShape own s rows shape → s ≡ bytes → steps ≡ link_steps shape → AreLinkSteps g bytes steps
-shape_steps g own lawful s bytes rows shape steps same is there counted = λ tree is_tree spelled.
-    counted ∙ ap link_steps (one_tree g lawful shape tree (subst (λ t. IsTree t (Kind 0) shape) same is.is_tree) is_tree (is.spelled ∙ there ∙ sym spelled))
+pub shape_steps : (g : Table) (lawful : IsLawful g) (s bytes : List ℕ) (shape : Tree) (steps : ℕ) → IsTree g (Kind 0) shape → spell shape ≡ s → s ≡ bytes → steps ≡ link_steps shape → AreLinkSteps g bytes steps
+shape_steps g lawful s bytes shape steps is own there counted = λ tree is_tree spelled.
+    counted ∙ ap link_steps (one_tree g lawful shape tree is is_tree (own ∙ there ∙ sym spelled))
 
 -- a step that finds nothing left to do
 pub done_steps : {N P K V S C : Type 0} (view : View N P K V S C) (s : List ℕ) (rows : List Row) (shape : Tree) (nodes : N) (steps new_steps : ℕ) (refused new_refused : Option Refusal) (parts : List P)

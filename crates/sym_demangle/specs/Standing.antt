@@ -64,10 +64,12 @@ pub record Begins {N P K V S C : Type 0} (view : View N P K V S C) (nodes : N) :
   pub holds : view.Holds nodes view.first
   pub paid : view.IsPaid nodes 0
 
--- A linker of the rows of a symbol's one tree is on its way, or at its end.
-pub record IsLinker {N P K V S C : Type 0} (view : View N P K V S C) (s : List ℕ) (rows : List Row) (read : ℕ) (nodes : N) (steps : ℕ)
+-- A linker of the rows of a symbol's one tree is on its way, or at its end. The tree is one of the mangling's table, and with it one
+-- of that for which the nodes are made, which may have more trees.
+pub record IsLinker {N P K V S C : Type 0} (g : Table) (view : View N P K V S C) (s : List ℕ) (rows : List Row) (read : ℕ) (nodes : N) (steps : ℕ)
     (refused : Option Refusal) (next : ℕ) (frames : List (Frame K)) (parts : List P) (done : Bool) : Type 0 where
   pub shape : Tree
+  pub is_tree : IsTree g (Kind 0) shape
   pub is_shape : IsShape view.table s rows shape
   pub fits : Fits s rows
   pub few : AreFew read (length rows) (length s)
@@ -76,8 +78,9 @@ pub record IsLinker {N P K V S C : Type 0} (view : View N P K V S C) (s : List �
   pub all_steps : done ≡ true → steps ≡ link_steps shape
 
 -- A symbol is linked: its nodes and its one part are what its shape means, and rows and steps are few.
-pub record IsLinked {N P K V S C : Type 0} (view : View N P K V S C) (s : List ℕ) (nodes : N) (parts : List P) (count steps : ℕ) (shape : Tree) : Type 0 where
+pub record IsLinked {N P K V S C : Type 0} (g : Table) (view : View N P K V S C) (s : List ℕ) (nodes : N) (parts : List P) (count steps : ℕ) (shape : Tree) : Type 0 where
   pub rows : List Row
+  pub is_tree : IsTree g (Kind 0) shape
   pub is_shape : IsShape view.table s rows shape
   pub fits : FitsSymbol s
   pub done : IsDone view s rows (meaning_of view shape) nodes parts

@@ -38,7 +38,7 @@ impl<M: Mangling> Model for Linker<M> {
 
     ghost view = { λ l. record { bytes = l.bytes.items; rows = length l.shape.rows; read_steps = l.shape.steps; steps = l.driver.steps; nodes = M.count_of l.linked; done = l.done; refused = l.driver.refused; lists = all_lists (M.Linked.view l.bytes.items) l.linked l.driver.frames l.driver.parts } };
 
-    ghost invariant = { λ l. IsLinker (M.Linked.view l.bytes.items) l.bytes.items l.shape.rows l.shape.steps l.linked l.driver.steps l.driver.refused l.driver.next l.driver.frames.items l.driver.parts.items l.done };
+    ghost invariant = { λ l. IsLinker M.mangled.table (M.Linked.view l.bytes.items) l.bytes.items l.shape.rows l.shape.steps l.linked l.driver.steps l.driver.refused l.driver.next l.driver.frames.items l.driver.parts.items l.done };
 }
 
 /// The symbol over whose rows a driver has gone. It takes no memory.
@@ -49,7 +49,7 @@ pub(crate) fn finished<M: Mangling>(
     linked: &mut M::Linked,
     driver: &Driver<M::Linked>,
 ) -> M::Symbol
-    requires { IsLinker (M.Linked.view bytes.items) bytes.items shape.now.rows shape.now.steps linked.old driver.now.steps driver.now.refused driver.now.next driver.now.frames.items driver.now.parts.items true }
+    requires { IsLinker M.mangled.table (M.Linked.view bytes.items) bytes.items shape.now.rows shape.now.steps linked.old driver.now.steps driver.now.refused driver.now.next driver.now.frames.items driver.now.parts.items true }
     ensures bytes { M.bytes_of result ≡ bytes.items }
     ensures stands { StandsFor M.mangled bytes.items (Ok (M.whole_of result)) }
     ensures rows { M.rows_of result ≡ length shape.now.rows }

@@ -5,6 +5,7 @@ ghost use Rattle.sym_core.specs.Number.{FitsSymbol};
 ghost use Rattle.sym_core.specs.declared.refusal.Refusal.{Refusal};
 ghost use Rattle.sym_core.specs.declared.refusal.Refusal.TheVariants as refusals;
 ghost use Rattle.sym_print.specs.declared.layout.Part.TheVariants as part;
+ghost use Rattle.sym_shape.specs.Grown.{GrowsInto};
 ghost use Rattle.sym_shape.specs.Tree.{Tree, IsTree, spell};
 ghost use Rattle.sym_shape.specs.declared.rule.Sym.TheVariants.{Kind};
 ghost use Rattle.sym_link.specs.Driving.{Fails};
@@ -70,12 +71,12 @@ pub trait Mangling: Grammar + Copy {
         rows: u32,
         steps: u32,
     ) -> Self::Symbol
-        requires { (shape : Tree) × IsLinked (Self.Linked.view bytes.items) bytes.items linked.old parts.now rows steps shape }
+        requires { (shape : Tree) × IsLinked mangled.table (Self.Linked.view bytes.items) bytes.items linked.old parts.now rows steps shape }
         ensures bytes { bytes_of result ≡ bytes.items }
-        ensures whole { (shape : Tree) → IsLinked (Self.Linked.view bytes.items) bytes.items linked.old parts.now rows steps shape → Ok (whole_of result) ≡ mangled.unfolded shape }
+        ensures whole { (shape : Tree) → IsLinked mangled.table (Self.Linked.view bytes.items) bytes.items linked.old parts.now rows steps shape → Ok (whole_of result) ≡ mangled.unfolded shape }
         ensures rows { rows_of result ≡ rows }
         ensures steps { steps_of result ≡ steps }
-        ensures nodes { (shape : Tree) → IsLinked (Self.Linked.view bytes.items) bytes.items linked.old parts.now rows steps shape → are_nodes shape (nodes_of result) };
+        ensures nodes { (shape : Tree) → IsLinked mangled.table (Self.Linked.view bytes.items) bytes.items linked.old parts.now rows steps shape → are_nodes shape (nodes_of result) };
 
     /// The item of a whole symbol in a detail.
     fn root(symbol: &Self::Symbol, detail: Detail) -> Item<<Self::Symbol as Layout>::Ctx>
@@ -93,7 +94,8 @@ pub trait Mangling: Grammar + Copy {
 
     ghost counts_nodes: { (s : List ℕ) → CountsNodes (Self.Linked.view s) count_of first_nodes };
 
-    ghost view_table: { (s : List ℕ) → (Self.Linked.view s).table ≡ mangled.table };
+    // The nodes are made of each tree of the mangling's table. The table that they speak of may have more.
+    ghost view_table: { (s : List ℕ) → GrowsInto mangled.table (Self.Linked.view s).table };
 
     // a symbol's shape whose meaning is a refusal stands for that refusal
     ghost fails: { (shape : Tree) (refusal : Refusal) → IsTree mangled.table (Kind 0) shape → Fails refusal (meaning_of (Self.Linked.view (spell shape)) shape) → Fails refusal (mangled.unfolded shape) };

@@ -21,7 +21,8 @@ use Rattle.cpp_grammar.specs.Unfolding as unfolding_
 use Rattle.cpp_grammar.specs.Unfolding.{close, byte_of, cpp}
 use Rattle.cpp_grammar.proofs.ClosedValues.{Good, held}
 use Rattle.cpp_grammar.proofs.ClosedStates.{Bare, AllOld, AllNew, Grows, old_later, old_grows, ok_same}
-use Rattle.cpp_grammar.proofs.ClosedTrees.{is_encoding as holds_encoding, old_inner, old_types, known, tree_good}
+use Rattle.cpp_grammar.proofs.ClosedTrees.{is_encoding as holds_encoding, old_inner, old_types}
+use Rattle.cpp_press_laws.proofs.ByKind.AbiTrees.{known, tree_good}
 use Rattle.cpp_press_laws.specs.Pressing.{is_encoding}
 use Rattle.cpp_press_laws.proofs.Components.Complete.{AllBefore}
 use Rattle.cpp_press_laws.specs.Fits.{item_type, IsSpellableThunk}

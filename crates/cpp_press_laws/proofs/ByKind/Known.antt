@@ -24,7 +24,8 @@ use Rattle.cpp_grammar.specs.Unfolding.{cpp, opening, close, byte_of}
 use Rattle.cpp_grammar.proofs.ClosedValues.{AllGood, GoodPrefix, held}
 use Rattle.cpp_grammar.proofs.ClosedStates.{Bare, AllOld, old_later, old_grows, ok_same, behind_bind}
 use Rattle.cpp_grammar.proofs.ClosedParts.{StaysInside, Goes, between_goes}
-use Rattle.cpp_grammar.proofs.ClosedTrees.{is_encoding as holds_encoding, has_encoding, all_append, good_fits, old_fits, grows_fits, one_good, known, or_true, tree_good}
+use Rattle.cpp_grammar.proofs.ClosedTrees.{is_encoding as holds_encoding, has_encoding, all_append, good_fits, old_fits, grows_fits, one_good, or_true}
+use Rattle.cpp_press_laws.proofs.ByKind.AbiTrees.{known, tree_good}
 use Rattle.cpp_press_laws.specs.Pressing.{is_encoding}
 use Rattle.cpp_press_laws.specs.Fits.{in_type, in_name_with, any_type, names_type, begins_name, names_function, IsSpellableOffset, IsSpellableThunk, IsSpellableDiscriminator, IsSpellableSuffix}
 use Rattle.cpp_press_laws.specs.Spellable.{IsSpellableName, IsSpellableNumber}

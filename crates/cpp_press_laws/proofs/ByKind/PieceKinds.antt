@@ -20,7 +20,7 @@ use Rattle.cpp_grammar.specs.Meaning.{meaning, parameters, operator_or_literal}
 use Rattle.cpp_grammar.specs.Unfolding as unfolding_
 use Rattle.cpp_grammar.specs.Unfolding.{last_token, number_tested, opening, close, byte_of, cpp}
 use Rattle.cpp_grammar.proofs.ClosedStates.{AllNew, grows_then, ok_same}
-use Rattle.cpp_grammar.proofs.ClosedTrees.{known, tree_good}
+use Rattle.cpp_press_laws.proofs.ByKind.AbiTrees.{known, tree_good}
 use Rattle.cpp_press_laws.specs.Fits.{item_type, begins_name, names_type, names_function, IsLocalNumber}
 use Rattle.cpp_press_laws.specs.Spellable.{IsOperator}
 use Rattle.cpp_press_laws.proofs.Fits.Lists.{list-fits, parameters-fit}

@@ -1,6 +1,4 @@
-use Rattle.std.proofs.Common.{refl, arith, ap, subst, length}
-use Rattle.sym_shape.specs.declared.rule.Sym.TheVariants.{Kind}
-use Rattle.sym_shape.specs.Tree.{IsTree}
+use Rattle.std.proofs.Common.{refl, arith, ap, length}
 use Rattle.sym_demangle.proofs.Standing.{linked_of, shape_steps, shape_nodes}
 use Rattle.sym_demangle.proofs.linker.finished.Goals as goal
 
@@ -8,9 +6,9 @@ pub returns-clause-stands : goal.returns-clause-stands
 returns-clause-stands g c =
     let is = c.requires in
     let s = c.args.bytes.items in
-    let linked = linked_of (g.M.Linked.Linking.view s) s _ _ _ _ _ _ _ _ _ is _ _ refl (ap (λ rs. length rs) c.rows.ensures) (omega (arith, c.steps.ensures)) in (
+    let linked = linked_of g.M.Mangling.mangled.table (g.M.Linked.Linking.view s) s _ _ _ _ _ _ _ _ _ is _ _ refl (ap (λ rs. length rs) c.rows.ensures) (omega (arith, c.steps.ensures)) in (
       is.shape,
-      subst (λ t. IsTree t (Kind 0) is.shape) (g.met.M.Mangling.view_table s) is.is_shape.is_tree,
+      is.is_tree,
       is.is_shape.spelled,
       c.finish.ensures.whole is.shape (rw c.deref.ensures.value linked),
     )
@@ -19,13 +17,13 @@ pub returns-clause-all_steps : goal.returns-clause-all_steps
 returns-clause-all_steps g c =
     let is = c.requires in
     let s = c.args.bytes.items in
-    shape_steps g.M.Mangling.mangled.table _ g.M.Mangling.mangled.lawful s s _ is.shape _ (g.met.M.Mangling.view_table s) is.is_shape refl (is.all_steps refl)
+    shape_steps g.M.Mangling.mangled.table g.M.Mangling.mangled.lawful s s is.shape _ is.is_tree is.is_shape.spelled refl (is.all_steps refl)
 
 pub returns-clause-nodes : goal.returns-clause-nodes
 returns-clause-nodes g c =
     let is = c.requires in
     let s = c.args.bytes.items in
-    let linked = linked_of (g.M.Linked.Linking.view s) s _ _ _ _ _ _ _ _ _ is _ _ refl (ap (λ rs. length rs) c.rows.ensures) (omega (arith, c.steps.ensures)) in
+    let linked = linked_of g.M.Mangling.mangled.table (g.M.Linked.Linking.view s) s _ _ _ _ _ _ _ _ _ is _ _ refl (ap (λ rs. length rs) c.rows.ensures) (omega (arith, c.steps.ensures)) in
     shape_nodes g.M.Mangling.mangled.table g.M.Mangling.mangled.lawful g.M.Mangling.are_nodes s is.shape _
-    (subst (λ t. IsTree t (Kind 0) is.shape) (g.met.M.Mangling.view_table s) is.is_shape.is_tree) is.is_shape.spelled
+    is.is_tree is.is_shape.spelled
     (c.finish.ensures.nodes is.shape (rw c.deref.ensures.value linked))

@@ -1,6 +1,5 @@
 use Rattle.std.proofs.Common.{refl, ℕ, List, Err, sym, ◌∙◌, subst, ap, arith}
-use Rattle.sym_shape.specs.declared.rule.Sym.TheVariants.{Kind}
-use Rattle.sym_shape.specs.Tree.{IsTree, spell}
+use Rattle.sym_shape.specs.Tree.{spell}
 use Rattle.sym_link.specs.Driving.{Fails}
 use Rattle.sym_link.specs.Following.{meaning_of}
 use Rattle.sym_demangle.specs.Mangled.{IsRefused}
@@ -17,13 +16,13 @@ returns-then-self-clause-all_steps g c =
     let i = c.self.inside in
     let inv = c.self.invariant in
     subst (λ (v : Progress). AreLinkSteps g.M.Mangling.mangled.table v.bytes v.steps) c.self.view_is
-    (shape_steps g.M.Mangling.mangled.table _ g.M.Mangling.mangled.lawful i.bytes.items i.bytes.items i.shape.rows inv.shape i.driver.steps (g.met.M.Mangling.view_table i.bytes.items) inv.is_shape refl (inv.all_steps c.if-self.true))
+    (shape_steps g.M.Mangling.mangled.table g.M.Mangling.mangled.lawful i.bytes.items i.bytes.items inv.shape i.driver.steps inv.is_tree inv.is_shape.spelled refl (inv.all_steps c.if-self.true))
 
 pub returns-in-Ok-clause-all_steps : goal.returns-in-Ok-clause-all_steps
 returns-in-Ok-clause-all_steps g c =
     let i = c.self.inside in
     let inv = c.self.invariant in
-    shape_steps g.M.Mangling.mangled.table _ g.M.Mangling.mangled.lawful i.bytes.items c.args.self.now.bytes i.shape.rows inv.shape c.run.new.self.steps (g.met.M.Mangling.view_table i.bytes.items) inv.is_shape
+    shape_steps g.M.Mangling.mangled.table g.M.Mangling.mangled.lawful i.bytes.items c.args.self.now.bytes inv.shape c.run.new.self.steps inv.is_tree inv.is_shape.spelled
     (ap (λ (v : Progress). v.bytes) c.self.view_is)
     (c.in-Ok.ensures.counted inv.shape (rw (c.deref.ensures.value, c.rows.ensures) inv.is_shape) (rw (c.deref.ensures.value, c.rows.ensures) inv.driving))
 
@@ -35,9 +34,8 @@ returns-in-Err-clause-refused g c =
     let driven = c.in-Err.ensures.driving inv.shape (rw (c.deref.ensures.value, c.rows.ensures) inv.is_shape) (rw (c.deref.ensures.value, c.rows.ensures) inv.driving) in
     let fails : Fails e (meaning_of (g.M.Linked.Linking.view (spell inv.shape)) inv.shape) = subst (λ b. Fails e (meaning_of (g.M.Linked.Linking.view b) inv.shape)) (◌∙◌ {c = spell inv.shape} c.deref.ensures.value (sym inv.is_shape.spelled))
     (driving_fails (g.M.Linked.Linking.view c.deref.result.now) c.deref.result.now c.rows.result.now inv.shape _ _ _ _ _ _ e driven c.in-Err.ensures.kept) in
-    let is_tree : IsTree g.M.Mangling.mangled.table (Kind 0) inv.shape = subst (λ t. IsTree t (Kind 0) inv.shape) (g.met.M.Mangling.view_table i.bytes.items) inv.is_shape.is_tree in
     subst (λ (v : Progress). IsRefused g.M.Mangling.mangled v.bytes e) c.self.view_is
-    (refused_of g.M.Mangling.mangled inv.shape i.bytes.items e is_tree inv.is_shape.spelled (g.met.M.Mangling.fails inv.shape e is_tree fails))
+    (refused_of g.M.Mangling.mangled inv.shape i.bytes.items e inv.is_tree inv.is_shape.spelled (g.met.M.Mangling.fails inv.shape e inv.is_tree fails))
 
 pub returns-in-Ok-clause-nodes : goal.returns-in-Ok-clause-nodes
 returns-in-Ok-clause-nodes g c =

@@ -1,0 +1,13 @@
+use Rattle.sym_shape.specs.declared.rule.Sym.TheVariants.{Kind}
+use Rattle.cpp_grammar.specs.Table.{abi}
+use Rattle.cpp_grammar.proofs.Growing.{wide_tree}
+use Rattle.cpp_grammar.proofs.laws.abi_trees_stay.Goals as goal
+
+pub returns-clause-trees : goal.returns-clause-trees
+returns-clause-trees c = wide_tree (Kind 0)
+
+pub returns-clause-rows : goal.returns-clause-rows
+returns-clause-rows c = λ s before now h k. c.grown_keeps.ensures.same abi s before now (wide_tree (Kind 0)) h k
+
+pub returns-clause-places : goal.returns-clause-places
+returns-clause-places c = λ s before now h k. c.grown_keeps.ensures.places abi s before now (wide_tree (Kind 0)) h k

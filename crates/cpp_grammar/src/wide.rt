@@ -1,0 +1,54 @@
+// The wide grammar of C++ symbols.
+ghost use Rattle.std.specs.Prelude.{◌≡◌, ◌<◌, refl};
+ghost use Rattle.cpp_grammar.specs.Table.{wide, abi_listed};
+ghost use Rattle.cpp_grammar.specs.TableLaws.{wide_lawful};
+
+use crate::kind::{kind_of, may_be_empty};
+use crate::{table, wide_table};
+use sym_core::NameClass;
+use sym_shape::{Grammar, Rule, Sym};
+
+/// The grammar of [`Abi`](crate::Abi), with what compilers write beside the symbols of the ABI's chapter: constructors and
+/// destructors with the digits 4 and 5.
+pub struct Wide;
+
+/// Whether a kind may be empty.
+fn is_optional(kind: u16) -> bool
+    requires { kind < wide.kinds }
+    ensures { result ≡ wide.may_be_empty kind }
+{
+    match kind_of(kind) {
+        Some(kind) => may_be_empty(kind),
+        None => false,
+    }
+}
+
+impl Grammar for Wide {
+    ghost table = { wide };
+
+    ghost listed = { abi_listed };
+
+    ghost start = { refl };
+
+    fn rule(&self, kind: u16, byte: u8) -> Option<Rule> {
+        wide_table::rule(kind, byte)
+    }
+
+    fn place(&self, kind: u16, byte: u8) -> u32 {
+        wide_table::place(kind, byte)
+    }
+
+    fn symbol(&self, place: u32) -> Option<Sym> {
+        table::symbol(place)
+    }
+
+    fn may_be_empty(&self, kind: u16) -> bool {
+        is_optional(kind)
+    }
+
+    fn name_class(&self) -> NameClass {
+        NameClass::Cpp
+    }
+
+    ghost lawful = { wide_lawful };
+}

@@ -1,0 +1,111 @@
+// C++'s mangling over the wide grammar, as the demangler takes it.
+
+ghost use Rattle.std.specs.Prelude.{◌≡◌, length, OnOk, IfErr, Ok};
+ghost use Rattle.sym_core.specs.Number.{FitsSymbol};
+ghost use Rattle.sym_core.specs.declared.refusal.Refusal.TheVariants as refusals;
+ghost use Rattle.sym_print.specs.declared.layout.Part.TheVariants as parts;
+ghost use Rattle.sym_shape.specs.Tree.{Tree};
+ghost use Rattle.sym_demangle.specs.Standing.{Begins, IsLinked};
+ghost use Rattle.cpp_grammar.specs.Table.{wide};
+ghost use Rattle.cpp_grammar.specs.Answer.{shown, root_item};
+ghost use Rattle.cpp_grammar.specs.Unfolding.{unfold_cpp};
+ghost use Rattle.cpp_layout.specs.Layout.{MayBeAsked, unshared_of, whole_of};
+ghost use Rattle.cpp_link.specs.NodeCount.{cpp_counted, nodes_of_shape};
+
+use crate::grammar::Wide;
+use crate::mangling::finished;
+use cpp_layout::{Context, Detail, Symbol};
+use cpp_link::linked::Linked;
+use cpp_link::part::Part;
+use std::alloc::Global;
+use sym_core::Refusal;
+use sym_demangle::Mangling;
+use sym_print::Item;
+
+impl Mangling for Wide {
+    ghost use Rattle.std.specs.Prelude.{length, refl};
+    ghost use Rattle.cpp_grammar.specs.Mangled.{wide_mangled};
+    ghost use Rattle.cpp_grammar.specs.Term.{Term};
+    ghost use Rattle.cpp_layout.specs.Layout.{whole_of};
+    ghost use Rattle.cpp_link.specs.NodeCount.{are_nodes};
+    ghost use Rattle.itanium.specs.Counting as counting;
+    ghost use Rattle.itanium.specs.Counting.{cpp_counts, node_count};
+    ghost use Rattle.itanium.specs.Failing.{cpp_fails};
+
+    type Linked = Linked;
+
+    type Symbol = Symbol;
+
+    ghost Whole = { Term };
+
+    ghost mangled = { wide_mangled };
+
+    ghost whole_of = { whole_of };
+
+    ghost bytes_of = { λ y. y.bytes };
+
+    ghost rows_of = { λ y. y.rows };
+
+    ghost steps_of = { λ y. y.steps };
+
+    ghost nodes_of = { λ y. length y.table.nodes };
+
+    ghost are_nodes = { are_nodes };
+
+    ghost count_of = { node_count };
+
+    ghost first_nodes = { counting.first_nodes };
+
+    fn grammar() -> Wide {
+        Wide
+    }
+
+    fn idle(alloc: Global) -> Linked {
+        Linked::new(alloc)
+    }
+
+    fn restart(linked: &mut Linked, _symbol: &[u8]) -> Result<(), Refusal>
+        requires { FitsSymbol _symbol.now }
+        ensures begins { OnOk result (Begins (cpp_counted _symbol.now) linked.new) }
+        ensures memory { IfErr result (λ e. e ≡ refusals.Memory) }
+    {
+        linked.restart()?;
+        Ok(())
+    }
+
+    fn finish(bytes: Vec<u8>, linked: &mut Linked, parts: &[Part], rows: u32, steps: u32) -> Symbol
+        requires { (shape : Tree) × IsLinked wide (cpp_counted bytes.items) bytes.items linked.old parts.now rows steps shape }
+        ensures bytes { result.bytes ≡ bytes.items }
+        ensures whole { (shape : Tree) → IsLinked wide (cpp_counted bytes.items) bytes.items linked.old parts.now rows steps shape → Ok (whole_of result) ≡ unfold_cpp shape }
+        ensures rows { result.rows ≡ rows }
+        ensures steps { result.steps ≡ steps }
+        ensures nodes { (shape : Tree) → IsLinked wide (cpp_counted bytes.items) bytes.items linked.old parts.now rows steps shape → length result.table.nodes ≡ nodes_of_shape shape }
+    {
+        finished(bytes, linked, parts, rows, steps)
+    }
+
+    fn root(symbol: &Symbol, detail: Detail) -> Item<Context>
+        ensures may_come { MayBeAsked symbol.now (parts.Sub result) }
+        ensures shows { unshared_of symbol.now result ≡ shown detail (root_item (whole_of symbol.now)) }
+    {
+        symbol.root_as(detail)
+    }
+
+    fn recycle(linked: &mut Linked, symbol: Symbol) -> Vec<u8> {
+        let (bytes, nodes) = symbol.into_lists();
+        linked.nodes = nodes;
+        bytes
+    }
+
+    fn refuses_bad_tokens() {
+        cpp_grammar::refuses_bad_tokens();
+    }
+
+    ghost table_is = { refl };
+
+    ghost counts_nodes = { cpp_counts };
+
+    ghost view_table = { λ s tree is. is };
+
+    ghost fails = { cpp_fails };
+}
