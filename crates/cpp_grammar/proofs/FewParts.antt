@@ -4,7 +4,7 @@ use Prim.Native.String.{String}
 use Rattle.std.proofs.Common.{arith}
 use Rattle.std.proofs.lemmas.List.{length-append}
 use Rattle.sym_print.specs.declared.detail.Detail.{Detail}
-use Rattle.sym_print.specs.declared.detail.Detail.TheVariants.{Full, Brief}
+use Rattle.sym_print.specs.Details.{has_arguments}
 use Rattle.sym_print.specs.Unfold.{PartOf, text, sub}
 use Rattle.cpp_grammar.specs.Term.{Qualifiers, RefQualifier, Signed, Term, symbol, function, object, guard, alone, in_std, within, instance, local, abbreviation, parameter, source, constructor, destructor, lambda, pointer, lvalue, rvalue, array, member_pointer, function_type, qualified, expansion, integer, pack, nil, list, absent}
 use Rattle.cpp_grammar.specs.Items.{Form, root, full, bare, left, right, low, base, piece, first, more, expand, Context, Item, closed, head, is_reference, is_funarr, packs_of, is_empty}
@@ -62,10 +62,10 @@ within_few c prefix (constructor digit) = omega arith
 within_few c prefix (destructor digit) = omega arith
 within_few c prefix _ = omega arith
 
-instance_few : (d : Detail) (c : Context) (t arguments : Term) → HasFew 4 (instance_parts d c t arguments)
+instance_few : (all : Bool) (c : Context) (t arguments : Term) → HasFew 4 (instance_parts all c t arguments)
 unfolding instance_parts
-instance_few Brief c t arguments = omega arith
-instance_few Full c t arguments =
+instance_few false c t arguments = omega arith
+instance_few true c t arguments =
     omega (arith, append_few 3 1 (as_item left c t ∷ text (opening_text (last_piece t)) ∷ list_part first c arguments) (says ">" ∷ []) (omega (arith, list_few first c arguments)) (omega arith))
 
 marked_few : (c : Context) (t : Term) (mark : String) → HasFew 2 (marked_parts c t mark)
@@ -107,7 +107,7 @@ unfolding left_parts
 left_few d c (alone p) = omega (arith, piece_few c p)
 left_few d c (in_std p) = omega arith
 left_few d c (within prefix p) = omega (arith, within_few c prefix p)
-left_few d c (instance t arguments) = omega (arith, instance_few d c t arguments)
+left_few d c (instance t arguments) = omega (arith, instance_few (has_arguments d) c t arguments)
 left_few d c (pointer t) = omega (arith, marked_few c t "*")
 left_few d c (lvalue t) = omega (arith, reference_few c low t "&")
 left_few d c (rvalue t) = omega (arith, reference_few c left t "&&")

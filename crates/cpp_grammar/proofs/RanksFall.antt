@@ -4,7 +4,7 @@ use Prim.Native.String.{String}
 use Rattle.std.proofs.Common.{arith}
 use Rattle.std.proofs.lemmas.Bool.{false≢true, ltb-true}
 use Rattle.sym_print.specs.declared.detail.Detail.{Detail}
-use Rattle.sym_print.specs.declared.detail.Detail.TheVariants.{Full, Brief}
+use Rattle.sym_print.specs.Details.{has_arguments}
 use Rattle.sym_print.specs.Unfold.{PartOf, text, sub, RanksBelow}
 use Rattle.cpp_grammar.specs.Term.{Qualifiers, RefQualifier, Signed, Term, symbol, function, object, special, thunk, guard, alone, in_std, within, instance, local, abbreviation, parameter, source, constructor, destructor, lambda, pointer, lvalue, rvalue, array, member_pointer, function_type, qualified, vector, complex, expansion, integer, encoding_literal, address_of, pack, nil, list, absent}
 use Rattle.cpp_grammar.specs.Scope.{element, arguments_of, pack_length}
@@ -122,10 +122,10 @@ within_falls r c prefix (destructor digit) h g = (h, (h, tt))
 within_falls r c prefix (symbol e suffix) h g = falls_append r (prefix_item c prefix ∷ []) _ (prefix_falls r c prefix h) (g, tt)
 within_falls r c prefix _ h g = falls_append r (prefix_item c prefix ∷ []) _ (prefix_falls r c prefix h) (g, tt)
 
-instance_falls : (r : ℕ) (d : Detail) (c : Context) (t arguments : Term) → Below r c t → Below r c arguments → RanksBelow rank r (instance_parts d c t arguments)
+instance_falls : (r : ℕ) (all : Bool) (c : Context) (t arguments : Term) → Below r c t → Below r c arguments → RanksBelow rank r (instance_parts all c t arguments)
 unfolding instance_parts rank rank_in
-instance_falls r Brief c t arguments h g = (h, tt)
-instance_falls r Full c t arguments h g = (h, falls_append r (list_part first c arguments) _ (falls_first r c arguments g) tt)
+instance_falls r false c t arguments h g = (h, tt)
+instance_falls r true c t arguments h g = (h, falls_append r (list_part first c arguments) _ (falls_first r c arguments g) tt)
 
 marked_falls : (r : ℕ) (c : Context) (t : Term) (mark : String) → Below r c t → RanksBelow rank r (marked_parts c t mark)
 unfolding marked_parts rank rank_in
@@ -174,7 +174,7 @@ unfolding left_parts rank rank_in weight_in weight scope_weight
 left_falls d c (alone p) = piece_falls _ c p (omega arith)
 left_falls d c (in_std p) = (omega arith, tt)
 left_falls d c (within prefix p) = within_falls _ c prefix p (omega arith) (omega arith)
-left_falls d c (instance t arguments) = instance_falls _ d c t arguments (omega arith) (omega arith)
+left_falls d c (instance t arguments) = instance_falls _ (has_arguments d) c t arguments (omega arith) (omega arith)
 left_falls d c (local encoding entity discriminator) = (omega arith, tt)
 left_falls d c (parameter k) = (argument_weight c.scope c.index k, tt)
 left_falls d c (pointer t) = marked_falls _ c t "*" (omega arith)

@@ -2,7 +2,7 @@
 use Rattle.std.proofs.Common.{◌≡◌, refl, ap, sym, ◌∙◌, ℕ, zero, suc, ◌+◌, List, [], ◌∷◌, ◌++◌, Bool, true, false, cond, Option, Some, None, codes}
 use Prim.Native.String.{String}
 use Rattle.sym_print.specs.declared.detail.Detail.{Detail}
-use Rattle.sym_print.specs.declared.detail.Detail.TheVariants.{Full, Brief}
+use Rattle.sym_print.specs.Details.{has_arguments}
 use Rattle.sym_print.specs.Unfold.{PartOf, text, sub}
 use Rattle.cpp_grammar.specs.Term.{Qualifiers, RefQualifier, Signed, Term, symbol, function, object, guard, alone, in_std, within, instance, local, abbreviation, parameter, source, operator, constructor, destructor, lambda, builtin, pointer, lvalue, rvalue, array, member_pointer, function_type, qualified, expansion, integer, pack, nil, list, absent}
 use Rattle.cpp_grammar.specs.Scope.{arguments_of}
@@ -77,10 +77,10 @@ last_noted s (within prefix p) = opening_noted s p
 last_noted s (local encoding entity discriminator) = last_noted s entity
 last_noted s _ = opening_noted s absent
 
-instance_noted : (d : Detail) (c : Context) (t arguments : Term) → part_.instance_parts d (noted_context c) (annotate (at c) t) (annotate (at c) arguments) ≡ noted_parts (leaf_.instance_parts d c t arguments)
+instance_noted : (all : Bool) (c : Context) (t arguments : Term) → part_.instance_parts all (noted_context c) (annotate (at c) t) (annotate (at c) arguments) ≡ noted_parts (leaf_.instance_parts all c t arguments)
 unfolding part_.instance_parts leaf_.instance_parts noted_parts noted_part noted_item
-instance_noted Brief c t arguments = refl
-instance_noted Full c t arguments = both (λ b ps. part_.as_item left (noted_context c) (annotate (at c) t) ∷ text b ∷ ps) (last_noted (at c) t)
+instance_noted false c t arguments = refl
+instance_noted true c t arguments = both (λ b ps. part_.as_item left (noted_context c) (annotate (at c) t) ∷ text b ∷ ps) (last_noted (at c) t)
     (joins (leaf_.list_part first c arguments) _ (part_.list_part first (noted_context c) (annotate (at c) arguments)) _ (list_noted first c arguments) refl)
 
 marked_noted : (c : Context) (t : Term) (mark : String) → part_.marked_parts (noted_context c) (annotate (at c) t) mark ≡ noted_parts (leaf_.marked_parts c t mark)
@@ -156,7 +156,7 @@ left_noted : (d : Detail) (c : Context) (t : Term) → part_.left_parts d (noted
 unfolding part_.left_parts leaf_.left_parts annotate noted_parts noted_part noted_item noted_context noted_scope
 left_noted d c (alone p) = piece_noted c p
 left_noted d c (within prefix p) = within_noted c prefix p
-left_noted d c (instance template arguments) = instance_noted d c template arguments
+left_noted d c (instance template arguments) = instance_noted (has_arguments d) c template arguments
 left_noted d c (parameter k) = named_noted c left k
 left_noted d c (pointer t) = marked_noted c t "*"
 left_noted d c (lvalue t) = reference_noted c low t "&"

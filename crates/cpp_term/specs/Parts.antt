@@ -2,7 +2,7 @@
 use Rattle.std.specs.Prelude.{ℕ, zero, suc, ◌+◌, List, [], ◌∷◌, ◌++◌, drop, Bool, true, false, cond, ◌||◌, nat_eq, Option, Some, None, codes, decimal}
 use Prim.Native.String.{String}
 use Rattle.sym_print.specs.declared.detail.Detail.{Detail}
-use Rattle.sym_print.specs.declared.detail.Detail.TheVariants.{Full, Brief}
+use Rattle.sym_print.specs.Details.{has_arguments}
 use Rattle.sym_print.specs.Unfold.{PartOf, text, sub}
 use Rattle.cpp_grammar.specs.Texts.{same_bytes, look_up, builtin_texts, operator_texts, abbreviation_texts, special_texts, literal_endings}
 use Rattle.cpp_term.specs.Term.{Term, symbol, function, object, special, thunk, guard, alone, in_std, within, instance, local, abbreviation, parameter, source, operator, literal_operator, constructor, destructor, lambda, unnamed, string_literal, builtin, vendor, pointer, lvalue, rvalue, array, member_pointer, function_type, qualified, vector, complex, expansion, integer, boolean, null_pointer, encoding_literal, address_of, pack, nil, list, absent}
@@ -65,9 +65,9 @@ unfoldable pub opening_text : Term → List ℕ
 opening_text (operator a b) = cond (same_bytes (a ∷ b ∷ []) (codes "ls") || same_bytes (a ∷ b ∷ []) (codes "lt")) (codes " <") (codes "<")
 opening_text _ = codes "<"
 
-unfoldable pub instance_parts : Detail → Context → Term → Term → List (PartOf Item)
-instance_parts Brief context template arguments = as_item left context template ∷ []
-instance_parts Full context template arguments =
+unfoldable pub instance_parts : (arguments_shown : Bool) → Context → Term → Term → List (PartOf Item)
+instance_parts false context template arguments = as_item left context template ∷ []
+instance_parts true context template arguments =
     (as_item left context template ∷ text (opening_text (last_piece template)) ∷ list_part first context arguments) ++ (says ">" ∷ [])
 
 -- the left parts of the inner type, and the mark, behind ( where that type is a function or an array
@@ -132,7 +132,7 @@ unfoldable pub left_parts : Detail → Context → Term → List (PartOf Item)
 left_parts d context (alone p) = piece_parts context p
 left_parts d context (in_std p) = says "std::" ∷ as_item piece context p ∷ []
 left_parts d context (within prefix p) = within_parts context prefix p
-left_parts d context (instance template arguments) = instance_parts d context template arguments
+left_parts d context (instance template arguments) = instance_parts (has_arguments d) context template arguments
 left_parts d context (local encoding entity discriminator) = as_item left context entity ∷ []
 left_parts d context (abbreviation letter) = text (look_up (letter ∷ []) abbreviation_texts) ∷ []
 left_parts d context (parameter k a) = as_item left closed (argument context a) ∷ []
