@@ -5,7 +5,6 @@ use Rattle.cpp_grammar.specs.Items as heads
 use Rattle.cpp_term.specs.Items as items
 use Rattle.cpp_grammar.specs.Parts.{encoding_text, qualifier_text, is_below}
 use Rattle.cpp_term.specs.Parts.{as_item, list_part, text_part, function_bare, function_full, full_parts, bare_parts, root_parts, expand_parts, expand_rest, comma_before, at_index, types_of, function_right, qualified_right, right_parts, expansion_parts, first_parts, more_parts}
-use Rattle.cpp_term.specs.Answer.{noted_root, noted_name}
 use Rattle.cpp_term.specs.Term as term
 use Rattle.cpp_grammar.specs.Term as values
 use Rattle.cpp_term.specs.Term.{Term}
@@ -163,30 +162,6 @@ unfolding tree_of root_parts
 root-none s us ts n t is other = by n other ∙ ap root_parts (sym is)
   where
     by : (n : Node) → ((e : ℕ) (b : Span) → n ≡ Node.Whole e b → ⊥) → [] ≡ root_parts (tree_of s us ts n)
-    by (Node.Whole e b) h = absurd (h e b refl)
-    by _ h = refl
-
--- ## The name of the function that a symbol is
-
-pub function-name : (t e name returned parameters : Term) (q : values.Qualifiers) (m : values.RefQualifier) (suffix : List ℕ) → t ≡ term.symbol e suffix → e ≡ term.function name q m returned parameters
-    → record { tree = name; form = heads.left; context = items.closed } ≡ noted_name t
-unfolding noted_name
-function-name t e name returned parameters q m suffix is encodes = rw (is, encodes) refl
-
-pub no-function : (s : List ℕ) (us : List Thunk) (ts : List Term) (n : Node) (t e : Term) (suffix : List ℕ) → t ≡ term.symbol e suffix → e ≡ tree_of s us ts n
-    → ((name : ℕ) (q : Qualifiers) (m : Mark) (r p : ℕ) → n ≡ Node.Function name q m r p → ⊥) → noted_root t ≡ noted_name t
-unfolding noted_name tree_of
-no-function s us ts n t e suffix is encodes other = subst (λ u. noted_root u ≡ noted_name u) (sym (is ∙ ap (λ u. term.symbol u suffix) encodes)) (by n other)
-  where
-    by : (n : Node) → ((name : ℕ) (q : Qualifiers) (m : Mark) (r p : ℕ) → n ≡ Node.Function name q m r p → ⊥) → noted_root (term.symbol (tree_of s us ts n) suffix) ≡ noted_name (term.symbol (tree_of s us ts n) suffix)
-    by (Node.Function name q m r p) h = absurd (h name q m r p refl)
-    by _ h = refl
-
-pub no-whole : (s : List ℕ) (us : List Thunk) (ts : List Term) (n : Node) (t : Term) → t ≡ tree_of s us ts n → ((e : ℕ) (b : Span) → n ≡ Node.Whole e b → ⊥) → noted_root t ≡ noted_name t
-unfolding noted_name tree_of
-no-whole s us ts n t is other = subst (λ u. noted_root u ≡ noted_name u) (sym is) (by n other)
-  where
-    by : (n : Node) → ((e : ℕ) (b : Span) → n ≡ Node.Whole e b → ⊥) → noted_root (tree_of s us ts n) ≡ noted_name (tree_of s us ts n)
     by (Node.Whole e b) h = absurd (h e b refl)
     by _ h = refl
 

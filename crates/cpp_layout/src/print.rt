@@ -198,8 +198,9 @@ impl Symbol {
         ensures shows { unshared_of self.now result ≡ shown_symbol detail self.now }
     {
         texts_are_the_same();
+        let root = self.root_node();
         if detail.has_parameters() {
-            closed_item(self.root_node(), form::ROOT, detail)
+            closed_item(root, form::ROOT, detail)
         } else {
             self.name_as(detail)
         }

@@ -16,7 +16,7 @@ use Rattle.cpp_term.specs.Items as item_
 use Rattle.cpp_term.specs.Parts as part_
 use Rattle.cpp_term.specs.Ranks as rank_
 use Rattle.cpp_term.specs.Annotated.{annotate, noted_item, noted_part, noted_parts, noted_scope, noted_context, noted_tree}
-use Rattle.cpp_term.specs.Answer.{noted_root, noted_name, noted_as, noted_shown, noted_answer}
+use Rattle.cpp_term.specs.Answer.{noted_root, noted_name, noted_shown, noted_answer}
 use Rattle.cpp_term.specs.Erased.{erase, CarriesArguments}
 use Rattle.cpp_term.specs.Term as term_
 use Rattle.cpp_term.proofs.PartsNoted.{parts_noted}
