@@ -8,10 +8,10 @@ use Rattle.cpp_grammar.specs.Table.{abi}
 use Rattle.cpp_grammar.specs.TableLaws.{lawful}
 use Rattle.cpp_grammar.specs.Term.{Term}
 use Rattle.cpp_grammar.specs.Unfolding.{unfold_cpp}
-use Rattle.cpp_grammar.specs.Answer.{shown, item_as}
+use Rattle.cpp_grammar.specs.Answer.{shown, root_item}
 
 abbrev pub cpp_mangled : Mangled Term
-cpp_mangled = record { table = abi; unfolded = unfold_cpp; shown = λ detail t. shown detail (item_as detail t); lawful = lawful }
+cpp_mangled = record { table = abi; unfolded = unfold_cpp; shown = λ detail t. shown detail (root_item t); lawful = lawful }
 
 -- what a symbol reads as, and the answer to it
 abbrev pub IsReading : List ℕ → Result Term Refusal → Type 0

@@ -1,7 +1,6 @@
 pub mod Growing
 pub mod Suffixes
 pub mod Functions
-pub mod Roots
 pub mod CodeLetters
 pub mod Coding
 pub mod Naming

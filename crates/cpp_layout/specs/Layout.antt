@@ -193,7 +193,7 @@ whole_of y = erase (tree_at (trees (table_of y)) y.root)
 
 -- what a symbol prints
 abbrev pub shown_symbol : Detail → ReadSymbol → Unshared
-shown_symbol detail y = answer.shown detail (answer.item_as detail (whole_of y))
+shown_symbol detail y = answer.shown detail (answer.root_item (whole_of y))
 
 -- ## Lists of parts
 

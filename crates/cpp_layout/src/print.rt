@@ -1,7 +1,7 @@
 // A symbol as a layout, and its text.
 #![tactic(auto)]
 
-ghost use Rattle.std.specs.Prelude.{◌≡◌, ◌+◌, ◌<◌, ◌≤◌, ◌^◌, ◌++◌, [], List, length, vec_len, vec_capacity, true, None, IfOk, IfErr, OnOk, ◌⊎◌, Err};
+ghost use Rattle.std.specs.Prelude.{◌≡◌, ◌+◌, ◌<◌, ◌≤◌, ◌^◌, ◌++◌, [], List, length, vec_len, vec_capacity, true, IfOk, IfErr, OnOk, ◌⊎◌, Err};
 ghost use Rattle.std.specs.List.{All};
 ghost use Rattle.sym_core.specs.declared.Refusal.{Refusal};
 ghost use Rattle.sym_print.specs.declared.layout.Part.{Part};
@@ -11,19 +11,17 @@ ghost use Rattle.sym_print.specs.Joined.{joined};
 ghost use Rattle.sym_print.specs.Stacked.{Stacked};
 ghost use Rattle.sym_print.specs.Held.{Held};
 ghost use Rattle.sym_print.specs.Unfold.{PartOf};
-ghost use Rattle.cpp_term.specs.Answer.{noted_name};
 ghost use Rattle.cpp_term.specs.Items as items;
 ghost use Rattle.cpp_grammar.specs.Parts.{is_below};
 ghost use Rattle.cpp_term.specs.Parts.{parts_in, expand_parts, expand_rest};
 ghost use Rattle.cpp_tree.specs.Nodes.{tree_at, trees, IsTable};
-ghost use Rattle.cpp_layout.specs.Layout.{table_of, item_of, context_of, form_of, tree_in, Shows, unshared_of, bytes_of_part, MayBeAsked, shown_symbol};
+ghost use Rattle.cpp_layout.specs.Layout.{table_of, context_of, form_of, tree_in, Shows, unshared_of, bytes_of_part, MayBeAsked, shown_symbol};
 
 use crate::context::Context;
 use crate::symbol::Symbol;
 use crate::{form, texts};
 use arrayvec::ArrayVec;
 use cpp_term::texts_are_the_same;
-use cpp_tree::node::Node;
 use sym_core::Refusal;
 use sym_print::{Detail, Item, Layout, Part, PartList, print};
 
@@ -36,22 +34,6 @@ fn has_next(packs: Option<u32>, at: u32) -> bool
     match packs {
         None => false,
         Some(count) => at < count && at + 1 < count,
-    }
-}
-
-/// The item of a node that stands in no pack.
-#[inline(always)]
-fn closed_item(node: u32, form: u32, detail: Detail) -> Item<Context>
-    ensures { result ≡ record { node = node; form = form; at = 0; ctx = record { index = None; detail = detail } } }
-{
-    Item {
-        node,
-        form,
-        at: 0,
-        ctx: Context {
-            index: None,
-            detail,
-        },
     }
 }
 
@@ -175,34 +157,20 @@ impl Symbol {
         self.root_as(Detail::Full)
     }
 
-    /// The item of a function's name where the symbol is a function, else of the whole symbol.
-    // <encoding> ::= <function name> <bare-function-type>
-    fn name_as(&self, detail: Detail) -> Item<Context>
-        ensures node { result.node < length self.now.table.nodes }
-        ensures item { item_of (table_of self.now) result ≡ noted_name (tree_at (trees (table_of self.now)) self.now.root) }
-        ensures detail { result.ctx.detail ≡ detail }
-    {
-        let root = self.root_node();
-        match self.stored(root) {
-            Node::Whole { encoding, .. } => match self.stored(encoding) {
-                Node::Function { name, .. } => closed_item(name, form::LEFT, detail),
-                _ => closed_item(root, form::ROOT, detail),
-            },
-            _ => closed_item(root, form::ROOT, detail),
-        }
-    }
-
     /// The item of the whole symbol in a detail.
     pub fn root_as(&self, detail: Detail) -> Item<Context>
         ensures may_come { MayBeAsked self.now (Part.Sub result) }
         ensures shows { unshared_of self.now result ≡ shown_symbol detail self.now }
     {
         texts_are_the_same();
-        let root = self.root_node();
-        if detail.has_parameters() {
-            closed_item(root, form::ROOT, detail)
-        } else {
-            self.name_as(detail)
+        Item {
+            node: self.root_node(),
+            form: form::ROOT,
+            at: 0,
+            ctx: Context {
+                index: None,
+                detail,
+            },
         }
     }
 

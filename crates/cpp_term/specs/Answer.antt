@@ -1,12 +1,11 @@
 -- What is shown and answered of a symbol, from the tree whose parameters carry their arguments.
-use Rattle.std.specs.Prelude.{ℕ, true, false, List, Result, Ok, Err}
+use Rattle.std.specs.Prelude.{ℕ, List, Result, Ok, Err}
 use Rattle.sym_core.specs.declared.refusal.Refusal.{Refusal}
 use Rattle.sym_print.specs.declared.detail.Detail.{Detail}
-use Rattle.sym_print.specs.Details.{has_parameters}
 use Rattle.sym_print.specs.Unfold.{printed}
 use Rattle.sym_print.specs.Unshared.{Unshared}
 use Rattle.sym_print.specs.Answer.{text_within}
-use Rattle.cpp_grammar.specs.Items.{root, left}
+use Rattle.cpp_grammar.specs.Items.{root}
 use Rattle.cpp_term.specs.Term as term_
 use Rattle.cpp_term.specs.Items as item_
 use Rattle.cpp_term.specs.Parts as part_
@@ -16,17 +15,9 @@ use Rattle.cpp_term.specs.Ranks as rank_
 abbrev pub noted_root : term_.Term → item_.Item
 noted_root t = record { tree = t; form = root; context = item_.closed }
 
--- without a function's parameters its name
-unfoldable pub noted_name : term_.Term → item_.Item
-noted_name (term_.symbol (term_.function name q ref returned parameters) suffix) = record { tree = name; form = left; context = item_.closed }
-noted_name t = noted_root t
-
-abbrev pub noted_as : Detail → term_.Term → item_.Item
-noted_as detail t = elim (has_parameters detail) [ true ↦ noted_root t | false ↦ noted_name t ]
-
 -- what it prints, with nothing shared
 abbrev pub noted_shown : Detail → term_.Term → Unshared
-noted_shown detail t = printed (part_.parts detail) rank_.rank (noted_as detail t)
+noted_shown detail t = printed (part_.parts detail) rank_.rank (noted_root t)
 
 abbrev pub noted_answer : Detail → ℕ → Result term_.Term Refusal → Result (List ℕ) Refusal
 noted_answer detail limit (Ok t) = text_within limit (noted_shown detail t)

@@ -11,7 +11,7 @@ ghost use Rattle.sym_shape.specs.declared.rule.Sym.TheVariants.{Kind};
 ghost use Rattle.sym_link.specs.Reading.{Found};
 ghost use Rattle.sym_link.specs.Unfold.{unfold_tree};
 ghost use Rattle.cpp_grammar.specs.Table.{abi};
-ghost use Rattle.cpp_grammar.specs.Answer.{shown, item_as, answer_within};
+ghost use Rattle.cpp_grammar.specs.Answer.{shown, root_item, answer_within};
 ghost use Rattle.cpp_grammar.specs.Items.{Item};
 ghost use Rattle.cpp_grammar.specs.Parts as leaf_;
 ghost use Rattle.cpp_grammar.specs.Unfolding as unfolding_;
@@ -50,13 +50,13 @@ pub fn symbols_are_read_as_trees()
     ensures { (shape : Tree) (read : Found (List Value) State) → IsTree abi (Kind 0) shape → unfold_tree unfolded_.cpp unfolded_.first_around 0 shape unfolded_.first_state ≡ Ok read → IsReadAs shape read.value }
 {}
 
-/// A tree whose parameters carry their arguments has the text and the cost of the tree without them, in each detail.
+/// A tree whose parameters carry their arguments has the text and the cost of the tree without them, in either detail.
 pub fn texts_are_the_same()
-    ensures { (detail : Detail) (t : Term) → CarriesArguments t → noted_shown detail t ≡ shown detail (item_as detail (erase t)) }
+    ensures { (detail : Detail) (t : Term) → CarriesArguments t → noted_shown detail t ≡ shown detail (root_item (erase t)) }
 {}
 
 /// The answer for a well shaped symbol is that for its tree whose parameters carry their arguments: the text where that costs
-/// at most the limit, in each detail, or the refusal with its place.
+/// at most the limit, in either detail, or the refusal with its place.
 pub fn answers_are_the_same()
     ensures { (detail : Detail) (limit : ℕ) (shape : Tree) → IsTree abi (Kind 0) shape → noted_answer detail limit (unfolded_.unfold_cpp shape) ≡ answer_within detail limit (unfolding_.unfold_cpp shape) }
 {}

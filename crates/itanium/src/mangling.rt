@@ -6,7 +6,7 @@ ghost use Rattle.sym_core.specs.declared.refusal.Refusal.TheVariants as refusals
 ghost use Rattle.sym_print.specs.declared.layout.Part.TheVariants as parts;
 ghost use Rattle.sym_shape.specs.Tree.{Tree};
 ghost use Rattle.sym_demangle.specs.Standing.{Begins, IsLinked};
-ghost use Rattle.cpp_grammar.specs.Answer.{shown, item_as};
+ghost use Rattle.cpp_grammar.specs.Answer.{shown, root_item};
 ghost use Rattle.cpp_grammar.specs.Unfolding.{unfold_cpp};
 ghost use Rattle.cpp_layout.specs.Layout.{MayBeAsked, unshared_of, whole_of};
 ghost use Rattle.cpp_link.specs.declared.part.Part.TheVariants as part;
@@ -103,7 +103,7 @@ impl Mangling for Abi {
 
     fn root(symbol: &Symbol, detail: Detail) -> Item<Context>
         ensures may_come { MayBeAsked symbol.now (parts.Sub result) }
-        ensures shows { unshared_of symbol.now result ≡ shown detail (item_as detail (whole_of symbol.now)) }
+        ensures shows { unshared_of symbol.now result ≡ shown detail (root_item (whole_of symbol.now)) }
     {
         symbol.root_as(detail)
     }
