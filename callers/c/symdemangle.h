@@ -55,7 +55,7 @@ enum symdemangle_status {
 enum symdemangle_detail {
     SYMDEMANGLE_FULL = 0,
     SYMDEMANGLE_BRIEF = 1,                /* template and generic arguments are left out */
-    SYMDEMANGLE_NO_PARAMETERS = 2,        /* a C++ function is its name alone, without its return type and parameters */
+    SYMDEMANGLE_NO_PARAMETERS = 2,        /* each C++ function is its name alone, without return type and parameters */
     SYMDEMANGLE_BRIEF_NO_PARAMETERS = 3   /* both */
 };
 

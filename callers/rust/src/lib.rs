@@ -83,7 +83,7 @@ pub enum Detail {
     Full,
     /// Generic arguments are left out.
     Brief,
-    /// A C++ function is its name alone, without its return type and parameters.
+    /// Each C++ function is its name alone, without its return type and parameters.
     NoParameters,
     /// Both.
     BriefNoParameters,

@@ -96,7 +96,7 @@ fn command_line<'a>(alloc: Global, words: &'a [&'a str]) -> Result<ArgMatches<'a
     );
     let brief = flag(alloc, "brief").help("Leave out template and generic arguments");
     let no_params = flag(alloc, "no-params")
-        .help("Print a C++ function by its name, without its return type and parameters");
+        .help("Print each C++ function by its name, without return type and parameters");
     let symbols = Arg::new(alloc, "SYMBOL")
         .num_args(0..)
         .action(ArgAction::Append)

@@ -11,9 +11,9 @@ pub enum Detail {
     Full,
     /// Names without their template or generic arguments.
     Brief,
-    /// A C++ function by its name alone, with its template arguments: without its return type and its parameters, and without
-    /// what stands behind them. An enclosing function, what a thunk leads to and a function in template arguments have theirs.
-    /// Of anything else all of it.
+    /// Each C++ function by its name alone, with its template arguments: without its return type, its parameters and the
+    /// qualifiers behind them. So are an enclosing function, what a thunk leads to and a function in template arguments; types
+    /// of functions are whole, and so is anything else.
     NoParameters,
     /// The same, and names without their template or generic arguments.
     BriefNoParameters,
@@ -33,7 +33,7 @@ impl Detail {
         }
     }
 
-    /// Whether the symbol's own function has its parameters, and what stands around them.
+    /// Whether functions have their parameters, and what stands around them.
     #[inline(always)]
     pub fn has_parameters(self) -> bool
         ensures { result ≡ has_parameters self }
