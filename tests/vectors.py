@@ -18,6 +18,7 @@ LONGEST_WORD = 65536
 BEGINNINGS = (b"_Z", b"__Z", b"_R", b"__R")
 REASONS = (b"malformed at ", b"bad reference at ", b"bad value at ", b"too long")
 ESCAPES = {b"\\": b"\\", b"n": b"\n", b"t": b"\t", b"f": b"\xff"}
+DETAILS = {b"full": [], b"brief": ["--brief"], b"no-params": ["--no-params"], b"brief-no-params": ["--brief", "--no-params"]}
 PUT = {b"put !": b"!", b"put 0": b"0", b"put ff": b"\xff"}
 
 
@@ -107,7 +108,7 @@ def check_answer(program, options, word, wanted):
 
 
 def check_text(program, detail, cost, word, text):
-    options = ["--brief"] if detail == b"brief" else []
+    options = DETAILS[detail]
     cost = int(cost)
     wrong = check_answer(program, [f"--limit={cost}", *options], word, unescaped(text))
     for limit in (cost - 1, 0):
@@ -116,7 +117,7 @@ def check_text(program, detail, cost, word, text):
 
 
 def check_long(program, detail, cost, word, length):
-    options = ["--brief"] if detail == b"brief" else []
+    options = DETAILS[detail]
     found = program.answers([f"--limit={int(cost)}", *options], [word])[0]
     wrong = [] if len(found) == int(length) else [f"a text of {len(found)} bytes, not {int(length)}"]
     return wrong + check_answer(program, [f"--limit={int(cost) - 1}", *options], word, b"too long")

@@ -62,6 +62,9 @@ static void texts(void)
     has_text("_RNvMC3fooINtB2_1AhE3baz", 99, SYMDEMANGLE_BRIEF, "<foo::A>::baz");
     has_text("_Z1fIJicEEvDpT_", 56, SYMDEMANGLE_FULL, "void f<int, char>(int, char)");
     has_text("_Z1fIJicEEvDpT_", 99, SYMDEMANGLE_BRIEF, "void f(int, char)");
+    has_text("_Z1fIJicEEvDpT_", 99, SYMDEMANGLE_NO_PARAMETERS, "f<int, char>");
+    has_text("_Z1fIJicEEvDpT_", 99, SYMDEMANGLE_BRIEF_NO_PARAMETERS, "f");
+    has_text("_RNvMC3fooINtB2_1AhE3baz", 99, SYMDEMANGLE_NO_PARAMETERS, "<foo::A<u8>>::baz");
     is_refused("_RNvC3foo3bar", 10, SYMDEMANGLE_FULL, SYMDEMANGLE_TOO_LONG, 0);
     is_refused("_RNvC3foo3bar", 0, SYMDEMANGLE_FULL, SYMDEMANGLE_TOO_LONG, 0);
     is_refused("_RNvC3fo", 99, SYMDEMANGLE_FULL, SYMDEMANGLE_MALFORMED, 8);
@@ -71,7 +74,7 @@ static void texts(void)
     is_refused("_Z1fQ", 99, SYMDEMANGLE_FULL, SYMDEMANGLE_MALFORMED, 4);
     is_refused("_Z1fS_", 99, SYMDEMANGLE_FULL, SYMDEMANGLE_BAD_REFERENCE, 4);
     is_refused("_ZN1AUt18446744073709551614_E", 99, SYMDEMANGLE_FULL, SYMDEMANGLE_BAD_VALUE, 5);
-    is_refused("_RNvC3foo3bar", 99, 2, SYMDEMANGLE_DETAIL, 0);
+    is_refused("_RNvC3foo3bar", 99, 4, SYMDEMANGLE_DETAIL, 0);
 }
 
 /* The same call for a word: what it answers, and where the place is counted from. */
@@ -129,7 +132,7 @@ static void many(void)
     check(symdemangle_texts(bytes(symbols), length, falling, 2, 99, 0, room, sizeof room, told, 2) == SYMDEMANGLE_ENDS, "ends that fall", "");
     check(symdemangle_texts(bytes(symbols), length, beyond, 2, 99, 0, room, sizeof room, told, 2) == SYMDEMANGLE_ENDS, "an end past the bytes", "");
     check(symdemangle_texts(bytes(symbols), length, ends, 2, 99, 0, room, sizeof room, told, 1) == SYMDEMANGLE_ENDS, "an answer too few", "");
-    check(symdemangle_texts(bytes(symbols), length, ends, 2, 99, 2, room, sizeof room, told, 2) == SYMDEMANGLE_DETAIL, "a detail of many", "");
+    check(symdemangle_texts(bytes(symbols), length, ends, 2, 99, 4, room, sizeof room, told, 2) == SYMDEMANGLE_DETAIL, "a detail of many", "");
     check(symdemangle_texts(bytes(symbols), length, NULL, 2, 99, 0, room, sizeof room, told, 2) == SYMDEMANGLE_NULL, "null ends", "");
     check(symdemangle_texts(bytes(symbols), length, ends, 2, 99, 0, room, sizeof room, NULL, 2) == SYMDEMANGLE_NULL, "null answers", "");
     check(told[0].status == 9 && told[1].place == 9 && is_kept(0), "answers that are kept", "");

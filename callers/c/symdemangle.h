@@ -54,7 +54,9 @@ enum symdemangle_status {
 
 enum symdemangle_detail {
     SYMDEMANGLE_FULL = 0,
-    SYMDEMANGLE_BRIEF = 1 /* template and generic arguments are left out */
+    SYMDEMANGLE_BRIEF = 1,                /* template and generic arguments are left out */
+    SYMDEMANGLE_NO_PARAMETERS = 2,        /* each C++ function is its name alone, without return type and parameters */
+    SYMDEMANGLE_BRIEF_NO_PARAMETERS = 3   /* both */
 };
 
 /* What comes with a status: of SYMDEMANGLE_OK the bytes that were written, of SYMDEMANGLE_ROOM those that are needed, else 0;

@@ -3,6 +3,7 @@ complete -c symfilt -f
 complete -c symfilt -l limit -x -d 'Greatest cost of a text'
 complete -c symfilt -l stats -d 'Rows, nodes and steps of each symbol'
 complete -c symfilt -l brief -d 'Leave out template and generic arguments'
+complete -c symfilt -l no-params -d 'Print functions by their names'
 complete -c symfilt -l press -d 'Spell each symbol with its repeated parts as references'
 complete -c symfilt -s h -l help -d 'Print the options'
 complete -c symfilt -s V -l version -d 'Print the version'

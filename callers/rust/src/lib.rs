@@ -83,6 +83,10 @@ pub enum Detail {
     Full,
     /// Generic arguments are left out.
     Brief,
+    /// Each C++ function is its name alone, without its return type and parameters.
+    NoParameters,
+    /// Both.
+    BriefNoParameters,
 }
 
 /// The work that a symbol of n bytes made.

@@ -120,6 +120,8 @@ fn number(detail: Detail) -> u32 {
     match detail {
         Detail::Full => 0,
         Detail::Brief => 1,
+        Detail::NoParameters => 2,
+        Detail::BriefNoParameters => 3,
     }
 }
 

@@ -23,6 +23,8 @@ fn texts_and_refusals() {
         answer("_RNvMC3fooINtB2_1AhE3baz", 1000, Detail::Brief),
         Ok("<foo::A>::baz".into())
     );
+    assert_eq!(answer("_ZNK1A1fIiEEvT_", 99, Detail::NoParameters), Ok("A::f<int>".into()));
+    assert_eq!(answer("_ZNK1A1fIiEEvT_", 99, Detail::BriefNoParameters), Ok("A::f".into()));
 }
 
 #[test]

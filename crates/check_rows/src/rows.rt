@@ -34,6 +34,8 @@ fn detail_of(name: &[u8]) -> Option<Detail> {
     match name {
         b"full" => Some(Detail::Full),
         b"brief" => Some(Detail::Brief),
+        b"no-params" => Some(Detail::NoParameters),
+        b"brief-no-params" => Some(Detail::BriefNoParameters),
         _ => None,
     }
 }

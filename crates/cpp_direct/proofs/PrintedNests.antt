@@ -1,6 +1,5 @@
 -- Names in other names, constructors and destructors, and names with arguments.
-use Rattle.std.proofs.Common.{◌≡◌, ◌≢◌, refl, ap, sym, ◌∙◌, ℕ, ◌+◌, ◌*◌, ◌≤◌, List, [], ◌∷◌, ◌++◌, length, Bool, false, ◌||◌, None, arith, codes, length-append, append-nil, append_assoc}
-use Rattle.sym_print.specs.declared.detail.Detail.TheVariants.{Full}
+use Rattle.std.proofs.Common.{◌≡◌, ◌≢◌, refl, ap, sym, ◌∙◌, ℕ, ◌+◌, ◌*◌, ◌≤◌, List, [], ◌∷◌, ◌++◌, length, Bool, true, false, ◌||◌, None, arith, codes, length-append, append-nil, append_assoc}
 use Rattle.sym_print.specs.Unfold.{text}
 use Rattle.sym_print.specs.Unshared.{text_of, cost_of}
 use Rattle.cpp_grammar.specs.Term.{Term, within, instance, source, operator, constructor, destructor}
@@ -196,7 +195,7 @@ destructor-prints t b class p n digit = let w = within t (destructor digit) in r
 -- ## Names with arguments
 
 instance-is : (c : Context) (t arguments : Term) → opening_text (last_piece t) ≡ codes "<"
-    → instance_parts Full c t arguments ≡ (as_item left c t ∷ says "<" ∷ list_part first c arguments) ++ (says ">" ∷ [])
+    → instance_parts true c t arguments ≡ (as_item left c t ∷ says "<" ∷ list_part first c arguments) ++ (says ">" ∷ [])
 unfolding instance_parts
 instance-is c t arguments e = ap (λ o. (as_item left c t ∷ text o ∷ list_part first c arguments) ++ (says ">" ∷ [])) e
 

@@ -4,7 +4,7 @@ use Prim.Native.String.{String}
 use Rattle.std.proofs.Common.{arith}
 use Rattle.std.proofs.lemmas.List.{length-append}
 use Rattle.sym_print.specs.declared.detail.Detail.{Detail}
-use Rattle.sym_print.specs.declared.detail.Detail.TheVariants.{Full, Brief}
+use Rattle.sym_print.specs.Details.{has_arguments, has_parameters}
 use Rattle.sym_print.specs.Unfold.{PartOf, text, sub}
 use Rattle.cpp_grammar.specs.Term.{Qualifiers, RefQualifier, Signed, Term, symbol, function, object, guard, alone, in_std, within, instance, local, abbreviation, parameter, source, constructor, destructor, lambda, pointer, lvalue, rvalue, array, member_pointer, function_type, qualified, expansion, integer, pack, nil, list, absent}
 use Rattle.cpp_grammar.specs.Items.{Form, root, full, bare, left, right, low, base, piece, first, more, expand, Context, Item, closed, head, is_reference, is_funarr, packs_of, is_empty}
@@ -62,10 +62,10 @@ within_few c prefix (constructor digit) = omega arith
 within_few c prefix (destructor digit) = omega arith
 within_few c prefix _ = omega arith
 
-instance_few : (d : Detail) (c : Context) (t arguments : Term) → HasFew 4 (instance_parts d c t arguments)
+instance_few : (all : Bool) (c : Context) (t arguments : Term) → HasFew 4 (instance_parts all c t arguments)
 unfolding instance_parts
-instance_few Brief c t arguments = omega arith
-instance_few Full c t arguments =
+instance_few false c t arguments = omega arith
+instance_few true c t arguments =
     omega (arith, append_few 3 1 (as_item left c t ∷ text (opening_text (last_piece t)) ∷ list_part first c arguments) (says ">" ∷ []) (omega (arith, list_few first c arguments)) (omega arith))
 
 marked_few : (c : Context) (t : Term) (mark : String) → HasFew 2 (marked_parts c t mark)
@@ -107,7 +107,7 @@ unfolding left_parts
 left_few d c (alone p) = omega (arith, piece_few c p)
 left_few d c (in_std p) = omega arith
 left_few d c (within prefix p) = omega (arith, within_few c prefix p)
-left_few d c (instance t arguments) = omega (arith, instance_few d c t arguments)
+left_few d c (instance t arguments) = omega (arith, instance_few (has_arguments d) c t arguments)
 left_few d c (pointer t) = omega (arith, marked_few c t "*")
 left_few d c (lvalue t) = omega (arith, reference_few c low t "&")
 left_few d c (rvalue t) = omega (arith, reference_few c left t "&&")
@@ -171,31 +171,33 @@ base_few d c (abbreviation letter) = omega arith
 base_few d c (parameter k) = omega arith
 base_few d c t = left_few d c t
 
-bare_function_few : (name : Term) (q : Qualifiers) (ref : RefQualifier) (parameters : Term) → HasFew 5 (function_bare name q ref parameters)
+bare_function_few : (all : Bool) (name : Term) (q : Qualifiers) (ref : RefQualifier) (parameters : Term) → HasFew 5 (function_bare all name q ref parameters)
 unfolding function_bare
-bare_function_few name q ref parameters =
+bare_function_few false name q ref parameters = omega arith
+bare_function_few true name q ref parameters =
     append_few 3 2 (as_item left closed name ∷ says "(" ∷ list_part first (types_of name) parameters) (says ")" ∷ text_part (encoding_text q ref))
     (omega (arith, list_few first (types_of name) parameters)) (omega (arith, text_few (encoding_text q ref)))
 
-full_function_few : (name : Term) (q : Qualifiers) (ref : RefQualifier) (returned parameters : Term) → HasFew 8 (function_full name q ref returned parameters)
+full_function_few : (all : Bool) (name : Term) (q : Qualifiers) (ref : RefQualifier) (returned parameters : Term) → HasFew 8 (function_full all name q ref returned parameters)
 unfolding function_full
-full_function_few name q ref absent parameters = omega (arith, bare_function_few name q ref parameters)
-full_function_few name q ref (symbol e suffix) parameters =
-    omega (arith, append_few 5 1 (function_bare name q ref parameters) (as_item right (types_of name) (symbol e suffix) ∷ []) (bare_function_few name q ref parameters) (omega arith))
-full_function_few name q ref returned parameters =
-    omega (arith, append_few 5 1 (function_bare name q ref parameters) (as_item right (types_of name) returned ∷ []) (bare_function_few name q ref parameters) (omega arith))
+full_function_few false name q ref returned parameters = omega (arith, bare_function_few false name q ref parameters)
+full_function_few true name q ref absent parameters = omega (arith, bare_function_few true name q ref parameters)
+full_function_few true name q ref (symbol e suffix) parameters =
+    omega (arith, append_few 5 1 (function_bare true name q ref parameters) (as_item right (types_of name) (symbol e suffix) ∷ []) (bare_function_few true name q ref parameters) (omega arith))
+full_function_few true name q ref returned parameters =
+    omega (arith, append_few 5 1 (function_bare true name q ref parameters) (as_item right (types_of name) returned ∷ []) (bare_function_few true name q ref parameters) (omega arith))
 
-full_few : (t : Term) → HasFew 8 (full_parts t)
+full_few : (d : Detail) (t : Term) → HasFew 8 (full_parts d t)
 unfolding full_parts
-full_few (function name q ref returned parameters) = full_function_few name q ref returned parameters
-full_few (object name q ref) = omega (arith, text_few (encoding_text q ref))
-full_few (guard name q ref) = omega (arith, text_few (encoding_text q ref))
-full_few _ = omega arith
+full_few d (function name q ref returned parameters) = full_function_few (has_parameters d) name q ref returned parameters
+full_few d (object name q ref) = omega (arith, text_few (encoding_text q ref))
+full_few d (guard name q ref) = omega (arith, text_few (encoding_text q ref))
+full_few d _ = omega arith
 
-bare_few : (t : Term) → HasFew 8 (bare_parts t)
+bare_few : (d : Detail) (t : Term) → HasFew 8 (bare_parts d t)
 unfolding bare_parts
-bare_few (function name q ref returned parameters) = omega (arith, bare_function_few name q ref parameters)
-bare_few t = full_few t
+bare_few d (function name q ref returned parameters) = omega (arith, bare_function_few (has_parameters d) name q ref parameters)
+bare_few d t = full_few d t
 
 first_few : (c : Context) (t : Term) → HasFew 4 (first_parts c t)
 unfolding first_parts
@@ -227,8 +229,8 @@ expand_few c t i =
 forms_few : (d : Detail) (c : Context) (form : Form) (t : Term) → HasFew 8 (parts_in d c form t)
 unfolding parts_in
 forms_few d c root t = omega (arith, root_few t)
-forms_few d c full t = full_few t
-forms_few d c bare t = bare_few t
+forms_few d c full t = full_few d t
+forms_few d c bare t = bare_few d t
 forms_few d c left t = omega (arith, left_few d c t)
 forms_few d c right t = omega (arith, right_few c t)
 forms_few d c low t = omega (arith, low_few d c t)

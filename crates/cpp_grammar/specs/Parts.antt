@@ -2,7 +2,7 @@
 use Rattle.std.specs.Prelude.{ℕ, zero, suc, ◌+◌, List, [], ◌∷◌, ◌++◌, drop, Bool, true, false, cond, ◌||◌, ◌&&◌, nat_eq, nat_lt, Option, Some, None, codes, decimal}
 use Prim.Native.String.{String}
 use Rattle.sym_print.specs.declared.detail.Detail.{Detail}
-use Rattle.sym_print.specs.declared.detail.Detail.TheVariants.{Full, Brief}
+use Rattle.sym_print.specs.Details.{has_arguments, has_parameters}
 use Rattle.sym_print.specs.Unfold.{PartOf, text, sub}
 use Rattle.cpp_grammar.specs.Texts.{same_bytes, look_up, builtin_texts, operator_texts, abbreviation_texts, special_texts, literal_endings}
 use Rattle.cpp_grammar.specs.Term.{Qualifiers, RefQualifier, any_value, lvalue_only, rvalue_only, Signed, non_virtual, by_table, Thunk, adjusting, covariant, Term, symbol, function, object, special, thunk, guard, alone, in_std, within, instance, local, abbreviation, parameter, source, operator, literal_operator, constructor, destructor, lambda, unnamed, string_literal, builtin, vendor, pointer, lvalue, rvalue, array, member_pointer, function_type, qualified, vector, complex, expansion, integer, boolean, null_pointer, encoding_literal, address_of, pack, nil, list, absent}
@@ -84,9 +84,9 @@ unfoldable pub opening_text : Term → List ℕ
 opening_text (operator a b) = cond (same_bytes (a ∷ b ∷ []) (codes "ls") || same_bytes (a ∷ b ∷ []) (codes "lt")) (codes " <") (codes "<")
 opening_text _ = codes "<"
 
-unfoldable pub instance_parts : Detail → Context → Term → Term → List (PartOf Item)
-instance_parts Brief context template arguments = as_item left context template ∷ []
-instance_parts Full context template arguments =
+unfoldable pub instance_parts : (arguments_shown : Bool) → Context → Term → Term → List (PartOf Item)
+instance_parts false context template arguments = as_item left context template ∷ []
+instance_parts true context template arguments =
     (as_item left context template ∷ text (opening_text (last_piece template)) ∷ list_part first context arguments) ++ (says ">" ∷ [])
 
 -- the left parts of the inner type, and the mark, behind ( where that type is a function or an array
@@ -151,7 +151,7 @@ unfoldable pub left_parts : Detail → Context → Term → List (PartOf Item)
 left_parts d context (alone p) = piece_parts context p
 left_parts d context (in_std p) = says "std::" ∷ as_item piece context p ∷ []
 left_parts d context (within prefix p) = within_parts context prefix p
-left_parts d context (instance template arguments) = instance_parts d context template arguments
+left_parts d context (instance template arguments) = instance_parts (has_arguments d) context template arguments
 left_parts d context (local encoding entity discriminator) = as_item left context entity ∷ []
 left_parts d context (abbreviation letter) = text (look_up (letter ∷ []) abbreviation_texts) ∷ []
 left_parts d context (parameter k) = as_item left closed (argument context k) ∷ []
@@ -235,32 +235,34 @@ types_of name = record { scope = arguments_of name; index = None }
 unfoldable pub encoding_text : Qualifiers → RefQualifier → List ℕ
 encoding_text q ref = qualifier_text q ++ ref_text ref
 
--- a function without its return type
-unfoldable pub function_bare : Term → Qualifiers → RefQualifier → Term → List (PartOf Item)
-function_bare name q ref parameters =
+-- a function without its return type, or by its name alone
+unfoldable pub function_bare : (parameters_shown : Bool) → Term → Qualifiers → RefQualifier → Term → List (PartOf Item)
+function_bare false name q ref parameters = as_item left closed name ∷ []
+function_bare true name q ref parameters =
     (as_item left closed name ∷ says "(" ∷ list_part first (types_of name) parameters) ++ (says ")" ∷ text_part (encoding_text q ref))
 
-unfoldable pub function_full : Term → Qualifiers → RefQualifier → Term → Term → List (PartOf Item)
-function_full name q ref absent parameters = function_bare name q ref parameters
-function_full name q ref returned parameters =
-    (as_item left (types_of name) returned ∷ says " " ∷ []) ++ function_bare name q ref parameters ++ (as_item right (types_of name) returned ∷ [])
+unfoldable pub function_full : (parameters_shown : Bool) → Term → Qualifiers → RefQualifier → Term → Term → List (PartOf Item)
+function_full false name q ref returned parameters = function_bare false name q ref parameters
+function_full true name q ref absent parameters = function_bare true name q ref parameters
+function_full true name q ref returned parameters =
+    (as_item left (types_of name) returned ∷ says " " ∷ []) ++ function_bare true name q ref parameters ++ (as_item right (types_of name) returned ∷ [])
 
 unfoldable pub thunk_text : Thunk → List ℕ
 thunk_text (adjusting (non_virtual a)) = codes "non-virtual thunk to "
 thunk_text (adjusting (by_table a b)) = codes "virtual thunk to "
 thunk_text (covariant a b) = codes "covariant return thunk to "
 
-unfoldable pub full_parts : Term → List (PartOf Item)
-full_parts (function name q ref returned parameters) = function_full name q ref returned parameters
-full_parts (object name q ref) = as_item left closed name ∷ text_part (encoding_text q ref)
-full_parts (special letter t) = text (look_up (letter ∷ []) special_texts) ∷ as_item left closed t ∷ as_item right closed t ∷ []
-full_parts (thunk kind e) = text (thunk_text kind) ∷ as_item full closed e ∷ []
-full_parts (guard name q ref) = says "guard variable for " ∷ as_item left closed name ∷ text_part (encoding_text q ref)
-full_parts _ = []
+unfoldable pub full_parts : Detail → Term → List (PartOf Item)
+full_parts d (function name q ref returned parameters) = function_full (has_parameters d) name q ref returned parameters
+full_parts d (object name q ref) = as_item left closed name ∷ text_part (encoding_text q ref)
+full_parts d (special letter t) = text (look_up (letter ∷ []) special_texts) ∷ as_item left closed t ∷ as_item right closed t ∷ []
+full_parts d (thunk kind e) = text (thunk_text kind) ∷ as_item full closed e ∷ []
+full_parts d (guard name q ref) = says "guard variable for " ∷ as_item left closed name ∷ text_part (encoding_text q ref)
+full_parts d _ = []
 
-unfoldable pub bare_parts : Term → List (PartOf Item)
-bare_parts (function name q ref returned parameters) = function_bare name q ref parameters
-bare_parts e = full_parts e
+unfoldable pub bare_parts : Detail → Term → List (PartOf Item)
+bare_parts d (function name q ref returned parameters) = function_bare (has_parameters d) name q ref parameters
+bare_parts d e = full_parts d e
 
 unfoldable pub root_parts : Term → List (PartOf Item)
 root_parts (symbol e []) = as_item full closed e ∷ []
@@ -303,8 +305,8 @@ expand_parts context pattern i =
 
 unfoldable pub parts_in : Detail → Context → Form → Term → List (PartOf Item)
 parts_in d context root t = root_parts t
-parts_in d context full t = full_parts t
-parts_in d context bare t = bare_parts t
+parts_in d context full t = full_parts d t
+parts_in d context bare t = bare_parts d t
 parts_in d context left t = left_parts d context t
 parts_in d context right t = right_parts context t
 parts_in d context low t = low_parts d context t

@@ -1,5 +1,6 @@
 -- The parts of encodings.
 use Rattle.std.proofs.Common.{Option, None, Some, zero, suc, ◌≡◌, ℕ, ◌<◌, ◌≤◌, ◌+◌, List, [], ◌∷◌, ◌++◌, length, Bool, true, false, refl, sym, ap, subst, ◌∙◌, arith, append-nil, append_assoc}
+use Rattle.sym_print.specs.declared.detail.Detail.{Detail}
 use Rattle.sym_print.specs.Unfold.{PartOf, text}
 use Rattle.cpp_grammar.specs.Items as heads
 use Rattle.cpp_term.specs.Items as items
@@ -27,13 +28,13 @@ unfolding suffix_of
 suffix-plain q m = append-nil (encoding_text q m)
 
 module _ (name : Term) (q : values.Qualifiers) (m : values.RefQualifier) (parameters : Term) where
-  pub bare-whole : (others : List (PartOf items.Item)) → as_item heads.left items.closed name ∷ text (fixed_text LEFT) ∷ (list_part heads.first items.closed parameters ++ (text (fixed_text RIGHT) ∷ (text_part (suffix_of q m false) ++ others))) ≡ function_bare name q m parameters ++ others
+  pub bare-whole : (others : List (PartOf items.Item)) → as_item heads.left items.closed name ∷ text (fixed_text LEFT) ∷ (list_part heads.first items.closed parameters ++ (text (fixed_text RIGHT) ∷ (text_part (suffix_of q m false) ++ others))) ≡ function_bare true name q m parameters ++ others
   unfolding function_bare types_of
   bare-whole others = ap (λ l. as_item heads.left items.closed name ∷ text (fixed_text LEFT) ∷ l)
       (ap (λ s. list_part heads.first items.closed parameters ++ (text (fixed_text RIGHT) ∷ (text_part s ++ others))) (suffix-plain q m)
       ∙ sym (append_assoc (list_part heads.first items.closed parameters) (text (fixed_text RIGHT) ∷ text_part (encoding_text q m)) others))
 
-  pub full-whole : (r : Term) → (r ≡ term.absent → ⊥) → as_item heads.left items.closed r ∷ text (fixed_text BLANK) ∷ (function_bare name q m parameters ++ (as_item heads.right items.closed r ∷ [])) ≡ function_full name q m r parameters
+  pub full-whole : (r : Term) → (r ≡ term.absent → ⊥) → as_item heads.left items.closed r ∷ text (fixed_text BLANK) ∷ (function_bare true name q m parameters ++ (as_item heads.right items.closed r ∷ [])) ≡ function_full true name q m r parameters
   unfolding function_full types_of
   full-whole term.absent there = absurd (there refl)
   full-whole r there = refl
@@ -111,9 +112,9 @@ more-other s us ts c n t is other = more-other-of s us ts c n other ∙ ap (λ u
 pub object-whole : (guard : Bool) (i : PartOf items.Item) (q : values.Qualifiers) (m : values.RefQualifier) → text_if guard (fixed_text GUARD) (i ∷ (text_part (suffix_of q m false) ++ [])) ≡ text_if guard (fixed_text GUARD) (i ∷ text_part (encoding_text q m))
 object-whole guard i q m = ap (λ l. text_if guard (fixed_text GUARD) (i ∷ l)) (append-nil (text_part (suffix_of q m false)) ∙ ap text_part (suffix-plain q m))
 
-pub function-absent : (name : Term) (q : values.Qualifiers) (m : values.RefQualifier) (t parameters : Term) → t ≡ term.absent → function_bare name q m parameters ++ [] ≡ function_full name q m t parameters
+pub function-absent : (name : Term) (q : values.Qualifiers) (m : values.RefQualifier) (t parameters : Term) → t ≡ term.absent → function_bare true name q m parameters ++ [] ≡ function_full true name q m t parameters
 unfolding function_full
-function-absent name q m t parameters is = append-nil (function_bare name q m parameters) ∙ rw is refl
+function-absent name q m t parameters is = append-nil (function_bare true name q m parameters) ∙ rw is refl
 
 not-absent-node : (s : List ℕ) (us : List Thunk) (ts : List Term) (n : Node) → (n ≡ Node.Absent → ⊥) → tree_of s us ts n ≡ term.absent → ⊥
 unfolding tree_of
@@ -123,26 +124,26 @@ not-absent-node s us ts _ other e = cc e
 pub not-absent : (s : List ℕ) (us : List Thunk) (ts : List Term) (n : Node) (t : Term) → t ≡ tree_of s us ts n → (n ≡ Node.Absent → ⊥) → t ≡ term.absent → ⊥
 not-absent s us ts n t is other e = not-absent-node s us ts n other (sym is ∙ e)
 
-pub full-none : (s : List ℕ) (us : List Thunk) (ts : List Term) (n : Node) (t : Term) → t ≡ tree_of s us ts n → ((a : ℕ) (q : Qualifiers) (m : Mark) (b d : ℕ) → n ≡ Node.Function a q m b d → ⊥) → ((a : ℕ) (q : Qualifiers) (m : Mark) → n ≡ Node.Object a q m → ⊥) → ((k a : ℕ) → n ≡ Node.Special k a → ⊥)
-    → ((k a : ℕ) → n ≡ Node.Thunk k a → ⊥) → ((a : ℕ) (q : Qualifiers) (m : Mark) → n ≡ Node.Guard a q m → ⊥) → [] ≡ full_parts t
+pub full-none : (d : Detail) (s : List ℕ) (us : List Thunk) (ts : List Term) (n : Node) (t : Term) → t ≡ tree_of s us ts n → ((a : ℕ) (q : Qualifiers) (m : Mark) (r p : ℕ) → n ≡ Node.Function a q m r p → ⊥) → ((a : ℕ) (q : Qualifiers) (m : Mark) → n ≡ Node.Object a q m → ⊥) → ((k a : ℕ) → n ≡ Node.Special k a → ⊥)
+    → ((k a : ℕ) → n ≡ Node.Thunk k a → ⊥) → ((a : ℕ) (q : Qualifiers) (m : Mark) → n ≡ Node.Guard a q m → ⊥) → [] ≡ full_parts d t
 unfolding tree_of full_parts
-full-none s us ts n t is h1 h2 h3 h4 h5 = by n h1 h2 h3 h4 h5 ∙ ap full_parts (sym is)
+full-none d s us ts n t is h1 h2 h3 h4 h5 = by n h1 h2 h3 h4 h5 ∙ ap (full_parts d) (sym is)
   where
-    by : (n : Node) → ((a : ℕ) (q : Qualifiers) (m : Mark) (b d : ℕ) → n ≡ Node.Function a q m b d → ⊥) → ((a : ℕ) (q : Qualifiers) (m : Mark) → n ≡ Node.Object a q m → ⊥) → ((k a : ℕ) → n ≡ Node.Special k a → ⊥)
-        → ((k a : ℕ) → n ≡ Node.Thunk k a → ⊥) → ((a : ℕ) (q : Qualifiers) (m : Mark) → n ≡ Node.Guard a q m → ⊥) → [] ≡ full_parts (tree_of s us ts n)
-    by (Node.Function a q m b d) h1 h2 h3 h4 h5 = absurd (h1 a q m b d refl)
+    by : (n : Node) → ((a : ℕ) (q : Qualifiers) (m : Mark) (r p : ℕ) → n ≡ Node.Function a q m r p → ⊥) → ((a : ℕ) (q : Qualifiers) (m : Mark) → n ≡ Node.Object a q m → ⊥) → ((k a : ℕ) → n ≡ Node.Special k a → ⊥)
+        → ((k a : ℕ) → n ≡ Node.Thunk k a → ⊥) → ((a : ℕ) (q : Qualifiers) (m : Mark) → n ≡ Node.Guard a q m → ⊥) → [] ≡ full_parts d (tree_of s us ts n)
+    by (Node.Function a q m r p) h1 h2 h3 h4 h5 = absurd (h1 a q m r p refl)
     by (Node.Object a q m) h1 h2 h3 h4 h5 = absurd (h2 a q m refl)
     by (Node.Special k a) h1 h2 h3 h4 h5 = absurd (h3 k a refl)
     by (Node.Thunk k a) h1 h2 h3 h4 h5 = absurd (h4 k a refl)
     by (Node.Guard a q m) h1 h2 h3 h4 h5 = absurd (h5 a q m refl)
     by _ h1 h2 h3 h4 h5 = refl
 
-pub bare-other : (s : List ℕ) (us : List Thunk) (ts : List Term) (n : Node) (t : Term) → t ≡ tree_of s us ts n → ((a : ℕ) (q : Qualifiers) (m : Mark) (b d : ℕ) → n ≡ Node.Function a q m b d → ⊥) → full_parts t ≡ bare_parts t
+pub bare-other : (d : Detail) (s : List ℕ) (us : List Thunk) (ts : List Term) (n : Node) (t : Term) → t ≡ tree_of s us ts n → ((a : ℕ) (q : Qualifiers) (m : Mark) (r p : ℕ) → n ≡ Node.Function a q m r p → ⊥) → full_parts d t ≡ bare_parts d t
 unfolding tree_of bare_parts
-bare-other s us ts n t is other = ap full_parts is ∙ by n other ∙ ap bare_parts (sym is)
+bare-other d s us ts n t is other = ap (full_parts d) is ∙ by n other ∙ ap (bare_parts d) (sym is)
   where
-    by : (n : Node) → ((a : ℕ) (q : Qualifiers) (m : Mark) (b d : ℕ) → n ≡ Node.Function a q m b d → ⊥) → full_parts (tree_of s us ts n) ≡ bare_parts (tree_of s us ts n)
-    by (Node.Function a q m b d) h = absurd (h a q m b d refl)
+    by : (n : Node) → ((a : ℕ) (q : Qualifiers) (m : Mark) (r p : ℕ) → n ≡ Node.Function a q m r p → ⊥) → full_parts d (tree_of s us ts n) ≡ bare_parts d (tree_of s us ts n)
+    by (Node.Function a q m r p) h = absurd (h a q m r p refl)
     by _ h = refl
 
 pub root-whole : (e : Term) (suffix : List ℕ) → as_item heads.full items.closed e ∷ (clone_suffix suffix ++ []) ≡ root_parts (term.symbol e suffix)

@@ -4,7 +4,6 @@ use Rattle.std.proofs.lemmas.Bool.{eqb-true}
 use Rattle.std.specs.List.{starts_with}
 use Rattle.sym_core.specs.declared.Span.{Span}
 use Rattle.sym_print.specs.Unfold.{text}
-use Rattle.sym_print.specs.declared.detail.Detail.TheVariants.{Full, Brief}
 use Rattle.cpp_grammar.specs.Parts.{begins_with, source_text}
 use Rattle.cpp_grammar.specs.Items as heads
 use Rattle.cpp_grammar.specs.Texts.{same_bytes}
@@ -170,10 +169,10 @@ last-none s us ts n t is h1 h2 h3 h4 = other n h1 h2 h3 h4 ∙ ap (λ u. opening
     other (Node.Local e a d) h1 h2 h3 h4 = absurd (h4 e a d refl)
     other _ h1 h2 h3 h4 = refl
 
-pub instance-whole : (c : items.Context) (t a : Term) (n : ℕ) → fixed_text n ≡ opening_text (last_piece t) → as_item heads.left c t ∷ text (fixed_text n) ∷ (list_part heads.first c a ++ (text (fixed_text GREATER) ∷ [])) ≡ instance_parts Full c t a
+pub instance-whole : (c : items.Context) (t a : Term) (n : ℕ) → fixed_text n ≡ opening_text (last_piece t) → as_item heads.left c t ∷ text (fixed_text n) ∷ (list_part heads.first c a ++ (text (fixed_text GREATER) ∷ [])) ≡ instance_parts true c t a
 unfolding instance_parts
 instance-whole c t a n e = ap (λ o. as_item heads.left c t ∷ text o ∷ (list_part heads.first c a ++ (text (fixed_text GREATER) ∷ []))) e
 
-pub brief-whole : (c : items.Context) (t a : Term) → as_item heads.left c t ∷ [] ≡ instance_parts Brief c t a
+pub brief-whole : (c : items.Context) (t a : Term) → as_item heads.left c t ∷ [] ≡ instance_parts false c t a
 unfolding instance_parts
 brief-whole c t a = refl

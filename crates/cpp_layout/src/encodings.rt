@@ -1,10 +1,11 @@
 // The parts of encodings.
 #![tactic(auto)]
 
-ghost use Rattle.std.specs.Prelude.{◌≡◌, ℕ, ◌+◌, ◌<◌, ◌≤◌, ◌++◌, ◌∷◌, [], List, length, slice_get};
+ghost use Rattle.std.specs.Prelude.{◌≡◌, true, ℕ, ◌+◌, ◌<◌, ◌≤◌, ◌++◌, ◌∷◌, [], List, length, slice_get};
 ghost use Rattle.sym_print.specs.Held.{Held};
 ghost use Rattle.sym_print.specs.Unfold.{PartOf, text};
 ghost use Rattle.sym_print.specs.declared.detail.Detail.{Detail};
+ghost use Rattle.sym_print.specs.Details.{has_parameters};
 ghost use Rattle.cpp_term.specs.Items as items;
 ghost use Rattle.cpp_term.specs.Term as term;
 ghost use Rattle.cpp_grammar.specs.Items as heads;
@@ -96,7 +97,7 @@ impl Symbol {
         }
     }
 
-    /// Adds the parts of a function without its return type.
+    /// Adds the parts of a function with parameters, but without its return type.
     fn push_bare<S: PartList<Context>>(
         &self,
         parts: &mut S,
@@ -111,7 +112,7 @@ impl Symbol {
         requires parameters { parameters < length self.now.table.nodes }
         requires room { 5 ≤ S.room parts.old }
         ensures shows { (below : Held Context) (others : List (PartOf items.Item)) → Shows self.now detail below (S.held parts.old) others
-            → Shows self.now detail below (S.held parts.new) (function_bare (tree_at (trees (table_of self.now)) name) (qualifiers_of qualifiers) (mark_of mark) (tree_at (trees (table_of self.now)) parameters) ++ others) }
+            → Shows self.now detail below (S.held parts.new) (function_bare true (tree_at (trees (table_of self.now)) name) (qualifiers_of qualifiers) (mark_of mark) (tree_at (trees (table_of self.now)) parameters) ++ others) }
         ensures room { S.room parts.old ≤ S.room parts.new + 5 }
     {
         let ctx = Context {
@@ -142,7 +143,7 @@ impl Symbol {
         requires parameters { parameters < length self.now.table.nodes }
         requires there { tree_at (trees (table_of self.now)) returned ≡ term.absent → ⊥ }
         requires room { 8 ≤ S.room parts.old }
-        ensures shows { Shows self.now detail (S.held parts.old) (S.held parts.new) (function_full (tree_at (trees (table_of self.now)) name) (qualifiers_of qualifiers) (mark_of mark) (tree_at (trees (table_of self.now)) returned) (tree_at (trees (table_of self.now)) parameters)) }
+        ensures shows { Shows self.now detail (S.held parts.old) (S.held parts.new) (function_full true (tree_at (trees (table_of self.now)) name) (qualifiers_of qualifiers) (mark_of mark) (tree_at (trees (table_of self.now)) returned) (tree_at (trees (table_of self.now)) parameters)) }
         ensures few { S.room parts.old ≤ S.room parts.new + 8 }
     {
         let ctx = Context {
@@ -221,6 +222,31 @@ impl Symbol {
     }
 
     /// The parts of a function's name and types.
+    fn fill_signature<S: PartList<Context>>(
+        &self,
+        parts: &mut S,
+        name: u32,
+        qualifiers: Qualifiers,
+        mark: Mark,
+        returned: u32,
+        parameters: u32,
+        detail: Detail,
+    )
+        requires table { IsTable (table_of self.now) }
+        requires name { name < length self.now.table.nodes }
+        requires returned { returned < length self.now.table.nodes }
+        requires parameters { parameters < length self.now.table.nodes }
+        requires room { 8 ≤ S.room parts.old }
+        ensures shows { Shows self.now detail (S.held parts.old) (S.held parts.new) (function_full true (tree_at (trees (table_of self.now)) name) (qualifiers_of qualifiers) (mark_of mark) (tree_at (trees (table_of self.now)) returned) (tree_at (trees (table_of self.now)) parameters)) }
+        ensures few { S.room parts.old ≤ S.room parts.new + 8 }
+    {
+        match self.stored(returned) {
+            Node::Absent => self.push_bare(parts, name, qualifiers, mark, parameters, detail),
+            _ => self.fill_returning(parts, name, qualifiers, mark, returned, parameters, detail),
+        }
+    }
+
+    /// The parts of a function: its name, and its types where the detail shows parameters.
     // <encoding> ::= <function name> <bare-function-type>
     fn fill_function<S: PartList<Context>>(
         &self,
@@ -237,12 +263,45 @@ impl Symbol {
         requires returned { returned < length self.now.table.nodes }
         requires parameters { parameters < length self.now.table.nodes }
         requires room { 8 ≤ S.room parts.old }
-        ensures shows { Shows self.now detail (S.held parts.old) (S.held parts.new) (function_full (tree_at (trees (table_of self.now)) name) (qualifiers_of qualifiers) (mark_of mark) (tree_at (trees (table_of self.now)) returned) (tree_at (trees (table_of self.now)) parameters)) }
+        ensures shows { Shows self.now detail (S.held parts.old) (S.held parts.new) (function_full (has_parameters detail) (tree_at (trees (table_of self.now)) name) (qualifiers_of qualifiers) (mark_of mark) (tree_at (trees (table_of self.now)) returned) (tree_at (trees (table_of self.now)) parameters)) }
         ensures few { S.room parts.old ≤ S.room parts.new + 8 }
     {
-        match self.stored(returned) {
-            Node::Absent => self.push_bare(parts, name, qualifiers, mark, parameters, detail),
-            _ => self.fill_returning(parts, name, qualifiers, mark, returned, parameters, detail),
+        if detail.has_parameters() {
+            self.fill_signature(parts, name, qualifiers, mark, returned, parameters, detail);
+        } else {
+            let closed = Context {
+                index: None,
+                detail,
+            };
+            self.push_item(parts, name, form::LEFT, 0, closed);
+        }
+    }
+
+    /// The same without the return type.
+    fn fill_bare<S: PartList<Context>>(
+        &self,
+        parts: &mut S,
+        name: u32,
+        qualifiers: Qualifiers,
+        mark: Mark,
+        parameters: u32,
+        detail: Detail,
+    )
+        requires table { IsTable (table_of self.now) }
+        requires name { name < length self.now.table.nodes }
+        requires parameters { parameters < length self.now.table.nodes }
+        requires room { 8 ≤ S.room parts.old }
+        ensures shows { Shows self.now detail (S.held parts.old) (S.held parts.new) (function_bare (has_parameters detail) (tree_at (trees (table_of self.now)) name) (qualifiers_of qualifiers) (mark_of mark) (tree_at (trees (table_of self.now)) parameters)) }
+        ensures few { S.room parts.old ≤ S.room parts.new + 8 }
+    {
+        if detail.has_parameters() {
+            self.push_bare(parts, name, qualifiers, mark, parameters, detail);
+        } else {
+            let closed = Context {
+                index: None,
+                detail,
+            };
+            self.push_item(parts, name, form::LEFT, 0, closed);
         }
     }
 
@@ -251,7 +310,7 @@ impl Symbol {
         requires table { IsTable (table_of self.now) }
         requires node { node < length self.now.table.nodes }
         requires room { 8 ≤ S.room parts.old }
-        ensures shows { Shows self.now detail (S.held parts.old) (S.held parts.new) (full_parts (tree_at (trees (table_of self.now)) node)) }
+        ensures shows { Shows self.now detail (S.held parts.old) (S.held parts.new) (full_parts detail (tree_at (trees (table_of self.now)) node)) }
         ensures few { S.room parts.old ≤ S.room parts.new + 8 }
     {
         match self.stored(node) {
@@ -288,7 +347,7 @@ impl Symbol {
         requires table { IsTable (table_of self.now) }
         requires node { node < length self.now.table.nodes }
         requires room { 8 ≤ S.room parts.old }
-        ensures shows { Shows self.now detail (S.held parts.old) (S.held parts.new) (bare_parts (tree_at (trees (table_of self.now)) node)) }
+        ensures shows { Shows self.now detail (S.held parts.old) (S.held parts.new) (bare_parts detail (tree_at (trees (table_of self.now)) node)) }
         ensures few { S.room parts.old ≤ S.room parts.new + 8 }
     {
         match self.stored(node) {
@@ -298,7 +357,7 @@ impl Symbol {
                 mark,
                 parameters,
                 ..
-            } => self.push_bare(parts, name, qualifiers, mark, parameters, detail),
+            } => self.fill_bare(parts, name, qualifiers, mark, parameters, detail),
             _ => self.fill_full(parts, node, detail),
         }
     }

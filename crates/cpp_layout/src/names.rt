@@ -5,6 +5,7 @@ ghost use Rattle.std.specs.Prelude.{◌≡◌, ℕ, ◌+◌, ◌<◌, ◌≤◌,
 ghost use Rattle.sym_print.specs.Held.{Held};
 ghost use Rattle.sym_print.specs.Unfold.{PartOf, text};
 ghost use Rattle.sym_print.specs.declared.detail.Detail.{Detail};
+ghost use Rattle.sym_print.specs.Details.{has_arguments};
 ghost use Rattle.cpp_grammar.specs.Items.{left, base, piece};
 ghost use Rattle.cpp_grammar.specs.Parts.{begins_with, source_text};
 ghost use Rattle.cpp_term.specs.Term as term;
@@ -22,7 +23,7 @@ use crate::{form, texts};
 use cpp_tree::node::{Node, Piece};
 use itoa::Buffer;
 use sym_core::Span;
-use sym_print::{Detail, Part, PartList};
+use sym_print::{Part, PartList};
 
 /// Whether it is the name of an unnamed namespace.
 #[inline(always)]
@@ -320,18 +321,17 @@ impl Symbol {
         requires template { template < length self.now.table.nodes }
         requires arguments { arguments < length self.now.table.nodes }
         requires room { 8 ≤ S.room parts.old }
-        ensures shows { Shows self.now ctx.detail (S.held parts.old) (S.held parts.new) (instance_parts ctx.detail (context_of ctx) (tree_at (trees (table_of self.now)) template) (tree_at (trees (table_of self.now)) arguments)) }
+        ensures shows { Shows self.now ctx.detail (S.held parts.old) (S.held parts.new) (instance_parts (has_arguments ctx.detail) (context_of ctx) (tree_at (trees (table_of self.now)) template) (tree_at (trees (table_of self.now)) arguments)) }
         ensures few { S.room parts.old ≤ S.room parts.new + 8 }
     {
-        match ctx.detail {
-            Detail::Brief => self.push_item(parts, template, form::LEFT, 0, ctx),
-            Detail::Full => {
-                let blank = self.ends_in_angle(template);
-                self.push_text(parts, texts::GREATER);
-                self.push_list(parts, arguments, form::FIRST, ctx);
-                self.push_either(parts, blank, texts::BLANK_LESS, texts::LESS);
-                self.push_item(parts, template, form::LEFT, 0, ctx);
-            }
+        if ctx.detail.has_arguments() {
+            let blank = self.ends_in_angle(template);
+            self.push_text(parts, texts::GREATER);
+            self.push_list(parts, arguments, form::FIRST, ctx);
+            self.push_either(parts, blank, texts::BLANK_LESS, texts::LESS);
+            self.push_item(parts, template, form::LEFT, 0, ctx);
+        } else {
+            self.push_item(parts, template, form::LEFT, 0, ctx);
         }
     }
 

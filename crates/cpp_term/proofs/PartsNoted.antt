@@ -2,7 +2,7 @@
 use Rattle.std.proofs.Common.{◌≡◌, refl, ap, sym, ◌∙◌, ℕ, zero, suc, ◌+◌, List, [], ◌∷◌, ◌++◌, Bool, true, false, cond, Option, Some, None, codes}
 use Prim.Native.String.{String}
 use Rattle.sym_print.specs.declared.detail.Detail.{Detail}
-use Rattle.sym_print.specs.declared.detail.Detail.TheVariants.{Full, Brief}
+use Rattle.sym_print.specs.Details.{has_arguments, has_parameters}
 use Rattle.sym_print.specs.Unfold.{PartOf, text, sub}
 use Rattle.cpp_grammar.specs.Term.{Qualifiers, RefQualifier, Signed, Term, symbol, function, object, guard, alone, in_std, within, instance, local, abbreviation, parameter, source, operator, constructor, destructor, lambda, builtin, pointer, lvalue, rvalue, array, member_pointer, function_type, qualified, expansion, integer, pack, nil, list, absent}
 use Rattle.cpp_grammar.specs.Scope.{arguments_of}
@@ -77,10 +77,10 @@ last_noted s (within prefix p) = opening_noted s p
 last_noted s (local encoding entity discriminator) = last_noted s entity
 last_noted s _ = opening_noted s absent
 
-instance_noted : (d : Detail) (c : Context) (t arguments : Term) → part_.instance_parts d (noted_context c) (annotate (at c) t) (annotate (at c) arguments) ≡ noted_parts (leaf_.instance_parts d c t arguments)
+instance_noted : (all : Bool) (c : Context) (t arguments : Term) → part_.instance_parts all (noted_context c) (annotate (at c) t) (annotate (at c) arguments) ≡ noted_parts (leaf_.instance_parts all c t arguments)
 unfolding part_.instance_parts leaf_.instance_parts noted_parts noted_part noted_item
-instance_noted Brief c t arguments = refl
-instance_noted Full c t arguments = both (λ b ps. part_.as_item left (noted_context c) (annotate (at c) t) ∷ text b ∷ ps) (last_noted (at c) t)
+instance_noted false c t arguments = refl
+instance_noted true c t arguments = both (λ b ps. part_.as_item left (noted_context c) (annotate (at c) t) ∷ text b ∷ ps) (last_noted (at c) t)
     (joins (leaf_.list_part first c arguments) _ (part_.list_part first (noted_context c) (annotate (at c) arguments)) _ (list_noted first c arguments) refl)
 
 marked_noted : (c : Context) (t : Term) (mark : String) → part_.marked_parts (noted_context c) (annotate (at c) t) mark ≡ noted_parts (leaf_.marked_parts c t mark)
@@ -156,7 +156,7 @@ left_noted : (d : Detail) (c : Context) (t : Term) → part_.left_parts d (noted
 unfolding part_.left_parts leaf_.left_parts annotate noted_parts noted_part noted_item noted_context noted_scope
 left_noted d c (alone p) = piece_noted c p
 left_noted d c (within prefix p) = within_noted c prefix p
-left_noted d c (instance template arguments) = instance_noted d c template arguments
+left_noted d c (instance template arguments) = instance_noted (has_arguments d) c template arguments
 left_noted d c (parameter k) = named_noted c left k
 left_noted d c (pointer t) = marked_noted c t "*"
 left_noted d c (lvalue t) = reference_noted c low t "&"
@@ -230,39 +230,41 @@ base_noted d c t = left_noted d c t
 
 -- ## Encodings
 
-bare_noted : (name : Term) (q : Qualifiers) (ref : RefQualifier) (parameters : Term) →
-    part_.function_bare (annotate None name) q ref (annotate (noted_scope (arguments_of name)) parameters) ≡ noted_parts (leaf_.function_bare name q ref parameters)
+bare_noted : (all : Bool) (name : Term) (q : Qualifiers) (ref : RefQualifier) (parameters : Term) →
+    part_.function_bare all (annotate None name) q ref (annotate (noted_scope (arguments_of name)) parameters) ≡ noted_parts (leaf_.function_bare all name q ref parameters)
 unfolding part_.function_bare leaf_.function_bare part_.types_of leaf_.types_of noted_parts noted_part noted_item noted_context noted_scope
-bare_noted name q ref parameters =
+bare_noted false name q ref parameters = refl
+bare_noted true name q ref parameters =
     joins (leaf_.as_item left closed name ∷ leaf_.says "(" ∷ leaf_.list_part first (leaf_.types_of name) parameters) (leaf_.says ")" ∷ leaf_.text_part (encoding_text q ref)) _
     (part_.says ")" ∷ part_.text_part (encoding_text q ref))
     (ap (λ ps. part_.as_item left item_.closed (annotate None name) ∷ part_.says "(" ∷ ps) (list_noted first (leaf_.types_of name) parameters))
     (ap (λ ps. part_.says ")" ∷ ps) (text_noted (encoding_text q ref)))
 
-whole_noted : (name : Term) (q : Qualifiers) (ref : RefQualifier) (returned parameters : Term) →
-    part_.function_full (annotate None name) q ref (annotate (noted_scope (arguments_of name)) returned) (annotate (noted_scope (arguments_of name)) parameters)
-    ≡ noted_parts (leaf_.function_full name q ref returned parameters)
+whole_noted : (all : Bool) (name : Term) (q : Qualifiers) (ref : RefQualifier) (returned parameters : Term) →
+    part_.function_full all (annotate None name) q ref (annotate (noted_scope (arguments_of name)) returned) (annotate (noted_scope (arguments_of name)) parameters)
+    ≡ noted_parts (leaf_.function_full all name q ref returned parameters)
 unfolding part_.function_full leaf_.function_full annotate part_.types_of leaf_.types_of noted_parts noted_part noted_item noted_context
-whole_noted name q ref absent parameters = bare_noted name q ref parameters
-whole_noted name q ref returned parameters =
+whole_noted false name q ref returned parameters = bare_noted false name q ref parameters
+whole_noted true name q ref absent parameters = bare_noted true name q ref parameters
+whole_noted true name q ref returned parameters =
     let types = leaf_.types_of name in
     let s = noted_scope (arguments_of name) in
-    joins (leaf_.as_item left types returned ∷ leaf_.says " " ∷ []) (leaf_.function_bare name q ref parameters ++ (leaf_.as_item right types returned ∷ [])) _ (part_.function_bare (annotate None name) q ref (annotate s parameters) ++ (part_.as_item right item_.closed (annotate s returned) ∷ []))
+    joins (leaf_.as_item left types returned ∷ leaf_.says " " ∷ []) (leaf_.function_bare true name q ref parameters ++ (leaf_.as_item right types returned ∷ [])) _ (part_.function_bare true (annotate None name) q ref (annotate s parameters) ++ (part_.as_item right item_.closed (annotate s returned) ∷ []))
     refl
-    (joins (leaf_.function_bare name q ref parameters) (leaf_.as_item right types returned ∷ []) (part_.function_bare (annotate None name) q ref (annotate s parameters)) (part_.as_item right item_.closed (annotate s returned) ∷ []) (bare_noted name q ref parameters) refl)
+    (joins (leaf_.function_bare true name q ref parameters) (leaf_.as_item right types returned ∷ []) (part_.function_bare true (annotate None name) q ref (annotate s parameters)) (part_.as_item right item_.closed (annotate s returned) ∷ []) (bare_noted true name q ref parameters) refl)
 
-full_noted : (s : Option term_.Term) (t : Term) → part_.full_parts (annotate s t) ≡ noted_parts (leaf_.full_parts t)
+full_noted : (d : Detail) (s : Option term_.Term) (t : Term) → part_.full_parts d (annotate s t) ≡ noted_parts (leaf_.full_parts d t)
 unfolding part_.full_parts leaf_.full_parts annotate noted_parts noted_part noted_item noted_context noted_scope
-full_noted s (function name q ref returned parameters) =
-    ap (λ r. part_.function_full (annotate None name) q ref (annotate r returned) (annotate r parameters)) (scope_noted name) ∙ whole_noted name q ref returned parameters
-full_noted s (object name q ref) = ap (λ ps. part_.as_item left item_.closed (annotate None name) ∷ ps) (text_noted (encoding_text q ref))
-full_noted s (guard name q ref) = ap (λ ps. part_.says "guard variable for " ∷ part_.as_item left item_.closed (annotate None name) ∷ ps) (text_noted (encoding_text q ref))
-full_noted s _ = refl
+full_noted d s (function name q ref returned parameters) =
+    ap (λ r. part_.function_full (has_parameters d) (annotate None name) q ref (annotate r returned) (annotate r parameters)) (scope_noted name) ∙ whole_noted (has_parameters d) name q ref returned parameters
+full_noted d s (object name q ref) = ap (λ ps. part_.as_item left item_.closed (annotate None name) ∷ ps) (text_noted (encoding_text q ref))
+full_noted d s (guard name q ref) = ap (λ ps. part_.says "guard variable for " ∷ part_.as_item left item_.closed (annotate None name) ∷ ps) (text_noted (encoding_text q ref))
+full_noted d s _ = refl
 
-bare_all_noted : (s : Option term_.Term) (t : Term) → part_.bare_parts (annotate s t) ≡ noted_parts (leaf_.bare_parts t)
+bare_all_noted : (d : Detail) (s : Option term_.Term) (t : Term) → part_.bare_parts d (annotate s t) ≡ noted_parts (leaf_.bare_parts d t)
 unfolding part_.bare_parts leaf_.bare_parts annotate
-bare_all_noted s (function name q ref returned parameters) = ap (λ r. part_.function_bare (annotate None name) q ref (annotate r parameters)) (scope_noted name) ∙ bare_noted name q ref parameters
-bare_all_noted s t = full_noted s t
+bare_all_noted d s (function name q ref returned parameters) = ap (λ r. part_.function_bare (has_parameters d) (annotate None name) q ref (annotate r parameters)) (scope_noted name) ∙ bare_noted (has_parameters d) name q ref parameters
+bare_all_noted d s t = full_noted d s t
 
 root_noted : (s : Option term_.Term) (t : Term) → part_.root_parts (annotate s t) ≡ noted_parts (leaf_.root_parts t)
 unfolding part_.root_parts leaf_.root_parts annotate noted_parts noted_part noted_item noted_context noted_scope
@@ -307,8 +309,8 @@ expand_noted c t i =
 in_noted : (d : Detail) (c : Context) (form : Form) (t : Term) → part_.parts_in d (noted_context c) form (annotate (at c) t) ≡ noted_parts (leaf_.parts_in d c form t)
 unfolding part_.parts_in leaf_.parts_in
 in_noted d c root t = root_noted (at c) t
-in_noted d c full t = full_noted (at c) t
-in_noted d c bare t = bare_all_noted (at c) t
+in_noted d c full t = full_noted d (at c) t
+in_noted d c bare t = bare_all_noted d (at c) t
 in_noted d c left t = left_noted d c t
 in_noted d c right t = right_noted c t
 in_noted d c low t = low_noted d c t

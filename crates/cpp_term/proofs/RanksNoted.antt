@@ -4,7 +4,7 @@ use Prim.Native.String.{String}
 use Rattle.std.proofs.Common.{arith}
 use Rattle.std.proofs.lemmas.Bool.{false≢true, ltb-true}
 use Rattle.sym_print.specs.declared.detail.Detail.{Detail}
-use Rattle.sym_print.specs.declared.detail.Detail.TheVariants.{Full, Brief}
+use Rattle.sym_print.specs.Details.{has_arguments, has_parameters}
 use Rattle.sym_print.specs.Unfold.{PartOf, text, sub, RanksBelow}
 use Rattle.cpp_grammar.specs.Term.{Qualifiers, RefQualifier, Signed}
 use Rattle.cpp_term.specs.Term.{Term, symbol, function, object, special, thunk, guard, alone, in_std, within, instance, local, abbreviation, parameter, source, constructor, destructor, lambda, pointer, lvalue, rvalue, array, member_pointer, function_type, qualified, vector, complex, expansion, integer, encoding_literal, address_of, pack, nil, list, absent}
@@ -95,10 +95,10 @@ within_falls r c prefix (destructor digit) h g = (h, (h, tt))
 within_falls r c prefix (symbol e suffix) h g = falls_append r (prefix_item c prefix ∷ []) _ (prefix_falls r c prefix h) (g, tt)
 within_falls r c prefix _ h g = falls_append r (prefix_item c prefix ∷ []) _ (prefix_falls r c prefix h) (g, tt)
 
-instance_falls : (r : ℕ) (d : Detail) (c : Context) (t arguments : Term) → Below r c t → Below r c arguments → RanksBelow rank r (instance_parts d c t arguments)
+instance_falls : (r : ℕ) (all : Bool) (c : Context) (t arguments : Term) → Below r c t → Below r c arguments → RanksBelow rank r (instance_parts all c t arguments)
 unfolding instance_parts rank rank_in
-instance_falls r Brief c t arguments h g = (h, tt)
-instance_falls r Full c t arguments h g = (h, falls_append r (list_part first c arguments) _ (falls_first r c arguments g) tt)
+instance_falls r false c t arguments h g = (h, tt)
+instance_falls r true c t arguments h g = (h, falls_append r (list_part first c arguments) _ (falls_first r c arguments g) tt)
 
 marked_falls : (r : ℕ) (c : Context) (t : Term) (mark : String) → Below r c t → RanksBelow rank r (marked_parts c t mark)
 unfolding marked_parts rank rank_in
@@ -147,7 +147,7 @@ unfolding left_parts rank rank_in weight_in weight
 left_falls d c (alone p) = piece_falls _ c p (omega arith)
 left_falls d c (in_std p) = (omega arith, tt)
 left_falls d c (within prefix p) = within_falls _ c prefix p (omega arith) (omega arith)
-left_falls d c (instance t arguments) = instance_falls _ d c t arguments (omega arith) (omega arith)
+left_falls d c (instance t arguments) = instance_falls _ (has_arguments d) c t arguments (omega arith) (omega arith)
 left_falls d c (local encoding entity discriminator) = (omega arith, tt)
 left_falls d c (parameter k a) = (argument_weight c a, tt)
 left_falls d c (pointer t) = marked_falls _ c t "*" (omega arith)
@@ -223,35 +223,37 @@ base_falls d c (abbreviation letter) = tt
 base_falls d c (parameter k a) = (argument_weight c a, tt)
 base_falls d c t = left_falls d c t
 
-bare_function_falls : (r : ℕ) (name : Term) (q : Qualifiers) (ref : RefQualifier) (parameters : Term) → weight name < r → weight_in (types_of name) parameters < r →
-    RanksBelow rank r (function_bare name q ref parameters)
+bare_function_falls : (r : ℕ) (all : Bool) (name : Term) (q : Qualifiers) (ref : RefQualifier) (parameters : Term) → weight name < r → weight_in (types_of name) parameters < r →
+    RanksBelow rank r (function_bare all name q ref parameters)
 unfolding function_bare rank rank_in weight_in
-bare_function_falls r name q ref parameters h g =
+bare_function_falls r false name q ref parameters h g = (h, tt)
+bare_function_falls r true name q ref parameters h g =
     (h, falls_append r (list_part first (types_of name) parameters) _ (falls_first r (types_of name) parameters g) (falls_text r (encoding_text q ref)))
 
-full_function_falls : (r : ℕ) (name : Term) (q : Qualifiers) (ref : RefQualifier) (returned parameters : Term) → weight name < r →
-    weight_in (types_of name) returned < r → weight_in (types_of name) parameters < r → RanksBelow rank r (function_full name q ref returned parameters)
+full_function_falls : (r : ℕ) (all : Bool) (name : Term) (q : Qualifiers) (ref : RefQualifier) (returned parameters : Term) → weight name < r →
+    weight_in (types_of name) returned < r → weight_in (types_of name) parameters < r → RanksBelow rank r (function_full all name q ref returned parameters)
 unfolding function_full rank rank_in
-full_function_falls r name q ref absent parameters h f g = bare_function_falls r name q ref parameters h g
-full_function_falls r name q ref (symbol e suffix) parameters h f g =
-    (f, falls_append r (function_bare name q ref parameters) _ (bare_function_falls r name q ref parameters h g) (f, tt))
-full_function_falls r name q ref returned parameters h f g =
-    (f, falls_append r (function_bare name q ref parameters) _ (bare_function_falls r name q ref parameters h g) (f, tt))
+full_function_falls r false name q ref returned parameters h f g = bare_function_falls r false name q ref parameters h g
+full_function_falls r true name q ref absent parameters h f g = bare_function_falls r true name q ref parameters h g
+full_function_falls r true name q ref (symbol e suffix) parameters h f g =
+    (f, falls_append r (function_bare true name q ref parameters) _ (bare_function_falls r true name q ref parameters h g) (f, tt))
+full_function_falls r true name q ref returned parameters h f g =
+    (f, falls_append r (function_bare true name q ref parameters) _ (bare_function_falls r true name q ref parameters h g) (f, tt))
 
-full_falls : (c : Context) (t : Term) → RanksBelow rank (weight_in c t) (full_parts t)
+full_falls : (d : Detail) (c : Context) (t : Term) → RanksBelow rank (weight_in c t) (full_parts d t)
 unfolding full_parts rank rank_in weight_in weight
-full_falls c (function name q ref returned parameters) =
-    full_function_falls _ name q ref returned parameters (omega arith) (omega arith) (omega arith)
-full_falls c (object name q ref) = (omega arith, falls_text _ (encoding_text q ref))
-full_falls c (special letter t) = (omega arith, (omega arith, tt))
-full_falls c (thunk kind e) = (omega arith, tt)
-full_falls c (guard name q ref) = (omega arith, falls_text _ (encoding_text q ref))
-full_falls c _ = tt
+full_falls d c (function name q ref returned parameters) =
+    full_function_falls _ (has_parameters d) name q ref returned parameters (omega arith) (omega arith) (omega arith)
+full_falls d c (object name q ref) = (omega arith, falls_text _ (encoding_text q ref))
+full_falls d c (special letter t) = (omega arith, (omega arith, tt))
+full_falls d c (thunk kind e) = (omega arith, tt)
+full_falls d c (guard name q ref) = (omega arith, falls_text _ (encoding_text q ref))
+full_falls d c _ = tt
 
-bare_falls : (c : Context) (t : Term) → RanksBelow rank (weight_in c t) (bare_parts t)
+bare_falls : (d : Detail) (c : Context) (t : Term) → RanksBelow rank (weight_in c t) (bare_parts d t)
 unfolding bare_parts weight_in weight
-bare_falls c (function name q ref returned parameters) = bare_function_falls _ name q ref parameters (omega arith) (omega arith)
-bare_falls c t = full_falls c t
+bare_falls d c (function name q ref returned parameters) = bare_function_falls _ (has_parameters d) name q ref parameters (omega arith) (omega arith)
+bare_falls d c t = full_falls d c t
 
 first_falls : (c : Context) (t : Term) → RanksBelow rank (weight_in c t) (first_parts c t)
 unfolding first_parts rank rank_in weight_in weight
@@ -305,8 +307,8 @@ expand_falls c t i =
 forms_fall : (d : Detail) (c : Context) (form : Form) (t : Term) → RanksBelow rank (rank_in c form t) (parts_in d c form t)
 unfolding parts_in rank_in
 forms_fall d c root t = root_falls c t
-forms_fall d c full t = full_falls c t
-forms_fall d c bare t = bare_falls c t
+forms_fall d c full t = full_falls d c t
+forms_fall d c bare t = bare_falls d c t
 forms_fall d c left t = left_falls d c t
 forms_fall d c right t = right_falls c t
 forms_fall d c low t = low_falls d c t

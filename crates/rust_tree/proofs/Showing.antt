@@ -1,13 +1,14 @@
 -- What is shown so far, said in other words.
-use Rattle.std.proofs.Common.{append-nil, ◌≡◌, ℕ, ◌+◌, ◌-◌, ◌*◌, ◌^◌, ◌<◌, ◌≤◌, inl, inr, List, [], ◌∷◌, ◌++◌, length, take, codes, decimal, Bool, true, false, ◌==◌, if◌then◌else◌, Some, zero, suc, refl, sym, ap, ◌∙◌, arith, subst}
+use Rattle.std.proofs.Common.{append-nil, ◌≡◌, ℕ, ◌+◌, ◌-◌, ◌*◌, ◌^◌, ◌<◌, ◌≤◌, inl, inr, List, [], ◌∷◌, ◌++◌, length, take, codes, decimal, Bool, true, false, ◌==◌, if◌then◌else◌, Option, Some, None, zero, suc, refl, sym, ap, ◌∙◌, arith, subst}
 use Rattle.sym_print.specs.Held.{Held}
 use Rattle.sym_print.specs.declared.detail.Detail.{Detail}
+use Rattle.sym_print.specs.Details.{has_arguments}
 use Rattle.sym_print.specs.Unshared.{Unshared, done}
 use Rattle.sym_print.specs.Building.{◌then◌, ◌also◌, ◌perhaps◌}
 use Rattle.rust_tree.specs.declared.context.Context.{Context}
 use Rattle.rust_tree.specs.Symbol as tree
 use Rattle.rust_tree.specs.Tree.{Tree, of_path, of_arguments, of_type, of_types, of_bounds, of_bindings, of_constant}
-use Rattle.rust_tree.specs.Shown.{arguments_from, types_from, bounds_from, bindings_from, bound_parts, suffix_parts, name_behind, names_from, basic_text, closing_tuple, for_binder, returned_parts, dyn_lifetime, reference_opening, path_parts, behind_arguments, character_text, constant_parts, numbered_lifetime, lifetime_text, namespace_text}
+use Rattle.rust_tree.specs.Shown.{arguments_from, types_from, bounds_from, bindings_from, generic_parts, generic_bound, plain_bound, bound_parts, suffix_parts, name_behind, names_from, basic_text, closing_tuple, for_binder, returned_parts, dyn_lifetime, reference_opening, path_parts, behind_arguments, character_text, constant_parts, numbered_lifetime, lifetime_text, namespace_text}
 use Rattle.std.specs.Prelude.{nat_le}
 use Rattle.std.specs.Fmt.{digits}
 use Rattle.sym_core.specs.declared.Span.{Span}
@@ -254,53 +255,71 @@ abbrev pub IsPlain : tree.Path → Type 0
 IsPlain (tree.generic p a) = ⊥
 IsPlain _ = Unit {0}
 
-brief : (b : ℕ) (p : tree.Path) (x : tree.Bindings) → bound_parts Detail.Brief b p x ≡ path_parts Detail.Brief b false p also done
+brief-generic : (all : Bool) (p : Unshared) (a x : Option Unshared) → all ≡ false → generic_bound all p a x ≡ (generic_parts all false p a also done)
+brief-generic all p a x e = rw e refl
+
+brief-plain : (all : Bool) (p : Unshared) (x : Option Unshared) → all ≡ false → plain_bound all p x ≡ (p also done)
+brief-plain all p x e = rw e refl
+
+pub brief-bound : (d : Detail) (b : ℕ) (p : tree.Path) (x : tree.Bindings) → has_arguments d ≡ false → bound_parts d b p x ≡ path_parts d b false p also done
 unfolding bound_parts path_parts
-brief b (tree.generic p a) x = refl
-brief b (tree.crate_root n) x = refl
-brief b (tree.inherent_impl n p t) x = refl
-brief b (tree.trait_impl n p t q) x = refl
-brief b (tree.trait_definition t q) x = refl
-brief b (tree.nested n p i) x = refl
+brief-bound d b (tree.generic p a) x e = brief-generic (has_arguments d) _ _ _ e
+brief-bound d b (tree.crate_root n) x e = brief-plain (has_arguments d) _ _ e
+brief-bound d b (tree.inherent_impl n p t) x e = brief-plain (has_arguments d) _ _ e
+brief-bound d b (tree.trait_impl n p t q) x e = brief-plain (has_arguments d) _ _ e
+brief-bound d b (tree.trait_definition t q) x e = brief-plain (has_arguments d) _ _ e
+brief-bound d b (tree.nested n p i) x e = brief-plain (has_arguments d) _ _ e
 
-pub brief-bound : (d : Detail) (b : ℕ) (p : tree.Path) (x : tree.Bindings) → d ≡ Detail.Brief → bound_parts d b p x ≡ path_parts d b false p also done
-brief-bound d b p x e = rw e (brief b p x)
+bare-generic : (all : Bool) (p : Unshared) (a : Option Unshared) → generic_bound all p a None ≡ (generic_parts all false p a also done)
+bare-generic true p a = refl
+bare-generic false p a = refl
 
-bare : (b : ℕ) (p : tree.Path) → bound_parts Detail.Full b p tree.no_bindings ≡ path_parts Detail.Full b false p also done
+bare-plain : (all : Bool) (p : Unshared) → plain_bound all p None ≡ (p also done)
+bare-plain true p = refl
+bare-plain false p = refl
+
+bare : (d : Detail) (b : ℕ) (p : tree.Path) → bound_parts d b p tree.no_bindings ≡ path_parts d b false p also done
 unfolding bound_parts path_parts bindings_from
-bare b (tree.generic p a) = refl
-bare b (tree.crate_root n) = refl
-bare b (tree.inherent_impl n p t) = refl
-bare b (tree.trait_impl n p t q) = refl
-bare b (tree.trait_definition t q) = refl
-bare b (tree.nested n p i) = refl
+bare d b (tree.generic p a) = bare-generic (has_arguments d) _ _
+bare d b (tree.crate_root n) = bare-plain (has_arguments d) _
+bare d b (tree.inherent_impl n p t) = bare-plain (has_arguments d) _
+bare d b (tree.trait_impl n p t q) = bare-plain (has_arguments d) _
+bare d b (tree.trait_definition t q) = bare-plain (has_arguments d) _
+bare d b (tree.nested n p i) = bare-plain (has_arguments d) _
 
-pub bare-bound : (d : Detail) (b : ℕ) (p : tree.Path) (x : tree.Bindings) → d ≡ Detail.Full → any_bindings x ≡ false → bound_parts d b p x ≡ path_parts d b false p also done
-bare-bound d b p tree.no_bindings e h = rw e (bare b p)
-bare-bound d b p (tree.more_bindings n t r) e h = absurd (let z : true ≡ false = h in cc)
+pub bare-bound : (d : Detail) (b : ℕ) (p : tree.Path) (x : tree.Bindings) → any_bindings x ≡ false → bound_parts d b p x ≡ path_parts d b false p also done
+bare-bound d b p tree.no_bindings h = bare d b p
+bare-bound d b p (tree.more_bindings n t r) h = absurd (let z : true ≡ false = h in cc)
 
-plain : (b : ℕ) (p : tree.Path) (n : tree.Name) (t : tree.Ty) (r : tree.Bindings) → IsPlain p
-    → bound_parts Detail.Full b p (tree.more_bindings n t r)
-    ≡ (path_parts Detail.Full b false p also codes "<" then bindings_from Detail.Full b [] (tree.more_bindings n t r) perhaps codes ">" then done)
+plain-some : (all : Bool) (p x : Unshared) → all ≡ true → plain_bound all p (Some x) ≡ (p also codes "<" then x also codes ">" then done)
+plain-some all p x e = rw e refl
+
+plain : (d : Detail) (b : ℕ) (p : tree.Path) (n : tree.Name) (t : tree.Ty) (r : tree.Bindings) → IsPlain p → has_arguments d ≡ true
+    → bound_parts d b p (tree.more_bindings n t r)
+    ≡ (path_parts d b false p also codes "<" then bindings_from d b [] (tree.more_bindings n t r) perhaps codes ">" then done)
 unfolding bound_parts path_parts bindings_from
-plain b (tree.generic p a) n t r h = absurd h
-plain b (tree.crate_root m) n t r h = refl
-plain b (tree.inherent_impl m p u) n t r h = refl
-plain b (tree.trait_impl m p u q) n t r h = refl
-plain b (tree.trait_definition u q) n t r h = refl
-plain b (tree.nested m p i) n t r h = refl
+plain d b (tree.generic p a) n t r h e = absurd h
+plain d b (tree.crate_root m) n t r h e = plain-some (has_arguments d) _ _ e
+plain d b (tree.inherent_impl m p u) n t r h e = plain-some (has_arguments d) _ _ e
+plain d b (tree.trait_impl m p u q) n t r h e = plain-some (has_arguments d) _ _ e
+plain d b (tree.trait_definition u q) n t r h e = plain-some (has_arguments d) _ _ e
+plain d b (tree.nested m p i) n t r h e = plain-some (has_arguments d) _ _ e
 
-pub plain-bound : (d : Detail) (b : ℕ) (p : tree.Path) (x : tree.Bindings) → IsPlain p → d ≡ Detail.Full → any_bindings x ≡ true
+pub plain-bound : (d : Detail) (b : ℕ) (p : tree.Path) (x : tree.Bindings) → IsPlain p → has_arguments d ≡ true → any_bindings x ≡ true
     → bound_parts d b p x ≡ (path_parts d b false p also codes "<" then bindings_from d b [] x perhaps codes ">" then done)
 plain-bound d b p tree.no_bindings is e h = absurd (let z : false ≡ true = h in cc)
-plain-bound d b p (tree.more_bindings n t r) is e h = rw e (plain b p n t r is)
+plain-bound d b p (tree.more_bindings n t r) is e h = plain d b p n t r is e
 
-pub generic-bound : (d : Detail) (b : ℕ) (p : tree.Path) (a : tree.Arguments) (x : tree.Bindings) → d ≡ Detail.Full → any_bindings x ≡ true
+generic-some : (all : Bool) (p : Unshared) (a : Option Unshared) (x : Unshared) → all ≡ true
+    → generic_bound all p a (Some x) ≡ (p also codes "<" then behind_arguments a (x also codes ">" then done))
+generic-some all p a x e = rw e refl
+
+pub generic-bound : (d : Detail) (b : ℕ) (p : tree.Path) (a : tree.Arguments) (x : tree.Bindings) → has_arguments d ≡ true → any_bindings x ≡ true
     → bound_parts d b (tree.generic p a) x
     ≡ (path_parts d b false p also codes "<" then behind_arguments (arguments_from d b [] a) (bindings_from d b [] x perhaps codes ">" then done))
 unfolding bound_parts bindings_from
 generic-bound d b p a tree.no_bindings e h = absurd (let z : false ≡ true = h in cc)
-generic-bound d b p a (tree.more_bindings n t r) e h = rw e refl
+generic-bound d b p a (tree.more_bindings n t r) e h = generic-some (has_arguments d) _ _ _ e
 
 pub some-arguments : (d : Detail) (b : ℕ) (a : tree.Arguments) (rest : Unshared) → any_arguments a ≡ true
     → (arguments_from d b [] a perhaps codes ", " then rest) ≡ behind_arguments (arguments_from d b [] a) rest

@@ -4,6 +4,7 @@ use Rattle.std.specs.Fmt.{digits}
 use Rattle.sym_print.specs.Unshared.{Unshared, done}
 use Rattle.sym_print.specs.Building.{◌then◌, ◌also◌, ◌perhaps◌}
 use Rattle.sym_print.specs.declared.detail.Detail.{Detail}
+use Rattle.sym_print.specs.Details.{has_arguments}
 use Rattle.sym_core.specs.Printed.{printed_name, signed_text}
 use Rattle.rust_tree.specs.BasicTypes.{basic_texts}
 use Rattle.rust_tree.specs.Symbol.{Name, Identifier, Abi, rust_abi, c_abi, named_abi, Path, Arguments, Ty, Tys, Bounds, Bindings, Constant, Symbol, crate_root, inherent_impl, trait_impl, trait_definition, nested, generic, no_arguments, lifetime_argument, constant_argument, type_argument, basic, path_type, array, slice, tuple, shared_reference, mutable_reference, const_pointer, mut_pointer, function, dyn, no_types, more_types, no_bounds, more_bounds, no_bindings, more_bindings, integer, boolean, character, placeholder}
@@ -67,13 +68,13 @@ nested_name true namespace name rest = name_behind (codes "::") (name_text name.
 nested_name false namespace name rest = special_name namespace name rest
 
 -- Arguments, which stand behind `::` in value style. In brief they aren't shown.
-abbrev pub argument_list : Detail → (value : Bool) → (arguments : Option Unshared) → Unshared → Unshared
-argument_list Detail.Full value arguments rest = (if value then codes "::<" else codes "<") then arguments perhaps codes ">" then rest
-argument_list Detail.Brief value arguments rest = rest
+abbrev pub argument_list : (all : Bool) → (value : Bool) → (arguments : Option Unshared) → Unshared → Unshared
+argument_list true value arguments rest = (if value then codes "::<" else codes "<") then arguments perhaps codes ">" then rest
+argument_list false value arguments rest = rest
 
 -- a path and its arguments
-abbrev pub generic_parts : Detail → (value : Bool) → (parent : Unshared) → (arguments : Option Unshared) → Unshared
-generic_parts detail value parent arguments = parent also argument_list detail value arguments done
+abbrev pub generic_parts : (all : Bool) → (value : Bool) → (parent : Unshared) → (arguments : Option Unshared) → Unshared
+generic_parts all value parent arguments = parent also argument_list all value arguments done
 
 -- the names of so many lifetimes, from this number on
 unfoldable pub names_from : (separator : List ℕ) → (number : ℕ) → (count : ℕ) → Option Unshared
@@ -125,14 +126,14 @@ abbrev pub behind_arguments : (arguments : Option Unshared) → Unshared → Uns
 behind_arguments None rest = rest
 behind_arguments (Some arguments) rest = arguments also codes ", " then rest
 
-abbrev pub generic_bound : Detail → (parent : Unshared) → (arguments bindings : Option Unshared) → Unshared
-generic_bound Detail.Full parent arguments (Some bindings) =
+abbrev pub generic_bound : (all : Bool) → (parent : Unshared) → (arguments bindings : Option Unshared) → Unshared
+generic_bound true parent arguments (Some bindings) =
     parent also codes "<" then behind_arguments arguments (bindings also codes ">" then done)
-generic_bound detail parent arguments _ = generic_parts detail false parent arguments also done
+generic_bound all parent arguments _ = generic_parts all false parent arguments also done
 
-abbrev pub plain_bound : Detail → (path : Unshared) → (bindings : Option Unshared) → Unshared
-plain_bound Detail.Full path (Some bindings) = path also codes "<" then bindings also codes ">" then done
-plain_bound detail path _ = path also done
+abbrev pub plain_bound : (all : Bool) → (path : Unshared) → (bindings : Option Unshared) → Unshared
+plain_bound true path (Some bindings) = path also codes "<" then bindings also codes ">" then done
+plain_bound all path _ = path also done
 
 unfoldable mutual
   -- a path, where so many lifetimes are bound
@@ -147,7 +148,7 @@ unfoldable mutual
   path_parts detail bound value (nested namespace parent name) =
       path_parts detail bound value parent also nested_name (nat_le 97 namespace) namespace name done
   path_parts detail bound value (generic parent arguments) =
-      generic_parts detail value (path_parts detail bound value parent) (arguments_from detail bound [] arguments)
+      generic_parts (has_arguments detail) value (path_parts detail bound value parent) (arguments_from detail bound [] arguments)
 
   -- arguments one after another, a separator before the first
   pub arguments_from : Detail → (bound : ℕ) → (separator : List ℕ) → Arguments → Option Unshared
@@ -183,9 +184,9 @@ unfoldable mutual
   pub bounds_from : Detail → (bound : ℕ) → (separator : List ℕ) → Bounds → Option Unshared
   bounds_from detail bound separator no_bounds = None
   bounds_from detail bound separator (more_bounds (generic parent arguments) bindings rest) =
-      Some (separator then generic_bound detail (path_parts detail bound false parent) (arguments_from detail bound [] arguments) (bindings_from detail bound [] bindings) also bounds_from detail bound (codes " + ") rest perhaps done)
+      Some (separator then generic_bound (has_arguments detail) (path_parts detail bound false parent) (arguments_from detail bound [] arguments) (bindings_from detail bound [] bindings) also bounds_from detail bound (codes " + ") rest perhaps done)
   bounds_from detail bound separator (more_bounds path bindings rest) =
-      Some (separator then plain_bound detail (path_parts detail bound false path) (bindings_from detail bound [] bindings) also bounds_from detail bound (codes " + ") rest perhaps done)
+      Some (separator then plain_bound (has_arguments detail) (path_parts detail bound false path) (bindings_from detail bound [] bindings) also bounds_from detail bound (codes " + ") rest perhaps done)
 
   pub bindings_from : Detail → (bound : ℕ) → (separator : List ℕ) → Bindings → Option Unshared
   bindings_from detail bound separator no_bindings = None
@@ -195,8 +196,8 @@ unfoldable mutual
 -- one bound
 unfoldable pub bound_parts : Detail → (bound : ℕ) → Path → Bindings → Unshared
 bound_parts detail bound (generic parent arguments) bindings =
-    generic_bound detail (path_parts detail bound false parent) (arguments_from detail bound [] arguments) (bindings_from detail bound [] bindings)
-bound_parts detail bound path bindings = plain_bound detail (path_parts detail bound false path) (bindings_from detail bound [] bindings)
+    generic_bound (has_arguments detail) (path_parts detail bound false parent) (arguments_from detail bound [] arguments) (bindings_from detail bound [] bindings)
+bound_parts detail bound path bindings = plain_bound (has_arguments detail) (path_parts detail bound false path) (bindings_from detail bound [] bindings)
 
 -- a whole symbol; the path of the crate that asked for it isn't shown
 abbrev pub suffix_parts : List ℕ → Unshared → Unshared

@@ -9,14 +9,14 @@ ghost use Rattle.rust_tree.specs.Symbol as tree;
 ghost use Rattle.rust_tree.specs.Nodes.{IsPath, IsArguments, IsBounds, IsBindings, path_in, arguments_in, bounds_in, bindings_in};
 ghost use Rattle.rust_tree.specs.Shown.{path_parts, arguments_from, bindings_from, bound_parts, behind_arguments};
 ghost use Rattle.rust_tree.specs.Layout.{trees_of, HasDepth, Shows, any_bindings, bound_in};
-ghost use Rattle.sym_print.specs.declared.detail.Detail.{Detail};
+ghost use Rattle.sym_print.specs.Details.{has_arguments};
 ghost use Rattle.rust_tree.specs.declared.form.Form.{Form};
 
 use crate::context::Context;
 use crate::node::{Bounds, Path};
 use crate::symbol::Symbol;
 use crate::texts;
-use sym_print::{Detail, PartList};
+use sym_print::PartList;
 
 impl Symbol {
     /// Adds arguments and a comma behind them, if there are any.
@@ -68,7 +68,7 @@ impl Symbol {
     )
         requires path { (p : tree.Path) × IsPath (trees_of self.now) path p }
         requires bindings { (b : tree.Bindings) × IsBindings (trees_of self.now) bindings b }
-        requires full { ctx.detail ≡ Detail.Full }
+        requires full { has_arguments ctx.detail ≡ true }
         requires any { any_bindings (bindings_in (slice_get (trees_of self.now) bindings)) ≡ true }
         requires depth { HasDepth Form.PlainPath path ctx.bound }
         requires depth_of_bindings { HasDepth Form.PlainPath bindings ctx.bound }
@@ -102,16 +102,15 @@ impl Symbol {
     {
         match self.bounds(node) {
             Bounds::None => {}
-            Bounds::More { path, bindings, .. } => match ctx.detail {
-                Detail::Brief => self.push_path(parts, path, false, ctx),
-                Detail::Full => {
-                    if self.any_bindings(bindings) {
-                        self.fill_full_bound(parts, path, bindings, ctx);
-                    } else {
-                        self.push_path(parts, path, false, ctx);
-                    }
+            Bounds::More { path, bindings, .. } => {
+                if !ctx.detail.has_arguments() {
+                    self.push_path(parts, path, false, ctx);
+                } else if self.any_bindings(bindings) {
+                    self.fill_full_bound(parts, path, bindings, ctx);
+                } else {
+                    self.push_path(parts, path, false, ctx);
                 }
-            },
+            }
         }
     }
 }

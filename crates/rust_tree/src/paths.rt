@@ -5,6 +5,7 @@ ghost use Rattle.std.specs.Prelude.{◌+◌, ◌≤◌, [], slice_get, codes, na
 ghost use Rattle.sym_print.specs.Held.{Held};
 ghost use Rattle.sym_print.specs.Unshared.{Unshared};
 ghost use Rattle.sym_print.specs.Building.{◌then◌, ◌also◌};
+ghost use Rattle.sym_print.specs.Details.{has_arguments};
 ghost use Rattle.rust_tree.specs.Symbol as tree;
 ghost use Rattle.rust_tree.specs.Nodes.{IsPath, IsArguments, IsType, IsSymbol, HasName, IsWithin, bytes_at, identifier_of, path_in, arguments_in, type_in, symbol_in};
 ghost use Rattle.rust_tree.specs.Shown.{path_parts, type_parts, arguments_from, symbol_parts, suffix_parts, argument_list, nested_name};
@@ -16,7 +17,7 @@ use crate::node::{Name, Path, Ty};
 use crate::symbol::Symbol;
 use crate::texts;
 use sym_core::Span;
-use sym_print::{Detail, PartList};
+use sym_print::PartList;
 
 impl Symbol {
     /// Adds a path in this style.
@@ -108,16 +109,13 @@ impl Symbol {
         requires room { 3 ≤ S.room parts.old }
         requires arguments { (a : tree.Arguments) × IsArguments (trees_of self.now) arguments a }
         ensures shows { (below : Held Context) (so_far : Unshared) → Shows self.now below (S.held parts.old) so_far → HasDepth Form.PlainPath arguments ctx.bound
-            → Shows self.now below (S.held parts.new) (argument_list ctx.detail value (arguments_from ctx.detail ctx.bound [] (arguments_in (slice_get (trees_of self.now) arguments))) so_far) }
+            → Shows self.now below (S.held parts.new) (argument_list (has_arguments ctx.detail) value (arguments_from ctx.detail ctx.bound [] (arguments_in (slice_get (trees_of self.now) arguments))) so_far) }
         ensures room { S.room parts.old ≤ S.room parts.new + 3 }
     {
-        match ctx.detail {
-            Detail::Full => {
-                self.push_text(parts, texts::GREATER);
-                self.push_arguments(parts, arguments, true, ctx);
-                self.push_open_angle(parts, value);
-            }
-            Detail::Brief => {}
+        if ctx.detail.has_arguments() {
+            self.push_text(parts, texts::GREATER);
+            self.push_arguments(parts, arguments, true, ctx);
+            self.push_open_angle(parts, value);
         }
     }
 

@@ -27,7 +27,9 @@ symbol_kind symbol = record { lang = lang_of symbol; skip = 0 }
 abbrev pub detail_of : ℕ → Option Detail
 detail_of zero = Some Detail.Full
 detail_of (suc zero) = Some Detail.Brief
-detail_of (suc (suc n)) = None
+detail_of (suc (suc zero)) = Some Detail.NoParameters
+detail_of (suc (suc (suc zero))) = Some Detail.BriefNoParameters
+detail_of (suc (suc (suc (suc n)))) = None
 
 -- how a call ends: its status, the room behind it, and what is told with the status
 pub record Ending : Type 0 where

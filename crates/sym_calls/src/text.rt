@@ -16,6 +16,8 @@ pub(crate) fn detail_of(number: u32) -> Option<Detail>
     match number {
         0 => Some(Detail::Full),
         1 => Some(Detail::Brief),
+        2 => Some(Detail::NoParameters),
+        3 => Some(Detail::BriefNoParameters),
         _ => None,
     }
 }

@@ -95,6 +95,8 @@ fn command_line<'a>(alloc: Global, words: &'a [&'a str]) -> Result<ArgMatches<'a
         "Spell each symbol again with its repeated parts as references, in place of printing it",
     );
     let brief = flag(alloc, "brief").help("Leave out template and generic arguments");
+    let no_params = flag(alloc, "no-params")
+        .help("Print each C++ function by its name, without return type and parameters");
     let symbols = Arg::new(alloc, "SYMBOL")
         .num_args(0..)
         .action(ArgAction::Append)
@@ -106,6 +108,7 @@ fn command_line<'a>(alloc: Global, words: &'a [&'a str]) -> Result<ArgMatches<'a
         .arg(stats)?
         .arg(press)?
         .arg(brief)?
+        .arg(no_params)?
         .arg(symbols)?
         .try_get_matches_from(words)
 }
@@ -143,16 +146,21 @@ pub fn refuse_with<E: Sink>(err: &mut E, why: &[u8]) -> Result<Run, FilterFault>
     }
 }
 
+/// The detail that two flags ask for.
+fn detail_of(brief: bool, no_params: bool) -> Detail {
+    match (brief, no_params) {
+        (false, false) => Detail::Full,
+        (true, false) => Detail::Brief,
+        (false, true) => Detail::NoParameters,
+        (true, true) => Detail::BriefNoParameters,
+    }
+}
+
 /// The options of a command line.
 fn options_of(matches: &ArgMatches<'_>) -> Options {
-    let detail = if matches.get_flag("brief") {
-        Detail::Brief
-    } else {
-        Detail::Full
-    };
     Options {
         limit: matches.get_one::<u32>("limit").unwrap_or(DEFAULT_LIMIT),
-        detail,
+        detail: detail_of(matches.get_flag("brief"), matches.get_flag("no-params")),
         stats: matches.get_flag("stats"),
         press: matches.get_flag("press"),
     }

@@ -19,7 +19,7 @@ pub fn one_answer<M: Mangling>()
     ensures given { (detail : Detail) (s : List ℕ) (limit : ℕ) (result : Result (List ℕ) Refusal) → AreBytes s → IsAnswer M.mangled detail s limit result → result ≡ answer M.mangled detail s limit }
 {}
 
-/// What a symbol reads as decides its answer at every limit and in both details: the text of its tree, or `TooLong`. A symbol that
+/// What a symbol reads as decides its answer at every limit and in each detail: the text of its tree, or `TooLong`. A symbol that
 /// is refused when it is read has that refusal for its answer, and it is never `TooLong`.
 pub fn read_answers<M: Mangling>()
     ensures answered { (detail : Detail) (s : List ℕ) (limit : ℕ) (result : Result M.Whole Refusal) → AreBytes s → IsReading M.mangled s result → answer M.mangled detail s limit ≡ answer_of_symbol M.mangled detail limit result }

@@ -7,3 +7,4 @@ pub mod Held
 pub mod Progress
 pub mod Printing
 pub mod Unfold
+pub mod Details

@@ -1,6 +1,9 @@
 // How much of a symbol is printed.
 #![tactic(auto)]
 
+ghost use Rattle.std.specs.Prelude.{◌≡◌};
+ghost use Rattle.sym_print.specs.Details.{has_arguments, has_parameters};
+
 /// How much of a symbol is printed.
 #[derive(Clone, Copy, Debug, PartialEq, Eq)]
 pub enum Detail {
@@ -8,4 +11,38 @@ pub enum Detail {
     Full,
     /// Names without their template or generic arguments.
     Brief,
+    /// Each C++ function by its name alone, with its template arguments: without its return type, its parameters and the
+    /// qualifiers behind them. So are an enclosing function, what a thunk leads to and a function in template arguments; types
+    /// of functions are whole, and so is anything else.
+    NoParameters,
+    /// The same, and names without their template or generic arguments.
+    BriefNoParameters,
+}
+
+impl Detail {
+    /// Whether names have their template and generic arguments.
+    #[inline(always)]
+    pub fn has_arguments(self) -> bool
+        ensures { result ≡ has_arguments self }
+    {
+        match self {
+            Detail::Full => true,
+            Detail::Brief => false,
+            Detail::NoParameters => true,
+            Detail::BriefNoParameters => false,
+        }
+    }
+
+    /// Whether functions have their parameters, and what stands around them.
+    #[inline(always)]
+    pub fn has_parameters(self) -> bool
+        ensures { result ≡ has_parameters self }
+    {
+        match self {
+            Detail::Full => true,
+            Detail::Brief => true,
+            Detail::NoParameters => false,
+            Detail::BriefNoParameters => false,
+        }
+    }
 }

@@ -229,6 +229,16 @@ fn reads_command_lines(rt: HostRuntime) {
         detail: brief,
     };
     assert!(rt; runs(alloc, &["symfilt", "--limit=4294967295", "--brief"]) == (most, false));
+    let named = Run::Filter {
+        limit: 1_000_000,
+        detail: Detail::NoParameters,
+    };
+    assert!(rt; runs(alloc, &["symfilt", "--no-params"]) == (named, false));
+    let shortest = Run::Filter {
+        limit: 1_000_000,
+        detail: Detail::BriefNoParameters,
+    };
+    assert!(rt; runs(alloc, &["symfilt", "--no-params", "--brief"]) == (shortest, false));
     assert!(rt; runs(alloc, &["symfilt", "--limit", "4294967296"]) == (Run::Done(2), true));
     assert!(rt; runs(alloc, &["symfilt", "--press"]) == (Run::Done(2), true));
     assert!(rt; runs(alloc, &["symfilt", "--help"]) == (Run::Done(2), true));

@@ -1,4 +1,4 @@
-use Rattle.std.proofs.Common.{ap, append-nil, sym, ◌∙◌}
+use Rattle.std.proofs.Common.{ap, sym}
 use Rattle.cpp_layout.proofs.Functions.{bare-other}
 use Rattle.cpp_layout.proofs.Growing.{fills, starts}
 use Rattle.cpp_term.specs.Parts.{bare_parts}
@@ -7,7 +7,7 @@ use Rattle.cpp_layout.proofs.symbol.Symbol.fill_bare_of.Goals as goal
 
 pub returns-in-Function-clause-shows : goal.returns-in-Function-clause-shows
 unfolding tree_of bare_parts
-returns-in-Function-clause-shows g c = fills c.args.self.now c.args.detail _ _ _ (c.push_bare.ensures.shows _ _ (starts c.args.self.now c.args.detail _)) (append-nil _ ∙ ap (λ t. bare_parts t) (sym c.in-Function.ensures.tree))
+returns-in-Function-clause-shows g c = fills c.args.self.now c.args.detail _ _ _ c.fill_bare.ensures.shows (ap (λ t. bare_parts c.args.detail t) (sym c.in-Function.ensures.tree))
 
 pub returns-in_default-clause-shows : goal.returns-in_default-clause-shows
-returns-in_default-clause-shows g c = fills c.args.self.now c.args.detail _ _ _ c.fill_full.ensures.shows (bare-other _ _ _ c.stored.result _ c.stored.ensures.tree c.in_default.not-Function)
+returns-in_default-clause-shows g c = fills c.args.self.now c.args.detail _ _ _ c.fill_full.ensures.shows (bare-other c.args.detail _ _ _ c.stored.result _ c.stored.ensures.tree c.in_default.not-Function)

@@ -7,23 +7,23 @@ use Rattle.cpp_layout.proofs.symbol.Symbol.fill_full.Goals as goal
 
 pub returns-in-Function-clause-shows : goal.returns-in-Function-clause-shows
 unfolding tree_of full_parts
-returns-in-Function-clause-shows g c = fills c.args.self.now c.args.detail _ _ _ c.fill_function.ensures.shows (ap (λ t. full_parts t) (sym c.in-Function.ensures.tree))
+returns-in-Function-clause-shows g c = fills c.args.self.now c.args.detail _ _ _ c.fill_function.ensures.shows (ap (λ t. full_parts c.args.detail t) (sym c.in-Function.ensures.tree))
 
 pub returns-in-Object-clause-shows : goal.returns-in-Object-clause-shows
 unfolding tree_of full_parts
-returns-in-Object-clause-shows g c = fills c.args.self.now c.args.detail _ _ _ c.fill_object.ensures.shows (ap (λ t. full_parts t) (sym c.in-Object.ensures.tree))
+returns-in-Object-clause-shows g c = fills c.args.self.now c.args.detail _ _ _ c.fill_object.ensures.shows (ap (λ t. full_parts c.args.detail t) (sym c.in-Object.ensures.tree))
 
 pub returns-in-Special-clause-shows : goal.returns-in-Special-clause-shows
 unfolding tree_of full_parts
-returns-in-Special-clause-shows g c = fills c.args.self.now c.args.detail _ _ _ c.fill_special.ensures.shows (ap (λ t. full_parts t) (sym c.in-Special.ensures.tree))
+returns-in-Special-clause-shows g c = fills c.args.self.now c.args.detail _ _ _ c.fill_special.ensures.shows (ap (λ t. full_parts c.args.detail t) (sym c.in-Special.ensures.tree))
 
 pub returns-in-Thunk-clause-shows : goal.returns-in-Thunk-clause-shows
 unfolding tree_of full_parts
-returns-in-Thunk-clause-shows g c = fills c.args.self.now c.args.detail _ _ _ c.fill_thunk.ensures.shows (ap (λ t. full_parts t) (sym c.in-Thunk.ensures.tree))
+returns-in-Thunk-clause-shows g c = fills c.args.self.now c.args.detail _ _ _ c.fill_thunk.ensures.shows (ap (λ t. full_parts c.args.detail t) (sym c.in-Thunk.ensures.tree))
 
 pub returns-in-Guard-clause-shows : goal.returns-in-Guard-clause-shows
 unfolding tree_of full_parts
-returns-in-Guard-clause-shows g c = fills c.args.self.now c.args.detail _ _ _ c.fill_object-in-Guard.ensures.shows (ap (λ t. full_parts t) (sym c.in-Guard.ensures.tree))
+returns-in-Guard-clause-shows g c = fills c.args.self.now c.args.detail _ _ _ c.fill_object-in-Guard.ensures.shows (ap (λ t. full_parts c.args.detail t) (sym c.in-Guard.ensures.tree))
 
 pub returns-in_default-clause-shows : goal.returns-in_default-clause-shows
-returns-in_default-clause-shows g c = fills c.args.self.now c.args.detail _ _ _ (starts c.args.self.now c.args.detail _) (full-none _ _ _ c.stored.result _ c.stored.ensures.tree c.in_default.not-Function c.in_default.not-Object c.in_default.not-Special c.in_default.not-Thunk c.in_default.not-Guard)
+returns-in_default-clause-shows g c = fills c.args.self.now c.args.detail _ _ _ (starts c.args.self.now c.args.detail _) (full-none c.args.detail _ _ _ c.stored.result _ c.stored.ensures.tree c.in_default.not-Function c.in_default.not-Object c.in_default.not-Special c.in_default.not-Thunk c.in_default.not-Guard)

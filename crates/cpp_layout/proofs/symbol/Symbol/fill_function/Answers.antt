@@ -1,11 +1,13 @@
-use Rattle.cpp_layout.proofs.Functions.{function-absent, not-absent}
+use Rattle.std.proofs.Common.{ap, sym, ◌∙◌}
 use Rattle.cpp_layout.proofs.Growing.{fills, starts}
-use Rattle.cpp_tree.specs.Nodes.{tree_of}
+use Rattle.cpp_layout.specs.Layout.{table_of}
+use Rattle.cpp_term.specs.Parts.{function_full, function_bare}
+use Rattle.cpp_tree.specs.Nodes.{tree_at, trees, qualifiers_of, mark_of}
 use Rattle.cpp_layout.proofs.symbol.Symbol.fill_function.Goals as goal
 
-pub returns-in-Absent-clause-shows : goal.returns-in-Absent-clause-shows
-unfolding tree_of
-returns-in-Absent-clause-shows g c = fills c.args.self.now c.args.detail _ _ _ (c.push_bare.ensures.shows _ _ (starts c.args.self.now c.args.detail _)) (function-absent _ _ _ _ _ c.in-Absent.ensures.tree)
+pub returns-then-has_parameters-clause-shows : goal.returns-then-has_parameters-clause-shows
+returns-then-has_parameters-clause-shows g c = fills c.args.self.now c.args.detail _ _ _ c.fill_signature.ensures.shows (ap (λ b. function_full b (tree_at (trees (table_of c.args.self.now)) c.args.name) (qualifiers_of c.args.qualifiers) (mark_of c.args.mark) (tree_at (trees (table_of c.args.self.now)) c.args.returned) (tree_at (trees (table_of c.args.self.now)) c.args.parameters)) (sym (sym c.has_parameters.ensures ∙ c.if-has_parameters.true)))
 
-pub fill_returning-requires-clause-there : goal.fill_returning-requires-clause-there
-fill_returning-requires-clause-there g c = not-absent _ _ _ c.stored.result _ c.stored.ensures.tree c.in_default.not-Absent
+pub returns-else-has_parameters-clause-shows : goal.returns-else-has_parameters-clause-shows
+unfolding function_full function_bare
+returns-else-has_parameters-clause-shows g c = fills c.args.self.now c.args.detail _ _ _ (c.push_item.ensures.shows _ _ (starts c.args.self.now c.args.detail _)) (ap (λ b. function_full b (tree_at (trees (table_of c.args.self.now)) c.args.name) (qualifiers_of c.args.qualifiers) (mark_of c.args.mark) (tree_at (trees (table_of c.args.self.now)) c.args.returned) (tree_at (trees (table_of c.args.self.now)) c.args.parameters)) (sym (sym c.has_parameters.ensures ∙ c.if-has_parameters.false)))

@@ -10,11 +10,11 @@ unfolding bounds_of
 returns-in-None-clause-shows g c =
     fills c.args.self.now _ _ _ (starts c.args.self.now _) (ap (λ t. bound_in c.args.ctx (bounds_in t)) c.in-None.ensures.tree)
 
-pub returns-in-Brief-clause-shows : goal.returns-in-Brief-clause-shows
+pub returns-then-not-has_arguments-clause-shows : goal.returns-then-not-has_arguments-clause-shows
 unfolding bounds_of
-returns-in-Brief-clause-shows g c =
+returns-then-not-has_arguments-clause-shows g c =
     let p = early-path (trees_of c.args.self.now) c.args.node c.in-More.path c.in-More.ensures.parts.0 in
-    fills c.args.self.now _ _ _ (c.push_path.ensures.shows _ _ (starts c.args.self.now _) p.1 (deeper c.args.ctx.bound c.in-More.path c.args.node p.0 c.requires.depth)) (ap (λ t. bound_in c.args.ctx (bounds_in t)) c.in-More.ensures.tree ∙ brief-bound c.args.ctx.detail c.args.ctx.bound (path_in (slice_get (trees_of c.args.self.now) c.in-More.path)) (bindings_in (slice_get (trees_of c.args.self.now) c.in-More.bindings)) c.in-Brief.is)
+    fills c.args.self.now _ _ _ (c.push_path.ensures.shows _ _ (starts c.args.self.now _) p.1 (deeper c.args.ctx.bound c.in-More.path c.args.node p.0 c.requires.depth)) (ap (λ t. bound_in c.args.ctx (bounds_in t)) c.in-More.ensures.tree ∙ brief-bound c.args.ctx.detail c.args.ctx.bound (path_in (slice_get (trees_of c.args.self.now) c.in-More.path)) (bindings_in (slice_get (trees_of c.args.self.now) c.in-More.bindings)) (sym c.has_arguments.ensures ∙ c.if-not-has_arguments.true))
 
 pub returns-then-any_bindings-clause-shows : goal.returns-then-any_bindings-clause-shows
 unfolding bounds_of
@@ -25,4 +25,4 @@ pub returns-else-any_bindings-clause-shows : goal.returns-else-any_bindings-clau
 unfolding bounds_of
 returns-else-any_bindings-clause-shows g c =
     let p = early-path (trees_of c.args.self.now) c.args.node c.in-More.path c.in-More.ensures.parts.0 in
-    fills c.args.self.now _ _ _ (c.push_path-else-any_bindings.ensures.shows _ _ (starts c.args.self.now _) p.1 (deeper c.args.ctx.bound c.in-More.path c.args.node p.0 c.requires.depth)) (ap (λ t. bound_in c.args.ctx (bounds_in t)) c.in-More.ensures.tree ∙ bare-bound c.args.ctx.detail c.args.ctx.bound (path_in (slice_get (trees_of c.args.self.now) c.in-More.path)) (bindings_in (slice_get (trees_of c.args.self.now) c.in-More.bindings)) c.in-Full.is (search rules))
+    fills c.args.self.now _ _ _ (c.push_path-else-any_bindings.ensures.shows _ _ (starts c.args.self.now _) p.1 (deeper c.args.ctx.bound c.in-More.path c.args.node p.0 c.requires.depth)) (ap (λ t. bound_in c.args.ctx (bounds_in t)) c.in-More.ensures.tree ∙ bare-bound c.args.ctx.detail c.args.ctx.bound (path_in (slice_get (trees_of c.args.self.now) c.in-More.path)) (bindings_in (slice_get (trees_of c.args.self.now) c.in-More.bindings)) (search rules))
