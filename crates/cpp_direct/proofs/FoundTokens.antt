@@ -10,7 +10,6 @@ use Rattle.sym_core.specs.declared.NameClass.TheVariants.{Cpp}
 use Rattle.sym_core.specs.declared.NumberKind.TheVariants.{Seq36, Digits}
 use Rattle.sym_core.specs.declared.tokens.TokenPlace.{TokenPlace}
 use Rattle.sym_core.specs.Token.{Token, IsName, IsSeparator, IsNumberToken, HasToken, FindsToken}
-use Rattle.cpp_grammar.specs.Parts.{source_text}
 use Rattle.cpp_grammar.specs.Values.{signed_digits}
 use Rattle.cpp_direct.specs.declared.direct.Direct.{Direct}
 use Rattle.cpp_direct.specs.Holes.{IsNameAt, IsSeqAt}
@@ -117,20 +116,6 @@ reads-written old middle new bytes text w same_text same_candidates same_waiting
   nest = w.nest ∙ same_nest;
   rounds = w.rounds ∙ same_rounds;
 }
-
--- a name was read and written
-pub name-read : (s : List ℕ) (old middle new : Direct) (place : TokenPlace) (bytes : List ℕ) → HasToken (IsName Cpp) (drop old.at s) old.at place
-    → old.at ≤ length s → bytes ≡ source_text (take (place.to - place.from) (drop place.from s)) → middle.at ≡ place.end
-    → middle.text ≡ old.text → middle.candidates ≡ old.candidates → middle.waiting ≡ old.waiting → middle.nest ≡ old.nest → middle.rounds ≡ old.rounds
-    → Writes middle new bytes
-    → (name : List ℕ) × IsNameAt s old.at name new.at × (name ≢ []) × Reads old new (source_text name)
-name-read s old middle new place bytes h le is there same_text same_candidates same_waiting same_nest same_rounds w =
-    let n = name-found s old.at place h le in (
-      n.0,
-      subst (λ e. IsNameAt s old.at n.0 e) (sym (w.at ∙ there)) n.1,
-      n.2,
-      reads-written old middle new bytes (source_text n.0) w same_text same_candidates same_waiting same_nest same_rounds (is ∙ ap source_text n.3),
-    )
 
 -- ## Substitutions
 

@@ -16,6 +16,7 @@ pub mod MovesOfLists
 pub mod MovesOfLocals
 pub mod MovesOfNests
 pub mod MovesOfTypes
+pub mod NamePlaces
 pub mod NestComponents
 pub mod Nesting
 pub mod Operators

@@ -1,12 +1,11 @@
 -- A symbol that is read from left to right while nothing is known of what comes behind: what the rules that stand open still need,
 -- and that the whole is read once they have it.
-use Rattle.std.specs.Prelude.{◌≡◌, ℕ, ◌+◌, List, [], ◌∷◌, ◌++◌, length, take, drop, Bool, true, false, Ok}
+use Rattle.std.specs.Prelude.{◌≡◌, ℕ, ◌+◌, List, [], ◌∷◌, ◌++◌, length, Bool, true, false}
 use Rattle.sym_core.specs.declared.NameClass.TheVariants.{Cpp}
 use Rattle.sym_core.specs.declared.NumberKind.TheVariants.{Seq36}
 use Rattle.sym_core.specs.Token.{Token, bytes_of, IsName, IsNumberToken}
 use Rattle.sym_shape.specs.declared.rule.Sym.{Sym}
 use Rattle.sym_shape.specs.declared.rule.Sym.TheVariants.{Kind as OfKind}
-use Rattle.sym_shape.specs.Tree.{Tree as Shape, Forest, IsTree, AreTrees, spell, spell_all}
 use Rattle.sym_link.specs.Reading.{Open}
 use Rattle.sym_direct.specs.Holes as direct
 use Rattle.sym_direct.specs.Holes.{Language}

@@ -10,6 +10,7 @@ mod direct;
 mod functions;
 mod lists;
 mod locals;
+mod names;
 mod nested;
 mod open;
 mod symbols;

@@ -14,8 +14,9 @@ ghost use Rattle.cpp_direct.specs.ItemBytes.{is_suffix_byte};
 ghost use Rattle.cpp_direct.specs.Written.{Reads};
 
 use crate::direct::Direct;
+use crate::names::name_at;
 use crate::open::Candidate;
-use sym_core::{NameClass, NumberKind, find_name, find_number, value36};
+use sym_core::{NumberKind, find_number, value36};
 
 /// The byte at a place, or 0 behind the end.
 #[inline(always)]
@@ -82,11 +83,8 @@ impl Direct {
         requires { FitsSymbol s.now }
         ensures { OnSome result ((name : List ℕ) × IsNameAt s.now self.old.at name self.new.at × (name ≢ []) × Reads self.old self.new (source_text name)) }
     {
-        if self.at > s.len() {
-            return None;
-        }
-        let place = find_name(s, self.at, NameClass::Cpp).ok()?;
-        self.at = place.end;
+        let place = name_at(s, self.at)?;
+        self.at = place.to;
         self.push(cpp_layout::name_text(&s[place.from..place.to]))
     }
 

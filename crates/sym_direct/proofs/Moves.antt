@@ -6,8 +6,8 @@ use Rattle.sym_shape.specs.declared.rule.Rule.{Rule}
 use Rattle.sym_shape.specs.declared.rule.Sym.{Sym}
 use Rattle.sym_shape.specs.declared.rule.Sym.TheVariants.{Kind, Byte}
 use Rattle.sym_shape.specs.Table.{Token, symbols_of, bytes_of}
-use Rattle.sym_shape.specs.Tree.{Forest, branch, empty, token, fixed, nothing, grown, IsTree, AreTrees, TakesRule}
-use Rattle.sym_link.specs.Reading.{Open, Next, Found}
+use Rattle.sym_shape.specs.Tree.{Forest, branch, empty, token, fixed, nothing, grown, IsTree, TakesRule}
+use Rattle.sym_link.specs.Reading.{Open, Next}
 use Rattle.sym_link.specs.Unfold.{found, standing}
 use Rattle.sym_direct.specs.Holes.{Language, Opened, opened, Reads, ReadsRest, StandsAt, Comes, Needs, Expects}
 

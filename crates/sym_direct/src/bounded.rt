@@ -1,6 +1,6 @@
 // Lists that grow up to a bound.
 
-ghost use Rattle.std.specs.Prelude.{◌≡◌, ◌+◌, ◌-◌, ◌≤◌, ◌∷◌, ◌++◌, [], length, take, drop};
+ghost use Rattle.std.specs.Prelude.{◌≡◌, ◌+◌, ◌-◌, ◌≤◌, ◌∷◌, ◌++◌, [], length, take, drop, vec_capacity};
 ghost use Rattle.std.specs.Option.{OnSome, option_to_list};
 
 use std::alloc::Global;
@@ -10,7 +10,10 @@ use std::alloc::Global;
 pub struct Bounded<T> {
     list: Vec<T>,
     room: usize,
+    // So many entries need no more memory.
+    ready: usize,
     pub ghost fits: { length list.items ≤ room },
+    ghost has_memory: { (length list.items ≤ ready) × (ready ≤ room) × (ready ≤ vec_capacity list) },
 }
 
 impl<T: Copy> Bounded<T> {
@@ -19,6 +22,7 @@ impl<T: Copy> Bounded<T> {
         Bounded {
             list: Vec::new(alloc),
             room: 0,
+            ready: 0,
         }
     }
 
@@ -29,6 +33,22 @@ impl<T: Copy> Bounded<T> {
     {
         self.list.clear();
         self.room = room;
+        self.ready = room.min(self.list.capacity());
+    }
+
+    /// Sees to memory for more entries, if there is room for them.
+    #[inline(never)]
+    fn make_ready(&mut self, more: usize) -> Option<()>
+        ensures ready { OnSome result (length self.new.list.items + more ≤ self.new.ready) }
+        ensures items { self.new.list.items ≡ self.old.list.items }
+        ensures room { self.new.room ≡ self.old.room }
+    {
+        if more > self.room - self.list.len() {
+            return None;
+        }
+        self.list.reserve(more).ok()?;
+        self.ready = self.room.min(self.list.capacity());
+        Some(())
     }
 
     /// How many entries it has.
@@ -53,10 +73,11 @@ impl<T: Copy> Bounded<T> {
         ensures items { OnSome result (self.new.list.items ≡ self.old.list.items ++ entry ∷ []) }
         ensures room { self.new.room ≡ self.old.room }
     {
-        if self.list.len() >= self.room {
-            return None;
+        if self.list.len() >= self.ready {
+            self.make_ready(1)?;
         }
-        self.list.push(entry).ok()
+        self.list.push_reserved(entry);
+        Some(())
     }
 
     /// Takes the last entry away.
@@ -77,8 +98,8 @@ impl Bounded<u8> {
         ensures items { OnSome result (self.new.list.items ≡ self.old.list.items ++ bytes.now) }
         ensures room { self.new.room ≡ self.old.room }
     {
-        if bytes.len() > self.room - self.list.len() {
-            return None;
+        if bytes.len() > self.ready - self.list.len() {
+            self.make_ready(bytes.len())?;
         }
         self.list.extend_from_slice(bytes).ok()
     }
@@ -89,11 +110,12 @@ impl Bounded<u8> {
         ensures items { OnSome result (self.new.list.items ≡ self.old.list.items ++ first ∷ second ∷ []) }
         ensures room { self.new.room ≡ self.old.room }
     {
-        if self.room - self.list.len() < 2 {
-            return None;
+        if self.ready - self.list.len() < 2 {
+            self.make_ready(2)?;
         }
-        self.list.push(first).ok()?;
-        self.list.push(second).ok()
+        self.list.push_reserved(first);
+        self.list.push_reserved(second);
+        Some(())
     }
 
     /// Adds bytes that stand in it, if there is room for them.
@@ -103,8 +125,8 @@ impl Bounded<u8> {
         ensures items { OnSome result (self.new.list.items ≡ self.old.list.items ++ take (to - from) (drop from self.old.list.items)) }
         ensures room { self.new.room ≡ self.old.room }
     {
-        if to - from > self.room - self.list.len() {
-            return None;
+        if to - from > self.ready - self.list.len() {
+            self.make_ready(to - from)?;
         }
         copy_to_end(&mut self.list, from, to)
     }
@@ -116,6 +138,7 @@ fn copy_to_end(bytes: &mut Vec<u8>, from: usize, to: usize) -> Option<()>
     requires to { to ≤ length bytes.old.items }
     ensures items { OnSome result (bytes.new.items ≡ bytes.old.items ++ take (to - from) (drop from bytes.old.items)) }
     ensures most { length bytes.new.items ≤ length bytes.old.items + (to - from) }
+    ensures capacity { vec_capacity bytes.old ≤ vec_capacity bytes.new }
 {
     let end = bytes.len();
     let longer = end.checked_add(to - from)?;

@@ -1,5 +1,4 @@
-use Rattle.std.proofs.Common.{◌≡◌, ◌+◌, ◌∷◌, ◌++◌, [], if◌then◌else◌, refl, ap, sym, ◌∙◌}
-use Rattle.cpp_direct.specs.declared.open.Open.TheVariants as opens
+use Rattle.std.proofs.Common.{◌≡◌, ◌+◌, if◌then◌else◌, refl, ap, sym, ◌∙◌}
 use Rattle.cpp_direct.proofs.FunctionsRead.{takes-function, function-begins}
 use Rattle.cpp_direct.proofs.Listed.{waits-last}
 use Rattle.cpp_direct.proofs.direct.Direct.begin_function.Goals as goal

@@ -1,4 +1,4 @@
-use Rattle.std.proofs.Common.{◌∷◌, [], ◌∙◌, subst, arith}
+use Rattle.std.proofs.Common.{◌∷◌, [], subst, arith}
 use Rattle.cpp_direct.specs.Holes.{StandsAt}
 use Rattle.cpp_direct.proofs.Begins.{name-bare, name-argued}
 use Rattle.cpp_direct.proofs.direct.Direct.begin_name.Goals as goal

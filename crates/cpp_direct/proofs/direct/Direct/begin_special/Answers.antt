@@ -1,4 +1,4 @@
-use Rattle.std.proofs.Common.{◌≢◌, ◌∷◌, ◌++◌, [], length, ◌==◌, ap, sym, ◌∙◌, refl}
+use Rattle.std.proofs.Common.{◌≢◌, ◌∷◌, ◌++◌, [], length, ◌==◌, ap, ◌∙◌, refl}
 use Rattle.std.proofs.lemmas.Bool.{false≢true}
 use Rattle.cpp_grammar.specs.Texts.{look_up, special_texts}
 use Rattle.cpp_direct.specs.declared.open.Open.TheVariants as opens

@@ -1,5 +1,4 @@
-use Rattle.std.proofs.Common.{◌++◌, ◌∷◌, [], refl, ap, sym, ◌∙◌}
-use Rattle.cpp_direct.specs.declared.open.Open.TheVariants as opens
+use Rattle.std.proofs.Common.{refl}
 use Rattle.cpp_direct.proofs.FoundTokens.{reads-begun}
 use Rattle.cpp_direct.proofs.Elements.{boolean-element-read, integer-element-read, enumerator-expected}
 use Rattle.cpp_direct.proofs.direct.Direct.literal.Goals as goal

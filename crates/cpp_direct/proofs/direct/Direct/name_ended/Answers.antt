@@ -1,5 +1,4 @@
-use Rattle.std.proofs.Common.{sym, ◌∙◌, subst, ap, refl, arith, ◌++◌, [], ◌∷◌}
-use Rattle.cpp_direct.specs.declared.open.Open.TheVariants as opens
+use Rattle.std.proofs.Common.{subst, refl, arith, [], ◌∷◌}
 use Rattle.cpp_direct.specs.Holes.{StandsAt}
 use Rattle.cpp_direct.specs.Ways.{IsNameEnded}
 use Rattle.cpp_direct.proofs.Ending.{object-ended, void-ended, first-expected}

@@ -1,4 +1,4 @@
-use Rattle.std.proofs.Common.{◌∙◌, arith}
+use Rattle.std.proofs.Common.{arith}
 use Rattle.cpp_direct.proofs.TypesRead.{there, source-named, nest-awaited}
 use Rattle.cpp_direct.proofs.direct.Direct.named_type.Goals as goal
 

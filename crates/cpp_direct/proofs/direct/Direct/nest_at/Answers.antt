@@ -1,4 +1,3 @@
-use Rattle.std.proofs.Common.{◌∙◌}
 use Rattle.cpp_direct.proofs.Nesting.{source-begins}
 use Rattle.cpp_direct.proofs.direct.Direct.nest_at.Goals as goal
 

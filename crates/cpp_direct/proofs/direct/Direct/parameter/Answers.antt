@@ -1,4 +1,4 @@
-use Rattle.std.proofs.Common.{true, false, arith, ◌∙◌}
+use Rattle.std.proofs.Common.{true, false, arith}
 use Rattle.cpp_direct.proofs.Signatures.{no-reference, parameter-comes, reference-comes}
 use Rattle.cpp_direct.proofs.TypesRead.{there}
 use Rattle.cpp_direct.proofs.direct.Direct.parameter.Goals as goal

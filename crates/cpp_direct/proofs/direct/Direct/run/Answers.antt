@@ -1,4 +1,4 @@
-use Rattle.std.proofs.Common.{◌∙◌, subst, arith}
+use Rattle.std.proofs.Common.{subst, arith}
 use Rattle.cpp_direct.specs.Stands.{IsBefore}
 use Rattle.cpp_direct.proofs.Begins.{whole-answer}
 use Rattle.cpp_direct.proofs.direct.Direct.run.Goals as goal

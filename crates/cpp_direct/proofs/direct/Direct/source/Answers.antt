@@ -1,4 +1,4 @@
-use Rattle.std.proofs.Common.{refl, sym, ◌∙◌, subst, arith}
+use Rattle.std.proofs.Common.{refl, sym, subst, arith}
 use Rattle.cpp_direct.proofs.NestComponents.{Moves, letters, moves-to, source-follows}
 use Rattle.cpp_direct.proofs.direct.Direct.source.Goals.{then-is_internal+in_ok-self, else-is_internal}
 use Rattle.cpp_direct.proofs.direct.Direct.source.Goals as goal

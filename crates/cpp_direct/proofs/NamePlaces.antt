@@ -1,0 +1,145 @@
+-- Where names stand.
+use Rattle.std.proofs.Common.{◌≡◌, ◌≢◌, ℕ, ◌+◌, ◌-◌, ◌*◌, ◌≤◌, ◌<◌, suc, List, [], ◌∷◌, ◌++◌, length, take, drop, get_or, true, false, refl, ap, sym, subst, ◌∙◌, arith, append_assoc, append-nil}
+use Rattle.std.proofs.lemmas.List.{length-append, length-drop, length-take-le, take-append-drop, drop-drop}
+use Rattle.std.proofs.lemmas.Bool.{le-leb}
+use Rattle.std.proofs.Math.Seq.{drop-append_seam}
+use Rattle.sym_core.specs.declared.NameClass.TheVariants.{Cpp}
+use Rattle.sym_core.specs.Number.{is_decimal_digit}
+use Rattle.sym_core.specs.Scan.{ReachesNameBytes}
+use Rattle.sym_core.specs.declared.tokens.TokenPlace.{TokenPlace}
+use Rattle.sym_core.specs.Token.{AreNameBytes, IsSeparator, IsName, HasToken}
+use Rattle.cpp_grammar.specs.Parts.{source_text}
+use Rattle.cpp_direct.specs.declared.direct.Direct.{Direct}
+use Rattle.cpp_direct.specs.declared.names.NamePlace.{NamePlace}
+use Rattle.sym_direct.proofs.Moves.{stands-join}
+use Rattle.cpp_direct.specs.Holes.{StandsAt, IsNameAt}
+use Rattle.cpp_direct.specs.Names.{IsLengthRead, IsNamePlace}
+use Rattle.cpp_direct.specs.Written.{Writes, Reads}
+use Rattle.cpp_direct.proofs.FoundTokens.{name-found, own-found, reads-written}
+
+digit-is : (b : ℕ) → 48 ≤ b → b ≤ 57 → is_decimal_digit b ≡ true
+digit-is b low high = cc (le-leb 48 b low, le-leb b 57 high)
+
+-- a digit is no zero byte
+pub digit-byte : (b : ℕ) → is_decimal_digit b ≡ true → b ≢ 0
+digit-byte b digit none = cc (digit, ap (λ n. is_decimal_digit n) none)
+
+-- how the bytes between two places are cut out
+pub own-is : (s : List ℕ) (from size : ℕ) → take (from + size - from) (drop from s) ≡ take size (drop from s)
+own-is s from size = ap (λ n. take n (drop from s)) (difference from size)
+  where
+    difference : (from size : ℕ) → from + size - from ≡ size
+    difference from size = omega arith
+
+-- a length of one digit
+pub one-digit : (s : List ℕ) (at next b : ℕ) → 49 ≤ b → b ≤ 57 → StandsAt s at (b ∷ []) → next ≡ at + 1 → IsLengthRead s at next (b - 48)
+one-digit s at next b low high stands next_is = record {
+  digits = b ∷ [];
+  are_digits = ((digit-is b (omega (arith, low)) high, tt), tt);
+  stands = stands;
+  from_is = next_is;
+  size_is = omega arith;
+  some = omega (arith, low);
+}
+
+-- a length of two digits
+pub two-digits : (s : List ℕ) (at middle next a b : ℕ) → 49 ≤ a → a ≤ 57 → is_decimal_digit b ≡ true → StandsAt s at (a ∷ []) → middle ≡ at + 1
+    → StandsAt s middle (b ∷ []) → next ≡ middle + 1 → IsLengthRead s at next (10 * (a - 48) + (b - 48))
+two-digits s at middle next a b low high digit first middle_is second next_is = record {
+  digits = a ∷ b ∷ [];
+  are_digits = ((digit-is a (omega (arith, low)) high, (digit, tt)), (λ e. absurd (omega (arith, low, e)), omega arith));
+  stands = stands-join s at (a ∷ []) (b ∷ []) first (subst (λ n. StandsAt s n (b ∷ [])) middle_is second);
+  from_is = omega (arith, middle_is, next_is);
+  size_is = omega arith;
+  some = omega (arith, low);
+}
+
+all-reached : (own : List ℕ) → ReachesNameBytes Cpp own (length own) → AreNameBytes Cpp own
+all-reached [] h = tt
+all-reached (b ∷ bs) h = (h 0 (omega arith), all-reached bs (λ k less. h (suc k) (omega (arith, less))))
+
+begins-no-number : (own : List ℕ) → 0 < length own → is_decimal_digit (get_or own 0 0) ≡ false → IsSeparator Cpp [] own
+begins-no-number [] some bare = absurd (omega (arith, some))
+begins-no-number (b ∷ bs) some bare = bare
+
+-- a name's own bytes stand behind its length
+pub own-placed : (s : List ℕ) (at from size : ℕ) (own : List ℕ) → IsLengthRead s at from size → from ≤ length s → size ≤ length s - from
+    → own ≡ take size (drop from s) → is_decimal_digit (get_or own 0 0) ≡ false → ReachesNameBytes Cpp own (length own)
+    → IsNamePlace s at (record { from = from; to = from + size })
+own-placed s at from size own r within few own_is bare each = record {
+  name = own;
+  is = record {
+    token = record { before = r.digits; own = own; behind = [] };
+    is_name = record {
+      digits = r.digits;
+      separator = [];
+      split = sym (append-nil r.digits);
+      length_is = r.are_digits;
+      separated = begins-no-number own (omega (arith, counted, r.some)) bare;
+      each = all-reached own each;
+      counted = counted ∙ r.size_is;
+      ends = refl;
+    };
+    own = refl;
+    stands = (drop size (drop from s), whole);
+    ends = omega (arith, counted, r.from_is, length-append (r.digits ++ own) [], length-append r.digits own);
+  };
+  some = λ e. absurd (omega (arith, counted, r.some, ap length e));
+  ordered = omega arith;
+  within = omega (arith, within, few);
+  own = own-is s from size ∙ sym own_is;
+}
+  where
+    counted : length own ≡ size
+    counted = ap length own_is ∙ length-take-le size (drop from s) (omega (arith, few, length-drop from s))
+
+    behind : drop from s ≡ r.stands.0
+    behind = ap (λ n. drop n s) r.from_is ∙ sym (drop-drop (length r.digits) at s) ∙ ap (λ l. drop (length r.digits) l) r.stands.1 ∙ drop-append_seam r.digits r.stands.0
+
+    parts : r.stands.0 ≡ own ++ drop size (drop from s)
+    parts = sym behind ∙ sym (take-append-drop size (drop from s)) ∙ ap (λ l. l ++ drop size (drop from s)) (sym own_is)
+
+    whole : drop at s ≡ ((r.digits ++ own) ++ []) ++ drop size (drop from s)
+    whole = r.stands.1 ∙ ap (λ l. r.digits ++ l) parts ∙ sym (append_assoc r.digits own (drop size (drop from s)))
+        ∙ ap (λ l. l ++ drop size (drop from s)) (sym (append-nil (r.digits ++ own)))
+
+-- a name that was found
+pub name-placed : (s : List ℕ) (at : ℕ) (place : TokenPlace) → HasToken (IsName Cpp) (drop at s) at place → at ≤ length s
+    → IsNamePlace s at (record { from = place.from; to = place.to })
+name-placed s at place h le = record {
+  name = found.0;
+  is = subst (λ n. IsNameAt s at found.0 n) same found.1;
+  some = found.2;
+  ordered = own.0;
+  within = own.1;
+  own = found.3;
+}
+  where
+    found : (name : List ℕ) × IsNameAt s at name place.end × (name ≢ []) × (take (place.to - place.from) (drop place.from s) ≡ name)
+    found = name-found s at place h le
+
+    own : (place.from ≤ place.to) × (place.to ≤ length s) × (take (place.to - place.from) (drop place.from s) ≡ h.token.own)
+    own = own-found (IsName Cpp) s at place h le
+
+    same : place.end ≡ place.to
+    same = omega (
+      arith,
+      h.end,
+      h.to,
+      length-append (h.token.before ++ h.token.own) h.token.behind,
+      length-append h.token.before h.token.own,
+      ap length h.is.ends,
+    )
+
+-- a name was read and written
+pub name-read : (s : List ℕ) (old middle new : Direct) (place : NamePlace) (bytes : List ℕ) → IsNamePlace s old.at place
+    → bytes ≡ source_text (take (place.to - place.from) (drop place.from s)) → middle.at ≡ place.to
+    → middle.text ≡ old.text → middle.candidates ≡ old.candidates → middle.waiting ≡ old.waiting → middle.nest ≡ old.nest → middle.rounds ≡ old.rounds
+    → Writes middle new bytes
+    → (name : List ℕ) × IsNameAt s old.at name new.at × (name ≢ []) × Reads old new (source_text name)
+name-read s old middle new place bytes n is there same_text same_candidates same_waiting same_nest same_rounds w = (
+  n.name,
+  subst (λ e. IsNameAt s old.at n.name e) (sym (w.at ∙ there)) n.is,
+  n.some,
+  reads-written old middle new bytes (source_text n.name) w same_text same_candidates same_waiting same_nest same_rounds (is ∙ ap source_text n.own),
+)

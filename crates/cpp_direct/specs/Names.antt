@@ -1,0 +1,25 @@
+-- Names: what is read of their length, and where their own bytes stand.
+use Rattle.std.specs.Prelude.{◌≡◌, ◌≢◌, ℕ, ◌+◌, ◌-◌, ◌≤◌, ◌<◌, List, [], length, take, drop}
+use Rattle.sym_core.specs.declared.NumberKind.TheVariants.{Length}
+use Rattle.sym_core.specs.Number.{AreDigitsOf}
+use Rattle.sym_core.specs.Value.{value_of}
+use Rattle.cpp_direct.specs.declared.names.NamePlace.{NamePlace}
+use Rattle.cpp_direct.specs.Holes.{StandsAt, IsNameAt}
+
+-- The length of a name stands at the place. The name's own bytes, this many, would stand from here on.
+pub record IsLengthRead (s : List ℕ) (at from size : ℕ) : Type 0 where
+  pub digits : List ℕ
+  pub are_digits : AreDigitsOf Length digits
+  pub stands : StandsAt s at digits
+  pub from_is : from ≡ at + length digits
+  pub size_is : size ≡ value_of Length digits
+  pub some : 0 < size
+
+-- A name stands at the place, and its own bytes are those from here to there.
+pub record IsNamePlace (s : List ℕ) (at : ℕ) (place : NamePlace) : Type 0 where
+  pub name : List ℕ
+  pub is : IsNameAt s at name place.to
+  pub some : name ≢ []
+  pub ordered : place.from ≤ place.to
+  pub within : place.to ≤ length s
+  pub own : take (place.to - place.from) (drop place.from s) ≡ name

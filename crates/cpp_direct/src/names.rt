@@ -1,0 +1,143 @@
+// Names: where they stand.
+
+ghost use Rattle.std.specs.Prelude.{◌≡◌, ◌≤◌, length, true, false};
+ghost use Rattle.std.specs.Option.{IfSome};
+ghost use Rattle.sym_core.specs.declared.NameClass.TheVariants.{Cpp};
+ghost use Rattle.sym_core.specs.Number.{FitsSymbol, is_decimal_digit};
+ghost use Rattle.sym_core.specs.Scan.{ReachesNameBytes};
+ghost use Rattle.sym_core.specs.Token.{is_name_byte};
+ghost use Rattle.cpp_direct.specs.Names.{IsLengthRead, IsNamePlace};
+
+use crate::tokens::byte_at;
+use sym_core::{NameClass, find_name};
+
+// For each byte 1 where it may not stand in a name, else 0.
+static BARRED: [u8; 256] = [
+    1, 1, 1, 1, 1, 1, 1, 1, 1, 1, 1, 1, 1, 1, 1, 1, 1, 1, 1, 1, 1, 1, 1, 1, 1, 1, 1, 1, 1, 1, 1, 1,
+    1, 0, 0, 0, 0, 0, 0, 0, 0, 0, 0, 0, 0, 0, 0, 0, 0, 0, 0, 0, 0, 0, 0, 0, 0, 0, 0, 0, 0, 0, 0, 0,
+    0, 0, 0, 0, 0, 0, 0, 0, 0, 0, 0, 0, 0, 0, 0, 0, 0, 0, 0, 0, 0, 0, 0, 0, 0, 0, 0, 0, 0, 0, 0, 0,
+    0, 0, 0, 0, 0, 0, 0, 0, 0, 0, 0, 0, 0, 0, 0, 0, 0, 0, 0, 0, 0, 0, 0, 0, 0, 0, 0, 0, 0, 0, 0, 1,
+    0, 0, 0, 0, 0, 0, 0, 0, 0, 0, 0, 0, 0, 0, 0, 0, 0, 0, 0, 0, 0, 0, 0, 0, 0, 0, 0, 0, 0, 0, 0, 0,
+    0, 0, 0, 0, 0, 0, 0, 0, 0, 0, 0, 0, 0, 0, 0, 0, 0, 0, 0, 0, 0, 0, 0, 0, 0, 0, 0, 0, 0, 0, 0, 0,
+    0, 0, 0, 0, 0, 0, 0, 0, 0, 0, 0, 0, 0, 0, 0, 0, 0, 0, 0, 0, 0, 0, 0, 0, 0, 0, 0, 0, 0, 0, 0, 0,
+    0, 0, 0, 0, 0, 0, 0, 0, 0, 0, 0, 0, 0, 0, 0, 0, 0, 0, 0, 0, 0, 0, 0, 0, 0, 0, 0, 0, 0, 0, 0, 0,
+];
+
+/// 1 where a byte may not stand in a name, else 0.
+#[inline(always)]
+fn barred(byte: u8) -> u8
+    ensures few { result ≤ 1 }
+    ensures none { result ≡ 0 → is_name_byte Cpp byte ≡ true }
+{
+    BARRED[byte as usize]
+}
+
+/// How many of the first bytes, by fours, may stand in a name.
+#[inline(always)]
+fn named_fours(bytes: &[u8]) -> usize
+    ensures within { result ≤ length bytes.now }
+    ensures each { ReachesNameBytes Cpp bytes.now result }
+{
+    let mut end = 0;
+    'fours: while bytes.len() - end >= 4
+        && barred(bytes[end])
+            + barred(bytes[end + 1])
+            + barred(bytes[end + 2])
+            + barred(bytes[end + 3])
+            == 0
+    {
+        end += 4;
+    }
+    end
+}
+
+/// Whether each byte may stand in a name.
+#[inline(always)]
+fn are_name_bytes(bytes: &[u8]) -> bool
+    ensures { result ≡ true → ReachesNameBytes Cpp bytes.now (length bytes.now) }
+{
+    let mut end = named_fours(bytes);
+    'ones: while end < bytes.len() {
+        if barred(bytes[end]) != 0 {
+            return false;
+        }
+        end += 1;
+    }
+    true
+}
+
+/// Where a name has its own bytes: those behind its length.
+#[derive(Clone, Copy)]
+pub struct NamePlace {
+    pub from: usize,
+    pub to: usize,
+}
+
+/// Whether a byte is a decimal digit.
+#[inline(always)]
+fn is_digit(byte: u8) -> bool
+    ensures { result ≡ is_decimal_digit byte }
+{
+    b'0' <= byte && byte <= b'9'
+}
+
+/// A name's own bytes, so many, behind its length, which stands at a place.
+#[inline(always)]
+fn own_at(s: &[u8], _at: usize, from: usize, size: usize) -> Option<NamePlace>
+    requires read { IsLengthRead s.now _at from size }
+    requires within { from ≤ length s.now }
+    ensures { IfSome result (IsNamePlace s.now _at) }
+{
+    if size > s.len() - from {
+        return None;
+    }
+    let to = from + size;
+    let own = &s[from..to];
+    if is_digit(own[0]) {
+        return None;
+    }
+    if !are_name_bytes(own) {
+        return None;
+    }
+    Some(NamePlace { from, to })
+}
+
+/// The same where the length has more than two digits.
+#[inline(never)]
+fn long_name_at(s: &[u8], at: usize) -> Option<NamePlace>
+    requires { FitsSymbol s.now }
+    ensures { IfSome result (IsNamePlace s.now at) }
+{
+    if at > s.len() {
+        return None;
+    }
+    let place = find_name(s, at, NameClass::Cpp).ok()?;
+    Some(NamePlace {
+        from: place.from,
+        to: place.to,
+    })
+}
+
+/// Where the name that stands at a place has its own bytes.
+// <source-name> ::= <positive length number> <identifier>
+#[inline(always)]
+pub fn name_at(s: &[u8], at: usize) -> Option<NamePlace>
+    requires { FitsSymbol s.now }
+    ensures { IfSome result (IsNamePlace s.now at) }
+{
+    let first = byte_at(s, at);
+    if first < b'1' || b'9' < first {
+        return None;
+    }
+    let second_at = at.checked_add(1)?;
+    let second = byte_at(s, second_at);
+    if !is_digit(second) {
+        return own_at(s, at, second_at, (first - b'0') as usize);
+    }
+    let from = second_at.checked_add(1)?;
+    if is_digit(byte_at(s, from)) {
+        return long_name_at(s, at);
+    }
+    let size = 10 * (first - b'0') as usize + (second - b'0') as usize;
+    own_at(s, at, from, size)
+}
