@@ -31,7 +31,7 @@ pub const FAULT: u8 = 3;
 const DEFAULT_LIMIT: u32 = 1_000_000;
 
 const VERSION: &str =
-    "0.1.0 (C++ by the Itanium ABI 5.1, Rust v0 by RFC 2603; proved with rattle-kit-13b)";
+    "0.1.0 (C++ by the Itanium ABI 5.1, Rust v0 by RFC 2603; proved with rattle-kit-13f)";
 
 /// How symbols are answered.
 #[derive(Clone, Copy, Debug, PartialEq, Eq)]
