@@ -111,8 +111,8 @@ impl Symbol {
         self.nodes.node(&self.bytes, node)
     }
 
-    /// A node's view and parts.
-    fn view_at(&self, node: u32) -> NodeView
+    /// A node's view, and at once its parts, which are earlier nodes. The node is below `counts().nodes`. It takes no memory.
+    pub fn view_at(&self, node: u32) -> NodeView
         requires { node < length self.now.table.nodes }
         ensures fields { seen_fields (table_of self.now) result ≡ fields_at (table_of self.now) node }
         ensures texts { AreWithin self.now.bytes result.node.texts }

@@ -10,5 +10,5 @@ mod Templates
 mod NodesOfRead
 mod Counting
 mod Going
+mod Telling
 mod Numbered
-mod Rebuilding

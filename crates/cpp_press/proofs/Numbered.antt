@@ -1,6 +1,11 @@
 -- Keys of nodes, and what a map of them is behind one more.
-use Rattle.std.proofs.Common.{◌≡◌, ℕ, zero, suc, ◌+◌, ◌<◌, length, List, [], ◌∷◌, ◌++◌, get_or, Option, Some, None, Bool, true, refl, ap, arith, sym, subst, ◌∙◌, length-append, Ordering}
+use Rattle.std.proofs.Common.{◌≡◌, ℕ, zero, suc, ◌+◌, ◌<◌, ◌≤◌, length, take, slice_get, List, [], ◌∷◌, ◌++◌, get_or, Option, Some, None, Bool, true, refl, ap, arith, sym, subst, ◌∙◌, length-append, Ordering}
 use Rattle.std.specs.Prelude.{map}
+use Rattle.std.specs.List.{All}
+use Rattle.std.proofs.lemmas.List.{length-take, length-map}
+use Rattle.cpp_tree.specs.Fields.{fields_of}
+use Rattle.cpp_tree.specs.Views.{IsSlotBelow}
+use Rattle.cpp_press.proofs.Telling.{one_tree, three_parts}
 use Rattle.std.specs.BTreeMap.{BTreeMap, get}
 use Rattle.std.specs.Cmp.Lexicographic.{slice_cmp}
 use Rattle.std.specs.Ordering.{nat_cmp, ordering_then, is_eq}
@@ -9,7 +14,7 @@ use Rattle.cpp_grammar.specs.Term.{Term}
 use Rattle.cpp_layout.specs.Layout.{ReadSymbol}
 use Rattle.cpp_press.specs.declared.numbering.Key.{Key}
 use Rattle.cpp_press.specs.Tasks.{plain_at}
-use Rattle.cpp_press.specs.Fields.{Fields, fields_of, tree_of_fields, slot, IsSlotBelow, AreSlotsBelow}
+use Rattle.cpp_press.specs.Details.{Told, tree_told}
 use Rattle.cpp_press.specs.Numbers.{IsKeyOf, IsPartNumber, part_number}
 use Rattle.sym_spell.specs.Numbers.{TellApart}
 use Rattle.sym_spell.proofs.Entering.{old-number}
@@ -27,22 +32,40 @@ four-texts f d (x ∷ y ∷ []) given a b c e long is one two three four = absur
 four-texts f d (x ∷ y ∷ z ∷ []) given a b c e long is one two three four = absurd (omega (arith, long))
 four-texts f d (x ∷ y ∷ z ∷ w ∷ v ∷ more) given a b c e long is one two three four = absurd (omega (arith, long))
 
-pub below-at : (n : ℕ) (d : Option ℕ) (parts : List (Option ℕ)) (k : ℕ) → k < length parts → AreSlotsBelow n parts → IsSlotBelow n (get_or parts k d)
-below-at n d [] k low all = absurd (omega (arith, low))
-below-at n d (x ∷ parts) zero low all = all.0
-below-at n d (x ∷ parts) (suc k) low all = below-at n d parts k (omega (arith, low)) all.1
+-- what is answered for a part of a node is that part
+pub slot_is : (count : ℕ) (parts : List ℕ) (k d : ℕ) (o : Option ℕ) → k < length parts → (k < count → o ≡ Some (get_or parts k d)) → (count ≤ k → o ≡ None)
+    → o ≡ slice_get (take count parts) k
+slot_is count [] k d o low some none = absurd (omega (arith, low))
+slot_is zero (x ∷ parts) k d o low some none = none (omega arith)
+slot_is (suc count) (x ∷ parts) zero d o low some none = some (omega arith)
+slot_is (suc count) (x ∷ parts) (suc k) d o low some none =
+    slot_is count parts k d o (omega (arith, low)) (λ h. some (omega (arith, h))) (λ h. none (omega (arith, h)))
 
-pub three-parts : {A : Type 0} (f : Option ℕ → A) (d : Option ℕ) (parts : List (Option ℕ)) → length parts ≡ 3
-    → map f parts ≡ f (get_or parts 0 d) ∷ f (get_or parts 1 d) ∷ f (get_or parts 2 d) ∷ []
-three-parts f d (x ∷ y ∷ z ∷ []) long = refl
-three-parts f d [] long = absurd (omega (arith, long))
-three-parts f d (x ∷ []) long = absurd (omega (arith, long))
-three-parts f d (x ∷ y ∷ []) long = absurd (omega (arith, long))
-three-parts f d (x ∷ y ∷ z ∷ v ∷ more) long = absurd (omega (arith, long))
+slot_below : (n : ℕ) (parts : List ℕ) (k : ℕ) → All (λ part. part < n) parts → IsSlotBelow n (slice_get parts k)
+slot_below n [] k all = tt
+slot_below n (p ∷ parts) zero all = all 0 0 (omega arith)
+slot_below n (p ∷ parts) (suc k) all = slot_below n parts k (λ j d low. all (suc j) d (omega (arith, low)))
 
-pub part-is : (y : ReadSymbol) (ns : List ℕ) (part : Option ℕ) (m : ℕ) → IsSlotBelow (length ns) part → m ≡ part_number ns part → IsPartNumber y ns (slot y part) m
-part-is y ns None m low is = is
-part-is y ns (Some p) m low is = (p, low, refl, is)
+pub part_low : (n m : ℕ) (parts : List ℕ) (k : ℕ) (o : Option ℕ) → n ≡ m → All (λ part. part < m) parts → o ≡ slice_get parts k → IsSlotBelow n o
+part_low n m parts k o same all is =
+    subst (λ v. IsSlotBelow v o) (sym same) (subst (IsSlotBelow m) (sym is) (slot_below m parts k all))
+
+part_is : (y : ReadSymbol) (ns parts : List ℕ) (k m : ℕ) → All (λ part. part < length ns) parts → m ≡ part_number ns (slice_get parts k)
+    → IsPartNumber y ns (slice_get (map (plain_at y) parts) k) m
+part_is y ns [] k m low is = is
+part_is y ns (p ∷ parts) zero m low is = (p, low 0 0 (omega arith), refl, is)
+part_is y ns (p ∷ parts) (suc k) m low is = part_is y ns parts k m (λ j d h. low (suc j) d (omega (arith, h))) is
+
+-- the number of a part of a tree, of which these nodes are the parts
+pub part_numbered : (y : ReadSymbol) (ns parts : List ℕ) (n k m : ℕ) (o : Option ℕ) (given : List Term) → length ns ≡ n → All (λ part. part < n) parts
+    → map (plain_at y) parts ≡ given → o ≡ slice_get parts k → m ≡ part_number ns o → IsPartNumber y ns (slice_get given k) m
+part_numbered y ns parts n k m o given same low are is number =
+    subst (λ l. IsPartNumber y ns (slice_get l k) m) are
+    (part_is y ns parts k m (subst (λ v. All (λ part. part < v) parts) (sym same) low) (number ∙ ap (part_number ns) is))
+
+pub few_parts : (y : ReadSymbol) (count : ℕ) (parts : List ℕ) (given : List Term) → map (plain_at y) (take count parts) ≡ given → count ≤ 3 → length given ≤ 3
+few_parts y count parts given are few =
+    subst (λ l. length l ≤ 3) are (omega (arith, length-map (take count parts) (plain_at y), length-take count parts, few))
 
 -- ## Keys
 
@@ -67,33 +90,27 @@ part-grown y ns n (Some t) m (p, low, is, at) = (p, omega (arith, low, length-ap
     suc-of : ℕ → ℕ
     suc-of k = k + 1
 
-key-grown : (y : ReadSymbol) (ns : List ℕ) (n : ℕ) (given : Fields) (key : Key) → IsKeyOf y ns given key → IsKeyOf y (ns ++ n ∷ []) given key
-key-grown y ns n given key h = record {
+key-grown : (y : ReadSymbol) (ns : List ℕ) (n : ℕ) (t : Term) (key : Key) → IsKeyOf y ns t key → IsKeyOf y (ns ++ n ∷ []) t key
+key-grown y ns n t key h = record {
   production = h.production;
   own_numbers = h.own_numbers;
   texts = h.texts;
-  one = h.one;
-  two = h.two;
-  three = h.three;
-  parts = h.parts;
-  first = part-grown y ns n h.one key.first_part h.first;
-  second = part-grown y ns n h.two key.second_part h.second;
-  third = part-grown y ns n h.three key.third_part h.third;
+  few = h.few;
+  first = part-grown y ns n (slice_get (fields_of t).parts 0) key.first_part h.first;
+  second = part-grown y ns n (slice_get (fields_of t).parts 1) key.second_part h.second;
+  third = part-grown y ns n (slice_get (fields_of t).parts 2) key.third_part h.third;
 }
 
 -- what is one with a node's key is a key of the node
-taken-over : (y : ReadSymbol) (ns : List ℕ) (a b : Key) (given : Fields) → IsKeyOf y ns given a → AreOne a b → IsKeyOf y ns given b
-taken-over y ns a b given h same = record {
+taken-over : (y : ReadSymbol) (ns : List ℕ) (a b : Key) (t : Term) → IsKeyOf y ns t a → AreOne a b → IsKeyOf y ns t b
+taken-over y ns a b t h same = record {
   production = sym same.production ∙ h.production;
   own_numbers = sym same.own_numbers ∙ h.own_numbers;
   texts = rw (sym same.first_text, sym same.second_text, sym same.third_text, sym same.fourth_text) refl ∙ h.texts;
-  one = h.one;
-  two = h.two;
-  three = h.three;
-  parts = h.parts;
-  first = subst (IsPartNumber y ns h.one) same.first_part h.first;
-  second = subst (IsPartNumber y ns h.two) same.second_part h.second;
-  third = subst (IsPartNumber y ns h.three) same.third_part h.third;
+  few = h.few;
+  first = subst (IsPartNumber y ns (slice_get (fields_of t).parts 0)) same.first_part h.first;
+  second = subst (IsPartNumber y ns (slice_get (fields_of t).parts 1)) same.second_part h.second;
+  third = subst (IsPartNumber y ns (slice_get (fields_of t).parts 2)) same.third_part h.third;
 }
 
 -- equal part numbers are of equal parts
@@ -115,50 +132,44 @@ part-one y ns (Some t) (Some u) m n good (p, low, at, number) (q, other, there, 
     some-one : {v w : Term} → Some v ≡ Some w → v ≡ w
     some-one h = cc
 
-fields-equal : (a b : Fields) → a.production ≡ b.production → a.numbers ≡ b.numbers → a.texts ≡ b.texts → a.parts ≡ b.parts → a ≡ b
-fields-equal a b one two three four = go a.production b.production a.numbers b.numbers a.texts b.texts a.parts b.parts one two three four
+told_alike : (a b : Told) → a.numbers ≡ b.numbers → a.texts ≡ b.texts → a ≡ b
+told_alike a b one two = go a.numbers b.numbers a.texts b.texts one two
   where
-    go : (p q : ℕ) (ns ms : List ℕ) (ts us : List (List ℕ)) (xs ys : List (Option Term)) → p ≡ q → ns ≡ ms → ts ≡ us → xs ≡ ys
-        → ◌≡◌ {A = Fields} (record { production = p; numbers = ns; texts = ts; parts = xs }) (record { production = q; numbers = ms; texts = us; parts = ys })
-    go p q ns ms ts us xs ys one two three four = rw (one, two, three, four) refl
+    go : (ns ms : List ℕ) (ts us : List (List ℕ)) → ns ≡ ms → ts ≡ us → ◌≡◌ {A = Told} (record { numbers = ns; texts = ts }) (record { numbers = ms; texts = us })
+    go ns ms ts us one two = rw (one, two) refl
 
--- equal keys have equal fields
-one-fields : (y : ReadSymbol) (ns : List ℕ) (a b : Key) (one other : Fields) → TellApart (plain_at y) ns → IsKeyOf y ns one a → IsKeyOf y ns other b → AreOne a b → one ≡ other
-one-fields y ns a b one other good h k same =
-    fields-equal one other
-    (sym h.production ∙ same.production ∙ k.production)
-    (sym h.own_numbers ∙ same.own_numbers ∙ k.own_numbers)
-    (sym h.texts ∙ rw (same.first_text, same.second_text, same.third_text, same.fourth_text) refl ∙ k.texts)
-    (h.parts ∙ rw (
-      one-part y ns h.one k.one a.first_part b.first_part good h.first k.first same.first_part,
-      one-part y ns h.two k.two a.second_part b.second_part good h.second k.second same.second_part,
-      one-part y ns h.three k.three a.third_part b.third_part good h.third k.third same.third_part,
-    ) refl ∙ sym k.parts)
+-- equal keys are of equal trees
+key_tree : (y : ReadSymbol) (ns : List ℕ) (a b : Key) (one other : Term) → TellApart (plain_at y) ns → IsKeyOf y ns one a → IsKeyOf y ns other b → AreOne a b → one ≡ other
+key_tree y ns a b one other good h k same =
+    one_tree one other (sym h.production ∙ same.production ∙ k.production)
+    (three_parts (fields_of one).parts (fields_of other).parts h.few k.few
+    (one-part y ns _ _ a.first_part b.first_part good h.first k.first same.first_part)
+    (one-part y ns _ _ a.second_part b.second_part good h.second k.second same.second_part)
+    (one-part y ns _ _ a.third_part b.third_part good h.third k.third same.third_part))
+    (told_alike (tree_told one) (tree_told other) (sym h.own_numbers ∙ same.own_numbers ∙ k.own_numbers)
+    (sym h.texts ∙ rw (same.first_text, same.second_text, same.third_text, same.fourth_text) refl ∙ k.texts))
 
--- equal fields have equal keys
-fields-one : (y : ReadSymbol) (ns : List ℕ) (a b : Key) (given : Fields) → TellApart (plain_at y) ns → IsKeyOf y ns given a → IsKeyOf y ns given b → AreOne a b
-fields-one y ns a b given good h k = record {
+-- equal trees have equal keys
+tree_key : (y : ReadSymbol) (ns : List ℕ) (a b : Key) (t : Term) → TellApart (plain_at y) ns → IsKeyOf y ns t a → IsKeyOf y ns t b → AreOne a b
+tree_key y ns a b t good h k = record {
   production = h.production ∙ sym k.production;
   own_numbers = h.own_numbers ∙ sym k.own_numbers;
   first_text = (fours (h.texts ∙ sym k.texts)).0;
   second_text = (fours (h.texts ∙ sym k.texts)).1;
   third_text = (fours (h.texts ∙ sym k.texts)).2;
   fourth_text = (fours (h.texts ∙ sym k.texts)).3;
-  first_part = part-one y ns h.one k.one a.first_part b.first_part good h.first k.first (threes (sym h.parts ∙ k.parts)).0;
-  second_part = part-one y ns h.two k.two a.second_part b.second_part good h.second k.second (threes (sym h.parts ∙ k.parts)).1;
-  third_part = part-one y ns h.three k.three a.third_part b.third_part good h.third k.third (threes (sym h.parts ∙ k.parts)).2;
+  first_part = part-one y ns _ _ a.first_part b.first_part good h.first k.first refl;
+  second_part = part-one y ns _ _ a.second_part b.second_part good h.second k.second refl;
+  third_part = part-one y ns _ _ a.third_part b.third_part good h.third k.third refl;
 }
   where
     fours : {A : Type 0} {x z v w p q r s : A} → x ∷ z ∷ v ∷ w ∷ [] ≡ p ∷ q ∷ r ∷ s ∷ [] → (x ≡ p) × (z ≡ q) × (v ≡ r) × (w ≡ s)
     fours e = (cc, cc, cc, cc)
 
-    threes : {A : Type 0} {x z v p q r : A} → x ∷ z ∷ v ∷ [] ≡ p ∷ q ∷ r ∷ [] → (x ≡ p) × (z ≡ q) × (v ≡ r)
-    threes e = (cc, cc, cc)
-
 -- ## Keys of nodes
 
 abbrev pub IsKey : ReadSymbol → List ℕ → ℕ → Key → Type 0
-IsKey y ns i key = IsKeyOf y ns (fields_of (plain_at y i)) key
+IsKey y ns i key = IsKeyOf y ns (plain_at y i) key
 
 one-itself : (a : Key) → AreOne a a
 one-itself a = record {
@@ -173,14 +184,12 @@ one-itself a = record {
   third_part = refl;
 }
 
-pub are-keys : (y : ReadSymbol) → ((i : ℕ) → i < length y.table.nodes → tree_of_fields (fields_of (plain_at y i)) ≡ plain_at y i)
-    → AreKeys AreOne (plain_at y) (length y.table.nodes) (IsKey y)
-are-keys y back = record {
-  grown = λ ns n i a h. key-grown y ns n (fields_of (plain_at y i)) a h;
-  one = λ ns i j a b low other so h k same.
-      sym (back i low) ∙ ap tree_of_fields (one-fields y ns a b (fields_of (plain_at y i)) (fields_of (plain_at y j)) so h k same) ∙ back j other;
-  alike = λ ns i j a b so is h k. fields-one y ns a b (fields_of (plain_at y j)) so (subst (λ t. IsKeyOf y ns (fields_of t) a) is h) k;
-  taken = λ ns i a b h same. taken-over y ns a b (fields_of (plain_at y i)) h same;
+pub are-keys : (y : ReadSymbol) → AreKeys AreOne (plain_at y) (length y.table.nodes) (IsKey y)
+are-keys y = record {
+  grown = λ ns n i a h. key-grown y ns n (plain_at y i) a h;
+  one = λ ns i j a b low other so h k same. key_tree y ns a b (plain_at y i) (plain_at y j) so h k same;
+  alike = λ ns i j a b so is h k. tree_key y ns a b (plain_at y j) so (subst (λ t. IsKeyOf y ns t a) is h) k;
+  taken = λ ns i a b h same. taken-over y ns a b (plain_at y i) h same;
   itself = one-itself;
 }
 
@@ -237,5 +246,5 @@ cmp-same a b h q = rw (h.production, h.own_numbers, h.first_text, h.second_text,
 pub looked-up : (m : BTreeMap Key ℕ) → IsLookUp AreOne test (get key_cmp m)
 looked-up m = record { told = test-one; passed = test-passed; respects = λ a b h. same-look key_cmp a b (cmp-same a b h) m }
 
-pub at-node : (y : ReadSymbol) (ns ms : List ℕ) (k : ℕ) (key : Key) → ms ≡ ns → IsKeyOf y ms (fields_of (plain_at y k)) key → IsKey y ns k key
-at-node y ns ms k key same h = subst (λ l. IsKeyOf y l (fields_of (plain_at y k)) key) same h
+pub at-node : (y : ReadSymbol) (ns ms : List ℕ) (k : ℕ) (key : Key) → ms ≡ ns → IsKeyOf y ms (plain_at y k) key → IsKey y ns k key
+at-node y ns ms k key same h = subst (λ l. IsKeyOf y l (plain_at y k) key) same h

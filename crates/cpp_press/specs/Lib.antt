@@ -5,5 +5,5 @@ pub mod Spelled
 pub mod Places
 pub mod OfRead
 pub mod Standings
-pub mod Fields
+pub mod Details
 pub mod Numbers

@@ -2,6 +2,7 @@
 #![tactic(auto)]
 
 mod components;
+mod details;
 mod names;
 mod numbering;
 mod pressing;
@@ -9,7 +10,6 @@ mod steps;
 mod task;
 mod texts;
 mod types;
-mod view;
 
 pub use numbering::numbers;
 pub use pressing::press_cpp;

@@ -1,17 +1,15 @@
 // Nodes with equal trees have one number.
 #![tactic(auto)]
 
-ghost use Rattle.std.specs.Prelude.{◌≡◌, ◌<◌, ◌≤◌, length, IfOk, IfErr};
+ghost use Rattle.std.specs.Prelude.{◌≡◌, ◌<◌, ◌≤◌, length, Some, None, IfOk, IfErr};
 ghost use Rattle.sym_core.specs.declared.Refusal.TheVariants.{Memory};
-ghost use Rattle.cpp_tree.specs.Nodes.{IsTable};
-ghost use Rattle.cpp_layout.specs.Layout.{table_of};
+ghost use Rattle.cpp_tree.specs.Views.{IsSlotBelow};
 ghost use Rattle.cpp_press.specs.Tasks.{plain_at};
 ghost use Rattle.cpp_press.specs.Places.{AreNumbers};
-ghost use Rattle.cpp_press.specs.Fields.{fields_of, IsSlotBelow};
 ghost use Rattle.cpp_press.specs.Numbers.{IsKeyOf, part_number};
 ghost use Rattle.sym_spell.specs.Numbers.{AreBelow};
 
-use crate::view::view_of;
+use crate::details::details_of;
 use cpp_layout::Symbol;
 use std::alloc::Global;
 use std::collections::BTreeMap;
@@ -22,7 +20,7 @@ use sym_spell::{Numbers, first_with};
 /// for no part.
 #[derive(Clone, Copy, PartialEq, Eq, PartialOrd, Ord)]
 struct Key<'a> {
-    production: u8,
+    production: u16,
     first_part: u32,
     second_part: u32,
     third_part: u32,
@@ -31,6 +29,14 @@ struct Key<'a> {
     second_text: &'a [u8],
     third_text: &'a [u8],
     fourth_text: &'a [u8],
+}
+
+/// A part of a node that has so many, if it has this one.
+fn part_at(count: u32, place: u32, part: u32) -> Option<u32>
+    ensures some { place < count → result ≡ Some part }
+    ensures none { count ≤ place → result ≡ None }
+{
+    if place < count { Some(part) } else { None }
 }
 
 /// One more than the first node that is equal to a part, or 0 for no part.
@@ -48,21 +54,22 @@ fn part_number(firsts: &[u32], part: Option<u32>) -> u32
 
 /// The key of a node, behind nodes with these first ones.
 fn key_of<'a>(symbol: &'a Symbol, firsts: &[u32], node: u32) -> Key<'a>
-    requires table { IsTable (table_of symbol.now) }
     requires node { node < length symbol.now.table.nodes }
     requires before { length firsts.now ≡ node }
     requires below { AreBelow firsts.now (length firsts.now) }
-    ensures { IsKeyOf symbol.now firsts.now (fields_of (plain_at symbol.now node)) result }
+    ensures { IsKeyOf symbol.now firsts.now (plain_at symbol.now node) result }
 {
-    let view = view_of(symbol, symbol.stored(node));
-    let [first_text, second_text, third_text, fourth_text] = view.texts;
-    let [first, second, third] = view.parts;
+    let seen = symbol.view_at(node);
+    let details = details_of(symbol, node, seen.node);
+    let [first_text, second_text, third_text, fourth_text] = details.texts;
+    let [first, second, third] = seen.parts;
+    let count = seen.node.parts;
     Key {
-        production: view.production,
-        first_part: part_number(firsts, first),
-        second_part: part_number(firsts, second),
-        third_part: part_number(firsts, third),
-        numbers: view.numbers,
+        production: seen.node.production,
+        first_part: part_number(firsts, part_at(count, 0, first)),
+        second_part: part_number(firsts, part_at(count, 1, second)),
+        third_part: part_number(firsts, part_at(count, 2, third)),
+        numbers: details.numbers,
         first_text: symbol.bytes_of(first_text),
         second_text: symbol.bytes_of(second_text),
         third_text: symbol.bytes_of(third_text),

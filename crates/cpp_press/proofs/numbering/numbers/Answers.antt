@@ -5,7 +5,6 @@ use Rattle.sym_spell.specs.Numbers.{AreBelow, AreNumbered, number_at}
 use Rattle.sym_spell.proofs.Counting.{through}
 use Rattle.sym_spell.proofs.FirstOnes.{AreFirsts, first-below, none-first, firsts-more}
 use Rattle.cpp_press.specs.Tasks.{plain_at}
-use Rattle.cpp_press.proofs.Rebuilding.{plain-back}
 use Rattle.cpp_press.proofs.Numbered.{AreOne, IsKey, key_cmp, test, are-keys, looked-up, at-node}
 use Rattle.cpp_press.proofs.numbering.numbers.Goals as goal
 
@@ -36,7 +35,7 @@ loop-node-preserved c =
     let own = at-node y ns c.deref.result.now c.loop-node.node c.key_of.result c.deref.ensures.value c.key_of.ensures in (
       subst (λ l. AreFirsts (plain_at y) (IsKey y) l (get key_cmp c.first_with.new.nodes)) (sym c.in_ok-push.ensures.items)
           (firsts-more AreOne test (plain_at y) (length y.table.nodes) (IsKey y) ns (get key_cmp c.loop-node.keys) (get key_cmp c.first_with.new.nodes) c.key_of.result c.loop-node.node n
-          (are-keys y (plain-back y c.counts-count.ensures.is_read.table)) (looked-up c.loop-node.keys) inv.0 (sym inv.1) room own o.known o.fresh),
+          (are-keys y) (looked-up c.loop-node.keys) inv.0 (sym inv.1) room own o.known o.fresh),
       omega (arith, ap length c.in_ok-push.ensures.items, length-append ns (n ∷ []), inv.1),
     )
 
