@@ -172,6 +172,98 @@ SKIPS = """Symbol Guard EncodingLiteral AddressArgument AddressElement Address N
     LocalName LocalType Vector LiteralArgument LiteralElement NestedName RestrictType VolatileType NestStd NestArguments
     NoexceptFunction Function PackArgument""".split()
 
+# how many nodes a production makes before each of its parts, as far as it makes some, and at its end
+MADE_BEFORE = {
+    "InternalName": [0, 1],
+    "LocalTypeName": [0, 1],
+    "SourceName": [0, 1],
+    "OperatorName": [0, 1],
+    "StdName": [0, 1],
+    "NestParameter": [0, 1],
+    "NestInternal": [0, 1],
+    "NestLocalType": [0, 1],
+    "NestSource": [0, 1],
+    "NestStd": [0, 1, 1],
+    "NestArguments": [0, 0, 1],
+    "Constructor": [0, 1],
+    "Destructor": [0, 1],
+    "Parameter": [0, 1],
+    "LvalueItem": [0, 1],
+    "RvalueItem": [0, 1],
+    "PackArgument": [0, 1],
+}
+MADE_AT_END = {p: 1 for p in """InternalName LocalTypeName SourceName OperatorName Symbol Guard Encoding SpecialType NonVirtualThunk VirtualThunk
+    CovariantThunk LocalName StdName AbbreviatedName Constructor Destructor Abbreviation StringLiteral Lambda RestrictType
+    VolatileType ConstType ReferenceType Expansion BuiltinWithD Vector NoexceptFunction Pointer MemberPointer Parameter
+    TypeWithS LocalType Builtin Vendor Array Function Complex StdType RestItem LvalueItem RvalueItem Items PackArgument
+    LiteralArgument AddressArgument TypeArgument LiteralElement AddressElement TypeElement Address EncodingLiteral
+    BoolLiteral IntegerLiteral NullLiteral""".split()}
+MADE_AT_END["CharLiteral"] = 2
+
+# the productions that may leave a tree that is no candidate yet
+LEAVES = """NestWithS NestParameter NestInternal NestLocalType NestSource NestStd NestAbbreviated NestArguments NestNext NestEnd
+    Abbreviation Substitution NestedType Expansion ItemIsType BuiltinWithD Vector NoexceptFunction Pointer MemberPointer
+    Parameter TypeWithS LocalType Builtin Vendor Array Function Complex StdType AbbreviatedType""".split()
+
+# ## The trees
+
+# The trees: each constructor with its arguments, a name and what it is. OWN is a tree under a scope of its own, of an encoding or its name;
+# OUTSIDE one that is under none, the encoding around a local entity; INSIDE one under the scope of the encoding's own name; TREE one under the
+# scope of the whole, as is a PIECE of a name. What goes through a tree by its arguments alone is written from here (trees.py).
+OWN, OUTSIDE, INSIDE, TREE, PIECE = "own", "outside", "inside", "tree", "piece"
+BYTES, NUMBER, TRUTH, QUALIFIERS, MARK, SIGNED, THUNK, DISCRIMINATOR = "bytes", "number", "truth", "qualifiers", "mark", "signed", "thunk", "discriminator"
+TREES = [
+    ("symbol", ("e", OWN), ("suffix", BYTES)),
+    ("function", ("name", OWN), ("q", QUALIFIERS), ("ref", MARK), ("returned", INSIDE), ("parameters", INSIDE)),
+    ("object", ("name", OWN), ("q", QUALIFIERS), ("ref", MARK)),
+    ("special", ("letter", NUMBER), ("t", OWN)),
+    ("thunk", ("kind", THUNK), ("e", OWN)),
+    ("guard", ("name", OWN), ("q", QUALIFIERS), ("ref", MARK)),
+    ("alone", ("p", PIECE)),
+    ("in_std", ("p", PIECE)),
+    ("within", ("prefix", TREE), ("p", PIECE)),
+    ("instance", ("template", TREE), ("arguments", TREE)),
+    ("local", ("encoding", OUTSIDE), ("entity", TREE), ("discriminator", DISCRIMINATOR)),
+    ("abbreviation", ("letter", NUMBER)),
+    ("parameter", ("k", NUMBER)),
+    ("source", ("internal", TRUTH), ("bytes", BYTES)),
+    ("operator", ("a", NUMBER), ("b", NUMBER)),
+    ("literal_operator", ("bytes", BYTES)),
+    ("constructor", ("digit", NUMBER)),
+    ("destructor", ("digit", NUMBER)),
+    ("lambda", ("parameters", TREE), ("number", NUMBER)),
+    ("unnamed", ("number", NUMBER)),
+    ("string_literal",),
+    ("builtin", ("code", BYTES)),
+    ("vendor", ("bytes", BYTES)),
+    ("pointer", ("t", TREE)),
+    ("lvalue", ("t", TREE)),
+    ("rvalue", ("t", TREE)),
+    ("array", ("digits", BYTES), ("t", TREE)),
+    ("member_pointer", ("class", TREE), ("t", TREE)),
+    ("function_type", ("c_linkage", TRUTH), ("noexcept", TRUTH), ("ref", MARK), ("returned", TREE), ("parameters", TREE)),
+    ("qualified", ("q", QUALIFIERS), ("t", TREE)),
+    ("vector", ("digits", BYTES), ("t", TREE)),
+    ("complex", ("t", TREE)),
+    ("expansion", ("pattern", TREE)),
+    ("integer", ("t", TREE), ("n", SIGNED)),
+    ("boolean", ("b", TRUTH)),
+    ("null_pointer",),
+    ("encoding_literal", ("e", OWN)),
+    ("address_of", ("e", OWN)),
+    ("pack", ("elements", TREE)),
+    ("nil",),
+    ("list", ("e", TREE), ("rest", TREE)),
+    ("absent",),
+]
+# <type> ::= <letter> <type>, a component that is spelled so and that no list of builtin types has: tree, production, letter
+WRAPPERS = [
+    ("complex", "Complex", "C"),
+]
+# those that are components, and may be referred to as types and prefixes: all types but builtin ones and abbreviations, and names
+COMPONENTS = """alone in_std within instance local parameter vendor pointer lvalue rvalue array member_pointer function_type qualified vector
+    complex expansion""".split()
+
 # ## Rust v0 (RFC 2603)
 
 # <basic-type>: letter, text, and which constants of the type there are

@@ -93,42 +93,17 @@ opening_bad _ parts place state = tt
 
 between_bad : (p : Production) (around : Around) (place : ℕ) (vs : List Value) (state : State) → IsBad (between p around place vs state)
 unfolding between named_so_far listed_so_far piece_so_far
-between_bad Production.Encoding around place [] state = tt
-between_bad Production.Encoding around place (name ∷ vs) state = tt
-between_bad Production.Special around place vs state = tt
-between_bad Production.Guard around place vs state = tt
-between_bad Production.LocalName around place (e ∷ vs) state = tt
-between_bad Production.LocalType around place (e ∷ vs) state = tt
-between_bad Production.InternalName around place (v ∷ []) state = tt
-between_bad Production.SourceName around place (v ∷ []) state = tt
-between_bad Production.LocalTypeName around place (v ∷ []) state = tt
-between_bad Production.OperatorName around place (v ∷ []) state = tt
-between_bad Production.Constructor around place (v ∷ []) state = tt
-between_bad Production.Destructor around place (v ∷ []) state = tt
-between_bad Production.StdName around place (v ∷ []) state = tt
-between_bad Production.AbbreviatedName around place (v ∷ []) state = tt
-between_bad Production.NestStd around place (v ∷ []) state = tt
-between_bad Production.NestStd around place (v ∷ arguments ∷ []) state = tt
-between_bad Production.NestAbbreviated around place (v ∷ []) state = tt
 between_bad Production.NestParameter around place (v ∷ []) state = parameter_bad around place (index_of v) [] state
-between_bad Production.NestInternal around place (v ∷ []) state = tt
-between_bad Production.NestSource around place (v ∷ []) state = tt
-between_bad Production.NestLocalType around place (v ∷ []) state = tt
-between_bad Production.NestArguments around place [] state = tt
-between_bad Production.NestArguments around place (arguments ∷ e ∷ []) state = tt
-between_bad Production.NestArguments around place (v ∷ e ∷ component ∷ []) state = tt
-between_bad Production.NestNext around place [] state = tt
-between_bad Production.NestNext around place (component ∷ []) state = tt
-between_bad Production.Arguments around place [] state = tt
-between_bad Production.PackArgument around place (elements ∷ []) state = tt
-between_bad Production.Lambda around place vs state = tt
-between_bad Production.Expansion around place vs state = tt
 between_bad Production.Parameter around place (v ∷ []) state = parameter_bad around place (index_of v) [] state
-between_bad Production.TypeWithS around place (v ∷ []) state = tt
-between_bad Production.LvalueItem around place (v ∷ []) state = tt
-between_bad Production.RvalueItem around place (v ∷ []) state = tt
-between_bad Production.IntegerLiteral around place (v ∷ []) state = tt
-between_bad _ around place vs state = tt
+between_bad Production.Symbol around place [] state = tt
+between_bad _ around place [] state = tt
+between_bad _ around place (v ∷ []) state = tt
+between_bad Production.Symbol around place (v ∷ w ∷ []) state = tt
+between_bad _ around place (v ∷ w ∷ []) state = tt
+between_bad Production.Symbol around place (v ∷ w ∷ x ∷ []) state = tt
+between_bad _ around place (v ∷ w ∷ x ∷ []) state = tt
+between_bad Production.Symbol around place (v ∷ w ∷ x ∷ y ∷ vs) state = tt
+between_bad _ around place (v ∷ w ∷ x ∷ y ∷ vs) state = tt
 
 close_bad : (p : Production) (byte : ℕ) (around : Around) (place : ℕ) (began : State) (vs : List Value) (state : State) → IsBad (close p byte around place began vs state)
 unfolding close

@@ -140,7 +140,4 @@ between_goes Production.RvalueItem around place (v ∷ []) state n at stays pre 
     goes around at state (tree (rvalue (tree_of v)) true ∷ []) around (appended around (rvalue (tree_of v)) state) n (g, tt) (grows_one around at (rvalue (tree_of v)) state g) (fits_same around pre) e
 between_goes Production.IntegerLiteral around place (v ∷ []) state n at stays pre all e =
     goes around at state (v ∷ []) around (with_type around v state) n all (with_type_grows around at v state (good_tree _ v all.0)) (fits_same around pre) e
-between_goes Production.Encoding around place vs state n at stays pre all e = absurd stays
-between_goes Production.Special around place vs state n at stays pre all e = absurd stays
-between_goes Production.Guard around place vs state n at stays pre all e = absurd stays
-between_goes _ around place vs state n at stays pre all e = same_goes around at state vs n pre all e
+between_goes _ around place vs state n at stays pre all e = first_of (search stays, search (same_goes, pre, all, e))

@@ -1,6 +1,6 @@
 -- In a run without arguments, the parts of a production that are encodings have no free parameters, and neither has the type of a special name.
 use Rattle.std.proofs.Common.{◌≡◌, refl, ap, sym, ◌∙◌, subst, ℕ, ◌+◌, ◌<◌, ◌≤◌, List, [], ◌∷◌, ◌++◌, length, Bool, true, false, not, ◌||◌, cond, nat_eq, slice_get, Option, Some, None, Result, Ok, lit≤, arith}
-use Rattle.std.proofs.lemmas.Bool.{true≢false, false≢true, eqb-true, and_parts}
+use Rattle.std.proofs.lemmas.Bool.{false≢true, eqb-true, and_parts}
 use Rattle.std.proofs.lemmas.List.{append-nil, append_assoc}
 use Rattle.sym_core.specs.declared.refusal.Refusal.{Refusal}
 use Rattle.sym_shape.specs.declared.rule.Rule.{Rule}
@@ -280,10 +280,7 @@ inside_values Production.Address (u ∷ v ∷ []) plain all special = refl
 inside_values Production.Address (v ∷ []) plain all special = refl
 inside_values Production.Address [] plain all special = refl
 inside_values Production.SpecialType vs plain all special = special refl
-inside_values Production.Encoding vs plain all special = absurd (true≢false plain)
-inside_values Production.Special vs plain all special = absurd (true≢false plain)
-inside_values Production.Guard vs plain all special = absurd (true≢false plain)
-inside_values _ vs plain all special = tt
+inside_values _ vs plain all special = first_of (cc, search tt)
 
 first_closed : (s : Type 0) (vs : List Value) → s → AllGood s vs → is_open (tree_of (part vs 0)) ≡ false
 unfolding part tree_of is_open

@@ -4,12 +4,13 @@ use Rattle.std.specs.Prelude.{◌&&◌, codes}
 use Rattle.std.proofs.lemmas.Bool.{true≢false, false≢true}
 use Rattle.sym_spell.specs.Pressing as spell
 use Rattle.sym_spell.specs.Pressing.{◌and◌, text, nothing}
-use Rattle.cpp_grammar.specs.Term.{Term, symbol, function, object, special, thunk, guard, alone, in_std, within, instance, local}
+use Rattle.cpp_grammar.specs.Term.{Term, symbol, alone, in_std, within, instance, local}
 use Rattle.cpp_grammar.specs.Values.{Candidate, outermost, behind, Around}
 use Rattle.cpp_grammar.specs.Between.{after, inside}
+use Rattle.cpp_press_laws.proofs.Components.Encodings.{encoding-prefix, no-encoding-fits}
 use Rattle.cpp_press_laws.specs.Texts.{name_letters}
 use Rattle.cpp_press_laws.specs.Components.{Spelling, ended, component}
-use Rattle.cpp_press_laws.specs.Pressing.{no_ways, type_ways, in_N_and_E, with_letters, name_ways, template_before, is_operator, is_encoding, is_one_piece, entity_text, local_text, encoding_ways, ways_of}
+use Rattle.cpp_press_laws.specs.Pressing.{no_ways, type_ways, in_N_and_E, with_letters, name_ways, template_before, is_operator, is_encoding, is_one_piece, entity_text, local_text, ways_of}
 use Rattle.cpp_press_laws.proofs.Components.Parts.{PrefixOr, Inside, Whole, prefix-whole}
 use Rattle.cpp_press_laws.proofs.Components.Complete.{Complete}
 use Rattle.cpp_press_laws.specs.Fits.{Standing, Fitting, Behind, as_component, as_template, behind_bytes, one_piece, Slot, names_type, names_function, begins_name, Role, in_type, in_name_with, letters_of, names_in, fits_nowhere, type_fits, piece_fits, argument_fits, encoding_fits, fits_of, names_member, IsSpellableDiscriminator}
@@ -18,37 +19,10 @@ use Rattle.cpp_press_laws.proofs.Components.AddedWays.{way_at, AtSlot, WaysAdd, 
 
 -- ## Names
 
--- under an encoding as a prefix nothing is spelled, and no prefix of it fits
-pub encoding-prefix : (e : Term) (n : ℕ) → is_encoding e ≡ true → (ways_of n e).as_prefix ≡ nothing
-unfolding is_encoding ways_of encoding_ways no_ways
-encoding-prefix (function name q ref returned parameters) n is = refl
-encoding-prefix (object name q ref) n is = refl
-encoding-prefix (special l type) n is = refl
-encoding-prefix (thunk kind e) n is = refl
-encoding-prefix (guard name q ref) n is = refl
-encoding-prefix (symbol e suffix) n is = absurd (false≢true is)
-encoding-prefix _ n is = absurd (false≢true is)
-
-pub no-encoding-fits : (e : Term) (around : Around) (allowed : Option ℕ) (place : ℕ) (cs : List Candidate) → is_encoding e ≡ true
-    → (fits_of e).as_prefix around allowed place cs → ⊥
-unfolding is_encoding fits_of encoding_fits fits_nowhere
-no-encoding-fits (function name q ref returned parameters) around allowed place cs is fits = fits
-no-encoding-fits (object name q ref) around allowed place cs is fits = fits
-no-encoding-fits (special l type) around allowed place cs is fits = fits
-no-encoding-fits (thunk kind e) around allowed place cs is fits = fits
-no-encoding-fits (guard name q ref) around allowed place cs is fits = fits
-no-encoding-fits (symbol e suffix) around allowed place cs is fits = absurd (false≢true is)
-no-encoding-fits _ around allowed place cs is fits = absurd (false≢true is)
-
 pub no-encoding-inside : (e x : Term) (inside : Type 0) → is_encoding e ≡ true → PrefixOr e inside x → ⊥
 unfolding is_encoding
-no-encoding-inside (function name q ref returned parameters) x inside is none = none
-no-encoding-inside (object name q ref) x inside is none = none
-no-encoding-inside (special l type) x inside is none = none
-no-encoding-inside (thunk kind e) x inside is none = none
-no-encoding-inside (guard name q ref) x inside is none = none
 no-encoding-inside (symbol e suffix) x inside is w = absurd (false≢true is)
-no-encoding-inside _ x inside is w = absurd (false≢true is)
+no-encoding-inside _ x inside is w = first_of (cc, assumption w)
 
 pub alone-add : (p : Term) → WaysAdd p (fits_of p) (λ n. ways_of n p) → WaysAdd (alone p) (fits_of (alone p)) (λ n. ways_of n (alone p))
 unfolding fits_of fits_nowhere ways_of name_ways no_ways

@@ -3,14 +3,15 @@
 use Rattle.std.proofs.Common.{◌≡◌, ℕ, ◌+◌, ◌⊎◌, inl, inr, length, List, [], ◌++◌, Option, None, Bool, true, false, refl, subst, sym}
 use Rattle.std.specs.Prelude.{◌&&◌, ◌||◌, codes, cond}
 use Rattle.sym_spell.specs.Pressing as spell
-use Rattle.sym_spell.specs.Pressing.{◌and◌, text}
-use Rattle.cpp_grammar.specs.Term.{RefQualifier, Term, symbol, function, object, special, thunk, guard, abbreviation, source, operator, literal_operator, constructor, destructor, lambda, unnamed, string_literal, builtin, function_type, integer, boolean, null_pointer, encoding_literal, address_of, pack, nil, list, absent}
+use Rattle.sym_spell.specs.Pressing.{◌and◌}
+use Rattle.cpp_grammar.specs.Term.{RefQualifier, Term, symbol, abbreviation, lambda, builtin, function_type, nil, list}
 use Rattle.cpp_grammar.specs.Scope.{is_open}
 use Rattle.cpp_grammar.specs.Values.{Candidate, Around}
 use Rattle.cpp_grammar.specs.References.{packs_in}
 use Rattle.cpp_grammar.specs.Meaning.{is_void, is_nil}
 use Rattle.cpp_press_laws.specs.Pressing.{ways_of}
 use Rattle.cpp_press_laws.proofs.Components.Parts.{IsComponent, Inside, Whole, Has, stands-found}
+use Rattle.cpp_press_laws.specs.Components.{first_equal}
 use Rattle.cpp_press_laws.proofs.Components.KnownTrees.{In}
 use Rattle.cpp_press_laws.proofs.Components.Complete.{Complete, complete-has}
 use Rattle.cpp_press_laws.specs.Fits.{Slot, any_type, bare_type, item_type, parameter_type, literal_type, IsBuiltin, IsAbbreviation, type_fits, piece_fits, argument_fits, encoding_fits, fits_nowhere, fits_of, PacksFit, MayBeReferred}
@@ -48,6 +49,16 @@ same-packs : (around : Around) (allowed packs own : Option ℕ) → PacksFit aro
 same-packs around allowed packs own fits (inl none) = inl none
 same-packs around allowed packs own fits (inr same) = subst (PacksFit around allowed) (sym same) fits
 
+pub once : {may stands one : Type 0} → may → (stands → ⊥) → may × (stands → one)
+once may never = (may, λ stands. absurd (never stands))
+
+stands-again : (t : Term) (around : Around) (allowed packs : Option ℕ) → PacksFit around allowed packs → is_open t && around.in_lambda ≡ false
+    → (packs_in around.scope t ≡ None) ⊎ (packs_in around.scope t ≡ packs) → MayBeReferred around allowed t
+stands-again t around allowed packs fits shut own = record { lambda = shut; packs = same-packs around allowed packs (packs_in around.scope t) fits own }
+
+never-first : (t : Term) (around : Around) (cs : List Candidate) → In (Whole t) (λ x. Has around.encoding x cs) → IsComponent t → first_equal around.encoding t 0 cs ≡ None → ⊥
+never-first t around cs has is first = stands-found around.encoding t 0 cs (has t (inl (is, refl))) first
+
 -- a type that stands may be referred to
 pub item-again : (t : Term) (slot : Slot) → IsNotBare slot → (around : Around) (allowed packs : Option ℕ)
     → ItemStands slot around.scope packs t
@@ -57,28 +68,6 @@ unfolding fits_of type_fits piece_fits argument_fits encoding_fits fits_nowhere
 item-again (builtin code) slot other around allowed packs item fits shut place cs has = item
 item-again (abbreviation l) slot other around allowed packs item fits shut place cs has = item
 item-again (symbol e suffix) slot other around allowed packs item fits shut place cs has = absurd item.0
-item-again (function name q ref returned parameters) slot other around allowed packs item fits shut place cs has = absurd item.0
-item-again (object name q ref) slot other around allowed packs item fits shut place cs has = absurd item.0
-item-again (special l type) slot other around allowed packs item fits shut place cs has = absurd item.0
-item-again (thunk kind e) slot other around allowed packs item fits shut place cs has = absurd item.0
-item-again (guard name q ref) slot other around allowed packs item fits shut place cs has = absurd item.0
-item-again (source internal name) slot other around allowed packs item fits shut place cs has = absurd item.0
-item-again (operator a b) slot other around allowed packs item fits shut place cs has = absurd item.0
-item-again (literal_operator name) slot other around allowed packs item fits shut place cs has = absurd item.0
-item-again (constructor digit) slot other around allowed packs item fits shut place cs has = absurd item.0
-item-again (destructor digit) slot other around allowed packs item fits shut place cs has = absurd item.0
-item-again (lambda parameters k) slot other around allowed packs item fits shut place cs has = absurd item.0
-item-again (unnamed k) slot other around allowed packs item fits shut place cs has = absurd item.0
-item-again string_literal slot other around allowed packs item fits shut place cs has = absurd item.0
-item-again (integer type value) slot other around allowed packs item fits shut place cs has = absurd item.0
-item-again (boolean truth) slot other around allowed packs item fits shut place cs has = absurd item.0
-item-again null_pointer slot other around allowed packs item fits shut place cs has = absurd item.0
-item-again (encoding_literal e) slot other around allowed packs item fits shut place cs has = absurd item.0
-item-again (address_of e) slot other around allowed packs item fits shut place cs has = absurd item.0
-item-again (pack elements) slot other around allowed packs item fits shut place cs has = absurd item.0
-item-again nil slot other around allowed packs item fits shut place cs has = absurd item.0
-item-again (list first rest) slot other around allowed packs item fits shut place cs has = absurd item.0
-item-again absent slot other around allowed packs item fits shut place cs has = absurd item.0
 item-again (function_type c_linkage noexcept ref returned parameters) slot other around allowed packs item fits shut place cs has = go slot other
   where
     own : Term
@@ -93,10 +82,8 @@ item-again (function_type c_linkage noexcept ref returned parameters) slot other
     go item_type h = (may, λ first. absurd (stands-found around.encoding own 0 cs (has own (inl (tt, refl))) first))
     go parameter_type h = (may, λ first. absurd (stands-found around.encoding own 0 cs (has own (inl (tt, refl))) first))
     go literal_type h = (may, λ first. absurd (stands-found around.encoding own 0 cs (has own (inl (tt, refl))) first))
-item-again t slot other around allowed packs item fits shut place cs has = (
-  record { lambda = shut; packs = same-packs around allowed packs (packs_in around.scope t) fits item.1 },
-  λ first. absurd (stands-found around.encoding t 0 cs (has t (inl (item.0, refl))) first),
-)
+item-again t slot other around allowed packs item fits shut place cs has =
+    first_of (search item.0, search (once, stands-again t around allowed packs fits shut item.1, never-first t around cs has item.0))
 
 left-shut : (a b c : Bool) → (a || b) && c ≡ false → a && c ≡ false
 left-shut true b c h = h

@@ -2,11 +2,11 @@
 use Rattle.std.proofs.Common.{◌≡◌, ℕ, ◌<◌, ◌≤◌, ◌⊎◌, inl, inr, length, List, [], ◌∷◌, ◌++◌, Bool, true, false, refl, ap, arith, sym, subst, ◌∙◌, length-append}
 use Rattle.std.specs.Prelude.{◌||◌}
 use Rattle.std.proofs.lemmas.Bool.{true≢false}
-use Rattle.cpp_grammar.specs.Term.{Term, symbol, function, object, special, thunk, guard, alone, in_std, within, instance, local, lambda, pointer, lvalue, rvalue, array, member_pointer, function_type, qualified, vector, complex, expansion, integer, encoding_literal, address_of, pack, list}
+use Rattle.cpp_grammar.specs.Term.{Term, symbol, alone, in_std, within, instance, local, lambda, pointer, lvalue, rvalue, array, member_pointer, function_type, qualified, vector, complex, expansion, integer, pack, list}
 use Rattle.cpp_grammar.specs.Scope.{is_open}
 use Rattle.cpp_grammar.specs.Values.{Candidate}
 use Rattle.cpp_press_laws.specs.Components.{Spelling}
-use Rattle.cpp_press_laws.proofs.Components.Parts.{IsComponent, ItselfOr, PrefixOr, UnqualifiedOr, Inside, Whole, Has, has-before, has-either, has-itself, same-means, has-closed}
+use Rattle.cpp_press_laws.proofs.Components.Parts.{IsComponent, ItselfOr, PrefixOr, UnqualifiedOr, Inside, Whole, Has, has-before, has-either, has-itself, same-means, has-closed, prefix-whole}
 use Rattle.cpp_press_laws.proofs.Components.Known.{KeepsTo, known-has}
 
 -- ## What is in a closed tree is closed
@@ -24,13 +24,7 @@ itself-shut t x inside closed more (inl same) = ap is_open same.1 ∙ closed
 itself-shut t x inside closed more (inr i) = more i
 
 prefix-shut : (t x : Term) (inside : Type 0) → is_open t ≡ false → (inside → is_open x ≡ false) → PrefixOr t inside x → is_open x ≡ false
-prefix-shut (function name q ref returned parameters) x inside closed more none = absurd none
-prefix-shut (object name q ref) x inside closed more none = absurd none
-prefix-shut (special l type) x inside closed more none = absurd none
-prefix-shut (thunk kind e) x inside closed more none = absurd none
-prefix-shut (guard name q ref) x inside closed more none = absurd none
-prefix-shut (symbol e suffix) x inside closed more w = itself-shut (symbol e suffix) x inside closed more w
-prefix-shut t x inside closed more w = itself-shut t x inside closed more w
+prefix-shut t x inside closed more w = itself-shut t x inside closed more (prefix-whole t x inside w)
 
 unqualified-shut : (t x : Term) (inside : Type 0) → is_open t ≡ false → (inside → is_open x ≡ false) → UnqualifiedOr t inside x
     → is_open x ≡ false
@@ -41,11 +35,6 @@ unqualified-shut t x inside closed more w = itself-shut t x inside closed more w
 pub inside-shut : (t x : Term) → is_open t ≡ false → Inside t x → is_open x ≡ false
 unfolding is_open
 inside-shut (symbol e suffix) x closed i = i.0
-inside-shut (function name q ref returned parameters) x closed i = i.0
-inside-shut (object name q ref) x closed i = i.0
-inside-shut (special l type) x closed i = i.0
-inside-shut (thunk kind e) x closed i = i.0
-inside-shut (guard name q ref) x closed i = i.0
 inside-shut (alone p) x closed i = inside-shut p x closed i
 inside-shut (in_std p) x closed i = inside-shut p x closed i
 inside-shut (within prefix p) x closed (inl w) =
@@ -80,14 +69,12 @@ inside-shut (vector digits type) x closed i = itself-shut type x (Inside type x)
 inside-shut (complex type) x closed i = itself-shut type x (Inside type x) closed (inside-shut type x closed) i
 inside-shut (expansion pattern) x closed i = itself-shut pattern x (Inside pattern x) closed (inside-shut pattern x closed) i
 inside-shut (integer type value) x closed i = itself-shut type x (Inside type x) closed (inside-shut type x closed) i
-inside-shut (encoding_literal e) x closed i = i.0
-inside-shut (address_of e) x closed i = i.0
 inside-shut (pack elements) x closed i = inside-shut elements x closed i
 inside-shut (list first rest) x closed (inl w) =
     itself-shut first x (Inside first x) (left-shut (is_open first) (is_open rest) closed)
     (inside-shut first x (left-shut (is_open first) (is_open rest) closed)) w
 inside-shut (list first rest) x closed (inr i) = inside-shut rest x (right-shut (is_open first) (is_open rest) closed) i
-inside-shut _ x closed i = absurd i
+inside-shut _ x closed i = first_of (assumption i, search i)
 
 -- ## Complete lists
 

@@ -203,8 +203,6 @@ before-writes (within x p) typed m around allowed arguments elements place cs wr
     (omega (arith, length-append w.bytes [])) (h.2 none).1)))
 before-writes (instance t a) typed m around allowed arguments elements place cs write h =
     component-before-writes m around allowed (instance t a) nothing arguments elements place cs write h
-before-writes (local e entity d) typed m around allowed arguments elements place cs write h =
-    component-before-writes m around allowed (local e entity d) _ arguments elements place cs write h
 before-writes (abbreviation l) typed m around allowed arguments elements place cs write h =
     writes-rest (m + 2) (text (codes "S" ++ l ∷ [])) (of_elements elements) place cs (elements-write m elements (place + 2) cs (write
     (place + 2) cs h.1))
@@ -213,29 +211,7 @@ before-writes (parameter k) typed m around allowed arguments elements place cs w
     let w : Written = own place cs in
     writes-rest (m + 2) own (of_elements elements) place cs
     (elements-write m elements (place + length w.bytes) w.components (write (place + length w.bytes) w.components h.1))
-before-writes (vendor name) typed m around allowed arguments elements place cs write h =
-    component-before-writes m around allowed (vendor name) _ arguments elements place cs write h
-before-writes (pointer t) typed m around allowed arguments elements place cs write h =
-    component-before-writes m around allowed (pointer t) _ arguments elements place cs write h
-before-writes (lvalue t) typed m around allowed arguments elements place cs write h =
-    component-before-writes m around allowed (lvalue t) _ arguments elements place cs write h
-before-writes (rvalue t) typed m around allowed arguments elements place cs write h =
-    component-before-writes m around allowed (rvalue t) _ arguments elements place cs write h
-before-writes (array digits t) typed m around allowed arguments elements place cs write h =
-    component-before-writes m around allowed (array digits t) _ arguments elements place cs write h
-before-writes (member_pointer class t) typed m around allowed arguments elements place cs write h =
-    component-before-writes m around allowed (member_pointer class t) _ arguments elements place cs write h
-before-writes (function_type c x ref returned parameters) typed m around allowed arguments elements place cs write h =
-    component-before-writes m around allowed (function_type c x ref returned parameters) _ arguments elements place cs write h
-before-writes (qualified q t) typed m around allowed arguments elements place cs write h =
-    component-before-writes m around allowed (qualified q t) _ arguments elements place cs write h
-before-writes (vector digits t) typed m around allowed arguments elements place cs write h =
-    component-before-writes m around allowed (vector digits t) _ arguments elements place cs write h
-before-writes (complex t) typed m around allowed arguments elements place cs write h =
-    component-before-writes m around allowed (complex t) _ arguments elements place cs write h
-before-writes (expansion t) typed m around allowed arguments elements place cs write h =
-    component-before-writes m around allowed (expansion t) _ arguments elements place cs write h
-before-writes _ typed m around allowed arguments elements place cs write h = absurd h
+before-writes _ typed m around allowed arguments elements place cs write h = first_of (search h, search (component-before-writes, write, h))
 
 -- ## Arguments
 

@@ -3,7 +3,7 @@ use Rattle.std.proofs.Common.{◌≡◌, ℕ, ◌+◌, inl, inr, length, List, [
 use Rattle.std.specs.Prelude.{cond, codes}
 use Rattle.sym_spell.specs.Pressing as spell
 use Rattle.sym_spell.specs.Pressing.{◌and◌}
-use Rattle.cpp_grammar.specs.Term.{Term, alone, in_std, within, instance, local, parameter, vendor, pointer, lvalue, rvalue, array, member_pointer, function_type, qualified, vector, complex, expansion, list}
+use Rattle.cpp_grammar.specs.Term.{Term, alone, function_type, list}
 use Rattle.cpp_grammar.specs.Values.{Candidate}
 use Rattle.cpp_press_laws.specs.Components.{Spelling, first_equal, reference, spelled_out, component}
 use Rattle.cpp_press_laws.specs.Pressing.{ways_of, no_ways, type_ways, name_ways, piece_ways, argument_ways, encoding_ways, function_text}
@@ -25,48 +25,14 @@ pub type-none : (t : Term) (n place : ℕ) (cs : List Candidate) → (IsComponen
     ((ways_of n t).as_type place cs).components ≡ cs
 unfolding ways_of no_ways type_ways name_ways piece_ways argument_ways encoding_ways
 type-none (alone p) n place cs has = component-none n (alone p) _ place cs (has tt)
-type-none (in_std p) n place cs has = component-none n (in_std p) _ place cs (has tt)
-type-none (within x p) n place cs has = component-none n (within x p) _ place cs (has tt)
-type-none (instance t a) n place cs has = component-none n (instance t a) _ place cs (has tt)
-type-none (local e entity d) n place cs has = component-none n (local e entity d) _ place cs (has tt)
-type-none (parameter k) n place cs has = component-none n (parameter k) _ place cs (has tt)
-type-none (vendor name) n place cs has = component-none n (vendor name) _ place cs (has tt)
-type-none (pointer t) n place cs has = component-none n (pointer t) _ place cs (has tt)
-type-none (lvalue t) n place cs has = component-none n (lvalue t) _ place cs (has tt)
-type-none (rvalue t) n place cs has = component-none n (rvalue t) _ place cs (has tt)
-type-none (array digits t) n place cs has = component-none n (array digits t) _ place cs (has tt)
-type-none (member_pointer c t) n place cs has = component-none n (member_pointer c t) _ place cs (has tt)
-type-none (function_type c x ref returned parameters) n place cs has = component-none n
-    (function_type c x ref returned parameters) _ place cs (has tt)
-type-none (qualified q t) n place cs has = component-none n (qualified q t) _ place cs (has tt)
-type-none (vector digits t) n place cs has = component-none n (vector digits t) _ place cs (has tt)
-type-none (complex t) n place cs has = component-none n (complex t) _ place cs (has tt)
-type-none (expansion t) n place cs has = component-none n (expansion t) _ place cs (has tt)
-type-none _ n place cs has = refl
+type-none _ n place cs has = first_of (cc, search (component-none, has))
 
 -- as a prefix
 pub prefix-none : (t : Term) (n place : ℕ) (cs : List Candidate) → IsComponent t → Has n t cs →
     ((ways_of n t).as_prefix place cs).components ≡ cs
 unfolding ways_of no_ways type_ways name_ways piece_ways argument_ways encoding_ways
 prefix-none (alone p) n place cs is has = component-none n (alone p) _ place cs has
-prefix-none (in_std p) n place cs is has = component-none n (in_std p) _ place cs has
-prefix-none (within x p) n place cs is has = component-none n (within x p) _ place cs has
-prefix-none (instance t a) n place cs is has = component-none n (instance t a) _ place cs has
-prefix-none (local e entity d) n place cs is has = component-none n (local e entity d) _ place cs has
-prefix-none (parameter k) n place cs is has = component-none n (parameter k) _ place cs has
-prefix-none (vendor name) n place cs is has = component-none n (vendor name) _ place cs has
-prefix-none (pointer t) n place cs is has = component-none n (pointer t) _ place cs has
-prefix-none (lvalue t) n place cs is has = component-none n (lvalue t) _ place cs has
-prefix-none (rvalue t) n place cs is has = component-none n (rvalue t) _ place cs has
-prefix-none (array digits t) n place cs is has = component-none n (array digits t) _ place cs has
-prefix-none (member_pointer c t) n place cs is has = component-none n (member_pointer c t) _ place cs has
-prefix-none (function_type c x ref returned parameters) n place cs is has = component-none n
-    (function_type c x ref returned parameters) _ place cs has
-prefix-none (qualified q t) n place cs is has = component-none n (qualified q t) _ place cs has
-prefix-none (vector digits t) n place cs is has = component-none n (vector digits t) _ place cs has
-prefix-none (complex t) n place cs is has = component-none n (complex t) _ place cs has
-prefix-none (expansion t) n place cs is has = component-none n (expansion t) _ place cs has
-prefix-none _ n place cs is has = absurd is
+prefix-none _ n place cs is has = first_of (search is, search (component-none, has))
 
 -- parameters, of which each that is a component stands
 parameters-none : (t : Term) (n place : ℕ) (cs : List Candidate) → ((x : Term) → Inside t x → Has n x cs)
@@ -100,20 +66,4 @@ bare-none (function_type c x ref returned parameters) n place cs is complete has
     subst (λ ds. ((ways_of n parameters).as_parameters later ds).components ≡ cs)
     (sym (type-none returned n from cs (λ own. inner returned (inl (inl (own, refl))))))
     (all-parameters-none parameters n later cs (λ y i. inner y (inr i)))
-bare-none (alone p) n place cs is complete has = component-none n (alone p) _ place cs has
-bare-none (in_std p) n place cs is complete has = component-none n (in_std p) _ place cs has
-bare-none (within x p) n place cs is complete has = component-none n (within x p) _ place cs has
-bare-none (instance t a) n place cs is complete has = component-none n (instance t a) _ place cs has
-bare-none (local e entity d) n place cs is complete has = component-none n (local e entity d) _ place cs has
-bare-none (parameter k) n place cs is complete has = component-none n (parameter k) _ place cs has
-bare-none (vendor name) n place cs is complete has = component-none n (vendor name) _ place cs has
-bare-none (pointer t) n place cs is complete has = component-none n (pointer t) _ place cs has
-bare-none (lvalue t) n place cs is complete has = component-none n (lvalue t) _ place cs has
-bare-none (rvalue t) n place cs is complete has = component-none n (rvalue t) _ place cs has
-bare-none (array digits t) n place cs is complete has = component-none n (array digits t) _ place cs has
-bare-none (member_pointer c t) n place cs is complete has = component-none n (member_pointer c t) _ place cs has
-bare-none (qualified q t) n place cs is complete has = component-none n (qualified q t) _ place cs has
-bare-none (vector digits t) n place cs is complete has = component-none n (vector digits t) _ place cs has
-bare-none (complex t) n place cs is complete has = component-none n (complex t) _ place cs has
-bare-none (expansion t) n place cs is complete has = component-none n (expansion t) _ place cs has
-bare-none _ n place cs is complete has = absurd is
+bare-none _ n place cs is complete has = first_of (search is, search (component-none, has))

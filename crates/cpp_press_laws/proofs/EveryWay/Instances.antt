@@ -18,7 +18,7 @@ use Rattle.cpp_press_laws.proofs.ReadBack.Between.{ElementsRead, ExtendsWith, ex
 use Rattle.cpp_press_laws.proofs.ReadBack.Templates.{slot-rules, TemplateKind, of_elements, ReadElements, elements-room}
 use Rattle.cpp_press_laws.proofs.EveryWay.Every.{referred-before, OnePiece, TemplateReads, template-value, EntityReads, Leads, slot_way, typed-argument}
 use Rattle.cpp_press_laws.proofs.EveryWay.Types.{Reading}
-use Rattle.cpp_press_laws.proofs.EveryWay.Within.{no-encoding}
+use Rattle.cpp_press_laws.proofs.Components.Encodings.{no-encoding}
 use Rattle.cpp_press_laws.proofs.EveryWay.Std.{entity-nested}
 use Rattle.cpp_press_laws.proofs.EveryWay.Names.{plain-name, no-letters, nested-room, name-by-letters, elements-behind}
 use Rattle.cpp_press_laws.specs.Fits.{nowhere, Slot, any_type, bare_type, item_type, parameter_type, literal_type, Fitting, as_component, behind_bytes, Behind, Role, in_type, in_name_with, letters_of, IsWithoutLetters, fits_nowhere, encoding_fits, piece_fits, argument_fits, type_fits, fits_of}

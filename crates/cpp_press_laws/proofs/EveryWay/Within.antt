@@ -1,18 +1,19 @@
 -- Names of a prefix and a piece are read in each of their ways.
 use Rattle.std.proofs.Common.{◌≡◌, ℕ, ◌+◌, length, List, [], ◌∷◌, ◌++◌, Option, Bool, true, false, refl, ap, arith, inl, inr, ◌⊎◌, sym, subst, ◌∙◌, length-append}
 use Rattle.std.specs.Prelude.{codes}
-use Rattle.sym_spell.specs.Pressing.{◌and◌, text, nothing}
+use Rattle.sym_spell.specs.Pressing.{◌and◌, text}
 use Rattle.cpp_grammar.specs.declared.kind.Kind.{Kind}
 use Rattle.cpp_grammar.specs.declared.production.Production.{Production}
 use Rattle.cpp_grammar.specs.KindNumbers.{COMPLETE_NAME, ENTITY}
 use Rattle.cpp_grammar.specs.Grammar.{in_ranges, among, is_in, pick, alternatives, choose, kinds, is_chain}
-use Rattle.cpp_grammar.specs.Term.{Qualifiers, function, object, special, thunk, guard, within, string_literal, RefQualifier, any_value, Term, instance}
+use Rattle.cpp_grammar.specs.Term.{Qualifiers, within, string_literal, RefQualifier, any_value, Term, instance}
 use Rattle.cpp_grammar.specs.Values.{Candidate, behind, Around, tree, tree_of, qualifiers_of, ref_of, unqualified}
 use Rattle.cpp_grammar.specs.References.{is_function_type}
 use Rattle.cpp_grammar.specs.Between.{after, extended}
+use Rattle.cpp_press_laws.proofs.Components.Encodings.{scope-first, no-encoding}
 use Rattle.cpp_press_laws.specs.Texts.{name_letters}
 use Rattle.cpp_press_laws.specs.Components.{Spelling, ended, component}
-use Rattle.cpp_press_laws.specs.Pressing.{ways_of, no_ways, name_ways, with_letters, in_N_and_E, template_before, encoding_ways, piece_ways, is_encoding, is_one_piece, entity_text}
+use Rattle.cpp_press_laws.specs.Pressing.{ways_of, no_ways, name_ways, with_letters, in_N_and_E, template_before, piece_ways, is_encoding, is_one_piece, entity_text}
 use Rattle.cpp_press_laws.specs.Subtrees.{Written, written, HasRoom, IsSmall}
 use Rattle.cpp_press_laws.proofs.ReadBack.Reading.{takes-byte}
 use Rattle.cpp_press_laws.proofs.ReadBack.Types.{more}
@@ -26,35 +27,10 @@ use Rattle.cpp_press_laws.proofs.EveryWay.Every.{NameReads, TemplateReads, templ
 use Rattle.cpp_press_laws.proofs.EveryWay.Types.{Reading}
 use Rattle.cpp_press_laws.proofs.EveryWay.Std.{entity-nested, template-nested}
 use Rattle.cpp_press_laws.proofs.EveryWay.Names.{letters-nested, no-qualifiers, no-letters, nested-room, elements-behind}
-use Rattle.cpp_press_laws.specs.Fits.{names_member, names_entity, names_in, Slot, any_type, bare_type, item_type, parameter_type, literal_type, Fitting, as_component, behind_bytes, one_piece, Behind, begins_name, Role, in_type, in_name_with, letters_of, IsWithoutLetters, fits_nowhere, encoding_fits, fits_of}
+use Rattle.cpp_press_laws.specs.Fits.{names_member, names_entity, names_in, Slot, any_type, bare_type, item_type, parameter_type, literal_type, Fitting, as_component, behind_bytes, one_piece, Behind, begins_name, Role, in_type, in_name_with, letters_of, IsWithoutLetters, fits_nowhere, fits_of}
 use Rattle.cpp_press_laws.proofs.ReadBack.Symbols.{string-literal-reads}
 
 -- ## Encodings as prefixes
-
-nothing-first : (f : Spelling) (place : ℕ) (cs : List Candidate) → (nothing and f) place cs ≡ f place cs
-nothing-first f place cs = ap (λ q. f q cs) (omega arith)
-
--- an encoding writes nothing as a prefix
-pub scope-first : (x : Term) (n : ℕ) (f : Spelling) (place : ℕ) (cs : List Candidate) → is_encoding x ≡ true
-    → ((ways_of n x).as_prefix and f) place cs ≡ f place cs
-unfolding ways_of encoding_ways no_ways is_encoding
-scope-first (function name q ref returned parameters) n f place cs is = nothing-first f place cs
-scope-first (object name q ref) n f place cs is = nothing-first f place cs
-scope-first (special l t) n f place cs is = nothing-first f place cs
-scope-first (thunk kind e) n f place cs is = nothing-first f place cs
-scope-first (guard name q ref) n f place cs is = nothing-first f place cs
-scope-first _ n f place cs is = absurd (let e : false ≡ true = is in cc)
-
--- and fits nowhere as one
-pub no-encoding : (x : Term) (around : Around) (allowed : Option ℕ) (place : ℕ) (cs : List Candidate)
-    → (fits_of x).as_prefix around allowed place cs → is_encoding x ≡ false
-unfolding fits_of encoding_fits fits_nowhere is_encoding
-no-encoding (function name q ref returned parameters) around allowed place cs h = absurd h
-no-encoding (object name q ref) around allowed place cs h = absurd h
-no-encoding (special l t) around allowed place cs h = absurd h
-no-encoding (thunk kind e) around allowed place cs h = absurd h
-no-encoding (guard name q ref) around allowed place cs h = absurd h
-no-encoding _ around allowed place cs h = refl
 
 within-scope : (around : Around) (x p : Term) → around.prefix ≡ behind x true → extended around.prefix p ≡ within x p
 unfolding extended

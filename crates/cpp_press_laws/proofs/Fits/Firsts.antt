@@ -1,7 +1,7 @@
 -- The name so far between N and E fits behind its first part: a piece, a parameter, an abbreviation or what a reference names.
 use Rattle.std.proofs.Common.{◌≡◌, ℕ, ◌⊎◌, inl, inr, List, Option, Bool, true, false, refl, sym, subst}
 use Rattle.cpp_grammar.specs.declared.kind.Kind.{Kind}
-use Rattle.cpp_grammar.specs.Term.{Term, symbol, function, object, special, thunk, guard, instance, abbreviation, parameter, source, operator, literal_operator, constructor, destructor, lambda, unnamed, string_literal, builtin, integer, boolean, null_pointer, encoding_literal, address_of, pack, nil, list, absent}
+use Rattle.cpp_grammar.specs.Term.{Term, symbol, instance, abbreviation, parameter}
 use Rattle.cpp_grammar.specs.Values.{Candidate, State, outermost, behind, Around, prefix_tree, prefix_listed, Value, tree_of, is_listed}
 use Rattle.cpp_grammar.specs.References.{appended, with_type, with_prefix}
 use Rattle.cpp_grammar.specs.Between.{after, inside, extended, no_items}
@@ -24,13 +24,11 @@ use Rattle.cpp_press_laws.proofs.Fits.Rests.{SoFarFits}
 
 component-apart : (t : Term) → IsComponent t → is_encoding t ≡ false
 unfolding is_encoding
-component-apart (function name q ref returned parameters) is = absurd is
-component-apart (object name q ref) is = absurd is
-component-apart (special l type) is = absurd is
-component-apart (thunk kind e) is = absurd is
-component-apart (guard name q ref) is = absurd is
 component-apart (symbol e suffix) is = refl
-component-apart _ is = refl
+component-apart _ is = first_of (cc, search is)
+
+twice : {may stands : Type 0} {one other : Type 0} → may → (stands → ⊥) → (may × (stands → one)) × (may × (stands → other))
+twice may never = ((may, λ stands. absurd (never stands)), (may, λ stands. absurd (never stands)))
 
 -- a component that stands before fits as a prefix, and before arguments that end one
 prefix-again : (t : Term) → IsComponent t → (around : Around) (allowed : Option ℕ) → MayBeReferred around allowed t → (place : ℕ)
@@ -38,34 +36,8 @@ prefix-again : (t : Term) → IsComponent t → (around : Around) (allowed : Opt
     → (fits_of t).as_prefix around allowed place cs × (fits_of t).as_prefix_template around allowed place cs
 unfolding fits_of type_fits fits_nowhere
 prefix-again (symbol e suffix) is around allowed may place cs has = absurd is
-prefix-again (function name q ref returned parameters) is around allowed may place cs has = absurd is
-prefix-again (object name q ref) is around allowed may place cs has = absurd is
-prefix-again (special l type) is around allowed may place cs has = absurd is
-prefix-again (thunk kind e) is around allowed may place cs has = absurd is
-prefix-again (guard name q ref) is around allowed may place cs has = absurd is
-prefix-again (abbreviation l) is around allowed may place cs has = absurd is
-prefix-again (source internal name) is around allowed may place cs has = absurd is
-prefix-again (operator a b) is around allowed may place cs has = absurd is
-prefix-again (literal_operator name) is around allowed may place cs has = absurd is
-prefix-again (constructor digit) is around allowed may place cs has = absurd is
-prefix-again (destructor digit) is around allowed may place cs has = absurd is
-prefix-again (lambda parameters k) is around allowed may place cs has = absurd is
-prefix-again (unnamed k) is around allowed may place cs has = absurd is
-prefix-again string_literal is around allowed may place cs has = absurd is
-prefix-again (builtin code) is around allowed may place cs has = absurd is
-prefix-again (integer type value) is around allowed may place cs has = absurd is
-prefix-again (boolean truth) is around allowed may place cs has = absurd is
-prefix-again null_pointer is around allowed may place cs has = absurd is
-prefix-again (encoding_literal e) is around allowed may place cs has = absurd is
-prefix-again (address_of e) is around allowed may place cs has = absurd is
-prefix-again (pack elements) is around allowed may place cs has = absurd is
-prefix-again nil is around allowed may place cs has = absurd is
-prefix-again (list first rest) is around allowed may place cs has = absurd is
-prefix-again absent is around allowed may place cs has = absurd is
-prefix-again t is around allowed may place cs has = (
-  (may, λ first. absurd (stands-found around.encoding t 0 cs has first)),
-  (may, λ first. absurd (stands-found around.encoding t 0 cs has first)),
-)
+prefix-again t is around allowed may place cs has =
+    first_of (search is, search (twice, may, stands-found around.encoding t 0 cs has))
 
 referred-so-far : (outer : Around) (old new : State) (c : Candidate) → Referred outer old new c → SoFarFits outer c.tree true old new
 unfolding with_prefix after prefix_listed

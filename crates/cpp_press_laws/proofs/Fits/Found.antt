@@ -1,8 +1,8 @@
 -- A template name that was named by a reference fits before its arguments, which stand behind the reference.
 use Rattle.std.proofs.Common.{◌≡◌, ℕ, ◌+◌, length, List, Option, Some, None, Bool, refl, ap, arith, sym, subst, ◌∙◌}
 use Rattle.sym_spell.specs.Pressing as spell
-use Rattle.sym_spell.specs.Pressing.{◌and◌, text}
-use Rattle.cpp_grammar.specs.Term.{Term, symbol, function, object, special, thunk, guard, alone, in_std, within, instance, abbreviation, parameter, source, operator, literal_operator, constructor, destructor, lambda, unnamed, string_literal, builtin, integer, boolean, null_pointer, encoding_literal, address_of, pack, nil, list, absent}
+use Rattle.sym_spell.specs.Pressing.{◌and◌}
+use Rattle.cpp_grammar.specs.Term.{Term, symbol, alone, in_std, within, instance, parameter}
 use Rattle.cpp_grammar.specs.Values.{Candidate, State, Around}
 use Rattle.cpp_press_laws.specs.Components.{Spelling, first_equal, reference, spelled_out, referred, component}
 use Rattle.cpp_press_laws.specs.Pressing.{type_ways, name_ways, no_ways, template_before, ways_of}
@@ -66,31 +66,10 @@ before-spelled (alone p) c n number typed arguments place cs is = referred-found
 before-spelled (in_std p) c n number typed arguments place cs is = referred-found n number (in_std p) arguments _ place cs is
 before-spelled (within prefix p) c n number typed arguments place cs is = referred-found n number (within prefix p) arguments _ place cs is
 before-spelled (symbol e suffix) c n number typed arguments place cs is = absurd c
-before-spelled (function name q ref returned parameters) c n number typed arguments place cs is = absurd c
-before-spelled (object name q ref) c n number typed arguments place cs is = absurd c
-before-spelled (special l type) c n number typed arguments place cs is = absurd c
-before-spelled (thunk kind e) c n number typed arguments place cs is = absurd c
-before-spelled (guard name q ref) c n number typed arguments place cs is = absurd c
-before-spelled (abbreviation l) c n number typed arguments place cs is = absurd c
-before-spelled (source internal name) c n number typed arguments place cs is = absurd c
-before-spelled (operator a b) c n number typed arguments place cs is = absurd c
-before-spelled (literal_operator name) c n number typed arguments place cs is = absurd c
-before-spelled (constructor digit) c n number typed arguments place cs is = absurd c
-before-spelled (destructor digit) c n number typed arguments place cs is = absurd c
-before-spelled (lambda parameters k) c n number typed arguments place cs is = absurd c
-before-spelled (unnamed k) c n number typed arguments place cs is = absurd c
-before-spelled string_literal c n number typed arguments place cs is = absurd c
-before-spelled (builtin code) c n number typed arguments place cs is = absurd c
-before-spelled (integer type value) c n number typed arguments place cs is = absurd c
-before-spelled (boolean truth) c n number typed arguments place cs is = absurd c
-before-spelled null_pointer c n number typed arguments place cs is = absurd c
-before-spelled (encoding_literal e) c n number typed arguments place cs is = absurd c
-before-spelled (address_of e) c n number typed arguments place cs is = absurd c
-before-spelled (pack elements) c n number typed arguments place cs is = absurd c
-before-spelled nil c n number typed arguments place cs is = absurd c
-before-spelled (list first rest) c n number typed arguments place cs is = absurd c
-before-spelled absent c n number typed arguments place cs is = absurd c
-before-spelled t c n number typed arguments place cs is = component-found n number t _ arguments place cs is
+before-spelled _ c n number typed arguments place cs is = first_of (search c, search (component-found, is))
+
+thrice : {may again stands one : Type 0} → may → again → (stands → ⊥) → may × again × (stands → one)
+thrice may again never = (may, again, λ stands. absurd (never stands))
 
 -- and there it fits
 before-found : (t : Term) → IsComponent t → (around : Around) (allowed : Option ℕ) (number : ℕ) (typed : Bool) (G : Fitting) (place : ℕ)
@@ -102,35 +81,10 @@ before-found (parameter k) c around allowed number typed G place cs may has is f
   named-behind around.encoding number (parameter k) _ (G around allowed) place cs is fits,
 )
 before-found (symbol e suffix) c around allowed number typed G place cs may has is fits = absurd c
-before-found (function name q ref returned parameters) c around allowed number typed G place cs may has is fits = absurd c
-before-found (object name q ref) c around allowed number typed G place cs may has is fits = absurd c
-before-found (special l type) c around allowed number typed G place cs may has is fits = absurd c
-before-found (thunk kind e) c around allowed number typed G place cs may has is fits = absurd c
-before-found (guard name q ref) c around allowed number typed G place cs may has is fits = absurd c
-before-found (abbreviation l) c around allowed number typed G place cs may has is fits = absurd c
-before-found (source internal name) c around allowed number typed G place cs may has is fits = absurd c
-before-found (operator a b) c around allowed number typed G place cs may has is fits = absurd c
-before-found (literal_operator name) c around allowed number typed G place cs may has is fits = absurd c
-before-found (constructor digit) c around allowed number typed G place cs may has is fits = absurd c
-before-found (destructor digit) c around allowed number typed G place cs may has is fits = absurd c
-before-found (lambda parameters k) c around allowed number typed G place cs may has is fits = absurd c
-before-found (unnamed k) c around allowed number typed G place cs may has is fits = absurd c
-before-found string_literal c around allowed number typed G place cs may has is fits = absurd c
-before-found (builtin code) c around allowed number typed G place cs may has is fits = absurd c
-before-found (integer type value) c around allowed number typed G place cs may has is fits = absurd c
-before-found (boolean truth) c around allowed number typed G place cs may has is fits = absurd c
-before-found null_pointer c around allowed number typed G place cs may has is fits = absurd c
-before-found (encoding_literal e) c around allowed number typed G place cs may has is fits = absurd c
-before-found (address_of e) c around allowed number typed G place cs may has is fits = absurd c
-before-found (pack elements) c around allowed number typed G place cs may has is fits = absurd c
-before-found nil c around allowed number typed G place cs may has is fits = absurd c
-before-found (list first rest) c around allowed number typed G place cs may has is fits = absurd c
-before-found absent c around allowed number typed G place cs may has is fits = absurd c
-before-found t c around allowed number typed G place cs may has is fits = (
-  may,
-  λ other same. same-reference number other (G around allowed) place cs (sym is ∙ same) fits,
-  λ first. absurd (stands-found around.encoding t 0 cs has first),
-)
+before-found t c around allowed number typed G place cs may has is fits =
+    let again : (other : ℕ) → first_equal around.encoding t 0 cs ≡ Some other → Behind (reference other) (G around allowed) place cs =
+    λ other same. same-reference number other (G around allowed) place cs (sym is ∙ same) fits in
+    first_of (search c, search (thrice, may, again, stands-found around.encoding t 0 cs has))
 
 -- a name that was referred to, with arguments in a type or in an encoding's own name
 pub referred-before : (around : Around) (typed : Bool) (c : Candidate) (a : Term) (old mid new : State) → Referred around old mid c

@@ -1,7 +1,7 @@
 -- A function type whose parts fit where it was read stands again wherever they stand.
 use Rattle.std.proofs.Common.{◌≡◌, ℕ, ◌+◌, ◌⊎◌, inl, inr, length, List, Option, Some, None, Bool, refl, subst, sym, ◌∙◌}
 use Rattle.sym_spell.specs.Pressing as spell
-use Rattle.cpp_grammar.specs.Term.{RefQualifier, Term, symbol, function, object, special, thunk, guard, abbreviation, source, operator, literal_operator, constructor, destructor, lambda, unnamed, string_literal, builtin, function_type, integer, boolean, null_pointer, encoding_literal, address_of, pack, nil, list, absent}
+use Rattle.cpp_grammar.specs.Term.{RefQualifier, Term, symbol, abbreviation, builtin, function_type, nil, list}
 use Rattle.cpp_grammar.specs.Scope.{first_of, pack_length}
 use Rattle.cpp_grammar.specs.Values.{Candidate, Around}
 use Rattle.cpp_grammar.specs.References.{packs_in}
@@ -21,29 +21,7 @@ unfolding fits_of type_fits piece_fits argument_fits encoding_fits fits_nowhere
 item-stands (builtin code) slot other around allowed packs place cs fits own = fits
 item-stands (abbreviation l) slot other around allowed packs place cs fits own = fits
 item-stands (symbol e suffix) slot other around allowed packs place cs fits own = absurd fits
-item-stands (function name q ref returned parameters) slot other around allowed packs place cs fits own = absurd fits
-item-stands (object name q ref) slot other around allowed packs place cs fits own = absurd fits
-item-stands (special l type) slot other around allowed packs place cs fits own = absurd fits
-item-stands (thunk kind e) slot other around allowed packs place cs fits own = absurd fits
-item-stands (guard name q ref) slot other around allowed packs place cs fits own = absurd fits
-item-stands (source internal name) slot other around allowed packs place cs fits own = absurd fits
-item-stands (operator a b) slot other around allowed packs place cs fits own = absurd fits
-item-stands (literal_operator name) slot other around allowed packs place cs fits own = absurd fits
-item-stands (constructor digit) slot other around allowed packs place cs fits own = absurd fits
-item-stands (destructor digit) slot other around allowed packs place cs fits own = absurd fits
-item-stands (lambda parameters k) slot other around allowed packs place cs fits own = absurd fits
-item-stands (unnamed k) slot other around allowed packs place cs fits own = absurd fits
-item-stands (integer type value) slot other around allowed packs place cs fits own = absurd fits
-item-stands (boolean truth) slot other around allowed packs place cs fits own = absurd fits
-item-stands (encoding_literal e) slot other around allowed packs place cs fits own = absurd fits
-item-stands (address_of e) slot other around allowed packs place cs fits own = absurd fits
-item-stands (pack elements) slot other around allowed packs place cs fits own = absurd fits
-item-stands (list first rest) slot other around allowed packs place cs fits own = absurd fits
-item-stands string_literal slot other around allowed packs place cs fits own = absurd fits
-item-stands null_pointer slot other around allowed packs place cs fits own = absurd fits
-item-stands nil slot other around allowed packs place cs fits own = absurd fits
-item-stands absent slot other around allowed packs place cs fits own = absurd fits
-item-stands t slot other around allowed packs place cs fits own = (tt, own)
+item-stands _ slot other around allowed packs place cs fits own = search (fits, own)
 
 -- its packs are allowed
 no-packs : (scope : Option Term) (t : Term) → ((arguments : Term) → pack_length arguments t ≡ None) → packs_in scope t ≡ None
@@ -57,28 +35,6 @@ unfolding fits_of type_fits piece_fits argument_fits encoding_fits fits_nowhere 
 item-packs (builtin code) slot other around allowed place cs fits = inl (no-packs around.scope (builtin code) (λ arguments. refl))
 item-packs (abbreviation l) slot other around allowed place cs fits = inl (no-packs around.scope (abbreviation l) (λ arguments. refl))
 item-packs (symbol e suffix) slot other around allowed place cs fits = absurd fits
-item-packs (function name q ref returned parameters) slot other around allowed place cs fits = absurd fits
-item-packs (object name q ref) slot other around allowed place cs fits = absurd fits
-item-packs (special l type) slot other around allowed place cs fits = absurd fits
-item-packs (thunk kind e) slot other around allowed place cs fits = absurd fits
-item-packs (guard name q ref) slot other around allowed place cs fits = absurd fits
-item-packs (source internal name) slot other around allowed place cs fits = absurd fits
-item-packs (operator a b) slot other around allowed place cs fits = absurd fits
-item-packs (literal_operator name) slot other around allowed place cs fits = absurd fits
-item-packs (constructor digit) slot other around allowed place cs fits = absurd fits
-item-packs (destructor digit) slot other around allowed place cs fits = absurd fits
-item-packs (lambda parameters k) slot other around allowed place cs fits = absurd fits
-item-packs (unnamed k) slot other around allowed place cs fits = absurd fits
-item-packs (integer type value) slot other around allowed place cs fits = absurd fits
-item-packs (boolean truth) slot other around allowed place cs fits = absurd fits
-item-packs (encoding_literal e) slot other around allowed place cs fits = absurd fits
-item-packs (address_of e) slot other around allowed place cs fits = absurd fits
-item-packs (pack elements) slot other around allowed place cs fits = absurd fits
-item-packs (list first rest) slot other around allowed place cs fits = absurd fits
-item-packs string_literal slot other around allowed place cs fits = absurd fits
-item-packs null_pointer slot other around allowed place cs fits = absurd fits
-item-packs nil slot other around allowed place cs fits = absurd fits
-item-packs absent slot other around allowed place cs fits = absurd fits
 item-packs (function_type c_linkage noexcept ref returned parameters) slot other around allowed place cs fits = go slot other fits
   where
     own : Term
@@ -91,7 +47,7 @@ item-packs (function_type c_linkage noexcept ref returned parameters) slot other
     go item_type h f = f.0.packs
     go parameter_type h f = f.0.packs
     go literal_type h f = f.0.packs
-item-packs t slot other around allowed place cs fits = fits.0.packs
+item-packs _ slot other around allowed place cs fits = search fits
 
 -- ## Lists
 

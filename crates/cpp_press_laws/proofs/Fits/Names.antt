@@ -1,17 +1,16 @@
 -- Names that were read piece by piece fit: where what stands before a piece fits, and the piece behind it, so does the longer name.
 use Rattle.std.proofs.Common.{◌≡◌, ℕ, ◌+◌, inl, inr, List, [], ◌∷◌, Option, true, false, refl, subst}
 use Rattle.std.specs.Prelude.{codes}
-use Rattle.std.proofs.lemmas.Bool.{false≢true}
 use Rattle.sym_spell.specs.Pressing as spell
-use Rattle.sym_spell.specs.Pressing.{◌and◌, text, nothing}
+use Rattle.sym_spell.specs.Pressing.{◌and◌, text}
 use Rattle.sym_spell.proofs.Spellings.{and-assoc-at}
-use Rattle.cpp_grammar.specs.Term.{Term, symbol, function, object, special, thunk, guard, alone, in_std, within, instance}
+use Rattle.cpp_grammar.specs.Term.{Term, alone, in_std, within, instance}
 use Rattle.cpp_grammar.specs.Scope.{is_open, pack_length}
 use Rattle.cpp_grammar.specs.Values.{Candidate, State, Prefix, outermost, behind, Around}
 use Rattle.cpp_grammar.specs.References.{appended}
 use Rattle.cpp_grammar.specs.Between.{after, inside}
 use Rattle.cpp_press_laws.specs.Components.{Spelling, ended, component}
-use Rattle.cpp_press_laws.specs.Pressing.{no_ways, name_ways, encoding_ways, is_encoding, ways_of}
+use Rattle.cpp_press_laws.specs.Pressing.{no_ways, name_ways, ways_of}
 use Rattle.cpp_press_laws.proofs.Components.Parts.{IsComponent, Inside, Whole, prefix-whole}
 use Rattle.cpp_press_laws.proofs.Components.Known.{KeepsTo, text-keeps, and-keeps}
 use Rattle.cpp_press_laws.proofs.Components.KnownTrees.{In, keeps}
@@ -259,14 +258,3 @@ alone-prefix around p old now outer begins one =
     (λ n allowed place cs fits complete. ((adds (alone p)).as_prefix (pressed_at n around) allowed place cs fits complete).complete)
     (refitted around (fits_of p).as_piece (fits_of p).as_piece (λ n. (ways_of n p).as_piece) p (alone p) old now (λ n allowed place cs fits. fits)
     (λ n allowed may. may-as (pressed_at n around) allowed p (alone p) refl (λ arguments. refl) may) one)
-
--- an encoding is no prefix of its own: its piece stands alone
-pub prefix-of-encoding : (n : ℕ) (e : Term) → is_encoding e ≡ true → ◌≡◌ {A = Spelling} (ways_of n e).as_prefix nothing
-unfolding is_encoding ways_of encoding_ways no_ways
-prefix-of-encoding n (function name q ref returned parameters) is = refl
-prefix-of-encoding n (object name q ref) is = refl
-prefix-of-encoding n (special l type) is = refl
-prefix-of-encoding n (thunk kind e) is = refl
-prefix-of-encoding n (guard name q ref) is = refl
-prefix-of-encoding n (symbol e suffix) is = absurd (false≢true is)
-prefix-of-encoding n _ is = absurd (false≢true is)

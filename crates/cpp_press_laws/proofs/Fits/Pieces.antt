@@ -1,11 +1,11 @@
 -- Names of one piece that were read fit: alone, or in the scope of an encoding.
 use Rattle.std.proofs.Common.{◌≡◌, ℕ, inl, inr, List, [], ◌∷◌, Bool, true, false, refl, ap, sym, subst, ◌∙◌}
-use Rattle.std.proofs.lemmas.Bool.{false≢true}
 use Rattle.sym_spell.specs.Pressing.{◌and◌}
-use Rattle.cpp_grammar.specs.Term.{Qualifiers, RefQualifier, Term, symbol, function, object, special, thunk, guard, alone, within, instance}
+use Rattle.cpp_grammar.specs.Term.{Qualifiers, RefQualifier, Term, alone, within, instance}
 use Rattle.cpp_grammar.specs.Scope.{is_open, pack_length}
 use Rattle.cpp_grammar.specs.Values.{State, outermost, behind, Around}
 use Rattle.cpp_grammar.specs.References.{appended}
+use Rattle.cpp_press_laws.proofs.Components.Encodings.{encoding-prefix, encoding-shut}
 use Rattle.cpp_press_laws.specs.Texts.{name_letters}
 use Rattle.cpp_press_laws.specs.Components.{Spelling}
 use Rattle.cpp_press_laws.specs.Pressing.{no_ways, name_ways, in_N_and_E, with_letters, is_encoding, is_one_piece, entity_text, ways_of}
@@ -16,7 +16,7 @@ use Rattle.cpp_press_laws.proofs.Components.AddedWays.{in-component}
 use Rattle.cpp_press_laws.proofs.Components.AddedTrees.{adds}
 use Rattle.cpp_press_laws.proofs.Fits.Read.{pressed_at, Fitted, refitted, component-fitted}
 use Rattle.cpp_press_laws.proofs.Fits.Types.{TypeFits, typed-complete, may-as, may-as-two, may-closed}
-use Rattle.cpp_press_laws.proofs.Fits.Names.{respelled, PrefixFits, TemplatePrefixFits, PieceFits, ElementsFit, arguments_standing, arguments_text, prefix-component, prefix-of-encoding}
+use Rattle.cpp_press_laws.proofs.Fits.Names.{respelled, PrefixFits, TemplatePrefixFits, PieceFits, ElementsFit, arguments_standing, arguments_text, prefix-component}
 use Rattle.cpp_press_laws.proofs.Fits.Templates.{template-fitted, spelled-before, nothing-and}
 use Rattle.cpp_press_laws.proofs.Fits.Nests.{OwnNameFits, EntityFits}
 
@@ -105,16 +105,6 @@ alone-instance-own around p a q ref old mid now outer names none one other = by 
 
 -- ## A piece in the scope of an encoding
 
-encoding-shut : (e : Term) → is_encoding e ≡ true → is_open e ≡ false
-unfolding is_encoding is_open
-encoding-shut (function name q ref returned parameters) is = refl
-encoding-shut (object name q ref) is = refl
-encoding-shut (special l type) is = refl
-encoding-shut (thunk kind e) is = refl
-encoding-shut (guard name q ref) is = refl
-encoding-shut (symbol e suffix) is = absurd (false≢true is)
-encoding-shut _ is = absurd (false≢true is)
-
 -- its spelling is that of the piece
 local-piece : (around : Around) (e p : Term) (old now : State) → is_encoding e ≡ true → PieceFits around p old now
     → Fitted around (fits_of p).as_piece (λ n. (ways_of n (within e p)).between_N_and_E) (within e p) old now
@@ -122,7 +112,7 @@ unfolding ways_of name_ways no_ways is_open pack_length
 local-piece around e p old now is one =
     let r : ℕ → Spelling = λ n. (ways_of n p).as_piece in
     respelled around (fits_of p).as_piece r (λ n. (ways_of n e).as_prefix and r n) (within e p) old now
-    (λ n place cs. sym (ap (λ s. (s and r n) place cs) (prefix-of-encoding n e is) ∙ nothing-and (r n) place cs))
+    (λ n place cs. sym (ap (λ s. (s and r n) place cs) (encoding-prefix e n is) ∙ nothing-and (r n) place cs))
     (refitted around (fits_of p).as_piece (fits_of p).as_piece r p (within e p) old now (λ n allowed place cs fits. fits)
     (λ n allowed may. may-as-two (pressed_at n around) allowed e p (within e p) refl (λ arguments. refl)
     (may-closed (pressed_at n around) allowed e (encoding-shut e is)) may) one)

@@ -6,7 +6,7 @@ use Rattle.sym_core.specs.declared.refusal.Refusal.{Refusal}
 use Rattle.sym_core.specs.declared.refusal.Refusal.TheVariants.{BadReference}
 use Rattle.sym_link.specs.Reading.{Found, ◌>>=◌}
 use Rattle.sym_link.specs.Unfold.{found}
-use Rattle.cpp_grammar.specs.Term.{Term, symbol, function, object, special, thunk, guard, abbreviation, source, operator, literal_operator, constructor, destructor, lambda, unnamed, string_literal, builtin, function_type, integer, boolean, null_pointer, encoding_literal, address_of, pack, nil, list, absent}
+use Rattle.cpp_grammar.specs.Term.{Term, symbol, abbreviation, lambda, builtin, function_type}
 use Rattle.cpp_grammar.specs.Scope.{is_open}
 use Rattle.cpp_grammar.specs.Values.{Candidate, State, Around, Value, tree, tree_of, is_listed}
 use Rattle.cpp_grammar.specs.References.{is_function_type, with_type, with_unqualified, with_packs, packs_in, substituted}
@@ -17,7 +17,7 @@ use Rattle.cpp_press_laws.proofs.Components.Parts.{IsComponent, Whole, Unqualifi
 use Rattle.cpp_press_laws.proofs.Components.Complete.{Complete, StandAmong, complete-has}
 use Rattle.cpp_press_laws.proofs.Components.Steps.{Allows, named-stands}
 use Rattle.cpp_press_laws.proofs.Fits.Packs.{PacksNamed, packs-named}
-use Rattle.cpp_press_laws.proofs.Components.Again.{ItemStands, FunctionStands, item-again, function-again}
+use Rattle.cpp_press_laws.proofs.Components.Again.{ItemStands, FunctionStands, item-again, function-again, once}
 use Rattle.cpp_press_laws.specs.Fits.{Fitting, Slot, any_type, bare_type, item_type, parameter_type, literal_type, type_fits, piece_fits, argument_fits, encoding_fits, fits_nowhere, fits_of, PacksFit, MayBeReferred}
 use Rattle.cpp_press_laws.proofs.Components.AddedWays.{way_at, IsNotBare}
 use Rattle.cpp_press_laws.proofs.Components.AddedTrees.{adds}
@@ -87,32 +87,8 @@ unfolding fits_of type_fits piece_fits argument_fits encoding_fits fits_nowhere
 bare-again (function_type c_linkage noexcept ref returned parameters) is around allowed stands may place cs complete has =
     function-again c_linkage noexcept ref returned parameters around allowed stands may place cs complete has
 bare-again (symbol e suffix) is around allowed stands may place cs complete has = absurd is
-bare-again (function name q ref returned parameters) is around allowed stands may place cs complete has = absurd is
-bare-again (object name q ref) is around allowed stands may place cs complete has = absurd is
-bare-again (special l type) is around allowed stands may place cs complete has = absurd is
-bare-again (thunk kind e) is around allowed stands may place cs complete has = absurd is
-bare-again (guard name q ref) is around allowed stands may place cs complete has = absurd is
-bare-again (abbreviation l) is around allowed stands may place cs complete has = absurd is
-bare-again (source internal name) is around allowed stands may place cs complete has = absurd is
-bare-again (operator a b) is around allowed stands may place cs complete has = absurd is
-bare-again (literal_operator name) is around allowed stands may place cs complete has = absurd is
-bare-again (constructor digit) is around allowed stands may place cs complete has = absurd is
-bare-again (destructor digit) is around allowed stands may place cs complete has = absurd is
-bare-again (lambda parameters k) is around allowed stands may place cs complete has = absurd is
-bare-again (unnamed k) is around allowed stands may place cs complete has = absurd is
-bare-again string_literal is around allowed stands may place cs complete has = absurd is
-bare-again (builtin code) is around allowed stands may place cs complete has = absurd is
-bare-again (integer type value) is around allowed stands may place cs complete has = absurd is
-bare-again (boolean truth) is around allowed stands may place cs complete has = absurd is
-bare-again null_pointer is around allowed stands may place cs complete has = absurd is
-bare-again (encoding_literal e) is around allowed stands may place cs complete has = absurd is
-bare-again (address_of e) is around allowed stands may place cs complete has = absurd is
-bare-again (pack elements) is around allowed stands may place cs complete has = absurd is
-bare-again nil is around allowed stands may place cs complete has = absurd is
-bare-again (list first rest) is around allowed stands may place cs complete has = absurd is
-bare-again absent is around allowed stands may place cs complete has = absurd is
 bare-again t is around allowed stands may place cs complete has =
-    (may, λ first. absurd (stands-found around.encoding t 0 cs has first))
+    first_of (search is, search (once, may, stands-found around.encoding t 0 cs has))
 
 -- ## References
 
