@@ -197,8 +197,8 @@ are-keys y = record {
 
 abbrev pub key_cmp : Key → Key → Ordering
 key_cmp a b =
-    ordering_then (nat_cmp a.production b.production) (ordering_then (nat_cmp a.first_part b.first_part)
-    (ordering_then (nat_cmp a.second_part b.second_part) (ordering_then (nat_cmp a.third_part b.third_part)
+    ordering_then (nat_cmp a.first_part b.first_part) (ordering_then (nat_cmp a.second_part b.second_part)
+    (ordering_then (nat_cmp a.third_part b.third_part) (ordering_then (nat_cmp a.production b.production)
     (ordering_then (slice_cmp nat_cmp a.numbers b.numbers) (ordering_then (slice_cmp nat_cmp a.first_text.now b.first_text.now)
     (ordering_then (slice_cmp nat_cmp a.second_text.now b.second_text.now) (ordering_then (slice_cmp nat_cmp a.third_text.now b.third_text.now)
     (slice_cmp nat_cmp a.fourth_text.now b.fourth_text.now))))))))
@@ -217,23 +217,23 @@ test-one a b h =
     let h7 = first-tied _ _ h6.1 in
     let h8 = first-tied _ _ h7.1 in
     record {
-      production = number-tied a.production b.production h1.0;
+      production = number-tied a.production b.production h4.0;
       own_numbers = list-tied a.numbers b.numbers h5.0;
       first_text = list-tied a.first_text.now b.first_text.now h6.0;
       second_text = list-tied a.second_text.now b.second_text.now h7.0;
       third_text = list-tied a.third_text.now b.third_text.now h8.0;
       fourth_text = list-tied a.fourth_text.now b.fourth_text.now (equal-is _ h8.1);
-      first_part = number-tied a.first_part b.first_part h2.0;
-      second_part = number-tied a.second_part b.second_part h3.0;
-      third_part = number-tied a.third_part b.third_part h4.0;
+      first_part = number-tied a.first_part b.first_part h1.0;
+      second_part = number-tied a.second_part b.second_part h2.0;
+      third_part = number-tied a.third_part b.third_part h3.0;
     }
 
 test-passed : (a b : Key) → AreOne a b → test a b ≡ true
 test-passed a b h =
-    then-tied _ _ (number-itself a.production b.production h.production)
-    (then-tied _ _ (number-itself a.first_part b.first_part h.first_part)
+    then-tied _ _ (number-itself a.first_part b.first_part h.first_part)
     (then-tied _ _ (number-itself a.second_part b.second_part h.second_part)
     (then-tied _ _ (number-itself a.third_part b.third_part h.third_part)
+    (then-tied _ _ (number-itself a.production b.production h.production)
     (then-tied _ _ (list-itself a.numbers b.numbers h.own_numbers)
     (then-tied _ _ (list-itself a.first_text.now b.first_text.now h.first_text)
     (then-tied _ _ (list-itself a.second_text.now b.second_text.now h.second_text)

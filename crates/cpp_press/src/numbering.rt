@@ -17,13 +17,13 @@ use sym_core::Refusal;
 use sym_spell::{Numbers, first_with};
 
 /// What nodes with equal trees have alike: what they say, and of each part one more than the first node that is equal, or 0
-/// for no part.
+/// for no part. Keys are ordered by their parts first, so that one more mostly goes near the end.
 #[derive(Clone, Copy, PartialEq, Eq, PartialOrd, Ord)]
 struct Key<'a> {
-    production: u16,
     first_part: u32,
     second_part: u32,
     third_part: u32,
+    production: u16,
     numbers: [u64; 4],
     first_text: &'a [u8],
     second_text: &'a [u8],

@@ -10,6 +10,7 @@ pub mod LeafKinds
 pub mod Pieces
 pub mod PieceKinds
 pub mod Arguments
+pub mod AbiTrees
 pub mod Known
 pub mod Pieced
 pub mod Encodings
