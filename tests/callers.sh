@@ -154,7 +154,8 @@ if has rustc 'rustc_demangle'; then
     cc -std=c99 -O2 -shared -fPIC "${warnings[@]}" -Wpedantic -DRUSTC callers/shims/shims.c -o "$work/librustc_demangle.so" "${static[@]}"
     rustc --edition 2024 -O -g -C symbol-mangling-version=v0 -L "$work" tests/callers/rustc_demangle.rs -o "$work/rust_names"
     export LD_LIBRARY_PATH=$work
-    echo "rustc_demangle: $("$work/rust_names")"
+    "$work/rust_names" >"$work/out" || exit 1
+    echo "rustc_demangle: $(cat "$work/out")"
     nm "$work/rust_names" | awk '$3 ~ /^_R/ { print $3 }' >"$work/names"
     "$work/rust_names" names <"$work/names" >"$work/out"
     if [ ! -s "$work/out" ] || grep '^_R' "$work/out"; then echo 'rustc_demangle: names that stay mangled'; exit 1; fi

@@ -8,7 +8,7 @@
 #include <stdlib.h>
 #include <string.h>
 
-enum { STACK = 256 << 10, ROOM = 1 << 20, FILL = 0xA5, SAID = 8 << 10 };
+enum { STACK = 256 << 10, ROOM = 1 << 20, FILL = 0xA5, SAID = 12 << 10 };
 
 static unsigned char stack[STACK] __attribute__((aligned(4096)));
 static uint8_t room[ROOM];

@@ -239,8 +239,8 @@ impl<'a> Block<'a> {
 }
 
 /// The texts of many symbols, in order: each is lent to `each` with its symbol. Some hundred symbols at a time are taken from
-/// the iterator and given to one call of the library, which makes its lists once for all of them; for C++ symbols it takes about
-/// two thirds of the time of [`demangle_into`] for each.
+/// the iterator and given to one call of the library, which makes its lists once for all of them: two thirds of the work of
+/// [`demangle_into`] for each.
 pub fn for_each_text<'a>(
     symbols: impl IntoIterator<Item = &'a [u8]>,
     limit: u32,
