@@ -61,6 +61,7 @@ table() { # table FILTER OWN VALUE FORMAT MORE: a line, with the ratio to symfil
 }
 
 if [ $counts = yes ]; then
+    command -v valgrind >/dev/null || { echo "$0: -i needs valgrind" >&2; exit 1; }
     declare -A start=()
     for filter in "${filters[@]}"; do start[$filter]=$(instructions_of "$filter" /dev/null); done
     for file in "$@"; do
