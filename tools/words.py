@@ -1,4 +1,4 @@
-"""Writes the tables of C++'s words from vocabulary.py: the definitions of cpp_grammar and cpp_layout, the code and the lists of cpp_layout,
+"""Writes the tables of C++'s words from vocabulary.py: the definitions of cpp_grammar and cpp_layout, the code and the lists of cpp_layout and cpp_direct,
 and cpp_link's tables of productions. grammar.py calls it."""
 import vocabulary as words
 
@@ -210,6 +210,33 @@ def link_definitions():
            *[f"skips_parts Production.{p} = true" for p in words.SKIPS], "skips_parts _ = false"]
     return "\n".join(out) + "\n"
 
+# ## cpp_direct's letters
+
+# lists of letters: name, what they are, the letters
+def direct_lists():
+    return [
+        ("builtin_letters", "builtin types, but for those behind a D", [c for c, _, _ in words.BUILTINS if len(c) == 1]),
+        ("builtin_letters_with_d", "builtin types behind a D", [c[1] for c, _, _ in words.BUILTINS if len(c) == 2]),
+        ("integer_letters", "builtin types that an integer in an argument may have", [c for c, _, literal in words.BUILTINS if len(c) == 1 and literal == words.INTEGER]),
+        ("abbreviation_letters", "classes of std, and std itself, behind an S", [c for c, _ in words.ABBREVIATIONS]),
+        ("special_letters", "special objects that belong to a type, behind a T", [c for c, _ in words.SPECIALS]),
+    ]
+
+def direct_letters():
+    out = [f"-- {WRITTEN} Letters that are codes, by what they are codes of.", "use Rattle.std.specs.Prelude.{ℕ, List, codes}"]
+    for name, comment, letters in direct_lists(): out += ["", f"-- {comment}", f"abbrev pub {name} : List ℕ", f"{name} = {codes(''.join(letters))}"]
+    return "\n".join(out) + "\n"
+
+def direct_tests():
+    integers = next(letters for name, _, letters in direct_lists() if name == "integer_letters")
+    out = [f"// {WRITTEN} Letters that are codes, by what they are codes of.", "#![tactic(auto)]", "",
+           "ghost use Rattle.std.specs.Prelude.{◌≡◌};", "ghost use Rattle.cpp_direct.specs.ItemBytes.{is_integer_letter};", "",
+           "/// Whether it is the letter of a type that an integer in an argument may have.",
+           "#[tactic(auto, unfolding(crate::specs::ItemBytes::is_integer_letter))]", "#[inline(always)]",
+           "pub fn is_integer_letter(letter: u8) -> bool", "    ensures { result ≡ is_integer_letter letter }", "{", "    match letter {"]
+    out += [f"        b'{letter}' => true," for letter in integers] + ["        _ => false,", "    }", "}"]
+    return "\n".join(out) + "\n"
+
 def files(productions):
     """the files, by their paths in the folder of the crates"""
     yield "cpp_grammar/specs/Texts.antt", grammar_texts()
@@ -218,5 +245,7 @@ def files(productions):
     yield "cpp_layout/src/numbered.rt", layout_codes()
     yield "cpp_layout/proofs/CodeLetters.antt", code_letters()
     for name, text in code_answers(): yield f"cpp_layout/proofs/numbered/{name}/Answers.antt", text
+    yield "cpp_direct/specs/Letters.antt", direct_letters()
+    yield "cpp_direct/src/letters.rt", direct_tests()
     yield "cpp_link/src/tables.rt", link_tables(productions)
     yield "cpp_link/specs/Tables.antt", link_definitions()

@@ -26,6 +26,7 @@ use Rattle.cpp_direct.specs.Bytes.{is_local}
 use Rattle.cpp_direct.specs.Holes.{Opened, StandsAt, Comes, Expects, IsNameAt, Named, with_candidate}
 use Rattle.cpp_direct.specs.HolesOfLists.{SymbolOpened, EncodingOpened, IsOffsetAt, ThunkOpened, nest_marks}
 use Rattle.cpp_direct.specs.ItemBytes.{one_of, is_special_letter}
+use Rattle.cpp_direct.specs.Letters.{special_letters}
 use Rattle.cpp_direct.specs.Prints.{Shows}
 use Rattle.cpp_direct.specs.Stands.{AreCandidates, Encoded, EndsBehind, EncodedBehind, AwaitsItems, IsWhole, Stands, IsWriting, qualifiers}
 use Rattle.cpp_direct.specs.Ways.{IsFresh, AwaitsEncoding, AwaitsSource, AwaitsNest, IsNameEnded}
@@ -189,7 +190,7 @@ named-letter (n ∷ ns) cs letter all there =
 special-known : (letter : ℕ) → look_up (letter ∷ []) special_texts ≢ [] → is_special_letter letter ≡ true
 unfolding special_texts is_special_letter
 special-known letter there =
-    named-letter special_texts (codes "VTIS") letter (86, refl, refl, (84, refl, refl, (73, refl, refl, (83, refl, refl, tt)))) there
+    named-letter special_texts special_letters letter (86, refl, refl, (84, refl, refl, (73, refl, refl, (83, refl, refl, tt)))) there
 
 no-special : look_up (0 ∷ []) special_texts ≡ []
 unfolding look_up special_texts same_bytes

@@ -6,6 +6,7 @@ pub mod FoundTokens
 pub mod FunctionsRead
 pub mod Handed
 pub mod Kept
+pub mod LettersTested
 pub mod Listed
 pub mod Literals
 pub mod Moves

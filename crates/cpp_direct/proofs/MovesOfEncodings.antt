@@ -1,10 +1,9 @@
 -- The moves in encodings and in whole symbols: a symbol begins and ends, with a suffix or without, an encoding has a name and items,
 -- and names are nested or not.
-use Rattle.std.proofs.Common.{◌≡◌, ℕ, ◌+◌, ◌<◌, length, List, [], ◌∷◌, take, ◌++◌, Bool, true, false, nat_lt, nat_le, ◌||◌, ◌&&◌, cond, None, Some, Ok, refl, ap, sym, subst, ◌∙◌, arith, codes}
+use Rattle.std.proofs.Common.{◌≡◌, ℕ, ◌+◌, ◌<◌, length, List, [], ◌∷◌, take, ◌++◌, Bool, true, false, nat_le, ◌||◌, ◌&&◌, cond, None, Some, Ok, refl, ap, sym, subst, ◌∙◌, arith, codes}
 use Rattle.std.specs.List.{AllByRecursion}
 use Rattle.std.proofs.Math.Nat.{zero-add}
 use Rattle.std.proofs.Math.Seq.{take-append_seam}
-use Rattle.std.proofs.lemmas.Bool.{ltb-true}
 use Rattle.std.proofs.lemmas.Bool.Decides.{nat_tests}
 use Rattle.std.proofs.lemmas.List.{take_all}
 use Rattle.sym_shape.specs.declared.rule.Sym.{Sym}
@@ -15,7 +14,7 @@ use Rattle.sym_demangle.specs.Mangled.{StandsFor}
 use Rattle.cpp_grammar.specs.declared.kind.Kind.{Kind}
 use Rattle.cpp_grammar.specs.declared.production.Production.{Production}
 use Rattle.cpp_grammar.specs.KindNumbers.{SYMBOL}
-use Rattle.cpp_grammar.specs.Grammar.{in_ranges, among, is_in, pick, number_of_kind, alternatives, choose, parts_of, is_chain, may_be_empty}
+use Rattle.cpp_grammar.specs.Grammar.{in_ranges, among, is_in, pick, number_of_kind, alternatives, choose, parts_of, is_chain, may_be_empty, number_of}
 use Rattle.cpp_grammar.specs.Mangled.{cpp_mangled}
 use Rattle.cpp_grammar.specs.Table.{rule_of}
 use Rattle.cpp_grammar.specs.Term.{non_virtual, by_table, Term, symbol, special, alone, source}
@@ -29,7 +28,9 @@ use Rattle.sym_direct.specs.Holes as direct
 use Rattle.cpp_direct.specs.ItemBytes.{one_of, is_special_letter, is_suffix_byte}
 use Rattle.cpp_direct.specs.HolesOfLists.{EncodingOpened, SpecialOpened, IsOffsetAt, ThunkOpened, nest_marks, NestOpened, IsSuffix, SymbolOpened}
 use Rattle.cpp_direct.proofs.Moves.{stands-split, comes-moved, opens, opens-chain, needs-next, ends, expects-empty, expects-byte, expects-name}
-use Rattle.cpp_direct.proofs.MovesOfLists.{mark-comes, integer-comes, of-one}
+use Rattle.cpp_direct.proofs.MovesOfLists.{mark-comes, integer-comes}
+use Rattle.cpp_direct.specs.Letters.{special_letters}
+use Rattle.cpp_direct.proofs.LettersTested.{each_passes, tested-one, is_small, small, takes, taken}
 
 -- ## Encodings
 
@@ -54,11 +55,11 @@ encoding-opens s os around at st expects =
 
 -- the letter of a special object
 special-letter : (b : ℕ) → is_special_letter b ≡ true → (choose Kind.Special b ≡ Some Production.SpecialType) × (b < 256)
-unfolding choose alternatives pick is_in in_ranges among is_special_letter
-special-letter b is =
-    let both = of-one (λ c. (choose Kind.Special c ≡ Some Production.SpecialType) × (nat_lt c 256 ≡ true)) (codes "VTIS") b is
-    ((refl, refl), ((refl, refl), ((refl, refl), ((refl, refl), tt)))) in
-    (both.0, ltb-true b 256 both.1)
+unfolding choose alternatives pick is_in in_ranges among is_special_letter each_passes takes number_of is_small
+special-letter b is = (
+  taken Production.SpecialType (choose Kind.Special b) (tested-one special_letters (λ c. takes Production.SpecialType (choose Kind.Special c)) refl b is),
+  small b (tested-one special_letters is_small refl b is),
+)
 
 -- a special object begins with a T and its letter, and its type is expected
 pub special-opens : (s : List ℕ) (os : List Opened) (around : Around) (b at : ℕ) (st : State) → is_special_letter b ≡ true

@@ -1,6 +1,5 @@
 -- The moves in lists of arguments and of items: arguments are opened and closed, and a list goes on behind each of its elements.
-use Rattle.std.proofs.Common.{◌≡◌, ℕ, ◌+◌, ◌<◌, ◌⊎◌, inl, inr, length, List, [], ◌∷◌, Bool, true, false, nat_eq, nat_lt, ◌||◌, Some, Ok, refl, ap, sym, subst, arith, codes, ◌∙◌, Result, Err}
-use Rattle.std.proofs.lemmas.Bool.{eqb-true, ltb-true, false≢true}
+use Rattle.std.proofs.Common.{◌≡◌, ℕ, ◌+◌, ◌<◌, ◌⊎◌, inl, inr, length, List, [], ◌∷◌, Bool, true, false, nat_eq, Some, Ok, refl, ap, sym, subst, arith, ◌∙◌, Result, Err}
 use Rattle.sym_core.specs.declared.NumberKind.TheVariants.{Digits}
 use Rattle.sym_shape.specs.declared.rule.Sym.TheVariants.{Kind as OfKind, Number, Byte}
 use Rattle.sym_shape.specs.Tree.{Tree as Shape, Forest, nothing, grown, IsTree, AreTrees, spell_all}
@@ -19,7 +18,9 @@ use Rattle.cpp_grammar.specs.Meaning.{meaning}
 use Rattle.cpp_grammar.specs.Unfolding as unfolding_
 use Rattle.cpp_grammar.specs.Unfolding.{cpp, opening, close, byte_of}
 use Rattle.cpp_direct.specs.Holes.{Opened, opened, StandsAt, Comes, Expects, ExpectsSym, unless_listed, IsListKind, ListGoesOn, AwaitsElement, with_candidate}
-use Rattle.cpp_direct.specs.ItemBytes.{one_of, is_integer_letter}
+use Rattle.cpp_direct.specs.ItemBytes.{is_integer_letter}
+use Rattle.cpp_direct.specs.Letters.{integer_letters}
+use Rattle.cpp_direct.proofs.LettersTested.{each_passes, tested-one, is_small, small, takes, taken}
 use Rattle.cpp_direct.specs.HolesOfLists.{ArgumentsOpened, IsArgumentKind, LiteralOpened, PackOpened, EnumeratorOpened, IsDigitsAt, minus_sign}
 use Rattle.cpp_direct.proofs.Moves.{stands-split, opens, opens-chain, needs-next, ends, expects-byte, expects-number}
 
@@ -230,46 +231,13 @@ bool-element s kind os around d at st is bit expects stands =
 
 -- ## Integers
 
--- what holds of each of these bytes holds of one of them
-abbrev pub OfEach : (ℕ → Type 0) → List ℕ → Type 0
-OfEach P [] = Unit {0}
-OfEach P (c ∷ cs) = P c × OfEach P cs
-
-pub of-one : (P : ℕ → Type 0) (cs : List ℕ) (byte : ℕ) → one_of cs byte ≡ true → OfEach P cs → P byte
-of-one P [] byte is each = absurd (false≢true is)
-of-one P (c ∷ cs) byte is each = go (λ h. of-one P cs byte h each.1) (nat_eq byte c) refl is
-  where
-    go : (one_of cs byte ≡ true → P byte) → (b : Bool) → nat_eq byte c ≡ b → (b || one_of cs byte) ≡ true → P byte
-    go others true same h = subst P (sym (eqb-true byte c same)) each.0
-    go others false other h = others h
-
 -- a letter of a builtin type, where the type of a literal is expected
 integer-letter : (b : ℕ) → is_integer_letter b ≡ true → (choose Kind.LiteralType b ≡ Some Production.Builtin) × (b < 256)
-unfolding choose alternatives pick is_in in_ranges among is_integer_letter
-integer-letter b is =
-    let both = of-one (λ c. (choose Kind.LiteralType c ≡ Some Production.Builtin) × (nat_lt c 256 ≡ true)) (codes "hijlmnowxyacst") b is (
-      (refl, refl),
-      (
-        (refl, refl),
-        (
-          (refl, refl),
-          (
-            (refl, refl),
-            (
-              (refl, refl),
-              (
-                (refl, refl),
-                (
-                  (refl, refl),
-                  ((refl, refl), ((refl, refl), ((refl, refl), ((refl, refl), ((refl, refl), ((refl, refl), ((refl, refl), tt))))))),
-                ),
-              ),
-            ),
-          ),
-        ),
-      ),
-    ) in
-    (both.0, ltb-true b 256 both.1)
+unfolding choose alternatives pick is_in in_ranges among is_integer_letter each_passes takes number_of is_small
+integer-letter b is = (
+  taken Production.Builtin (choose Kind.LiteralType b) (tested-one integer_letters (λ c. takes Production.Builtin (choose Kind.LiteralType c)) refl b is),
+  small b (tested-one integer_letters is_small refl b is),
+)
 
 -- a builtin type of one letter is read where the type of a literal is expected
 pub integer-type-comes : (s : List ℕ) (os : List Opened) (around : Around) (b at : ℕ) (st : State) → is_integer_letter b ≡ true

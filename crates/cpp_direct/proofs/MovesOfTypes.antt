@@ -1,8 +1,5 @@
 -- Moves within types: a byte or a name is read, and a type opens, or one comes.
-use Rattle.std.proofs.Common.{◌≡◌, ℕ, ◌+◌, ◌-◌, ◌<◌, List, [], ◌∷◌, slice_get, ltb, Bool, true, false, ◌&&◌, ◌||◌, not, nat_eq, Option, Some, None, Result, Ok, Err, refl, ap, sym, subst, ◌∙◌, arith}
-use Rattle.std.specs.Prelude.{codes}
-use Rattle.std.specs.List.{AllByRecursion}
-use Rattle.std.proofs.lemmas.Bool.{eqb-true, ltb-true, and_parts, false≢true}
+use Rattle.std.proofs.Common.{◌≡◌, ℕ, ◌+◌, ◌-◌, ◌<◌, List, [], ◌∷◌, slice_get, Bool, true, false, ◌&&◌, ◌||◌, not, nat_eq, Option, Some, None, Result, Ok, Err, refl, ap, subst, ◌∙◌, arith}
 use Rattle.sym_core.specs.declared.refusal.Refusal.{Refusal}
 use Rattle.sym_core.specs.declared.refusal.Refusal.TheVariants.{BadReference}
 use Rattle.sym_core.specs.declared.NumberKind.TheVariants.{Seq36}
@@ -13,7 +10,7 @@ use Rattle.sym_link.specs.Unfold.{found, standing}
 use Rattle.cpp_grammar.specs.declared.kind.Kind.{Kind}
 use Rattle.cpp_grammar.specs.declared.production.Production.{Production}
 use Rattle.cpp_grammar.specs.KindNumbers.{NEST, ABBREVIATION, TYPE, PLAIN, ITEM_AFTER_D, AFTER_D, SOLID, TYPE_AFTER_S, SOURCE_OR_LOCAL, MAYBE_ARGUMENTS}
-use Rattle.cpp_grammar.specs.Grammar.{in_ranges, among, is_in, pick, number_of_kind, alternatives, choose, parts_of, is_chain}
+use Rattle.cpp_grammar.specs.Grammar.{in_ranges, among, is_in, pick, number_of_kind, alternatives, choose, parts_of, is_chain, number_of}
 use Rattle.cpp_grammar.specs.Table.{rule_of}
 use Rattle.cpp_grammar.specs.Term.{Term, alone, in_std, abbreviation, source, builtin, pointer, lvalue, rvalue, instance}
 use Rattle.cpp_grammar.specs.Scope.{is_open, pack_length}
@@ -24,6 +21,8 @@ use Rattle.cpp_grammar.specs.Meaning.{meaning, listed_value, qualified_by, refer
 use Rattle.cpp_grammar.specs.Unfolding as unfolding_
 use Rattle.cpp_grammar.specs.Unfolding.{opening, close, byte_of}
 use Rattle.cpp_direct.specs.Bytes.{is_builtin, is_builtin_with_d, is_abbreviated}
+use Rattle.cpp_direct.specs.Letters.{builtin_letters, builtin_letters_with_d, abbreviation_letters}
+use Rattle.cpp_direct.proofs.LettersTested.{each_passes, tested, is_small, small, takes, taken}
 use Rattle.cpp_direct.specs.Holes.{Opened, opened, StandsAt, Comes, Expects, IsNameAt, IsSeqAt, IsReferable, IsTyped, TypeNamed, with_candidate, unless_listed}
 use Rattle.cpp_direct.specs.HolesOfTypes.{as_const, IsQualifiable, TypeOpens, TreePasses, TreeOpens, NameOpens, IsNamedKind}
 use Rattle.cpp_direct.proofs.Moves.{stands-split, expects-name, expects-seq, first-of, first-of-chain, next-of, last-of, letter-comes}
@@ -113,101 +112,14 @@ whole-opens s _ around os at st whole expects = absurd whole
 
 -- ## Builtin types
 
--- What holds at each of some bytes holds at a byte among them.
-pub at-each : (cs : List ℕ) (P : ℕ → Type 0) → AllByRecursion P cs → (byte : ℕ) → among cs byte ≡ true → P byte
-unfolding among
-at-each [] P all byte e = absurd (false≢true e)
-at-each (c ∷ cs) P all byte e = go (nat_eq byte c) refl e (at-each cs P all.1 byte)
-  where
-    go : (b : Bool) → nat_eq byte c ≡ b → b || among cs byte ≡ true → (among cs byte ≡ true → P byte) → P byte
-    go true same h later = subst P (sym (eqb-true byte c same)) all.0
-    go false other h later = later h
-
--- bytes below 256
-unfoldable pub are_small : List ℕ → Bool
-are_small [] = true
-are_small (c ∷ cs) = ltb c 256 && are_small cs
-
--- a byte among small ones is small
-pub among-small : (cs : List ℕ) (byte : ℕ) → are_small cs ≡ true → among cs byte ≡ true → byte < 256
-unfolding among are_small
-among-small [] byte small e = absurd (false≢true e)
-among-small (c ∷ cs) byte small e =
-    let both = and_parts (ltb c 256) (are_small cs) small in
-    go (nat_eq byte c) refl e (ltb-true c 256 both.0) (among-small cs byte both.1)
-  where
-    go : (b : Bool) → nat_eq byte c ≡ b → b || among cs byte ≡ true → c < 256 → (among cs byte ≡ true → byte < 256) → byte < 256
-    go true same h first later = omega (arith, eqb-true byte c same, first)
-    go false other h first later = later h
-
 builtin-taken : (byte : ℕ) → is_builtin byte ≡ true → choose Kind.Solid byte ≡ Some Production.Builtin
-unfolding choose alternatives pick is_in in_ranges among is_builtin
-builtin-taken byte e =
-    at-each (codes "abcdefghijlmnostvwxyz") (λ b. choose Kind.Solid b ≡ Some Production.Builtin) (
-      refl,
-      (
-        refl,
-        (
-          refl,
-          (
-            refl,
-            (
-              refl,
-              (
-                refl,
-                (
-                  refl,
-                  (
-                    refl,
-                    (
-                      refl,
-                      (
-                        refl,
-                        (
-                          refl,
-                          (
-                            refl,
-                            (
-                              refl,
-                              (
-                                refl,
-                                (
-                                  refl,
-                                  (
-                                    refl,
-                                    (
-                                      refl,
-                                      (
-                                        refl,
-                                        (
-                                          refl,
-                                          (
-                                            refl,
-                                            (refl, tt),
-                                          ),
-                                        ),
-                                      ),
-                                    ),
-                                  ),
-                                ),
-                              ),
-                            ),
-                          ),
-                        ),
-                      ),
-                    ),
-                  ),
-                ),
-              ),
-            ),
-          ),
-        ),
-      ),
-    ) byte e
+unfolding choose alternatives pick is_in in_ranges among is_builtin each_passes takes number_of
+builtin-taken byte is =
+    taken Production.Builtin (choose Kind.Solid byte) (tested builtin_letters (λ b. takes Production.Builtin (choose Kind.Solid b)) refl byte is)
 
 builtin-small : (byte : ℕ) → is_builtin byte ≡ true → byte < 256
-unfolding are_small is_builtin
-builtin-small byte e = among-small (codes "abcdefghijlmnostvwxyz") byte refl e
+unfolding among is_builtin each_passes is_small
+builtin-small byte is = small byte (tested builtin_letters is_small refl byte is)
 
 -- a builtin type comes, which is no candidate
 pub builtin-comes : (s : List ℕ) (kind : Kind) (around : Around) (os : List Opened) (at : ℕ) (st : State) (b : ℕ) → IsTyped kind
@@ -221,14 +133,17 @@ builtin-comes s kind around os at st b typed is expects stands =
 
 builtin-with-d-taken : (byte : ℕ) → is_builtin_with_d byte ≡ true
     → (choose Kind.AfterD byte ≡ Some Production.BuiltinWithD) × (choose Kind.ItemAfterD byte ≡ Some Production.ItemIsType)
-unfolding choose alternatives pick is_in in_ranges among is_builtin_with_d
-builtin-with-d-taken byte e =
-    at-each (codes "acinsu") (λ b. (choose Kind.AfterD b ≡ Some Production.BuiltinWithD) × (choose Kind.ItemAfterD b ≡ Some Production.ItemIsType))
-    ((refl, refl), ((refl, refl), ((refl, refl), ((refl, refl), ((refl, refl), ((refl, refl), tt)))))) byte e
+unfolding choose alternatives pick is_in in_ranges among is_builtin_with_d each_passes takes number_of
+builtin-with-d-taken byte is = (
+  taken Production.BuiltinWithD (choose Kind.AfterD byte)
+      (tested builtin_letters_with_d (λ b. takes Production.BuiltinWithD (choose Kind.AfterD b)) refl byte is),
+  taken Production.ItemIsType (choose Kind.ItemAfterD byte)
+      (tested builtin_letters_with_d (λ b. takes Production.ItemIsType (choose Kind.ItemAfterD b)) refl byte is),
+)
 
 builtin-with-d-small : (byte : ℕ) → is_builtin_with_d byte ≡ true → byte < 256
-unfolding are_small is_builtin_with_d
-builtin-with-d-small byte e = among-small (codes "acinsu") byte refl e
+unfolding among is_builtin_with_d each_passes is_small
+builtin-with-d-small byte is = small byte (tested builtin_letters_with_d is_small refl byte is)
 
 -- and so does one with a code of two letters
 pub builtin-with-d-comes : (s : List ℕ) (kind : Kind) (around : Around) (os : List Opened) (at : ℕ) (st : State) (b : ℕ) → IsTyped kind
@@ -471,14 +386,14 @@ std-opens s kind around os at st name end is_named solid stands is =
     expects_own (subst (λ k. IsNameAt s k name end) (omega arith) is))))
 
 abbreviation-taken : (byte : ℕ) → is_abbreviated byte ≡ true → choose Kind.Abbreviation byte ≡ Some Production.Abbreviation
-unfolding choose alternatives pick is_in in_ranges is_abbreviated among
-abbreviation-taken byte e =
-    at-each (codes "abdios") (λ b. choose Kind.Abbreviation b ≡ Some Production.Abbreviation)
-    (refl, (refl, (refl, (refl, (refl, (refl, tt)))))) byte e
+unfolding choose alternatives pick is_in in_ranges is_abbreviated among each_passes takes number_of
+abbreviation-taken byte is =
+    taken Production.Abbreviation (choose Kind.Abbreviation byte)
+    (tested abbreviation_letters (λ b. takes Production.Abbreviation (choose Kind.Abbreviation b)) refl byte is)
 
 abbreviation-small : (byte : ℕ) → is_abbreviated byte ≡ true → byte < 256
-unfolding are_small is_abbreviated
-abbreviation-small byte e = among-small (codes "abdios") byte refl e
+unfolding among is_abbreviated each_passes is_small
+abbreviation-small byte is = small byte (tested abbreviation_letters is_small refl byte is)
 
 -- an abbreviation or a substitution is expected behind an S
 reference-behind-s : (s : List ℕ) (around : Around) (os : List Opened) (at : ℕ) (st : State) → Expects s Kind.TypeAfterS around os at st

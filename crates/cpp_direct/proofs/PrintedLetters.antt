@@ -1,8 +1,9 @@
 -- The letters that have texts.
-use Rattle.std.proofs.Common.{◌≡◌, ◌≢◌, refl, sym, ℕ, List, [], ◌∷◌, Bool, true, false, ◌||◌, ◌&&◌, nat_eq, codes, subst}
+use Rattle.std.proofs.Common.{◌≡◌, ◌≢◌, refl, sym, ℕ, List, [], ◌∷◌, Bool, true, false, ◌||◌, ◌&&◌, nat_eq, subst}
 use Rattle.std.proofs.lemmas.Bool.{false≢true, eqb-true, and_parts}
 use Rattle.cpp_grammar.specs.Grammar.{among}
 use Rattle.cpp_grammar.specs.Texts.{Naming, look_up, builtin_texts, same_bytes}
+use Rattle.cpp_direct.specs.Letters.{integer_letters}
 
 abbrev is_filled : List ℕ → Bool
 is_filled [] = false
@@ -31,9 +32,9 @@ letter-there table (c ∷ cs) letter all is =
     go rest true has all false same is = rest all is
 
 -- So has the letter of an integer's type,
-pub integer-there : (letter : ℕ) → among (codes "hijlmnowxyacst") letter ≡ true → look_up (letter ∷ []) builtin_texts ≢ []
+pub integer-there : (letter : ℕ) → among integer_letters letter ≡ true → look_up (letter ∷ []) builtin_texts ≢ []
 unfolding look_up builtin_texts same_bytes
-integer-there letter is = letter-there builtin_texts (codes "hijlmnowxyacst") letter refl is
+integer-there letter is = letter-there builtin_texts integer_letters letter refl is
 
 -- ## Codes of two letters
 

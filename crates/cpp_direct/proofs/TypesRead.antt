@@ -15,6 +15,7 @@ use Rattle.cpp_grammar.specs.Parts.{source_text}
 use Rattle.cpp_grammar.specs.Values.{State, tree}
 use Rattle.cpp_grammar.specs.Between.{after, inside, no_items}
 use Rattle.cpp_direct.specs.Bytes.{is_builtin, is_builtin_with_d, is_abbreviated}
+use Rattle.cpp_direct.specs.Letters.{builtin_letters, abbreviation_letters}
 use Rattle.cpp_direct.specs.declared.open.Candidate.{Candidate}
 use Rattle.cpp_direct.specs.declared.open.Open.{Open}
 use Rattle.cpp_direct.specs.declared.open.Open.TheVariants as opens
@@ -212,7 +213,7 @@ letter-listed (n ∷ rest) cs letter all has =
 -- a letter with such a text is one of these
 pub builtin-listed : (letter : ℕ) → look_up (letter ∷ []) builtin_texts ≢ [] → is_builtin letter ≡ true
 unfolding is_builtin builtin_texts code_in codes_in among
-builtin-listed letter has = letter-listed builtin_texts (codes "abcdefghijlmnostvwxyz") letter refl has
+builtin-listed letter has = letter-listed builtin_texts builtin_letters letter refl has
 
 -- a letter with such a text behind a D is one of these
 builtin-with-d-listed : (letter : ℕ) → look_up (68 ∷ letter ∷ []) builtin_texts ≢ [] → is_builtin_with_d letter ≡ true
@@ -222,7 +223,7 @@ builtin-with-d-listed letter has = pair-listed builtin_texts (λ first second. i
 -- and so is one of an abbreviation
 pub abbreviation-listed : (letter : ℕ) → look_up (letter ∷ []) abbreviation_texts ≢ [] → is_abbreviated letter ≡ true
 unfolding is_abbreviated abbreviation_texts code_in codes_in among
-abbreviation-listed letter has = letter-listed abbreviation_texts (codes "abdios") letter refl has
+abbreviation-listed letter has = letter-listed abbreviation_texts abbreviation_letters letter refl has
 
 no-builtin : (letter : ℕ) → is_builtin letter ≡ true → letter ≢ 0
 unfolding is_builtin among

@@ -1,18 +1,19 @@
 -- The bytes at which a reader goes one way or another.
-use Rattle.std.specs.Prelude.{ℕ, List, ◌∷◌, Bool, false, ◌||◌, nat_eq, codes}
+use Rattle.std.specs.Prelude.{ℕ, List, ◌∷◌, Bool, false, ◌||◌, nat_eq}
 use Rattle.cpp_grammar.specs.Grammar.{among}
+use Rattle.cpp_direct.specs.Letters.{builtin_letters, builtin_letters_with_d, abbreviation_letters}
 
 -- the letters of the builtin types, but for those behind a D
 unfoldable pub is_builtin : ℕ → Bool
-is_builtin byte = among (codes "abcdefghijlmnostvwxyz") byte
+is_builtin byte = among builtin_letters byte
 
 -- the letters of the builtin types behind a D
 unfoldable pub is_builtin_with_d : ℕ → Bool
-is_builtin_with_d byte = among (codes "acinsu") byte
+is_builtin_with_d byte = among builtin_letters_with_d byte
 
 -- the letters behind an S that stand for a class of std, or for std itself
 unfoldable pub is_abbreviated : ℕ → Bool
-is_abbreviated byte = among (codes "abdios") byte
+is_abbreviated byte = among abbreviation_letters byte
 
 -- a symbol that names a local entity, or its guard variable, has a Z or a G behind its _Z
 unfoldable pub is_local : List ℕ → Bool

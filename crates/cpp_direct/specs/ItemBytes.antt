@@ -1,5 +1,6 @@
 -- Classes of bytes that are looked at while a symbol is read from left to right.
 use Rattle.std.specs.Prelude.{ℕ, List, [], ◌∷◌, Bool, false, ◌||◌, ◌&&◌, nat_eq, nat_le, codes}
+use Rattle.cpp_direct.specs.Letters.{integer_letters, special_letters}
 
 -- the byte is one of these
 abbrev pub one_of : List ℕ → ℕ → Bool
@@ -8,11 +9,11 @@ one_of (c ∷ cs) byte = nat_eq byte c || one_of cs byte
 
 -- the letter of a builtin type that an integer in an argument may have
 unfoldable pub is_integer_letter : ℕ → Bool
-is_integer_letter byte = one_of (codes "hijlmnowxyacst") byte
+is_integer_letter byte = one_of integer_letters byte
 
 -- the letter of a special object that belongs to a type, behind a T
 unfoldable pub is_special_letter : ℕ → Bool
-is_special_letter byte = one_of (codes "VTIS") byte
+is_special_letter byte = one_of special_letters byte
 
 -- a byte of a suffix, behind its dot
 unfoldable pub is_suffix_byte : ℕ → Bool

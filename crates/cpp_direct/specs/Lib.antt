@@ -6,6 +6,7 @@ pub mod HolesOfLocals
 pub mod HolesOfNests
 pub mod HolesOfTypes
 pub mod ItemBytes
+pub mod Letters
 pub mod Names
 pub mod Prints
 pub mod Stands

@@ -8,6 +8,7 @@
 
 mod direct;
 mod functions;
+mod letters;
 mod lists;
 mod locals;
 mod names;

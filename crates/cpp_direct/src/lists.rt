@@ -16,6 +16,7 @@ ghost use Rattle.cpp_direct.specs.Ways.{IsListEnded, AwaitsNextArgument, AwaitsN
 ghost use Rattle.cpp_direct.specs.Written.{Reads};
 
 use crate::direct::Direct;
+use crate::letters::is_integer_letter;
 use crate::open::{Nest, Open, Step};
 use crate::tokens::byte_at;
 use sym_core::{NumberKind, find_number};
@@ -42,31 +43,6 @@ fn is_zero(digits: &[u8]) -> bool
 {
     match digits {
         [digit] => *digit == b'0',
-        _ => false,
-    }
-}
-
-/// Whether it is the letter of a type that an integer may have.
-#[tactic(auto, unfolding(crate::specs::ItemBytes::is_integer_letter))]
-#[inline(always)]
-fn is_integer_letter(letter: u8) -> bool
-    ensures { result ≡ is_integer_letter letter }
-{
-    match letter {
-        b'a'
-        | b'c'
-        | b'h'
-        | b'i'
-        | b'j'
-        | b'l'
-        | b'm'
-        | b'n'
-        | b'o'
-        | b's'
-        | b't'
-        | b'w'
-        | b'x'
-        | b'y' => true,
         _ => false,
     }
 }
