@@ -45,6 +45,7 @@ files() {
 644 callers/rust/Cargo.toml share/symdemangle/rust/Cargo.toml
 644 callers/rust/build.rs share/symdemangle/rust/build.rs
 644 callers/rust/src/lib.rs share/symdemangle/rust/src/lib.rs
+644 callers/rust/src/batch.rs share/symdemangle/rust/src/batch.rs
 644 callers/rust/src/library.rs share/symdemangle/rust/src/library.rs
 LIST
     [ $mode != libraries ] || return 0

@@ -9,6 +9,28 @@ pub struct Answer {
     pub place: u32,
 }
 
+/// What is told of one of many symbols.
+#[repr(C)]
+#[derive(Clone, Copy, Default)]
+pub struct Told {
+    pub length: usize,
+    pub place: u32,
+    status: u32,
+}
+
+impl Told {
+    pub fn status(&self) -> Status {
+        Status(self.status)
+    }
+
+    pub fn answer(&self) -> Answer {
+        Answer {
+            length: self.length,
+            place: self.place,
+        }
+    }
+}
+
 #[repr(C)]
 #[derive(Default)]
 pub struct Counts {
@@ -65,6 +87,18 @@ unsafe extern "C" {
         room: *mut u8,
         room_length: usize,
         answer: *mut Answer,
+    ) -> u32;
+    fn symdemangle_texts_of(
+        text: *const u8,
+        text_length: usize,
+        ends: *const usize,
+        ends_length: usize,
+        limit: u32,
+        detail: u32,
+        room: *mut u8,
+        room_length: usize,
+        answers: *mut Told,
+        answers_length: usize,
     ) -> u32;
     fn symdemangle_filter_of(
         text: *const u8,
@@ -136,6 +170,31 @@ pub fn word(
             room.as_mut_ptr(),
             room.len(),
             answer,
+        )
+    })
+}
+
+/// The texts of many symbols, each of which ends in the text at its end.
+pub fn texts(
+    text: &[u8],
+    ends: &[usize],
+    limit: u32,
+    detail: Detail,
+    room: &mut [u8],
+    answers: &mut [Told],
+) -> Status {
+    Status(unsafe {
+        symdemangle_texts_of(
+            text.as_ptr(),
+            text.len(),
+            ends.as_ptr(),
+            ends.len(),
+            limit,
+            number(detail),
+            room.as_mut_ptr(),
+            room.len(),
+            answers.as_mut_ptr(),
+            answers.len(),
         )
     })
 }

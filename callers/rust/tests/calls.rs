@@ -60,6 +60,25 @@ fn many_symbols() {
 }
 
 #[test]
+fn more_symbols_than_one_call_takes() {
+    // the text of the last is longer than the room that a call is given for it
+    let kinds = ["_RNvC3foo3bar", "_RNvC3fo", "_ZN3foo3barEv", "", "_RINvC3foo3barFGg6_EuE"];
+    let symbols: Vec<&[u8]> = kinds.iter().cycle().take(1_003).map(|s| s.as_bytes()).collect();
+    let mut room = Vec::new();
+    let mut told = 0;
+    for_each_text(symbols.iter().copied(), 10_000, Detail::Full, |symbol, text| {
+        assert_eq!(symbol, symbols[told]);
+        let alone = demangle_into(symbol, 10_000, Detail::Full, &mut room);
+        assert_eq!(text, alone.map(|()| room.as_slice()));
+        told += 1;
+    });
+    assert_eq!(told, symbols.len());
+    for_each_text([b"_RINvC3foo3barFGg6_EuE".as_slice()], 10_000, Detail::Full, |_, text| {
+        assert_eq!(text.map(<[u8]>::len), Ok(6_868));
+    });
+}
+
+#[test]
 fn a_text_with_symbols_in_it() {
     let mut room = Vec::new();
     filter_into(b"at _RNvC3foo3bar. (_RNvC3fo)", 99, Detail::Full, &mut room).unwrap();
