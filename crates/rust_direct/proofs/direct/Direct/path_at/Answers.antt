@@ -1,0 +1,8 @@
+use Rattle.rust_direct.proofs.PathsRead.{path-awaited}
+use Rattle.rust_direct.proofs.direct.Direct.path_at.Goals as goal
+
+pub crate_root-requires-clause-awaits : goal.crate_root-requires-clause-awaits
+crate_root-requires-clause-awaits c = path-awaited c.args.s.now c.args.self.now c.args.is_value c.requires.writing
+
+pub begin_nest-requires-clause-awaits : goal.begin_nest-requires-clause-awaits
+begin_nest-requires-clause-awaits c = path-awaited c.args.s.now c.args.self.now c.args.is_value c.requires.writing
