@@ -9,3 +9,4 @@ pub mod FoundTokens
 pub mod PathsRead
 pub mod SymbolsRead
 pub mod Again
+pub mod ArgumentsRead

@@ -18,7 +18,7 @@ use Rattle.rust_direct.specs.Prints.{PathPrints}
 use Rattle.rust_direct.specs.Says.{PathHas, Says, Holds, has_form, is_path}
 use Rattle.rust_direct.specs.Written.{Writes, Notes}
 use Rattle.rust_direct.specs.Stands.{Stands, IsWriting, parked_of}
-use Rattle.rust_direct.specs.Awaits.{AwaitsPath, Arrives, IsEnded}
+use Rattle.rust_direct.specs.Awaits.{Awaits, AwaitsPath, Arrives, IsEnded}
 use Rattle.rust_direct.proofs.Kept.{notes-written, notes-noted, reverse-last}
 use Rattle.rust_direct.proofs.Moves.{expects-moved, identifier-comes, crate-comes, nest_awaits, nest-opens, nest-goes-on}
 use Rattle.rust_direct.proofs.PrintedPaths.{crate-prints, nested-prints}
@@ -209,3 +209,12 @@ nest-named s old middle last letter place from f count behind_ name end arrives 
 
 pub path-awaited : (s : List ℕ) (w : Direct) (is_value : Bool) → IsWriting s w (steps.Path is_value) → AwaitsPath s w
 path-awaited s w is_value p = (false, record { state = p.state; notes = p.notes; awaited = p.is_before })
+
+pub plain-awaited : (s : List ℕ) (w : Direct) (is_value : Bool) → IsWriting s w (steps.Path is_value) → Awaits s w false
+plain-awaited s w is_value p = record { state = p.state; notes = p.notes; awaited = p.is_before }
+
+pub type-awaited : (s : List ℕ) (w : Direct) → IsWriting s w steps.Type → Awaits s w true
+type-awaited s w p = record { state = p.state; notes = p.notes; awaited = p.is_before }
+
+pub type-path-awaited : (s : List ℕ) (w : Direct) → IsWriting s w steps.Type → AwaitsPath s w
+type-path-awaited s w p = (true, type-awaited s w p)

@@ -41,3 +41,13 @@ pub record Opens (old new : Direct) (bytes : List ℕ) (entry : Open) (at : ℕ)
   pub numbers : new.numbers ≡ old.numbers
   pub waiting : new.waiting.list.items ≡ old.waiting.list.items ++ entry ∷ []
   pub at_is : new.at ≡ at
+
+-- something waits from here on, and nothing else changed
+pub record Pushes (old new : Direct) (entry : Open) : Type 0 where
+  pub waiting : new.waiting.list.items ≡ old.waiting.list.items ++ entry ∷ []
+  pub text : new.text ≡ old.text
+  pub aside : new.aside ≡ old.aside
+  pub is_aside : new.is_aside ≡ old.is_aside
+  pub notes : new.notes ≡ old.notes
+  pub numbers : new.numbers ≡ old.numbers
+  pub at : new.at ≡ old.at

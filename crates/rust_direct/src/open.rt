@@ -1,7 +1,7 @@
 // What stands open around what is being read, and what comes next.
 
 ghost use Rattle.std.specs.Prelude.{◌≡◌};
-ghost use Rattle.rust_direct.specs.Says.{has_form, is_path};
+ghost use Rattle.rust_direct.specs.Says.{has_form, is_path, is_type, form_of};
 
 /// What was read at a place, by the text that it wrote.
 #[derive(Clone, Copy)]
@@ -43,6 +43,32 @@ pub fn is_path(forms: Forms) -> bool
         Forms::Plain => true,
         Forms::Typed => false,
         Forms::Unnamed => false,
+    }
+}
+
+/// Whether it is a type.
+#[inline(always)]
+pub fn is_type(forms: Forms) -> bool
+    ensures { result ≡ is_type forms }
+{
+    match forms {
+        Forms::Alike => true,
+        Forms::Valued => false,
+        Forms::Plain => true,
+        Forms::Typed => true,
+        Forms::Unnamed => false,
+    }
+}
+
+/// The form in which a path with arguments is written.
+#[inline(always)]
+pub fn form_of(is_value: bool) -> Forms
+    ensures { result ≡ form_of is_value }
+{
+    if is_value {
+        Forms::Valued
+    } else {
+        Forms::Plain
     }
 }
 

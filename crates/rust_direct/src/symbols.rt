@@ -155,9 +155,9 @@ impl Direct {
     {
         match step {
             Step::Path { is_value } => self.path_at(s, is_value),
-            Step::Type => None,
+            Step::Type => self.type_at(s),
             Step::Value { from, forms } => self.pass(s, from, forms),
-            Step::Arguments { .. } => None,
+            Step::Arguments { is_first } => self.argument_at(s, is_first),
             Step::Ended => None,
         }
     }

@@ -19,6 +19,14 @@ impl Direct {
             Open::Symbol => self.symbol_ended(s, from, forms),
             Open::Other => self.other_ended(s, from, forms),
             Open::Nest { letter, place } => self.nest_ended(s, from, forms, letter, place),
+            Open::Generic { is_value, place } => self.generic_ended(
+                s, from, forms, is_value, place,
+            ),
+            Open::Argument {
+                place,
+                from: begins,
+                is_value,
+            } => self.argument_ended(s, from, forms, place, begins, is_value),
             _ => None,
         }
     }

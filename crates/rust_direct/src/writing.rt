@@ -1,8 +1,9 @@
 // The texts and the notes, as they grow.
 
-ghost use Rattle.std.specs.Prelude.{◌≡◌, ◌+◌, ◌-◌, ◌≤◌, ◌∷◌, ◌++◌, [], length};
+ghost use Rattle.std.specs.Prelude.{◌≡◌, ◌+◌, ◌-◌, ◌≤◌, ◌∷◌, ◌++◌, [], ℕ, suc, slice_get, Some, length};
 ghost use Rattle.std.specs.Option.{OnSome, IfSome};
-ghost use Rattle.rust_direct.specs.Written.{Writes, Notes};
+ghost use Rattle.rust_direct.specs.Written.{Writes, Notes, piece};
+ghost use Rattle.rust_direct.specs.Notes.{home};
 ghost use Rattle.rust_direct.specs.Stands.{IsWriting};
 ghost use Rattle.rust_direct.specs.Awaits.{IsEnded};
 
@@ -70,5 +71,31 @@ impl Direct {
     {
         self.note(place, from, noted)?;
         Some(Step::Value { from, forms })
+    }
+
+    /// What is noted of a place.
+    pub(crate) fn noted(&self, place: usize) -> Option<Note>
+        ensures { IfSome result (λ n. (k : ℕ) × (slice_get self.now.numbers.items place ≡ Some (suc k)) × (slice_get self.now.notes.list.items k ≡ Some n)) }
+    {
+        let number = *self.numbers.get(place)?;
+        if number == 0 {
+            return None;
+        }
+        self.notes.as_slice().get(number as usize - 1).copied()
+    }
+
+    /// Writes what is noted once more.
+    pub(crate) fn repeat(&mut self, note: Note) -> Option<()>
+        ensures { OnSome result (Writes self.old self.new
+            (piece (home self.old.is_aside note.is_aside self.old.text.list.items self.old.aside.list.items) note.from note.to)) }
+    {
+        if note.is_aside == self.is_aside {
+            if note.to < note.from || note.to > self.text.len() {
+                return None;
+            }
+            return self.text.repeat(note.from, note.to);
+        }
+        let bytes = self.aside.as_slice().get(note.from..note.to)?;
+        self.text.push_all(bytes)
     }
 }

@@ -17,3 +17,13 @@ pub nest_ended-requires-clause-arrives : goal.nest_ended-requires-clause-arrives
 nest_ended-requires-clause-arrives c =
     taken-out c.args.s.now c.args.self.now _ (opens.Nest c.in-Nest.letter c.in-Nest.place) c.args.from c.args.forms c.pop.result c.requires.writing c.pop.ensures.items
     (c.in_ok-pop.was ∙ ap Some c.in-Nest.is) refl refl refl refl refl refl
+
+pub generic_ended-requires : goal.generic_ended-requires
+generic_ended-requires c =
+    taken-out c.args.s.now c.args.self.now _ (opens.Generic c.in-Generic.is_value c.in-Generic.place) c.args.from c.args.forms c.pop.result c.requires.writing c.pop.ensures.items
+    (c.in_ok-pop.was ∙ ap Some c.in-Generic.is) refl refl refl refl refl refl
+
+pub argument_ended-requires : goal.argument_ended-requires
+argument_ended-requires c =
+    taken-out c.args.s.now c.args.self.now _ (opens.Argument c.in-Argument.place c.in-Argument.begins c.in-Argument.is_value) c.args.from c.args.forms c.pop.result c.requires.writing c.pop.ensures.items
+    (c.in_ok-pop.was ∙ ap Some c.in-Argument.is) refl refl refl refl refl refl
