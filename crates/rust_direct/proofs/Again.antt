@@ -1,0 +1,88 @@
+-- What was written before, once more.
+use Rattle.std.proofs.Common.{◌≡◌, ℕ, suc, ◌+◌, List, [], ◌∷◌, length, slice_get, true, false, Option, Some, None, refl, ap, subst, ◌∙◌}
+use Rattle.std.proofs.lemmas.Bool.{false≢true}
+use Rattle.sym_direct.specs.Holes.{StandsAt}
+use Rattle.rust_tree.specs.Symbol as tree
+use Rattle.rust_tree.specs.Need.{need}
+use Rattle.rust_v0.specs.Value.{Value, State, a_path}
+use Rattle.rust_v0.specs.Unfold.{ended_at, as_path}
+use Rattle.rust_direct.specs.declared.open.Forms.{Forms}
+use Rattle.rust_direct.specs.declared.open.Forms.TheVariants as forms
+use Rattle.rust_direct.specs.declared.open.Note.{Note}
+use Rattle.rust_direct.specs.declared.direct.Direct.{Direct}
+use Rattle.rust_direct.specs.Holes.{IsNumberAt}
+use Rattle.rust_direct.specs.Says.{PathHas, Says, is_path}
+use Rattle.rust_direct.specs.Notes.{home, IsNote, NotesEnded, NotedAs, IsNumbered}
+use Rattle.rust_direct.specs.Written.{Writes, piece}
+use Rattle.rust_direct.specs.Stands.{AreNotesOf}
+use Rattle.rust_direct.specs.Awaits.{Awaits, IsEnded}
+use Rattle.rust_direct.proofs.Kept.{notes-written, piece-found}
+use Rattle.rust_direct.proofs.MovesOfTypes.{path-referred}
+use Rattle.rust_direct.proofs.PathsRead.{path-says, stands-written}
+
+-- what is noted of a place ended there
+NoteAt : Direct → State → (place : ℕ) → Note → Type 0
+NoteAt w st place n = (v : Value) × (ended_at st.ended place ≡ Some v) × IsNote (home w.is_aside n.is_aside w.text.list.items w.aside.list.items) n v
+
+ended-noted : (w : Direct) (st : State) (place : ℕ) (n : Note) (o : Option Value) → ended_at st.ended place ≡ o
+    → NotesEnded w.is_aside w.text.list.items w.aside.list.items n o → NoteAt w st place n
+unfolding NoteAt
+ended-noted w st place n None e p = absurd p
+ended-noted w st place n (Some v) e p = (v, e, p)
+
+note-found : (w : Direct) (st : State) (place k : ℕ) (n : Note) → AreNotesOf w st → slice_get w.numbers.items place ≡ Some (suc k)
+    → slice_get w.notes.list.items k ≡ Some n → NoteAt w st place n
+note-found w st place k n notes number found =
+    let numbered = subst (λ o. IsNumbered w.is_aside w.text.list.items w.aside.list.items w.notes.list.items (ended_at st.ended place) o) number (notes place) in
+    let noted = subst (λ o. NotedAs w.is_aside w.text.list.items w.aside.list.items o (ended_at st.ended place)) found numbered in
+    ended-noted w st place n (ended_at st.ended place) refl noted
+
+-- what a note says of a path
+path-said : (f : Forms) (v : Value) (bytes : List ℕ) → is_path f ≡ true → Says f v bytes
+    → (p : tree.Path) × (as_path (Some v) ≡ Some p) × PathHas f p bytes
+path-said forms.Alike v bytes is h = h
+path-said forms.Valued v bytes is h = h
+path-said forms.Plain v bytes is h = h
+path-said forms.Typed v bytes is h = absurd (false≢true is)
+path-said forms.Unnamed v bytes is h = absurd (false≢true is)
+
+path-needs : (f : Forms) (p : tree.Path) (bytes : List ℕ) → PathHas f p bytes → need p ≡ 0
+path-needs forms.Alike p bytes h = h.0.needs_none
+path-needs forms.Valued p bytes h = h.needs_none
+path-needs forms.Plain p bytes h = h.needs_none
+path-needs forms.Typed p bytes h = absurd h
+path-needs forms.Unnamed p bytes h = absurd h
+
+-- a path is written once more
+pub path-repeated : (s : List ℕ) (old middle : Direct) (from n end k : ℕ) (note : Note) → Awaits s old false → StandsAt s old.at (66 ∷ [])
+    → IsNumberAt s (old.at + 1) n end → slice_get old.numbers.items (n + 2) ≡ Some (suc k) → slice_get old.notes.list.items k ≡ Some note
+    → is_path note.forms ≡ true → from ≡ length old.text.list.items
+    → Writes old middle (piece (home old.is_aside note.is_aside old.text.list.items old.aside.list.items) note.from note.to)
+    → IsEnded s (record middle { at = end }) old.at from note.forms note.forms
+unfolding NoteAt
+path-repeated s old middle from n end k note awaits letter number numbered noted is from_is writes =
+    let r = awaits.awaited in
+    let found = note-found old awaits.state (n + 2) k note awaits.notes numbered noted in
+    let own = found.2 in
+    let said = path-said note.forms found.0 own.bytes is own.says in
+    let p = said.0 in
+    let bytes = own.bytes in
+    let same = (piece-found (home old.is_aside note.is_aside old.text.list.items old.aside.list.items) own.front own.bytes own.back note.from note.to
+    own.written_is own.from_is own.to_is).2 in
+    let write = subst (λ l. Writes old middle l) same writes in
+    let told = path-says note.forms p bytes is said.2 in
+    record {
+      before = awaits.state;
+      notes = notes-written old middle bytes awaits.state write awaits.notes;
+      os = r.os;
+      v = a_path p;
+      front = old.text.list.items;
+      bytes = bytes;
+      written = write.text;
+      from_is = from_is;
+      says = told.0;
+      holds = told.1;
+      comes = path-referred s r.wanted r.os old.at awaits.state n end p r.is_for r.awaits letter number (ap as_path found.1 ∙ said.1)
+          (path-needs note.forms p bytes said.2);
+      stands = stands-written s old middle bytes r.os old.text.list.items write r.stands;
+    }

@@ -1,0 +1,328 @@
+-- Paths with arguments that were read and written.
+use Rattle.std.proofs.Common.{◌≡◌, ℕ, ◌+◌, ◌≤◌, List, [], ◌∷◌, ◌++◌, length, reverse, Bool, true, false, Option, Some, refl, ap, sym, subst, ◌∙◌, append_assoc, append-nil, codes, cond, ◌≢◌, nat_eq, arith}
+use Rattle.std.specs.Option.{option_to_list}
+use Rattle.std.proofs.lemmas.Bool.{false≢true}
+use Rattle.sym_direct.specs.Holes.{StandsAt}
+use Rattle.rust_tree.specs.Symbol as tree
+use Rattle.rust_tree.specs.Shown.{basic_text}
+use Rattle.rust_v0.specs.declared.kind.TheConstants.{PATH}
+use Rattle.rust_v0.specs.declared.production.Production.{Production}
+use Rattle.rust_v0.specs.Value.{Value, State, a_path, a_type}
+use Rattle.rust_v0.specs.Unfold.{as_type}
+use Rattle.rust_direct.specs.declared.open.Forms.{Forms}
+use Rattle.rust_direct.specs.declared.open.Forms.TheVariants as forms
+use Rattle.rust_direct.specs.declared.open.Open.{Open}
+use Rattle.rust_direct.specs.declared.open.Open.TheVariants as opens
+use Rattle.rust_direct.specs.declared.open.Step.TheVariants as steps
+use Rattle.rust_direct.specs.declared.direct.Direct.{Direct}
+use Rattle.rust_direct.specs.Holes.{Comes, Expects, within, Wanted, path, other_path, type, kind_of, is_for_type, IsType, Ends}
+use Rattle.rust_direct.specs.Prints.{PathPrints, TypePrints, opening}
+use Rattle.rust_direct.specs.Says.{PathHas, Holds, has_form, is_type, form_of, is_path}
+use Rattle.rust_direct.specs.Written.{Writes, Pushes}
+use Rattle.rust_direct.specs.Stands.{Stands, IsWriting, IsListing, AreNotesOf, parked_of, separator_of}
+use Rattle.rust_direct.specs.Awaits.{Awaits, AwaitsPath, AwaitsArgument, Arrives, IsEnded}
+use Rattle.rust_direct.proofs.Kept.{notes-written, reverse-last}
+use Rattle.rust_direct.proofs.Moves.{expects-moved}
+use Rattle.rust_direct.proofs.MovesOfArguments.{generic_awaits, generic-opens, generic-goes-on, type_awaits, argument-opens, argument-goes-on, lifetime-goes-on, arguments-close}
+use Rattle.rust_direct.proofs.MovesOfTypes.{basic-comes}
+use Rattle.rust_direct.proofs.PrintedPaths.{none-begin, type-begins, lifetime-begins, arguments-end, generic-prints}
+use Rattle.rust_direct.proofs.PrintedTypes.{path-is-type, basic-prints}
+use Rattle.rust_direct.proofs.PathsRead.{form-held, path-says, stands-written, waits-too}
+
+-- ## What is opened
+
+-- the path is expected that arguments belong to
+pub generic-begun : (s : List ℕ) (old new : Direct) (is_value plain : Bool) → AwaitsPath s old → StandsAt s old.at (73 ∷ [])
+    → new.waiting.list.items ≡ old.waiting.list.items ++ opens.Generic is_value old.at ∷ []
+    → new.at ≡ old.at + 1 → new.text ≡ old.text → new.aside ≡ old.aside → new.is_aside ≡ old.is_aside → new.notes ≡ old.notes
+    → new.numbers ≡ old.numbers → IsWriting s new (steps.Path plain)
+generic-begun s old new is_value plain awaits letter waiting at text aside is_aside notes numbers =
+    let a = awaits.1 in
+    let r = a.awaited in
+    record {
+      state = within Production.Generic a.state;
+      notes = rw (text, aside, is_aside, notes, numbers) a.notes;
+      is_before = record {
+        wanted = path;
+        is_for = refl;
+        os = generic_awaits old.at a.state r.os;
+        awaits = expects-moved s PATH (generic_awaits old.at a.state r.os) (old.at + 1) new.at (within Production.Generic a.state) (sym at)
+            (generic-opens s r.wanted r.os old.at a.state r.awaits letter);
+        stands = waits-too s old.waiting.list.items new.waiting.list.items (opens.Generic is_value old.at) (generic_awaits old.at a.state r.os)
+            new.text.list.items (parked_of new) waiting
+            (r.os, (λ p here now comes. generic-goes-on s r.os old.at a.state p here now comes), rw (text, aside, is_aside) r.stands);
+      };
+    }
+
+-- ## Something waits from here on
+
+notes-pushed : (old new : Direct) (entry : Open) (st : State) → Pushes old new entry → AreNotesOf old st → AreNotesOf new st
+notes-pushed old new entry st p h = rw (p.text, p.aside, p.is_aside, p.notes, p.numbers) h
+
+parked-pushed : (old new : Direct) (entry : Open) → Pushes old new entry → parked_of new ≡ parked_of old
+parked-pushed old new entry p = rw (p.aside, p.is_aside) refl
+
+parked-written : (old new : Direct) (bytes : List ℕ) → Writes old new bytes → parked_of new ≡ parked_of old
+parked-written old new bytes p = rw (p.aside, p.is_aside) refl
+
+turned : (old new : Direct) (entry : Open) → Pushes old new entry → reverse new.waiting.list.items ≡ entry ∷ reverse old.waiting.list.items
+turned old new entry p = ap reverse p.waiting ∙ reverse-last old.waiting.list.items entry
+
+-- the path is read that arguments belong to
+pub generic-read : (s : List ℕ) (old middle new : Direct) (is_value : Bool) (place from : ℕ) (f : Forms)
+    → Arrives s old (opens.Generic is_value place) from f → has_form is_value f ≡ true → Writes old middle (opening is_value)
+    → Pushes middle new (opens.Argument place from is_value) → IsWriting s new (steps.Arguments true)
+generic-read s old middle new is_value place from f arrives is writes pushes =
+    let r = arrives.read in
+    let held = form-held is_value f r.v r.bytes is r.holds in
+    let p = held.0 in
+    let waits = r.stands in
+    let entry = opens.Argument place from is_value in
+    let goes = waits.1 p old.at arrives.state (subst (λ v. Comes s r.os v old.at arrives.state) held.1 r.comes) in
+    record {
+      state = arrives.state;
+      notes = notes-pushed middle new entry arrives.state pushes (notes-written old middle (opening is_value) arrives.state writes arrives.notes);
+      is_before = record {
+        place = place;
+        from = from;
+        is_value = is_value;
+        rest = reverse middle.waiting.list.items;
+        open_is = turned middle new entry pushes;
+        outer = waits.0;
+        front = r.front;
+        p = p;
+        own = r.bytes;
+        made = λ a. a;
+        bytes = [];
+        from_is = r.from_is;
+        prints = held.2;
+        begin = none-begin;
+        written = ap (λ t. t.list.items) pushes.text ∙ writes.text ∙ ap (λ l. l ++ opening is_value) r.written
+            ∙ append_assoc r.front r.bytes (opening is_value) ∙ ap (λ l. r.front ++ l) (sym (append-nil (r.bytes ++ opening is_value)));
+        goes = rw (pushes.at, writes.at) goes;
+        stands = rw (parked-pushed middle new entry pushes) (stands-written s old middle (opening is_value) waits.0 r.front writes waits.2);
+      };
+    }
+
+-- ## Types
+
+-- what was read is a type
+pub type-held : (f : Forms) (v : Value) (bytes : List ℕ) → is_type f ≡ true → Holds f v bytes → (t : tree.Ty) × IsType v t × TypePrints t bytes
+type-held forms.Alike v bytes is h = (tree.path_type h.0, ap (λ u. as_type (Some u)) h.1, path-is-type h.0 bytes h.2.1)
+type-held forms.Valued v bytes is h = absurd (false≢true is)
+type-held forms.Plain v bytes is h = (tree.path_type h.0, ap (λ u. as_type (Some u)) h.1, path-is-type h.0 bytes h.2)
+type-held forms.Typed v bytes is h = h
+type-held forms.Unnamed v bytes is h = absurd (false≢true is)
+
+-- a text that isn't empty
+pub filled-text : (text own : List ℕ) → text ≡ own → false ≡ nat_eq (length text) 0 → 1 ≤ length own
+filled-text text [] is e = absurd (false≢true (e ∙ ap (λ l. nat_eq (length l) 0) is))
+filled-text text (b ∷ bs) is e = omega arith
+
+-- the letter of a basic type stands where it was read
+pub letter-there : (s : List ℕ) (at letter : ℕ) → 1 ≤ length (basic_text letter) → (letter ≢ 0 → StandsAt s at (letter ∷ [])) → StandsAt s at (letter ∷ [])
+unfolding basic_text
+letter-there s at letter filled stands = stands (λ none. omega (arith, subst (λ b. 1 ≤ length (basic_text b)) none filled))
+
+-- a basic type is read
+pub basic-read : (s : List ℕ) (old middle : Direct) (from letter end : ℕ) → Awaits s old true → StandsAt s old.at (letter ∷ [])
+    → 1 ≤ length (basic_text letter) → from ≡ length old.text.list.items → end ≡ old.at + 1 → Writes (record old { at = end }) middle (basic_text letter)
+    → IsEnded s middle old.at from forms.Typed forms.Typed
+basic-read s old middle from letter end awaits stands filled from_is end_is writes =
+    let r = awaits.awaited in
+    let t = tree.basic letter in
+    let bytes = basic_text letter in
+    let prints = basic-prints letter filled in
+    let told : Holds forms.Typed (a_type t) bytes = (t, refl, prints) in
+    record {
+      before = awaits.state;
+      notes = notes-written (record old { at = end }) middle bytes awaits.state writes awaits.notes;
+      os = r.os;
+      v = a_type t;
+      front = old.text.list.items;
+      bytes = bytes;
+      written = writes.text;
+      from_is = from_is;
+      says = told;
+      holds = told;
+      comes = of-type r.wanted r.is_for r.awaits;
+      stands = stands-written s (record old { at = end }) middle bytes r.os old.text.list.items writes r.stands;
+    }
+  where
+    of-type : (w : Wanted) → is_for_type w ≡ true → Expects s (kind_of w) awaits.awaited.os old.at awaits.state
+        → Ends s awaits.awaited.os old.at (a_type (tree.basic letter)) middle.at awaits.state
+    of-type path e expects = absurd (false≢true e)
+    of-type other_path e expects = absurd (false≢true e)
+    of-type type e expects =
+        subst (λ k. Ends s awaits.awaited.os old.at (a_type (tree.basic letter)) k awaits.state) (sym (writes.at ∙ end_is))
+        (basic-comes s awaits.awaited.os old.at awaits.state letter filled expects stands)
+
+-- ## Arguments
+
+-- a type is expected among arguments
+pub argument-awaited : (s : List ℕ) (w : Direct) (is_first : Bool) → AwaitsArgument s w is_first → IsWriting s w steps.Type
+argument-awaited s w is_first p =
+    let l = p.listing in
+    let g = l.goes in
+    let st = within g.production p.state in
+    record {
+      state = within Production.TypeArgument p.state;
+      notes = p.notes;
+      is_before = record {
+        wanted = type;
+        is_for = refl;
+        os = type_awaits w.at st g.inner;
+        awaits = argument-opens s g.inner w.at st g.awaits;
+        stands = subst (λ ws. Stands s ws (type_awaits w.at st g.inner) w.text.list.items (parked_of w)) (sym l.open_is) (
+          l.outer,
+          l.front,
+          l.p,
+          l.own,
+          l.made,
+          l.bytes,
+          separator_of is_first,
+          l.from_is,
+          l.prints,
+          l.begin,
+          p.written ∙ ap (λ b. b ++ separator_of is_first) l.written
+              ∙ append_assoc l.front (l.own ++ opening l.is_value ++ l.bytes) (separator_of is_first),
+          (λ v t at now is comes. argument-goes-on s l.outer l.place l.p l.made w.at p.state g w.at st v t at now is comes),
+          l.stands,
+        );
+      };
+    }
+
+joined : (front own opened bytes separator more : List ℕ)
+    → front ++ (own ++ opened ++ bytes ++ separator) ++ more ≡ front ++ (own ++ opened ++ (bytes ++ separator ++ more))
+joined front own opened bytes separator more =
+    append_assoc front (own ++ opened ++ bytes ++ separator) more
+    ∙ ap (λ l. front ++ l) (append_assoc (own ++ opened ++ bytes) separator more ∙ append_assoc (own ++ opened) bytes (separator ++ more)
+    ∙ ap (λ l. own ++ opened ++ l) (sym (append_assoc bytes separator more)))
+
+-- a type is read among arguments
+pub argument-read : (s : List ℕ) (old new : Direct) (place from here : ℕ) (is_value : Bool) (f : Forms)
+    → Arrives s old (opens.Argument place from is_value) here f → is_type f ≡ true → Pushes old new (opens.Argument place from is_value)
+    → IsWriting s new (steps.Arguments false)
+argument-read s old new place from here is_value f arrives is pushes =
+    let r = arrives.read in
+    let held = type-held f r.v r.bytes is r.holds in
+    let waits = r.stands in
+    let entry = opens.Argument place from is_value in
+    record {
+      state = arrives.state;
+      notes = notes-pushed old new entry arrives.state pushes arrives.notes;
+      is_before = record {
+        place = place;
+        from = from;
+        is_value = is_value;
+        rest = reverse old.waiting.list.items;
+        open_is = turned old new entry pushes;
+        outer = waits.0;
+        front = waits.1;
+        p = waits.2;
+        own = waits.3;
+        made = λ a. waits.4 (tree.type_argument held.0 a);
+        bytes = waits.5 ++ waits.6 ++ r.bytes;
+        from_is = waits.7;
+        prints = waits.8;
+        begin = type-begins waits.4 waits.6 waits.5 held.0 r.bytes waits.9 held.2;
+        written = ap (λ t. t.list.items) pushes.text ∙ r.written ∙ ap (λ l. l ++ r.bytes) waits.10
+            ∙ joined waits.1 waits.3 (opening is_value) waits.5 waits.6 r.bytes;
+        goes = rw pushes.at (waits.11 r.v held.0 old.at arrives.state held.1 r.comes);
+        stands = rw (parked-pushed old new entry pushes) waits.12;
+      };
+    }
+
+-- the separator is written
+pub argument-separated : (s : List ℕ) (old new : Direct) → IsWriting s old (steps.Arguments false) → Writes old new (codes ", ") → AwaitsArgument s new false
+argument-separated s old new p writes =
+    let l = p.is_before in
+    record {
+      state = p.state;
+      notes = notes-written old new (codes ", ") p.state writes p.notes;
+      before = old.text.list.items;
+      written = writes.text;
+      listing = record {
+        place = l.place;
+        from = l.from;
+        is_value = l.is_value;
+        rest = l.rest;
+        open_is = ap (λ w. reverse w.list.items) writes.waiting ∙ l.open_is;
+        outer = l.outer;
+        front = l.front;
+        p = l.p;
+        own = l.own;
+        made = l.made;
+        bytes = l.bytes;
+        from_is = l.from_is;
+        prints = l.prints;
+        begin = l.begin;
+        written = l.written;
+        goes = rw writes.at l.goes;
+        stands = rw (parked-written old new (codes ", ") writes) l.stands;
+      };
+    }
+
+-- no separator stands before the first one
+pub argument-first : (s : List ℕ) (w : Direct) → IsWriting s w (steps.Arguments true) → AwaitsArgument s w true
+argument-first s w p = record {
+  state = p.state;
+  notes = p.notes;
+  before = w.text.list.items;
+  written = sym (append-nil w.text.list.items);
+  listing = p.is_before;
+}
+
+form-says : (is_value : Bool) (p : tree.Path) (bytes : List ℕ) → PathPrints is_value p bytes → PathHas (form_of is_value) p bytes × (is_path (form_of is_value) ≡ true)
+form-says true p bytes h = (h, refl)
+form-says false p bytes h = (h, refl)
+
+closed : (front own opened bytes : List ℕ) → front ++ (own ++ opened ++ bytes) ++ codes ">" ≡ front ++ (own ++ opened ++ bytes ++ codes ">")
+closed front own opened bytes = append_assoc front (own ++ opened ++ bytes) (codes ">")
+
+-- the E of arguments is read
+arguments-written : (s : List ℕ) (old popped middle : Direct) (is_first : Bool) (p : IsWriting s old (steps.Arguments is_first))
+    → StandsAt s old.at (69 ∷ []) → reverse popped.waiting.list.items ≡ p.is_before.rest
+    → popped.text ≡ old.text → popped.aside ≡ old.aside → popped.is_aside ≡ old.is_aside → popped.notes ≡ old.notes → popped.numbers ≡ old.numbers
+    → popped.at ≡ old.at + 1 → Writes popped middle (codes ">")
+    → IsEnded s middle p.is_before.place p.is_before.from (form_of p.is_before.is_value) (form_of p.is_before.is_value)
+arguments-written s old popped middle is_first p stands rest text aside is_aside notes numbers at writes =
+    let l = p.is_before in
+    let made = tree.generic l.p (l.made tree.no_arguments) in
+    let bytes = l.own ++ opening l.is_value ++ l.bytes ++ codes ">" in
+    let prints = generic-prints l.is_value l.p l.own (l.made tree.no_arguments) l.bytes l.prints (arguments-end l.made (separator_of is_first) l.bytes l.begin) in
+    let form = form-says l.is_value made bytes prints in
+    let told = path-says (form_of l.is_value) made bytes form.1 form.0 in
+    record {
+      before = p.state;
+      notes = notes-written popped middle (codes ">") p.state writes (rw (text, aside, is_aside, notes, numbers) p.notes);
+      os = l.outer;
+      v = a_path made;
+      front = l.front;
+      bytes = bytes;
+      written = writes.text ∙ ap (λ t. t.list.items ++ codes ">") text ∙ ap (λ x. x ++ codes ">") l.written ∙ closed l.front l.own (opening l.is_value) l.bytes;
+      from_is = l.from_is;
+      says = told.0;
+      holds = told.1;
+      comes = rw (writes.at, at) (arguments-close s l.outer l.place l.p l.made old.at p.state l.goes stands);
+      stands = stands-written s popped middle (codes ">") l.outer l.front writes (rw (rest, aside, is_aside) l.stands);
+    }
+
+pub arguments-read : (s : List ℕ) (old popped middle : Direct) (is_first is_value : Bool) (place from : ℕ) (o : Option Open)
+    → IsWriting s old (steps.Arguments is_first) → StandsAt s old.at (69 ∷ [])
+    → old.waiting.list.items ≡ popped.waiting.list.items ++ option_to_list o → o ≡ Some (opens.Argument place from is_value)
+    → popped.text ≡ old.text → popped.aside ≡ old.aside → popped.is_aside ≡ old.is_aside → popped.notes ≡ old.notes → popped.numbers ≡ old.numbers
+    → popped.at ≡ old.at + 1 → Writes popped middle (codes ">") → IsEnded s middle place from (form_of is_value) (form_of is_value)
+arguments-read s old popped middle is_first is_value place from o p stands items is text aside is_aside notes numbers at writes =
+    let l = p.is_before in
+    let entry = opens.Argument place from is_value in
+    let e : entry ∷ reverse popped.waiting.list.items ≡ opens.Argument l.place l.from l.is_value ∷ l.rest =
+    sym (ap reverse (items ∙ ap (λ x. popped.waiting.list.items ++ option_to_list x) is) ∙ reverse-last popped.waiting.list.items entry) ∙ l.open_is in
+    let same_place : l.place ≡ place = cc e in
+    let same_from : l.from ≡ from = cc e in
+    let same_value : l.is_value ≡ is_value = cc e in
+    let same_rest : reverse popped.waiting.list.items ≡ l.rest = cc e in
+    subst (λ k. IsEnded s middle k from (form_of is_value) (form_of is_value)) same_place
+    (subst (λ k. IsEnded s middle l.place k (form_of is_value) (form_of is_value)) same_from
+    (subst (λ b. IsEnded s middle l.place l.from (form_of b) (form_of b)) same_value
+    (arguments-written s old popped middle is_first p stands same_rest text aside is_aside notes numbers at writes)))

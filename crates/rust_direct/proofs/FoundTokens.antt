@@ -1,0 +1,105 @@
+-- Names and numbers that were found, and the bytes at a place.
+use Rattle.std.proofs.Common.{◌≡◌, ◌≢◌, ℕ, ◌+◌, ◌-◌, ◌<◌, ◌≤◌, List, [], ◌∷◌, ◌++◌, length, take, drop, Bool, true, Option, Some, None, Result, Ok, Err, refl, ap, sym, subst, ◌∙◌, arith, append_assoc}
+use Rattle.std.proofs.lemmas.List.{length-append, length-drop, length-take, drop-drop}
+use Rattle.std.proofs.Math.Seq.{drop-append_seam, take-append_seam}
+use Rattle.std.specs.Option.{IfSome}
+use Rattle.std.specs.Result.{result_ok}
+use Rattle.sym_core.specs.declared.NameClass.TheVariants.{Rust}
+use Rattle.sym_core.specs.declared.NumberKind.TheVariants.{Base62}
+use Rattle.sym_core.specs.declared.tokens.TokenPlace.{TokenPlace}
+use Rattle.sym_core.specs.Token.{Token, IsName, IsNumberToken, HasToken, FindsToken}
+use Rattle.sym_core.specs.Value.{counted_value}
+use Rattle.sym_direct.specs.Holes.{StandsAt}
+use Rattle.rust_direct.specs.Holes.{IsNameAt, IsNumberAt}
+
+-- what stands between two places behind a third one
+piece-at : (s before own behind rest : List ℕ) (at from to : ℕ) → at ≤ length s → drop at s ≡ (before ++ own ++ behind) ++ rest
+    → from ≡ at + length before → to ≡ at + length before + length own
+    → (from ≤ to) × (to ≤ length s) × (take (to - from) (drop from s) ≡ own)
+piece-at s before own behind rest at from to le e from_is to_is = (omega (arith, from_is, to_is), inside, found)
+  where
+    inside : to ≤ length s
+    inside = omega (
+      arith,
+      to_is,
+      le,
+      length-drop at s,
+      ap length e,
+      length-append ((before ++ own) ++ behind) rest,
+      length-append (before ++ own) behind,
+      length-append before own,
+    )
+
+    size : to - from ≡ length own
+    size = omega (arith, from_is, to_is)
+
+    whole : drop at s ≡ before ++ (own ++ (behind ++ rest))
+    whole = e ∙ append_assoc (before ++ own) behind rest ∙ append_assoc before own (behind ++ rest)
+
+    there : drop from s ≡ own ++ (behind ++ rest)
+    there = ap (λ n. drop n s) from_is ∙ sym (drop-drop (length before) at s) ∙ ap (λ l. drop (length before) l) whole
+        ∙ drop-append_seam before (own ++ (behind ++ rest))
+
+    found : take (to - from) (drop from s) ≡ own
+    found = ap (λ n. take n (drop from s)) size ∙ ap (λ l. take (length own) l) there ∙ take-append_seam own (behind ++ rest)
+
+-- where a token's own bytes stand
+own-found : (Is : Token → Type 0) (s : List ℕ) (at : ℕ) (place : TokenPlace) (h : HasToken Is (drop at s) at place) → at ≤ length s
+    → (place.from ≤ place.to) × (place.to ≤ length s) × (take (place.to - place.from) (drop place.from s) ≡ h.token.own)
+own-found Is s at place h le = piece-at s h.token.before h.token.own h.token.behind h.rest at place.from place.to le h.split h.from h.to
+
+-- a place that was found is that of a token
+pub place-found : (Is : Token → Type 0) (s : List ℕ) (at : ℕ) (r : Result TokenPlace ℕ) (o : Option TokenPlace) (place : TokenPlace)
+    → FindsToken Is s at r → o ≡ result_ok r → o ≡ Some place → HasToken Is (drop at s) at place
+place-found Is s at (Ok p) o place finds ok some = subst (λ x. HasToken Is (drop at s) at x) (same p o place ok some) finds
+  where
+    same : (p : TokenPlace) (o : Option TokenPlace) (place : TokenPlace) → o ≡ Some p → o ≡ Some place → p ≡ place
+    same p o place e f = cc (e, f)
+place-found Is s at (Err bad) o place finds ok some = absurd (apart o place ok some)
+  where
+    apart : (o : Option TokenPlace) (place : TokenPlace) → o ≡ None → o ≡ Some place → ⊥
+    apart o place e f = cc (e, f)
+
+-- a name that was found
+abbrev NameFound : (s : List ℕ) → (at : ℕ) → TokenPlace → Type 0
+NameFound s at place =
+    (place.from ≤ place.to) × (place.to ≤ length s) × IsNameAt s at (take (place.to - place.from) (drop place.from s)) place.end
+
+pub name-found : (s : List ℕ) (at : ℕ) (r : Result TokenPlace ℕ) (o : Option TokenPlace) → FindsToken (IsName Rust) s at r → o ≡ result_ok r
+    → at ≤ length s → IfSome o (NameFound s at)
+name-found s at r None finds ok le = tt
+name-found s at r (Some place) finds ok le =
+    let h = place-found (IsName Rust) s at r (Some place) place finds ok refl in
+    let own = own-found (IsName Rust) s at place h le in (
+      own.0,
+      own.1,
+      record { token = h.token; is_name = h.is; own = sym own.2; stands = (h.rest, h.split); ends = h.end },
+    )
+
+-- where the digits of a number stand
+pub digits-inside : (s : List ℕ) (at : ℕ) (place : TokenPlace) → HasToken (IsNumberToken Base62) (drop at s) at place → at ≤ length s
+    → (place.from ≤ place.to) × (place.to ≤ length s)
+digits-inside s at place h le = let own = own-found (IsNumberToken Base62) s at place h le in (own.0, own.1)
+
+-- a number that was found
+pub number-found : (s : List ℕ) (at : ℕ) (place : TokenPlace) (value : ℕ) → HasToken (IsNumberToken Base62) (drop at s) at place → at ≤ length s
+    → value ≡ counted_value Base62 (take (place.to - place.from) (drop place.from s)) → IsNumberAt s at value place.end
+number-found s at place value h le is = record {
+  token = h.token;
+  is_number = h.is;
+  counts = ap (λ l. counted_value Base62 l) (sym (own-found (IsNumberToken Base62) s at place h le).2) ∙ sym is;
+  stands = (h.rest, h.split);
+  ends = h.end;
+}
+
+-- a byte stands where it was read
+pub there : (s : List ℕ) (at byte letter : ℕ) → byte ≡ letter → 0 < letter → (byte ≢ 0 → StandsAt s at (byte ∷ [])) → StandsAt s at (letter ∷ [])
+there s at byte letter is some stands = subst (λ b. StandsAt s at (b ∷ [])) is (stands (λ none. omega (arith, some, sym is ∙ none)))
+
+-- a piece is filled
+pub piece-filled : (s : List ℕ) (from to : ℕ) → from < to → to ≤ length s → 1 ≤ length (take (to - from) (drop from s))
+piece-filled s from to some inside = omega (arith, some, inside, length-take (to - from) (drop from s), length-drop from s)
+
+-- a test that held
+pub tested : (result test : Bool) → result ≡ test → result ≡ true → test ≡ true
+tested result test is e = sym is ∙ e

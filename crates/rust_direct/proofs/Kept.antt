@@ -1,0 +1,213 @@
+-- What a writer keeps while its texts and its lists grow.
+use Rattle.std.proofs.Common.{◌≡◌, ◌≢◌, ℕ, zero, suc, ◌+◌, ◌-◌, ◌<◌, ◌≤◌, length, List, [], ◌∷◌, ◌++◌, take, drop, reverse, slice_get, Bool, true, false, not, Option, Some, None, refl, ap, sym, ◌∙◌, subst, arith, append_assoc, append-nil, inl, inr}
+use Rattle.std.specs.Prelude.{slice_set, replicate, if◌then◌else◌}
+use Rattle.std.proofs.lemmas.Bool.{eq-eqb, ne_eqb, cases_eq}
+use Rattle.std.proofs.lemmas.List.{length-append, reverse-append}
+use Rattle.std.proofs.Math.Seq.{drop-append_seam, take-append_seam}
+use Rattle.rust_v0.specs.Value.{Value, Ended, State}
+use Rattle.rust_v0.specs.Unfold.{ended_at}
+use Rattle.rust_direct.specs.declared.open.Note.{Note}
+use Rattle.rust_direct.specs.declared.open.Forms.{Forms}
+use Rattle.rust_direct.specs.declared.direct.Direct.{Direct}
+use Rattle.rust_direct.specs.Says.{Says}
+use Rattle.rust_direct.specs.Notes.{home, IsNote, NotedAs, IsNumbered, AreNotes}
+use Rattle.rust_direct.specs.Stands.{AreNotesOf}
+use Rattle.rust_direct.specs.Written.{Writes, Notes}
+use Rattle.rust_direct.specs.Holes.{with_ended}
+
+-- ## Notes
+
+note-stays : (written more : List ℕ) (n : Note) (v : Value) → IsNote written n v → IsNote (written ++ more) n v
+note-stays written more n v p = record {
+  front = p.front;
+  bytes = p.bytes;
+  back = p.back ++ more;
+  written_is = ap (λ l. l ++ more) p.written_is ∙ append_assoc (p.front ++ p.bytes) p.back more;
+  from_is = p.from_is;
+  to_is = p.to_is;
+  says = p.says;
+}
+
+ended-stays : (is_aside note_aside : Bool) (text aside more : List ℕ) (n : Note) (v : Value)
+    → IsNote (home is_aside note_aside text aside) n v → IsNote (home is_aside note_aside (text ++ more) aside) n v
+ended-stays true true text aside more n v p = note-stays text more n v p
+ended-stays false false text aside more n v p = note-stays text more n v p
+ended-stays true false text aside more n v p = p
+ended-stays false true text aside more n v p = p
+
+noted-stays : (is_aside : Bool) (text aside more : List ℕ) (o : Option Note) (v : Option Value) → NotedAs is_aside text aside o v
+    → NotedAs is_aside (text ++ more) aside o v
+noted-stays is_aside text aside more None v p = absurd p
+noted-stays is_aside text aside more (Some n) None p = absurd p
+noted-stays is_aside text aside more (Some n) (Some v) p = ended-stays is_aside n.is_aside text aside more n v p
+
+numbered-stays : (is_aside : Bool) (text aside more : List ℕ) (notes : List Note) (v : Option Value) (number : Option ℕ)
+    → IsNumbered is_aside text aside notes v number → IsNumbered is_aside (text ++ more) aside notes v number
+numbered-stays is_aside text aside more notes v None p = tt
+numbered-stays is_aside text aside more notes v (Some zero) p = tt
+numbered-stays is_aside text aside more notes v (Some (suc k)) p = noted-stays is_aside text aside more (slice_get notes k) v p
+
+-- notes stay so where more is written
+pub notes-stay : (is_aside : Bool) (text aside more : List ℕ) (notes : List Note) (numbers : List ℕ) (ended : List Ended)
+    → AreNotes is_aside text aside notes numbers ended → AreNotes is_aside (text ++ more) aside notes numbers ended
+notes-stay is_aside text aside more notes numbers ended p =
+    λ place. numbered-stays is_aside text aside more notes (ended_at ended place) (slice_get numbers place) (p place)
+
+-- the same of a writer
+pub notes-written : (old new : Direct) (bytes : List ℕ) (st : State) → Writes old new bytes → AreNotesOf old st → AreNotesOf new st
+notes-written old new bytes st writes p =
+    rw (writes.text, writes.aside, writes.is_aside, writes.notes, writes.numbers)
+    (notes-stay old.is_aside old.text.list.items old.aside.list.items bytes old.notes.list.items old.numbers.items st.ended p)
+
+-- ## A turn to the other text
+
+home-turned : (is_aside note_aside : Bool) (text aside : List ℕ) (n : Note) (v : Value)
+    → IsNote (home is_aside note_aside text aside) n v → IsNote (home (not is_aside) note_aside aside text) n v
+home-turned true true text aside n v p = p
+home-turned false false text aside n v p = p
+home-turned true false text aside n v p = p
+home-turned false true text aside n v p = p
+
+noted-turned : (is_aside : Bool) (text aside : List ℕ) (o : Option Note) (v : Option Value) → NotedAs is_aside text aside o v
+    → NotedAs (not is_aside) aside text o v
+noted-turned is_aside text aside None v p = absurd p
+noted-turned is_aside text aside (Some n) None p = absurd p
+noted-turned is_aside text aside (Some n) (Some v) p = home-turned is_aside n.is_aside text aside n v p
+
+numbered-turned : (is_aside : Bool) (text aside : List ℕ) (notes : List Note) (v : Option Value) (number : Option ℕ)
+    → IsNumbered is_aside text aside notes v number → IsNumbered (not is_aside) aside text notes v number
+numbered-turned is_aside text aside notes v None p = tt
+numbered-turned is_aside text aside notes v (Some zero) p = tt
+numbered-turned is_aside text aside notes v (Some (suc k)) p = noted-turned is_aside text aside (slice_get notes k) v p
+
+pub notes-turned : (is_aside : Bool) (text aside : List ℕ) (notes : List Note) (numbers : List ℕ) (ended : List Ended)
+    → AreNotes is_aside text aside notes numbers ended → AreNotes (not is_aside) aside text notes numbers ended
+notes-turned is_aside text aside notes numbers ended p =
+    λ place. numbered-turned is_aside text aside notes (ended_at ended place) (slice_get numbers place) (p place)
+
+-- ## One more note
+
+get-append : {X : Type 0} (xs : List X) (k : ℕ) (x : X) (more : List X) → slice_get xs k ≡ Some x → slice_get (xs ++ more) k ≡ Some x
+get-append [] k x more e = cc e
+get-append (y ∷ ys) zero x more e = e
+get-append (y ∷ ys) (suc k) x more e = get-append ys k x more e
+
+get-last : {X : Type 0} (xs : List X) (x : X) → slice_get (xs ++ x ∷ []) (length xs) ≡ Some x
+get-last [] x = refl
+get-last (y ∷ ys) x = get-last ys x
+
+get-set : (xs : List ℕ) (k y : ℕ) → k < length xs → slice_get (slice_set xs k y) k ≡ Some y
+get-set [] k y inside = absurd (omega (arith, inside))
+get-set (x ∷ xs) zero y inside = refl
+get-set (x ∷ xs) (suc k) y inside = get-set xs k y (omega (arith, inside))
+
+get-other : (xs : List ℕ) (k j y : ℕ) → j ≢ k → slice_get (slice_set xs k y) j ≡ slice_get xs j
+get-other [] k j y apart = refl
+get-other (x ∷ xs) zero zero y apart = absurd (apart refl)
+get-other (x ∷ xs) zero (suc j) y apart = refl
+get-other (x ∷ xs) (suc k) zero y apart = refl
+get-other (x ∷ xs) (suc k) (suc j) y apart = get-other xs k j y (λ e. apart (ap suc e))
+
+noted-more : (is_aside : Bool) (text aside : List ℕ) (notes : List Note) (n : Note) (k : ℕ) (o : Option Note) (v : Option Value)
+    → slice_get notes k ≡ o → NotedAs is_aside text aside o v → NotedAs is_aside text aside (slice_get (notes ++ n ∷ []) k) v
+noted-more is_aside text aside notes n k None v e p = absurd p
+noted-more is_aside text aside notes n k (Some x) v e p =
+    subst (λ o. NotedAs is_aside text aside o v) (sym (get-append notes k x (n ∷ []) e)) p
+
+numbered-more : (is_aside : Bool) (text aside : List ℕ) (notes : List Note) (n : Note) (v : Option Value) (number : Option ℕ)
+    → IsNumbered is_aside text aside notes v number → IsNumbered is_aside text aside (notes ++ n ∷ []) v number
+numbered-more is_aside text aside notes n v None p = tt
+numbered-more is_aside text aside notes n v (Some zero) p = tt
+numbered-more is_aside text aside notes n v (Some (suc k)) p = noted-more is_aside text aside notes n k (slice_get notes k) v refl p
+
+-- what ended at a place is noted
+pub notes-more : (is_aside : Bool) (text aside : List ℕ) (notes : List Note) (numbers : List ℕ) (ended : List Ended) (n : Note) (place : ℕ) (v : Value)
+    → AreNotes is_aside text aside notes numbers ended → place < length numbers → IsNote (home is_aside n.is_aside text aside) n v
+    → AreNotes is_aside text aside (notes ++ n ∷ []) (slice_set numbers place (length notes + 1)) (record { place = place; value = v } ∷ ended)
+notes-more is_aside text aside notes numbers ended n place v p inside is other = elim (cases_eq place other) [
+  | inl same ↦ here same
+  | inr apart ↦ there apart
+]
+  where
+    Is : Option Value → Option ℕ → Type 0
+    Is o number = IsNumbered is_aside text aside (notes ++ n ∷ []) o number
+
+    one-more : (k : ℕ) → k + 1 ≡ suc k
+    one-more k = omega arith
+
+    here : place ≡ other → Is (ended_at (record { place = place; value = v } ∷ ended) other) (slice_get (slice_set numbers place (length notes + 1)) other)
+    here same =
+        subst (λ o. Is o (slice_get (slice_set numbers place (length notes + 1)) other))
+        (sym (ap (λ b. if b then Some v else ended_at ended other) (eq-eqb place other same)))
+        (subst (λ k. Is (Some v) (slice_get (slice_set numbers place (length notes + 1)) k)) same
+        (subst (λ o. Is (Some v) o) (sym (get-set numbers place (length notes + 1) inside))
+        (subst (λ k. Is (Some v) (Some k)) (sym (one-more (length notes)))
+        (subst (λ o. NotedAs is_aside text aside o (Some v)) (sym (get-last notes n)) is))))
+
+    there : (place ≡ other → ⊥) → Is (ended_at (record { place = place; value = v } ∷ ended) other) (slice_get (slice_set numbers place (length notes + 1)) other)
+    there apart =
+        subst (λ o. Is o (slice_get (slice_set numbers place (length notes + 1)) other))
+        (sym (ap (λ b. if b then Some v else ended_at ended other) (ne_eqb place other apart)))
+        (subst (λ o. Is (ended_at ended other) o) (sym (get-other numbers place other (length notes + 1) (λ e. apart (sym e))))
+        (numbered-more is_aside text aside notes n (ended_at ended other) (slice_get numbers other) (p other)))
+
+-- the same of a writer
+pub notes-noted : (old new : Direct) (place from : ℕ) (forms : Forms) (st : State) (v : Value) (front bytes : List ℕ) → Notes old new place from forms
+    → AreNotesOf old st → old.text.list.items ≡ front ++ bytes → from ≡ length front → Says forms v bytes → AreNotesOf new (with_ended place v st)
+notes-noted old new place from forms st v front bytes noted p written from_is says =
+    rw (noted.text, noted.aside, noted.is_aside, noted.notes, noted.numbers)
+    (notes-more old.is_aside old.text.list.items old.aside.list.items old.notes.list.items old.numbers.items st.ended
+    (record { from = from; to = length old.text.list.items; forms = forms; is_aside = old.is_aside }) place v p noted.inside
+    (at-home old.is_aside old.text.list.items old.aside.list.items written))
+  where
+    at-home : (is_aside : Bool) (text aside : List ℕ) → text ≡ front ++ bytes
+        → IsNote (home is_aside is_aside text aside) (record { from = from; to = length text; forms = forms; is_aside = is_aside }) v
+    at-home true text aside e = record {
+      front = front;
+      bytes = bytes;
+      back = [];
+      written_is = e ∙ sym (append-nil (front ++ bytes));
+      from_is = from_is;
+      to_is = ap length e ∙ length-append front bytes;
+      says = says;
+    }
+    at-home false text aside e = record {
+      front = front;
+      bytes = bytes;
+      back = [];
+      written_is = e ∙ sym (append-nil (front ++ bytes));
+      from_is = from_is;
+      to_is = ap length e ∙ length-append front bytes;
+      says = says;
+    }
+
+-- nothing is noted at first
+pub none-noted : (is_aside : Bool) (text aside : List ℕ) (n : ℕ) (ended : List Ended) → AreNotes is_aside text aside [] (replicate n 0) ended
+none-noted is_aside text aside n ended = λ place. zeros n place (ended_at ended place)
+  where
+    zeros : (n place : ℕ) (v : Option Value) → IsNumbered is_aside text aside [] v (slice_get (replicate n 0) place)
+    zeros zero place v = tt
+    zeros (suc n) zero v = tt
+    zeros (suc n) (suc place) v = zeros n place v
+
+-- ## What is open
+
+-- the last of a list is the first of it turned
+pub reverse-last : {X : Type 0} (xs : List X) (x : X) → reverse (xs ++ x ∷ []) ≡ x ∷ reverse xs
+reverse-last xs x = reverse-append xs (x ∷ [])
+
+-- a piece by its place
+pub piece-found : (text front bytes back : List ℕ) (from to : ℕ) → text ≡ front ++ bytes ++ back → from ≡ length front → to ≡ length front + length bytes
+    → (from ≤ to) × (to ≤ length text) × (take (to - from) (drop from text) ≡ bytes)
+piece-found text front bytes back from to e from_is to_is = (omega (arith, from_is, to_is), inside, found)
+  where
+    inside : to ≤ length text
+    inside = omega (arith, to_is, ap length e, length-append (front ++ bytes) back, length-append front bytes)
+
+    size : to - from ≡ length bytes
+    size = omega (arith, from_is, to_is)
+
+    found : take (to - from) (drop from text) ≡ bytes
+    found = ap (λ n. take n (drop from text)) size ∙ ap (λ n. take (length bytes) (drop n text)) from_is
+        ∙ ap (λ l. take (length bytes) (drop (length front) l)) (e ∙ append_assoc front bytes back) ∙ ap (λ l. take (length bytes) l) (drop-append_seam front (bytes ++ back))
+        ∙ take-append_seam bytes back

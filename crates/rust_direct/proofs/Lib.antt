@@ -1,0 +1,12 @@
+pub mod PrintedPaths
+pub mod PrintedTypes
+pub mod Moves
+pub mod MovesOfSymbols
+pub mod MovesOfArguments
+pub mod MovesOfTypes
+pub mod Kept
+pub mod FoundTokens
+pub mod PathsRead
+pub mod SymbolsRead
+pub mod Again
+pub mod ArgumentsRead

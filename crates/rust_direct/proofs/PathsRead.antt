@@ -1,0 +1,220 @@
+-- Paths that were read and written.
+use Rattle.std.proofs.Common.{◌≡◌, ℕ, ◌+◌, ◌≤◌, List, [], ◌∷◌, ◌++◌, length, reverse, Bool, true, false, Option, Some, refl, ap, sym, subst, ◌∙◌, append_assoc, codes, cond}
+use Rattle.std.specs.Option.{option_to_list}
+use Rattle.std.proofs.lemmas.Bool.{le-leb, false≢true}
+use Rattle.sym_direct.specs.Holes.{StandsAt}
+use Rattle.rust_tree.specs.Symbol as tree
+use Rattle.rust_v0.specs.declared.production.Production.{Production}
+use Rattle.rust_v0.specs.Value.{Value, a_path}
+use Rattle.rust_direct.specs.declared.open.Forms.{Forms}
+use Rattle.rust_direct.specs.declared.open.Forms.TheVariants as forms
+use Rattle.rust_direct.specs.declared.open.Open.{Open}
+use Rattle.rust_direct.specs.declared.open.Open.TheVariants as opens
+use Rattle.rust_direct.specs.declared.open.Step.TheVariants as steps
+use Rattle.rust_direct.specs.declared.direct.Direct.{Direct}
+use Rattle.rust_v0.specs.declared.kind.TheConstants.{PATH}
+use Rattle.rust_direct.specs.Holes.{Opened, Comes, within, behind, with_ended, path, IsNameAt, IsDisambiguatorAt, identifier}
+use Rattle.rust_direct.specs.Prints.{PathPrints}
+use Rattle.rust_direct.specs.Says.{PathHas, Says, Holds, has_form, is_path}
+use Rattle.rust_direct.specs.Written.{Writes, Notes}
+use Rattle.rust_direct.specs.Stands.{Stands, IsWriting, parked_of}
+use Rattle.rust_direct.specs.Awaits.{Awaits, AwaitsPath, Arrives, IsEnded}
+use Rattle.rust_direct.proofs.Kept.{notes-written, notes-noted, reverse-last}
+use Rattle.rust_direct.proofs.Moves.{expects-moved, identifier-comes, crate-comes, nest_awaits, nest-opens, nest-goes-on}
+use Rattle.rust_direct.proofs.PrintedPaths.{crate-prints, nested-prints}
+
+-- ## What is known of what was read
+
+-- a path has a text in the forms that are named
+pub path-held : (f : Forms) (v : Value) (bytes : List ℕ) → is_path f ≡ true → Holds f v bytes → (p : tree.Path) × (v ≡ a_path p) × PathHas f p bytes
+path-held forms.Alike v bytes is h = h
+path-held forms.Valued v bytes is h = h
+path-held forms.Plain v bytes is h = h
+path-held forms.Typed v bytes is h = absurd (false≢true is)
+path-held forms.Unnamed v bytes is h = absurd (false≢true is)
+
+-- a path has a text in a form
+pub form-held : (value : Bool) (f : Forms) (v : Value) (bytes : List ℕ) → has_form value f ≡ true → Holds f v bytes
+    → (p : tree.Path) × (v ≡ a_path p) × PathPrints value p bytes
+form-held true forms.Alike v bytes is h = (h.0, h.1, h.2.0)
+form-held false forms.Alike v bytes is h = (h.0, h.1, h.2.1)
+form-held true forms.Valued v bytes is h = h
+form-held false forms.Valued v bytes is h = absurd (false≢true is)
+form-held true forms.Plain v bytes is h = absurd (false≢true is)
+form-held false forms.Plain v bytes is h = h
+form-held true forms.Typed v bytes is h = absurd (false≢true is)
+form-held false forms.Typed v bytes is h = absurd (false≢true is)
+form-held true forms.Unnamed v bytes is h = absurd (false≢true is)
+form-held false forms.Unnamed v bytes is h = absurd (false≢true is)
+
+-- a path with its texts is noted and handed on
+pub path-says : (f : Forms) (p : tree.Path) (bytes : List ℕ) → is_path f ≡ true → PathHas f p bytes → Says f (a_path p) bytes × Holds f (a_path p) bytes
+path-says forms.Alike p bytes is h = ((p, refl, h), (p, refl, h))
+path-says forms.Valued p bytes is h = ((p, refl, h), (p, refl, h))
+path-says forms.Plain p bytes is h = ((p, refl, h), (p, refl, h))
+path-says forms.Typed p bytes is h = absurd h
+path-says forms.Unnamed p bytes is h = absurd h
+
+-- ## What waits
+
+-- what is open stays so where a text is written
+pub stands-written : (s : List ℕ) (old new : Direct) (bytes : List ℕ) (os : List Opened) (text : List ℕ) → Writes old new bytes
+    → Stands s (reverse old.waiting.list.items) os text (parked_of old) → Stands s (reverse new.waiting.list.items) os text (parked_of new)
+stands-written s old new bytes os text writes h =
+    subst (λ w. Stands s (reverse w.list.items) os text (parked_of new)) (sym writes.waiting)
+    (subst (λ b. Stands s (reverse old.waiting.list.items) os text (cond b new.aside.list.items [])) (sym writes.is_aside)
+    (subst (λ a. Stands s (reverse old.waiting.list.items) os text (cond old.is_aside a.list.items [])) (sym writes.aside) h))
+
+-- what waits last is taken out
+pub taken-out : (s : List ℕ) (old new : Direct) (entry : Open) (from : ℕ) (f : Forms) (o : Option Open) → IsWriting s old (steps.Value from f)
+    → old.waiting.list.items ≡ new.waiting.list.items ++ option_to_list o → o ≡ Some entry
+    → new.text ≡ old.text → new.aside ≡ old.aside → new.is_aside ≡ old.is_aside → new.notes ≡ old.notes → new.numbers ≡ old.numbers → new.at ≡ old.at
+    → Arrives s new entry from f
+taken-out s old new entry from f o p items is text aside is_aside notes numbers at =
+    let r = p.is_before in
+    let turned : reverse old.waiting.list.items ≡ entry ∷ reverse new.waiting.list.items =
+    ap reverse (items ∙ ap (λ x. new.waiting.list.items ++ option_to_list x) is) ∙ reverse-last new.waiting.list.items entry in
+    record {
+      state = p.state;
+      notes = rw (text, aside, is_aside, notes, numbers) p.notes;
+      read = record {
+        os = r.os;
+        v = r.v;
+        front = r.front;
+        bytes = r.bytes;
+        written = ap (λ t. t.list.items) text ∙ r.written;
+        from_is = r.from_is;
+        holds = r.holds;
+        comes = subst (λ k. Comes s r.os r.v k p.state) (sym at) r.comes;
+        stands = rw (aside, is_aside) (subst (λ ws. Stands s ws r.os r.front (parked_of old)) turned r.stands);
+      };
+    }
+
+-- something waits from here on
+pub waits-too : (s : List ℕ) (old new : List Open) (entry : Open) (os : List Opened) (text parked : List ℕ) → new ≡ old ++ entry ∷ []
+    → Stands s (entry ∷ reverse old) os text parked → Stands s (reverse new) os text parked
+waits-too s old new entry os text parked is h = subst (λ ws. Stands s ws os text parked) (sym (ap reverse is ∙ reverse-last old entry)) h
+
+-- what was read is noted
+pub ended-writing : (s : List ℕ) (old new : Direct) (place from : ℕ) (noted f : Forms) → IsEnded s old place from noted f → Notes old new place from noted
+    → IsWriting s new (steps.Value from f)
+ended-writing s old new place from noted f p n = record {
+  state = with_ended place p.v p.before;
+  notes = notes-noted old new place from noted p.before p.v p.front p.bytes n p.notes p.written p.from_is p.says;
+  is_before = record {
+    os = p.os;
+    v = p.v;
+    front = p.front;
+    bytes = p.bytes;
+    written = ap (λ t. t.list.items) n.text ∙ p.written;
+    from_is = p.from_is;
+    holds = p.holds;
+    comes = subst (λ k. Comes s p.os p.v k (with_ended place p.v p.before)) (sym n.at) p.comes;
+    stands = rw (n.waiting, n.aside, n.is_aside) p.stands;
+  };
+}
+
+-- ## Crates
+
+pub crate-ended : (s : List ℕ) (old middle : Direct) (from count behind_ : ℕ) (name : List ℕ) (end : ℕ) → AwaitsPath s old → StandsAt s old.at (67 ∷ [])
+    → IsDisambiguatorAt s (old.at + 1) count behind_ → IsNameAt s behind_ name end → 1 ≤ length name → from ≡ length old.text.list.items
+    → Writes old middle name → IsEnded s (record middle { at = end }) old.at from forms.Alike forms.Alike
+crate-ended s old middle from count behind_ name end awaits letter counted named filled from_is writes =
+    let a = awaits.1 in
+    let r = a.awaited in
+    let p = tree.crate_root (identifier count name) in
+    let has : PathHas forms.Alike p name = (crate-prints true count name filled, crate-prints false count name filled) in
+    let told = path-says forms.Alike p name refl has in
+    record {
+      before = a.state;
+      notes = notes-written old middle name a.state writes a.notes;
+      os = r.os;
+      v = a_path p;
+      front = old.text.list.items;
+      bytes = name;
+      written = writes.text;
+      from_is = from_is;
+      says = told.0;
+      holds = told.1;
+      comes = crate-comes s r.wanted r.os old.at a.state count behind_ name end r.awaits letter counted named;
+      stands = stands-written s old middle name r.os old.text.list.items writes r.stands;
+    }
+
+-- ## Paths in a namespace
+
+pub nest-begun : (s : List ℕ) (old new : Direct) (b : ℕ) (is_value : Bool) → AwaitsPath s old → StandsAt s old.at (78 ∷ [])
+    → StandsAt s (old.at + 1) (b ∷ []) → 97 ≤ b → b ≤ 122 → new.waiting.list.items ≡ old.waiting.list.items ++ opens.Nest b old.at ∷ []
+    → new.at ≡ old.at + 1 + 1 → new.text ≡ old.text → new.aside ≡ old.aside → new.is_aside ≡ old.is_aside → new.notes ≡ old.notes
+    → new.numbers ≡ old.numbers → IsWriting s new (steps.Path is_value)
+nest-begun s old new b is_value awaits letter there low high waiting at text aside is_aside notes numbers =
+    let a = awaits.1 in
+    let r = a.awaited in
+    record {
+      state = within Production.Nested a.state;
+      notes = rw (text, aside, is_aside, notes, numbers) a.notes;
+      is_before = record {
+        wanted = path;
+        is_for = refl;
+        os = nest_awaits b old.at a.state r.os;
+        awaits = expects-moved s PATH (nest_awaits b old.at a.state r.os) (old.at + 1 + 1) new.at (within Production.Nested a.state) (sym at)
+            (nest-opens s r.wanted r.os old.at b a.state r.awaits letter there low high);
+        stands = waits-too s old.waiting.list.items new.waiting.list.items (opens.Nest b old.at) (nest_awaits b old.at a.state r.os) new.text.list.items
+            (parked_of new) waiting
+            (r.os, (λ p here now comes. nest-goes-on s r.os b old.at a.state p here now comes), rw (text, aside, is_aside) r.stands);
+      };
+    }
+
+nested-has : (f : Forms) (letter : ℕ) (p : tree.Path) (bytes : List ℕ) (count : ℕ) (name : List ℕ) → is_path f ≡ true → 97 ≤ letter → 1 ≤ length name
+    → PathHas f p bytes → PathHas f (tree.nested letter p (identifier count name)) (bytes ++ codes "::" ++ name)
+nested-has forms.Alike letter p bytes count name is lower filled h = (
+  nested-prints true letter p bytes count name (le-leb 97 letter lower) filled h.0,
+  nested-prints false letter p bytes count name (le-leb 97 letter lower) filled h.1,
+)
+nested-has forms.Valued letter p bytes count name is lower filled h = nested-prints true letter p bytes count name (le-leb 97 letter lower) filled h
+nested-has forms.Plain letter p bytes count name is lower filled h = nested-prints false letter p bytes count name (le-leb 97 letter lower) filled h
+nested-has forms.Typed letter p bytes count name is lower filled h = absurd (false≢true is)
+nested-has forms.Unnamed letter p bytes count name is lower filled h = absurd (false≢true is)
+
+-- its name is read
+pub nest-named : (s : List ℕ) (old middle last : Direct) (letter place from : ℕ) (f : Forms) (count behind_ : ℕ) (name : List ℕ) (end : ℕ)
+    → Arrives s old (opens.Nest letter place) from f → is_path f ≡ true → 97 ≤ letter → IsDisambiguatorAt s old.at count behind_
+    → IsNameAt s behind_ name end → 1 ≤ length name → Writes old middle (codes "::") → Writes middle last name
+    → IsEnded s (record last { at = end }) place from f f
+nest-named s old middle last letter place from f count behind_ name end arrives is lower counted named filled first second =
+    let r = arrives.read in
+    let held = path-held f r.v r.bytes is r.holds in
+    let p = held.0 in
+    let made = tree.nested letter p (identifier count name) in
+    let waits = r.stands in
+    let goes = waits.1 p old.at arrives.state (subst (λ v. Comes s r.os v old.at arrives.state) held.1 r.comes) in
+    let one = identifier-comes s goes.inner old.at (within Production.Nested arrives.state) count behind_ name end counted named goes.awaits in
+    let told = path-says f made (r.bytes ++ codes "::" ++ name) is (nested-has f letter p r.bytes count name is lower filled held.2) in
+    record {
+      before = arrives.state;
+      notes = notes-written middle last name arrives.state second (notes-written old middle (codes "::") arrives.state first arrives.notes);
+      os = waits.0;
+      v = a_path made;
+      front = r.front;
+      bytes = r.bytes ++ codes "::" ++ name;
+      written = second.text ∙ ap (λ l. l ++ name) (first.text ∙ ap (λ l. l ++ codes "::") r.written ∙ append_assoc r.front r.bytes (codes "::"))
+          ∙ append_assoc r.front (r.bytes ++ codes "::") name;
+      from_is = r.from_is;
+      says = told.0;
+      holds = told.1;
+      comes = goes.onward one.0 (identifier count name) end (behind (within Production.Nested arrives.state)) one.1 one.2;
+      stands = stands-written s middle last name waits.0 r.front second (stands-written s old middle (codes "::") waits.0 r.front first waits.2);
+    }
+
+-- ## What is expected
+
+pub path-awaited : (s : List ℕ) (w : Direct) (is_value : Bool) → IsWriting s w (steps.Path is_value) → AwaitsPath s w
+path-awaited s w is_value p = (false, record { state = p.state; notes = p.notes; awaited = p.is_before })
+
+pub plain-awaited : (s : List ℕ) (w : Direct) (is_value : Bool) → IsWriting s w (steps.Path is_value) → Awaits s w false
+plain-awaited s w is_value p = record { state = p.state; notes = p.notes; awaited = p.is_before }
+
+pub type-awaited : (s : List ℕ) (w : Direct) → IsWriting s w steps.Type → Awaits s w true
+type-awaited s w p = record { state = p.state; notes = p.notes; awaited = p.is_before }
+
+pub type-path-awaited : (s : List ℕ) (w : Direct) → IsWriting s w steps.Type → AwaitsPath s w
+type-path-awaited s w p = (true, type-awaited s w p)

@@ -1,0 +1,191 @@
+-- Symbols from their beginning to their end, and their answers.
+use Rattle.std.proofs.Common.{◌≡◌, ℕ, ◌+◌, ◌-◌, ◌/◌, ◌≤◌, List, [], ◌∷◌, ◌++◌, length, take, drop, reverse, Bool, true, false, not, Ok, refl, ap, sym, subst, ◌∙◌, arith, append_assoc, append-nil, codes, nat_le, cond}
+use Rattle.std.specs.Prelude.{replicate}
+use Rattle.std.proofs.lemmas.Bool.{leb-true}
+use Rattle.std.proofs.lemmas.List.{length-append, length-drop, take_rest}
+use Rattle.sym_print.specs.declared.detail.Detail.TheVariants as details
+use Rattle.sym_print.specs.Unshared.{text_of}
+use Rattle.sym_print.proofs.Answering.{text_within-ok}
+use Rattle.sym_demangle.specs.Mangled.{shaped, answer_of_symbol}
+use Rattle.sym_direct.specs.Holes.{StandsAt}
+use Rattle.rust_tree.specs.Symbol as tree
+use Rattle.rust_tree.specs.Shown.{symbol_parts, path_parts}
+use Rattle.rust_v0.specs.declared.production.Production.{Production}
+use Rattle.rust_v0.specs.Mangled.{v0_mangled, IsAnswer}
+use Rattle.rust_v0.specs.Unfold.{at_first}
+use Rattle.rust_direct.specs.declared.open.Forms.{Forms}
+use Rattle.rust_direct.specs.declared.open.Open.TheVariants as opens
+use Rattle.rust_direct.specs.declared.open.Step.TheVariants as steps
+use Rattle.rust_direct.specs.declared.direct.Direct.{Direct}
+use Rattle.rust_direct.specs.Holes.{Comes, within, path, other_path, IsSuffix, EndsSymbol}
+use Rattle.rust_direct.specs.Prints.{PathPrints}
+use Rattle.rust_direct.specs.Says.{has_form, is_path}
+use Rattle.rust_direct.specs.Written.{Writes}
+use Rattle.rust_direct.specs.Stands.{Stands, IsWriting, IsWhole, parked_of}
+use Rattle.rust_direct.specs.Awaits.{Arrives, IsSymbolEnded}
+use Rattle.rust_direct.proofs.Kept.{notes-written, notes-turned, none-noted}
+use Rattle.rust_direct.proofs.MovesOfSymbols.{symbol-starts}
+use Rattle.rust_direct.proofs.PathsRead.{path-held, form-held, waits-too}
+
+-- ## Answers
+
+-- the text of a whole symbol that is short enough is its answer
+pub whole-answer : (s text : List ℕ) (limit len : ℕ) → IsWhole s text → len ≡ length text → nat_le len (limit / 4) ≡ true
+    → IsAnswer details.Full s limit (Ok text)
+whole-answer s text limit len whole is within_ =
+    let parts = symbol_parts details.Full whole.whole in
+    let short : len ≤ limit / 4 = leb-true len (limit / 4) within_ in
+    shaped whole.stands.0 whole.stands.1 whole.stands.2
+    (sym (text_within-ok limit parts text (sym whole.text_is) (omega (arith, whole.cost, short, is)))
+    ∙ ap (λ r. answer_of_symbol v0_mangled details.Full limit r) whole.stands.3)
+
+-- ## The beginning
+
+pub symbol-begun : (s : List ℕ) (w : Direct) (n : ℕ) → StandsAt s 0 (95 ∷ 82 ∷ []) → w.text.list.items ≡ [] → w.is_aside ≡ false
+    → w.notes.list.items ≡ [] → w.numbers.items ≡ replicate n 0 → w.waiting.list.items ≡ opens.Symbol ∷ [] → w.at ≡ 2
+    → IsWriting s w (steps.Path true)
+symbol-begun s w n starts text shown notes numbers waiting at =
+    let first = symbol-starts s starts in
+    record {
+      state = within Production.Symbol at_first;
+      notes = rw (notes, numbers) (none-noted w.is_aside w.text.list.items w.aside.list.items n []);
+      is_before = record {
+        wanted = path;
+        is_for = refl;
+        os = first.0;
+        awaits = rw at first.1;
+        stands = subst (λ ws. Stands s (reverse ws) first.0 w.text.list.items (parked_of w)) (sym waiting)
+            (text, ap (λ b. cond b w.aside.list.items []) shown, first.2);
+      };
+    }
+
+-- ## The paths of a symbol
+
+-- the path is read, and the symbol may end
+pub path-ended : (s : List ℕ) (w : Direct) (from : ℕ) (f : Forms) → Arrives s w opens.Symbol from f → has_form true f ≡ true → IsSymbolEnded s w
+path-ended s w from f arrives is =
+    let r = arrives.read in
+    let held = form-held true f r.v r.bytes is r.holds in
+    let waits = r.stands in
+    record {
+      state = arrives.state;
+      notes = arrives.notes;
+      p = held.0;
+      prints = subst (λ l. PathPrints true held.0 l) (sym (r.written ∙ ap (λ l. l ++ r.bytes) waits.0)) held.2;
+      ends = (waits.2 held.0 w.at arrives.state (subst (λ v. Comes s r.os v w.at arrives.state) held.1 r.comes)).none;
+    }
+
+-- the path of the crate that asked for it is expected
+pub other-begun : (s : List ℕ) (old new : Direct) (from : ℕ) (f : Forms) (is_value : Bool) → Arrives s old opens.Symbol from f → has_form true f ≡ true
+    → old.is_aside ≡ false → new.waiting.list.items ≡ old.waiting.list.items ++ opens.Other ∷ [] → new.text ≡ old.aside → new.aside ≡ old.text
+    → new.is_aside ≡ not old.is_aside → new.notes ≡ old.notes → new.numbers ≡ old.numbers → new.at ≡ old.at → IsWriting s new (steps.Path is_value)
+other-begun s old new from f is_value arrives is shown waiting text aside is_aside notes numbers at =
+    let r = arrives.read in
+    let held = form-held true f r.v r.bytes is r.holds in
+    let waits = r.stands in
+    let goes = waits.2 held.0 old.at arrives.state (subst (λ v. Comes s r.os v old.at arrives.state) held.1 r.comes) in
+    let parked : parked_of new ≡ old.text.list.items =
+    ap (λ b. cond b new.aside.list.items []) (is_aside ∙ ap not shown) ∙ ap (λ t. t.list.items) aside in
+    record {
+      state = within Production.Symbol arrives.state;
+      notes = rw (text, aside, is_aside, notes, numbers)
+          (notes-turned old.is_aside old.text.list.items old.aside.list.items old.notes.list.items old.numbers.items arrives.state.ended arrives.notes);
+      is_before = record {
+        wanted = other_path;
+        is_for = refl;
+        os = goes.inner;
+        awaits = rw at goes.awaits;
+        stands = waits-too s old.waiting.list.items new.waiting.list.items opens.Other goes.inner new.text.list.items (parked_of new) waiting (
+          held.0,
+          subst (λ l. PathPrints true held.0 l)
+              (sym (parked ∙ r.written ∙ ap (λ l. l ++ r.bytes) waits.0)) held.2,
+          goes.some,
+        );
+      };
+    }
+
+-- it is read, and the symbol may end
+pub other-read : (s : List ℕ) (old new : Direct) (from : ℕ) (f : Forms) → Arrives s old opens.Other from f → is_path f ≡ true
+    → old.is_aside ≡ true → new.text ≡ old.aside → new.aside ≡ old.text
+    → new.is_aside ≡ not old.is_aside → new.notes ≡ old.notes → new.numbers ≡ old.numbers → new.at ≡ old.at → IsSymbolEnded s new
+other-read s old new from f arrives is hidden text aside is_aside notes numbers at =
+    let r = arrives.read in
+    let held = path-held f r.v r.bytes is r.holds in
+    let waits = r.stands in
+    record {
+      state = arrives.state;
+      notes = rw (text, aside, is_aside, notes, numbers)
+          (notes-turned old.is_aside old.text.list.items old.aside.list.items old.notes.list.items old.numbers.items arrives.state.ended arrives.notes);
+      p = waits.0;
+      prints = subst (λ l. PathPrints true waits.0 l)
+          (ap (λ b. cond b old.aside.list.items []) hidden ∙ ap (λ t. t.list.items) (sym text)) waits.1;
+      ends = subst (λ k. EndsSymbol s waits.0 k) (sym at)
+          (waits.2 held.0 old.at arrives.state (subst (λ v. Comes s r.os v old.at arrives.state) held.1 r.comes));
+    }
+
+-- ## The end
+
+-- what a symbol has from a place on stands there, and ends with it
+rest-stands : (s suffix : List ℕ) (at : ℕ) → at ≤ length s → suffix ≡ take (length s - at) (drop at s)
+    → StandsAt s at suffix × (at + length suffix ≡ length s)
+rest-stands s suffix at inside is =
+    let same : suffix ≡ drop at s = is ∙ take_rest s at in
+    (([], sym same ∙ sym (append-nil suffix)), omega (arith, inside, ap length same, length-drop at s))
+
+-- the symbol is written where it has no suffix
+pub ends-plain : (s suffix : List ℕ) (w : Direct) → IsSymbolEnded s w → w.at ≤ length s → suffix ≡ take (length s - w.at) (drop w.at s)
+    → length suffix ≡ 0 → IsWriting s w steps.Ended
+unfolding symbol_parts
+ends-plain s suffix w p inside is none =
+    let whole = p.ends.ends (omega (arith, none, (rest-stands s suffix w.at inside is).1)) in
+    record {
+      state = p.state;
+      notes = p.notes;
+      is_before = record {
+        whole = record { path = p.p; instantiating = whole.0; suffix = [] };
+        stands = whole.1;
+        text_is = append-nil (text_of (path_parts details.Full 0 true p.p)) ∙ p.prints.shows.text_is;
+        cost = omega (arith, p.prints.shows.cost);
+      };
+    }
+
+suffixed-text : (x t : List ℕ) (d : ℕ) (bs : List ℕ) → x ≡ t → x ++ (codes " (" ++ ((d ∷ bs) ++ (codes ")" ++ []))) ≡ t ++ codes " (" ++ (d ∷ bs) ++ codes ")"
+suffixed-text x t d bs e =
+    ap (λ l. l ++ (codes " (" ++ ((d ∷ bs) ++ codes ")"))) e
+    ∙ sym (append_assoc (t ++ codes " (") (d ∷ bs) (codes ")") ∙ append_assoc t (codes " (") ((d ∷ bs) ++ codes ")"))
+
+whole-suffixed : (s text : List ℕ) (p : tree.Path) (at : ℕ) (suffix : List ℕ) → PathPrints true p text → EndsSymbol s p at → StandsAt s at suffix
+    → at + length suffix ≡ length s → IsSuffix suffix → IsWhole s (text ++ codes " (" ++ suffix ++ codes ")")
+unfolding symbol_parts
+whole-suffixed s text p at [] prints ends stands ended is = absurd is
+whole-suffixed s text p at (d ∷ rest) prints ends stands ended is =
+    let whole = ends.ends_in (d ∷ rest) stands ended is in
+    record {
+      whole = record { path = p; instantiating = whole.0; suffix = d ∷ rest };
+      stands = whole.1;
+      text_is = suffixed-text (text_of (path_parts details.Full 0 true p)) text d rest prints.shows.text_is;
+      cost = omega (
+        arith,
+        prints.shows.cost,
+        length-append (text ++ codes " (" ++ (d ∷ rest)) (codes ")"),
+        length-append (text ++ codes " (") (d ∷ rest),
+        length-append text (codes " ("),
+      );
+    }
+
+-- and where it has one
+pub ends-suffixed : (s suffix : List ℕ) (w first second last : Direct) → IsSymbolEnded s w → w.at ≤ length s
+    → suffix ≡ take (length s - w.at) (drop w.at s) → IsSuffix suffix
+    → Writes w first (codes " (") → Writes first second suffix → Writes second last (codes ")") → IsWriting s last steps.Ended
+ends-suffixed s suffix w first second last p inside is is_suffix one two three =
+    let there = rest-stands s suffix w.at inside is in
+    let text : last.text.list.items ≡ w.text.list.items ++ codes " (" ++ suffix ++ codes ")" =
+    three.text ∙ ap (λ l. l ++ codes ")") (two.text ∙ ap (λ l. l ++ suffix) one.text) in
+    record {
+      state = p.state;
+      notes = notes-written second last (codes ")") p.state three
+          (notes-written first second suffix p.state two
+          (notes-written w first (codes " (") p.state one p.notes));
+      is_before = subst (λ l. IsWhole s l) (sym text)
+          (whole-suffixed s w.text.list.items p.p w.at suffix p.prints p.ends there.0 there.1 is_suffix);
+    }

@@ -1,0 +1,5 @@
+use Rattle.rust_direct.proofs.ArgumentsRead.{argument-awaited}
+use Rattle.rust_direct.proofs.direct.Direct.next_argument.Goals as goal
+
+pub returns : goal.returns
+returns c = argument-awaited c.args._s.now c.args.self.now c.args._is_first c.requires

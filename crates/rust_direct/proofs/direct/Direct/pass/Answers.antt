@@ -1,0 +1,29 @@
+use Rattle.std.proofs.Common.{refl, ap, ◌∙◌, Some}
+use Rattle.rust_direct.specs.declared.open.Open.TheVariants as opens
+use Rattle.rust_direct.proofs.PathsRead.{taken-out}
+use Rattle.rust_direct.proofs.direct.Direct.pass.Goals as goal
+
+pub symbol_ended-requires-clause-arrives : goal.symbol_ended-requires-clause-arrives
+symbol_ended-requires-clause-arrives c =
+    taken-out c.args.s.now c.args.self.now _ opens.Symbol c.args.from c.args.forms c.pop.result c.requires.writing c.pop.ensures.items
+    (c.in_ok-pop.was ∙ ap Some c.in-Symbol.is) refl refl refl refl refl refl
+
+pub other_ended-requires-clause-arrives : goal.other_ended-requires-clause-arrives
+other_ended-requires-clause-arrives c =
+    taken-out c.args.s.now c.args.self.now _ opens.Other c.args.from c.args.forms c.pop.result c.requires.writing c.pop.ensures.items
+    (c.in_ok-pop.was ∙ ap Some c.in-Other.is) refl refl refl refl refl refl
+
+pub nest_ended-requires-clause-arrives : goal.nest_ended-requires-clause-arrives
+nest_ended-requires-clause-arrives c =
+    taken-out c.args.s.now c.args.self.now _ (opens.Nest c.in-Nest.letter c.in-Nest.place) c.args.from c.args.forms c.pop.result c.requires.writing c.pop.ensures.items
+    (c.in_ok-pop.was ∙ ap Some c.in-Nest.is) refl refl refl refl refl refl
+
+pub generic_ended-requires : goal.generic_ended-requires
+generic_ended-requires c =
+    taken-out c.args.s.now c.args.self.now _ (opens.Generic c.in-Generic.is_value c.in-Generic.place) c.args.from c.args.forms c.pop.result c.requires.writing c.pop.ensures.items
+    (c.in_ok-pop.was ∙ ap Some c.in-Generic.is) refl refl refl refl refl refl
+
+pub argument_ended-requires : goal.argument_ended-requires
+argument_ended-requires c =
+    taken-out c.args.s.now c.args.self.now _ (opens.Argument c.in-Argument.place c.in-Argument.begins c.in-Argument.is_value) c.args.from c.args.forms c.pop.result c.requires.writing c.pop.ensures.items
+    (c.in_ok-pop.was ∙ ap Some c.in-Argument.is) refl refl refl refl refl refl

@@ -1,0 +1,14 @@
+use Rattle.rust_direct.proofs.PathsRead.{type-awaited, type-path-awaited}
+use Rattle.rust_direct.proofs.direct.Direct.type_at.Goals as goal
+
+pub crate_root-requires-clause-awaits : goal.crate_root-requires-clause-awaits
+crate_root-requires-clause-awaits c = type-path-awaited c.args.s.now c.args.self.now c.requires.writing
+
+pub begin_nest-requires-clause-awaits : goal.begin_nest-requires-clause-awaits
+begin_nest-requires-clause-awaits c = type-path-awaited c.args.s.now c.args.self.now c.requires.writing
+
+pub begin_generic-requires-clause-awaits : goal.begin_generic-requires-clause-awaits
+begin_generic-requires-clause-awaits c = type-path-awaited c.args.s.now c.args.self.now c.requires.writing
+
+pub basic-requires-clause-awaits : goal.basic-requires-clause-awaits
+basic-requires-clause-awaits c = type-awaited c.args.s.now c.args.self.now c.requires.writing

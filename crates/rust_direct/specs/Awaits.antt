@@ -1,0 +1,66 @@
+-- What each step of a writer begins with.
+use Rattle.std.specs.Prelude.{◌≡◌, ℕ, List, [], ◌∷◌, ◌++◌, length, reverse, Bool, true, false}
+use Rattle.rust_v0.specs.Value.{Value, State}
+use Rattle.rust_tree.specs.Symbol as tree
+use Rattle.rust_direct.specs.declared.open.Forms.{Forms}
+use Rattle.rust_direct.specs.declared.open.Open.{Open}
+use Rattle.rust_direct.specs.declared.direct.Direct.{Direct}
+use Rattle.rust_direct.specs.Holes.{Opened, Comes, with_ended, EndsSymbol}
+use Rattle.rust_direct.specs.Prints.{PathPrints}
+use Rattle.rust_direct.specs.Says.{Says, Holds}
+use Rattle.rust_direct.specs.Stands.{Stands, IsAwaited, IsRead, IsListing, separator_of, AreNotesOf, parked_of}
+
+-- nothing is written yet
+pub record IsFresh (w : Direct) : Type 0 where
+  pub text : w.text.list.items ≡ []
+  pub aside : w.aside.list.items ≡ []
+  pub shown : w.is_aside ≡ false
+  pub notes : w.notes.list.items ≡ []
+  pub numbers : w.numbers.items ≡ []
+  pub waiting : w.waiting.list.items ≡ []
+
+-- a path, or a type, is expected
+pub record Awaits (s : List ℕ) (w : Direct) (for_type : Bool) : Type 0 where
+  pub state : State
+  pub notes : AreNotesOf w state
+  pub awaited : IsAwaited s w state for_type
+
+abbrev pub AwaitsPath : (s : List ℕ) → Direct → Type 0
+AwaitsPath s w = (for_type : Bool) × Awaits s w for_type
+
+-- A path or a type is read, and what waited for it is taken out.
+pub record Arrives (s : List ℕ) (w : Direct) (entry : Open) (from : ℕ) (forms : Forms) : Type 0 where
+  pub state : State
+  pub notes : AreNotesOf w state
+  pub read : IsRead s w state (entry ∷ reverse w.waiting.list.items) from forms
+
+-- What began at a place is read, which is to be noted.
+pub record IsEnded (s : List ℕ) (w : Direct) (place from : ℕ) (noted forms : Forms) : Type 0 where
+  pub before : State
+  pub notes : AreNotesOf w before
+  pub os : List Opened
+  pub v : Value
+  pub front : List ℕ
+  pub bytes : List ℕ
+  pub written : w.text.list.items ≡ front ++ bytes
+  pub from_is : from ≡ length front
+  pub says : Says noted v bytes
+  pub holds : Holds forms v bytes
+  pub comes : Comes s os v w.at (with_ended place v before)
+  pub stands : Stands s (reverse w.waiting.list.items) os front (parked_of w)
+
+-- the path of the symbol is read, and written
+pub record IsSymbolEnded (s : List ℕ) (w : Direct) : Type 0 where
+  pub state : State
+  pub notes : AreNotesOf w state
+  pub p : tree.Path
+  pub prints : PathPrints true p w.text.list.items
+  pub ends : EndsSymbol s p w.at
+
+-- an argument is expected, behind what separates it from the one before
+pub record AwaitsArgument (s : List ℕ) (w : Direct) (is_first : Bool) : Type 0 where
+  pub state : State
+  pub notes : AreNotesOf w state
+  pub before : List ℕ
+  pub written : w.text.list.items ≡ before ++ separator_of is_first
+  pub listing : IsListing s w before state is_first

@@ -1,0 +1,50 @@
+-- What is known of what was read, by the forms in which its text is right.
+use Rattle.std.specs.Prelude.{◌≡◌, ℕ, List, Bool, true, false, cond, Some}
+use Rattle.rust_tree.specs.Symbol.{Path, Ty}
+use Rattle.rust_v0.specs.Value.{Value, a_path}
+use Rattle.rust_v0.specs.Unfold.{as_path, as_type}
+use Rattle.rust_direct.specs.declared.open.Forms.{Forms}
+use Rattle.rust_direct.specs.declared.open.Forms.TheVariants as forms
+use Rattle.rust_direct.specs.Prints.{PathPrints, TypePrints}
+
+-- A path with this text in the forms that are named.
+abbrev pub PathHas : Forms → Path → (bytes : List ℕ) → Type 0
+PathHas forms.Alike p bytes = PathPrints true p bytes × PathPrints false p bytes
+PathHas forms.Valued p bytes = PathPrints true p bytes
+PathHas forms.Plain p bytes = PathPrints false p bytes
+PathHas _ p bytes = ⊥
+
+-- what a reference may name of a value that was written so
+abbrev pub Says : Forms → Value → (bytes : List ℕ) → Type 0
+Says forms.Typed v bytes = (t : Ty) × (as_type (Some v) ≡ Some t) × TypePrints t bytes
+Says forms.Unnamed v bytes = Unit {0}
+Says f v bytes = (p : Path) × (as_path (Some v) ≡ Some p) × PathHas f p bytes
+
+-- a path or a type that was read, with this text
+abbrev pub Holds : Forms → Value → (bytes : List ℕ) → Type 0
+Holds forms.Typed v bytes = (t : Ty) × (as_type (Some v) ≡ Some t) × TypePrints t bytes
+Holds forms.Unnamed v bytes = ⊥
+Holds f v bytes = (p : Path) × (v ≡ a_path p) × PathHas f p bytes
+
+-- the text is right in a form of a path: as it stands behind a value, or elsewhere
+abbrev pub has_form : (value : Bool) → Forms → Bool
+has_form value forms.Alike = true
+has_form true forms.Valued = true
+has_form false forms.Plain = true
+has_form value _ = false
+
+-- the text is that of a path
+abbrev pub is_path : Forms → Bool
+is_path forms.Typed = false
+is_path forms.Unnamed = false
+is_path _ = true
+
+-- the text is that of a type
+abbrev pub is_type : Forms → Bool
+is_type forms.Valued = false
+is_type forms.Unnamed = false
+is_type _ = true
+
+-- the form in which a path with arguments is written
+abbrev pub form_of : (value : Bool) → Forms
+form_of value = cond value forms.Valued forms.Plain

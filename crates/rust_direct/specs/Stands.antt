@@ -1,0 +1,188 @@
+-- What a writer's lists say while a symbol is read: what is open waits for what comes next, and what was written is its text.
+use Rattle.std.specs.Prelude.{◌≡◌, ℕ, ◌*◌, ◌≤◌, List, [], ◌∷◌, ◌++◌, length, reverse, Bool, true, false, Ok, codes, cond}
+use Rattle.sym_print.specs.declared.detail.Detail.TheVariants.{Full}
+use Rattle.sym_print.specs.Unshared.{text_of, cost_of}
+use Rattle.sym_demangle.specs.Mangled.{StandsFor}
+use Rattle.rust_tree.specs.Symbol as tree
+use Rattle.rust_tree.specs.Need.{need}
+use Rattle.rust_tree.specs.Shown.{symbol_parts, closing_tuple}
+use Rattle.rust_v0.specs.Mangled.{v0_mangled}
+use Rattle.rust_v0.specs.Value.{Value, State, a_path}
+use Rattle.rust_direct.specs.declared.open.Forms.{Forms}
+use Rattle.rust_direct.specs.declared.open.Forms.TheVariants as forms
+use Rattle.rust_direct.specs.declared.open.Closing.{Closing}
+use Rattle.rust_direct.specs.declared.open.Closing.TheVariants as closings
+use Rattle.rust_direct.specs.declared.open.Open.{Open}
+use Rattle.rust_direct.specs.declared.open.Open.TheVariants as opens
+use Rattle.rust_direct.specs.declared.open.Step.{Step}
+use Rattle.rust_direct.specs.declared.open.Step.TheVariants as steps
+use Rattle.rust_direct.specs.declared.direct.Direct.{Direct}
+use Rattle.rust_direct.specs.Holes.{Opened, Comes, Expects, Wanted, kind_of, is_for_type, IsType, TypePasses, PathPasses, OtherGoesOn, EndsSymbol, NameGoesOn, TypeGoesOn, PathGoesOn, ArgumentsGoOn, TypesGoOn, ImplementingGoesOn}
+use Rattle.rust_direct.specs.Prints.{PathPrints, TypePrints, opening, ArgumentsBegin, TypesBegin}
+use Rattle.rust_direct.specs.Says.{Holds}
+use Rattle.rust_direct.specs.Notes.{AreNotes}
+
+-- The symbol is one with this text.
+pub record IsWhole (s : List ℕ) (text : List ℕ) : Type 0 where
+  pub whole : tree.Symbol
+  pub stands : StandsFor v0_mangled s (Ok whole)
+  pub text_is : text_of (symbol_parts Full whole) ≡ text
+  pub cost : cost_of (symbol_parts Full whole) ≤ 4 * length text
+
+-- ## What is made of types and paths
+
+-- an impl prints its type in angles
+abbrev pub ImplPrints : (tree.Path → tree.Ty → tree.Path) → Type 0
+ImplPrints made =
+    (value : Bool) (q : tree.Path) (t : tree.Ty) (bytes : List ℕ) → need q ≡ 0 → TypePrints t bytes
+    → PathPrints value (made q t) (codes "<" ++ bytes ++ codes ">")
+
+-- a trait that is implemented prints its type and itself
+abbrev pub TraitPrints : (tree.Ty → tree.Path → tree.Path) → Type 0
+TraitPrints made =
+    (value : Bool) (t : tree.Ty) (r : tree.Path) (bytes own : List ℕ) → TypePrints t bytes → PathPrints false r own
+    → PathPrints value (made t r) ((codes "<" ++ bytes ++ codes " as ") ++ own ++ codes ">")
+
+-- what stands behind the type, and what is made of it then
+abbrev pub closing_text : Closing → List ℕ
+closing_text closings.Nothing = []
+closing_text closings.Bracket = codes "]"
+closing_text closings.Angle = codes ">"
+
+abbrev pub closing_forms : Closing → Forms
+closing_forms closings.Angle = forms.Alike
+closing_forms _ = forms.Typed
+
+abbrev pub WrapHolds : (mark : List ℕ) → Closing → (tree.Ty → Value) → Type 0
+WrapHolds mark closing made =
+    (t : tree.Ty) (bytes : List ℕ) → TypePrints t bytes → Holds (closing_forms closing) (made t) (mark ++ bytes ++ closing_text closing)
+
+-- what closes a tuple behind its first type, and behind another one
+abbrev pub tuple_end : (is_first : Bool) → List ℕ
+tuple_end is_first = cond is_first (codes ",)") (codes ")")
+
+pub record TypesCount (is_first : Bool) (made : tree.Tys → tree.Tys) : Type 0 where
+  pub last : (t : tree.Ty) → closing_tuple (made (tree.more_types t tree.no_types)) ≡ tuple_end is_first
+  pub more : (t u : tree.Ty) (rest : tree.Tys) → closing_tuple (made (tree.more_types t (tree.more_types u rest))) ≡ codes ")"
+
+-- ## What is open
+
+-- A path or a type comes for the last of the open ones, behind what is written. Where it is read and not shown, the text that is
+-- shown is the parked one.
+abbrev pub Stands : (s : List ℕ) → List Open → List Opened → (text parked : List ℕ) → Type 0
+Stands s [] os text parked = ⊥
+Stands s (opens.Symbol ∷ rest) os text parked =
+    (text ≡ []) × (parked ≡ []) × ((p : tree.Path) (at : ℕ) (st : State) → Comes s os (a_path p) at st → OtherGoesOn s p at st)
+Stands s (opens.Other ∷ rest) os text parked =
+    (p : tree.Path) × PathPrints true p parked × ((q : tree.Path) (at : ℕ) (st : State) → Comes s os (a_path q) at st → EndsSymbol s p at)
+Stands s (opens.Nest letter place ∷ rest) os text parked =
+    (outer : List Opened)
+    × ((p : tree.Path) (at : ℕ) (st : State) → Comes s os (a_path p) at st → NameGoesOn s outer letter place p at st)
+    × Stands s rest outer text parked
+Stands s (opens.Generic is_value place ∷ rest) os text parked =
+    (outer : List Opened)
+    × ((p : tree.Path) (at : ℕ) (st : State) → Comes s os (a_path p) at st → ArgumentsGoOn s outer place p (λ a. a) at st)
+    × Stands s rest outer text parked
+Stands s (opens.Argument place from is_value ∷ rest) os text parked =
+    (outer : List Opened) × (front : List ℕ) × (p : tree.Path) × (own : List ℕ) × (made : tree.Arguments → tree.Arguments) × (bytes : List ℕ)
+    × (separator : List ℕ) × (from ≡ length front) × PathPrints is_value p own × ArgumentsBegin made separator bytes
+    × (text ≡ front ++ (own ++ opening is_value ++ bytes ++ separator))
+    × ((v : Value) (t : tree.Ty) (at : ℕ) (st : State) → IsType v t → Comes s os v at st
+    → ArgumentsGoOn s outer place p (λ r. made (tree.type_argument t r)) at st)
+    × Stands s rest outer front parked
+Stands s (opens.Impl place ∷ rest) os text parked =
+    (outer : List Opened) × (made : tree.Path → tree.Ty → tree.Path) × ImplPrints made
+    × ((q : tree.Path) (at : ℕ) (st : State) → Comes s os (a_path q) at st → TypeGoesOn s outer place (λ t. a_path (made q t)) at st)
+    × Stands s rest outer parked []
+Stands s (opens.TraitImpl place ∷ rest) os text parked =
+    (outer : List Opened) × (made : tree.Path → tree.Ty → tree.Path → tree.Path) × ((q : tree.Path) → need q ≡ 0 → TraitPrints (made q))
+    × ((q : tree.Path) (at : ℕ) (st : State) → Comes s os (a_path q) at st → ImplementingGoesOn s outer place (λ t r. a_path (made q t r)) at st)
+    × Stands s rest outer parked []
+Stands s (opens.Wrap place from closing ∷ rest) os text parked =
+    (outer : List Opened) × (front : List ℕ) × (mark : List ℕ) × (made : tree.Ty → Value) × (from ≡ length front) × (text ≡ front ++ mark)
+    × WrapHolds mark closing made × TypePasses s os outer place made × Stands s rest outer front parked
+Stands s (opens.Implementing place from ∷ rest) os text parked =
+    (outer : List Opened) × (front : List ℕ) × (made : tree.Ty → tree.Path → tree.Path) × (from ≡ length front) × (text ≡ front ++ codes "<")
+    × TraitPrints made
+    × ((v : Value) (t : tree.Ty) (at : ℕ) (st : State) → IsType v t → Comes s os v at st
+    → PathGoesOn s outer place (λ r. a_path (made t r)) at st)
+    × Stands s rest outer front parked
+Stands s (opens.Implemented place from ∷ rest) os text parked =
+    (outer : List Opened) × (front : List ℕ) × (mark : List ℕ) × (made : tree.Path → tree.Path) × (from ≡ length front) × (text ≡ front ++ mark)
+    × ((value : Bool) (r : tree.Path) (c : List ℕ) → PathPrints false r c → PathPrints value (made r) (mark ++ c ++ codes ">"))
+    × PathPasses s os outer place (λ r. a_path (made r)) × Stands s rest outer front parked
+Stands s (opens.Tuple place from is_first ∷ rest) os text parked =
+    (outer : List Opened) × (front : List ℕ) × (made : tree.Tys → tree.Tys) × (bytes : List ℕ) × (separator : List ℕ)
+    × (from ≡ length front) × TypesBegin made separator bytes × TypesCount is_first made
+    × (text ≡ front ++ (codes "(" ++ bytes ++ separator))
+    × ((v : Value) (t : tree.Ty) (at : ℕ) (st : State) → IsType v t → Comes s os v at st
+    → TypesGoOn s outer place (λ r. made (tree.more_types t r)) at st)
+    × Stands s rest outer front parked
+Stands s (opens.Array place from ∷ rest) os text parked = ⊥
+
+-- the text that is shown, while what isn't shown is written
+abbrev pub parked_of : Direct → List ℕ
+parked_of w = cond w.is_aside w.aside.list.items []
+
+-- ## What comes next
+
+-- a path or a type is expected
+pub record IsAwaited (s : List ℕ) (w : Direct) (state : State) (for_type : Bool) : Type 0 where
+  pub wanted : Wanted
+  pub is_for : is_for_type wanted ≡ for_type
+  pub os : List Opened
+  pub awaits : Expects s (kind_of wanted) os w.at state
+  pub stands : Stands s (reverse w.waiting.list.items) os w.text.list.items (parked_of w)
+
+-- a path or a type was read, which stands from a place on
+pub record IsRead (s : List ℕ) (w : Direct) (state : State) (waiting : List Open) (from : ℕ) (forms : Forms) : Type 0 where
+  pub os : List Opened
+  pub v : Value
+  pub front : List ℕ
+  pub bytes : List ℕ
+  pub written : w.text.list.items ≡ front ++ bytes
+  pub from_is : from ≡ length front
+  pub holds : Holds forms v bytes
+  pub comes : Comes s os v w.at state
+  pub stands : Stands s waiting os front (parked_of w)
+
+-- arguments go on: what stands between them and the next one
+abbrev pub separator_of : (is_first : Bool) → List ℕ
+separator_of is_first = cond is_first [] (codes ", ")
+
+pub record IsListing (s : List ℕ) (w : Direct) (text : List ℕ) (state : State) (is_first : Bool) : Type 0 where
+  pub place : ℕ
+  pub from : ℕ
+  pub is_value : Bool
+  pub rest : List Open
+  pub open_is : reverse w.waiting.list.items ≡ opens.Argument place from is_value ∷ rest
+  pub outer : List Opened
+  pub front : List ℕ
+  pub p : tree.Path
+  pub own : List ℕ
+  pub made : tree.Arguments → tree.Arguments
+  pub bytes : List ℕ
+  pub from_is : from ≡ length front
+  pub prints : PathPrints is_value p own
+  pub begin : ArgumentsBegin made (separator_of is_first) bytes
+  pub written : text ≡ front ++ (own ++ opening is_value ++ bytes)
+  pub goes : ArgumentsGoOn s outer place p made w.at state
+  pub stands : Stands s rest outer front (parked_of w)
+
+-- where a writer is, before it takes a step
+abbrev pub IsBefore : (s : List ℕ) → Direct → State → Step → Type 0
+IsBefore s w st (steps.Path is_value) = IsAwaited s w st false
+IsBefore s w st steps.Type = IsAwaited s w st true
+IsBefore s w st (steps.Value from forms) = IsRead s w st (reverse w.waiting.list.items) from forms
+IsBefore s w st (steps.Arguments is_first) = IsListing s w w.text.list.items st is_first
+IsBefore s w st steps.Ended = IsWhole s w.text.list.items
+
+-- the notes of a writer
+abbrev pub AreNotesOf : Direct → State → Type 0
+AreNotesOf w st = AreNotes w.is_aside w.text.list.items w.aside.list.items w.notes.list.items w.numbers.items st.ended
+
+-- a writer that has come so far, and what comes next
+pub record IsWriting (s : List ℕ) (w : Direct) (step : Step) : Type 0 where
+  pub state : State
+  pub notes : AreNotesOf w state
+  pub is_before : IsBefore s w state step

@@ -1,0 +1,126 @@
+// Arguments of paths.
+
+ghost use Rattle.std.specs.Prelude.{◌≡◌, ◌∷◌, []};
+ghost use Rattle.std.specs.Option.{IfSome};
+ghost use Rattle.sym_direct.specs.Holes.{StandsAt};
+ghost use Rattle.rust_direct.specs.declared.open.Step.TheVariants as steps;
+ghost use Rattle.rust_direct.specs.declared.open.Open.TheVariants as opens;
+ghost use Rattle.rust_direct.specs.Prints.{opening};
+ghost use Rattle.rust_direct.specs.Stands.{IsWriting};
+ghost use Rattle.rust_direct.specs.Awaits.{AwaitsArgument, Arrives};
+
+use crate::direct::Direct;
+use crate::open::{Forms, Open, Step, form_of, has_form, is_type};
+use sym_direct::byte_at;
+
+/// What stands before arguments.
+#[inline(always)]
+fn opening(is_value: bool) -> &'static [u8]
+    ensures { result.now ≡ opening is_value }
+{
+    if is_value { b"::<" } else { b"<" }
+}
+
+impl Direct {
+    /// The path is read that arguments belong to.
+    // <path> = "I" <path> {<generic-arg>} "E"
+    pub(crate) fn generic_ended(
+        &mut self,
+        _s: &[u8],
+        from: usize,
+        forms: Forms,
+        is_value: bool,
+        place: usize,
+    ) -> Option<Step>
+        requires { Arrives _s.now self.old (opens.Generic is_value place) from forms }
+        ensures { IfSome result (IsWriting _s.now self.new) }
+    {
+        if !has_form(is_value, forms) {
+            return None;
+        }
+        self.push(opening(is_value))?;
+        self.waiting.push(Open::Argument {
+            place,
+            from,
+            is_value,
+        })?;
+        Some(Step::Arguments { is_first: true })
+    }
+
+    /// Reads an argument, or the end of arguments.
+    // <path> = "I" <path> {<generic-arg>} "E"
+    pub(crate) fn argument_at(&mut self, s: &[u8], is_first: bool) -> Option<Step>
+        requires writing { IsWriting s.now self.old (steps.Arguments is_first) }
+        ensures { IfSome result (IsWriting s.now self.new) }
+    {
+        let byte = byte_at(s, self.at);
+        if byte == b'E' {
+            return self.arguments_ended(s, is_first);
+        }
+        if is_first {
+            return self.next_argument(s, byte, true);
+        }
+        self.push_pair(b',', b' ')?;
+        self.next_argument(s, byte, false)
+    }
+
+    /// Reads an argument, up to the first type that stands in it.
+    // <generic-arg> = <lifetime> | <type> | "K" <const>
+    #[inline(always)]
+    fn next_argument(&mut self, _s: &[u8], byte: u8, _is_first: bool) -> Option<Step>
+        requires { AwaitsArgument _s.now self.old _is_first }
+        ensures { IfSome result (IsWriting _s.now self.new) }
+    {
+        if byte == b'L' || byte == b'K' {
+            return None;
+        }
+        Some(Step::Type)
+    }
+
+    /// The E of arguments.
+    // <path> = "I" <path> {<generic-arg>} "E"
+    fn arguments_ended(&mut self, s: &[u8], _is_first: bool) -> Option<Step>
+        requires letter { StandsAt s.now self.old.at (69 ∷ []) }
+        requires writing { IsWriting s.now self.old (steps.Arguments _is_first) }
+        ensures { IfSome result (IsWriting s.now self.new) }
+    {
+        match self.waiting.pop()? {
+            Open::Argument {
+                place,
+                from,
+                is_value,
+            } => {
+                self.at = self.at.checked_add(1)?;
+                self.push_byte(b'>')?;
+                let forms = form_of(is_value);
+                self.ended(s, place, from, forms, forms)
+            }
+            _ => None,
+        }
+    }
+
+    /// A type is read that is an argument.
+    // <generic-arg> = <type>
+    pub(crate) fn argument_ended(
+        &mut self,
+        _s: &[u8],
+        _here: usize,
+        forms: Forms,
+        place: usize,
+        from: usize,
+        is_value: bool,
+    ) -> Option<Step>
+        requires { Arrives _s.now self.old (opens.Argument place from is_value) _here forms }
+        ensures { IfSome result (IsWriting _s.now self.new) }
+    {
+        if !is_type(forms) {
+            return None;
+        }
+        self.waiting.push(Open::Argument {
+            place,
+            from,
+            is_value,
+        })?;
+        Some(Step::Arguments { is_first: false })
+    }
+}

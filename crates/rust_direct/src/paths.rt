@@ -1,0 +1,136 @@
+// Paths.
+
+ghost use Rattle.std.specs.Prelude.{◌∷◌, [], false};
+ghost use Rattle.std.specs.Option.{IfSome};
+ghost use Rattle.sym_core.specs.Number.{FitsSymbol};
+ghost use Rattle.sym_direct.specs.Holes.{StandsAt};
+ghost use Rattle.rust_direct.specs.declared.open.Step.TheVariants as steps;
+ghost use Rattle.rust_direct.specs.declared.open.Open.TheVariants as opens;
+ghost use Rattle.rust_direct.specs.Stands.{IsWriting};
+ghost use Rattle.rust_direct.specs.Awaits.{Awaits, AwaitsPath, Arrives};
+
+use crate::direct::Direct;
+use crate::open::{Forms, Open, Step, is_path};
+use crate::tokens::{disambiguator_at, name_at, number_at};
+use sym_direct::byte_at;
+
+impl Direct {
+    /// Reads a path, up to the first that stands in it.
+    // <path> = "C" <identifier> | "N" <namespace> <path> <identifier> | "I" <path> {<generic-arg>} "E" | <backref> | ..
+    pub(crate) fn path_at(&mut self, s: &[u8], is_value: bool) -> Option<Step>
+        requires fits { FitsSymbol s.now }
+        requires writing { IsWriting s.now self.old (steps.Path is_value) }
+        ensures { IfSome result (IsWriting s.now self.new) }
+    {
+        match byte_at(s, self.at) {
+            b'C' => self.crate_root(s),
+            b'N' => self.begin_nest(s, is_value),
+            b'B' => self.path_again(s),
+            b'I' => self.begin_generic(s, is_value),
+            _ => None,
+        }
+    }
+
+    // <path> = "C" <identifier>
+    pub(crate) fn crate_root(&mut self, s: &[u8]) -> Option<Step>
+        requires fits { FitsSymbol s.now }
+        requires letter { StandsAt s.now self.old.at (67 ∷ []) }
+        requires awaits { AwaitsPath s.now self.old }
+        ensures { IfSome result (IsWriting s.now self.new) }
+    {
+        let place = self.at;
+        let from = self.text.len();
+        let (_count, behind) = disambiguator_at(s, place.checked_add(1)?)?;
+        let name = name_at(s, behind)?;
+        if name.from >= name.to {
+            return None;
+        }
+        self.push(&s[name.from..name.to])?;
+        self.at = name.end;
+        self.ended(s, place, from, Forms::Alike, Forms::Alike)
+    }
+
+    // <path> = "N" <namespace> <path> <identifier>
+    pub(crate) fn begin_nest(&mut self, s: &[u8], is_value: bool) -> Option<Step>
+        requires fits { FitsSymbol s.now }
+        requires letter { StandsAt s.now self.old.at (78 ∷ []) }
+        requires awaits { AwaitsPath s.now self.old }
+        ensures { IfSome result (IsWriting s.now self.new) }
+    {
+        let place = self.at;
+        let behind = place.checked_add(1)?;
+        let letter = byte_at(s, behind);
+        if letter < b'a' {
+            return None;
+        }
+        if letter > b'z' {
+            return None;
+        }
+        self.at = behind.checked_add(1)?;
+        self.waiting.push(Open::Nest { letter, place })?;
+        Some(Step::Path { is_value })
+    }
+
+    /// The parent of a path in a namespace is read: its name follows.
+    // <path> = "N" <namespace> <path> <identifier>
+    pub(crate) fn nest_ended(
+        &mut self,
+        s: &[u8],
+        from: usize,
+        forms: Forms,
+        letter: u8,
+        place: usize,
+    ) -> Option<Step>
+        requires fits { FitsSymbol s.now }
+        requires arrives { Arrives s.now self.old (opens.Nest letter place) from forms }
+        ensures { IfSome result (IsWriting s.now self.new) }
+    {
+        if !is_path(forms) {
+            return None;
+        }
+        if letter < b'a' {
+            return None;
+        }
+        let (_count, behind) = disambiguator_at(s, self.at)?;
+        let name = name_at(s, behind)?;
+        if name.from >= name.to {
+            return None;
+        }
+        self.push_pair(b':', b':')?;
+        self.push(&s[name.from..name.to])?;
+        self.at = name.end;
+        self.ended(s, place, from, forms, forms)
+    }
+
+    // <path> = <backref>
+    fn path_again(&mut self, s: &[u8]) -> Option<Step>
+        requires fits { FitsSymbol s.now }
+        requires letter { StandsAt s.now self.old.at (66 ∷ []) }
+        requires awaits { Awaits s.now self.old false }
+        ensures { IfSome result (IsWriting s.now self.new) }
+    {
+        let place = self.at;
+        let from = self.text.len();
+        let (number, end) = number_at(s, place.checked_add(1)?)?;
+        let note = self.noted((number as usize).checked_add(2)?)?;
+        if !is_path(note.forms) {
+            return None;
+        }
+        self.repeat(note)?;
+        self.at = end;
+        self.ended(s, place, from, note.forms, note.forms)
+    }
+
+    // <path> = "I" <path> {<generic-arg>} "E"
+    pub(crate) fn begin_generic(&mut self, s: &[u8], is_value: bool) -> Option<Step>
+        requires fits { FitsSymbol s.now }
+        requires letter { StandsAt s.now self.old.at (73 ∷ []) }
+        requires awaits { AwaitsPath s.now self.old }
+        ensures { IfSome result (IsWriting s.now self.new) }
+    {
+        let place = self.at;
+        self.at = place.checked_add(1)?;
+        self.waiting.push(Open::Generic { is_value, place })?;
+        Some(Step::Path { is_value })
+    }
+}

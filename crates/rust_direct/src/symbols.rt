@@ -1,0 +1,265 @@
+// A symbol from its first byte to its last.
+
+ghost use Rattle.std.specs.Prelude.{◌≡◌, ◌≤◌, ◌+◌, ◌*◌, [], length, replicate, not, true, false, Ok};
+ghost use Rattle.std.specs.Option.{IfSome, OnSome};
+ghost use Rattle.sym_core.specs.Number.{FitsSymbol};
+ghost use Rattle.sym_print.specs.declared.detail.Detail.TheVariants as details;
+ghost use Rattle.rust_v0.specs.Mangled.{IsAnswer};
+ghost use Rattle.rust_direct.specs.declared.open.Open.TheVariants as opens;
+ghost use Rattle.rust_direct.specs.Stands.{IsWriting};
+ghost use Rattle.rust_direct.specs.Awaits.{IsFresh, Arrives, IsSymbolEnded};
+
+use crate::direct::Direct;
+use crate::open::{Forms, Open, Step, has_form, is_path};
+use crate::tokens::is_suffix;
+use std::alloc::Global;
+use std::mem;
+use sym_direct::{Bounded, byte_at};
+
+/// The longest symbol that is written so, in bytes: the lists stay small, and real symbols are shorter.
+const LONGEST: usize = 4_096;
+
+/// The most bytes of text that are written for each byte of a symbol, and those that are written anyway.
+const BYTES_A_BYTE: usize = 8;
+
+const BYTES_ANYWAY: usize = 1_024;
+
+/// The most steps that are taken for each byte of a symbol: each reads a byte, or ends what was read.
+const ROUNDS_A_BYTE: usize = 8;
+
+impl Direct {
+    /// Lists that have no memory yet.
+    pub fn new(alloc: Global) -> Direct {
+        Direct {
+            text: Bounded::new(alloc),
+            aside: Bounded::new(alloc),
+            is_aside: false,
+            notes: Bounded::new(alloc),
+            numbers: Vec::new(alloc),
+            waiting: Bounded::new(alloc),
+            at: 0,
+            rounds: 0,
+        }
+    }
+
+    /// The text that was written last.
+    pub fn text(&self) -> &[u8]
+        ensures { result.now ≡ self.now.text.list.items }
+    {
+        self.text.as_slice()
+    }
+
+    /// Writes the text of a symbol in full, if the symbol is one that can be read so and the text costs at most a limit, and
+    /// answers whether it did. Where it didn't, nothing is known of the symbol.
+    ///
+    /// Whatever is answered, at most eight bytes for each of the symbol's and a kilobyte are written, and as many of what is not
+    /// shown, at most eight steps for each byte are taken, and no list has more entries than the symbol has bytes. The lists only
+    /// grow in a call.
+    pub fn write(&mut self, s: &[u8], limit: u32) -> bool
+        requires { FitsSymbol s.now }
+        ensures answer { result ≡ true → IsAnswer details.Full s.now limit (Ok self.new.text.list.items) }
+        ensures bytes { length self.new.text.list.items ≤ 8 * length s.now + 1024 }
+        ensures aside { length self.new.aside.list.items ≤ 8 * length s.now + 1024 }
+        ensures notes { length self.new.notes.list.items ≤ length s.now }
+        ensures numbers { length self.new.numbers.items ≤ length s.now }
+        ensures waiting { length self.new.waiting.list.items ≤ length s.now }
+        ensures rounds { self.new.rounds ≤ 8 * length s.now }
+    {
+        let size = s.len();
+        let bytes = BYTES_A_BYTE * size + BYTES_ANYWAY;
+        self.begin_lists(bytes.min(limit as usize / 4), bytes, size);
+        let mut rounds = 0;
+        let is_written = self.run(s, limit, &mut rounds);
+        self.rounds = rounds;
+        // always: no step gives a list other room than it began with, which no clause of theirs says
+        if self.keeps_to(bytes, size) {
+            return is_written;
+        }
+        self.begin_lists(0, 0, 0);
+        false
+    }
+
+    /// Whether the lists have at most so many bytes and entries.
+    fn keeps_to(&self, bytes: usize, entries: usize) -> bool
+        ensures bytes { result ≡ true → length self.now.text.list.items ≤ bytes }
+        ensures aside { result ≡ true → length self.now.aside.list.items ≤ bytes }
+        ensures notes { result ≡ true → length self.now.notes.list.items ≤ entries }
+        ensures numbers { result ≡ true → length self.now.numbers.items ≤ entries }
+        ensures waiting { result ≡ true → length self.now.waiting.list.items ≤ entries }
+    {
+        if self.text.len() > bytes {
+            return false;
+        }
+        if self.aside.len() > bytes {
+            return false;
+        }
+        if self.notes.len() > entries {
+            return false;
+        }
+        if self.numbers.len() > entries {
+            return false;
+        }
+        self.waiting.len() <= entries
+    }
+
+    /// Empties the lists, and gives them room for so many bytes and entries.
+    fn begin_lists(&mut self, shown: usize, bytes: usize, entries: usize)
+        ensures text { self.new.text.list.items ≡ [] }
+        ensures aside { self.new.aside.list.items ≡ [] }
+        ensures shown { self.new.is_aside ≡ false }
+        ensures notes { self.new.notes.list.items ≡ [] }
+        ensures numbers { self.new.numbers.items ≡ [] }
+        ensures waiting { self.new.waiting.list.items ≡ [] }
+        ensures rounds { self.new.rounds ≡ self.old.rounds }
+    {
+        self.text.begin(shown);
+        self.aside.begin(bytes);
+        self.is_aside = false;
+        self.notes.begin(entries);
+        self.numbers.clear();
+        self.waiting.begin(entries);
+    }
+
+    /// Takes steps up to the end of a symbol, and counts them.
+    fn run(&mut self, s: &[u8], limit: u32, rounds: &mut usize) -> bool
+        requires fits { FitsSymbol s.now }
+        requires fresh { IsFresh self.old }
+        requires none { rounds.old ≡ 0 }
+        ensures answer { result ≡ true → IsAnswer details.Full s.now limit (Ok self.new.text.list.items) }
+        ensures rounds { rounds.new ≤ 8 * length s.now }
+    {
+        let Some(first) = self.begin(s) else {
+            return false;
+        };
+        let mut step = first;
+        let most = ROUNDS_A_BYTE * s.len();
+        'steps: while *rounds < most {
+            *rounds += 1;
+            if let Step::Ended = step {
+                return self.text.len() <= limit as usize / 4;
+            }
+            match self.take(s, step) {
+                Some(next) => step = next,
+                None => return false,
+            }
+        }
+        false
+    }
+
+    /// Takes a step.
+    #[inline(always)]
+    fn take(&mut self, s: &[u8], step: Step) -> Option<Step>
+        requires fits { FitsSymbol s.now }
+        requires writing { IsWriting s.now self.old step }
+        ensures { IfSome result (IsWriting s.now self.new) }
+    {
+        match step {
+            Step::Path { is_value } => self.path_at(s, is_value),
+            Step::Type => self.type_at(s),
+            Step::Value { from, forms } => self.pass(s, from, forms),
+            Step::Arguments { is_first } => self.argument_at(s, is_first),
+            Step::Ended => None,
+        }
+    }
+
+    /// The first bytes of a symbol.
+    // <symbol-name> = "_R" <path> [<instantiating-crate>] [<vendor-specific-suffix>]
+    fn begin(&mut self, s: &[u8]) -> Option<Step>
+        requires fits { FitsSymbol s.now }
+        requires fresh { IsFresh self.old }
+        ensures { IfSome result (IsWriting s.now self.new) }
+    {
+        if s.len() > LONGEST || byte_at(s, 0) != b'_' || byte_at(s, 1) != b'R' {
+            return None;
+        }
+        self.clear_numbers(s.len())?;
+        self.waiting.push(Open::Symbol)?;
+        self.at = 2;
+        Some(Step::Path { is_value: true })
+    }
+
+    /// Makes a number for each byte of a symbol: nothing is noted yet.
+    fn clear_numbers(&mut self, size: usize) -> Option<()>
+        requires none { self.old.numbers.items ≡ [] }
+        ensures numbers { OnSome result (self.new.numbers.items ≡ replicate size 0) }
+        ensures text { self.new.text ≡ self.old.text }
+        ensures aside { self.new.aside ≡ self.old.aside }
+        ensures is_aside { self.new.is_aside ≡ self.old.is_aside }
+        ensures notes { self.new.notes ≡ self.old.notes }
+        ensures waiting { self.new.waiting ≡ self.old.waiting }
+    {
+        self.numbers.resize(size, 0).ok()
+    }
+
+    /// The path of a symbol is read: that of the crate that asked for it follows, or the end.
+    // <symbol-name> = "_R" <path> [<instantiating-crate>] [<vendor-specific-suffix>]
+    pub(crate) fn symbol_ended(&mut self, s: &[u8], _from: usize, forms: Forms) -> Option<Step>
+        requires fits { FitsSymbol s.now }
+        requires arrives { Arrives s.now self.old opens.Symbol _from forms }
+        ensures { IfSome result (IsWriting s.now self.new) }
+    {
+        if !has_form(true, forms) {
+            return None;
+        }
+        if self.is_aside {
+            return None;
+        }
+        if !byte_at(s, self.at).is_ascii_uppercase() {
+            return self.finish(s);
+        }
+        self.waiting.push(Open::Other)?;
+        self.turn();
+        Some(Step::Path { is_value: false })
+    }
+
+    /// The path of the crate that asked for a symbol is read.
+    // <symbol-name> = "_R" <path> [<instantiating-crate>] [<vendor-specific-suffix>]
+    pub(crate) fn other_ended(&mut self, s: &[u8], _from: usize, forms: Forms) -> Option<Step>
+        requires fits { FitsSymbol s.now }
+        requires arrives { Arrives s.now self.old opens.Other _from forms }
+        ensures { IfSome result (IsWriting s.now self.new) }
+    {
+        if !is_path(forms) {
+            return None;
+        }
+        if !self.is_aside {
+            return None;
+        }
+        self.turn();
+        self.finish(s)
+    }
+
+    /// The end of a symbol, behind the text of its path.
+    // <vendor-specific-suffix> = ("." | "$") <suffix>
+    fn finish(&mut self, s: &[u8]) -> Option<Step>
+        requires { IsSymbolEnded s.now self.old }
+        ensures { IfSome result (IsWriting s.now self.new) }
+    {
+        let suffix = s.get(self.at..)?;
+        if suffix.is_empty() {
+            return Some(Step::Ended);
+        }
+        if !is_suffix(suffix) {
+            return None;
+        }
+        self.push(b" (")?;
+        self.push(suffix)?;
+        self.push(b")")?;
+        Some(Step::Ended)
+    }
+
+    /// Writes to the other of the two texts from here on.
+    pub(crate) fn turn(&mut self)
+        ensures text { self.new.text ≡ self.old.aside }
+        ensures aside { self.new.aside ≡ self.old.text }
+        ensures is_aside { self.new.is_aside ≡ not self.old.is_aside }
+        ensures notes { self.new.notes ≡ self.old.notes }
+        ensures numbers { self.new.numbers ≡ self.old.numbers }
+        ensures waiting { self.new.waiting ≡ self.old.waiting }
+        ensures at { self.new.at ≡ self.old.at }
+        ensures rounds { self.new.rounds ≡ self.old.rounds }
+    {
+        mem::swap(&mut self.text, &mut self.aside);
+        self.is_aside = !self.is_aside;
+    }
+}

@@ -1,0 +1,85 @@
+// The bytes of a symbol.
+
+ghost use Rattle.std.specs.Prelude.{◌≡◌, ◌≢◌, ◌≤◌, ◌∷◌, ◌++◌, [], ℕ, List, ◌-◌, length, take, drop, true};
+ghost use Rattle.std.specs.List.{AllByRecursion};
+ghost use Rattle.std.specs.Option.{IfSome};
+ghost use Rattle.sym_core.specs.Number.{FitsSymbol};
+ghost use Rattle.rust_direct.specs.Holes.{IsNameAt, IsNumberAt, IsDisambiguatorAt, IsSuffix, is_suffix_byte};
+
+use sym_core::{NameClass, NumberKind, TokenPlace, find_name, find_number, value62};
+use sym_direct::byte_at;
+
+/// Whether a byte may stand in a suffix.
+#[tactic(auto, unfolding(crate::specs::Holes::is_suffix_byte))]
+fn is_suffix_byte(byte: u8) -> bool
+    ensures { result ≡ is_suffix_byte byte }
+{
+    match byte {
+        b'$' | b'.' => true,
+        b'0'..=b'9' => true,
+        b'A'..=b'Z' => true,
+        b'_' => true,
+        b'a'..=b'z' => true,
+        _ => false,
+    }
+}
+
+/// Whether each byte may stand in a suffix.
+fn are_suffix_bytes(bytes: &[u8]) -> bool
+    ensures { result ≡ true → AllByRecursion (λ b. is_suffix_byte b ≡ true) bytes.now }
+{
+    bytes.iter().all(|byte| is_suffix_byte(*byte))
+}
+
+/// Whether it is a point and at least one byte of a suffix.
+pub fn is_suffix(bytes: &[u8]) -> bool
+    ensures { result ≡ true → IsSuffix bytes.now }
+{
+    if byte_at(bytes, 0) != b'.' || bytes.len() < 2 {
+        return false;
+    }
+    are_suffix_bytes(&bytes[1..])
+}
+
+/// The name at a place.
+// <undisambiguated-identifier> = <decimal-number> ["_"] <bytes>
+#[inline(always)]
+pub fn name_at(s: &[u8], at: usize) -> Option<TokenPlace>
+    requires { FitsSymbol s.now }
+    ensures { IfSome result (λ place. (place.from ≤ place.to) × (place.to ≤ length s.now)
+        × IsNameAt s.now at (take (place.to - place.from) (drop place.from s.now)) place.end) }
+{
+    if at > s.len() {
+        return None;
+    }
+    find_name(s, at, NameClass::Rust).ok()
+}
+
+/// The number in base 62 at a place, and the place behind it.
+// <base-62-number> = {<0-9a-zA-Z>} "_"
+#[inline(always)]
+pub fn number_at(s: &[u8], at: usize) -> Option<(u64, usize)>
+    requires { FitsSymbol s.now }
+    ensures { IfSome result (λ found. IsNumberAt s.now at found.0 found.1) }
+{
+    if at > s.len() {
+        return None;
+    }
+    let place = find_number(s, at, NumberKind::Base62).ok()?;
+    let value = value62(&s[place.from..place.to])?;
+    Some((value, place.end))
+}
+
+/// The disambiguator at a place, 0 where there is none, and the place behind it.
+// <disambiguator> = "s" <base-62-number>
+#[inline(always)]
+pub fn disambiguator_at(s: &[u8], at: usize) -> Option<(u64, usize)>
+    requires { FitsSymbol s.now }
+    ensures { IfSome result (λ found. IsDisambiguatorAt s.now at found.0 found.1) }
+{
+    if byte_at(s, at) != b's' {
+        return Some((0, at));
+    }
+    let (number, end) = number_at(s, at.checked_add(1)?)?;
+    Some((number.checked_add(1)?, end))
+}

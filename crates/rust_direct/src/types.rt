@@ -1,0 +1,80 @@
+// Types.
+
+ghost use Rattle.std.specs.Prelude.{◌≡◌, ◌≢◌, ◌∷◌, [], true};
+ghost use Rattle.std.specs.Option.{IfSome};
+ghost use Rattle.sym_core.specs.Number.{FitsSymbol};
+ghost use Rattle.sym_direct.specs.Holes.{StandsAt};
+ghost use Rattle.rust_tree.specs.Shown.{basic_text};
+ghost use Rattle.rust_direct.specs.declared.open.Step.TheVariants as steps;
+ghost use Rattle.rust_direct.specs.Stands.{IsWriting};
+ghost use Rattle.rust_direct.specs.Awaits.{Awaits};
+
+use crate::direct::Direct;
+use crate::open::{Forms, Step};
+use sym_direct::byte_at;
+
+/// The text of the basic type of a letter.
+#[tactic(auto, unfolding(rust_tree::specs::Shown::basic_text))]
+fn basic_text(letter: u8) -> &'static [u8]
+    ensures { result.now ≡ basic_text letter }
+{
+    match letter {
+        b'a' => b"i8",
+        b'b' => b"bool",
+        b'c' => b"char",
+        b'd' => b"f64",
+        b'e' => b"str",
+        b'f' => b"f32",
+        b'h' => b"u8",
+        b'i' => b"isize",
+        b'j' => b"usize",
+        b'l' => b"i32",
+        b'm' => b"u32",
+        b'n' => b"i128",
+        b'o' => b"u128",
+        b'p' => b"_",
+        b's' => b"i16",
+        b't' => b"u16",
+        b'u' => b"()",
+        b'v' => b"...",
+        b'x' => b"i64",
+        b'y' => b"u64",
+        b'z' => b"!",
+        _ => b"",
+    }
+}
+
+impl Direct {
+    /// Reads a type, up to the first that stands in it.
+    // <type> = <basic-type> | <path> | ..
+    pub(crate) fn type_at(&mut self, s: &[u8]) -> Option<Step>
+        requires fits { FitsSymbol s.now }
+        requires writing { IsWriting s.now self.old steps.Type }
+        ensures { IfSome result (IsWriting s.now self.new) }
+    {
+        match byte_at(s, self.at) {
+            b'C' => self.crate_root(s),
+            b'N' => self.begin_nest(s, false),
+            b'I' => self.begin_generic(s, false),
+            letter => self.basic(s, letter),
+        }
+    }
+
+    // <basic-type> = "a" | "b" | ..
+    #[inline(always)]
+    fn basic(&mut self, s: &[u8], letter: u8) -> Option<Step>
+        requires letter { letter ≢ 0 → StandsAt s.now self.old.at (letter ∷ []) }
+        requires awaits { Awaits s.now self.old true }
+        ensures { IfSome result (IsWriting s.now self.new) }
+    {
+        let text = basic_text(letter);
+        if text.is_empty() {
+            return None;
+        }
+        let place = self.at;
+        let from = self.text.len();
+        self.at = place.checked_add(1)?;
+        self.push(text)?;
+        self.ended(s, place, from, Forms::Typed, Forms::Typed)
+    }
+}

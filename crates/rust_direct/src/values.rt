@@ -1,0 +1,33 @@
+// What was read is handed on to what waits for it.
+
+ghost use Rattle.std.specs.Option.{IfSome};
+ghost use Rattle.sym_core.specs.Number.{FitsSymbol};
+ghost use Rattle.rust_direct.specs.declared.open.Step.TheVariants as steps;
+ghost use Rattle.rust_direct.specs.Stands.{IsWriting};
+
+use crate::direct::Direct;
+use crate::open::{Forms, Open, Step};
+
+impl Direct {
+    /// Hands a path or a type on to what waits for it.
+    pub(crate) fn pass(&mut self, s: &[u8], from: usize, forms: Forms) -> Option<Step>
+        requires fits { FitsSymbol s.now }
+        requires writing { IsWriting s.now self.old (steps.Value from forms) }
+        ensures { IfSome result (IsWriting s.now self.new) }
+    {
+        match self.waiting.pop()? {
+            Open::Symbol => self.symbol_ended(s, from, forms),
+            Open::Other => self.other_ended(s, from, forms),
+            Open::Nest { letter, place } => self.nest_ended(s, from, forms, letter, place),
+            Open::Generic { is_value, place } => self.generic_ended(
+                s, from, forms, is_value, place,
+            ),
+            Open::Argument {
+                place,
+                from: begins,
+                is_value,
+            } => self.argument_ended(s, from, forms, place, begins, is_value),
+            _ => None,
+        }
+    }
+}

@@ -1,0 +1,101 @@
+// The texts and the notes, as they grow.
+
+ghost use Rattle.std.specs.Prelude.{◌≡◌, ◌+◌, ◌-◌, ◌≤◌, ◌∷◌, ◌++◌, [], ℕ, suc, slice_get, Some, length};
+ghost use Rattle.std.specs.Option.{OnSome, IfSome};
+ghost use Rattle.rust_direct.specs.Written.{Writes, Notes, piece};
+ghost use Rattle.rust_direct.specs.Notes.{home};
+ghost use Rattle.rust_direct.specs.Stands.{IsWriting};
+ghost use Rattle.rust_direct.specs.Awaits.{IsEnded};
+
+use crate::direct::Direct;
+use crate::open::{Forms, Note, Step};
+
+impl Direct {
+    /// Writes a text.
+    #[inline(always)]
+    pub(crate) fn push(&mut self, text: &[u8]) -> Option<()>
+        ensures { OnSome result (Writes self.old self.new text.now) }
+    {
+        self.text.push_all(text)
+    }
+
+    /// Writes a byte.
+    #[inline(always)]
+    pub(crate) fn push_byte(&mut self, byte: u8) -> Option<()>
+        ensures { OnSome result (Writes self.old self.new (byte ∷ [])) }
+    {
+        self.text.push(byte)
+    }
+
+    /// Writes two bytes.
+    #[inline(always)]
+    pub(crate) fn push_pair(&mut self, first: u8, second: u8) -> Option<()>
+        ensures { OnSome result (Writes self.old self.new (first ∷ second ∷ [])) }
+    {
+        self.text.push_pair(first, second)
+    }
+
+    /// Notes what is written from a place of the text on, as what was read from a place of the symbol on.
+    #[inline(always)]
+    fn note(&mut self, place: usize, from: usize, forms: Forms) -> Option<()>
+        ensures { OnSome result (Notes self.old self.new place from forms) }
+    {
+        if place >= self.numbers.len() {
+            return None;
+        }
+        let number = u16::try_from(self.notes.len().checked_add(1)?).ok()?;
+        let to = self.text.len();
+        let is_aside = self.is_aside;
+        self.notes.push(Note {
+            from,
+            to,
+            forms,
+            is_aside,
+        })?;
+        self.numbers[place] = number;
+        Some(())
+    }
+
+    /// What began at a place is read: it is noted, and handed on.
+    #[inline(always)]
+    pub(crate) fn ended(
+        &mut self,
+        _s: &[u8],
+        place: usize,
+        from: usize,
+        noted: Forms,
+        forms: Forms,
+    ) -> Option<Step>
+        requires { IsEnded _s.now self.old place from noted forms }
+        ensures { IfSome result (IsWriting _s.now self.new) }
+    {
+        self.note(place, from, noted)?;
+        Some(Step::Value { from, forms })
+    }
+
+    /// What is noted of a place.
+    pub(crate) fn noted(&self, place: usize) -> Option<Note>
+        ensures { IfSome result (λ n. (k : ℕ) × (slice_get self.now.numbers.items place ≡ Some (suc k)) × (slice_get self.now.notes.list.items k ≡ Some n)) }
+    {
+        let number = *self.numbers.get(place)?;
+        if number == 0 {
+            return None;
+        }
+        self.notes.as_slice().get(number as usize - 1).copied()
+    }
+
+    /// Writes what is noted once more.
+    pub(crate) fn repeat(&mut self, note: Note) -> Option<()>
+        ensures { OnSome result (Writes self.old self.new
+            (piece (home self.old.is_aside note.is_aside self.old.text.list.items self.old.aside.list.items) note.from note.to)) }
+    {
+        if note.is_aside == self.is_aside {
+            if note.to < note.from || note.to > self.text.len() {
+                return None;
+            }
+            return self.text.repeat(note.from, note.to);
+        }
+        let bytes = self.aside.as_slice().get(note.from..note.to)?;
+        self.text.push_all(bytes)
+    }
+}
