@@ -425,6 +425,7 @@ def declarations():
     yield "cpp_press_laws/proofs/Components/FewComponents.antt", "counts", by_each("counts", "few", [], nowhere, {"local": "local-name", "address_of": "address"})
     yield "cpp_press_laws/proofs/EveryWay/Law.antt", "reads", by_each("reads", "reads", ["c"], {**nowhere, ("before", "function"): ["c"]}, {"address_of": "address"})
     yield "cpp_press_laws/proofs/Fits/Packs.antt", "closed-packs", closed_packs()
+    yield "cpp_press/proofs/Open.antt", "open-erased", open_erased()
     yield "cpp_term/specs/Erased.antt", "erase", rebuilt("erase", [], [], True)
     yield "cpp_term/specs/Annotated.antt", "annotate", rebuilt("annotate", ["s"], ["None"], False, {"function": ANNOTATED_FUNCTION, "parameter": "term_.parameter k (argument_in s k)"})
     yield "cpp_term/proofs/Erasing.antt", "erased", erased()
@@ -454,6 +455,11 @@ def declarations():
     yield "cpp_term/proofs/Notes.antt", "pack_none", fold("pack_none", [], both_by("first_of"), "refl", {"parameter": "refl", **no_expansion}, SCOPED)
     yield "cpp_term/proofs/Notes.antt", "pack_some", fold("pack_some", ["all"], both_by("first_of"), "refl",
         {"parameter": "ap scope_.length_if_pack (element_noted None all k) ∙ length_noted None (element all k)", **no_expansion}, SCOPED)
+
+def open_erased():
+    def joined(parts): return parts[0] if len(parts) == 1 else f"rw ({', '.join(parts)}) refl"
+    lines = fold("open-erased", [], joined, "refl", {"parameter": "refl"}, SCOPED)
+    return [l.replace("(parameter k)", "(parameter k argument)") for l in lines]
 
 def weight_of_terms():
     function = "\n    1 + weight name + weight returned + weight parameters"

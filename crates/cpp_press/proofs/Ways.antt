@@ -156,102 +156,27 @@ encoding-is n here _ r cs = ap {A = Spelling} (λ (f : Spelling). f here cs) (no
 pub argument-rest : (n : ℕ) (t : Term) (r : Spelling) → is_component t ≡ false → ◌≡◌ {A = Spelling} (in_way n Way.Argument t and r) (argument_onto n t r)
 unfolding ways_of no_ways type_ways name_ways piece_ways argument_ways encoding_ways argument_onto type_onto class_onto compound_onto is_component ◌onto◌ written in_way
 argument-rest n (integer t value) r is = three (text (codes "L")) (ways_of n t).as_type (text (signed_text value ++ codes "E")) r
-argument-rest n (boolean truth) r is = refl
-argument-rest n null_pointer r is = refl
 argument-rest n (encoding_literal e) r is = three (text (codes "L_Z")) (ways_of n e).as_encoding (text (codes "E")) r
 argument-rest n (address_of e) r is = three (text (codes "XadL_Z")) (ways_of n e).as_encoding (text (codes "EE")) r
 argument-rest n (pack elements) r is = three (text (codes "J")) (ways_of n elements).as_elements (text (codes "E")) r
-argument-rest n (builtin code) r is = refl
-argument-rest n (abbreviation letter) r is = refl
-argument-rest n (alone p) r is = absurd (true-false is)
-argument-rest n (in_std p) r is = absurd (true-false is)
-argument-rest n (within prefix p) r is = absurd (true-false is)
-argument-rest n (instance t a) r is = absurd (true-false is)
-argument-rest n (local around entity d) r is = absurd (true-false is)
-argument-rest n (parameter k) r is = absurd (true-false is)
-argument-rest n (vendor name) r is = absurd (true-false is)
-argument-rest n (pointer t) r is = absurd (true-false is)
-argument-rest n (lvalue t) r is = absurd (true-false is)
-argument-rest n (rvalue t) r is = absurd (true-false is)
-argument-rest n (array digits t) r is = absurd (true-false is)
-argument-rest n (member_pointer c t) r is = absurd (true-false is)
-argument-rest n (function_type y e ref t p) r is = absurd (true-false is)
-argument-rest n (qualified q t) r is = absurd (true-false is)
-argument-rest n (vector digits t) r is = absurd (true-false is)
-argument-rest n (complex t) r is = absurd (true-false is)
-argument-rest n (expansion t) r is = absurd (true-false is)
-argument-rest n _ r is = nothing-and r
+argument-rest n _ r is = first_of (cc, search (nothing-and r))
 
 pub type-rest : (n : ℕ) (t : Term) (r : Spelling) → is_component t ≡ false → ◌≡◌ {A = Spelling} (in_way n Way.Type t and r) (type_onto n t r)
 unfolding ways_of no_ways type_ways name_ways piece_ways argument_ways encoding_ways type_onto class_onto compound_onto is_component ◌onto◌ written in_way
 type-rest n (builtin code) r is = refl
-type-rest n (abbreviation letter) r is = refl
-type-rest n (alone p) r is = absurd (true-false is)
-type-rest n (in_std p) r is = absurd (true-false is)
-type-rest n (within prefix p) r is = absurd (true-false is)
-type-rest n (instance t a) r is = absurd (true-false is)
-type-rest n (local around entity d) r is = absurd (true-false is)
-type-rest n (parameter k) r is = absurd (true-false is)
-type-rest n (vendor name) r is = absurd (true-false is)
-type-rest n (pointer t) r is = absurd (true-false is)
-type-rest n (lvalue t) r is = absurd (true-false is)
-type-rest n (rvalue t) r is = absurd (true-false is)
-type-rest n (array digits t) r is = absurd (true-false is)
-type-rest n (member_pointer c t) r is = absurd (true-false is)
-type-rest n (function_type y e ref t p) r is = absurd (true-false is)
-type-rest n (qualified q t) r is = absurd (true-false is)
-type-rest n (vector digits t) r is = absurd (true-false is)
-type-rest n (complex t) r is = absurd (true-false is)
-type-rest n (expansion t) r is = absurd (true-false is)
-type-rest n _ r is = nothing-and r
+type-rest n _ r is = first_of (cc, search (nothing-and r))
 
 pub qualified-rest : (n : ℕ) (t : Term) (r : Spelling) → cond (is_function_type t) false (is_component t) ≡ false → ◌≡◌ {A = Spelling} (in_way n Way.UnderQualifiers t and r) (type_onto n t r)
 unfolding ways_of no_ways type_ways name_ways piece_ways argument_ways encoding_ways function_text type_onto class_onto compound_onto is_component is_function_type ◌onto◌ written in_way
 qualified-rest n (function_type y e ref t p) r is =
     four (text (cond e (codes "Do") [] ++ codes "F" ++ cond y (codes "Y") [])) (ways_of n t).as_type (ways_of n p).as_parameters (text (mark_letter ref ++ codes "E")) r
-qualified-rest n (builtin code) r is = refl
-qualified-rest n (abbreviation letter) r is = refl
-qualified-rest n (alone p) r is = absurd (true-false is)
-qualified-rest n (in_std p) r is = absurd (true-false is)
-qualified-rest n (within prefix p) r is = absurd (true-false is)
-qualified-rest n (instance t a) r is = absurd (true-false is)
-qualified-rest n (local around entity d) r is = absurd (true-false is)
-qualified-rest n (parameter k) r is = absurd (true-false is)
-qualified-rest n (vendor name) r is = absurd (true-false is)
-qualified-rest n (pointer t) r is = absurd (true-false is)
-qualified-rest n (lvalue t) r is = absurd (true-false is)
-qualified-rest n (rvalue t) r is = absurd (true-false is)
-qualified-rest n (array digits t) r is = absurd (true-false is)
-qualified-rest n (member_pointer c t) r is = absurd (true-false is)
-qualified-rest n (qualified q t) r is = absurd (true-false is)
-qualified-rest n (vector digits t) r is = absurd (true-false is)
-qualified-rest n (complex t) r is = absurd (true-false is)
-qualified-rest n (expansion t) r is = absurd (true-false is)
-qualified-rest n _ r is = nothing-and r
+qualified-rest n _ r is = first_of (cc, search (nothing-and r))
 
 pub prefix-rest : (n : ℕ) (t : Term) (r : Spelling) → is_component t ≡ false
     → ◌≡◌ {A = Spelling} (in_way n Way.Prefix t and r) (elim (is_name t) as (λ _. Spelling) [ true ↦ prefix_onto n t r | false ↦ type_onto n t r ])
 unfolding ways_of no_ways type_ways name_ways piece_ways argument_ways encoding_ways prefix_onto type_onto class_onto compound_onto is_component is_name ◌onto◌ written in_way
 prefix-rest n (builtin code) r is = refl
-prefix-rest n (abbreviation letter) r is = refl
-prefix-rest n (alone p) r is = absurd (true-false is)
-prefix-rest n (in_std p) r is = absurd (true-false is)
-prefix-rest n (within prefix p) r is = absurd (true-false is)
-prefix-rest n (instance t a) r is = absurd (true-false is)
-prefix-rest n (local around entity d) r is = absurd (true-false is)
-prefix-rest n (parameter k) r is = absurd (true-false is)
-prefix-rest n (vendor name) r is = absurd (true-false is)
-prefix-rest n (pointer t) r is = absurd (true-false is)
-prefix-rest n (lvalue t) r is = absurd (true-false is)
-prefix-rest n (rvalue t) r is = absurd (true-false is)
-prefix-rest n (array digits t) r is = absurd (true-false is)
-prefix-rest n (member_pointer c t) r is = absurd (true-false is)
-prefix-rest n (function_type y e ref t p) r is = absurd (true-false is)
-prefix-rest n (qualified q t) r is = absurd (true-false is)
-prefix-rest n (vector digits t) r is = absurd (true-false is)
-prefix-rest n (complex t) r is = absurd (true-false is)
-prefix-rest n (expansion t) r is = absurd (true-false is)
-prefix-rest n _ r is = nothing-and r
+prefix-rest n _ r is = first_of (cc, search (nothing-and r))
 
 pub more-is : (n : ℕ) (t : Term) (r : Spelling) → ◌≡◌ {A = Spelling} (in_way n Way.MoreParameters t and r) (more_parameters_onto n t r)
 unfolding ways_of no_ways type_ways name_ways piece_ways argument_ways encoding_ways more_parameters_onto ◌onto◌ written in_way
@@ -339,65 +264,17 @@ content-is n _ e is = absurd (true-false (sym is))
 typed-is : (n : ℕ) (t : Term) → is_component t ≡ true → ◌≡◌ {A = Spelling} (in_way n Way.Type t) (component n t (content n t))
 unfolding ways_of no_ways type_ways name_ways piece_ways argument_ways encoding_ways content is_component before bracketed ◌onto◌ written in_way
 typed-is n (alone p) is = refl
-typed-is n (in_std p) is = refl
-typed-is n (within prefix p) is = refl
-typed-is n (instance t a) is = refl
-typed-is n (local around entity d) is = refl
-typed-is n (parameter k) is = refl
-typed-is n (vendor name) is = refl
-typed-is n (pointer t) is = refl
-typed-is n (lvalue t) is = refl
-typed-is n (rvalue t) is = refl
-typed-is n (array digits t) is = refl
-typed-is n (member_pointer c t) is = refl
-typed-is n (function_type y x ref t p) is = refl
-typed-is n (qualified q t) is = refl
-typed-is n (vector digits t) is = refl
-typed-is n (complex t) is = refl
-typed-is n (expansion t) is = refl
-typed-is n _ is = absurd (true-false (sym is))
+typed-is n _ is = cc
 
 argued-is : (n : ℕ) (t : Term) → is_component t ≡ true → ◌≡◌ {A = Spelling} (in_way n Way.Argument t) (component n t (content n t))
 unfolding ways_of no_ways type_ways name_ways piece_ways argument_ways encoding_ways content is_component before bracketed ◌onto◌ written in_way
 argued-is n (alone p) is = refl
-argued-is n (in_std p) is = refl
-argued-is n (within prefix p) is = refl
-argued-is n (instance t a) is = refl
-argued-is n (local around entity d) is = refl
-argued-is n (parameter k) is = refl
-argued-is n (vendor name) is = refl
-argued-is n (pointer t) is = refl
-argued-is n (lvalue t) is = refl
-argued-is n (rvalue t) is = refl
-argued-is n (array digits t) is = refl
-argued-is n (member_pointer c t) is = refl
-argued-is n (function_type y x ref t p) is = refl
-argued-is n (qualified q t) is = refl
-argued-is n (vector digits t) is = refl
-argued-is n (complex t) is = refl
-argued-is n (expansion t) is = refl
-argued-is n _ is = absurd (true-false (sym is))
+argued-is n _ is = cc
 
 under-is : (n : ℕ) (t : Term) → cond (is_function_type t) false (is_component t) ≡ true → ◌≡◌ {A = Spelling} (in_way n Way.UnderQualifiers t) (component n t (content n t))
 unfolding ways_of no_ways type_ways name_ways piece_ways argument_ways encoding_ways content is_component is_function_type before bracketed ◌onto◌ written in_way
-under-is n (function_type y x ref t p) is = absurd (true-false (sym is))
 under-is n (alone p) is = refl
-under-is n (in_std p) is = refl
-under-is n (within prefix p) is = refl
-under-is n (instance t a) is = refl
-under-is n (local around entity d) is = refl
-under-is n (parameter k) is = refl
-under-is n (vendor name) is = refl
-under-is n (pointer t) is = refl
-under-is n (lvalue t) is = refl
-under-is n (rvalue t) is = refl
-under-is n (array digits t) is = refl
-under-is n (member_pointer c t) is = refl
-under-is n (qualified q t) is = refl
-under-is n (vector digits t) is = refl
-under-is n (complex t) is = refl
-under-is n (expansion t) is = refl
-under-is n _ is = absurd (true-false (sym is))
+under-is n _ is = cc
 
 under-component : (t : Term) → cond (is_function_type t) false (is_component t) ≡ true → is_component t ≡ true
 under-component t is = go (is_function_type t) is
@@ -416,44 +293,12 @@ prefix_content n t = content n t
 prefixed-is : (n : ℕ) (t : Term) → is_component t ≡ true → ◌≡◌ {A = Spelling} (in_way n Way.Prefix t) (component n t (prefix_content n t))
 unfolding ways_of no_ways type_ways name_ways piece_ways argument_ways encoding_ways content prefix_content is_component in_way
 prefixed-is n (alone p) is = refl
-prefixed-is n (in_std p) is = refl
-prefixed-is n (within prefix p) is = refl
-prefixed-is n (instance t a) is = refl
-prefixed-is n (local around entity d) is = refl
-prefixed-is n (parameter k) is = refl
-prefixed-is n (vendor name) is = refl
-prefixed-is n (pointer t) is = refl
-prefixed-is n (lvalue t) is = refl
-prefixed-is n (rvalue t) is = refl
-prefixed-is n (array digits t) is = refl
-prefixed-is n (member_pointer c t) is = refl
-prefixed-is n (function_type y x ref t p) is = refl
-prefixed-is n (qualified q t) is = refl
-prefixed-is n (vector digits t) is = refl
-prefixed-is n (complex t) is = refl
-prefixed-is n (expansion t) is = refl
-prefixed-is n _ is = absurd (true-false (sym is))
+prefixed-is n _ is = cc
 
 argument-content-is : (n : ℕ) (t : Term) (e : Spelling) → is_component t ≡ true → ◌≡◌ {A = Spelling} (content n t and e) (argument_onto n t e)
 unfolding argument_onto is_component
 argument-content-is n (alone p) e is = content-is n (alone p) e is
-argument-content-is n (in_std p) e is = content-is n (in_std p) e is
-argument-content-is n (within prefix p) e is = content-is n (within prefix p) e is
-argument-content-is n (instance t a) e is = content-is n (instance t a) e is
-argument-content-is n (local around entity d) e is = content-is n (local around entity d) e is
-argument-content-is n (parameter k) e is = content-is n (parameter k) e is
-argument-content-is n (vendor name) e is = content-is n (vendor name) e is
-argument-content-is n (pointer t) e is = content-is n (pointer t) e is
-argument-content-is n (lvalue t) e is = content-is n (lvalue t) e is
-argument-content-is n (rvalue t) e is = content-is n (rvalue t) e is
-argument-content-is n (array digits t) e is = content-is n (array digits t) e is
-argument-content-is n (member_pointer c t) e is = content-is n (member_pointer c t) e is
-argument-content-is n (function_type y x ref t p) e is = content-is n (function_type y x ref t p) e is
-argument-content-is n (qualified q t) e is = content-is n (qualified q t) e is
-argument-content-is n (vector digits t) e is = content-is n (vector digits t) e is
-argument-content-is n (complex t) e is = content-is n (complex t) e is
-argument-content-is n (expansion t) e is = content-is n (expansion t) e is
-argument-content-is n _ e is = absurd (true-false (sym is))
+argument-content-is n t e is = first_of (cc, search (content-is n t e is))
 
 prefix-content-is : (n : ℕ) (t : Term) (e : Spelling) → is_component t ≡ true
     → ◌≡◌ {A = Spelling} (prefix_content n t and e) (elim (is_name t) as (λ _. Spelling) [ true ↦ prefix_onto n t e | false ↦ type_onto n t e ])
@@ -463,20 +308,7 @@ prefix-content-is n (in_std p) e is = in-std-is n p e
 prefix-content-is n (within prefix p) e is = within-is n prefix p e
 prefix-content-is n (instance t a) e is =
     and-assoc (ways_of n t).as_prefix (text (codes "I") and ((ways_of n a).as_elements and text (codes "E"))) e ∙ under (ways_of n t).as_prefix (arguments-is n a e)
-prefix-content-is n (local around entity d) e is = content-is n (local around entity d) e is
-prefix-content-is n (parameter k) e is = content-is n (parameter k) e is
-prefix-content-is n (vendor name) e is = content-is n (vendor name) e is
-prefix-content-is n (pointer t) e is = content-is n (pointer t) e is
-prefix-content-is n (lvalue t) e is = content-is n (lvalue t) e is
-prefix-content-is n (rvalue t) e is = content-is n (rvalue t) e is
-prefix-content-is n (array digits t) e is = content-is n (array digits t) e is
-prefix-content-is n (member_pointer c t) e is = content-is n (member_pointer c t) e is
-prefix-content-is n (function_type y x ref t p) e is = content-is n (function_type y x ref t p) e is
-prefix-content-is n (qualified q t) e is = content-is n (qualified q t) e is
-prefix-content-is n (vector digits t) e is = content-is n (vector digits t) e is
-prefix-content-is n (complex t) e is = content-is n (complex t) e is
-prefix-content-is n (expansion t) e is = content-is n (expansion t) e is
-prefix-content-is n _ e is = absurd (true-false (sym is))
+prefix-content-is n t e is = first_of (cc, search (content-is n t e is))
 
 -- ## A tree as it stands to the components before it
 
@@ -524,25 +356,12 @@ apart-tree n p Way.Elements t r cs is = ap {A = Spelling} (λ (f : Spelling). f 
 
 -- ## Template names
 
+typed-arguments : (n : ℕ) (t a : Term) (r : Spelling)
+    → ◌≡◌ {A = Spelling} (((ways_of n t).as_type and (text (codes "I") and ((ways_of n a).as_elements and text (codes "E")))) and r) ((ways_of n t).as_type and arguments_onto n a r)
+typed-arguments n t a r = and-assoc (ways_of n t).as_type (text (codes "I") and ((ways_of n a).as_elements and text (codes "E"))) r ∙ under (ways_of n t).as_type (arguments-is n a r)
+
 pub apart-template : (n : ℕ) (b : Bool) (t a : Term) (r : Spelling) → is_name t ≡ false → ◌≡◌ {A = Spelling} (before n b t a and r) (in_way n Way.Type t and arguments_onto n a r)
 unfolding ways_of no_ways type_ways name_ways piece_ways argument_ways encoding_ways is_name before bracketed ◌onto◌ written in_way
 apart-template n b (alone p) x r is = absurd (true-false is)
-apart-template n b (in_std p) x r is = absurd (true-false is)
-apart-template n b (within prefix p) x r is = absurd (true-false is)
-apart-template n b (instance t a) x r is = absurd (true-false is)
-apart-template n b (local around entity d) a r is = and-assoc (ways_of n (local around entity d)).as_type (text (codes "I") and ((ways_of n a).as_elements and text (codes "E"))) r ∙ under (ways_of n (local around entity d)).as_type (arguments-is n a r)
-apart-template n b (abbreviation letter) a r is = and-assoc (ways_of n (abbreviation letter)).as_type (text (codes "I") and ((ways_of n a).as_elements and text (codes "E"))) r ∙ under (ways_of n (abbreviation letter)).as_type (arguments-is n a r)
-apart-template n b (parameter k) a r is = and-assoc (ways_of n (parameter k)).as_type (text (codes "I") and ((ways_of n a).as_elements and text (codes "E"))) r ∙ under (ways_of n (parameter k)).as_type (arguments-is n a r)
-apart-template n b (builtin code) a r is = and-assoc (ways_of n (builtin code)).as_type (text (codes "I") and ((ways_of n a).as_elements and text (codes "E"))) r ∙ under (ways_of n (builtin code)).as_type (arguments-is n a r)
-apart-template n b (vendor name) a r is = and-assoc (ways_of n (vendor name)).as_type (text (codes "I") and ((ways_of n a).as_elements and text (codes "E"))) r ∙ under (ways_of n (vendor name)).as_type (arguments-is n a r)
-apart-template n b (pointer u) a r is = and-assoc (ways_of n (pointer u)).as_type (text (codes "I") and ((ways_of n a).as_elements and text (codes "E"))) r ∙ under (ways_of n (pointer u)).as_type (arguments-is n a r)
-apart-template n b (lvalue u) a r is = and-assoc (ways_of n (lvalue u)).as_type (text (codes "I") and ((ways_of n a).as_elements and text (codes "E"))) r ∙ under (ways_of n (lvalue u)).as_type (arguments-is n a r)
-apart-template n b (rvalue u) a r is = and-assoc (ways_of n (rvalue u)).as_type (text (codes "I") and ((ways_of n a).as_elements and text (codes "E"))) r ∙ under (ways_of n (rvalue u)).as_type (arguments-is n a r)
-apart-template n b (array digits u) a r is = and-assoc (ways_of n (array digits u)).as_type (text (codes "I") and ((ways_of n a).as_elements and text (codes "E"))) r ∙ under (ways_of n (array digits u)).as_type (arguments-is n a r)
-apart-template n b (member_pointer c u) a r is = and-assoc (ways_of n (member_pointer c u)).as_type (text (codes "I") and ((ways_of n a).as_elements and text (codes "E"))) r ∙ under (ways_of n (member_pointer c u)).as_type (arguments-is n a r)
-apart-template n b (function_type y x ref u p) a r is = and-assoc (ways_of n (function_type y x ref u p)).as_type (text (codes "I") and ((ways_of n a).as_elements and text (codes "E"))) r ∙ under (ways_of n (function_type y x ref u p)).as_type (arguments-is n a r)
-apart-template n b (qualified q u) a r is = and-assoc (ways_of n (qualified q u)).as_type (text (codes "I") and ((ways_of n a).as_elements and text (codes "E"))) r ∙ under (ways_of n (qualified q u)).as_type (arguments-is n a r)
-apart-template n b (vector digits u) a r is = and-assoc (ways_of n (vector digits u)).as_type (text (codes "I") and ((ways_of n a).as_elements and text (codes "E"))) r ∙ under (ways_of n (vector digits u)).as_type (arguments-is n a r)
-apart-template n b (complex u) a r is = and-assoc (ways_of n (complex u)).as_type (text (codes "I") and ((ways_of n a).as_elements and text (codes "E"))) r ∙ under (ways_of n (complex u)).as_type (arguments-is n a r)
-apart-template n b (expansion u) a r is = and-assoc (ways_of n (expansion u)).as_type (text (codes "I") and ((ways_of n a).as_elements and text (codes "E"))) r ∙ under (ways_of n (expansion u)).as_type (arguments-is n a r)
-apart-template n b _ a r is = arguments-is n a r ∙ sym (nothing-and (arguments_onto n a r))
+apart-template n b t a r is =
+    first_of (cc, search (typed-arguments n t a r), search (arguments-is n a r ∙ sym (nothing-and (arguments_onto n a r))))
