@@ -72,6 +72,7 @@ pub fn filter_with<R: Source, W: Sink, D: Demangler>(
     ensures read_failed { R.failure_count reader.new ≡ R.failure_count reader.old + reader_faults result }
     ensures write_failed { W.failure_count writer.new ≡ W.failure_count writer.old + writer_faults result }
 {
+    // Asked for its range: a u64, so the proof knows that the reads, and the dots that wait, are bounded.
     let _left = reader.left();
     let mut words = Words::new(alloc);
     let mut out = Vec::new(alloc);
