@@ -95,8 +95,9 @@ fn command_line<'a>(alloc: Global, words: &'a [&'a str]) -> Result<ArgMatches<'a
         "Spell each symbol again with its repeated parts as references, in place of printing it",
     );
     let brief = flag(alloc, "brief").help("Leave out template and generic arguments");
-    let no_params = flag(alloc, "no-params")
-        .help("Print each C++ function by its name, without return type and parameters");
+    let no_params = flag(alloc, "no-params").help(
+        "Print each C++ function by its name, without return type and parameters",
+    );
     let symbols = Arg::new(alloc, "SYMBOL")
         .num_args(0..)
         .action(ArgAction::Append)
