@@ -46,7 +46,7 @@ path-said forms.Plain v bytes is h = h
 path-said forms.Typed v bytes is h = absurd (false≢true is)
 path-said forms.Unnamed v bytes is h = absurd (false≢true is)
 
-path-needs : (f : Forms) (p : tree.Path) (bytes : List ℕ) → PathHas f p bytes → need p ≡ 0
+pub path-needs : (f : Forms) (p : tree.Path) (bytes : List ℕ) → PathHas f p bytes → need p ≡ 0
 path-needs forms.Alike p bytes h = h.0.needs_none
 path-needs forms.Valued p bytes h = h.needs_none
 path-needs forms.Plain p bytes h = h.needs_none

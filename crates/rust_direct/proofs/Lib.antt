@@ -10,3 +10,4 @@ pub mod PathsRead
 pub mod SymbolsRead
 pub mod Again
 pub mod ArgumentsRead
+pub mod ImplsRead

@@ -56,6 +56,7 @@ impl Direct {
             b'C' => self.crate_root(s),
             b'N' => self.begin_nest(s, false),
             b'I' => self.begin_generic(s, false),
+            b'M' => self.begin_impl(s),
             letter => self.basic(s, letter),
         }
     }
