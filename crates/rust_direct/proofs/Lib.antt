@@ -11,3 +11,4 @@ pub mod SymbolsRead
 pub mod Again
 pub mod ArgumentsRead
 pub mod ImplsRead
+pub mod TypesRead
