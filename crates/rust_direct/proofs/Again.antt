@@ -21,16 +21,15 @@ use Rattle.rust_direct.proofs.MovesOfTypes.{path-referred}
 use Rattle.rust_direct.proofs.PathsRead.{path-says, stands-written}
 
 -- what is noted of a place ended there
-NoteAt : Direct → State → (place : ℕ) → Note → Type 0
+abbrev pub NoteAt : Direct → State → (place : ℕ) → Note → Type 0
 NoteAt w st place n = (v : Value) × (ended_at st.ended place ≡ Some v) × IsNote (home w.is_aside n.is_aside w.text.list.items w.aside.list.items) n v
 
 ended-noted : (w : Direct) (st : State) (place : ℕ) (n : Note) (o : Option Value) → ended_at st.ended place ≡ o
     → NotesEnded w.is_aside w.text.list.items w.aside.list.items n o → NoteAt w st place n
-unfolding NoteAt
 ended-noted w st place n None e p = absurd p
 ended-noted w st place n (Some v) e p = (v, e, p)
 
-note-found : (w : Direct) (st : State) (place k : ℕ) (n : Note) → AreNotesOf w st → slice_get w.numbers.items place ≡ Some (suc k)
+pub note-found : (w : Direct) (st : State) (place k : ℕ) (n : Note) → AreNotesOf w st → slice_get w.numbers.items place ≡ Some (suc k)
     → slice_get w.notes.list.items k ≡ Some n → NoteAt w st place n
 note-found w st place k n notes number found =
     let numbered = subst (λ o. IsNumbered w.is_aside w.text.list.items w.aside.list.items w.notes.list.items (ended_at st.ended place) o) number (notes place) in
@@ -46,7 +45,7 @@ path-said forms.Plain v bytes is h = h
 path-said forms.Typed v bytes is h = absurd (false≢true is)
 path-said forms.Unnamed v bytes is h = absurd (false≢true is)
 
-path-needs : (f : Forms) (p : tree.Path) (bytes : List ℕ) → PathHas f p bytes → need p ≡ 0
+pub path-needs : (f : Forms) (p : tree.Path) (bytes : List ℕ) → PathHas f p bytes → need p ≡ 0
 path-needs forms.Alike p bytes h = h.0.needs_none
 path-needs forms.Valued p bytes h = h.needs_none
 path-needs forms.Plain p bytes h = h.needs_none
@@ -59,7 +58,6 @@ pub path-repeated : (s : List ℕ) (old middle : Direct) (from n end k : ℕ) (n
     → is_path note.forms ≡ true → from ≡ length old.text.list.items
     → Writes old middle (piece (home old.is_aside note.is_aside old.text.list.items old.aside.list.items) note.from note.to)
     → IsEnded s (record middle { at = end }) old.at from note.forms note.forms
-unfolding NoteAt
 path-repeated s old middle from n end k note awaits letter number numbered noted is from_is writes =
     let r = awaits.awaited in
     let found = note-found old awaits.state (n + 2) k note awaits.notes numbered noted in

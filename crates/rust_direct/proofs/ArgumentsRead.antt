@@ -56,16 +56,16 @@ generic-begun s old new is_value plain awaits letter waiting at text aside is_as
 
 -- ## Something waits from here on
 
-notes-pushed : (old new : Direct) (entry : Open) (st : State) → Pushes old new entry → AreNotesOf old st → AreNotesOf new st
+pub notes-pushed : (old new : Direct) (entry : Open) (st : State) → Pushes old new entry → AreNotesOf old st → AreNotesOf new st
 notes-pushed old new entry st p h = rw (p.text, p.aside, p.is_aside, p.notes, p.numbers) h
 
-parked-pushed : (old new : Direct) (entry : Open) → Pushes old new entry → parked_of new ≡ parked_of old
+pub parked-pushed : (old new : Direct) (entry : Open) → Pushes old new entry → parked_of new ≡ parked_of old
 parked-pushed old new entry p = rw (p.aside, p.is_aside) refl
 
 parked-written : (old new : Direct) (bytes : List ℕ) → Writes old new bytes → parked_of new ≡ parked_of old
 parked-written old new bytes p = rw (p.aside, p.is_aside) refl
 
-turned : (old new : Direct) (entry : Open) → Pushes old new entry → reverse new.waiting.list.items ≡ entry ∷ reverse old.waiting.list.items
+pub turned : (old new : Direct) (entry : Open) → Pushes old new entry → reverse new.waiting.list.items ≡ entry ∷ reverse old.waiting.list.items
 turned old new entry p = ap reverse p.waiting ∙ reverse-last old.waiting.list.items entry
 
 -- the path is read that arguments belong to

@@ -10,3 +10,5 @@ pub mod PathsRead
 pub mod SymbolsRead
 pub mod Again
 pub mod ArgumentsRead
+pub mod ImplsRead
+pub mod TypesRead

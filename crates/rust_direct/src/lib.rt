@@ -1,12 +1,13 @@
 //! The text of a Rust symbol, written while its bytes are read.
 //!
-//! Crate roots, paths in a namespace, and paths with arguments that are basic types or paths are read so, with back references to
-//! paths, the crate that asked for a symbol, and a suffix. A symbol with anything else in it is given up, and is to be read by its
+//! Crate roots, paths in a namespace, inherent impls, and paths with arguments that are basic types or paths are read so, with back
+//! references, the crate that asked for a symbol, and a suffix. A symbol with anything else in it is given up, and is to be read by its
 //! grammar: no answer depends on this crate, which nothing calls yet.
 #![tactic(auto)]
 
 mod arguments;
 mod direct;
+mod impls;
 mod open;
 mod paths;
 mod symbols;

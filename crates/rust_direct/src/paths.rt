@@ -16,7 +16,7 @@ use sym_direct::byte_at;
 
 impl Direct {
     /// Reads a path, up to the first that stands in it.
-    // <path> = "C" <identifier> | "N" <namespace> <path> <identifier> | "I" <path> {<generic-arg>} "E" | <backref> | ..
+    // <path> = "C" <identifier> | "N" <namespace> <path> <identifier> | "I" <path> {<generic-arg>} "E" | "M" <impl-path> <type> | <backref> | ..
     pub(crate) fn path_at(&mut self, s: &[u8], is_value: bool) -> Option<Step>
         requires fits { FitsSymbol s.now }
         requires writing { IsWriting s.now self.old (steps.Path is_value) }
@@ -27,6 +27,7 @@ impl Direct {
             b'N' => self.begin_nest(s, is_value),
             b'B' => self.path_again(s),
             b'I' => self.begin_generic(s, is_value),
+            b'M' => self.begin_impl(s),
             _ => None,
         }
     }

@@ -10,7 +10,8 @@ ghost use Rattle.rust_direct.specs.Stands.{IsWriting};
 ghost use Rattle.rust_direct.specs.Awaits.{Awaits};
 
 use crate::direct::Direct;
-use crate::open::{Forms, Step};
+use crate::open::{Forms, Step, is_type};
+use crate::tokens::number_at;
 use sym_direct::byte_at;
 
 /// The text of the basic type of a letter.
@@ -46,7 +47,7 @@ fn basic_text(letter: u8) -> &'static [u8]
 
 impl Direct {
     /// Reads a type, up to the first that stands in it.
-    // <type> = <basic-type> | <path> | ..
+    // <type> = <basic-type> | <path> | <backref> | ..
     pub(crate) fn type_at(&mut self, s: &[u8]) -> Option<Step>
         requires fits { FitsSymbol s.now }
         requires writing { IsWriting s.now self.old steps.Type }
@@ -56,6 +57,8 @@ impl Direct {
             b'C' => self.crate_root(s),
             b'N' => self.begin_nest(s, false),
             b'I' => self.begin_generic(s, false),
+            b'M' => self.begin_impl(s),
+            b'B' => self.type_again(s),
             letter => self.basic(s, letter),
         }
     }
@@ -76,5 +79,24 @@ impl Direct {
         self.at = place.checked_add(1)?;
         self.push(text)?;
         self.ended(s, place, from, Forms::Typed, Forms::Typed)
+    }
+
+    // <type> = <backref>
+    fn type_again(&mut self, s: &[u8]) -> Option<Step>
+        requires fits { FitsSymbol s.now }
+        requires letter { StandsAt s.now self.old.at (66 ∷ []) }
+        requires awaits { Awaits s.now self.old true }
+        ensures { IfSome result (IsWriting s.now self.new) }
+    {
+        let place = self.at;
+        let from = self.text.len();
+        let (number, end) = number_at(s, place.checked_add(1)?)?;
+        let note = self.noted((number as usize).checked_add(2)?)?;
+        if !is_type(note.forms) {
+            return None;
+        }
+        self.repeat(note)?;
+        self.at = end;
+        self.ended(s, place, from, note.forms, Forms::Typed)
     }
 }

@@ -27,6 +27,12 @@ impl Direct {
                 from: begins,
                 is_value,
             } => self.argument_ended(s, from, forms, place, begins, is_value),
+            Open::Impl { place } => self.impl_ended(s, from, forms, place),
+            Open::Wrap {
+                place,
+                from: begins,
+                closing,
+            } => self.wrap_ended(s, from, forms, place, begins, closing),
             _ => None,
         }
     }

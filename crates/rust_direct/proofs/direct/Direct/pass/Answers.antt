@@ -27,3 +27,13 @@ pub argument_ended-requires : goal.argument_ended-requires
 argument_ended-requires c =
     taken-out c.args.s.now c.args.self.now _ (opens.Argument c.in-Argument.place c.in-Argument.begins c.in-Argument.is_value) c.args.from c.args.forms c.pop.result c.requires.writing c.pop.ensures.items
     (c.in_ok-pop.was ∙ ap Some c.in-Argument.is) refl refl refl refl refl refl
+
+pub impl_ended-requires : goal.impl_ended-requires
+impl_ended-requires c =
+    taken-out c.args.s.now c.args.self.now _ (opens.Impl c.in-Impl.place) c.args.from c.args.forms c.pop.result c.requires.writing c.pop.ensures.items
+    (c.in_ok-pop.was ∙ ap Some c.in-Impl.is) refl refl refl refl refl refl
+
+pub wrap_ended-requires : goal.wrap_ended-requires
+wrap_ended-requires c =
+    taken-out c.args.s.now c.args.self.now _ (opens.Wrap c.in-Wrap.place c.in-Wrap.begins c.in-Wrap.closing) c.args.from c.args.forms c.pop.result
+    c.requires.writing c.pop.ensures.items (c.in_ok-pop.was ∙ ap Some c.in-Wrap.is) refl refl refl refl refl refl

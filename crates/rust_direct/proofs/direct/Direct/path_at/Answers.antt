@@ -12,3 +12,6 @@ path_again-requires-clause-awaits c = plain-awaited c.args.s.now c.args.self.now
 
 pub begin_generic-requires-clause-awaits : goal.begin_generic-requires-clause-awaits
 begin_generic-requires-clause-awaits c = path-awaited c.args.s.now c.args.self.now c.args.is_value c.requires.writing
+
+pub begin_impl-requires-clause-awaits : goal.begin_impl-requires-clause-awaits
+begin_impl-requires-clause-awaits c = path-awaited c.args.s.now c.args.self.now c.args.is_value c.requires.writing

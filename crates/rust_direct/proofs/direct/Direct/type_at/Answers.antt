@@ -12,3 +12,9 @@ begin_generic-requires-clause-awaits c = type-path-awaited c.args.s.now c.args.s
 
 pub basic-requires-clause-awaits : goal.basic-requires-clause-awaits
 basic-requires-clause-awaits c = type-awaited c.args.s.now c.args.self.now c.requires.writing
+
+pub begin_impl-requires-clause-awaits : goal.begin_impl-requires-clause-awaits
+begin_impl-requires-clause-awaits c = type-path-awaited c.args.s.now c.args.self.now c.requires.writing
+
+pub type_again-requires-clause-awaits : goal.type_again-requires-clause-awaits
+type_again-requires-clause-awaits c = type-awaited c.args.s.now c.args.self.now c.requires.writing

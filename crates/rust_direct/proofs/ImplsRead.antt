@@ -1,0 +1,132 @@
+-- Impls and implemented traits that were read and written, and types of one type.
+use Rattle.std.proofs.Common.{◌≡◌, ℕ, ◌+◌, ◌≤◌, List, [], ◌∷◌, ◌++◌, length, reverse, Bool, true, false, not, refl, ap, sym, subst, ◌∙◌, append_assoc, append-nil, codes, cond}
+use Rattle.std.proofs.lemmas.Bool.{false≢true}
+use Rattle.sym_direct.specs.Holes.{StandsAt}
+use Rattle.rust_tree.specs.Symbol as tree
+use Rattle.rust_tree.specs.Need.{need}
+use Rattle.rust_v0.specs.declared.kind.TheConstants.{PATH, TYPE}
+use Rattle.rust_v0.specs.Value.{Value, State, a_path, a_type}
+use Rattle.rust_direct.specs.declared.open.Forms.{Forms}
+use Rattle.rust_direct.specs.declared.open.Forms.TheVariants as forms
+use Rattle.rust_direct.specs.declared.open.Closing.TheVariants as closings
+use Rattle.rust_direct.specs.declared.open.Open.{Open}
+use Rattle.rust_direct.specs.declared.open.Open.TheVariants as opens
+use Rattle.rust_direct.specs.declared.open.Step.TheVariants as steps
+use Rattle.rust_direct.specs.declared.direct.Direct.{Direct}
+use Rattle.rust_direct.specs.Holes.{Comes, Expects, within, Wanted, path, type, IsType, Ends, IsDisambiguatorAt}
+use Rattle.rust_direct.specs.Prints.{PathPrints, TypePrints}
+use Rattle.rust_direct.specs.Says.{PathHas, Holds, has_form, is_type, is_path}
+use Rattle.rust_direct.specs.Written.{Writes, Pushes}
+use Rattle.rust_direct.specs.Stands.{Stands, IsWriting, AreNotesOf, parked_of, ImplPrints}
+use Rattle.rust_direct.specs.Awaits.{AwaitsPath, Arrives, IsEnded}
+use Rattle.rust_direct.proofs.Kept.{notes-written, notes-turned, reverse-last}
+use Rattle.rust_direct.proofs.MovesOfTypes.{impl-opens}
+use Rattle.rust_direct.proofs.PrintedPaths.{impl-prints}
+use Rattle.rust_direct.proofs.PathsRead.{path-held, path-says, stands-written, waits-too}
+use Rattle.rust_direct.proofs.Again.{path-needs}
+use Rattle.rust_direct.proofs.ArgumentsRead.{type-held, notes-pushed, parked-pushed, turned}
+
+-- the path of an impl is expected, which isn't shown
+pub impl-begun : (s : List ℕ) (old new : Direct) (count end : ℕ) (plain : Bool) → AwaitsPath s old → StandsAt s old.at (77 ∷ [])
+    → IsDisambiguatorAt s (old.at + 1) count end → old.is_aside ≡ false → new.waiting.list.items ≡ old.waiting.list.items ++ opens.Impl old.at ∷ []
+    → new.text ≡ old.aside → new.aside ≡ old.text → new.is_aside ≡ not old.is_aside → new.notes ≡ old.notes → new.numbers ≡ old.numbers → new.at ≡ end
+    → IsWriting s new (steps.Path plain)
+impl-begun s old new count end plain awaits letter counted shown waiting text aside is_aside notes numbers at =
+    let a = awaits.1 in
+    let r = a.awaited in
+    let goes = impl-opens s r.wanted r.os old.at a.state count end r.awaits letter counted in
+    let parked : parked_of new ≡ old.text.list.items =
+    ap (λ b. cond b new.aside.list.items []) (is_aside ∙ ap not shown) ∙ ap (λ t. t.list.items) aside in
+    let none : parked_of old ≡ [] = ap (λ b. cond b old.aside.list.items []) shown in
+    record {
+      state = within goes.production a.state;
+      notes = rw (text, aside, is_aside, notes, numbers)
+          (notes-turned old.is_aside old.text.list.items old.aside.list.items old.notes.list.items old.numbers.items a.state.ended a.notes);
+      is_before = record {
+        wanted = path;
+        is_for = refl;
+        os = goes.inner;
+        awaits = rw at goes.awaits;
+        stands = waits-too s old.waiting.list.items new.waiting.list.items (opens.Impl old.at) goes.inner new.text.list.items (parked_of new) waiting (
+          r.os,
+          (λ q t. tree.inherent_impl count q t),
+          (λ value q t bytes without prints. impl-prints value count q t bytes without prints),
+          goes.onward,
+          rw parked (subst (λ l. Stands s (reverse old.waiting.list.items) r.os old.text.list.items l) none r.stands),
+        );
+      };
+    }
+
+-- the path of an impl is read, and its type is expected
+pub impl-read : (s : List ℕ) (old shown middle new : Direct) (place here from : ℕ) (f : Forms) → Arrives s old (opens.Impl place) here f → is_path f ≡ true
+    → old.is_aside ≡ true → shown.text ≡ old.aside → shown.aside ≡ old.text → shown.is_aside ≡ not old.is_aside → shown.notes ≡ old.notes
+    → shown.numbers ≡ old.numbers → shown.waiting ≡ old.waiting → shown.at ≡ old.at → from ≡ length shown.text.list.items → Writes shown middle (codes "<")
+    → Pushes middle new (opens.Wrap place from closings.Angle) → IsWriting s new steps.Type
+impl-read s old shown middle new place here from f arrives is hidden text aside is_aside notes numbers waiting at from_is writes pushes =
+    let r = arrives.read in
+    let held = path-held f r.v r.bytes is r.holds in
+    let q = held.0 in
+    let waits = r.stands in
+    let made = waits.1 in
+    let goes = waits.3 q old.at arrives.state (subst (λ v. Comes s r.os v old.at arrives.state) held.1 r.comes) in
+    let none = path-needs f q r.bytes held.2 in
+    let entry = opens.Wrap place from closings.Angle in
+    let parked : parked_of old ≡ shown.text.list.items =
+    ap (λ b. cond b old.aside.list.items []) hidden ∙ ap (λ t. t.list.items) (sym text) in
+    let without : parked_of shown ≡ [] = ap (λ b. cond b shown.aside.list.items []) (is_aside ∙ ap not hidden) in
+    let below : Stands s (reverse shown.waiting.list.items) waits.0 shown.text.list.items (parked_of shown) =
+    rw (waiting, without) (subst (λ l. Stands s (reverse old.waiting.list.items) waits.0 l []) parked waits.4) in
+    record {
+      state = within goes.production arrives.state;
+      notes = notes-pushed middle new entry arrives.state pushes (notes-written shown middle (codes "<") arrives.state writes
+          (rw (text, aside, is_aside, notes, numbers)
+          (notes-turned old.is_aside old.text.list.items old.aside.list.items old.notes.list.items old.numbers.items arrives.state.ended arrives.notes)));
+      is_before = record {
+        wanted = type;
+        is_for = refl;
+        os = goes.inner;
+        awaits = rw (pushes.at, writes.at, at) goes.awaits;
+        stands = subst (λ ws. Stands s ws goes.inner new.text.list.items (parked_of new)) (sym (turned middle new entry pushes)) (
+          waits.0,
+          shown.text.list.items,
+          codes "<",
+          (λ t. a_path (made q t)),
+          from_is,
+          ap (λ t. t.list.items) pushes.text ∙ writes.text,
+          (λ t bytes prints. (path-says forms.Alike (made q t) (codes "<" ++ bytes ++ codes ">") refl
+              (waits.2 true q t bytes none prints, waits.2 false q t bytes none prints)).1),
+          goes.passes,
+          rw (parked-pushed middle new entry pushes)
+              (stands-written s shown middle (codes "<") waits.0 shown.text.list.items writes below),
+        );
+      };
+    }
+
+wrapped : (front mark bytes closing : List ℕ) → front ++ mark ++ bytes ++ closing ≡ front ++ (mark ++ bytes ++ closing)
+wrapped front mark bytes closing = ap (λ l. l ++ closing) (append_assoc front mark bytes) ∙ append_assoc front (mark ++ bytes) closing
+
+-- the type of an impl is read
+pub angle-read : (s : List ℕ) (old middle : Direct) (place from here : ℕ) (f : Forms) → Arrives s old (opens.Wrap place from closings.Angle) here f
+    → is_type f ≡ true → Writes old middle (codes ">") → IsEnded s middle place from forms.Alike forms.Alike
+angle-read s old middle place from here f arrives is writes =
+    let r = arrives.read in
+    let held = type-held f r.v r.bytes is r.holds in
+    let waits = r.stands in
+    let bytes = waits.2 ++ r.bytes ++ codes ">" in
+    let holds : Holds forms.Alike (waits.3 held.0) bytes = waits.6 held.0 r.bytes held.2 in
+    let told = path-says forms.Alike holds.0 bytes refl holds.2 in
+    record {
+      before = arrives.state;
+      notes = notes-written old middle (codes ">") arrives.state writes arrives.notes;
+      os = waits.0;
+      v = a_path holds.0;
+      front = waits.1;
+      bytes = bytes;
+      written = writes.text ∙ ap (λ l. l ++ codes ">") (r.written ∙ ap (λ l. l ++ r.bytes) waits.5) ∙ wrapped waits.1 waits.2 r.bytes (codes ">");
+      from_is = waits.4;
+      says = told.0;
+      holds = told.1;
+      comes = subst (λ v. Ends s waits.0 place v middle.at arrives.state) holds.1
+          (rw writes.at (waits.7 r.v held.0 old.at arrives.state held.1 r.comes));
+      stands = stands-written s old middle (codes ">") waits.0 waits.1 writes waits.8;
+    }

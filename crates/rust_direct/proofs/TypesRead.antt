@@ -1,0 +1,80 @@
+-- Types that were read and written: those of one type, and those that stand before.
+use Rattle.std.proofs.Common.{◌≡◌, ℕ, suc, ◌+◌, ◌-◌, ◌≤◌, List, [], ◌∷◌, ◌++◌, length, reverse, slice_get, Bool, true, false, Option, Some, None, refl, ap, sym, subst, ◌∙◌, append_assoc, append-nil, codes}
+use Rattle.std.proofs.lemmas.Bool.{false≢true}
+use Rattle.sym_direct.specs.Holes.{StandsAt}
+use Rattle.rust_tree.specs.Symbol as tree
+use Rattle.rust_v0.specs.declared.kind.TheConstants.{TYPE}
+use Rattle.rust_v0.specs.Value.{Value, State, a_path, a_type}
+use Rattle.rust_v0.specs.Unfold.{ended_at, as_path, as_type}
+use Rattle.rust_direct.specs.declared.open.Forms.{Forms}
+use Rattle.rust_direct.specs.declared.open.Forms.TheVariants as forms
+use Rattle.rust_direct.specs.declared.open.Note.{Note}
+use Rattle.rust_direct.specs.declared.direct.Direct.{Direct}
+use Rattle.rust_direct.specs.Holes.{Expects, Wanted, path, other_path, type, is_for_type, kind_of, IsNumberAt}
+use Rattle.rust_direct.specs.Prints.{TypePrints}
+use Rattle.rust_direct.specs.Says.{Says, Holds, is_type}
+use Rattle.rust_direct.specs.Notes.{home}
+use Rattle.rust_direct.specs.Written.{Writes, piece}
+use Rattle.rust_direct.specs.Stands.{AreNotesOf}
+use Rattle.rust_direct.specs.Awaits.{Awaits, IsEnded}
+use Rattle.rust_direct.proofs.Kept.{notes-written, piece-found}
+use Rattle.rust_direct.proofs.MovesOfTypes.{type-referred}
+use Rattle.rust_direct.proofs.PrintedTypes.{path-is-type}
+use Rattle.rust_direct.proofs.PathsRead.{stands-written}
+use Rattle.rust_direct.proofs.Again.{note-found}
+
+-- ## What stands before
+
+path-as-type : (v : Value) (p : tree.Path) → as_path (Some v) ≡ Some p → as_type (Some v) ≡ Some (tree.path_type p)
+path-as-type (a_path q) p is = let same : q ≡ p = cc is in ap (λ x. Some (tree.path_type x)) same
+path-as-type (a_type (tree.path_type q)) p is = let same : q ≡ p = cc is in ap (λ x. Some (tree.path_type x)) same
+path-as-type _ p is = cc is
+
+-- what a note says of a type
+type-said : (f : Forms) (v : Value) (bytes : List ℕ) → is_type f ≡ true → Says f v bytes
+    → (t : tree.Ty) × (as_type (Some v) ≡ Some t) × TypePrints t bytes × Says f (a_type t) bytes
+type-said forms.Alike v bytes is h =
+    (tree.path_type h.0, path-as-type v h.0 h.1, path-is-type h.0 bytes h.2.1, (h.0, refl, h.2))
+type-said forms.Valued v bytes is h = absurd (false≢true is)
+type-said forms.Plain v bytes is h = (tree.path_type h.0, path-as-type v h.0 h.1, path-is-type h.0 bytes h.2, (h.0, refl, h.2))
+type-said forms.Typed v bytes is h = (h.0, h.1, h.2, (h.0, refl, h.2))
+type-said forms.Unnamed v bytes is h = absurd (false≢true is)
+
+-- a type is expected as nothing else
+as-wanted : (w : Wanted) → is_for_type w ≡ true → kind_of w ≡ TYPE
+as-wanted path e = absurd (false≢true e)
+as-wanted other_path e = absurd (false≢true e)
+as-wanted type e = refl
+
+-- a type is written once more
+pub type-repeated : (s : List ℕ) (old middle : Direct) (from n end k : ℕ) (note : Note) → Awaits s old true → StandsAt s old.at (66 ∷ [])
+    → IsNumberAt s (old.at + 1) n end → slice_get old.numbers.items (n + 2) ≡ Some (suc k) → slice_get old.notes.list.items k ≡ Some note
+    → is_type note.forms ≡ true → from ≡ length old.text.list.items
+    → Writes old middle (piece (home old.is_aside note.is_aside old.text.list.items old.aside.list.items) note.from note.to)
+    → IsEnded s (record middle { at = end }) old.at from note.forms forms.Typed
+type-repeated s old middle from n end k note awaits letter number numbered noted is from_is writes =
+    let r = awaits.awaited in
+    let found = note-found old awaits.state (n + 2) k note awaits.notes numbered noted in
+    let own = found.2 in
+    let said = type-said note.forms found.0 own.bytes is own.says in
+    let t = said.0 in
+    let bytes = own.bytes in
+    let same = (piece-found (home old.is_aside note.is_aside old.text.list.items old.aside.list.items) own.front own.bytes own.back note.from note.to
+    own.written_is own.from_is own.to_is).2 in
+    let write = subst (λ l. Writes old middle l) same writes in
+    let expects = subst (λ x. Expects s x r.os old.at awaits.state) (as-wanted r.wanted r.is_for) r.awaits in
+    let holds : Holds forms.Typed (a_type t) bytes = (t, refl, said.2) in
+    record {
+      before = awaits.state;
+      notes = notes-written old middle bytes awaits.state write awaits.notes;
+      os = r.os;
+      v = a_type t;
+      front = old.text.list.items;
+      bytes = bytes;
+      written = write.text;
+      from_is = from_is;
+      says = said.3;
+      holds = holds;
+      comes = type-referred s r.os old.at awaits.state n end t expects letter number (ap as_type found.1 ∙ said.1) said.2.needs_none;
+      stands = stands-written s old middle bytes r.os old.text.list.items write r.stands;
+    }

@@ -1,0 +1,8 @@
+use Rattle.std.proofs.Common.{subst}
+use Rattle.rust_direct.specs.declared.open.Open.TheVariants as opens
+use Rattle.rust_direct.specs.Awaits.{Arrives}
+use Rattle.rust_direct.proofs.direct.Direct.wrap_ended.Goals as goal
+
+pub angle_ended-requires : goal.angle_ended-requires
+angle_ended-requires c =
+    subst (λ k. Arrives c.args.s.now c.args.self.now (opens.Wrap c.args.place c.args.from k) c.args._here c.args.forms) c.in-Angle.is c.requires

@@ -1,0 +1,102 @@
+// Impls, whose paths are read and not shown.
+
+ghost use Rattle.std.specs.Prelude.{◌∷◌, []};
+ghost use Rattle.std.specs.Option.{IfSome};
+ghost use Rattle.sym_core.specs.Number.{FitsSymbol};
+ghost use Rattle.sym_direct.specs.Holes.{StandsAt};
+ghost use Rattle.rust_direct.specs.declared.open.Closing.TheVariants as closings;
+ghost use Rattle.rust_direct.specs.declared.open.Open.TheVariants as opens;
+ghost use Rattle.rust_direct.specs.Stands.{IsWriting};
+ghost use Rattle.rust_direct.specs.Awaits.{AwaitsPath, Arrives};
+
+use crate::direct::Direct;
+use crate::open::{Closing, Forms, Open, Step, is_path, is_type};
+use crate::tokens::disambiguator_at;
+
+impl Direct {
+    // <path> = "M" <impl-path> <type>
+    pub(crate) fn begin_impl(&mut self, s: &[u8]) -> Option<Step>
+        requires fits { FitsSymbol s.now }
+        requires letter { StandsAt s.now self.old.at (77 ∷ []) }
+        requires awaits { AwaitsPath s.now self.old }
+        ensures { IfSome result (IsWriting s.now self.new) }
+    {
+        let place = self.at;
+        let (_count, behind) = disambiguator_at(s, place.checked_add(1)?)?;
+        if self.is_aside {
+            return None;
+        }
+        self.at = behind;
+        self.waiting.push(Open::Impl { place })?;
+        self.turn();
+        Some(Step::Path { is_value: false })
+    }
+
+    /// The path of an impl is read, and its type follows.
+    // <path> = "M" <impl-path> <type>
+    pub(crate) fn impl_ended(
+        &mut self,
+        _s: &[u8],
+        _here: usize,
+        forms: Forms,
+        place: usize,
+    ) -> Option<Step>
+        requires { Arrives _s.now self.old (opens.Impl place) _here forms }
+        ensures { IfSome result (IsWriting _s.now self.new) }
+    {
+        if !is_path(forms) {
+            return None;
+        }
+        if !self.is_aside {
+            return None;
+        }
+        self.turn();
+        let from = self.text.len();
+        self.push_byte(b'<')?;
+        self.waiting.push(Open::Wrap {
+            place,
+            from,
+            closing: Closing::Angle,
+        })?;
+        Some(Step::Type)
+    }
+
+    /// The type of an impl is read.
+    // <path> = "M" <impl-path> <type>
+    fn angle_ended(
+        &mut self,
+        s: &[u8],
+        _here: usize,
+        forms: Forms,
+        place: usize,
+        from: usize,
+    ) -> Option<Step>
+        requires { Arrives s.now self.old (opens.Wrap place from closings.Angle) _here forms }
+        ensures { IfSome result (IsWriting s.now self.new) }
+    {
+        if !is_type(forms) {
+            return None;
+        }
+        self.push_byte(b'>')?;
+        self.ended(s, place, from, Forms::Alike, Forms::Alike)
+    }
+
+    /// The type is read that something waited for.
+    pub(crate) fn wrap_ended(
+        &mut self,
+        s: &[u8],
+        _here: usize,
+        forms: Forms,
+        place: usize,
+        from: usize,
+        closing: Closing,
+    ) -> Option<Step>
+        requires { Arrives s.now self.old (opens.Wrap place from closing) _here forms }
+        ensures { IfSome result (IsWriting s.now self.new) }
+    {
+        match closing {
+            Closing::Angle => self.angle_ended(s, _here, forms, place, from),
+            _ => None,
+        }
+    }
+}
