@@ -1,5 +1,5 @@
 -- Paths with arguments that were read and written.
-use Rattle.std.proofs.Common.{◌≡◌, ℕ, ◌+◌, ◌≤◌, List, [], ◌∷◌, ◌++◌, length, reverse, Bool, true, false, Option, Some, refl, ap, sym, subst, ◌∙◌, append_assoc, append-nil, codes, cond, ◌≢◌, nat_eq, arith}
+use Rattle.std.proofs.Common.{◌≡◌, ℕ, ◌+◌, ◌≤◌, List, [], ◌∷◌, ◌++◌, length, reverse, Bool, true, false, Option, Some, refl, ap, sym, subst, ◌∙◌, append_assoc, append-nil, codes, ◌≢◌, nat_eq, arith}
 use Rattle.std.specs.Option.{option_to_list}
 use Rattle.std.proofs.lemmas.Bool.{false≢true}
 use Rattle.sym_direct.specs.Holes.{StandsAt}
@@ -19,13 +19,13 @@ use Rattle.rust_direct.specs.Holes.{Comes, Expects, within, Wanted, path, other_
 use Rattle.rust_direct.specs.Prints.{PathPrints, TypePrints, opening}
 use Rattle.rust_direct.specs.Says.{PathHas, Holds, has_form, is_type, form_of, is_path}
 use Rattle.rust_direct.specs.Written.{Writes, Pushes}
-use Rattle.rust_direct.specs.Stands.{Stands, IsWriting, IsListing, AreNotesOf, parked_of, separator_of}
+use Rattle.rust_direct.specs.Stands.{Stands, IsWriting, AreNotesOf, parked_of, separator_of}
 use Rattle.rust_direct.specs.Awaits.{Awaits, AwaitsPath, AwaitsArgument, Arrives, IsEnded}
 use Rattle.rust_direct.proofs.Kept.{notes-written, reverse-last}
 use Rattle.rust_direct.proofs.Moves.{expects-moved}
-use Rattle.rust_direct.proofs.MovesOfArguments.{generic_awaits, generic-opens, generic-goes-on, type_awaits, argument-opens, argument-goes-on, lifetime-goes-on, arguments-close}
+use Rattle.rust_direct.proofs.MovesOfArguments.{generic_awaits, generic-opens, generic-goes-on, type_awaits, argument-opens, argument-goes-on, arguments-close}
 use Rattle.rust_direct.proofs.MovesOfTypes.{basic-comes}
-use Rattle.rust_direct.proofs.PrintedPaths.{none-begin, type-begins, lifetime-begins, arguments-end, generic-prints}
+use Rattle.rust_direct.proofs.PrintedPaths.{none-begin, type-begins, arguments-end, generic-prints}
 use Rattle.rust_direct.proofs.PrintedTypes.{path-is-type, basic-prints}
 use Rattle.rust_direct.proofs.PathsRead.{form-held, path-says, stands-written, waits-too}
 

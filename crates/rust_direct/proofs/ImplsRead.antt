@@ -1,25 +1,20 @@
 -- Impls and implemented traits that were read and written, and types of one type.
-use Rattle.std.proofs.Common.{◌≡◌, ℕ, ◌+◌, ◌≤◌, List, [], ◌∷◌, ◌++◌, length, reverse, Bool, true, false, not, refl, ap, sym, subst, ◌∙◌, append_assoc, append-nil, codes, cond}
-use Rattle.std.proofs.lemmas.Bool.{false≢true}
+use Rattle.std.proofs.Common.{◌≡◌, ℕ, ◌+◌, List, [], ◌∷◌, ◌++◌, length, reverse, Bool, true, false, not, refl, ap, sym, subst, ◌∙◌, append_assoc, codes, cond}
 use Rattle.sym_direct.specs.Holes.{StandsAt}
 use Rattle.rust_tree.specs.Symbol as tree
-use Rattle.rust_tree.specs.Need.{need}
-use Rattle.rust_v0.specs.declared.kind.TheConstants.{PATH, TYPE}
-use Rattle.rust_v0.specs.Value.{Value, State, a_path, a_type}
+use Rattle.rust_v0.specs.Value.{a_path}
 use Rattle.rust_direct.specs.declared.open.Forms.{Forms}
 use Rattle.rust_direct.specs.declared.open.Forms.TheVariants as forms
 use Rattle.rust_direct.specs.declared.open.Closing.TheVariants as closings
-use Rattle.rust_direct.specs.declared.open.Open.{Open}
 use Rattle.rust_direct.specs.declared.open.Open.TheVariants as opens
 use Rattle.rust_direct.specs.declared.open.Step.TheVariants as steps
 use Rattle.rust_direct.specs.declared.direct.Direct.{Direct}
-use Rattle.rust_direct.specs.Holes.{Comes, Expects, within, Wanted, path, type, IsType, Ends, IsDisambiguatorAt}
-use Rattle.rust_direct.specs.Prints.{PathPrints, TypePrints}
-use Rattle.rust_direct.specs.Says.{PathHas, Holds, has_form, is_type, is_path}
+use Rattle.rust_direct.specs.Holes.{Comes, within, path, type, Ends, IsDisambiguatorAt}
+use Rattle.rust_direct.specs.Says.{Holds, is_type, is_path}
 use Rattle.rust_direct.specs.Written.{Writes, Pushes}
-use Rattle.rust_direct.specs.Stands.{Stands, IsWriting, AreNotesOf, parked_of, ImplPrints}
+use Rattle.rust_direct.specs.Stands.{Stands, IsWriting, parked_of}
 use Rattle.rust_direct.specs.Awaits.{AwaitsPath, Arrives, IsEnded}
-use Rattle.rust_direct.proofs.Kept.{notes-written, notes-turned, reverse-last}
+use Rattle.rust_direct.proofs.Kept.{notes-written, notes-turned}
 use Rattle.rust_direct.proofs.MovesOfTypes.{impl-opens}
 use Rattle.rust_direct.proofs.PrintedPaths.{impl-prints}
 use Rattle.rust_direct.proofs.PathsRead.{path-held, path-says, stands-written, waits-too}

@@ -1,11 +1,11 @@
 -- Types that were read and written: those of one type, and those that stand before.
-use Rattle.std.proofs.Common.{◌≡◌, ℕ, suc, ◌+◌, ◌-◌, ◌≤◌, List, [], ◌∷◌, ◌++◌, length, reverse, slice_get, Bool, true, false, Option, Some, None, refl, ap, sym, subst, ◌∙◌, append_assoc, append-nil, codes}
+use Rattle.std.proofs.Common.{◌≡◌, ℕ, suc, ◌+◌, List, [], ◌∷◌, length, slice_get, true, Some, refl, ap, subst, ◌∙◌}
 use Rattle.std.proofs.lemmas.Bool.{false≢true}
 use Rattle.sym_direct.specs.Holes.{StandsAt}
 use Rattle.rust_tree.specs.Symbol as tree
 use Rattle.rust_v0.specs.declared.kind.TheConstants.{TYPE}
-use Rattle.rust_v0.specs.Value.{Value, State, a_path, a_type}
-use Rattle.rust_v0.specs.Unfold.{ended_at, as_path, as_type}
+use Rattle.rust_v0.specs.Value.{Value, a_path, a_type}
+use Rattle.rust_v0.specs.Unfold.{as_path, as_type}
 use Rattle.rust_direct.specs.declared.open.Forms.{Forms}
 use Rattle.rust_direct.specs.declared.open.Forms.TheVariants as forms
 use Rattle.rust_direct.specs.declared.open.Note.{Note}
@@ -15,7 +15,6 @@ use Rattle.rust_direct.specs.Prints.{TypePrints}
 use Rattle.rust_direct.specs.Says.{Says, Holds, is_type}
 use Rattle.rust_direct.specs.Notes.{home}
 use Rattle.rust_direct.specs.Written.{Writes, piece}
-use Rattle.rust_direct.specs.Stands.{AreNotesOf}
 use Rattle.rust_direct.specs.Awaits.{Awaits, IsEnded}
 use Rattle.rust_direct.proofs.Kept.{notes-written, piece-found}
 use Rattle.rust_direct.proofs.MovesOfTypes.{type-referred}
