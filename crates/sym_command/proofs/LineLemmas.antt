@@ -2,6 +2,7 @@
 use Rattle.std.proofs.Common.{◌≡◌, ℕ, ◌+◌, ◌<◌, Bool, true, false, cond, ◌&&◌, List, [], ◌∷◌, ◌++◌, length, take, get_or, map, sym, ap, ◌∙◌, append_assoc, refl, subst, Bor, Some, None, Err, Result}
 use Rattle.std.specs.Prelude.{is_some, unwrap_or}
 use Rattle.std.specs.List.{list_all}
+use Rattle.std.proofs.lemmas.Bool.{false≢true}
 use Rattle.std.proofs.lemmas.List.{append-nil, map-append, take_more}
 use Rattle.std.proofs.lemmas.List.Folds.{list_all-append}
 use Rattle.std.proofs.Math.Bool.{and-true}
@@ -55,12 +56,13 @@ nothing-behind answers counting false word none = refl
 pub answer_of-symbol : (answers : Answering) (word symbol : List ℕ) (kind : Kind) (answer : Result (List ℕ) Refusal) → kind_of word ≡ Some kind → symbol ≡ symbol_of kind word → answers kind symbol ≡ answer → answer_for answers word ≡ Some answer
 answer_of-symbol answers word symbol kind answer named same is = answer_for-named answers word kind answer named (ap (answers kind) (sym same) ∙ is)
 
-pub counts-behind : (answers : Answering) (counting : Counting) (stats : Bool) (word symbol : List ℕ) (kind : Kind) (answer : Result (List ℕ) Refusal) (counts : Counts) → kind_of word ≡ Some kind → symbol ≡ symbol_of kind word → answer_for answers word ≡ Some answer → is_read answer ≡ true → counting kind.lang symbol counts → IsBehindLine (AreCountsFor counting word) (stats && is_read_word (answer_for answers word)) (cond stats (counts_text counts.rows counts.nodes counts.steps ++ 10 ∷ []) [])
-counts-behind answers counting true word symbol kind answer counts named same answered read are =
+-- the line of counts, where they are asked for
+pub counts-behind : (answers : Answering) (counting : Counting) (stats : Bool) (word symbol : List ℕ) (kind : Kind) (answer : Result (List ℕ) Refusal) (counts : Counts) → stats ≡ true → kind_of word ≡ Some kind → symbol ≡ symbol_of kind word → answer_for answers word ≡ Some answer → is_read answer ≡ true → counting kind.lang symbol counts → IsBehindLine (AreCountsFor counting word) (stats && is_read_word (answer_for answers word)) (counts_text counts.rows counts.nodes counts.steps ++ 10 ∷ [])
+counts-behind answers counting true word symbol kind answer counts asked named same answered read are =
     let text = counts_text counts.rows counts.nodes counts.steps ++ 10 ∷ [] in
     let counted : IsCountsLine (AreCountsFor counting word) text = record { counts = counts; are = (kind, named, subst (λ (t : List ℕ). counting kind.lang t counts) same are); is = refl } in
     subst (λ (b : Bool). IsBehindLine (AreCountsFor counting word) b text) (sym (ap is_read_word answered ∙ read)) counted
-counts-behind answers counting false word symbol kind answer counts named same answered read are = refl
+counts-behind answers counting false word symbol kind answer counts asked named same answered read are = absurd (false≢true asked)
 
 not-read : (refusal : Refusal) → (refusal ≡ TooLong → ⊥) → is_read (Err refusal) ≡ false
 not-read (Malformed at) h = refl

@@ -33,6 +33,13 @@ const DEFAULT_LIMIT: u32 = 1_000_000;
 const VERSION: &str =
     "0.1.0 (C++ by the Itanium ABI 5.1, Rust v0 by RFC 2603; proved with rattle-kit-13f)";
 
+/// What help shows behind the options.
+const EXAMPLES: &str = "\
+Examples:
+  nm prog | symfilt        the names of a program
+  symfilt < FILE           a file; no argument names one
+  symfilt --brief _Z1fIiEvT_";
+
 /// How symbols are answered.
 #[derive(Clone, Copy, Debug, PartialEq, Eq)]
 pub struct Options {
@@ -105,6 +112,7 @@ fn command_line<'a>(alloc: Global, words: &'a [&'a str]) -> Result<ArgMatches<'a
     Command::new(alloc, "symfilt")
         .version(VERSION)
         .about("Prints C++ (Itanium ABI) and Rust (v0) symbols")
+        .after_help(EXAMPLES)
         .arg(limit)?
         .arg(stats)?
         .arg(press)?

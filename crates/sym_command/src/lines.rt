@@ -1,12 +1,13 @@
 // The lines of a word: its answer, and what is said of one that has no text.
-ghost use Rattle.std.specs.Prelude.{◌≡◌, ◌≢◌, List, ℕ, [], ◌∷◌, ◌++◌, ◌&&◌, OnOk, OnErr, IfOk, is_some, string_bytes, if◌then◌else◌};
+ghost use Rattle.std.specs.Prelude.{◌≡◌, ◌≢◌, List, ℕ, [], ◌∷◌, ◌++◌, ◌&&◌, OnOk, OnErr, IfOk, Some, is_some, string_bytes};
+ghost use Rattle.sym_filter.specs.Kinds.{kind_of};
 ghost use Rattle.sym_filter.specs.Runs.{text_for};
 ghost use Rattle.sym_filter.specs.Streams.{BeginsWith};
 ghost use Rattle.sym_command.specs.Lines.{answer_for, is_read_word, line_of, counts_text, AreCountsFor, IsBehindLine, reason_of, complaint_with, complaint_of};
 
 use std::alloc::{AllocError, Global};
 use sym_core::{Counts, Refusal};
-use sym_filter::{Demangled, Demangler, kind_of};
+use sym_filter::{Demangled, Demangler, Kind, kind_of};
 
 /// Appends the lines of one word, and says whether it has a text. Where memory runs out, nothing is appended.
 pub fn answer_word<D: Demangler>(
@@ -64,15 +65,19 @@ fn push_lines<D: Demangler>(
         push_line(err, complaint.as_bytes())?;
         return Ok(false);
     };
+    if !stats {
+        let has_text = push_answer(alloc, demangler, lists, kind, word, out, err)?;
+        return Ok(has_text);
+    }
     match demangler.demangle(lists, kind, kind.symbol_of(word.as_bytes()), out) {
         Demangled::Text(counts) => {
             out.push(b'\n')?;
-            push_counts(alloc, stats, counts, out)?;
+            push_counts(alloc, counts, out)?;
             Ok(true)
         }
         Demangled::TooLong(counts) => {
             push_refused(alloc, word, Refusal::TooLong, out, err)?;
-            push_counts(alloc, stats, counts, out)?;
+            push_counts(alloc, counts, out)?;
             Ok(false)
         }
         Demangled::Refused(refusal) => {
@@ -82,20 +87,41 @@ fn push_lines<D: Demangler>(
     }
 }
 
-/// Appends the line of counts, where they are asked for.
-fn push_counts(
+/// Appends the line of a symbol of which no counts are asked for, or a beginning of it, and says whether it has a text.
+fn push_answer<D: Demangler>(
     alloc: Global,
-    stats: bool,
-    counts: Counts,
+    demangler: &D,
+    lists: &mut D::Lists,
+    kind: Kind,
+    word: &str,
     out: &mut Vec<u8>,
-) -> Result<(), AllocError>
-    ensures line { OnOk result (out.new.items ≡ out.old.items
-        ++ (if stats then counts_text counts.rows counts.nodes counts.steps ++ 10 ∷ [] else [])) }
+    err: &mut Vec<u8>,
+) -> Result<bool, AllocError>
+    requires kind { kind_of word.now ≡ Some kind }
+    ensures line { OnOk result (out.new.items ≡ out.old.items ++ line_of (D.answer demangler.now) word.now) }
+    ensures complaint { OnOk result (err.new.items ≡ err.old.items ++ complaint_of (D.answer demangler.now) word.now) }
+    ensures has_text { IfOk result (λ has_text. has_text
+        ≡ is_some (text_for (D.answer demangler.now) word.now)) }
+    ensures out { BeginsWith out.new.items out.old.items }
+    ensures err { BeginsWith err.new.items err.old.items }
+{
+    match demangler.append(lists, kind, kind.symbol_of(word.as_bytes()), out) {
+        Ok(()) => {
+            out.push(b'\n')?;
+            Ok(true)
+        }
+        Err(refusal) => {
+            push_refused(alloc, word, refusal, out, err)?;
+            Ok(false)
+        }
+    }
+}
+
+/// Appends the line of counts.
+fn push_counts(alloc: Global, counts: Counts, out: &mut Vec<u8>) -> Result<(), AllocError>
+    ensures line { OnOk result (out.new.items ≡ out.old.items ++ (counts_text counts.rows counts.nodes counts.steps ++ 10 ∷ [])) }
     ensures out { BeginsWith out.new.items out.old.items }
 {
-    if !stats {
-        return Ok(());
-    }
     let Counts { rows, nodes, steps } = counts;
     let line = format!(in alloc; "rows {rows} nodes {nodes} steps {steps}")?;
     push_line(out, line.as_bytes())

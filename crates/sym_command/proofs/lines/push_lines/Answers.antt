@@ -1,4 +1,4 @@
-use Rattle.std.proofs.Common.{◌≡◌, ◌++◌, ◌∷◌, ◌∙◌, [], List, ℕ, cond, sym, ap, refl, Ok, Err, Some, None}
+use Rattle.std.proofs.Common.{◌≡◌, ◌++◌, ◌∷◌, ◌∙◌, [], List, ℕ, sym, ap, refl, Ok, Err, Some, None}
 use Rattle.std.specs.Prelude.{is_some, codes}
 use Rattle.std.proofs.lemmas.List.{append-nil}
 use Rattle.sym_core.specs.declared.refusal.Refusal.TheVariants as refusals
@@ -40,12 +40,12 @@ returns-in_ok-push_counts-in-Text-clause-line g c =
     let same : symbol ≡ symbol_of kind word = c.symbol_of.ensures.symbol ∙ ap (symbol_of kind) c.as_bytes-2.ensures.value in
     let counting = g.D.Demangler.are_counts c.args.demangler.now in
     let counts = c.in-Text.counts in
-    let behind : List ℕ = cond c.args.stats (counts_text counts.rows counts.nodes counts.steps ++ 10 ∷ []) [] in
+    let behind : List ℕ = counts_text counts.rows counts.nodes counts.steps ++ 10 ∷ [] in
     let given = c.in-Text.ensures.1 in
     let line = text-line answers word c.args.out.now.items c.demangle.new.out.items c.push.new.self.items given.0 (text_of-symbol answers word symbol kind (Ok given.0) named same given.1) given.2 c.in_ok-push-in-Text.ensures.items in (
       behind,
       c.in_ok-push_counts-in-Text.ensures.line ∙ ap (λ (t : List ℕ). t ++ behind) line,
-      counts-behind answers counting c.args.stats word symbol kind (Ok given.0) counts named same (answer_of-symbol answers word symbol kind (Ok given.0) named same given.1) refl c.in-Text.ensures.0,
+      counts-behind answers counting c.args.stats word symbol kind (Ok given.0) counts c.if-not-stats.false named same (answer_of-symbol answers word symbol kind (Ok given.0) named same given.1) refl c.in-Text.ensures.0,
     )
 
 pub returns-in_ok-push_counts-in-Text-clause-complaint : goal.returns-in_ok-push_counts-in-Text-clause-complaint
@@ -80,12 +80,12 @@ returns-in_ok-push_counts-in-TooLong-clause-line g c =
     let same : symbol ≡ symbol_of kind word = c.symbol_of.ensures.symbol ∙ ap (symbol_of kind) c.as_bytes-2.ensures.value in
     let counting = g.D.Demangler.are_counts c.args.demangler.now in
     let counts = c.in-TooLong.counts in
-    let behind : List ℕ = cond c.args.stats (counts_text counts.rows counts.nodes counts.steps ++ 10 ∷ []) [] in
+    let behind : List ℕ = counts_text counts.rows counts.nodes counts.steps ++ 10 ∷ [] in
     let answered = answer_of-symbol answers word symbol kind (Err refusals.TooLong) named same c.in-TooLong.ensures.1 in
     let line = word-line answers word word c.args.out.now.items c.demangle.new.out.items c.push_refused.new.out.items (text_of-symbol answers word symbol kind (Err refusals.TooLong) named same c.in-TooLong.ensures.1) refl c.in-TooLong.ensures.2 c.in_ok-push_refused-in-TooLong.ensures.line in (
       behind,
       c.in_ok-push_counts-in-TooLong.ensures.line ∙ ap (λ (t : List ℕ). t ++ behind) line,
-      counts-behind answers counting c.args.stats word symbol kind (Err refusals.TooLong) counts named same answered refl c.in-TooLong.ensures.0,
+      counts-behind answers counting c.args.stats word symbol kind (Err refusals.TooLong) counts c.if-not-stats.false named same answered refl c.in-TooLong.ensures.0,
     )
 
 pub returns-in_ok-push_counts-in-TooLong-clause-complaint : goal.returns-in_ok-push_counts-in-TooLong-clause-complaint
