@@ -137,6 +137,16 @@ def check_refused(program, word, reason):
     return wrong if reason == b"too long" else wrong + differences([word], program.answers(["--press"], [word]), [reason])
 
 
+def check_oversize(program, front, count, repeated, end):
+    size = len(front) + int(count) * len(repeated) + len(end)
+    raise Skipped(f"a word of {size} bytes, for the static library alone")
+
+
+def check_nameless(program, word):
+    wrong = differences([word], program.answers([], [word]), [b"not a symbol"])
+    return wrong + (differences([word], program.filtered([], [word]), [word]) if is_filtered_alone(word) else [])
+
+
 def check_press(program, word, pressed):
     words, wanted = [word, pressed], [pressed, pressed]
     return differences(words, program.answers(["--press", "--limit=0"], words), wanted)
@@ -183,6 +193,8 @@ CHECKS = {
     b"long": check_long,
     b"repeated": check_repeated,
     b"refused": check_refused,
+    b"oversize": check_oversize,
+    b"nameless": check_nameless,
     b"press": check_press,
     b"filter": check_filter,
     b"command": check_command,

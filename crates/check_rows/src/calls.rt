@@ -17,7 +17,7 @@ use sym_print::Detail;
 const BEFORE: &[u8] = b"> ";
 
 /// An answer that no row has, where a call doesn't keep to what it promises beside its answer.
-fn broken(alloc: Global, promise: &[u8]) -> Result<Vec<u8>, Refusal> {
+pub fn broken(alloc: Global, promise: &[u8]) -> Result<Vec<u8>, Refusal> {
     Ok(Vec::from_slice(alloc, promise)?)
 }
 

@@ -1,6 +1,7 @@
 // The command line and the filter, as the program has them.
 
 use crate::answer::{says, unspelled};
+use crate::library::library_filters;
 use std::alloc::Global;
 use std::str;
 use sym_command::{FAULT, Run, run};
@@ -54,7 +55,12 @@ pub fn is_filtered(
         Run::Filter { limit, detail } => {
             let text = unspelled(alloc, text)?;
             let answer = filtered(alloc, &text, limit, detail);
-            Ok(out.is_empty() && err.is_empty() && says(alloc, &answer, wanted)?)
+            Ok(
+                out.is_empty()
+                    && err.is_empty()
+                    && says(alloc, &answer, wanted)?
+                    && library_filters(alloc, &text, limit, detail, wanted)?,
+            )
         }
         Run::Done(FAULT) => Err(Refusal::Memory),
         Run::Done(_) => Ok(false),

@@ -4,6 +4,7 @@ use crate::answer::spelled;
 use crate::calls::{by_demangler, calls_say, demangler_says, pieces_say, presses_say};
 use crate::changes::{self, Change};
 use crate::commands::{is_ended, is_filtered};
+use crate::library::{is_told_nameless, is_told_oversize, library_presses, library_says};
 use itanium::Abi;
 use rust_v0::{Detail, V0};
 use std::alloc::Global;
@@ -55,6 +56,9 @@ fn is_answered(
     }
     let languages = Languages { limit, detail };
     if !demangler_says(alloc, &languages, lists, kind, s, wanted)? {
+        return Ok(false);
+    }
+    if !library_says(alloc, lists, kind, s, limit, detail, wanted)? {
         return Ok(false);
     }
     match kind.lang {
@@ -200,6 +204,9 @@ fn is_pressed_to(
         return Ok(false);
     }
     let pressed_symbol = pressed_kind.symbol_of(pressed);
+    if !library_presses(alloc, s, pressed_symbol)? {
+        return Ok(false);
+    }
     match kind.lang {
         Lang::Cpp => presses_say::<Abi>(alloc, s, pressed_symbol),
         Lang::Rust => presses_say::<V0>(alloc, s, pressed_symbol),
@@ -235,7 +242,10 @@ fn is_unpressed(
         let pressed = spelled(alloc, &pressed)?;
         return demangler_says(alloc, &Pressing, lists, kind, s, &pressed);
     }
-    demangler_says(alloc, &Pressing, lists, kind, s, reason)
+    Ok(
+        demangler_says(alloc, &Pressing, lists, kind, s, reason)?
+            && library_presses(alloc, s, reason)?,
+    )
 }
 
 /// Whether a symbol that is cut, or changed, at each place in turn is answered as a row says.
@@ -334,6 +344,26 @@ fn of_refused(alloc: Global, lists: &mut Lists, fields: &[&[u8]]) -> Result<bool
     }
 }
 
+/// Whether a row `oversize` holds.
+fn of_oversize(alloc: Global, fields: &[&[u8]]) -> Result<bool, Refusal> {
+    let [front, count, bytes, end] = fields else {
+        return Ok(false);
+    };
+    let Some(count) = number(count) else {
+        return Ok(false);
+    };
+    let s = repeated(alloc, front, count, bytes, end)?;
+    Ok(!fits(&s) && is_told_oversize(alloc, &s)?)
+}
+
+/// Whether a row `nameless` holds.
+fn of_nameless(alloc: Global, fields: &[&[u8]]) -> Result<bool, Refusal> {
+    match fields {
+        [word] => Ok(kind_of(word).is_none() && is_told_nameless(alloc, word)?),
+        _ => Ok(false),
+    }
+}
+
 /// Whether a row `press` holds.
 fn of_press(alloc: Global, lists: &mut Lists, fields: &[&[u8]]) -> Result<bool, Refusal> {
     match fields {
@@ -395,6 +425,8 @@ fn hold(alloc: Global, lists: &mut Lists, what: &[u8], fields: &[&[u8]]) -> Resu
         b"long" => of_long(alloc, lists, fields),
         b"repeated" => of_repeated(alloc, lists, fields),
         b"refused" => of_refused(alloc, lists, fields),
+        b"oversize" => of_oversize(alloc, fields),
+        b"nameless" => of_nameless(alloc, fields),
         b"press" => of_press(alloc, lists, fields),
         b"filter" => of_filter(alloc, fields),
         b"command" => of_command(alloc, fields),
