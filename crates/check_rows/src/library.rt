@@ -22,6 +22,9 @@ const UNWRITTEN: u8 = 0xa5;
 /// What stands in each number before a call tells it.
 const UNTOLD: u32 = 0xa5a5_a5a5;
 
+/// A number that is no detail.
+const NO_DETAIL: u32 = 4;
+
 /// A call that writes to a room.
 #[derive(Clone, Copy)]
 enum Call {
@@ -65,6 +68,8 @@ fn number_of(detail: Detail) -> u32 {
     match detail {
         Detail::Full => 0,
         Detail::Brief => 1,
+        Detail::NoParameters => 2,
+        Detail::BriefNoParameters => 3,
     }
 }
 
@@ -323,7 +328,7 @@ fn are_ends_refused(alloc: Global, s: &[u8], detail: u32) -> Result<bool, Refusa
             && status_of_all(alloc, s, &[len, len], 1, detail)? == Some(ENDS)
             && status_of_all(alloc, s, &[past], 1, detail)? == Some(ENDS)
             && status_of_all(alloc, s, &[1, 0], 2, detail)? == Some(ENDS)
-            && status_of_all(alloc, s, &[len], 1, 2)? == Some(DETAIL),
+            && status_of_all(alloc, s, &[len], 1, NO_DETAIL)? == Some(DETAIL),
     )
 }
 
@@ -421,7 +426,7 @@ pub fn library_says(
             && word_says(alloc, s, limit, detail, wanted)?
             && many_say(alloc, s, limit, detail)?
             && counts_say(alloc, lists, kind, s)?
-            && is_detail_refused(alloc, s, limit, 2)?
+            && is_detail_refused(alloc, s, limit, NO_DETAIL)?
             && are_ends_refused(alloc, s, detail)?,
     )
 }
