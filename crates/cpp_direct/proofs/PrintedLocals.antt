@@ -1,5 +1,6 @@
 -- Entities in encodings, and their guard variables.
 use Rattle.std.proofs.Common.{◌≡◌, ◌≢◌, refl, ap, sym, ◌∙◌, ℕ, ◌+◌, ◌*◌, ◌≤◌, List, [], ◌∷◌, ◌++◌, length, Bool, false, Option, arith, codes, length-append, append-nil, subst}
+use Rattle.sym_print.specs.declared.detail.Detail.TheVariants.{Full}
 use Rattle.sym_print.specs.Unfold.{text}
 use Rattle.sym_print.specs.Unshared.{text_of, cost_of}
 use Rattle.cpp_grammar.specs.Term.{Qualifiers, RefQualifier, any_value, Term, function, object, guard, local, within, source, builtin, nil, absent}
@@ -16,11 +17,11 @@ use Rattle.cpp_direct.proofs.PrintedSymbols.{encoding-function, encoding-void, e
 
 -- ## Encodings in front of an entity
 
-bare-same : (t : Term) → bare_parts t ≡ full_parts t → in_form bare closed t ≡ in_form full closed t
+bare-same : (t : Term) → bare_parts Full t ≡ full_parts Full t → in_form bare closed t ≡ in_form full closed t
 unfolding parts_in
 bare-same t e = prints_parts bare closed t ∙ ap printed_by e ∙ sym (prints_parts full closed t)
 
-encloses-as : (t : Term) (b : List ℕ) → bare_parts t ≡ full_parts t → ((context : Context) → prefix_item context t ≡ as_item bare closed t)
+encloses-as : (t : Term) (b : List ℕ) → bare_parts Full t ≡ full_parts Full t → ((context : Context) → prefix_item context t ≡ as_item bare closed t)
     → Shows t b → Encloses t b
 encloses-as t b same front p = record {
   as_prefix = front;
