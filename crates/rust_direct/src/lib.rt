@@ -2,7 +2,7 @@
 //!
 //! Crate roots, paths in a namespace, inherent impls, and paths with arguments that are basic types or paths are read so, with back
 //! references, the crate that asked for a symbol, and a suffix. A symbol with anything else in it is given up, and is to be read by its
-//! grammar: no answer depends on this crate, which nothing calls yet.
+//! grammar: no answer depends on this crate, which one call in `sym_filter` (`languages`) makes and may leave out.
 #![tactic(auto)]
 
 mod arguments;

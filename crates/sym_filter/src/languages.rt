@@ -2,13 +2,13 @@
 ghost use Rattle.sym_core.specs.Number.{FitsSymbol};
 ghost use Rattle.sym_demangle.specs.Mangled.{answer};
 ghost use Rattle.cpp_grammar.specs.Mangled.{cpp_mangled};
+ghost use Rattle.rust_v0.specs.Mangled.{v0_mangled};
 ghost use Rattle.sym_filter.specs.Demangled.{IsAppended, IsDemangled};
 ghost use Rattle.sym_filter.specs.Languages.{answer_of, AreCounts, AreCountsOf};
 
 use crate::counted::Counted;
 use crate::demangler::{Demangled, Demangler};
 use crate::kinds::{Kind, Lang};
-use cpp_direct::Direct;
 use itanium::Abi;
 use rust_v0::V0;
 use std::alloc::{AllocError, Global};
@@ -28,7 +28,8 @@ pub struct Languages {
 pub struct Lists {
     pub cpp: Workspace<Abi>,
     pub rust: Workspace<V0>,
-    pub direct: Direct,
+    pub cpp_direct: cpp_direct::Direct,
+    pub rust_direct: rust_direct::Direct,
 }
 
 impl Lists {
@@ -36,7 +37,8 @@ impl Lists {
         Lists {
             cpp: Workspace::new(alloc),
             rust: Workspace::new(alloc),
-            direct: Direct::new(alloc),
+            cpp_direct: cpp_direct::Direct::new(alloc),
+            rust_direct: rust_direct::Direct::new(alloc),
         }
     }
 
@@ -88,7 +90,7 @@ impl Demangler for Languages {
     ) -> Result<(), Refusal> {
         match kind.lang {
             Lang::Cpp => append_cpp(lists, symbol, self.limit, self.detail, out),
-            Lang::Rust => append_in(&mut lists.rust, symbol, self.limit, self.detail, out),
+            Lang::Rust => append_rust(lists, symbol, self.limit, self.detail, out),
         }
     }
 }
@@ -105,12 +107,32 @@ fn append_cpp(
     ensures { IsAppended (answer cpp_mangled detail symbol.now limit) out.old.items out.new.items result }
 {
     if let Detail::Full = detail
-        && lists.direct.write(symbol, limit)
+        && lists.cpp_direct.write(symbol, limit)
     {
-        out.extend_from_slice(lists.direct.text())?;
+        out.extend_from_slice(lists.cpp_direct.text())?;
         return Ok(());
     }
     append_in(&mut lists.cpp, symbol, limit, detail, out)
+}
+
+/// Appends the text of a Rust symbol, where it has one. In full one of common parts is written while it is read.
+fn append_rust(
+    lists: &mut Lists,
+    symbol: &[u8],
+    limit: u32,
+    detail: Detail,
+    out: &mut Vec<u8>,
+) -> Result<(), Refusal>
+    requires { FitsSymbol symbol.now }
+    ensures { IsAppended (answer v0_mangled detail symbol.now limit) out.old.items out.new.items result }
+{
+    if let Detail::Full = detail
+        && lists.rust_direct.write(symbol, limit)
+    {
+        out.extend_from_slice(lists.rust_direct.text())?;
+        return Ok(());
+    }
+    append_in(&mut lists.rust, symbol, limit, detail, out)
 }
 
 /// Appends the text of a symbol of a mangling, where it has one.
