@@ -3,5 +3,7 @@ pub mod Prints
 pub mod Says
 pub mod Notes
 pub mod Written
+pub mod Specials
+pub mod Constants
 pub mod Stands
 pub mod Awaits

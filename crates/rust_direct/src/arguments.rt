@@ -1,7 +1,8 @@
 // Arguments of paths.
 
-ghost use Rattle.std.specs.Prelude.{◌≡◌, ◌∷◌, []};
+ghost use Rattle.std.specs.Prelude.{◌≡◌, ◌≢◌, ◌∷◌, []};
 ghost use Rattle.std.specs.Option.{IfSome};
+ghost use Rattle.sym_core.specs.Number.{FitsSymbol};
 ghost use Rattle.sym_direct.specs.Holes.{StandsAt};
 ghost use Rattle.rust_direct.specs.declared.open.Step.TheVariants as steps;
 ghost use Rattle.rust_direct.specs.declared.open.Open.TheVariants as opens;
@@ -50,6 +51,7 @@ impl Direct {
     /// Reads an argument, or the end of arguments.
     // <path> = "I" <path> {<generic-arg>} "E"
     pub(crate) fn argument_at(&mut self, s: &[u8], is_first: bool) -> Option<Step>
+        requires fits { FitsSymbol s.now }
         requires writing { IsWriting s.now self.old (steps.Arguments is_first) }
         ensures { IfSome result (IsWriting s.now self.new) }
     {
@@ -67,12 +69,17 @@ impl Direct {
     /// Reads an argument, up to the first type that stands in it.
     // <generic-arg> = <lifetime> | <type> | "K" <const>
     #[inline(always)]
-    fn next_argument(&mut self, _s: &[u8], byte: u8, _is_first: bool) -> Option<Step>
-        requires { AwaitsArgument _s.now self.old _is_first }
-        ensures { IfSome result (IsWriting _s.now self.new) }
+    fn next_argument(&mut self, s: &[u8], byte: u8, is_first: bool) -> Option<Step>
+        requires fits { FitsSymbol s.now }
+        requires letter { byte ≢ 0 → StandsAt s.now self.old.at (byte ∷ []) }
+        requires awaits { AwaitsArgument s.now self.old is_first }
+        ensures { IfSome result (IsWriting s.now self.new) }
     {
-        if byte == b'L' || byte == b'K' {
+        if byte == b'L' {
             return None;
+        }
+        if byte == b'K' {
+            return self.constant_argument(s, is_first);
         }
         Some(Step::Type)
     }

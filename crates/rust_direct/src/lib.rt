@@ -6,10 +6,12 @@
 #![tactic(auto)]
 
 mod arguments;
+mod constants;
 mod direct;
 mod impls;
 mod open;
 mod paths;
+mod specials;
 mod symbols;
 mod tokens;
 mod types;

@@ -11,7 +11,7 @@ ghost use Rattle.rust_direct.specs.Awaits.{Awaits, AwaitsPath, Arrives};
 
 use crate::direct::Direct;
 use crate::open::{Forms, Open, Step, is_path};
-use crate::tokens::{disambiguator_at, name_at, number_at};
+use crate::tokens::{disambiguator_at, is_namespace, name_at, number_at};
 use sym_direct::byte_at;
 
 impl Direct {
@@ -61,10 +61,7 @@ impl Direct {
         let place = self.at;
         let behind = place.checked_add(1)?;
         let letter = byte_at(s, behind);
-        if letter < b'a' {
-            return None;
-        }
-        if letter > b'z' {
+        if !is_namespace(letter) {
             return None;
         }
         self.at = behind.checked_add(1)?;
@@ -90,7 +87,7 @@ impl Direct {
             return None;
         }
         if letter < b'a' {
-            return None;
+            return self.special_ended(s, from, forms, letter, place);
         }
         let (_count, behind) = disambiguator_at(s, self.at)?;
         let name = name_at(s, behind)?;

@@ -59,6 +59,7 @@ impl Direct {
             b'I' => self.begin_generic(s, false),
             b'M' => self.begin_impl(s),
             b'B' => self.type_again(s),
+            b'A' => self.begin_array(s),
             letter => self.basic(s, letter),
         }
     }

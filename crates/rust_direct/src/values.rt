@@ -33,6 +33,10 @@ impl Direct {
                 from: begins,
                 closing,
             } => self.wrap_ended(s, from, forms, place, begins, closing),
+            Open::Array {
+                place,
+                from: begins,
+            } => self.array_ended(s, from, forms, place, begins),
             _ => None,
         }
     }
