@@ -1,6 +1,6 @@
 // Closures, shims, and other things that a compiler made.
 
-ghost use Rattle.std.specs.Prelude.{◌≡◌, ◌<◌, true};
+ghost use Rattle.std.specs.Prelude.{◌≡◌, ◌<◌, decimal, true};
 ghost use Rattle.std.specs.Option.{IfSome, OnSome};
 ghost use Rattle.sym_core.specs.Number.{FitsSymbol};
 ghost use Rattle.rust_tree.specs.Shown.{namespace_text};
@@ -14,6 +14,7 @@ ghost use Rattle.rust_direct.specs.Awaits.{Arrives};
 use crate::direct::Direct;
 use crate::open::{Forms, Step};
 use crate::tokens::{disambiguator_at, name_at};
+use itoa::Buffer;
 
 impl Direct {
     /// The parent of a path in a namespace of the compiler's own is read.
@@ -75,6 +76,15 @@ impl Direct {
         self.push_byte(b'#')?;
         self.push_decimal(count)?;
         self.push_byte(b'}')?;
+        Some(())
+    }
+
+    /// Writes a number in decimal digits.
+    pub(crate) fn push_decimal(&mut self, value: u64) -> Option<()>
+        ensures { OnSome result (Writes self.old self.new (decimal value)) }
+    {
+        let mut buffer = Buffer::new();
+        self.push(buffer.format(value).as_bytes())?;
         Some(())
     }
 

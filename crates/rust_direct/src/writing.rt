@@ -1,6 +1,6 @@
 // The texts and the notes, as they grow.
 
-ghost use Rattle.std.specs.Prelude.{◌≡◌, ◌+◌, ◌-◌, ◌≤◌, ◌∷◌, ◌++◌, [], ℕ, suc, slice_get, Some, decimal, length};
+ghost use Rattle.std.specs.Prelude.{◌≡◌, ◌+◌, ◌-◌, ◌≤◌, ◌∷◌, ◌++◌, [], ℕ, suc, slice_get, Some, length};
 ghost use Rattle.std.specs.Option.{OnSome, IfSome};
 ghost use Rattle.rust_direct.specs.Written.{Writes, Notes, piece};
 ghost use Rattle.rust_direct.specs.Notes.{home};
@@ -9,7 +9,6 @@ ghost use Rattle.rust_direct.specs.Awaits.{IsEnded};
 
 use crate::direct::Direct;
 use crate::open::{Forms, Note, Step};
-use itoa::Buffer;
 
 impl Direct {
     /// Writes a text.
@@ -34,15 +33,6 @@ impl Direct {
         ensures { OnSome result (Writes self.old self.new (first ∷ second ∷ [])) }
     {
         self.text.push_pair(first, second)
-    }
-
-    /// Writes a number in decimal digits.
-    pub(crate) fn push_decimal(&mut self, value: u64) -> Option<()>
-        ensures { OnSome result (Writes self.old self.new (decimal value)) }
-    {
-        let mut buffer = Buffer::new();
-        self.push(buffer.format(value).as_bytes())?;
-        Some(())
     }
 
     /// Notes what is written from a place of the text on, as what was read from a place of the symbol on.
