@@ -192,7 +192,7 @@ argument-awaited s w is_first p =
       };
     }
 
-joined : (front own opened bytes separator more : List ℕ)
+pub joined : (front own opened bytes separator more : List ℕ)
     → front ++ (own ++ opened ++ bytes ++ separator) ++ more ≡ front ++ (own ++ opened ++ (bytes ++ separator ++ more))
 joined front own opened bytes separator more =
     append_assoc front (own ++ opened ++ bytes ++ separator) more

@@ -5,12 +5,15 @@ use Rattle.std.proofs.Math.Seq.{drop-append_seam, take-append_seam}
 use Rattle.std.specs.Option.{IfSome}
 use Rattle.std.specs.Result.{result_ok}
 use Rattle.sym_core.specs.declared.NameClass.TheVariants.{Rust}
-use Rattle.sym_core.specs.declared.NumberKind.TheVariants.{Base62}
+use Rattle.sym_core.specs.declared.NumberKind.TheVariants.{Base62, Hex}
 use Rattle.sym_core.specs.declared.tokens.TokenPlace.{TokenPlace}
 use Rattle.sym_core.specs.Token.{Token, IsName, IsNumberToken, HasToken, FindsToken}
-use Rattle.sym_core.specs.Value.{counted_value}
+use Rattle.sym_core.specs.Number.{AreDigitsOf}
+use Rattle.sym_core.specs.Value.{counted_value, value_of}
+use Rattle.rust_v0.specs.Unfold.{greatest_u64}
 use Rattle.sym_direct.specs.Holes.{StandsAt}
 use Rattle.rust_direct.specs.Holes.{IsNameAt, IsNumberAt}
+use Rattle.rust_direct.specs.Constants.{IsHexAt}
 
 -- what stands between two places behind a third one
 piece-at : (s before own behind rest : List ℕ) (at from to : ℕ) → at ≤ length s → drop at s ≡ (before ++ own ++ behind) ++ rest
@@ -44,7 +47,7 @@ piece-at s before own behind rest at from to le e from_is to_is = (omega (arith,
     found = ap (λ n. take n (drop from s)) size ∙ ap (λ l. take (length own) l) there ∙ take-append_seam own (behind ++ rest)
 
 -- where a token's own bytes stand
-own-found : (Is : Token → Type 0) (s : List ℕ) (at : ℕ) (place : TokenPlace) (h : HasToken Is (drop at s) at place) → at ≤ length s
+pub own-found : (Is : Token → Type 0) (s : List ℕ) (at : ℕ) (place : TokenPlace) (h : HasToken Is (drop at s) at place) → at ≤ length s
     → (place.from ≤ place.to) × (place.to ≤ length s) × (take (place.to - place.from) (drop place.from s) ≡ h.token.own)
 own-found Is s at place h le = piece-at s h.token.before h.token.own h.token.behind h.rest at place.from place.to le h.split h.from h.to
 
@@ -88,6 +91,24 @@ number-found s at place value h le is = record {
   token = h.token;
   is_number = h.is;
   counts = ap (λ l. counted_value Base62 l) (sym (own-found (IsNumberToken Base62) s at place h le).2) ∙ sym is;
+  stands = (h.rest, h.split);
+  ends = h.end;
+}
+
+-- where the digits of a number in base 16 stand
+pub hex-inside : (s : List ℕ) (at : ℕ) (place : TokenPlace) → HasToken (IsNumberToken Hex) (drop at s) at place → at ≤ length s
+    → (place.from ≤ place.to) × (place.to ≤ length s) × AreDigitsOf Hex (take (place.to - place.from) (drop place.from s))
+hex-inside s at place h le =
+    let own = own-found (IsNumberToken Hex) s at place h le in (own.0, own.1, subst (λ l. AreDigitsOf Hex l) (sym own.2) h.is.digits)
+
+-- a number in base 16 that was found
+pub hex-found : (s : List ℕ) (at : ℕ) (place : TokenPlace) (value : ℕ) → HasToken (IsNumberToken Hex) (drop at s) at place → at ≤ length s
+    → value ≡ value_of Hex (take (place.to - place.from) (drop place.from s)) → value ≤ greatest_u64 → IsHexAt s at value place.end
+hex-found s at place value h le is small = record {
+  token = h.token;
+  is_number = h.is;
+  counts = ap (λ l. value_of Hex l) (sym (own-found (IsNumberToken Hex) s at place h le).2) ∙ sym is;
+  small = small;
   stands = (h.rest, h.split);
   ends = h.end;
 }

@@ -1,5 +1,9 @@
 pub mod PrintedPaths
 pub mod PrintedTypes
+pub mod PrintedSpecials
+pub mod MovesOfConstants
+pub mod SpecialsRead
+pub mod ConstantsRead
 pub mod Moves
 pub mod MovesOfSymbols
 pub mod MovesOfArguments
