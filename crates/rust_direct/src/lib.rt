@@ -12,8 +12,11 @@ mod open;
 mod paths;
 mod symbols;
 mod tokens;
+mod traits;
+mod tuples;
 mod types;
 mod values;
+mod wraps;
 mod writing;
 
 pub use direct::Direct;
