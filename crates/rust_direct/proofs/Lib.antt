@@ -12,3 +12,7 @@ pub mod Again
 pub mod ArgumentsRead
 pub mod ImplsRead
 pub mod TypesRead
+pub mod Opened
+pub mod TraitsRead
+pub mod WrapsRead
+pub mod TuplesRead

@@ -1,6 +1,6 @@
 // Tuples.
 
-ghost use Rattle.std.specs.Prelude.{◌≡◌, ◌∷◌, []};
+ghost use Rattle.std.specs.Prelude.{◌≡◌, ◌∷◌, [], true};
 ghost use Rattle.std.specs.Option.{IfSome};
 ghost use Rattle.sym_direct.specs.Holes.{StandsAt};
 ghost use Rattle.rust_direct.specs.declared.open.Open.TheVariants as opens;

@@ -1,11 +1,11 @@
 // Types of one type: references, raw pointers and slices.
 
-ghost use Rattle.std.specs.Prelude.{◌≡◌, ◌∷◌, ◌+◌, [], length};
+ghost use Rattle.std.specs.Prelude.{◌≡◌, ◌∷◌, [], length, true};
 ghost use Rattle.std.specs.Option.{IfSome};
 ghost use Rattle.sym_direct.specs.Holes.{StandsAt};
 ghost use Rattle.rust_direct.specs.declared.open.Closing.TheVariants as closings;
 ghost use Rattle.rust_direct.specs.declared.open.Open.TheVariants as opens;
-ghost use Rattle.rust_direct.specs.Holes.{Erased, erased_bytes};
+ghost use Rattle.rust_direct.specs.Holes.{IsErasedAt};
 ghost use Rattle.rust_direct.specs.Stands.{IsWriting};
 ghost use Rattle.rust_direct.specs.Awaits.{Awaits, Arrives};
 
@@ -17,7 +17,7 @@ use sym_direct::byte_at;
 // <lifetime> = "L" <base-62-number>
 #[inline(always)]
 fn behind_erased(s: &[u8], at: usize) -> Option<usize>
-    ensures { IfSome result (λ behind. (e : Erased) × StandsAt s.now at (erased_bytes e) × (behind ≡ at + length (erased_bytes e))) }
+    ensures { IfSome result (IsErasedAt s.now at) }
 {
     if byte_at(s, at) != b'L' {
         return Some(at);
