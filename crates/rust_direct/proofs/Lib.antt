@@ -16,3 +16,7 @@ pub mod Again
 pub mod ArgumentsRead
 pub mod ImplsRead
 pub mod TypesRead
+pub mod Opened
+pub mod TraitsRead
+pub mod WrapsRead
+pub mod TuplesRead

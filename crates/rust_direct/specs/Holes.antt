@@ -108,6 +108,10 @@ abbrev pub erased_bytes : Erased → List ℕ
 erased_bytes unwritten = []
 erased_bytes written = 76 ∷ 95 ∷ []
 
+-- an erased lifetime stands at the place, or none, and this is the place behind it
+abbrev pub IsErasedAt : (s : List ℕ) → (at end : ℕ) → Type 0
+IsErasedAt s at end = (e : Erased) × StandsAt s at (erased_bytes e) × (end ≡ at + length (erased_bytes e))
+
 -- ## Symbols
 
 -- a byte of a suffix

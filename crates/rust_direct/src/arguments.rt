@@ -1,26 +1,19 @@
 // Arguments of paths.
 
 ghost use Rattle.std.specs.Prelude.{◌≡◌, ◌≢◌, ◌∷◌, []};
-ghost use Rattle.std.specs.Option.{IfSome};
+ghost use Rattle.std.specs.Option.{IfSome, OnSome};
 ghost use Rattle.sym_core.specs.Number.{FitsSymbol};
 ghost use Rattle.sym_direct.specs.Holes.{StandsAt};
 ghost use Rattle.rust_direct.specs.declared.open.Step.TheVariants as steps;
 ghost use Rattle.rust_direct.specs.declared.open.Open.TheVariants as opens;
 ghost use Rattle.rust_direct.specs.Prints.{opening};
+ghost use Rattle.rust_direct.specs.Written.{Writes};
 ghost use Rattle.rust_direct.specs.Stands.{IsWriting};
 ghost use Rattle.rust_direct.specs.Awaits.{AwaitsArgument, Arrives};
 
 use crate::direct::Direct;
 use crate::open::{Forms, Open, Step, form_of, has_form, is_type};
 use sym_direct::byte_at;
-
-/// What stands before arguments.
-#[inline(always)]
-fn opening(is_value: bool) -> &'static [u8]
-    ensures { result.now ≡ opening is_value }
-{
-    if is_value { b"::<" } else { b"<" }
-}
 
 impl Direct {
     /// The path is read that arguments belong to.
@@ -39,13 +32,24 @@ impl Direct {
         if !has_form(is_value, forms) {
             return None;
         }
-        self.push(opening(is_value))?;
+        self.push_opening(is_value)?;
         self.waiting.push(Open::Argument {
             place,
             from,
             is_value,
         })?;
         Some(Step::Arguments { is_first: true })
+    }
+
+    /// Writes what stands before arguments.
+    #[inline(always)]
+    fn push_opening(&mut self, is_value: bool) -> Option<()>
+        ensures { OnSome result (Writes self.old self.new (opening is_value)) }
+    {
+        if is_value {
+            return self.push(b"::<");
+        }
+        self.push_byte(b'<')
     }
 
     /// Reads an argument, or the end of arguments.
@@ -76,12 +80,28 @@ impl Direct {
         ensures { IfSome result (IsWriting s.now self.new) }
     {
         if byte == b'L' {
-            return None;
+            return self.lifetime_argument(s, is_first);
         }
         if byte == b'K' {
             return self.constant_argument(s, is_first);
         }
         Some(Step::Type)
+    }
+
+    /// An erased lifetime among arguments: another one is given up.
+    // <generic-arg> = <lifetime>
+    fn lifetime_argument(&mut self, s: &[u8], _is_first: bool) -> Option<Step>
+        requires letter { StandsAt s.now self.old.at (76 ∷ []) }
+        requires awaits { AwaitsArgument s.now self.old _is_first }
+        ensures { IfSome result (IsWriting s.now self.new) }
+    {
+        let digits = self.at.checked_add(1)?;
+        if byte_at(s, digits) != b'_' {
+            return None;
+        }
+        self.at = digits.checked_add(1)?;
+        self.push_pair(b'\'', b'_')?;
+        Some(Step::Arguments { is_first: false })
     }
 
     /// The E of arguments.

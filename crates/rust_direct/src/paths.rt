@@ -16,7 +16,8 @@ use sym_direct::byte_at;
 
 impl Direct {
     /// Reads a path, up to the first that stands in it.
-    // <path> = "C" <identifier> | "N" <namespace> <path> <identifier> | "I" <path> {<generic-arg>} "E" | "M" <impl-path> <type> | <backref> | ..
+    // <path> = "C" <identifier> | "N" <namespace> <path> <identifier> | "I" <path> {<generic-arg>} "E" | "M" <impl-path> <type>
+    //        | "X" <impl-path> <type> <path> | "Y" <type> <path> | <backref>
     pub(crate) fn path_at(&mut self, s: &[u8], is_value: bool) -> Option<Step>
         requires fits { FitsSymbol s.now }
         requires writing { IsWriting s.now self.old (steps.Path is_value) }
@@ -28,6 +29,8 @@ impl Direct {
             b'B' => self.path_again(s),
             b'I' => self.begin_generic(s, is_value),
             b'M' => self.begin_impl(s),
+            b'X' => self.begin_trait_impl(s),
+            b'Y' => self.begin_trait(s),
             _ => None,
         }
     }

@@ -33,11 +33,17 @@ impl Direct {
                 from: begins,
                 closing,
             } => self.wrap_ended(s, from, forms, place, begins, closing),
-            Open::Array {
+            Open::TraitImpl { place } => self.trait_impl_ended(s, from, forms, place),
+            Open::Implementing {
                 place,
                 from: begins,
-            } => self.array_ended(s, from, forms, place, begins),
-            _ => None,
-        }
-    }
-}
+            } => self.implementing_ended(s, from, forms, place, begins),
+            Open::Implemented {
+                place,
+                from: begins,
+            } => self.implemented_ended(s, from, forms, place, begins),
+            Open::Tuple {
+                place,
+                from: begins,
+                is_first,
+            } => self.element_ended(s, from, forms, place, begins, is_first),

@@ -2,13 +2,13 @@
 
 ghost use Rattle.std.specs.Prelude.{◌≡◌, ◌+◌, ◌-◌, ◌≤◌, ◌∷◌, ◌++◌, [], ℕ, suc, slice_get, Some, length};
 ghost use Rattle.std.specs.Option.{OnSome, IfSome};
-ghost use Rattle.rust_direct.specs.Written.{Writes, Notes, piece};
+ghost use Rattle.rust_direct.specs.Written.{Writes, Opens, Notes, piece};
 ghost use Rattle.rust_direct.specs.Notes.{home};
 ghost use Rattle.rust_direct.specs.Stands.{IsWriting};
 ghost use Rattle.rust_direct.specs.Awaits.{IsEnded};
 
 use crate::direct::Direct;
-use crate::open::{Forms, Note, Step};
+use crate::open::{Forms, Note, Open, Step};
 
 impl Direct {
     /// Writes a text.
@@ -33,6 +33,17 @@ impl Direct {
         ensures { OnSome result (Writes self.old self.new (first ∷ second ∷ [])) }
     {
         self.text.push_pair(first, second)
+    }
+
+    /// Writes a text, and goes on at another place with what something waits for.
+    #[inline(always)]
+    pub(crate) fn push_open(&mut self, text: &[u8], entry: Open, at: usize) -> Option<()>
+        ensures { OnSome result (Opens self.old self.new text.now entry at) }
+    {
+        self.text.push_all(text)?;
+        self.waiting.push(entry)?;
+        self.at = at;
+        Some(())
     }
 
     /// Notes what is written from a place of the text on, as what was read from a place of the symbol on.
