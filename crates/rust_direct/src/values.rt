@@ -33,6 +33,10 @@ impl Direct {
                 from: begins,
                 closing,
             } => self.wrap_ended(s, from, forms, place, begins, closing),
+            Open::Array {
+                place,
+                from: begins,
+            } => self.array_ended(s, from, forms, place, begins),
             Open::TraitImpl { place } => self.trait_impl_ended(s, from, forms, place),
             Open::Implementing {
                 place,
@@ -47,3 +51,7 @@ impl Direct {
                 from: begins,
                 is_first,
             } => self.element_ended(s, from, forms, place, begins, is_first),
+            _ => None,
+        }
+    }
+}

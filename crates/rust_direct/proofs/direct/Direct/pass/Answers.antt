@@ -38,6 +38,10 @@ wrap_ended-requires c =
     taken-out c.args.s.now c.args.self.now _ (opens.Wrap c.in-Wrap.place c.in-Wrap.begins c.in-Wrap.closing) c.args.from c.args.forms c.pop.result
     c.requires.writing c.pop.ensures.items (c.in_ok-pop.was ∙ ap Some c.in-Wrap.is) refl refl refl refl refl refl
 
+pub array_ended-requires-clause-arrives : goal.array_ended-requires-clause-arrives
+array_ended-requires-clause-arrives c =
+    taken-out c.args.s.now c.args.self.now _ (opens.Array c.in-Array.place c.in-Array.begins) c.args.from c.args.forms c.pop.result c.requires.writing
+    c.pop.ensures.items (c.in_ok-pop.was ∙ ap Some c.in-Array.is) refl refl refl refl refl refl
 
 pub trait_impl_ended-requires : goal.trait_impl_ended-requires
 trait_impl_ended-requires c =

@@ -19,6 +19,8 @@ begin_impl-requires-clause-awaits c = type-path-awaited c.args.s.now c.args.self
 pub type_again-requires-clause-awaits : goal.type_again-requires-clause-awaits
 type_again-requires-clause-awaits c = type-awaited c.args.s.now c.args.self.now c.requires.writing
 
+pub begin_array-requires-clause-awaits : goal.begin_array-requires-clause-awaits
+begin_array-requires-clause-awaits c = type-awaited c.args.s.now c.args.self.now c.requires.writing
 
 pub begin_trait_impl-requires-clause-awaits : goal.begin_trait_impl-requires-clause-awaits
 begin_trait_impl-requires-clause-awaits c = type-path-awaited c.args.s.now c.args.self.now c.requires.writing
