@@ -51,7 +51,6 @@ impl Direct {
                 from: begins,
                 is_first,
             } => self.element_ended(s, from, forms, place, begins, is_first),
-            _ => None,
         }
     }
 }
