@@ -11,7 +11,7 @@ use Rattle.rust_direct.specs.declared.open.Forms.TheVariants as forms
 use Rattle.rust_direct.specs.declared.open.Open.TheVariants as opens
 use Rattle.rust_direct.specs.declared.open.Step.TheVariants as steps
 use Rattle.rust_direct.specs.declared.direct.Direct.{Direct}
-use Rattle.rust_direct.specs.Holes.{Opened, Expects, type, within, with_ended, Ends, ArgumentsGoOn}
+use Rattle.rust_direct.specs.Holes.{Opened, type, within, with_ended, Ends, ArgumentsGoOn}
 use Rattle.rust_direct.specs.Prints.{opening}
 use Rattle.rust_direct.specs.Says.{Holds, is_type}
 use Rattle.rust_direct.specs.Written.{Writes, Notes, Pushes}
@@ -25,7 +25,7 @@ use Rattle.rust_direct.proofs.PrintedSpecials.{integer-prints, constant-begins}
 use Rattle.rust_direct.proofs.PrintedTypes.{array-prints}
 use Rattle.rust_direct.proofs.PathsRead.{stands-written}
 use Rattle.rust_direct.proofs.ArgumentsRead.{notes-pushed, parked-pushed, parked-written, turned, type-held, joined}
-use Rattle.rust_direct.proofs.TypesRead.{as-wanted}
+use Rattle.rust_direct.proofs.TypesRead.{type-expected}
 use Rattle.rust_direct.proofs.SpecialsRead.{writes-both}
 
 -- an integer is written
@@ -101,7 +101,7 @@ pub array-begun : (s : List ℕ) (old middle new : Direct) (from end : ℕ) → 
 array-begun s old middle new from end awaits stands from_is end_is writes pushes =
     let st = awaits.state in
     let r = awaits.awaited in
-    let goes = array-opens s r.os old.at st (subst (λ k. Expects s k r.os old.at st) (as-wanted r.wanted r.is_for) r.awaits) stands in
+    let goes = array-opens s r.os old.at st (type-expected s old awaits) stands in
     let entry = opens.Array old.at from in
     record {
       state = within goes.production st;

@@ -156,7 +156,7 @@ namespace-small b is = elim (or_cases (in_range (range 65 90) b) (in_ranges (ran
   | inl upper ↦ omega (arith, in-range 65 90 b upper)
   | inr other ↦ elim (or_cases (in_range (range 97 122) b) false other) [
     | inl lower ↦ omega (arith, in-range 97 122 b lower)
-    | inr no ↦ absurd (false≢true no)
+    | inr none ↦ absurd (false≢true none)
   ]
 ]
 

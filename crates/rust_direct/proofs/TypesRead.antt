@@ -40,7 +40,7 @@ type-said forms.Typed v bytes is h = (h.0, h.1, h.2, (h.0, refl, h.2))
 type-said forms.Unnamed v bytes is h = absurd (false≢true is)
 
 -- a type is expected as nothing else
-pub as-wanted : (w : Wanted) → is_for_type w ≡ true → kind_of w ≡ TYPE
+as-wanted : (w : Wanted) → is_for_type w ≡ true → kind_of w ≡ TYPE
 as-wanted path e = absurd (false≢true e)
 as-wanted other_path e = absurd (false≢true e)
 as-wanted type e = refl
