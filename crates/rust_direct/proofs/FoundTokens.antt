@@ -10,7 +10,8 @@ use Rattle.sym_core.specs.declared.tokens.TokenPlace.{TokenPlace}
 use Rattle.sym_core.specs.Token.{Token, IsName, IsNumberToken, HasToken, FindsToken}
 use Rattle.sym_core.specs.Value.{counted_value}
 use Rattle.sym_direct.specs.Holes.{StandsAt}
-use Rattle.rust_direct.specs.Holes.{IsNameAt, IsNumberAt}
+use Rattle.sym_direct.proofs.Moves.{stands-join}
+use Rattle.rust_direct.specs.Holes.{IsNameAt, IsNumberAt, written, IsErasedAt}
 
 -- what stands between two places behind a third one
 piece-at : (s before own behind rest : List ℕ) (at from to : ℕ) → at ≤ length s → drop at s ≡ (before ++ own ++ behind) ++ rest
@@ -103,3 +104,12 @@ piece-filled s from to some inside = omega (arith, some, inside, length-take (to
 -- a test that held
 pub tested : (result test : Bool) → result ≡ test → result ≡ true → test ≡ true
 tested result test is e = sym is ∙ e
+
+-- an erased lifetime that was found
+pub erased-found : (s : List ℕ) (at digits end : ℕ) → StandsAt s at (76 ∷ []) → StandsAt s digits (95 ∷ []) → digits ≡ at + 1 → end ≡ digits + 1
+    → IsErasedAt s at end
+erased-found s at digits end letter mark next last = (
+  written,
+  stands-join s at (76 ∷ []) (95 ∷ []) letter (subst (λ k. StandsAt s k (95 ∷ [])) next mark),
+  omega (arith, next, last),
+)
