@@ -12,7 +12,8 @@ use Rattle.sym_core.specs.Number.{AreDigitsOf}
 use Rattle.sym_core.specs.Value.{counted_value, value_of}
 use Rattle.rust_v0.specs.Unfold.{greatest_u64}
 use Rattle.sym_direct.specs.Holes.{StandsAt}
-use Rattle.rust_direct.specs.Holes.{IsNameAt, IsNumberAt}
+use Rattle.sym_direct.proofs.Moves.{stands-join}
+use Rattle.rust_direct.specs.Holes.{IsNameAt, IsNumberAt, written, IsErasedAt}
 use Rattle.rust_direct.specs.Constants.{IsHexAt}
 
 -- what stands between two places behind a third one
@@ -124,3 +125,12 @@ piece-filled s from to some inside = omega (arith, some, inside, length-take (to
 -- a test that held
 pub tested : (result test : Bool) → result ≡ test → result ≡ true → test ≡ true
 tested result test is e = sym is ∙ e
+
+-- an erased lifetime that was found
+pub erased-found : (s : List ℕ) (at digits end : ℕ) → StandsAt s at (76 ∷ []) → StandsAt s digits (95 ∷ []) → digits ≡ at + 1 → end ≡ digits + 1
+    → IsErasedAt s at end
+erased-found s at digits end letter mark next last = (
+  written,
+  stands-join s at (76 ∷ []) (95 ∷ []) letter (subst (λ k. StandsAt s k (95 ∷ [])) next mark),
+  omega (arith, next, last),
+)

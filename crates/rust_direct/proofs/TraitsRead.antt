@@ -8,8 +8,7 @@ use Rattle.rust_direct.specs.declared.open.Forms.TheVariants as forms
 use Rattle.rust_direct.specs.declared.open.Open.TheVariants as opens
 use Rattle.rust_direct.specs.declared.open.Step.TheVariants as steps
 use Rattle.rust_direct.specs.declared.direct.Direct.{Direct}
-use Rattle.rust_direct.specs.Holes.{Comes, within, path, type, Ends, IsDisambiguatorAt}
-use Rattle.rust_direct.specs.Prints.{PathPrints}
+use Rattle.rust_direct.specs.Holes.{Comes, within, path, type, IsDisambiguatorAt}
 use Rattle.rust_direct.specs.Says.{PathHas, is_type, is_path, has_form}
 use Rattle.rust_direct.specs.Written.{Writes, Pushes, Opens}
 use Rattle.rust_direct.specs.Stands.{Stands, IsWriting, parked_of}

@@ -1,5 +1,5 @@
 -- Tuples that were read and written.
-use Rattle.std.proofs.Common.{◌≡◌, ℕ, ◌+◌, List, [], ◌∷◌, ◌++◌, length, reverse, Bool, true, false, refl, ap, sym, subst, ◌∙◌, append_assoc, codes}
+use Rattle.std.proofs.Common.{◌≡◌, ℕ, ◌+◌, List, [], ◌∷◌, ◌++◌, length, Bool, true, false, refl, ap, sym, subst, ◌∙◌, append_assoc, codes}
 use Rattle.sym_direct.specs.Holes.{StandsAt}
 use Rattle.rust_tree.specs.Symbol as tree
 use Rattle.rust_v0.specs.declared.production.Production.{Production}
@@ -9,8 +9,8 @@ use Rattle.rust_direct.specs.declared.open.Forms.TheVariants as forms
 use Rattle.rust_direct.specs.declared.open.Open.TheVariants as opens
 use Rattle.rust_direct.specs.declared.open.Step.TheVariants as steps
 use Rattle.rust_direct.specs.declared.direct.Direct.{Direct}
-use Rattle.rust_direct.specs.Holes.{within, type, TypesGoOn}
-use Rattle.rust_direct.specs.Prints.{TypePrints, TypesBegin}
+use Rattle.rust_direct.specs.Holes.{within, type}
+use Rattle.rust_direct.specs.Prints.{TypePrints}
 use Rattle.rust_direct.specs.Says.{Holds, is_type}
 use Rattle.rust_direct.specs.Written.{Writes, Pushes, Opens}
 use Rattle.rust_direct.specs.Stands.{Stands, IsWriting, TypesCount, tuple_end, parked_of}

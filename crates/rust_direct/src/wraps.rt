@@ -26,7 +26,8 @@ fn behind_erased(s: &[u8], at: usize) -> Option<usize>
     if byte_at(s, digits) != b'_' {
         return None;
     }
-    digits.checked_add(1)
+    let end = digits.checked_add(1)?;
+    Some(end)
 }
 
 impl Direct {
