@@ -20,8 +20,8 @@ use Rattle.rust_direct.specs.Stands.{Stands, IsWriting, parked_of, separator_of}
 use Rattle.rust_direct.specs.Awaits.{Awaits, AwaitsArgument, Arrives, IsEnded}
 use Rattle.rust_direct.proofs.Kept.{notes-written, notes-noted}
 use Rattle.rust_direct.proofs.Moves.{expects-moved}
-use Rattle.rust_direct.proofs.MovesOfConstants.{constant-goes-on, array-opens}
-use Rattle.rust_direct.proofs.PrintedSpecials.{integer-prints, constant-begins}
+use Rattle.rust_direct.proofs.MovesOfConstants.{false-comes, true-comes, placeholder-comes, constant-goes-on, array-opens}
+use Rattle.rust_direct.proofs.PrintedSpecials.{integer-prints, false-prints, true-prints, placeholder-prints, constant-begins}
 use Rattle.rust_direct.proofs.PrintedTypes.{array-prints}
 use Rattle.rust_direct.proofs.PathsRead.{stands-written}
 use Rattle.rust_direct.proofs.ArgumentsRead.{notes-pushed, parked-pushed, parked-written, turned, type-held, joined}
@@ -168,3 +168,41 @@ array-read s old one two three four place from here begins end f arrives is firs
           (stands-noted s two three old.at begins forms.Unnamed waits.0 waits.1 notes
           (stands-written s one two own waits.0 waits.1 wrote.writes (stands-written s old one (codes "; ") waits.0 waits.1 first waits.5)));
     }
+
+-- ## Truth values, and what isn't known
+
+pub false-written : (s : List ℕ) (old new : Direct) (at digit mark end : ℕ) → StandsAt s at (98 ∷ []) → StandsAt s digit (48 ∷ [])
+    → StandsAt s mark (95 ∷ []) → digit ≡ at + 1 → mark ≡ digit + 1 → end ≡ mark + 1 → Writes old new (codes "false") → WritesConstant s old new at end
+false-written s old new at digit mark end letter truth ends digit_is mark_is end_is writes =
+    let behind = mark_is ∙ ap (λ k. k + 1) digit_is in
+    record {
+      c = tree.boolean false;
+      own = codes "false";
+      shows = false-prints;
+      writes = writes;
+      comes = subst (λ k. IsConstantAt s at (tree.boolean false) k) (sym (end_is ∙ ap (λ k. k + 1) behind))
+          (false-comes s at letter (subst (λ k. StandsAt s k (48 ∷ [])) digit_is truth) (subst (λ k. StandsAt s k (95 ∷ [])) behind ends));
+    }
+
+pub true-written : (s : List ℕ) (old new : Direct) (at digit mark end : ℕ) → StandsAt s at (98 ∷ []) → StandsAt s digit (49 ∷ [])
+    → StandsAt s mark (95 ∷ []) → digit ≡ at + 1 → mark ≡ digit + 1 → end ≡ mark + 1 → Writes old new (codes "true") → WritesConstant s old new at end
+true-written s old new at digit mark end letter truth ends digit_is mark_is end_is writes =
+    let behind = mark_is ∙ ap (λ k. k + 1) digit_is in
+    record {
+      c = tree.boolean true;
+      own = codes "true";
+      shows = true-prints;
+      writes = writes;
+      comes = subst (λ k. IsConstantAt s at (tree.boolean true) k) (sym (end_is ∙ ap (λ k. k + 1) behind))
+          (true-comes s at letter (subst (λ k. StandsAt s k (49 ∷ [])) digit_is truth) (subst (λ k. StandsAt s k (95 ∷ [])) behind ends));
+    }
+
+pub placeholder-written : (s : List ℕ) (old new : Direct) (at end : ℕ) → StandsAt s at (112 ∷ []) → end ≡ at + 1 → Writes old new (codes "_")
+    → WritesConstant s old new at end
+placeholder-written s old new at end letter end_is writes = record {
+  c = tree.placeholder;
+  own = codes "_";
+  shows = placeholder-prints;
+  writes = writes;
+  comes = subst (λ k. IsConstantAt s at tree.placeholder k) (sym end_is) (placeholder-comes s at letter);
+}
