@@ -63,7 +63,7 @@ notes-pushed old new entry st p h = rw (p.text, p.aside, p.is_aside, p.notes, p.
 pub parked-pushed : (old new : Direct) (entry : Open) → Pushes old new entry → parked_of new ≡ parked_of old
 parked-pushed old new entry p = rw (p.aside, p.is_aside) refl
 
-parked-written : (old new : Direct) (bytes : List ℕ) → Writes old new bytes → parked_of new ≡ parked_of old
+pub parked-written : (old new : Direct) (bytes : List ℕ) → Writes old new bytes → parked_of new ≡ parked_of old
 parked-written old new bytes p = rw (p.aside, p.is_aside) refl
 
 pub turned : (old new : Direct) (entry : Open) → Pushes old new entry → reverse new.waiting.list.items ≡ entry ∷ reverse old.waiting.list.items

@@ -1,5 +1,5 @@
 -- The moves of constants, among arguments and as the sizes of arrays.
-use Rattle.std.proofs.Common.{◌≡◌, ℕ, ◌+◌, ◌<◌, ◌≤◌, List, [], ◌∷◌, length, inl, inr, Bool, true, false, Some, None, Ok, refl, ap, sym, subst, ◌∙◌, arith}
+use Rattle.std.proofs.Common.{◌≡◌, ◌≢◌, ℕ, ◌+◌, ◌<◌, ◌≤◌, List, [], ◌∷◌, length, inl, inr, Bool, true, false, Some, None, Ok, refl, ap, sym, subst, ◌∙◌, arith}
 use Rattle.std.specs.Prelude.{◌&&◌, nat_lt, if◌then◌else◌}
 use Rattle.std.proofs.lemmas.Bool.{le-leb, cases_eq, ne_eqb, false≢true}
 use Rattle.sym_core.specs.declared.NumberKind.TheVariants.{Hex}
@@ -79,6 +79,15 @@ takes-signed b is = found-in signed_rule signed_letters b (
     ),
   ),
 ) is
+
+-- no integer's type is named by a byte that is 0
+pub unsigned-there : (b : ℕ) → is_unsigned b ≡ true → b ≢ 0
+unfolding is_unsigned
+unsigned-there b is none = false≢true (subst (λ k. is_unsigned k ≡ true) none is)
+
+pub signed-there : (b : ℕ) → is_signed b ≡ true → b ≢ 0
+unfolding is_signed
+signed-there b is none = false≢true (subst (λ k. is_signed k ≡ true) none is)
 
 -- ## Integers
 

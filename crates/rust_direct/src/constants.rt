@@ -112,7 +112,8 @@ impl Direct {
     {
         let letter = byte_at(s, at);
         if is_unsigned(letter) {
-            return self.integer_at(s, at, at.checked_add(1)?, false);
+            let digits = at.checked_add(1)?;
+            return self.integer_at(s, at, digits, false);
         }
         if is_signed(letter) {
             return self.signed_at(s, at, letter);
@@ -134,7 +135,8 @@ impl Direct {
     {
         let behind = at.checked_add(1)?;
         if byte_at(s, behind) == b'n' {
-            return self.integer_at(s, at, behind.checked_add(1)?, true);
+            let digits = behind.checked_add(1)?;
+            return self.integer_at(s, at, digits, true);
         }
         self.integer_at(s, at, behind, false)
     }

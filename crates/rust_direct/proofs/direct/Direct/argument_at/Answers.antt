@@ -9,7 +9,7 @@ next_argument-requires-clause-awaits c =
     argument-first c.args.s.now c.args.self.now
     (subst (λ b. IsWriting c.args.s.now c.args.self.now (steps.Arguments b)) c.if-is_first.true c.requires.writing)
 
-pub next_argument-requires-clause-awaits-2 : goal.next_argument-requires-clause-awaits-2
-next_argument-requires-clause-awaits-2 c =
+pub next_argument-requires-2-clause-awaits : goal.next_argument-requires-2-clause-awaits
+next_argument-requires-2-clause-awaits c =
     argument-separated c.args.s.now c.args.self.now c.push_pair.new.self
     (subst (λ b. IsWriting c.args.s.now c.args.self.now (steps.Arguments b)) c.if-is_first.false c.requires.writing) c.in_ok-push_pair.ensures
