@@ -9,6 +9,7 @@
 mod arguments;
 mod direct;
 mod impls;
+mod names;
 mod open;
 mod paths;
 mod symbols;
