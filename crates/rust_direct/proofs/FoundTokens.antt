@@ -13,8 +13,9 @@ use Rattle.sym_core.specs.Value.{counted_value, value_of}
 use Rattle.rust_v0.specs.Unfold.{greatest_u64}
 use Rattle.sym_direct.specs.Holes.{StandsAt}
 use Rattle.sym_direct.proofs.Moves.{stands-join}
-use Rattle.rust_direct.specs.Holes.{IsNameAt, IsNumberAt, written, IsErasedAt}
+use Rattle.rust_direct.specs.Holes.{IsNumberAt, written, IsErasedAt}
 use Rattle.rust_direct.specs.Constants.{IsHexAt}
+use Rattle.rust_direct.specs.Names.{IsNamePlace}
 
 -- what stands between two places behind a third one
 piece-at : (s before own behind rest : List ℕ) (at from to : ℕ) → at ≤ length s → drop at s ≡ (before ++ own ++ behind) ++ rest
@@ -65,12 +66,8 @@ place-found Is s at (Err bad) o place finds ok some = absurd (apart o place ok s
     apart o place e f = cc (e, f)
 
 -- a name that was found
-abbrev NameFound : (s : List ℕ) → (at : ℕ) → TokenPlace → Type 0
-NameFound s at place =
-    (place.from ≤ place.to) × (place.to ≤ length s) × IsNameAt s at (take (place.to - place.from) (drop place.from s)) place.end
-
 pub name-found : (s : List ℕ) (at : ℕ) (r : Result TokenPlace ℕ) (o : Option TokenPlace) → FindsToken (IsName Rust) s at r → o ≡ result_ok r
-    → at ≤ length s → IfSome o (NameFound s at)
+    → at ≤ length s → IfSome o (IsNamePlace s at)
 name-found s at r None finds ok le = tt
 name-found s at r (Some place) finds ok le =
     let h = place-found (IsName Rust) s at r (Some place) place finds ok refl in

@@ -10,6 +10,7 @@ pub mod MovesOfArguments
 pub mod MovesOfTypes
 pub mod Kept
 pub mod FoundTokens
+pub mod NamePlaces
 pub mod PathsRead
 pub mod SymbolsRead
 pub mod Again

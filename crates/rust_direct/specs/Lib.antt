@@ -1,4 +1,5 @@
 pub mod Holes
+pub mod Names
 pub mod Prints
 pub mod Says
 pub mod Notes

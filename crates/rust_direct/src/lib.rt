@@ -11,6 +11,7 @@ mod arguments;
 mod constants;
 mod direct;
 mod impls;
+mod names;
 mod open;
 mod paths;
 mod specials;

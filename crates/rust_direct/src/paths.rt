@@ -10,8 +10,9 @@ ghost use Rattle.rust_direct.specs.Stands.{IsWriting};
 ghost use Rattle.rust_direct.specs.Awaits.{Awaits, AwaitsPath, Arrives};
 
 use crate::direct::Direct;
+use crate::names::name_at;
 use crate::open::{Forms, Open, Step, is_path};
-use crate::tokens::{disambiguator_at, is_namespace, name_at, number_at};
+use crate::tokens::{disambiguator_at, is_namespace, number_at};
 use sym_direct::byte_at;
 
 impl Direct {

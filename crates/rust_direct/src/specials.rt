@@ -12,8 +12,9 @@ ghost use Rattle.rust_direct.specs.Stands.{IsWriting};
 ghost use Rattle.rust_direct.specs.Awaits.{Arrives};
 
 use crate::direct::Direct;
+use crate::names::name_at;
 use crate::open::{Forms, Step};
-use crate::tokens::{disambiguator_at, name_at};
+use crate::tokens::disambiguator_at;
 use itoa::Buffer;
 
 impl Direct {

@@ -4,10 +4,10 @@ ghost use Rattle.std.specs.Prelude.{◌≡◌, ◌≢◌, ◌≤◌, ◌∷◌, 
 ghost use Rattle.std.specs.List.{AllByRecursion};
 ghost use Rattle.std.specs.Option.{IfSome};
 ghost use Rattle.sym_core.specs.Number.{FitsSymbol};
-ghost use Rattle.rust_direct.specs.Holes.{IsNameAt, IsNumberAt, IsDisambiguatorAt, IsSuffix, is_namespace, is_suffix_byte};
+ghost use Rattle.rust_direct.specs.Holes.{IsNumberAt, IsDisambiguatorAt, IsSuffix, is_namespace, is_suffix_byte};
 ghost use Rattle.rust_direct.specs.Constants.{IsHexAt};
 
-use sym_core::{NameClass, NumberKind, TokenPlace, find_name, find_number, value16, value62};
+use sym_core::{NumberKind, find_number, value16, value62};
 use sym_direct::byte_at;
 
 /// Whether a byte may stand in a suffix.
@@ -53,20 +53,6 @@ pub fn is_suffix(bytes: &[u8]) -> bool
         return false;
     }
     are_suffix_bytes(&bytes[1..])
-}
-
-/// The name at a place.
-// <undisambiguated-identifier> = <decimal-number> ["_"] <bytes>
-#[inline(always)]
-pub fn name_at(s: &[u8], at: usize) -> Option<TokenPlace>
-    requires { FitsSymbol s.now }
-    ensures { IfSome result (λ place. (place.from ≤ place.to) × (place.to ≤ length s.now)
-        × IsNameAt s.now at (take (place.to - place.from) (drop place.from s.now)) place.end) }
-{
-    if at > s.len() {
-        return None;
-    }
-    find_name(s, at, NameClass::Rust).ok()
 }
 
 /// The number in base 62 at a place, and the place behind it.

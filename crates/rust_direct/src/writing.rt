@@ -54,7 +54,10 @@ impl Direct {
         if place >= self.numbers.len() {
             return None;
         }
-        let number = u16::try_from(self.notes.len().checked_add(1)?).ok()?;
+        let count = self.notes.len();
+        if count >= u16::MAX as usize {
+            return None;
+        }
         let to = self.text.len();
         let is_aside = self.is_aside;
         self.notes.push(Note {
@@ -63,7 +66,7 @@ impl Direct {
             forms,
             is_aside,
         })?;
-        self.numbers[place] = number;
+        self.numbers[place] = (count + 1) as u16;
         Some(())
     }
 

@@ -1,6 +1,6 @@
 use Rattle.std.proofs.Common.{arith}
 use Rattle.rust_direct.proofs.FoundTokens.{name-found}
-use Rattle.rust_direct.proofs.tokens.name_at.Goals as goal
+use Rattle.rust_direct.proofs.names.any_name_at.Goals as goal
 
 pub returns : goal.returns
 returns c =
