@@ -62,7 +62,8 @@ impl Direct {
     /// answers whether it did. Where it didn't, nothing is known of the symbol.
     ///
     /// Whatever is answered, at most eight bytes for each of the symbol's and a kilobyte are written, at most eight steps for each
-    /// byte are taken, and no list has more entries than the symbol has bytes. Text and candidates only grow in a call.
+    /// byte are taken, and no list has more entries than the symbol has bytes. Text and candidates only grow, up to the end of an
+    /// instance of a function template, where what was written up to its return type is taken away.
     pub fn write(&mut self, s: &[u8], limit: u32) -> bool
         requires { FitsSymbol s.now }
         ensures answer { result ≡ true → IsAnswer details.Full s.now limit (Ok self.new.text.list.items) }
