@@ -78,7 +78,7 @@ impl Direct {
         let mut rounds = 0;
         let is_written = self.run(s, limit, &mut rounds);
         self.rounds = rounds;
-        // always: no step gives a list other room than it began with, which no clause of theirs says
+        // always: no step gives a list more room than it began with, which no clause of theirs says
         if self.keeps_to(bytes, size) {
             return is_written;
         }
@@ -308,6 +308,7 @@ impl Direct {
 
     /// Reads the parameters of a function up to the first type in them. Its text begins at a place.
     // <bare-function-type> ::= <parameter type>+ | v
+    #[inline(always)]
     fn begin_parameters(&mut self, s: &[u8], is_const: bool, start: usize) -> Option<Step>
         requires fits { FitsSymbol s.now }
         requires awaits { AwaitsParameters s.now self.old is_const start }
