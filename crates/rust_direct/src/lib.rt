@@ -8,6 +8,7 @@
 #![tactic(auto)]
 
 mod arguments;
+mod bounds;
 mod constants;
 mod direct;
 mod impls;
