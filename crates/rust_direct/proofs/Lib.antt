@@ -1,6 +1,9 @@
 pub mod PrintedPaths
 pub mod PrintedTypes
 pub mod PrintedSpecials
+pub mod PrintedBounds
+pub mod MovesOfBounds
+pub mod BoundsRead
 pub mod MovesOfConstants
 pub mod SpecialsRead
 pub mod ConstantsRead

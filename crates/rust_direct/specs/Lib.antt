@@ -5,6 +5,7 @@ pub mod Says
 pub mod Notes
 pub mod Written
 pub mod Specials
+pub mod Bounds
 pub mod Constants
 pub mod Stands
 pub mod Awaits

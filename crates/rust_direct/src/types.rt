@@ -69,6 +69,7 @@ impl Direct {
             b'T' => self.begin_tuple(s),
             b'B' => self.type_again(s),
             b'A' => self.begin_array(s),
+            b'D' => self.begin_dyn(s),
             letter => self.basic(s, letter),
         }
     }

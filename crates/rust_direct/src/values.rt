@@ -33,6 +33,10 @@ impl Direct {
                 from: begins,
                 closing,
             } => self.wrap_ended(s, from, forms, place, begins, closing),
+            Open::Dyn {
+                place,
+                from: begins,
+            } => self.bound_ended(s, from, forms, place, begins),
             Open::Array {
                 place,
                 from: begins,

@@ -62,3 +62,8 @@ pub element_ended-requires : goal.element_ended-requires
 element_ended-requires c =
     taken-out c.args.s.now c.args.self.now _ (opens.Tuple c.in-Tuple.place c.in-Tuple.begins c.in-Tuple.is_first) c.args.from c.args.forms c.pop.result
     c.requires.writing c.pop.ensures.items (c.in_ok-pop.was ∙ ap Some c.in-Tuple.is) refl refl refl refl refl refl
+
+pub bound_ended-requires : goal.bound_ended-requires
+bound_ended-requires c =
+    taken-out c.args.s.now c.args.self.now _ (opens.Dyn c.in-Dyn.place c.in-Dyn.begins) c.args.from c.args.forms c.pop.result
+    c.requires.writing c.pop.ensures.items (c.in_ok-pop.was ∙ ap Some c.in-Dyn.is) refl refl refl refl refl refl

@@ -45,3 +45,6 @@ begin_slice-requires-clause-awaits c = type-awaited c.args.s.now c.args.self.now
 
 pub begin_tuple-requires-clause-awaits : goal.begin_tuple-requires-clause-awaits
 begin_tuple-requires-clause-awaits c = type-awaited c.args.s.now c.args.self.now c.requires.writing
+
+pub begin_dyn-requires-clause-awaits : goal.begin_dyn-requires-clause-awaits
+begin_dyn-requires-clause-awaits c = type-awaited c.args.s.now c.args.self.now c.requires.writing
