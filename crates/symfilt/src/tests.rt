@@ -5,7 +5,7 @@ use std::process::Abort;
 use std::str;
 use std::test::Fail;
 use sym_command::{Run, answer_words, run, run_to};
-use sym_filter::{FilterFault, Languages, filter};
+use sym_filter::{FilterFault, Languages, Letters, filter};
 use sym_print::Detail;
 
 const LIMIT: u32 = 1_000_000;
@@ -216,29 +216,22 @@ fn runs(alloc: Global, words: &[&str]) -> (Run, bool) {
 #[test]
 fn reads_command_lines(rt: HostRuntime) {
     let alloc = rt.alloc();
-    let limit = 4_294_967_295;
-    let full = Detail::Full;
-    let brief = Detail::Brief;
-    let usual = Run::Filter {
-        limit: 1_000_000,
-        detail: full,
-    };
-    assert!(rt; runs(alloc, &["symfilt"]) == (usual, false));
-    let most = Run::Filter {
+    let filter = |limit, detail, letters| Run::Filter {
         limit,
-        detail: brief,
+        detail,
+        letters,
     };
+    let any = Letters::Any;
+    let usual = filter(1_000_000, Detail::Full, any);
+    assert!(rt; runs(alloc, &["symfilt"]) == (usual, false));
+    let most = filter(4_294_967_295, Detail::Brief, any);
     assert!(rt; runs(alloc, &["symfilt", "--limit=4294967295", "--brief"]) == (most, false));
-    let named = Run::Filter {
-        limit: 1_000_000,
-        detail: Detail::NoParameters,
-    };
+    let named = filter(1_000_000, Detail::NoParameters, any);
     assert!(rt; runs(alloc, &["symfilt", "--no-params"]) == (named, false));
-    let shortest = Run::Filter {
-        limit: 1_000_000,
-        detail: Detail::BriefNoParameters,
-    };
+    let shortest = filter(1_000_000, Detail::BriefNoParameters, any);
     assert!(rt; runs(alloc, &["symfilt", "--no-params", "--brief"]) == (shortest, false));
+    let ascii = filter(1_000_000, Detail::Full, Letters::Ascii);
+    assert!(rt; runs(alloc, &["symfilt", "--ascii-words"]) == (ascii, false));
     assert!(rt; runs(alloc, &["symfilt", "--limit", "4294967296"]) == (Run::Done(2), true));
     assert!(rt; runs(alloc, &["symfilt", "--press"]) == (Run::Done(2), true));
     assert!(rt; runs(alloc, &["symfilt", "--help"]) == (Run::Done(2), true));

@@ -16,8 +16,8 @@ invariant-loop-count g l = let answers = g.D.Demangler.answer l.demangler in rec
   write_failures : g.W.Sink.failure_count l.writer ≡ g.W.Sink.failure_count l.fn.writer;
   room : length l.room.items ≡ READ_SIZE;
   nothing_waits : l.out.items ≡ [];
-  rest : (more : List ℕ) → filtered_at l.letters answers (text ++ more) ≡ bytes ++ rest_after answers l.words more;
-  counts : (more : List ℕ) → tally_at l.letters answers (text ++ more) ≡ tally_after answers l.words more;
+  rest : (more : List ℕ) → filtered_at l.fn.letters answers (text ++ more) ≡ bytes ++ rest_after answers l.words more;
+  counts : (more : List ℕ) → tally_at l.fn.letters answers (text ++ more) ≡ tally_after answers l.words more;
   dots : l.words.dots + READ_SIZE * g.R.Source.reads_left l.reader < 2 ^ 64 * READ_SIZE;
 }
 
