@@ -12,9 +12,7 @@ use clap::error::ErrorKind;
 use clap::{Arg, ArgAction, ArgMatches, Command, Error};
 use std::alloc::Global;
 use std::mem;
-use sym_filter::{
-    Demangler, FilterFault, Languages, Letters, ListSink, Pressing, Sink, write_all,
-};
+use sym_filter::{Demangler, FilterFault, Languages, Letters, ListSink, Pressing, Sink, write_all};
 use sym_print::Detail;
 
 /// The status where each word has a text.

@@ -17,11 +17,13 @@ const LONGEST_ARGUMENT: usize = 131_072;
 pub fn program<R: Env + Input + Print + AllocGlobal, E: Print>(rt: &R, errors: &E) -> u8 {
     match answer(rt, errors) {
         Ok(Run::Done(status)) => status,
-        Ok(Run::Filter {
-            limit,
-            detail,
-            letters,
-        }) => filter_input(rt, errors, &Languages { limit, detail }, letters),
+        Ok(
+            Run::Filter {
+                limit,
+                detail,
+                letters,
+            },
+        ) => filter_input(rt, errors, &Languages { limit, detail }, letters),
         Err(error) => fault(errors, error),
     }
 }
