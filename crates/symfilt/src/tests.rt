@@ -213,24 +213,28 @@ fn runs(alloc: Global, words: &[&str]) -> (Run, bool) {
     (outcome, out.is_empty() && !err.is_empty())
 }
 
-#[test]
-fn reads_command_lines(rt: HostRuntime) {
-    let alloc = rt.alloc();
-    let filter = |limit, detail, letters| Run::Filter {
+/// What the program is to do where it is asked to filter.
+fn filtering(limit: u32, detail: Detail, letters: Letters) -> Run {
+    Run::Filter {
         limit,
         detail,
         letters,
-    };
+    }
+}
+
+#[test]
+fn reads_command_lines(rt: HostRuntime) {
+    let alloc = rt.alloc();
     let any = Letters::Any;
-    let usual = filter(1_000_000, Detail::Full, any);
+    let usual = filtering(1_000_000, Detail::Full, any);
     assert!(rt; runs(alloc, &["symfilt"]) == (usual, false));
-    let most = filter(4_294_967_295, Detail::Brief, any);
+    let most = filtering(4_294_967_295, Detail::Brief, any);
     assert!(rt; runs(alloc, &["symfilt", "--limit=4294967295", "--brief"]) == (most, false));
-    let named = filter(1_000_000, Detail::NoParameters, any);
+    let named = filtering(1_000_000, Detail::NoParameters, any);
     assert!(rt; runs(alloc, &["symfilt", "--no-params"]) == (named, false));
-    let shortest = filter(1_000_000, Detail::BriefNoParameters, any);
+    let shortest = filtering(1_000_000, Detail::BriefNoParameters, any);
     assert!(rt; runs(alloc, &["symfilt", "--no-params", "--brief"]) == (shortest, false));
-    let ascii = filter(1_000_000, Detail::Full, Letters::Ascii);
+    let ascii = filtering(1_000_000, Detail::Full, Letters::Ascii);
     assert!(rt; runs(alloc, &["symfilt", "--ascii-words"]) == (ascii, false));
     assert!(rt; runs(alloc, &["symfilt", "--limit", "4294967296"]) == (Run::Done(2), true));
     assert!(rt; runs(alloc, &["symfilt", "--press"]) == (Run::Done(2), true));
