@@ -6,8 +6,7 @@ use std::alloc::Global;
 use std::str;
 use sym_command::{FAULT, Run, run};
 use sym_core::Refusal;
-use sym_filter::{ListSink, ReaderSource, filter_as};
-use sym_print::Detail;
+use sym_filter::{Demangler, Languages, Letters, ListSink, ReaderSource, filter_words};
 
 /// The words of a command line, the program's name first, as blanks keep them apart; `-` is none. There is no such line where
 /// they aren't text.
@@ -26,16 +25,21 @@ fn words_of<'a>(alloc: Global, field: &'a [u8]) -> Result<Option<Vec<&'a str>>, 
 }
 
 /// A text, filtered. Nothing but memory can fail here.
-fn filtered(alloc: Global, text: &[u8], limit: u32, detail: Detail) -> Result<Vec<u8>, Refusal> {
+fn filtered<D: Demangler>(
+    alloc: Global,
+    text: &[u8],
+    demangler: &D,
+    letters: Letters,
+) -> Result<Vec<u8>, Refusal> {
     let mut source = ReaderSource::new(text);
     let mut sink = ListSink::new(Vec::new(alloc));
-    match filter_as(alloc, &mut source, &mut sink, limit, detail) {
+    match filter_words(alloc, &mut source, &mut sink, demangler, letters) {
         Ok(_) => Ok(sink.into_list()),
         Err(_) => Err(Refusal::Memory),
     }
 }
 
-/// Whether the program with these options filters a text to this one.
+/// Whether the program with these options filters a text to this one; and the static library, whose words have any letters.
 ///
 /// # Errors
 ///
@@ -52,14 +56,19 @@ pub fn is_filtered(
     let mut out = Vec::new(alloc);
     let mut err = Vec::new(alloc);
     match run(alloc, &words, &mut out, &mut err) {
-        Run::Filter { limit, detail } => {
+        Run::Filter {
+            limit,
+            detail,
+            letters,
+        } => {
             let text = unspelled(alloc, text)?;
-            let answer = filtered(alloc, &text, limit, detail);
+            let answer = filtered(alloc, &text, &Languages { limit, detail }, letters);
             Ok(
                 out.is_empty()
                     && err.is_empty()
                     && says(alloc, &answer, wanted)?
-                    && library_filters(alloc, &text, limit, detail, wanted)?,
+                    && (letters == Letters::Ascii
+                        || library_filters(alloc, &text, limit, detail, wanted)?),
             )
         }
         Run::Done(FAULT) => Err(Refusal::Memory),

@@ -12,7 +12,7 @@ use clap::error::ErrorKind;
 use clap::{Arg, ArgAction, ArgMatches, Command, Error};
 use std::alloc::Global;
 use std::mem;
-use sym_filter::{Demangler, FilterFault, Languages, ListSink, Pressing, Sink, write_all};
+use sym_filter::{Demangler, FilterFault, Languages, Letters, ListSink, Pressing, Sink, write_all};
 use sym_print::Detail;
 
 /// The status where each word has a text.
@@ -105,6 +105,9 @@ fn command_line<'a>(alloc: Global, words: &'a [&'a str]) -> Result<ArgMatches<'a
     let no_params = flag(alloc, "no-params").help(
         "Print each C++ function by its name, without return type and parameters",
     );
+    let ascii_words = flag(alloc, "ascii-words").help(
+        "Let the words of standard input end at bytes that aren't ASCII, as at the quotes that compilers put around symbols",
+    );
     let symbols = Arg::new(alloc, "SYMBOL")
         .num_args(0..)
         .action(ArgAction::Append)
@@ -118,6 +121,7 @@ fn command_line<'a>(alloc: Global, words: &'a [&'a str]) -> Result<ArgMatches<'a
         .arg(press)?
         .arg(brief)?
         .arg(no_params)?
+        .arg(ascii_words)?
         .arg(symbols)?
         .try_get_matches_from(words)
 }
@@ -165,6 +169,14 @@ fn detail_of(brief: bool, no_params: bool) -> Detail {
     }
 }
 
+/// The letters of words that a flag asks for.
+fn letters_of(ascii_words: bool) -> Letters {
+    if ascii_words {
+        return Letters::Ascii;
+    }
+    Letters::Any
+}
+
 /// The options of a command line.
 fn options_of(matches: &ArgMatches<'_>) -> Options {
     Options {
@@ -202,6 +214,7 @@ fn answer_all<W: Sink, E: Sink>(
     Ok(Run::Filter {
         limit: options.limit,
         detail: options.detail,
+        letters: letters_of(matches.get_flag("ascii-words")),
     })
 }
 

@@ -1,9 +1,14 @@
 // What a command line asks of the program.
+use sym_filter::Letters;
 use sym_print::Detail;
 
 /// What the program is to do: end with a status, or filter standard input.
 #[derive(Clone, Copy, Debug, PartialEq, Eq)]
 pub enum Run {
     Done(u8),
-    Filter { limit: u32, detail: Detail },
+    Filter {
+        limit: u32,
+        detail: Detail,
+        letters: Letters,
+    },
 }
