@@ -5,7 +5,7 @@ use std::process::Abort;
 use std::str;
 use std::test::Fail;
 use sym_command::{Run, answer_words, run, run_to};
-use sym_filter::{FilterFault, Languages, filter};
+use sym_filter::{Abi, FilterFault, Languages, filter};
 use sym_print::Detail;
 
 const LIMIT: u32 = 1_000_000;
@@ -131,6 +131,7 @@ fn answers_words(rt: HostRuntime) -> Result<(), Fail> {
     let languages = Languages {
         limit: LIMIT,
         detail: Detail::Full,
+        cpp: Abi,
     };
     let mut out = ScriptedSink::new(alloc, &[]);
     let mut err = ScriptedSink::new(alloc, &[]);
@@ -222,23 +223,34 @@ fn reads_command_lines(rt: HostRuntime) {
     let usual = Run::Filter {
         limit: 1_000_000,
         detail: full,
+        wide: false,
     };
     assert!(rt; runs(alloc, &["symfilt"]) == (usual, false));
     let most = Run::Filter {
         limit,
         detail: brief,
+        wide: false,
     };
     assert!(rt; runs(alloc, &["symfilt", "--limit=4294967295", "--brief"]) == (most, false));
     let named = Run::Filter {
         limit: 1_000_000,
         detail: Detail::NoParameters,
+        wide: false,
     };
     assert!(rt; runs(alloc, &["symfilt", "--no-params"]) == (named, false));
     let shortest = Run::Filter {
         limit: 1_000_000,
         detail: Detail::BriefNoParameters,
+        wide: false,
     };
     assert!(rt; runs(alloc, &["symfilt", "--no-params", "--brief"]) == (shortest, false));
+    let wide = Run::Filter {
+        limit: 1_000_000,
+        detail: full,
+        wide: true,
+    };
+    assert!(rt; runs(alloc, &["symfilt", "--wide"]) == (wide, false));
+    assert!(rt; runs(alloc, &["symfilt", "--wide", "--press"]) == (Run::Done(2), true));
     assert!(rt; runs(alloc, &["symfilt", "--limit", "4294967296"]) == (Run::Done(2), true));
     assert!(rt; runs(alloc, &["symfilt", "--press"]) == (Run::Done(2), true));
     assert!(rt; runs(alloc, &["symfilt", "--help"]) == (Run::Done(2), true));
