@@ -70,7 +70,7 @@ pub record AreAnswered (status : ℕ) (lines said : List ℕ) : Type 0 where
 -- asks for the filter has written nothing
 abbrev pub IsRun : Run → List ℕ → List ℕ → Type 0
 IsRun (Done status) lines said = AreAnswered status lines said ⊎ ((status ≡ 2) × (lines ≡ []))
-IsRun (Filter limit detail wide) lines said = (lines ≡ []) × (said ≡ [])
+IsRun (Filter limit detail letters wide) lines said = (lines ≡ []) × (said ≡ [])
 
 -- beginnings of the lines of some words
 pub record AreBegun (lines said : List ℕ) : Type 0 where

@@ -12,7 +12,7 @@ use clap::{Arg, ArgAction, ArgMatches, Command, Error};
 use std::alloc::Global;
 use std::mem;
 use sym_filter::{
-    Abi, Demangler, FilterFault, Languages, ListSink, Pressing, Sink, Wide, write_all,
+    Abi, Demangler, FilterFault, Languages, Letters, ListSink, Pressing, Sink, Wide, write_all,
 };
 use sym_print::Detail;
 
@@ -120,6 +120,9 @@ fn command_line<'a>(alloc: Global, words: &'a [&'a str]) -> Result<ArgMatches<'a
     let no_params = flag(alloc, "no-params").help(
         "Print each C++ function by its name, without return type and parameters",
     );
+    let ascii_words = flag(alloc, "ascii-words").help(
+        "Let the words of standard input end at bytes that aren't ASCII, as at the quotes that compilers put around symbols",
+    );
     let symbols = Arg::new(alloc, "SYMBOL")
         .num_args(0..)
         .action(ArgAction::Append)
@@ -134,6 +137,7 @@ fn command_line<'a>(alloc: Global, words: &'a [&'a str]) -> Result<ArgMatches<'a
         .arg(wide)?
         .arg(brief)?
         .arg(no_params)?
+        .arg(ascii_words)?
         .arg(symbols)?
         .try_get_matches_from(words)
 }
@@ -179,6 +183,14 @@ fn detail_of(brief: bool, no_params: bool) -> Detail {
         (false, true) => Detail::NoParameters,
         (true, true) => Detail::BriefNoParameters,
     }
+}
+
+/// The letters of words that a flag asks for.
+fn letters_of(ascii_words: bool) -> Letters {
+    if ascii_words {
+        return Letters::Ascii;
+    }
+    Letters::Any
 }
 
 /// What two flags ask of each symbol, which don't go together.
@@ -231,6 +243,7 @@ fn answer_all<W: Sink, E: Sink>(
     Ok(Run::Filter {
         limit: options.limit,
         detail: options.detail,
+        letters: letters_of(matches.get_flag("ascii-words")),
         wide: options.asked == Asked::WideText,
     })
 }

@@ -1,4 +1,5 @@
 // What a command line asks of the program.
+use sym_filter::Letters;
 use sym_print::Detail;
 
 /// What the program is to do: end with a status, or filter standard input, where C++ may be read by the wide grammar.
@@ -8,6 +9,7 @@ pub enum Run {
     Filter {
         limit: u32,
         detail: Detail,
+        letters: Letters,
         wide: bool,
     },
 }

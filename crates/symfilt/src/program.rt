@@ -7,7 +7,8 @@ use std::rt::Env;
 use std::{env, io, str};
 use sym_command::{FAULT, Run, refuse_with, run_to};
 use sym_filter::{
-    Abi, Demangler, FilterFault, Languages, ReaderSource, Sink, Wide, WriterSink, filter_with,
+    Abi, Demangler, FilterFault, Languages, Letters, ReaderSource, Sink, Wide, WriterSink,
+    filter_words,
 };
 
 /// No argument is longer, in bytes (Linux's bound on one argument).
@@ -21,6 +22,7 @@ pub fn program<R: Env + Input + Print + AllocGlobal, E: Print>(rt: &R, errors: &
             Run::Filter {
                 limit,
                 detail,
+                letters,
                 wide,
             },
         ) => {
@@ -30,14 +32,14 @@ pub fn program<R: Env + Input + Print + AllocGlobal, E: Print>(rt: &R, errors: &
                     detail,
                     cpp: Wide,
                 };
-                return filter_input(rt, errors, &languages);
+                return filter_input(rt, errors, &languages, letters);
             }
             let languages = Languages {
                 limit,
                 detail,
                 cpp: Abi,
             };
-            filter_input(rt, errors, &languages)
+            filter_input(rt, errors, &languages, letters)
         }
         Err(error) => fault(errors, error),
     }
@@ -97,12 +99,13 @@ fn filter_input<R: Input + Print + AllocGlobal, E: Print, D: Demangler>(
     rt: &R,
     errors: &E,
     demangler: &D,
+    letters: Letters,
 ) -> u8
     ensures { (result ≡ 0) ⊎ (result ≡ 3) }
 {
     let mut reader = ReaderSource::new(rt.reader());
     let mut writer = WriterSink::new(io::writer(rt));
-    match filter_with(rt.alloc(), &mut reader, &mut writer, demangler) {
+    match filter_words(rt.alloc(), &mut reader, &mut writer, demangler, letters) {
         Ok(_) => 0,
         Err(error) => fault(errors, error),
     }

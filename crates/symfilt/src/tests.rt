@@ -5,7 +5,7 @@ use std::process::Abort;
 use std::str;
 use std::test::Fail;
 use sym_command::{Run, answer_words, run, run_to};
-use sym_filter::{Abi, FilterFault, Languages, filter};
+use sym_filter::{Abi, FilterFault, Languages, Letters, filter};
 use sym_print::Detail;
 
 const LIMIT: u32 = 1_000_000;
@@ -217,38 +217,24 @@ fn runs(alloc: Global, words: &[&str]) -> (Run, bool) {
 #[test]
 fn reads_command_lines(rt: HostRuntime) {
     let alloc = rt.alloc();
-    let limit = 4_294_967_295;
-    let full = Detail::Full;
-    let brief = Detail::Brief;
-    let usual = Run::Filter {
-        limit: 1_000_000,
-        detail: full,
-        wide: false,
-    };
-    assert!(rt; runs(alloc, &["symfilt"]) == (usual, false));
-    let most = Run::Filter {
+    let filter = |limit, detail, letters, wide| Run::Filter {
         limit,
-        detail: brief,
-        wide: false,
+        detail,
+        letters,
+        wide,
     };
+    let any = Letters::Any;
+    let usual = filter(1_000_000, Detail::Full, any, false);
+    assert!(rt; runs(alloc, &["symfilt"]) == (usual, false));
+    let most = filter(4_294_967_295, Detail::Brief, any, false);
     assert!(rt; runs(alloc, &["symfilt", "--limit=4294967295", "--brief"]) == (most, false));
-    let named = Run::Filter {
-        limit: 1_000_000,
-        detail: Detail::NoParameters,
-        wide: false,
-    };
+    let named = filter(1_000_000, Detail::NoParameters, any, false);
     assert!(rt; runs(alloc, &["symfilt", "--no-params"]) == (named, false));
-    let shortest = Run::Filter {
-        limit: 1_000_000,
-        detail: Detail::BriefNoParameters,
-        wide: false,
-    };
+    let shortest = filter(1_000_000, Detail::BriefNoParameters, any, false);
     assert!(rt; runs(alloc, &["symfilt", "--no-params", "--brief"]) == (shortest, false));
-    let wide = Run::Filter {
-        limit: 1_000_000,
-        detail: full,
-        wide: true,
-    };
+    let ascii = filter(1_000_000, Detail::Full, Letters::Ascii, false);
+    assert!(rt; runs(alloc, &["symfilt", "--ascii-words"]) == (ascii, false));
+    let wide = filter(1_000_000, Detail::Full, any, true);
     assert!(rt; runs(alloc, &["symfilt", "--wide"]) == (wide, false));
     assert!(rt; runs(alloc, &["symfilt", "--wide", "--press"]) == (Run::Done(2), true));
     assert!(rt; runs(alloc, &["symfilt", "--limit", "4294967296"]) == (Run::Done(2), true));

@@ -1,18 +1,19 @@
 use Rattle.std.proofs.Common.{◌≡◌, ◌++◌, [], refl, sym, subst, arith, take, length, ap, ap₂, ◌∙◌, add-zero, ◌+◌, List, ℕ}
 use Rattle.std.specs.Io.KnownBytes.{Appends, Consumes}
 use Rattle.std.proofs.lemmas.List.{append-nil}
-use Rattle.sym_filter.specs.Runs.{filtered, tally_of}
+use Rattle.sym_filter.specs.Runs.{filtered_at, tally_at}
 use Rattle.sym_filter.specs.Words.{rest_after, tally_after}
 use Rattle.sym_filter.specs.Streams.{Puts}
 use Rattle.sym_filter.proofs.StreamLemmas.{Consumes-join, Consumes-keeps, next-text, next-counts, Puts-join, Puts-all, PutsFront-of, PutsFront-join, PutsFront-same, IfErr-from_and, reader_faults-other, take-none, room-back, dots-step}
 use Rattle.sym_filter.specs.declared.filtering.TheConstants.{READ_SIZE}
-use Rattle.sym_filter.proofs.filtering.filter_with.Goals as goal
+use Rattle.sym_filter.proofs.filtering.filter_words.Goals as goal
 
 pub loop-count-preserved : goal.loop-count-preserved
 loop-count-preserved g c =
     let so_far = c.loop-count.invariant in
     let read = c.in-Some.ensures in
     let taken = c.in_ok-take_piece.ensures in
+    let letters = c.args.letters in
     let answers = g.D.Demangler.answer c.args.demangler.now in
     let piece = take c.in-Some.count c.deref.result.now in
     let same : take c.in-Some.count c.read.new.room ≡ piece = ap (λ (t : List ℕ). take c.in-Some.count t) (sym (c.deref.ensures.value ∙ room-back c.read.new.room c.loop-count.room.items c.loop-count.room.len (c.read.auto.room ∙ c.deref_mut.ensures.len))) in
@@ -25,18 +26,19 @@ loop-count-preserved g c =
       write_failures = taken.failures ∙ add-zero _ ∙ so_far.write_failures;
       room = ap length (room-back c.read.new.room c.loop-count.room.items c.loop-count.room.len (c.read.auto.room ∙ c.deref_mut.ensures.len)) ∙ whole_room;
       nothing_waits = taken.nothing_waits;
-      rest = next-text (filtered answers) (rest_after answers c.loop-count.words) (rest_after answers c.take_piece.new.words) so_far.text piece so_far.bytes taken.ok.0 so_far.rest taken.ok.1.text;
-      counts = next-counts (tally_of answers) (tally_after answers c.loop-count.words) (tally_after answers c.take_piece.new.words) so_far.text piece so_far.counts taken.ok.1.counts;
+      rest = next-text (filtered_at letters answers) (rest_after answers c.loop-count.words) (rest_after answers c.take_piece.new.words) so_far.text piece so_far.bytes taken.ok.0 so_far.rest taken.ok.1.text;
+      counts = next-counts (tally_at letters answers) (tally_after answers c.loop-count.words) (tally_after answers c.take_piece.new.words) so_far.text piece so_far.counts taken.ok.1.counts;
       dots = dots-step c.loop-count.words.dots c.take_piece.new.words.dots (g.R.Source.reads_left c.loop-count.reader) (g.R.Source.reads_left c.read.new.self) c.in-Some.count c.read.new.room piece so_far.dots (read.left refl) taken.ok.1.dots same whole_room;
     }
 
 pub returns-in_default-clause-err : goal.returns-in_default-clause-err
 returns-in_default-clause-err g c =
     let so_far = c.loop-count.invariant in
+    let letters = c.args.letters in
     let answers = g.D.Demangler.answer c.args.demangler.now in
     let rest = rest_after answers c.loop-count.words [] in
-    let whole : so_far.bytes ++ rest ≡ filtered answers so_far.text = sym (so_far.rest []) ∙ ap (filtered answers) (append-nil so_far.text) in
-    let front = PutsFront-same _ _ [] (so_far.bytes ++ rest) (filtered answers so_far.text) whole (PutsFront-of _ _ [] [] so_far.bytes rest so_far.puts) in record {
+    let whole : so_far.bytes ++ rest ≡ filtered_at letters answers so_far.text = sym (so_far.rest []) ∙ ap (filtered_at letters answers) (append-nil so_far.text) in
+    let front = PutsFront-same _ _ [] (so_far.bytes ++ rest) (filtered_at letters answers so_far.text) whole (PutsFront-of _ _ [] [] so_far.bytes rest so_far.puts) in record {
       text = so_far.text;
       gone = front.gone;
       reads = Consumes-keeps _ _ _ so_far.text so_far.reads c.in_default.ensures.failed;
@@ -47,12 +49,13 @@ returns-in_default-clause-err g c =
 pub returns-in_err-take_piece-clause-err : goal.returns-in_err-take_piece-clause-err
 returns-in_err-take_piece-clause-err g c =
     let so_far = c.loop-count.invariant in
+    let letters = c.args.letters in
     let answers = g.D.Demangler.answer c.args.demangler.now in
     let piece = take c.in-Some.count c.deref.result.now in
     let same : take c.in-Some.count c.read.new.room ≡ piece = ap (λ (t : List ℕ). take c.in-Some.count t) (sym (c.deref.ensures.value ∙ room-back c.read.new.room c.loop-count.room.items c.loop-count.room.len (c.read.auto.room ∙ c.deref_mut.ensures.len))) in
     let wrote = c.in_err-take_piece.ensures.err in
     let rest = rest_after answers c.loop-count.words piece in
-    let front = PutsFront-same _ _ [] (so_far.bytes ++ rest) (filtered answers (so_far.text ++ piece)) (sym (so_far.rest piece)) (PutsFront-join _ _ _ [] [] so_far.bytes rest so_far.puts wrote.1) in
+    let front = PutsFront-same _ _ [] (so_far.bytes ++ rest) (filtered_at letters answers (so_far.text ++ piece)) (sym (so_far.rest piece)) (PutsFront-join _ _ _ [] [] so_far.bytes rest so_far.puts wrote.1) in
     IfErr-from_and c.from_residual-in_err-take_piece.result _ _ c.from_residual-in_err-take_piece.ensures.1 (λ fault is_fault. record {
       text = so_far.text ++ piece;
       gone = front.gone;
@@ -74,11 +77,12 @@ returns-in_err-end_text-clause-read_failed g c =
 pub returns-in_err-end_text-clause-err : goal.returns-in_err-end_text-clause-err
 returns-in_err-end_text-clause-err g c =
     let so_far = c.loop-count.invariant in
+    let letters = c.args.letters in
     let answers = g.D.Demangler.answer c.args.demangler.now in
     let wrote = c.in_err-end_text.ensures.err in
     let rest = rest_after answers c.loop-count.words [] in
     let none : so_far.text ++ take c.in-Some.count c.read.new.room ≡ so_far.text ++ [] = ap (λ (t : List ℕ). so_far.text ++ t) (take-none c.in-Some.count c.read.new.room c.if-count-eq0.true) in
-    let front = PutsFront-same _ _ [] (so_far.bytes ++ rest) (filtered answers (so_far.text ++ [])) (sym (so_far.rest [])) (PutsFront-join _ _ _ [] [] so_far.bytes rest so_far.puts wrote.1) in
+    let front = PutsFront-same _ _ [] (so_far.bytes ++ rest) (filtered_at letters answers (so_far.text ++ [])) (sym (so_far.rest [])) (PutsFront-join _ _ _ [] [] so_far.bytes rest so_far.puts wrote.1) in
     IfErr-from_and c.from_residual-in_err-end_text.result _ _ c.from_residual-in_err-end_text.ensures.1 (λ fault is_fault. record {
       text = so_far.text ++ [];
       gone = front.gone;
@@ -90,6 +94,7 @@ returns-in_err-end_text-clause-err g c =
 pub returns-clause-ok : goal.returns-clause-ok
 returns-clause-ok g c =
     let so_far = c.loop-count.invariant in
+    let letters = c.args.letters in
     let answers = g.D.Demangler.answer c.args.demangler.now in
     let rest = rest_after answers c.loop-count.words [] in
     let none : so_far.text ++ take c.in-Some.count c.read.new.room ≡ so_far.text ++ [] = ap (λ (t : List ℕ). so_far.text ++ t) (take-none c.in-Some.count c.read.new.room c.if-count-eq0.true) in
