@@ -81,8 +81,8 @@ pub fn filter_with<R: Source, W: Sink, D: Demangler>(
     filter_words(alloc, reader, writer, demangler, Letters::Any)
 }
 
-/// The filter over any demangler, with words of these letters. What cannot be decided yet is held back: at most the longest word, and a count of
-/// dots behind it. What is decided after a read is written before the next.
+/// The filter over any demangler, with words of these letters. What cannot be decided yet is held back: at most the
+/// longest word, and a count of dots behind it. What is decided after a read is written before the next.
 pub fn filter_words<R: Source, W: Sink, D: Demangler>(
     alloc: Global,
     reader: &mut R,

@@ -214,27 +214,31 @@ fn runs(alloc: Global, words: &[&str]) -> (Run, bool) {
     (outcome, out.is_empty() && !err.is_empty())
 }
 
-#[test]
-fn reads_command_lines(rt: HostRuntime) {
-    let alloc = rt.alloc();
-    let filter = |limit, detail, letters, wide| Run::Filter {
+/// What the program is to do where it is asked to filter, with C++ by the wide grammar or the other.
+fn filtering(limit: u32, detail: Detail, letters: Letters, wide: bool) -> Run {
+    Run::Filter {
         limit,
         detail,
         letters,
         wide,
-    };
+    }
+}
+
+#[test]
+fn reads_command_lines(rt: HostRuntime) {
+    let alloc = rt.alloc();
     let any = Letters::Any;
-    let usual = filter(1_000_000, Detail::Full, any, false);
+    let usual = filtering(1_000_000, Detail::Full, any, false);
     assert!(rt; runs(alloc, &["symfilt"]) == (usual, false));
-    let most = filter(4_294_967_295, Detail::Brief, any, false);
+    let most = filtering(4_294_967_295, Detail::Brief, any, false);
     assert!(rt; runs(alloc, &["symfilt", "--limit=4294967295", "--brief"]) == (most, false));
-    let named = filter(1_000_000, Detail::NoParameters, any, false);
+    let named = filtering(1_000_000, Detail::NoParameters, any, false);
     assert!(rt; runs(alloc, &["symfilt", "--no-params"]) == (named, false));
-    let shortest = filter(1_000_000, Detail::BriefNoParameters, any, false);
+    let shortest = filtering(1_000_000, Detail::BriefNoParameters, any, false);
     assert!(rt; runs(alloc, &["symfilt", "--no-params", "--brief"]) == (shortest, false));
-    let ascii = filter(1_000_000, Detail::Full, Letters::Ascii, false);
+    let ascii = filtering(1_000_000, Detail::Full, Letters::Ascii, false);
     assert!(rt; runs(alloc, &["symfilt", "--ascii-words"]) == (ascii, false));
-    let wide = filter(1_000_000, Detail::Full, any, true);
+    let wide = filtering(1_000_000, Detail::Full, any, true);
     assert!(rt; runs(alloc, &["symfilt", "--wide"]) == (wide, false));
     assert!(rt; runs(alloc, &["symfilt", "--wide", "--press"]) == (Run::Done(2), true));
     assert!(rt; runs(alloc, &["symfilt", "--limit", "4294967296"]) == (Run::Done(2), true));
