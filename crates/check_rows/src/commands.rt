@@ -6,7 +6,8 @@ use std::alloc::Global;
 use std::str;
 use sym_command::{FAULT, Run, run};
 use sym_core::Refusal;
-use sym_filter::{Demangler, Languages, Letters, ListSink, ReaderSource, filter_words};
+use sym_filter::{Abi, Demangler, Languages, Letters, ListSink, ReaderSource, Wide, filter_words};
+use sym_print::Detail;
 
 /// The words of a command line, the program's name first, as blanks keep them apart; `-` is none. There is no such line where
 /// they aren't text.
@@ -39,7 +40,39 @@ fn filtered<D: Demangler>(
     }
 }
 
-/// Whether the program with these options filters a text to this one; and the static library, whose words have any letters.
+/// Whether the filter, with C++ by the wide grammar or the other, makes this of a text; and the static library, which has the
+/// latter, and words of any letters.
+fn filters_say(
+    alloc: Global,
+    text: &[u8],
+    limit: u32,
+    detail: Detail,
+    letters: Letters,
+    wide: bool,
+    wanted: &[u8],
+) -> Result<bool, Refusal> {
+    if wide {
+        let languages = Languages {
+            limit,
+            detail,
+            cpp: Wide,
+        };
+        let answer = filtered(alloc, text, &languages, letters);
+        return says(alloc, &answer, wanted);
+    }
+    let languages = Languages {
+        limit,
+        detail,
+        cpp: Abi,
+    };
+    let answer = filtered(alloc, text, &languages, letters);
+    Ok(
+        says(alloc, &answer, wanted)?
+            && (letters == Letters::Ascii || library_filters(alloc, text, limit, detail, wanted)?),
+    )
+}
+
+/// Whether the program with these options filters a text to this one.
 ///
 /// # Errors
 ///
@@ -60,15 +93,13 @@ pub fn is_filtered(
             limit,
             detail,
             letters,
+            wide,
         } => {
             let text = unspelled(alloc, text)?;
-            let answer = filtered(alloc, &text, &Languages { limit, detail }, letters);
             Ok(
                 out.is_empty()
                     && err.is_empty()
-                    && says(alloc, &answer, wanted)?
-                    && (letters == Letters::Ascii
-                        || library_filters(alloc, &text, limit, detail, wanted)?),
+                    && filters_say(alloc, &text, limit, detail, letters, wide, wanted)?,
             )
         }
         Run::Done(FAULT) => Err(Refusal::Memory),

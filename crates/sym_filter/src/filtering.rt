@@ -10,6 +10,7 @@ use crate::kinds::Letters;
 use crate::languages::Languages;
 use crate::streams::{FilterFault, Sink, Source, write_out};
 use crate::words::{Taken, Tally, Words};
+use itanium::Abi;
 use std::alloc::{AllocError, Global};
 use sym_print::Detail;
 
@@ -53,7 +54,12 @@ pub fn filter_as<R: Source, W: Sink>(
     ensures read_failed { R.failure_count reader.new ≡ R.failure_count reader.old + reader_faults result }
     ensures write_failed { W.failure_count writer.new ≡ W.failure_count writer.old + writer_faults result }
 {
-    filter_with(alloc, reader, writer, &Languages { limit, detail })
+    let languages = Languages {
+        limit,
+        detail,
+        cpp: Abi,
+    };
+    filter_with(alloc, reader, writer, &languages)
 }
 
 /// The filter over any demangler.

@@ -7,7 +7,8 @@ use std::rt::Env;
 use std::{env, io, str};
 use sym_command::{FAULT, Run, refuse_with, run_to};
 use sym_filter::{
-    Demangler, FilterFault, Languages, Letters, ReaderSource, Sink, WriterSink, filter_words,
+    Abi, Demangler, FilterFault, Languages, Letters, ReaderSource, Sink, Wide, WriterSink,
+    filter_words,
 };
 
 /// No argument is longer, in bytes (Linux's bound on one argument).
@@ -22,8 +23,24 @@ pub fn program<R: Env + Input + Print + AllocGlobal, E: Print>(rt: &R, errors: &
                 limit,
                 detail,
                 letters,
+                wide,
             },
-        ) => filter_input(rt, errors, &Languages { limit, detail }, letters),
+        ) => {
+            if wide {
+                let languages = Languages {
+                    limit,
+                    detail,
+                    cpp: Wide,
+                };
+                return filter_input(rt, errors, &languages, letters);
+            }
+            let languages = Languages {
+                limit,
+                detail,
+                cpp: Abi,
+            };
+            filter_input(rt, errors, &languages, letters)
+        }
         Err(error) => fault(errors, error),
     }
 }
