@@ -14,6 +14,7 @@ pub mod MovesOfTypes
 pub mod Kept
 pub mod FoundTokens
 pub mod NamePlaces
+pub mod HashPlaces
 pub mod PathsRead
 pub mod SymbolsRead
 pub mod Again

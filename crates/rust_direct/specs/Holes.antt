@@ -91,6 +91,14 @@ IsDisambiguatorAt s at count end =
     ((count ≡ 0) × (end ≡ at))
     ⊎ ((n : ℕ) × StandsAt s at (115 ∷ []) × IsNumberAt s (at + 1) n end × (count ≡ n + 1) × (count ≤ greatest_u64))
 
+-- a number in base 62 stands at the place that is less than the greatest of 64 bits, and this is the place behind it
+abbrev pub IsSmallNumberAt : (s : List ℕ) → (at end : ℕ) → Type 0
+IsSmallNumberAt s at end = (n : ℕ) × IsNumberAt s at n end × (n + 1 ≤ greatest_u64)
+
+-- a disambiguator stands at the place, or none, whatever it counts, and this is the place behind it
+abbrev pub HasDisambiguator : (s : List ℕ) → (at end : ℕ) → Type 0
+HasDisambiguator s at end = (count : ℕ) × IsDisambiguatorAt s at count end
+
 -- an identifier that is no Punycode
 abbrev pub identifier : (count : ℕ) → (name : List ℕ) → tree.Identifier
 identifier count name = record { disambiguator = count; name = record { punycode = false; bytes = name } }

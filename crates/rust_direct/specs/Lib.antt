@@ -1,5 +1,6 @@
 pub mod Holes
 pub mod Names
+pub mod Hashes
 pub mod Prints
 pub mod Says
 pub mod Notes

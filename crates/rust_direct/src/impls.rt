@@ -10,8 +10,8 @@ ghost use Rattle.rust_direct.specs.Stands.{IsWriting};
 ghost use Rattle.rust_direct.specs.Awaits.{AwaitsPath, Arrives};
 
 use crate::direct::Direct;
+use crate::hashes::disambiguator_end;
 use crate::open::{Closing, Forms, Open, Step, is_path, is_type};
-use crate::tokens::disambiguator_at;
 
 impl Direct {
     // <path> = "M" <impl-path> <type>
@@ -22,7 +22,7 @@ impl Direct {
         ensures { IfSome result (IsWriting s.now self.new) }
     {
         let place = self.at;
-        let (_count, behind) = disambiguator_at(s, place.checked_add(1)?)?;
+        let behind = disambiguator_end(s, place.checked_add(1)?)?;
         if self.is_aside {
             return None;
         }

@@ -11,6 +11,7 @@ mod arguments;
 mod bounds;
 mod constants;
 mod direct;
+mod hashes;
 mod impls;
 mod names;
 mod open;

@@ -10,9 +10,10 @@ ghost use Rattle.rust_direct.specs.Stands.{IsWriting};
 ghost use Rattle.rust_direct.specs.Awaits.{Awaits, AwaitsPath, Arrives};
 
 use crate::direct::Direct;
+use crate::hashes::disambiguator_end;
 use crate::names::name_at;
 use crate::open::{Forms, Open, Step, is_path};
-use crate::tokens::{disambiguator_at, is_namespace, number_at};
+use crate::tokens::{is_namespace, number_at};
 use sym_direct::byte_at;
 
 impl Direct {
@@ -45,7 +46,7 @@ impl Direct {
     {
         let place = self.at;
         let from = self.text.len();
-        let (_count, behind) = disambiguator_at(s, place.checked_add(1)?)?;
+        let behind = disambiguator_end(s, place.checked_add(1)?)?;
         let name = name_at(s, behind)?;
         if name.from >= name.to {
             return None;
@@ -93,7 +94,7 @@ impl Direct {
         if letter < b'a' {
             return self.special_ended(s, from, forms, letter, place);
         }
-        let (_count, behind) = disambiguator_at(s, self.at)?;
+        let behind = disambiguator_end(s, self.at)?;
         let name = name_at(s, behind)?;
         if name.from >= name.to {
             return None;
