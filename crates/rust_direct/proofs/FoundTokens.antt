@@ -1,8 +1,7 @@
 -- Names and numbers that were found, and the bytes at a place.
-use Rattle.std.proofs.Common.{◌≡◌, ◌≢◌, ℕ, ◌+◌, ◌-◌, ◌<◌, ◌≤◌, List, [], ◌∷◌, ◌++◌, length, take, drop, Bool, true, Option, Some, None, Result, Ok, Err, refl, ap, sym, subst, ◌∙◌, arith, append_assoc}
+use Rattle.std.proofs.Common.{◌≡◌, ◌≢◌, ℕ, ◌+◌, ◌-◌, ◌<◌, ◌≤◌, List, [], ◌∷◌, ◌++◌, length, take, drop, Bool, true, Option, Some, None, Result, Ok, Err, ap, sym, subst, ◌∙◌, arith, append_assoc}
 use Rattle.std.proofs.lemmas.List.{length-append, length-drop, length-take, drop-drop}
 use Rattle.std.proofs.Math.Seq.{drop-append_seam, take-append_seam}
-use Rattle.std.specs.Option.{IfSome}
 use Rattle.std.specs.Result.{result_ok}
 use Rattle.sym_core.specs.declared.NameClass.TheVariants.{Rust}
 use Rattle.sym_core.specs.declared.NumberKind.TheVariants.{Base62, Hex}
@@ -65,16 +64,21 @@ place-found Is s at (Err bad) o place finds ok some = absurd (apart o place ok s
     apart : (o : Option TokenPlace) (place : TokenPlace) → o ≡ None → o ≡ Some place → ⊥
     apart o place e f = cc (e, f)
 
--- a name that was found
-pub name-found : (s : List ℕ) (at : ℕ) (r : Result TokenPlace ℕ) (o : Option TokenPlace) → FindsToken (IsName Rust) s at r → o ≡ result_ok r
-    → at ≤ length s → IfSome o (IsNamePlace s at)
-name-found s at r None finds ok le = tt
-name-found s at r (Some place) finds ok le =
-    let h = place-found (IsName Rust) s at r (Some place) place finds ok refl in
-    let own = own-found (IsName Rust) s at place h le in (
+-- a name that was found ends with its own bytes
+pub name-found : (s : List ℕ) (at : ℕ) (place : TokenPlace) → HasToken (IsName Rust) (drop at s) at place → at ≤ length s
+    → IsNamePlace s at (record { from = place.from; to = place.to; end = place.to })
+name-found s at place h le =
+    let own = own-found (IsName Rust) s at place h le in
+    let all = length-append (h.token.before ++ h.token.own) h.token.behind in (
       own.0,
       own.1,
-      record { token = h.token; is_name = h.is; own = sym own.2; stands = (h.rest, h.split); ends = h.end },
+      record {
+        token = h.token;
+        is_name = h.is;
+        own = sym own.2;
+        stands = (h.rest, h.split);
+        ends = omega (arith, h.to, all, length-append h.token.before h.token.own, ap length h.is.ends);
+      },
     )
 
 -- where the digits of a number stand

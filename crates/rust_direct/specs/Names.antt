@@ -2,6 +2,7 @@
 use Rattle.std.specs.Prelude.{◌≡◌, ℕ, ◌+◌, ◌-◌, ◌≤◌, ◌<◌, List, length, take, drop, Bool, ◌||◌, ◌==◌}
 use Rattle.sym_core.specs.declared.NumberKind.TheVariants.{Length}
 use Rattle.sym_core.specs.declared.tokens.TokenPlace.{TokenPlace}
+use Rattle.sym_core.specs.declared.Span.{Span}
 use Rattle.sym_core.specs.Number.{AreDigitsOf, is_decimal_digit}
 use Rattle.sym_core.specs.Value.{value_of}
 use Rattle.sym_direct.specs.Holes.{StandsAt}
@@ -24,3 +25,7 @@ goes_on b = is_decimal_digit b || b == 95
 abbrev pub IsNamePlace : (s : List ℕ) → (at : ℕ) → TokenPlace → Type 0
 IsNamePlace s at place =
     (place.from ≤ place.to) × (place.to ≤ length s) × IsNameAt s at (take (place.to - place.from) (drop place.from s)) place.end
+
+-- a name stands at the place, and ends with its own bytes, which are those of the span
+abbrev pub IsNameSpan : (s : List ℕ) → (at : ℕ) → Span → Type 0
+IsNameSpan s at own = IsNamePlace s at (record { from = own.from; to = own.to; end = own.to })

@@ -6,9 +6,9 @@ ghost use Rattle.sym_core.specs.declared.NameClass.TheVariants.{Rust};
 ghost use Rattle.sym_core.specs.Number.{FitsSymbol, is_decimal_digit};
 ghost use Rattle.sym_core.specs.Scan.{ReachesNameBytes};
 ghost use Rattle.sym_core.specs.Token.{is_name_byte};
-ghost use Rattle.rust_direct.specs.Names.{IsLengthRead, IsNamePlace, goes_on};
+ghost use Rattle.rust_direct.specs.Names.{IsLengthRead, IsNamePlace, IsNameSpan, goes_on};
 
-use sym_core::{NameClass, TokenPlace, find_name};
+use sym_core::{NameClass, Span, TokenPlace, find_name};
 use sym_direct::byte_at;
 
 // For each byte 1 where it may not stand in a name, else 0.
@@ -82,16 +82,35 @@ fn goes_on(byte: u8) -> bool
     is_digit(byte) || byte == b'_'
 }
 
-/// The name at a place, whatever its length is.
+/// The own bytes of the name at a place, whatever its length is.
 #[inline(never)]
-fn any_name_at(s: &[u8], at: usize) -> Option<TokenPlace>
+fn any_name_span(s: &[u8], at: usize) -> Option<Span>
     requires { FitsSymbol s.now }
-    ensures { IfSome result (IsNamePlace s.now at) }
+    ensures { IfSome result (IsNameSpan s.now at) }
 {
     if at > s.len() {
         return None;
     }
-    find_name(s, at, NameClass::Rust).ok()
+    let place = find_name(s, at, NameClass::Rust).ok()?;
+    Some(Span {
+        from: place.from as u32,
+        to: place.to as u32,
+    })
+}
+
+/// The name at a place, whatever its length is.
+#[inline(always)]
+fn any_name_at(s: &[u8], at: usize) -> Option<TokenPlace>
+    requires { FitsSymbol s.now }
+    ensures { IfSome result (IsNamePlace s.now at) }
+{
+    let own = any_name_span(s, at)?;
+    let to = own.to as usize;
+    Some(TokenPlace {
+        from: own.from as usize,
+        to,
+        end: to,
+    })
 }
 
 /// The name at a place, where so much of its length is read.

@@ -38,6 +38,7 @@ impl Direct {
     }
 
     // <path> = "C" <identifier>
+    #[inline(always)]
     pub(crate) fn crate_root(&mut self, s: &[u8]) -> Option<Step>
         requires fits { FitsSymbol s.now }
         requires letter { StandsAt s.now self.old.at (67 ∷ []) }
