@@ -17,7 +17,7 @@ def arguments(tree, *sorts): return [(name, sort) for name, sort in tree[1:] if 
 def applied(name, parts): return " ".join([name, *parts])
 
 # names of arguments as other crates have them, by constructor or for each
-PRESSED = {"t": "type", ("special", "letter"): "l", ("abbreviation", "letter"): "l", ("local", "encoding"): "e", ("source", "bytes"): "name",
+PRESSED = {"t": "type", ("special", "letter"): "l", ("of_name", "letter"): "l", ("abbreviation", "letter"): "l", ("local", "encoding"): "e", ("source", "bytes"): "name",
            ("literal_operator", "bytes"): "name", ("lambda", "number"): "k", ("unnamed", "number"): "k", ("vendor", "bytes"): "name", ("integer", "n"): "value",
            ("boolean", "b"): "truth", ("member_pointer", "t"): "member", ("list", "e"): "first"}
 SCOPES = {"t": "type", ("alone", "p"): "piece", ("in_std", "p"): "piece", ("within", "p"): "piece", ("parameter", "k"): "number", ("qualified", "q"): "qualifiers",
@@ -192,7 +192,7 @@ PIECES = "source operator literal_operator constructor destructor lambda unnamed
 OTHERS = {
     "function": [("name", TREE), ("q", QUALIFIERS), ("m", MARK), ("returned", TREE), ("parameters", TREE)],
     "object": [("name", TREE), ("q", QUALIFIERS), ("m", MARK)],
-    "guard": [("name", TREE), ("q", QUALIFIERS), ("m", MARK)],
+    "of_name": [("letter", NUMBER), ("name", TREE), ("q", QUALIFIERS), ("m", MARK)],
     "thunk": [("u", THUNK), ("e", TREE)],
     "local": [("e", TREE), ("entity", TREE), ("d", DISCRIMINATOR)],
     "parameter": [("k", NUMBER), ("a", TREE)],
@@ -236,14 +236,14 @@ BELOW = {TREE: "{0} < n", OWN: "{0} < n", PIECE: "IsPieceBelow s n {0}", BYTES: 
          DISCRIMINATOR: "IsSpan s {0}", THUNK: "{0} < held"}
 def bounds(args): return [(name, sort) for name, sort in args if sort in BELOW]
 
-# views have the pieces of names at the end, and a thunk behind a guard
-VIEWS = lambda: [t for t in named(VIEWED, ["absent", "nil", "list", "symbol", "function", "object", "special", "guard", "thunk"], ["alone", "in_std", "within"]) if t[0] not in PIECES]
+# views have the pieces of names at the end, and a thunk behind the other special names
+VIEWS = lambda: [t for t in named(VIEWED, ["absent", "nil", "list", "symbol", "function", "object", "special", "of_name", "thunk"], ["alone", "in_std", "within"]) if t[0] not in PIECES]
 
 def fields_of():
     """what is seen of a tree: production, two numbers, a text, parts"""
     numbers = {QUALIFIERS: "(qualifiers_number {0})", MARK: "(mark_number {0})", NUMBER: "{0}", TRUTH: "(bit {0})", SIGNED: "(bit {0}.negative)"}
     special = {
-        "thunk": "thunk_fields kind encoding", "local": "local_fields around entity discriminator",
+        "of_name": "named_fields letter name q mark", "thunk": "thunk_fields kind encoding", "local": "local_fields around entity discriminator",
         "function_type": "\n    fields FUNCTION_TYPE (linkage_number c_linkage noexcept) (mark_number mark) [] (returned ∷ parameters ∷ [])",
         "alone": "name_fields ALONE [] (alone piece) piece", "in_std": "name_fields IN_STD [] (in_std piece) piece",
         "within": "name_fields NESTED (prefix ∷ []) (within prefix piece) piece",
@@ -268,6 +268,8 @@ def tree_from():
     back = {QUALIFIERS: "(qualifiers_in (number_in given {0}))", MARK: "(mark_in (number_in given {0}))", NUMBER: "(number_in given {0})", TRUTH: "(is_so given 0)",
             SIGNED: "(signed_in given 0)", BYTES: "(text_in given 0)"}
     special = {
+        "of_name": [("GUARD", "of_name GUARD_LETTER (part_in given 0) (qualifiers_in (number_in given 0)) (mark_in (number_in given 1))"),
+                    ("OF_NAME", "of_name (number_in given 0) (part_in given 0) (qualifiers_of_both (number_in given 1)) (mark_of_both (number_in given 1))")],
         "thunk": [("THUNK", "thunk (adjusting (non_virtual (signed_in given 0))) (part_in given 0)"),
                   ("TABLE_THUNK", "thunk (adjusting (by_table (signed_in given 0) (signed_in given 1))) (part_in given 0)"),
                   ("COVARIANT_THUNK", "thunk (covariant (non_virtual (signed_in given 0)) (non_virtual (signed_in given 1))) (part_in given 0)")],

@@ -3,7 +3,8 @@ use Rattle.std.proofs.Common.{◌≡◌, ◌≢◌, refl, ap, sym, ◌∙◌, �
 use Rattle.sym_print.specs.declared.detail.Detail.TheVariants.{Full}
 use Rattle.sym_print.specs.Unfold.{text}
 use Rattle.sym_print.specs.Unshared.{text_of, cost_of}
-use Rattle.cpp_grammar.specs.Term.{Qualifiers, RefQualifier, any_value, Term, function, object, guard, local, within, source, builtin, nil, absent}
+use Rattle.cpp_grammar.specs.Term.{Qualifiers, RefQualifier, any_value, Term, function, object, of_name, local, within, source, builtin, nil, absent}
+use Rattle.cpp_grammar.specs.Texts.{look_up, same_bytes, named_special_texts}
 use Rattle.cpp_grammar.specs.Scope.{has_return_type}
 use Rattle.cpp_grammar.specs.Items.{full, bare, left, piece, Context, closed}
 use Rattle.cpp_grammar.specs.Values.{Value, unqualified, tree_of, qualifiers_of, ref_of}
@@ -117,11 +118,11 @@ entity-shows e b p internal name d =
 
 -- Its guard variable shows that it is one, and the same.
 pub guard-shows : (e : Term) (b : List ℕ) → Encloses e b → (internal : Bool) (name : List ℕ) (d : Option (List ℕ))
-    → Shows (guard (local e (within e (source internal name)) d) unqualified any_value) (codes "guard variable for " ++ (b ++ codes "::" ++ source_text name))
-unfolding parts_in full_parts encoding_text qualifier_text ref_text text_part not_empty
+    → Shows (of_name 86 (local e (within e (source internal name)) d) unqualified any_value) (codes "guard variable for " ++ (b ++ codes "::" ++ source_text name))
+unfolding look_up same_bytes named_special_texts parts_in full_parts encoding_text qualifier_text ref_text text_part not_empty
 guard-shows e b p internal name d =
     let t = local e (within e (source internal name)) d in
-    let g = guard t unqualified any_value in
+    let g = of_name 86 t unqualified any_value in
     let k : List ℕ = codes "guard variable for " in
     record {
       shown_text = text_by full closed g (text k ∷ as_item left closed t ∷ []) refl

@@ -7,7 +7,7 @@ use Rattle.sym_print.specs.declared.detail.Detail.{Detail}
 use Rattle.cpp_grammar.specs.Parts.{qualifier_text, ref_text, encoding_text, blank_last}
 use Rattle.cpp_grammar.specs.Items as heads
 use Rattle.cpp_grammar.specs.Term as values
-use Rattle.cpp_grammar.specs.Texts.{look_up, literal_endings, builtin_texts, operator_texts, abbreviation_texts, special_texts}
+use Rattle.cpp_grammar.specs.Texts.{look_up, literal_endings, builtin_texts, operator_texts, abbreviation_texts, special_texts, named_special_texts}
 use Rattle.cpp_term.specs.Term as term
 use Rattle.cpp_term.specs.Term.{Term}
 use Rattle.cpp_term.specs.Items as items
@@ -26,7 +26,7 @@ use Rattle.cpp_layout.specs.Layout.{own_piece, marked, referred, text_if, qualif
 -- ## Qualifiers
 
 blanked : (r v k : Bool) → BLANKED < BLANKED + bit r + 2 * bit v + 4 * bit k → (fixed_text (BLANKED + bit r + 2 * bit v + 4 * bit k) ≡ blank_last (qualifier_text (record { restrict = r; volatile = v; const = k }))) × (0 < length (fixed_text (BLANKED + bit r + 2 * bit v + 4 * bit k)))
-unfolding bit blank_last qualifier_text builtin_texts operator_texts abbreviation_texts special_texts literal_endings
+unfolding bit blank_last qualifier_text builtin_texts operator_texts abbreviation_texts special_texts named_special_texts literal_endings
 blanked false false false more = absurd (omega (arith, more))
 blanked true false false more = (refl, omega arith)
 blanked false true false more = (refl, omega arith)

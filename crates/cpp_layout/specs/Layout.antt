@@ -170,7 +170,7 @@ is_encoding (Node.Function name q m returned parameters) = true
 is_encoding (Node.Object name q m) = true
 is_encoding (Node.Special code t) = true
 is_encoding (Node.Thunk u e) = true
-is_encoding (Node.Guard name q m) = true
+is_encoding (Node.OfName letter name q m) = true
 is_encoding _ = false
 
 -- ## A symbol as a layout

@@ -2,7 +2,7 @@
 use Rattle.std.specs.Prelude.{ℕ, List, [], ◌∷◌, ◌++◌, codes, drop, get_or, slice_get, Some, None}
 use Rattle.std.specs.Prelude.{Bool, true, false, ◌+◌, ◌*◌, cond}
 use Rattle.cpp_grammar.specs.Term.{Qualifiers, RefQualifier}
-use Rattle.cpp_grammar.specs.Texts.{Naming, builtin_texts, operator_texts, abbreviation_texts, special_texts, literal_endings}
+use Rattle.cpp_grammar.specs.Texts.{Naming, builtin_texts, operator_texts, abbreviation_texts, special_texts, named_special_texts, literal_endings}
 use Rattle.cpp_grammar.specs.Parts.{encoding_text}
 use Rattle.cpp_layout.specs.TextLists.{plain_texts, suffix_texts, blanked_texts}
 use Rattle.cpp_tree.specs.declared.node.Mark.{Mark}
@@ -19,7 +19,7 @@ word_texts = codes "operator" ∷ []
 abbrev pub texts : List (List ℕ)
 texts = plain_texts ++ (suffix_texts ++ named_texts (λ t. t) builtin_texts (named_texts (λ t. codes "operator" ++ t) operator_texts
     (named_texts (λ t. t) abbreviation_texts (named_texts (λ t. drop 5 t) abbreviation_texts
-    (named_texts (λ t. t) special_texts (named_texts (λ t. t) literal_endings (blanked_texts ++ word_texts)))))))
+    (named_texts (λ t. t) special_texts (named_texts (λ t. t) named_special_texts (named_texts (λ t. t) literal_endings (blanked_texts ++ word_texts))))))))
 
 abbrev pub fixed_text : ℕ → List ℕ
 fixed_text number = elim (slice_get texts number) [ Some text ↦ text | None ↦ [] ]

@@ -79,7 +79,7 @@ fn is_encoding(node: Node) -> bool
         Node::Object { .. } => true,
         Node::Special { .. } => true,
         Node::Thunk { .. } => true,
-        Node::Guard { .. } => true,
+        Node::OfName { .. } => true,
         _ => false,
     }
 }

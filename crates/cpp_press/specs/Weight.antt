@@ -1,6 +1,6 @@
 -- How many steps a tree takes at most, so that each step leaves less to do.
 use Rattle.std.specs.Prelude.{ℕ, ◌+◌}
-use Rattle.cpp_grammar.specs.Term.{Term, symbol, function, object, special, thunk, guard, alone, in_std, within, instance, local, lambda, pointer, lvalue, rvalue, array, member_pointer, function_type, qualified, vector, complex, expansion, integer, encoding_literal, address_of, pack, list}
+use Rattle.cpp_grammar.specs.Term.{Term, symbol, function, object, special, thunk, of_name, alone, in_std, within, instance, local, lambda, pointer, lvalue, rvalue, array, member_pointer, function_type, qualified, vector, complex, expansion, integer, encoding_literal, address_of, pack, list}
 
 unfoldable pub weight : Term → ℕ
 weight (symbol e suffix) = 12 + weight e
@@ -8,7 +8,7 @@ weight (function name q ref returned parameters) = 12 + weight name + weight ret
 weight (object name q ref) = 12 + weight name
 weight (special l type) = 12 + weight type
 weight (thunk kind e) = 12 + weight e
-weight (guard name q ref) = 12 + weight name
+weight (of_name l name q ref) = 12 + weight name
 weight (alone p) = 12 + weight p
 weight (in_std p) = 12 + weight p
 weight (within prefix p) = 12 + weight prefix + weight p

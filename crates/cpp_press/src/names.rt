@@ -42,7 +42,7 @@ fn is_encoding(node: Node) -> bool
         Node::Object { .. } => true,
         Node::Special { .. } => true,
         Node::Thunk { .. } => true,
-        Node::Guard { .. } => true,
+        Node::OfName { .. } => true,
         _ => false,
     }
 }

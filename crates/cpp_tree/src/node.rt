@@ -79,7 +79,8 @@ pub enum Node {
         thunk: u32,
         encoding: u32,
     },
-    Guard {
+    OfName {
+        letter: u8,
         name: u32,
         qualifiers: Qualifiers,
         mark: Mark,

@@ -5,7 +5,7 @@ ghost use Rattle.std.specs.Prelude.{◌≡◌, ℕ, ◌≤◌, [], ◌∷◌, le
 ghost use Rattle.cpp_term.specs.Erased.{erase};
 ghost use Rattle.cpp_grammar.specs.Term.{Term};
 ghost use Rattle.cpp_tree.specs.Nodes.{over, trees, tree_of, piece_of, qualifiers_of, mark_of, thunk_of, discriminator_of, IsSpan, IsBelow, IsPieceBelow, IsTable};
-ghost use Rattle.cpp_tree.specs.Fields.{bit, mark_number, qualifiers_number, linkage_number, name_fields, local_fields, thunk_fields, fields_of, offsets_of};
+ghost use Rattle.cpp_tree.specs.Fields.{bit, mark_number, qualifiers_number, linkage_number, name_fields, named_fields, local_fields, thunk_fields, fields_of, offsets_of};
 ghost use Rattle.cpp_tree.specs.Views.{plain_tree, prefix_trees, seen_of, seen_behind, seen_fields, no_text, offsets_in, AreBelow, IsSlotBelow, AreWithin, IsKnownThunk};
 
 use crate::node::{Adjustment, Mark, Piece, Qualifiers, Signed, Thunk};
@@ -15,8 +15,8 @@ use crate::tree_production::{
     GUARD, INSTANCE, INTEGER, LAMBDA, LIST, LITERAL_OPERATOR, LOCAL, LVALUE, MEMBER_POINTER,
     NESTED_CONSTRUCTOR, NESTED_DESTRUCTOR, NESTED_LAMBDA, NESTED_LITERAL_OPERATOR, NESTED_NO_PIECE,
     NESTED_OPERATOR, NESTED_SOURCE, NESTED_STRING_LITERAL, NESTED_UNNAMED, NIL, NO_PIECE,
-    NULL_POINTER, NUMBERED_LOCAL, OBJECT, OPERATOR, PACK, PARAMETER, POINTER, QUALIFIED, RVALUE,
-    SOURCE, SPECIAL, STD_CONSTRUCTOR, STD_DESTRUCTOR, STD_LAMBDA, STD_LITERAL_OPERATOR,
+    NULL_POINTER, NUMBERED_LOCAL, OBJECT, OF_NAME, OPERATOR, PACK, PARAMETER, POINTER, QUALIFIED,
+    RVALUE, SOURCE, SPECIAL, STD_CONSTRUCTOR, STD_DESTRUCTOR, STD_LAMBDA, STD_LITERAL_OPERATOR,
     STD_NO_PIECE, STD_OPERATOR, STD_SOURCE, STD_STRING_LITERAL, STD_UNNAMED, STRING_LITERAL,
     SYMBOL, TABLE_THUNK, THUNK, UNNAMED, VECTOR, VENDOR, WIDE_THUNK,
 };
@@ -158,7 +158,8 @@ fn bit(test: bool) -> u64
 /// The number of a mark.
 #[tactic(auto, unfolding(crate::specs::Fields::mark_number))]
 fn mark_number(mark: Mark) -> u64
-    ensures { result ≡ mark_number (mark_of mark) }
+    ensures is { result ≡ mark_number (mark_of mark) }
+    ensures few { result ≤ 2 }
 {
     match mark {
         Mark::Any => 0,
@@ -169,7 +170,8 @@ fn mark_number(mark: Mark) -> u64
 
 /// The number of qualifiers.
 fn qualifiers_number(qualifiers: Qualifiers) -> u64
-    ensures { result ≡ qualifiers_number (qualifiers_of qualifiers) }
+    ensures is { result ≡ qualifiers_number (qualifiers_of qualifiers) }
+    ensures few { result ≤ 7 }
 {
     bit(qualifiers.restrict) + 2 * bit(qualifiers.volatile) + 4 * bit(qualifiers.const_)
 }
@@ -212,6 +214,35 @@ fn view_of_name(
         Piece::Unnamed(number) => named(names.unnamed, [number, 0], NO_TEXT, prefix),
         Piece::StringLiteral => named(names.string_literal, [0; 2], NO_TEXT, prefix),
         Piece::Absent => named(names.no_piece, [0; 2], NO_TEXT, prefix),
+    }
+}
+
+/// The view of a special name of a name, by the last letter of its code.
+#[tactic(auto, unfolding(crate::specs::Fields::named_fields))]
+fn view_of_special_name(
+    symbol: &[u8],
+    nodes: &Nodes,
+    letter: u8,
+    name: u32,
+    qualifiers: Qualifiers,
+    mark: Mark,
+) -> NodeView
+    ensures fields { seen_fields (over symbol.now nodes.now) result ≡ named_fields letter (plain_tree (over symbol.now nodes.now) name) (qualifiers_of qualifiers) (mark_of mark) }
+    ensures texts { AreWithin symbol.now result.node.texts }
+    ensures parts { result.parts ≡ name ∷ 0 ∷ 0 ∷ [] }
+    ensures count { result.node.parts ≡ 1 }
+{
+    let qualifiers = qualifiers_number(qualifiers);
+    let mark = mark_number(mark);
+    if letter == b'V' {
+        one(GUARD, [qualifiers, mark], NO_TEXT, name)
+    } else {
+        one(
+            OF_NAME,
+            [letter as u64, qualifiers + 8 * mark],
+            NO_TEXT,
+            name,
+        )
     }
 }
 
@@ -317,14 +348,12 @@ pub fn view_of(symbol: &[u8], nodes: &Nodes, node: node::Node) -> NodeView
         node::Node::Thunk { thunk, encoding } => {
             view_of_thunk(symbol, nodes, nodes.thunk(thunk), encoding)
         }
-        node::Node::Guard {
+        node::Node::OfName {
+            letter,
             name,
             qualifiers,
             mark,
-        } => {
-            let numbers = [qualifiers_number(qualifiers), mark_number(mark)];
-            one(GUARD, numbers, NO_TEXT, name)
-        }
+        } => view_of_special_name(symbol, nodes, letter, name, qualifiers, mark),
         node::Node::Alone(piece) => view_of_name(symbol, nodes, ALONE, None, piece),
         node::Node::InStd(piece) => view_of_name(symbol, nodes, IN_STD, None, piece),
         node::Node::Within { prefix, piece } => {

@@ -10,7 +10,7 @@ use Rattle.cpp_grammar.specs.declared.production.Production.{Production}
 use Rattle.cpp_grammar.specs.KindNumbers.{SYMBOL, MAYBE_SUFFIX, SUFFIX_FIRST, SUFFIX_MORE, ENCODING, SPECIAL, CALL_OFFSET, INTEGER, COMPLETE_NAME, ENTITY, TYPE_ENTITY, MAYBE_DISCRIMINATOR, DISCRIMINATOR_REST, TYPE, ITEMS}
 use Rattle.cpp_grammar.specs.Grammar.{in_ranges, among, is_in, pick, number_of_kind, alternatives, choose, kinds, parts_of, is_chain, may_be_empty}
 use Rattle.cpp_grammar.specs.Table.{abi, rule_of}
-use Rattle.cpp_grammar.specs.Term.{Signed, Adjustment, non_virtual, by_table, adjusting, covariant, Term, symbol, special, thunk, guard, local, string_literal}
+use Rattle.cpp_grammar.specs.Term.{Signed, Adjustment, non_virtual, by_table, adjusting, covariant, Term, symbol, special, thunk, of_name, local, string_literal}
 use Rattle.cpp_grammar.specs.Values as value
 use Rattle.cpp_grammar.specs.Values.{Candidate, State, Around, Value, nothing_there, signed, adjusted, tree, named, tree_of, text_of, signed_of, adjustment_of, qualifiers_of, ref_of, normal, part}
 use Rattle.cpp_grammar.specs.Between.{between, in_name, in_types, after, extended, no_items}
@@ -158,12 +158,12 @@ encoding-reads around allowed name last place cs first rest one two =
 
 pub guard-reads : (around : Around) (allowed : Option ℕ) (name : Value) (place : ℕ) (cs : List Candidate) (w : Written)
     → ReadsAt (in_name place) allowed (OfKind COMPLETE_NAME) (Is name) (place + 1 + 1) cs w
-    → ReadsAt around allowed (OfKind ENCODING) (Is (tree (guard (tree_of name) (qualifiers_of name) (ref_of name)) true)) place cs
+    → ReadsAt around allowed (OfKind ENCODING) (Is (tree (of_name 86 (tree_of name) (qualifiers_of name) (ref_of name)) true)) place cs
     (written (71 ∷ 86 ∷ w.bytes) w.components)
 unfolding choose alternatives pick is_in in_ranges among kinds is_chain parts_of number_of_kind between opening close unfolding_.behind meaning part
 guard-reads around allowed name place cs w one =
     whole-same Production.Guard 4 (71 ∷ []) around allowed place (nothing_there ∷ name ∷ [])
-    (tree (guard (tree_of name) (qualifiers_of name) (ref_of name)) true) cs (Byte 86 ∷ OfKind COMPLETE_NAME ∷ []) (written (86 ∷ w.bytes) w.components)
+    (tree (of_name 86 (tree_of name) (qualifiers_of name) (ref_of name)) true) cs (Byte 86 ∷ OfKind COMPLETE_NAME ∷ []) (written (86 ∷ w.bytes) w.components)
     (takes-byte ENCODING Kind.Encoding Production.Guard 71 refl refl (omega arith) refl) refl (λ f s. refl) (λ began s. refl)
     (then-in Production.Guard (71 ∷ []) around (in_name place) allowed place (Byte 86) (OfKind COMPLETE_NAME ∷ []) [] nothing_there
     (AreOnly (nothing_there ∷ name ∷ [])) (place + 1) cs (written (86 ∷ []) cs) w (λ s. refl)
