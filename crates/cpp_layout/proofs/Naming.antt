@@ -17,7 +17,8 @@ use Rattle.cpp_tree.specs.declared.node.Thunk.{Thunk}
 use Rattle.cpp_tree.specs.Nodes.{tree_of, piece_of}
 use Rattle.cpp_layout.specs.Texts.{fixed_text}
 use Rattle.cpp_layout.specs.declared.texts.TheConstants.{ANONYMOUS, BLANK_LESS, BRACE, COLONS, GREATER, LAMBDA, LESS, LITERAL, RIGHT_NUMBER, UNNAMED}
-use Rattle.cpp_layout.specs.Layout.{is_encoding, IsNoSource}
+use Rattle.cpp_tree.specs.Nodes.{is_encoding}
+use Rattle.cpp_layout.specs.Layout.{IsNoSource}
 
 pub begins : (xs ys : List ℕ) → begins_with xs ys ≡ starts_with nat_eq ys xs
 unfolding begins_with

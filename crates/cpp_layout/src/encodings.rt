@@ -13,7 +13,7 @@ ghost use Rattle.cpp_grammar.specs.Parts.{encoding_text, thunk_text};
 ghost use Rattle.cpp_grammar.specs.Texts.{look_up, special_texts, named_special_texts};
 ghost use Rattle.cpp_term.specs.Parts.{as_item, function_bare, function_full, full_parts, bare_parts, root_parts, text_part};
 ghost use Rattle.cpp_tree.specs.Nodes.{tree_at, trees, IsTable, IsWithin, bytes_at, thunk_of, qualifiers_of, mark_of};
-ghost use Rattle.cpp_layout.specs.Texts.{fixed_text, bit, mark_number, suffix_of};
+ghost use Rattle.cpp_layout.specs.Texts.{fixed_text, suffix_of};
 ghost use Rattle.cpp_layout.specs.declared.texts.TheConstants.{SUFFIX};
 ghost use Rattle.cpp_layout.specs.Layout.{table_of, clone_suffix, Shows};
 
@@ -21,31 +21,9 @@ use crate::context::Context;
 use crate::numbered::{named_special, special};
 use crate::symbol::Symbol;
 use crate::{form, texts};
-use cpp_tree::node::{Adjustment, Mark, Node, Qualifiers, Thunk};
+use cpp_tree::node::{Adjustment, Mark, Node, Qualifiers, Thunk, bit};
 use sym_core::Span;
 use sym_print::{Detail, PartList};
-
-/// 1 for what is so.
-#[tactic(auto, unfolding(crate::specs::Texts::bit))]
-pub(crate) fn bit(test: bool) -> u16
-    ensures number { result ≡ bit test }
-    ensures few { result ≤ 1 }
-{
-    if test { 1 } else { 0 }
-}
-
-/// The number of a mark.
-#[tactic(auto, unfolding(crate::specs::Texts::mark_number))]
-fn mark_number(mark: Mark) -> u16
-    ensures number { result ≡ mark_number mark }
-    ensures few { result ≤ 2 }
-{
-    match mark {
-        Mark::Any => 0,
-        Mark::Lvalue => 1,
-        Mark::Rvalue => 2,
-    }
-}
 
 /// The number of the text before what a thunk leads to.
 #[tactic(auto, unfolding(cpp_tree::specs::Nodes::thunk_of, cpp_tree::specs::Nodes::adjustment_of, cpp_grammar::specs::Parts::thunk_text))]
@@ -70,11 +48,9 @@ fn suffix_number(qualifiers: Qualifiers, mark: Mark, noexcept: bool) -> u16
     ensures from { SUFFIX ≤ result }
 {
     texts::SUFFIX
-        + bit(qualifiers.restrict)
-        + 2 * bit(qualifiers.volatile)
-        + 4 * bit(qualifiers.const_)
-        + 8 * mark_number(mark)
-        + 24 * bit(noexcept)
+        + qualifiers.number() as u16
+        + 8 * mark.number() as u16
+        + 24 * bit(noexcept) as u16
 }
 
 impl Symbol {

@@ -128,6 +128,16 @@ trees_onto s us ts (e ∷ es) = trees_onto s us (ts ++ tree_of s us ts e.node �
 abbrev pub trees : Table → List Term
 trees y = trees_onto y.bytes y.thunks [] y.nodes
 
+-- ## What nodes are
+
+unfoldable pub is_encoding : Node → Bool
+is_encoding (Node.Function name q m returned parameters) = true
+is_encoding (Node.Object name q m) = true
+is_encoding (Node.Special code t) = true
+is_encoding (Node.Thunk u e) = true
+is_encoding (Node.OfName letter name q m) = true
+is_encoding _ = false
+
 -- ## What nodes are made of
 
 abbrev pub IsPieceBelow : List ℕ → ℕ → Piece → Type 0

@@ -1,7 +1,6 @@
 -- Local names, encodings and symbols are read as what was pressed, from their parts.
 use Rattle.std.proofs.Common.{◌≡◌, ℕ, ◌+◌, ◌<◌, length, List, [], ◌∷◌, ◌++◌, Option, Some, None, Bool, true, false, Ok, refl, ap, arith}
 use Rattle.sym_core.specs.declared.NumberKind.TheVariants.{Digits}
-use Rattle.sym_core.specs.Token.{Token}
 use Rattle.sym_shape.specs.declared.rule.Sym.TheVariants.{Kind as OfKind, Number, Byte}
 use Rattle.sym_shape.specs.Tree.{TakesRule}
 use Rattle.sym_link.specs.Unfold.{found}
@@ -19,6 +18,7 @@ use Rattle.cpp_grammar.specs.Unfolding as unfolding_
 use Rattle.cpp_grammar.specs.Unfolding.{opening, close, byte_of}
 use Rattle.cpp_press_laws.specs.Spellable.{AreSpellableDigits, AreSuffixBytes}
 use Rattle.cpp_press_laws.specs.Subtrees.{Written, written, ReadsAt, Is}
+use Rattle.cpp_press_laws.proofs.ReadBack.Tokens.{digits_token}
 use Rattle.cpp_press_laws.proofs.ReadBack.Reading.{takes-byte, takes-none, fixed-reads, empty-reads, number-reads}
 use Rattle.cpp_press_laws.proofs.ReadBack.Types.{AreOnly, one-part, no-part, then-in, last-in, then-part, then-last, whole-same}
 
@@ -56,9 +56,6 @@ one-digit around allowed byte place cs small chosen =
     (takes-byte MAYBE_DISCRIMINATOR Kind.MaybeDiscriminator Production.Discriminator 95 refl refl (omega arith) refl) refl (λ s. refl) (λ f s. refl) (λ began s. refl)
     (no-part Production.OneDigit DISCRIMINATOR_REST (byte ∷ []) around allowed (place + 1) (value.text (byte ∷ [])) cs
     (takes-byte DISCRIMINATOR_REST Kind.DiscriminatorRest Production.OneDigit byte refl chosen small refl) refl (λ f s. refl) (λ began s. refl))
-
-abbrev digits_token : List ℕ → Token
-digits_token digits = record { before = []; own = digits; behind = [] }
 
 pub many-digits : (around : Around) (allowed : Option ℕ) (digits : List ℕ) (place : ℕ) (cs : List Candidate) → AreSpellableDigits Digits digits
     → ReadsAt around allowed (OfKind MAYBE_DISCRIMINATOR) (Is (value.text digits)) place cs
