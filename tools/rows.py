@@ -47,7 +47,7 @@ PRINTING = READING + ["cpp_grammar.specs." + m for m in ("Items", "Parts", "Rank
 PRESSING = READING + ["cpp_grammar.proofs.Reader"] + ["cpp_press_laws.specs." + m for m in ("Same", "Texts", "Components", "Pressing")] + ["cpp_press_laws.proofs.Rows.Row"]
 # names of those modules that no row needs
 UNPRESSED = ("look_up builtin_texts operator_texts abbreviation_texts special_texts named_special_texts literal_endings see seen_tree").split()
-UNUSED = ("sheet sheet_before blank abi abi_before sheet_with choice_of class_of ranges_of rule_taken choose_before").split()
+UNUSED = ("sheet sheet_before blank abi abi_before sheet_with choice_of class_of ranges_of rule_taken").split()
 
 def names_in(crates, modules, unused):
     names = {}

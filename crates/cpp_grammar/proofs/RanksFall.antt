@@ -6,7 +6,7 @@ use Rattle.std.proofs.lemmas.Bool.{false≢true, ltb-true}
 use Rattle.sym_print.specs.declared.detail.Detail.{Detail}
 use Rattle.sym_print.specs.Details.{has_arguments, has_parameters}
 use Rattle.sym_print.specs.Unfold.{PartOf, text, sub, RanksBelow}
-use Rattle.cpp_grammar.specs.Term.{Qualifiers, RefQualifier, Signed, Term, symbol, function, object, special, thunk, of_name, alone, in_std, within, instance, local, abbreviation, parameter, source, constructor, destructor, lambda, pointer, lvalue, rvalue, array, member_pointer, function_type, qualified, vector, complex, expansion, integer, encoding_literal, address_of, pack, nil, list, absent}
+use Rattle.cpp_grammar.specs.Term.{Qualifiers, RefQualifier, Signed, Term, symbol, function, object, special, thunk, of_name, alone, in_std, within, instance, local, abbreviation, parameter, source, constructor, destructor, lambda, pointer, lvalue, rvalue, array, member_pointer, function_type, qualified, vector, complex, expansion, integer, pack, nil, list, absent}
 use Rattle.cpp_grammar.specs.Scope.{element, arguments_of, pack_length}
 use Rattle.cpp_grammar.specs.Items.{Form, root, full, bare, left, right, low, base, piece, first, more, expand, Context, Item, indexed, argument, head, is_reference, is_funarr, packs_of, is_empty}
 use Rattle.cpp_grammar.specs.Parts.{as_item, says, text_part, list_part, piece_parts, prefix_item, within_parts, instance_parts, marked_parts, reference_parts, qualified_left, blank_last, qualifier_text, expansion_parts, sign_part, is_plain_integer, integer_parts, builtin_code, member_parts, array_left, left_parts, low_parts, function_right, ref_text, closing_right, qualified_right, right_parts, base_within, base_parts, types_of, encoding_text, function_bare, function_full, full_parts, bare_parts, root_parts, first_parts, more_parts, at_index, is_below, comma_before, expand_rest, expand_parts, parts_in, not_empty, parts}
@@ -184,7 +184,7 @@ left_falls d c (qualified q t) = qualified_falls _ c q t (omega arith)
 left_falls d c (expansion t) = expansion_falls c t (packs_of c t)
 left_falls d c (pack elements) = falls_first _ c elements (omega arith)
 left_falls d c (integer t n) = integer_falls _ c t n (omega arith)
-left_falls d c _ = first_of (tt, (omega arith, tt))
+left_falls d c _ = first_of (assumption tt, grind arith)
 
 low_falls : (d : Detail) (c : Context) (t : Term) → RanksBelow rank (weight_in c t) (low_parts d c t)
 unfolding low_parts rank rank_in weight_in weight scope_weight
@@ -222,7 +222,7 @@ right_falls c (array digits t) = falls_append _ (says "[" ∷ text_part digits) 
 right_falls c (function_type c_linkage noexcept ref returned parameters) = function_right_falls _ c [] ref noexcept returned parameters (omega arith) (omega arith)
 right_falls c (qualified q t) = qualified_right_falls c q t
 right_falls c (parameter k) = (argument_weight c.scope c.index k, tt)
-right_falls c _ = first_of (tt, (omega arith, tt))
+right_falls c _ = first_of (assumption tt, grind arith)
 
 base_within_falls : (r : ℕ) (c : Context) (prefix p : Term) → Below r c prefix → Below r c p → RanksBelow rank r (base_within c prefix p)
 unfolding base_within rank rank_in

@@ -157,7 +157,7 @@ left_falls d c (qualified q t) = qualified_falls _ c q t (omega arith)
 left_falls d c (expansion t) = expansion_falls c t (packs_of c t)
 left_falls d c (pack elements) = falls_first _ c elements (omega arith)
 left_falls d c (integer t n) = integer_falls _ c t n (omega arith)
-left_falls d c _ = first_of (tt, (omega arith, tt))
+left_falls d c _ = first_of (assumption tt, grind arith)
 
 low_falls : (d : Detail) (c : Context) (t : Term) → RanksBelow rank (weight_in c t) (low_parts d c t)
 unfolding low_parts rank rank_in weight_in weight
@@ -195,7 +195,7 @@ right_falls c (array digits t) = falls_append _ (says "[" ∷ text_part digits) 
 right_falls c (function_type c_linkage noexcept ref returned parameters) = function_right_falls _ c [] ref noexcept returned parameters (omega arith) (omega arith)
 right_falls c (qualified q t) = qualified_right_falls c q t
 right_falls c (parameter k a) = (argument_weight c a, tt)
-right_falls c _ = first_of (tt, (omega arith, tt))
+right_falls c _ = first_of (assumption tt, grind arith)
 
 base_within_falls : (r : ℕ) (c : Context) (prefix p : Term) → Below r c prefix → Below r c p → RanksBelow rank r (base_within c prefix p)
 unfolding base_within rank rank_in
