@@ -115,10 +115,7 @@ object-whole i q m = ap (λ l. i ∷ l) (append-nil (text_part (suffix_of q m fa
 -- behind the text before it
 pub special_name-whole : (t u : List ℕ) (i : PartOf items.Item) (q : values.Qualifiers) (m : values.RefQualifier) → t ≡ u
     → text t ∷ i ∷ (text_part (suffix_of q m false) ++ []) ≡ text u ∷ i ∷ text_part (encoding_text q m)
-special_name-whole t u i q m same = both (ap text same) (object-whole i q m)
-  where
-    both : {A : Type 0} {x y : A} {xs ys : List A} → x ≡ y → xs ≡ ys → x ∷ xs ≡ y ∷ ys
-    both e f = rw (e, f) refl
+special_name-whole t u i q m same = rw same (ap (λ l. text u ∷ i ∷ l) (append-nil (text_part (suffix_of q m false)) ∙ ap text_part (suffix-plain q m)))
 
 pub function-absent : (name : Term) (q : values.Qualifiers) (m : values.RefQualifier) (t parameters : Term) → t ≡ term.absent → function_bare true name q m parameters ++ [] ≡ function_full true name q m t parameters
 unfolding function_full

@@ -1,6 +1,6 @@
 -- The fixed texts by their numbers.
 use Rattle.std.specs.Prelude.{ℕ, List, [], ◌∷◌, ◌++◌, codes, drop, get_or, slice_get, Some, None}
-use Rattle.std.specs.Prelude.{Bool, true, false, ◌+◌, ◌*◌, cond}
+use Rattle.std.specs.Prelude.{Bool, ◌+◌, ◌*◌, cond}
 use Rattle.cpp_grammar.specs.Term.{Qualifiers, RefQualifier}
 use Rattle.cpp_grammar.specs.Texts.{Naming, builtin_texts, operator_texts, abbreviation_texts, special_texts, named_special_texts, literal_endings}
 use Rattle.cpp_grammar.specs.Parts.{encoding_text}

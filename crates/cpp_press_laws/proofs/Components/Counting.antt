@@ -266,7 +266,21 @@ argument-writes (instance t a) in_pack around allowed place cs h =
       before-writes t true 0 around allowed _ (ways_of around.encoding a).as_elements place cs
           (λ p c f. omega arith) (h.1 none),
     ))
+argument-writes (local e entity d) in_pack around allowed place cs h =
+    component-writes around.encoding (local e entity d) _ place cs (λ none. omega arith)
+argument-writes (abbreviation l) in_pack around allowed place cs h = omega arith
+argument-writes (parameter k) in_pack around allowed place cs h = component-writes around.encoding (parameter k) _ place cs
+    (λ none. omega arith)
 argument-writes (builtin code) in_pack around allowed place cs h = builtin-long code h
+argument-writes (vendor name) in_pack around allowed place cs h = component-writes around.encoding (vendor name) _ place cs
+    (λ none. omega arith)
+argument-writes (pointer t) in_pack around allowed place cs h = component-writes around.encoding (pointer t) _ place cs (λ none. omega arith)
+argument-writes (lvalue t) in_pack around allowed place cs h = component-writes around.encoding (lvalue t) _ place cs (λ none. omega arith)
+argument-writes (rvalue t) in_pack around allowed place cs h = component-writes around.encoding (rvalue t) _ place cs (λ none. omega arith)
+argument-writes (array digits t) in_pack around allowed place cs h = component-writes around.encoding (array digits t) _ place cs
+    (λ none. omega arith)
+argument-writes (member_pointer class t) in_pack around allowed place cs h =
+    component-writes around.encoding (member_pointer class t) _ place cs (λ none. omega arith)
 argument-writes (function_type c x ref returned parameters) in_pack around allowed place cs h =
     let front : List ℕ = cond x (codes "Do") [] ++ codes "F" ++ cond c (codes "Y") [] in
     let n : ℕ = around.encoding in
@@ -276,10 +290,19 @@ argument-writes (function_type c x ref returned parameters) in_pack around allow
 argument-writes (qualified q t) in_pack around allowed place cs h =
     component-writes around.encoding (qualified q t) (text (qualifier_letters q) and (ways_of around.encoding t).under_qualifiers) place cs
     (λ none. writes-first 1 (text (qualifier_letters q)) (ways_of around.encoding t).under_qualifiers place cs (letters-long q (h.1 none).1))
+argument-writes (vector digits t) in_pack around allowed place cs h = component-writes around.encoding (vector digits t) _ place cs
+    (λ none. omega arith)
+argument-writes (complex t) in_pack around allowed place cs h = component-writes around.encoding (complex t) _ place cs (λ none. omega arith)
+argument-writes (expansion t) in_pack around allowed place cs h = component-writes around.encoding (expansion t) _ place cs
+    (λ none. omega arith)
+argument-writes (integer t value) in_pack around allowed place cs h = omega arith
 argument-writes (boolean true) in_pack around allowed place cs h = omega arith
 argument-writes (boolean false) in_pack around allowed place cs h = omega arith
-argument-writes t in_pack around allowed place cs h =
-    first_of (absurd h, component-writes around.encoding t _ place cs (λ none. omega arith), omega arith)
+argument-writes null_pointer in_pack around allowed place cs h = omega arith
+argument-writes (encoding_literal e) in_pack around allowed place cs h = omega arith
+argument-writes (address_of e) in_pack around allowed place cs h = omega arith
+argument-writes (pack elements) in_pack around allowed place cs h = omega arith
+argument-writes _ in_pack around allowed place cs h = absurd h
 
 elements-count : (a : Term) (in_pack : Bool) (around : Around) (allowed : Option ℕ) (place : ℕ) (cs : List Candidate)
     → (fits_of a).as_elements in_pack around allowed place cs → Writes (count a) ((ways_of around.encoding a).as_elements place cs)

@@ -13,6 +13,9 @@ never h = cc
 both_3 : {a b c : Bool} → a && b && c ≡ true → (a ≡ true) × (b ≡ true) × (c ≡ true)
 both_3 h = ((both (both h).0).0, (both (both h).0).1, (both h).1)
 
+both_4 : {a b c d : Bool} → a && b && c && d ≡ true → (a ≡ true) × (b ≡ true) × (c ≡ true) × (d ≡ true)
+both_4 h = let p = both_3 (both h).0 in (p.0, p.1, p.2, (both h).1)
+
 both_5 : {a b c d e : Bool} → a && b && c && d && e ≡ true → (a ≡ true) × (b ≡ true) × (c ≡ true) × (d ≡ true) × (e ≡ true)
 both_5 h = let p = both_3 (both (both h).0).0 in (p.0, p.1, p.2, (both (both h).0).1, (both h).1)
 

@@ -36,18 +36,37 @@ never-fitted around F G s r t old new never one = record {
 pub type-argument : (t : Term) (around : Around) (in_pack : Bool) (old new : State) → TypeFits around item_type t old new
     → ArgumentFits around in_pack t old new
 unfolding fits_of type_fits piece_fits argument_fits encoding_fits fits_nowhere ways_of type_ways name_ways no_ways takes_all
+type-argument (alone p) around in_pack old new one = one
+type-argument (in_std p) around in_pack old new one = one
+type-argument (within prefix p) around in_pack old new one = one
+type-argument (instance template arguments) around in_pack old new one = one
+type-argument (local e entity discriminator) around in_pack old new one = one
+type-argument (abbreviation l) around in_pack old new one = one
+type-argument (parameter k) around in_pack old new one = one
+type-argument (builtin code) around in_pack old new one = one
+type-argument (vendor name) around in_pack old new one = one
+type-argument (pointer type) around in_pack old new one = one
+type-argument (lvalue type) around in_pack old new one = one
+type-argument (rvalue type) around in_pack old new one = one
+type-argument (array digits type) around in_pack old new one = one
+type-argument (member_pointer class member) around in_pack old new one = one
 type-argument (function_type c_linkage noexcept ref returned parameters) around in_pack old new one =
     refitted around ((fits_of (function_type c_linkage noexcept ref returned parameters)).as_type item_type)
     ((fits_of (function_type c_linkage noexcept ref returned parameters)).as_argument in_pack)
     (λ n. (ways_of n (function_type c_linkage noexcept ref returned parameters)).as_argument)
     (function_type c_linkage noexcept ref returned parameters) (function_type c_linkage noexcept ref returned parameters) old new
     (λ n allowed place cs fits. (fits.0, λ first. (refl, fits.1 first))) (λ n allowed may. may) one
+type-argument (qualified q type) around in_pack old new one = one
+type-argument (vector digits type) around in_pack old new one = one
+type-argument (complex type) around in_pack old new one = one
+type-argument (expansion pattern) around in_pack old new one = one
+type-argument (symbol e suffix) around in_pack old new one =
+    never-fitted around ((fits_of (symbol e suffix)).as_type item_type) ((fits_of (symbol e suffix)).as_argument in_pack)
+    (λ n. (ways_of n (symbol e suffix)).as_type)
+    (λ n. (ways_of n (symbol e suffix)).as_argument) (symbol e suffix) old new (λ n allowed place cs fits. fits) one
 type-argument t around in_pack old new one =
-    first_of (
-      one,
-      never-fitted around ((fits_of t).as_type item_type) ((fits_of t).as_argument in_pack) (λ n. (ways_of n t).as_type)
-          (λ n. (ways_of n t).as_argument) t old new (λ n allowed place cs fits. fits) one,
-    )
+    never-fitted around ((fits_of t).as_type item_type) ((fits_of t).as_argument in_pack) (λ n. (ways_of n t).as_type)
+    (λ n. (ways_of n t).as_argument) t old new (λ n allowed place cs fits. fits) one
 
 -- ## Lists
 
