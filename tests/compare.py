@@ -1,11 +1,11 @@
 #!/usr/bin/env python3
 """Compares symfilt with another implementation, symbol by symbol and over a whole text.
 
-    tests/compare.py SYMFILT REFERENCE < SYMBOLS
+    tests/compare.py [--wide] SYMFILT REFERENCE < SYMBOLS
 
 SYMFILT is the built program. REFERENCE is a program with the same command line, which filters where it has no symbols;
 one whose name ends in `.py` is run by this Python. SYMBOLS has one symbol a line.
-It prints each difference, and its status is 1 where there is one.
+With --wide both read C++ by the wide grammar. It prints each difference, and its status is 1 where there is one.
 """
 
 import subprocess
@@ -13,6 +13,7 @@ import sys
 
 BATCH = 100
 OPTIONS = ([], ["--limit", "60"], ["--brief"], ["--press"])
+WIDE_OPTIONS = (["--wide"], ["--wide", "--limit", "60"], ["--wide", "--brief"])
 
 
 def run(command, data=b""):
@@ -38,10 +39,13 @@ def command_of(path):
 
 
 def main():
-    if len(sys.argv) != 3:
+    wide = sys.argv[1:2] == ["--wide"]
+    programs = sys.argv[2:] if wide else sys.argv[1:]
+    if len(programs) != 2:
         sys.exit(__doc__)
-    symfilt = [sys.argv[1]]
-    reference = command_of(sys.argv[2])
+    ways = WIDE_OPTIONS if wide else OPTIONS
+    symfilt = [programs[0]]
+    reference = command_of(programs[1])
     text = sys.stdin.buffer.read()
     lines = [line for line in text.split(b"\n") if line]
     # a command line is text, and an option begins with a dash
@@ -51,15 +55,15 @@ def main():
     if len(words) < len(lines):
         print(f"{len(lines) - len(words)} lines are compared in the filtered text alone")
     differences = 0
-    for options in OPTIONS:
+    for options in ways:
         for first in range(0, len(words), BATCH):
             differences += compare_words(symfilt, reference, options, words[first : first + BATCH])
-    own = run(symfilt, text)
-    other = run(reference, text)
+    own = run(symfilt + ways[0], text)
+    other = run(reference + ways[0], text)
     if own[:2] != other[:2]:
         differences += 1
         print("the filtered texts differ")
-    print(f"{len(words)} symbols, {len(OPTIONS)} ways and filtered: {differences} differences")
+    print(f"{len(words)} symbols, {len(ways)} ways and filtered: {differences} differences")
     sys.exit(1 if differences else 0)
 
 

@@ -1,10 +1,10 @@
 #!/usr/bin/env python3
 """Looks for words that symfilt and another implementation answer otherwise, and makes them as short as it can.
 
-    tests/fuzz.py SYMFILT REFERENCE [--seed N] [--seconds S] [--size BYTES] [--lang rust|cpp|both] [FILE..]
+    tests/fuzz.py SYMFILT REFERENCE [--seed N] [--seconds S] [--size BYTES] [--lang rust|cpp|both] [--wide] [FILE..]
 
 SYMFILT is the built program, REFERENCE another one, as for compare.py. The words are symbols that are cut, flipped, spliced,
-that name a part twice, or have numbers at the edges of their ranges. They come from those of FILE, one a line, or from
+that name a part twice, or have numbers at the edges of their ranges. With --wide both read C++ by the wide grammar. They come from those of FILE, one a line, or from
 the rows of crates/check_rows/stdin. A word has at most BYTES bytes (400), and after S seconds (60) it ends. The status is 1
 where a word is answered otherwise, 2 where nothing was compared.
 """
@@ -24,6 +24,7 @@ ROWS = os.path.join(HERE, "..", "crates", "check_rows", "stdin")
 BATCH = 200
 PATIENCE = 60
 OPTIONS = ([], ["--limit", "60"], ["--brief"], ["--press"], ["--limit", "0"])
+WIDE_OPTIONS = (["--wide"], ["--wide", "--limit", "60"], ["--wide", "--brief"], ["--wide", "--limit", "0"])
 SEPARATORS = b" \n\t,;:<>()[]{}'\"!@#%^&*-+=/\\|?`~\0\x7f"
 BYTES = b"_0123456789abcdefghijklmnopqrstuvwxyzABCDEFGHIJKLMNOPQRSTUVWXYZ.$"
 DIGITS = BYTES[1:63]
@@ -114,10 +115,10 @@ def made(rng, seeds, size):
 
 
 class Pair:
-    def __init__(self, symfilt, reference):
+    def __init__(self, symfilt, reference, ways):
         self.symfilt = [symfilt]
         self.reference = command_of(reference)
-        self.compared = 0
+        self.ways = ways
 
     def run(self, command, data=b""):
         try:
@@ -131,8 +132,8 @@ class Pair:
         return own, self.run([*self.reference, *options, "--", *words])
 
     def texts(self, text):
-        own = self.run(self.symfilt, text)
-        return own[:2], self.run(self.reference, text)[:2]
+        own = self.run([*self.symfilt, *self.ways[0]], text)
+        return own[:2], self.run([*self.reference, *self.ways[0]], text)[:2]
 
     def answers_differ(self, options, words):
         own, other = self.answers(options, words)
@@ -204,7 +205,7 @@ def seeds_of(files, lang):
     if not files:
         with open(ROWS, "rb") as file:
             rows = [row.split(b"\t") for row in file.read().split(b"\n")]
-        words += [row[3] for row in rows if row[0] == b"text"] + [row[1] for row in rows if row[0] in (b"refused", b"press")]
+        words += [row[3] for row in rows if row[0] in (b"text", b"wide text")] + [row[1] for row in rows if row[0] in (b"refused", b"press")]
     return [word for word in dict.fromkeys(words) if is_of(word, lang)]
 
 
@@ -222,9 +223,10 @@ def main():
     parser.add_argument("--seconds", type=float, default=60)
     parser.add_argument("--size", type=int, default=400)
     parser.add_argument("--lang", choices=("rust", "cpp", "both"), default="both")
+    parser.add_argument("--wide", action="store_true")
     asked = parser.parse_args()
     rng = random.Random(asked.seed)
-    pair = Pair(asked.symfilt, asked.reference)
+    pair = Pair(asked.symfilt, asked.reference, WIDE_OPTIONS if asked.wide else OPTIONS)
     seeds = [word for word in seeds_of(asked.files, asked.lang) if len(word) <= asked.size]
     if not seeds or pair.run([asked.symfilt, "--version"])[0] != 2:
         print("there is no symbol to begin with" if not seeds else f"{asked.symfilt} isn't the program", file=sys.stderr)
@@ -236,7 +238,7 @@ def main():
         words = [word for word in words if is_of(word, asked.lang)]
         argued = [word for word in words if is_argument(word)]
         text = b"".join(word + bytes([rng.choice(SEPARATORS)]) for word in words)
-        for wrong in (compare_words(pair, OPTIONS[batches % len(OPTIONS)], argued), compare_texts(pair, text)):
+        for wrong in (compare_words(pair, pair.ways[batches % len(pair.ways)], argued), compare_texts(pair, text)):
             if wrong:
                 found += 1
                 print(wrong, flush=True)

@@ -107,8 +107,8 @@ def check_answer(program, options, word, wanted):
     return wrong
 
 
-def check_text(program, detail, cost, word, text):
-    options = DETAILS[detail]
+def check_text(program, detail, cost, word, text, wide=()):
+    options = [*wide, *DETAILS[detail]]
     cost = int(cost)
     wrong = check_answer(program, [f"--limit={cost}", *options], word, unescaped(text))
     for limit in (cost - 1, 0):
@@ -135,6 +135,15 @@ def check_refused(program, word, reason):
     wrong += check_answer(program, ["--limit=0", "--brief"], word, reason)
     # what is too long is pressed
     return wrong if reason == b"too long" else wrong + differences([word], program.answers(["--press"], [word]), [reason])
+
+
+def check_wide_text(program, *fields):
+    return check_text(program, *fields, wide=["--wide"])
+
+
+def check_wide_refused(program, word, reason):
+    wrong = check_answer(program, ["--wide"], word, reason)
+    return wrong + check_answer(program, ["--wide", "--limit=0", "--brief"], word, reason)
 
 
 def check_oversize(program, front, count, repeated, end):
@@ -193,6 +202,8 @@ CHECKS = {
     b"long": check_long,
     b"repeated": check_repeated,
     b"refused": check_refused,
+    b"wide text": check_wide_text,
+    b"wide refused": check_wide_refused,
     b"oversize": check_oversize,
     b"nameless": check_nameless,
     b"press": check_press,

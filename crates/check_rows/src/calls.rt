@@ -5,7 +5,7 @@ ghost use Rattle.sym_core.specs.Number.{FitsSymbol};
 use crate::answer::says;
 use crate::feeding::most_steps;
 use crate::linking::linked_in_steps;
-use crate::mangling::Calls;
+use crate::mangling::{Calls, PressCalls};
 use crate::printing::{printed_in_steps, put_together};
 use std::alloc::Global;
 use sym_core::{Counts, Refusal, fits};
@@ -305,7 +305,7 @@ pub fn pieces_say<M: Calls>(
 }
 
 /// A symbol that is read whole, and pressed.
-fn read_and_pressed<M: Calls>(alloc: Global, s: &[u8]) -> Result<Vec<u8>, Refusal>
+fn read_and_pressed<M: PressCalls>(alloc: Global, s: &[u8]) -> Result<Vec<u8>, Refusal>
     requires { FitsSymbol s.now }
 {
     let symbol = M::read(alloc, s)?;
@@ -313,7 +313,7 @@ fn read_and_pressed<M: Calls>(alloc: Global, s: &[u8]) -> Result<Vec<u8>, Refusa
 }
 
 /// A symbol that is fed byte by byte, and pressed.
-fn fed_and_pressed<M: Calls>(alloc: Global, s: &[u8]) -> Result<Vec<u8>, Refusal> {
+fn fed_and_pressed<M: PressCalls>(alloc: Global, s: &[u8]) -> Result<Vec<u8>, Refusal> {
     let bytes: Vec<&[u8]> = s.chunks(1).collect(alloc)?;
     match M::read_fed(alloc, &bytes)? {
         Some(symbol) => M::press(alloc, &symbol),
@@ -322,7 +322,7 @@ fn fed_and_pressed<M: Calls>(alloc: Global, s: &[u8]) -> Result<Vec<u8>, Refusal
 }
 
 /// Whether a mangling's call that presses answers this for a symbol.
-pub fn presses_say<M: Calls>(alloc: Global, s: &[u8], wanted: &[u8]) -> Result<bool, Refusal>
+pub fn presses_say<M: PressCalls>(alloc: Global, s: &[u8], wanted: &[u8]) -> Result<bool, Refusal>
     requires { FitsSymbol s.now }
 {
     let pressed = read_and_pressed::<M>(alloc, s);

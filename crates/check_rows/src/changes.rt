@@ -4,7 +4,7 @@ use crate::calls::demangler_says;
 use std::alloc::Global;
 use sym_core::{Refusal, fits};
 use sym_filter::languages::Lists;
-use sym_filter::{Kind, Languages};
+use sym_filter::{Abi, Kind, Languages};
 
 /// How a symbol is changed at a place.
 #[derive(Clone, Copy, Debug, PartialEq, Eq)]
@@ -40,8 +40,8 @@ fn answer_behind<'a>(fields: &'a [&'a [u8]], number: usize, front: &[u8]) -> Opt
 /// otherwise: the place, a blank, and the answer.
 pub fn hold(
     alloc: Global,
-    languages: &Languages,
-    lists: &mut Lists,
+    languages: &Languages<Abi>,
+    lists: &mut Lists<Abi>,
     kind: Kind,
     s: &[u8],
     change: Change,

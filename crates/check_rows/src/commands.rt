@@ -6,7 +6,7 @@ use std::alloc::Global;
 use std::str;
 use sym_command::{FAULT, Run, run};
 use sym_core::Refusal;
-use sym_filter::{ListSink, ReaderSource, filter_as};
+use sym_filter::{Abi, Demangler, Languages, Letters, ListSink, ReaderSource, Wide, filter_words};
 use sym_print::Detail;
 
 /// The words of a command line, the program's name first, as blanks keep them apart; `-` is none. There is no such line where
@@ -26,13 +26,50 @@ fn words_of<'a>(alloc: Global, field: &'a [u8]) -> Result<Option<Vec<&'a str>>, 
 }
 
 /// A text, filtered. Nothing but memory can fail here.
-fn filtered(alloc: Global, text: &[u8], limit: u32, detail: Detail) -> Result<Vec<u8>, Refusal> {
+fn filtered<D: Demangler>(
+    alloc: Global,
+    text: &[u8],
+    demangler: &D,
+    letters: Letters,
+) -> Result<Vec<u8>, Refusal> {
     let mut source = ReaderSource::new(text);
     let mut sink = ListSink::new(Vec::new(alloc));
-    match filter_as(alloc, &mut source, &mut sink, limit, detail) {
+    match filter_words(alloc, &mut source, &mut sink, demangler, letters) {
         Ok(_) => Ok(sink.into_list()),
         Err(_) => Err(Refusal::Memory),
     }
+}
+
+/// Whether the filter, with C++ by the wide grammar or the other, makes this of a text; and the static library, which has the
+/// latter, and words of any letters.
+fn filters_say(
+    alloc: Global,
+    text: &[u8],
+    limit: u32,
+    detail: Detail,
+    letters: Letters,
+    wide: bool,
+    wanted: &[u8],
+) -> Result<bool, Refusal> {
+    if wide {
+        let languages = Languages {
+            limit,
+            detail,
+            cpp: Wide,
+        };
+        let answer = filtered(alloc, text, &languages, letters);
+        return says(alloc, &answer, wanted);
+    }
+    let languages = Languages {
+        limit,
+        detail,
+        cpp: Abi,
+    };
+    let answer = filtered(alloc, text, &languages, letters);
+    Ok(
+        says(alloc, &answer, wanted)?
+            && (letters == Letters::Ascii || library_filters(alloc, text, limit, detail, wanted)?),
+    )
 }
 
 /// Whether the program with these options filters a text to this one.
@@ -52,14 +89,17 @@ pub fn is_filtered(
     let mut out = Vec::new(alloc);
     let mut err = Vec::new(alloc);
     match run(alloc, &words, &mut out, &mut err) {
-        Run::Filter { limit, detail } => {
+        Run::Filter {
+            limit,
+            detail,
+            letters,
+            wide,
+        } => {
             let text = unspelled(alloc, text)?;
-            let answer = filtered(alloc, &text, limit, detail);
             Ok(
                 out.is_empty()
                     && err.is_empty()
-                    && says(alloc, &answer, wanted)?
-                    && library_filters(alloc, &text, limit, detail, wanted)?,
+                    && filters_say(alloc, &text, limit, detail, letters, wide, wanted)?,
             )
         }
         Run::Done(FAULT) => Err(Refusal::Memory),

@@ -13,7 +13,7 @@ use sym_calls::{
 };
 use sym_core::{Counts, Refusal};
 use sym_filter::languages::Lists;
-use sym_filter::{Demangled, Demangler, Kind, Languages};
+use sym_filter::{Abi, Demangled, Demangler, Kind, Languages};
 use sym_print::Detail;
 
 /// What stands in a room before a call writes to it.
@@ -263,12 +263,13 @@ fn are_put(counts: SymbolCounts, wanted: Counts) -> bool {
 }
 
 /// Whether the call that counts puts the counts of a symbol that is read, and tells why another isn't.
-fn counts_say(alloc: Global, lists: &mut Lists, kind: Kind, s: &[u8]) -> Result<bool, Refusal>
+fn counts_say(alloc: Global, lists: &mut Lists<Abi>, kind: Kind, s: &[u8]) -> Result<bool, Refusal>
     requires { FitsSymbol s.now }
 {
     let languages = Languages {
         limit: 0,
         detail: Detail::Full,
+        cpp: Abi,
     };
     let mut out = Vec::new(alloc);
     let wanted = languages.demangle(lists, kind, s, &mut out);
@@ -410,7 +411,7 @@ fn is_detail_refused(alloc: Global, s: &[u8], limit: u32, detail: u32) -> Result
 /// `Memory` where a call tells that.
 pub fn library_says(
     alloc: Global,
-    lists: &mut Lists,
+    lists: &mut Lists<Abi>,
     kind: Kind,
     s: &[u8],
     limit: u32,

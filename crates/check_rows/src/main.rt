@@ -11,13 +11,13 @@ mod library;
 mod linking;
 mod mangling;
 mod printing;
+mod profile;
 mod rows;
 
-use rows::holds;
+use rows::{AllLists, holds};
 use std::io::{self, Read};
 use std::process::ExitCode;
 use sym_core::Refusal;
-use sym_filter::languages::Lists;
 
 /// The status where each row holds.
 const HELD: u8 = 0;
@@ -39,7 +39,7 @@ struct Outcome {
 /// Names the rows that don't hold, by their lines.
 fn check_each<R: Print + AllocGlobal>(
     rt: &R,
-    lists: &mut Lists,
+    lists: &mut AllLists,
     rows: &[u8],
 ) -> io::Result<Outcome> {
     let mut outcome = Outcome {
@@ -72,7 +72,7 @@ fn check<R: Input + Print + AllocGlobal>(rt: &R) -> io::Result<u8> {
     let alloc = rt.alloc();
     let mut input = Vec::new(alloc);
     rt.reader().read_to_end(&mut input)?;
-    let mut lists = Lists::new(alloc);
+    let mut lists = AllLists::new(alloc);
     let outcome = check_each(rt, &mut lists, &input)?;
     let mut status = FAILED;
     if outcome.some && !outcome.failed {

@@ -3,7 +3,7 @@
 ghost use Rattle.sym_core.specs.Number.{FitsSymbol};
 
 use crate::feeding::fed;
-use itanium::Abi;
+use itanium::{Abi, Wide};
 use rust_v0::V0;
 use std::alloc::Global;
 use sym_core::{Counts, Refusal};
@@ -30,7 +30,10 @@ pub trait Calls: Mangling {
     fn text_as(symbol: &Self::Symbol, limit: u32, detail: Detail) -> Result<Vec<u8>, Refusal>;
 
     fn counts(symbol: &Self::Symbol) -> Counts;
+}
 
+/// A mangling whose symbols are pressed.
+pub trait PressCalls: Calls {
     fn press(alloc: Global, symbol: &Self::Symbol) -> Result<Vec<u8>, Refusal>;
 }
 
@@ -70,7 +73,9 @@ impl Calls for V0 {
     fn counts(symbol: &rust_v0::Symbol) -> Counts {
         symbol.counts()
     }
+}
 
+impl PressCalls for V0 {
     fn press(alloc: Global, symbol: &rust_v0::Symbol) -> Result<Vec<u8>, Refusal> {
         press_rust(alloc, symbol)
     }
@@ -112,8 +117,48 @@ impl Calls for Abi {
     fn counts(symbol: &itanium::Symbol) -> Counts {
         symbol.counts()
     }
+}
 
+impl PressCalls for Abi {
     fn press(alloc: Global, symbol: &itanium::Symbol) -> Result<Vec<u8>, Refusal> {
         press_cpp(alloc, symbol)
+    }
+}
+
+impl Calls for Wide {
+    fn demangle(alloc: Global, s: &[u8], limit: u32) -> Result<Vec<u8>, Refusal> {
+        sym_demangle::demangle::<Wide>(alloc, s, limit)
+    }
+
+    fn demangle_as(
+        alloc: Global,
+        s: &[u8],
+        limit: u32,
+        detail: Detail,
+    ) -> Result<Vec<u8>, Refusal> {
+        sym_demangle::demangle_as::<Wide>(alloc, s, limit, detail)
+    }
+
+    fn read(alloc: Global, s: &[u8]) -> Result<itanium::Symbol, Refusal> {
+        sym_demangle::read::<Wide>(alloc, s)
+    }
+
+    fn read_fed(alloc: Global, pieces: &[&[u8]]) -> Result<Option<itanium::Symbol>, Refusal> {
+        match fed(alloc, &Wide, pieces)? {
+            Some(reader) => Ok(Some(sym_demangle::read_fed::<Wide>(alloc, reader)?)),
+            None => Ok(None),
+        }
+    }
+
+    fn text(symbol: &itanium::Symbol, limit: u32) -> Result<Vec<u8>, Refusal> {
+        symbol.text(limit)
+    }
+
+    fn text_as(symbol: &itanium::Symbol, limit: u32, detail: Detail) -> Result<Vec<u8>, Refusal> {
+        symbol.text_as(limit, detail)
+    }
+
+    fn counts(symbol: &itanium::Symbol) -> Counts {
+        symbol.counts()
     }
 }

@@ -4,20 +4,33 @@ use crate::answer::spelled;
 use crate::calls::{by_demangler, calls_say, demangler_says, pieces_say, presses_say};
 use crate::changes::{self, Change};
 use crate::commands::{is_ended, is_filtered};
-use crate::library::{is_told_nameless, is_told_oversize, library_presses, library_says};
-use itanium::Abi;
+use crate::library::{is_told_nameless, is_told_oversize, library_presses};
+use crate::profile::{Profile, TOO_LONG};
 use rust_v0::{Detail, V0};
 use std::alloc::Global;
 use std::str;
 use sym_core::{Refusal, fits};
 use sym_filter::languages::Lists;
-use sym_filter::{Kind, Lang, Languages, Pressing, kind_of};
+use sym_filter::{Abi, Kind, Lang, Languages, Pressing, Wide, kind_of};
 
 /// The limit where a row has none.
 const LIMIT: u32 = 1_000_000;
 
-/// Why a symbol that is read has no text.
-const TOO_LONG: &[u8] = b"too long";
+/// The lists of each grammar of C++, with those of Rust.
+#[derive(Drop)]
+pub struct AllLists {
+    abi: Lists<Abi>,
+    wide: Lists<Wide>,
+}
+
+impl AllLists {
+    pub fn new(alloc: Global) -> AllLists {
+        AllLists {
+            abi: Lists::new(alloc),
+            wide: Lists::new(alloc),
+        }
+    }
+}
 
 /// The number of these digits.
 fn number(digits: &[u8]) -> Option<u32> {
@@ -42,9 +55,9 @@ fn detail_of(name: &[u8]) -> Option<Detail> {
 }
 
 /// Whether a symbol has this answer at a limit, by each call.
-fn is_answered(
+fn is_answered<C: Profile>(
     alloc: Global,
-    lists: &mut Lists,
+    lists: &mut Lists<C>,
     kind: Kind,
     s: &[u8],
     limit: u32,
@@ -54,21 +67,25 @@ fn is_answered(
     if !fits(s) {
         return Ok(false);
     }
-    let languages = Languages { limit, detail };
+    let languages = Languages {
+        limit,
+        detail,
+        cpp: C::grammar(),
+    };
     if !demangler_says(alloc, &languages, lists, kind, s, wanted)? {
         return Ok(false);
     }
-    if !library_says(alloc, lists, kind, s, limit, detail, wanted)? {
+    if !C::library_says(alloc, lists, kind, s, limit, detail, wanted)? {
         return Ok(false);
     }
     match kind.lang {
-        Lang::Cpp => calls_say(alloc, &mut lists.cpp, s, limit, detail, wanted),
+        Lang::Cpp => C::calls_say(alloc, &mut lists.cpp, s, limit, detail, wanted),
         Lang::Rust => calls_say(alloc, &mut lists.rust, s, limit, detail, wanted),
     }
 }
 
 /// Whether a symbol that is cut at each place in turn has this answer at a limit.
-fn is_answered_in_pieces(
+fn is_answered_in_pieces<C: Profile>(
     alloc: Global,
     kind: Kind,
     s: &[u8],
@@ -77,15 +94,15 @@ fn is_answered_in_pieces(
     wanted: &[u8],
 ) -> Result<bool, Refusal> {
     match kind.lang {
-        Lang::Cpp => pieces_say::<Abi>(alloc, s, limit, detail, wanted),
+        Lang::Cpp => C::pieces_say(alloc, s, limit, detail, wanted),
         Lang::Rust => pieces_say::<V0>(alloc, s, limit, detail, wanted),
     }
 }
 
 /// Whether a symbol has this text at its cost, and is too long one below and at 0.
-fn has_text(
+fn has_text<C: Profile>(
     alloc: Global,
-    lists: &mut Lists,
+    lists: &mut Lists<C>,
     kind: Kind,
     s: &[u8],
     detail: Detail,
@@ -98,15 +115,15 @@ fn has_text(
             && is_answered(alloc, lists, kind, s, cost, detail, text)?
             && is_answered(alloc, lists, kind, s, below, detail, TOO_LONG)?
             && is_answered(alloc, lists, kind, s, 0, detail, TOO_LONG)?
-            && is_answered_in_pieces(alloc, kind, s, cost, detail, text)?,
+            && is_answered_in_pieces::<C>(alloc, kind, s, cost, detail, text)?,
     )
 }
 
 /// Whether a symbol that isn't read is refused for this reason at the greatest limit, too. One that is too long at others may
 /// have a text there.
-fn is_refused_at_most(
+fn is_refused_at_most<C: Profile>(
     alloc: Global,
-    lists: &mut Lists,
+    lists: &mut Lists<C>,
     kind: Kind,
     s: &[u8],
     reason: &[u8],
@@ -120,14 +137,15 @@ fn is_refused_at_most(
     let languages = Languages {
         limit: u32::MAX,
         detail: Detail::Full,
+        cpp: C::grammar(),
     };
     demangler_says(alloc, &languages, lists, kind, s, reason)
 }
 
 /// Whether a symbol is refused for this reason, whatever the limit.
-fn is_refused(
+fn is_refused<C: Profile>(
     alloc: Global,
-    lists: &mut Lists,
+    lists: &mut Lists<C>,
     kind: Kind,
     s: &[u8],
     reason: &[u8],
@@ -136,15 +154,15 @@ fn is_refused(
         is_answered(alloc, lists, kind, s, LIMIT, Detail::Full, reason)?
             && is_answered(alloc, lists, kind, s, 0, Detail::Brief, reason)?
             && is_refused_at_most(alloc, lists, kind, s, reason)?
-            && is_answered_in_pieces(alloc, kind, s, 0, Detail::Full, reason)?
-            && is_unpressed(alloc, lists, kind, s, reason)?,
+            && is_answered_in_pieces::<C>(alloc, kind, s, 0, Detail::Full, reason)?
+            && C::is_unpressed(alloc, lists, kind, s, reason)?,
     )
 }
 
 /// Whether a symbol has a text of so many bytes at its cost, and is too long one below.
 fn has_length(
     alloc: Global,
-    lists: &mut Lists,
+    lists: &mut Lists<Abi>,
     kind: Kind,
     s: &[u8],
     detail: Detail,
@@ -157,6 +175,7 @@ fn has_length(
     let languages = Languages {
         limit: cost,
         detail,
+        cpp: Abi,
     };
     let text = by_demangler(alloc, &languages, lists, kind, s)?;
     if text.len() != len as usize || cost == 0 {
@@ -189,7 +208,7 @@ fn repeated(
 /// Whether each call that presses answers this for a word.
 fn is_pressed_to(
     alloc: Global,
-    lists: &mut Lists,
+    lists: &mut Lists<Abi>,
     word: &[u8],
     pressed: &[u8],
 ) -> Result<bool, Refusal> {
@@ -216,7 +235,7 @@ fn is_pressed_to(
 /// Whether a word's pressed spelling is this one, and is pressed again unchanged.
 fn is_pressed(
     alloc: Global,
-    lists: &mut Lists,
+    lists: &mut Lists<Abi>,
     word: &[u8],
     pressed: &[u8],
 ) -> Result<bool, Refusal> {
@@ -226,32 +245,10 @@ fn is_pressed(
     )
 }
 
-/// Whether a symbol that isn't read isn't pressed either, for the same reason. One that is too long is read.
-fn is_unpressed(
-    alloc: Global,
-    lists: &mut Lists,
-    kind: Kind,
-    s: &[u8],
-    reason: &[u8],
-) -> Result<bool, Refusal> {
-    if !fits(s) {
-        return Ok(false);
-    }
-    if reason == TOO_LONG {
-        let pressed = by_demangler(alloc, &Pressing, lists, kind, s)?;
-        let pressed = spelled(alloc, &pressed)?;
-        return demangler_says(alloc, &Pressing, lists, kind, s, &pressed);
-    }
-    Ok(
-        demangler_says(alloc, &Pressing, lists, kind, s, reason)?
-            && library_presses(alloc, s, reason)?,
-    )
-}
-
 /// Whether a symbol that is cut, or changed, at each place in turn is answered as a row says.
 fn are_changes_answered(
     alloc: Global,
-    lists: &mut Lists,
+    lists: &mut Lists<Abi>,
     change: Change,
     word: &[u8],
     others: &[&[u8]],
@@ -262,12 +259,17 @@ fn are_changes_answered(
     let languages = Languages {
         limit: LIMIT,
         detail: Detail::Full,
+        cpp: Abi,
     };
     changes::hold(alloc, &languages, lists, kind, word, change, others)
 }
 
 /// Whether a row `text` holds.
-fn of_text(alloc: Global, lists: &mut Lists, fields: &[&[u8]]) -> Result<bool, Refusal> {
+fn of_text<C: Profile>(
+    alloc: Global,
+    lists: &mut Lists<C>,
+    fields: &[&[u8]],
+) -> Result<bool, Refusal> {
     let [detail, cost, word, text] = fields else {
         return Ok(false);
     };
@@ -287,7 +289,7 @@ fn of_text(alloc: Global, lists: &mut Lists, fields: &[&[u8]]) -> Result<bool, R
 /// Whether a symbol has a text in the detail, at the cost and of the length that three fields say.
 fn of_length(
     alloc: Global,
-    lists: &mut Lists,
+    lists: &mut Lists<Abi>,
     kind: Kind,
     s: &[u8],
     detail: &[u8],
@@ -307,7 +309,7 @@ fn of_length(
 }
 
 /// Whether a row `long` holds.
-fn of_long(alloc: Global, lists: &mut Lists, fields: &[&[u8]]) -> Result<bool, Refusal> {
+fn of_long(alloc: Global, lists: &mut Lists<Abi>, fields: &[&[u8]]) -> Result<bool, Refusal> {
     let [detail, cost, word, len] = fields else {
         return Ok(false);
     };
@@ -319,7 +321,7 @@ fn of_long(alloc: Global, lists: &mut Lists, fields: &[&[u8]]) -> Result<bool, R
 }
 
 /// Whether a row `repeated` holds. The symbol may be longer than any word that the filter takes.
-fn of_repeated(alloc: Global, lists: &mut Lists, fields: &[&[u8]]) -> Result<bool, Refusal> {
+fn of_repeated(alloc: Global, lists: &mut Lists<Abi>, fields: &[&[u8]]) -> Result<bool, Refusal> {
     let [detail, cost, front, count, bytes, end, len] = fields else {
         return Ok(false);
     };
@@ -334,7 +336,11 @@ fn of_repeated(alloc: Global, lists: &mut Lists, fields: &[&[u8]]) -> Result<boo
 }
 
 /// Whether a row `refused` holds.
-fn of_refused(alloc: Global, lists: &mut Lists, fields: &[&[u8]]) -> Result<bool, Refusal> {
+fn of_refused<C: Profile>(
+    alloc: Global,
+    lists: &mut Lists<C>,
+    fields: &[&[u8]],
+) -> Result<bool, Refusal> {
     let [word, reason] = fields else {
         return Ok(false);
     };
@@ -365,7 +371,7 @@ fn of_nameless(alloc: Global, fields: &[&[u8]]) -> Result<bool, Refusal> {
 }
 
 /// Whether a row `press` holds.
-fn of_press(alloc: Global, lists: &mut Lists, fields: &[&[u8]]) -> Result<bool, Refusal> {
+fn of_press(alloc: Global, lists: &mut Lists<Abi>, fields: &[&[u8]]) -> Result<bool, Refusal> {
     match fields {
         [word, pressed] => is_pressed(alloc, lists, word, pressed),
         _ => Ok(false),
@@ -405,7 +411,7 @@ fn change_of(what: &[u8]) -> Option<Change> {
 /// Whether a row `cut` or `put` holds.
 fn of_changes(
     alloc: Global,
-    lists: &mut Lists,
+    lists: &mut Lists<Abi>,
     change: Change,
     fields: &[&[u8]],
 ) -> Result<bool, Refusal> {
@@ -416,18 +422,25 @@ fn of_changes(
 }
 
 /// Whether each call answers what stands in a row of these fields.
-fn hold(alloc: Global, lists: &mut Lists, what: &[u8], fields: &[&[u8]]) -> Result<bool, Refusal> {
+fn hold(
+    alloc: Global,
+    lists: &mut AllLists,
+    what: &[u8],
+    fields: &[&[u8]],
+) -> Result<bool, Refusal> {
     if let Some(change) = change_of(what) {
-        return of_changes(alloc, lists, change, fields);
+        return of_changes(alloc, &mut lists.abi, change, fields);
     }
     match what {
-        b"text" => of_text(alloc, lists, fields),
-        b"long" => of_long(alloc, lists, fields),
-        b"repeated" => of_repeated(alloc, lists, fields),
-        b"refused" => of_refused(alloc, lists, fields),
+        b"text" => of_text(alloc, &mut lists.abi, fields),
+        b"wide text" => of_text(alloc, &mut lists.wide, fields),
+        b"wide refused" => of_refused(alloc, &mut lists.wide, fields),
+        b"long" => of_long(alloc, &mut lists.abi, fields),
+        b"repeated" => of_repeated(alloc, &mut lists.abi, fields),
+        b"refused" => of_refused(alloc, &mut lists.abi, fields),
         b"oversize" => of_oversize(alloc, fields),
         b"nameless" => of_nameless(alloc, fields),
-        b"press" => of_press(alloc, lists, fields),
+        b"press" => of_press(alloc, &mut lists.abi, fields),
         b"filter" => of_filter(alloc, fields),
         b"command" => of_command(alloc, fields),
         _ => Ok(false),
@@ -439,7 +452,7 @@ fn hold(alloc: Global, lists: &mut Lists, what: &[u8], fields: &[&[u8]]) -> Resu
 /// # Errors
 ///
 /// `Memory` where a call answers that.
-pub fn holds(alloc: Global, lists: &mut Lists, row: &[u8]) -> Result<bool, Refusal> {
+pub fn holds(alloc: Global, lists: &mut AllLists, row: &[u8]) -> Result<bool, Refusal> {
     let fields: Vec<&[u8]> = row.split(|byte| *byte == b'\t').collect(alloc)?;
     match fields.as_slice() {
         [what, fields @ ..] => hold(alloc, lists, what, fields),

@@ -11,7 +11,7 @@ use Rattle.cpp_grammar.specs.Mangled.{cpp_mangled, IsAnswer}
 use Rattle.cpp_grammar.specs.Answer.{shown, root_item}
 use Rattle.cpp_grammar.specs.Term.{Term, any_value, Adjustment, non_virtual, by_table, adjusting, special, thunk, alone, source, instance}
 use Rattle.cpp_grammar.specs.Parts.{source_text, thunk_text}
-use Rattle.cpp_grammar.specs.Scope.{has_return_type, arguments_of}
+use Rattle.cpp_grammar.specs.Scope.{has_return_type, arguments_of, is_structor}
 use Rattle.cpp_grammar.specs.Texts.{Naming, look_up, special_texts, same_bytes}
 use Rattle.cpp_grammar.specs.Values.{State, Value, nothing_there, tree, named, tree_of, qualifiers_of, ref_of, signed_digits}
 use Rattle.cpp_grammar.specs.Between.{after, in_name, in_types, inside, no_items}
@@ -297,9 +297,9 @@ source-has s internal w p name end is = name-has s internal (record w { at = p.b
 
 -- a name without arguments
 pub name-bare : (s : List ℕ) (internal : Bool) (old new : Direct) (name : List ℕ) → AwaitsSource s old internal → IsNameAt s old.at name new.at
-    → name ≢ [] → Reads old new (source_text name) → IsNameEnded s new false false
+    → name ≢ [] → Reads old new (source_text name) → (from : ℕ) → from ≡ length old.text.list.items → IsNameEnded s new false false from
 unfolding may_be_empty tree_of qualifiers_of ref_of has_return_type arguments_of
-name-bare s internal old new name p is filled reads =
+name-bare s internal old new name p is filled reads from from_is =
     let own = alone (source internal name) in
     let st = p.awaits.state in
     let has = source-has s internal old p name new.at is in
@@ -315,7 +315,9 @@ name-bare s internal old new name p is filled reads =
       name = source_text name;
       written = reads.text;
       prints = source-prints internal name filled;
+      from_is = from_is;
       no_return = λ e. refl;
+      returns = λ e. absurd (false≢true e);
       awaits = has.bare new.at st (expects-empty s Kind.MaybeArguments (after own false (in_name p.before)) has.inner new.at st has.awaits refl);
     }
 
@@ -323,8 +325,8 @@ name-bare s internal old new name p is filled reads =
 list-stands : (s : List ℕ) (internal : Bool) (old read new : Direct) (name : List ℕ) (from : ℕ) → AwaitsSource s old internal
     → from ≡ length old.text.list.items → IsNameAt s old.at name read.at → name ≢ [] → Reads old read (source_text name)
     → StandsAt s read.at (73 ∷ []) → new.candidates.list.items ≡ added read from false → new.text.list.items ≡ read.text.list.items ++ codes "<"
-    → new.waiting.list.items ≡ read.waiting.list.items ++ opens.NameArguments ∷ [] → new.at ≡ read.at + 1 → IsWriting s new (steps.List true)
-unfolding in_name inside
+    → new.waiting.list.items ≡ read.waiting.list.items ++ opens.NameArguments from ∷ [] → new.at ≡ read.at + 1 → IsWriting s new (steps.List true)
+unfolding in_name inside is_structor
 list-stands s internal old read new name from p from_is is filled reads there candidates_are text_is waiting_is here_is =
     let own = alone (source internal name) in
     let st = p.awaits.state in
@@ -341,8 +343,8 @@ list-stands s internal old read new name from p from_is is filled reads there ca
           (candidates-stay read.text.list.items (codes "<") (added read from false) state.candidates
           (candidates-with read st front (source_text name) from own place false
           (candidates-read old read (source_text name) st.candidates reads p.awaits.candidates) reads.text from_is prints)));
-      is_before = arguments-begun s new state opens.NameArguments (reverse read.waiting.list.items) front (source_text name) own
-          (ap reverse waiting_is ∙ reverse-last read.waiting.list.items opens.NameArguments) prints
+      is_before = arguments-begun s new state (opens.NameArguments from) (reverse read.waiting.list.items) front (source_text name) own
+          (ap reverse waiting_is ∙ reverse-last read.waiting.list.items (opens.NameArguments from)) (from_is, prints, refl)
           (text_is ∙ ap (λ l. l ++ codes "<") reads.text) (
             inside (in_name place),
             list.inner,
@@ -356,7 +358,7 @@ list-stands s internal old read new name from p from_is is filled reads there ca
 pub name-argued : (s : List ℕ) (internal : Bool) (old read kept new : Direct) (name : List ℕ) (from : ℕ) (r : Option Step) → AwaitsSource s old internal
     → from ≡ length old.text.list.items → IsNameAt s old.at name read.at → name ≢ [] → Reads old read (source_text name)
     → StandsAt s read.at (73 ∷ []) → kept.candidates.list.items ≡ added read from false → kept.text ≡ read.text → kept.waiting ≡ read.waiting → kept.at ≡ read.at
-    → IfSome r (λ next. next ≡ steps.List true) → OnSome r (new.waiting.list.items ≡ kept.waiting.list.items ++ opens.NameArguments ∷ []) → OnSome r (new.at ≡ kept.at + 1)
+    → IfSome r (λ next. next ≡ steps.List true) → OnSome r (new.waiting.list.items ≡ kept.waiting.list.items ++ opens.NameArguments from ∷ []) → OnSome r (new.at ≡ kept.at + 1)
     → OnSome r (new.text.list.items ≡ kept.text.list.items ++ codes "<") → OnSome r (new.candidates ≡ kept.candidates) → IfSome r (IsWriting s new)
 name-argued s internal old read kept new name from None p from_is is filled reads there ks same_text same_open same_at step open_ at_ text_ candidates_ = tt
 name-argued s internal old read kept new name from (Some next) p from_is is filled reads there ks same_text same_open same_at step open_ at_ text_ candidates_ =
@@ -364,5 +366,5 @@ name-argued s internal old read kept new name from (Some next) p from_is is fill
     (list-stands s internal old read new name from p from_is is filled reads there
     (ap (λ v. v.list.items) candidates_ ∙ ks)
     (text_ ∙ ap (λ v. v.list.items ++ codes "<") same_text)
-    (open_ ∙ ap (λ v. v.list.items ++ opens.NameArguments ∷ []) same_open)
+    (open_ ∙ ap (λ v. v.list.items ++ opens.NameArguments from ∷ []) same_open)
     (at_ ∙ ap (λ n. n + 1) same_at))

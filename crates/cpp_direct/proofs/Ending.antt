@@ -1,12 +1,12 @@
 -- How a symbol ends: its encoding's name, its parameters, and what stands behind them.
-use Rattle.std.proofs.Common.{◌≡◌, ◌≢◌, refl, ap, sym, ◌∙◌, subst, ℕ, ◌+◌, ◌-◌, ◌≤◌, List, [], ◌∷◌, ◌++◌, length, take, drop, reverse, inl, inr, Bool, true, false, nat_eq, arith, codes, append-nil, append_assoc}
+use Rattle.std.proofs.Common.{◌≡◌, ◌≢◌, ◌⊎◌, refl, ap, sym, ◌∙◌, subst, ℕ, ◌+◌, ◌-◌, ◌≤◌, List, [], ◌∷◌, ◌++◌, length, take, drop, reverse, inl, inr, Bool, true, false, nat_eq, arith, codes, append-nil, append_assoc}
 use Rattle.std.specs.List.{ends_with}
 use Rattle.std.specs.Cmp.Lexicographic.{pointwise}
 use Rattle.std.proofs.lemmas.Bool.{false≢true}
 use Rattle.std.proofs.lemmas.List.{length-append, length-drop, take_rest}
 use Rattle.std.proofs.Math.Seq.{drop-append_seam}
 use Rattle.cpp_grammar.specs.declared.kind.Kind.{Kind}
-use Rattle.cpp_grammar.specs.Term.{Term, any_value, symbol, nil, list, builtin}
+use Rattle.cpp_grammar.specs.Term.{Term, any_value, symbol, function, nil, list, builtin, absent}
 use Rattle.cpp_grammar.specs.Grammar.{may_be_empty, among}
 use Rattle.cpp_grammar.specs.Parts.{encoding_text}
 use Rattle.cpp_grammar.specs.Scope.{has_return_type}
@@ -20,17 +20,17 @@ use Rattle.cpp_direct.specs.declared.direct.Direct.{Direct}
 use Rattle.cpp_direct.specs.Bytes.{is_builtin, is_local}
 use Rattle.cpp_direct.specs.Holes.{StandsAt, ListGoesOn}
 use Rattle.cpp_direct.specs.HolesOfLists.{IsSuffix}
-use Rattle.cpp_direct.specs.Prints.{Prints, Shows, list_of}
-use Rattle.cpp_direct.specs.Stands.{AreCandidates, AwaitsItems, Encoded, EndsBehind, EncodedBehind, IsWhole, IsWriting, IsFunction, ParametersGoOn, Stands, qualifiers, list_with, in_front_of_next}
-use Rattle.cpp_direct.specs.Ways.{IsNameEnded, IsParameterEnded, IsEncodingEnded, IsSymbolEnded, const_text}
-use Rattle.cpp_direct.specs.Written.{Writes}
+use Rattle.cpp_direct.specs.Prints.{Prints, Shows, Encloses, list_of}
+use Rattle.cpp_direct.specs.Stands.{AreCandidates, AwaitsItems, Encoded, EndsBehind, EncodedBehind, IsWhole, IsWriting, IsFunction, ParametersGoOn, Stands, qualifiers, plain_encoding, list_with, in_front_of_next}
+use Rattle.cpp_direct.specs.Ways.{IsNameEnded, AwaitsParameters, IsParameterEnded, IsEncodingEnded, IsSymbolEnded, const_text}
+use Rattle.cpp_direct.specs.Written.{Writes, Cuts}
 use Rattle.cpp_direct.proofs.Kept.{candidates-written, reverse-last}
 use Rattle.cpp_direct.proofs.Moves.{expects-empty}
 use Rattle.cpp_direct.proofs.MovesOfLists.{element-awaits}
 use Rattle.cpp_direct.proofs.MovesOfTypes.{builtin-comes}
 use Rattle.cpp_direct.proofs.PrintedLists.{none-print}
-use Rattle.cpp_direct.proofs.PrintedLocals.{object-enclosing, void-enclosing, function-enclosing}
-use Rattle.cpp_direct.proofs.PrintedSymbols.{function-encoded, void-encoded, object-encoded, const-text, symbol-text, symbol-cost, suffix-text, suffix-cost, parameters-kept}
+use Rattle.cpp_direct.proofs.PrintedLocals.{object-enclosing, function-encloses}
+use Rattle.cpp_direct.proofs.PrintedSymbols.{function-shows, void-shows, object-encoded, encoding-plain, made-with, made-void, const-text, symbol-text, symbol-cost, suffix-text, suffix-cost, parameters-kept}
 
 -- ## The end
 
@@ -144,9 +144,10 @@ behind-five lead a b c d q =
     ap (λ l. l ++ d ++ q) (behind-three lead a b c) ∙ ap (λ l. l ++ q) (append_assoc lead (a ++ b ++ c) d) ∙ append_assoc lead (a ++ b ++ c ++ d) q
 
 -- a name without items is an encoding
-pub object-ended : (s : List ℕ) (w : Direct) (is_const is_instance : Bool) → IsNameEnded s w is_const is_instance → IsEncodingEnded s w is_const
+pub object-ended : (s : List ℕ) (w : Direct) (is_const is_instance : Bool) (from : ℕ) → IsNameEnded s w is_const is_instance from
+    → IsEncodingEnded s w is_const
 unfolding no_items may_be_empty
-object-ended s w is_const is_instance p =
+object-ended s w is_const is_instance from p =
     let b = p.name in
     let q = const_text is_const in
     let behind : EncodedBehind s p.lead (encoding_of p.v nil) w.at = p.awaits.onward nothing_there w.at p.state
@@ -166,49 +167,6 @@ object-ended s w is_const is_instance p =
       behind = behind;
     }
 
--- a lone void is read
-void-read : (s : List ℕ) (lead : List ℕ) (v : Value) (at : ℕ) (st : State) → AwaitsItems s lead v at st → StandsAt s at (118 ∷ [])
-    → EncodedBehind s lead (encoding_of v (list_of (builtin (118 ∷ []) ∷ []))) (at + 1)
-unfolding no_items may_be_empty tree_of is_builtin among
-void-read s lead v at st p stands =
-    let t = builtin (118 ∷ []) in
-    let element = element-awaits s Kind.Items p.inner p.around at st tt p.awaits in
-    let goes = element.onward t (at + 1) st (builtin-comes s Kind.Item p.around element.inner at st 118 tt refl element.awaits stands) in
-    p.onward (tree (list t nil) true) (at + 1) st
-    (goes.passes nothing_there (at + 1) st (expects-empty s Kind.Items p.around goes.inner (at + 1) st goes.awaits refl))
-
--- a name with a lone void is an encoding
-pub void-ended : (s : List ℕ) (w first here last : Direct) (is_const : Bool) → IsNameEnded s w is_const false → StandsAt s w.at (118 ∷ [])
-    → Writes w first (codes "(") → here.text ≡ first.text → here.candidates ≡ first.candidates → here.at ≡ first.at + 1
-    → Writes here last (codes ")") → IsEncodingEnded s last is_const
-void-ended s w first here last is_const p stands one text candidates at two =
-    let b = p.name in
-    let q = const_text is_const in
-    let e = encoding_of p.v (list_of (builtin (118 ∷ []) ∷ [])) in
-    let none : has_return_type (tree_of p.v) ≡ false = ap has_return_type p.tree_is ∙ p.no_return refl in
-    let behind : EncodedBehind s p.lead e (w.at + 1) = void-read s p.lead p.v w.at p.state p.awaits stands in
-    let written : last.text.list.items ≡ p.lead ++ b ++ codes "()" =
-    two.text ∙ ap (λ l. l.list.items ++ codes ")") text ∙ ap (λ l. l ++ codes ")") one.text ∙ append_assoc w.text.list.items (codes "(") (codes ")")
-    ∙ ap (λ l. l ++ codes "()") p.written in
-    let known = candidates-written w first (codes "(") p.state.candidates one p.candidates in
-    let moved : AreCandidates here.text.list.items here.candidates.list.items p.state.candidates =
-    subst (λ l. AreCandidates l.list.items here.candidates.list.items p.state.candidates) (sym text)
-    (subst (λ l. AreCandidates first.text.list.items l.list.items p.state.candidates) (sym candidates) known) in
-    let shows : Shows e (b ++ codes "()" ++ q) =
-    subst (λ l. Shows e (b ++ codes "()" ++ l)) (qualifiers-text p.v is_const p.qualifiers_are p.mark_is)
-    (void-encoded p.v b (subst (λ t. Prints t b false) (sym p.tree_is) p.prints) none) in
-    record {
-      state = p.state;
-      candidates = candidates-written here last (codes ")") p.state.candidates two moved;
-      e = e;
-      lead = p.lead;
-      bytes = b ++ codes "()" ++ q;
-      written = ap (λ l. l ++ q) written ∙ behind-three p.lead b (codes "()") q;
-      shows = shows;
-      encloses = void-enclosing p.v (b ++ codes "()" ++ q) none shows;
-      behind = subst (λ n. EncodedBehind s p.lead e n) (omega (arith, two.at, at, one.at)) behind;
-    }
-
 -- ## Parameters
 
 list-more : (ts : List Term) (t rest : Term) → list_with (ts ++ t ∷ []) rest ≡ list_with ts (list t rest)
@@ -224,40 +182,44 @@ next-written [] l some = absurd (some refl)
 next-written (t ∷ ts) l some = refl
 
 -- a name is one where parameters go on behind none
-pub none-go_on : (s : List ℕ) (lead : List ℕ) (v : Value) (at : ℕ) (st : State) → AwaitsItems s lead v at st → ParametersGoOn s lead v [] at st
+pub none-go_on : (s : List ℕ) (lead : List ℕ) (v : Value) (at : ℕ) (st : State) → AwaitsItems s lead v at st
+    → ParametersGoOn s lead (λ l. encoding_of v l) [] at st
 none-go_on s lead v at st p = record { around = p.around; inner = p.inner; outside = p.outside; awaits = p.awaits; onward = p.onward }
 
 -- a parameter is expected
-parameter-goes_on : (s : List ℕ) (lead : List ℕ) (v : Value) (ts : List Term) (at : ℕ) (st : State) (p : ParametersGoOn s lead v ts at st)
+pub parameter-goes_on : (s : List ℕ) (lead : List ℕ) (make : Term → Term) (ts : List Term) (at : ℕ) (st : State) (p : ParametersGoOn s lead make ts at st)
     (t : Term) (here : ℕ) (now : State)
-    → ListGoesOn s Kind.Items p.inner p.around t here now → ParametersGoOn s lead v (ts ++ t ∷ []) here now
+    → ListGoesOn s Kind.Items p.inner p.around t here now → ParametersGoOn s lead make (ts ++ t ∷ []) here now
 unfolding no_items tree_of
-parameter-goes_on s lead v ts at st p t here now goes = record {
+parameter-goes_on s lead make ts at st p t here now goes = record {
   around = p.around;
   inner = goes.inner;
   outside = p.outside;
   awaits = goes.awaits;
-  onward = λ l there then_ comes. subst (λ u. EncodedBehind s lead (encoding_of v u) there) (sym (list-more ts t (no_items l)))
+  onward = λ l there then_ comes. subst (λ u. EncodedBehind s lead (make u) there) (sym (list-more ts t (no_items l)))
       (p.onward (tree (list t (no_items l)) true) there then_ (goes.passes l there then_ comes));
 }
 
 -- a parameter comes next
-pub parameter-expected : (s : List ℕ) (w : Direct) (st : State) (is_const : Bool) (rest : List Open) (lead : List ℕ) (v : Value) (ts : List Term)
-    (name parameters : List ℕ)
-    → AreCandidates w.text.list.items w.candidates.list.items st.candidates → reverse w.waiting.list.items ≡ opens.Parameters is_const ∷ rest
-    → IsFunction is_const v ts name parameters → w.text.list.items ≡ lead ++ name ++ codes "(" ++ in_front_of_next ts parameters
-    → ParametersGoOn s lead v ts w.at st → IsWriting s w steps.Type
-parameter-expected s w st is_const rest lead v ts name parameters candidates open_is is_function written p =
+pub parameter-expected : (s : List ℕ) (w : Direct) (st : State) (is_const : Bool) (start : ℕ) (rest : List Open) (aside lead : List ℕ)
+    (make : Term → Term) (ts : List Term) (name texts : List ℕ)
+    → AreCandidates w.text.list.items w.candidates.list.items st.candidates → reverse w.waiting.list.items ≡ opens.Parameters is_const start ∷ rest
+    → IsFunction is_const make ts name texts → start ≡ length aside
+    → w.text.list.items ≡ aside ++ lead ++ name ++ codes "(" ++ in_front_of_next ts texts
+    → ParametersGoOn s lead make ts w.at st → IsWriting s w steps.Type
+parameter-expected s w st is_const start rest aside lead make ts name texts candidates open_is is_function start_is written p =
     let element = element-awaits s Kind.Items p.inner p.around w.at st tt p.awaits in
-    let stands : Stands s (opens.Parameters is_const ∷ rest) element.inner w.text.list.items = (
+    let stands : Stands s (opens.Parameters is_const start ∷ rest) element.inner w.text.list.items = (
+      aside,
       lead,
-      v,
+      make,
       ts,
       name,
-      parameters,
+      texts,
       is_function,
+      start_is,
       written,
-      λ t here now comes. parameter-goes_on s lead v ts w.at st p t here now (element.onward t here now comes),
+      λ t here now comes. parameter-goes_on s lead make ts w.at st p t here now (element.onward t here now comes),
     ) in
     record {
       state = st;
@@ -265,70 +227,165 @@ parameter-expected s w st is_const rest lead v ts name parameters candidates ope
       is_before = (element.inner, p.around, p.outside, inr (inl element.awaits), subst (λ os. Stands s os element.inner w.text.list.items) (sym open_is) stands);
     }
 
+-- the name of a function is read that has no return type
+pub parameters-begin : (s : List ℕ) (w : Direct) (is_const is_instance : Bool) (from : ℕ) → IsNameEnded s w is_const is_instance from → is_instance ≡ false
+    → AwaitsParameters s w is_const 0
+parameters-begin s w is_const is_instance from p plain = record {
+  state = p.state;
+  candidates = p.candidates;
+  make = λ l. encoding_of p.v l;
+  aside = [];
+  lead = p.lead;
+  name = p.name;
+  is_function = record {
+    own = p.own;
+    makes = encoding-plain p.v is_const p.own p.tree_is p.qualifiers_are p.mark_is (p.no_return plain);
+    prints = p.prints;
+    elements = none-print 0;
+  };
+  start_is = refl;
+  written = p.written;
+  goes = none-go_on s p.lead p.v w.at p.state p.awaits;
+}
+
 -- the first parameter comes next
-pub first-expected : (s : List ℕ) (w first last : Direct) (is_const : Bool) → IsNameEnded s w is_const false → Writes w first (codes "(")
+pub first-expected : (s : List ℕ) (w first last : Direct) (is_const : Bool) (start : ℕ) → AwaitsParameters s w is_const start → Writes w first (codes "(")
     → last.text ≡ first.text → last.candidates ≡ first.candidates → last.at ≡ first.at
-    → last.waiting.list.items ≡ first.waiting.list.items ++ opens.Parameters is_const ∷ []
+    → last.waiting.list.items ≡ first.waiting.list.items ++ opens.Parameters is_const start ∷ []
     → IsWriting s last steps.Type
-first-expected s w first last is_const p one text candidates at waiting =
+first-expected s w first last is_const start p one text candidates at waiting =
     let known = candidates-written w first (codes "(") p.state.candidates one p.candidates in
     let moved : AreCandidates last.text.list.items last.candidates.list.items p.state.candidates =
     subst (λ l. AreCandidates l.list.items last.candidates.list.items p.state.candidates) (sym text)
     (subst (λ l. AreCandidates first.text.list.items l.list.items p.state.candidates) (sym candidates) known) in
-    parameter-expected s last p.state is_const (reverse first.waiting.list.items) p.lead p.v [] p.name [] moved
-    (ap reverse waiting ∙ reverse-last first.waiting.list.items (opens.Parameters is_const))
-    (record {
-      own = p.own;
-      tree_is = p.tree_is;
-      qualifiers_are = p.qualifiers_are;
-      mark_is = p.mark_is;
-      prints = p.prints;
-      no_return = p.no_return refl;
-      elements = none-print 0;
-    })
-    (ap (λ l. l.list.items) text ∙ one.text ∙ ap (λ l. l ++ codes "(") p.written ∙ sym (append-nil (p.lead ++ p.name ++ codes "(")))
-    (subst (λ n. ParametersGoOn s p.lead p.v [] n p.state) (sym (at ∙ one.at)) (none-go_on s p.lead p.v w.at p.state p.awaits))
+    parameter-expected s last p.state is_const start (reverse first.waiting.list.items) p.aside p.lead p.make [] p.name [] moved
+    (ap reverse waiting ∙ reverse-last first.waiting.list.items (opens.Parameters is_const start)) p.is_function p.start_is
+    (ap (λ l. l.list.items) text ∙ one.text ∙ ap (λ l. l ++ codes "(") p.written ∙ sym (append-nil (p.aside ++ p.lead ++ p.name ++ codes "(")))
+    (subst (λ n. ParametersGoOn s p.lead p.make [] n p.state) (sym (at ∙ one.at)) p.goes)
 
 -- another parameter comes next
-pub next-expected : (s : List ℕ) (w last : Direct) (is_const : Bool) → IsParameterEnded s w is_const → Writes w last (codes ", ")
+pub next-expected : (s : List ℕ) (w last : Direct) (is_const : Bool) (start : ℕ) → IsParameterEnded s w is_const start → Writes w last (codes ", ")
     → IsWriting s last steps.Type
-next-expected s w last is_const p one =
-    parameter-expected s last p.state is_const p.rest p.lead p.v p.ts p.name p.parameters
+next-expected s w last is_const start p one =
+    let front = p.aside ++ p.lead ++ p.name ++ codes "(" in
+    parameter-expected s last p.state is_const start p.rest p.aside p.lead p.make p.ts p.name p.texts
     (candidates-written w last (codes ", ") p.state.candidates one p.candidates)
-    (ap (λ l. reverse l.list.items) one.waiting ∙ p.open_is) p.is_function
-    (one.text ∙ ap (λ l. l ++ codes ", ") p.written ∙ append_assoc (p.lead ++ p.name ++ codes "(") p.parameters (codes ", ")
-    ∙ ap (λ l. p.lead ++ p.name ++ codes "(" ++ l) (sym (next-written p.ts p.parameters p.some)))
-    (subst (λ n. ParametersGoOn s p.lead p.v p.ts n p.state) (sym one.at) p.goes)
+    (ap (λ l. reverse l.list.items) one.waiting ∙ p.open_is) p.is_function p.start_is
+    (one.text ∙ ap (λ l. l ++ codes ", ") p.written ∙ append_assoc front p.texts (codes ", ")
+    ∙ ap (λ l. front ++ l) (sym (next-written p.ts p.texts p.some)))
+    (subst (λ n. ParametersGoOn s p.lead p.make p.ts n p.state) (sym one.at) p.goes)
+
+-- ## What stands in front of an encoding's text
+
+-- where that is taken away, what is left of the candidates is some
+cut-candidates : (old new : Direct) (start : ℕ) (st : State) → Cuts old new start
+    → AreCandidates old.text.list.items old.candidates.list.items st.candidates
+    → (now : State) × AreCandidates new.text.list.items new.candidates.list.items now.candidates
+cut-candidates old new start st cuts known = go cuts.candidates
+  where
+    go : ((start ≡ 0) × (new.candidates ≡ old.candidates)) ⊎ (new.candidates.list.items ≡ [])
+        → (now : State) × AreCandidates new.text.list.items new.candidates.list.items now.candidates
+    go (inl same) = (
+      st,
+      subst (λ v. AreCandidates new.text.list.items v.list.items st.candidates) (sym same.1)
+          (subst (λ l. AreCandidates l old.candidates.list.items st.candidates) (sym (cuts.text ∙ ap (λ n. drop n old.text.list.items) same.0)) known),
+    )
+    go (inr none) = (record st { candidates = [] }, subst (λ ks. AreCandidates new.text.list.items ks []) (sym none) tt)
+
+-- and the text is what stood behind it
+cut-text : (old new : Direct) (start : ℕ) (aside text : List ℕ) → Cuts old new start → start ≡ length aside → old.text.list.items ≡ aside ++ text
+    → new.text.list.items ≡ text
+cut-text old new start aside text cuts start_is written =
+    cuts.text ∙ ap (λ n. drop n old.text.list.items) start_is ∙ ap (λ l. drop (length aside) l) written ∙ drop-append_seam aside text
+
+-- what stands behind an encoding that is const or not
+plain-text : (is_const : Bool) → encoding_text (qualifiers is_const) any_value ≡ const_text is_const
+plain-text true = const-text true
+plain-text false = const-text false
+
+-- ## The end of an encoding
+
+-- a lone void is read
+void-read : (s : List ℕ) (lead : List ℕ) (make : Term → Term) (at : ℕ) (st : State) → ParametersGoOn s lead make [] at st → StandsAt s at (118 ∷ [])
+    → EncodedBehind s lead (make (list_of (builtin (118 ∷ []) ∷ []))) (at + 1)
+unfolding no_items may_be_empty tree_of is_builtin among
+void-read s lead make at st p stands =
+    let t = builtin (118 ∷ []) in
+    let element = element-awaits s Kind.Items p.inner p.around at st tt p.awaits in
+    let goes = element.onward t (at + 1) st (builtin-comes s Kind.Item p.around element.inner at st 118 tt refl element.awaits stands) in
+    p.onward (tree (list t nil) true) (at + 1) st
+    (goes.passes nothing_there (at + 1) st (expects-empty s Kind.Items p.around goes.inner (at + 1) st goes.awaits refl))
+
+-- a name with a lone void is an encoding
+pub void-ended : (s : List ℕ) (w first here last new : Direct) (is_const : Bool) (start : ℕ) → AwaitsParameters s w is_const start
+    → StandsAt s w.at (118 ∷ [])
+    → Writes w first (codes "(") → here.text ≡ first.text → here.candidates ≡ first.candidates → here.at ≡ first.at + 1
+    → Writes here last (codes ")") → Cuts last new start → IsEncodingEnded s new is_const
+void-ended s w first here last new is_const start p stands one text candidates at two cuts =
+    let f = p.is_function in
+    let b = p.name in
+    let q = const_text is_const in
+    let e = p.make (list_of (builtin (118 ∷ []) ∷ [])) in
+    let made = function f.own (qualifiers is_const) any_value absent nil in
+    let is : e ≡ made = made-void is_const f.own p.make f.makes in
+    let behind : EncodedBehind s p.lead e (w.at + 1) = void-read s p.lead p.make w.at p.state p.goes stands in
+    let written : last.text.list.items ≡ p.aside ++ p.lead ++ b ++ codes "()" =
+    two.text ∙ ap (λ l. l.list.items ++ codes ")") text ∙ ap (λ l. l ++ codes ")") one.text ∙ append_assoc w.text.list.items (codes "(") (codes ")")
+    ∙ ap (λ l. l ++ codes "()") p.written in
+    let left_over : new.text.list.items ≡ p.lead ++ b ++ codes "()" =
+    cut-text last new start p.aside (p.lead ++ b ++ codes "()") cuts p.start_is (written ∙ behind-three p.aside p.lead b (codes "()")) in
+    let known = candidates-written w first (codes "(") p.state.candidates one p.candidates in
+    let moved : AreCandidates here.text.list.items here.candidates.list.items p.state.candidates =
+    subst (λ l. AreCandidates l.list.items here.candidates.list.items p.state.candidates) (sym text)
+    (subst (λ l. AreCandidates first.text.list.items l.list.items p.state.candidates) (sym candidates) known) in
+    let now = cut-candidates last new start p.state cuts (candidates-written here last (codes ")") p.state.candidates two moved) in
+    let shows : Shows made (b ++ codes "()" ++ q) =
+    subst (λ l. Shows made (b ++ codes "()" ++ l)) (plain-text is_const) (void-shows f.own b f.prints (qualifiers is_const) any_value) in
+    record {
+      state = now.0;
+      candidates = now.1;
+      e = e;
+      lead = p.lead;
+      bytes = b ++ codes "()" ++ q;
+      written = ap (λ l. l ++ q) left_over ∙ behind-three p.lead b (codes "()") q;
+      shows = subst (λ t. Shows t (b ++ codes "()" ++ q)) (sym is) shows;
+      encloses = subst (λ t. Encloses t (b ++ codes "()" ++ q)) (sym is)
+          (function-encloses f.own (qualifiers is_const) any_value nil (b ++ codes "()" ++ q) shows);
+      behind = subst (λ n. EncodedBehind s p.lead e n) (omega (arith, cuts.at, two.at, at, one.at)) behind;
+    }
 
 -- a function with its parameters is an encoding, unless they are a lone void
-pub function-ended : (s : List ℕ) (w last : Direct) (is_const : Bool) (p : IsParameterEnded s w is_const) → p.parameters ≢ codes "void"
-    → Writes w last (codes ")") → IsEncodingEnded s last is_const
+pub function-ended : (s : List ℕ) (w last new : Direct) (is_const : Bool) (start : ℕ) (p : IsParameterEnded s w is_const start)
+    → p.texts ≢ codes "void" → Writes w last (codes ")") → Cuts last new start → IsEncodingEnded s new is_const
 unfolding no_items may_be_empty
-function-ended s w last is_const p apart one =
+function-ended s w last new is_const start p apart one cuts =
     let f = p.is_function in
-    let e = encoding_of p.v (list_of p.ts) in
+    let e = p.make (list_of p.ts) in
     let b = p.name in
-    let l = p.parameters in
+    let l = p.texts in
     let q = const_text is_const in
-    let none : has_return_type (tree_of p.v) ≡ false = ap has_return_type f.tree_is ∙ f.no_return in
-    let kept = parameters-kept p.ts l f.elements apart in
-    let behind : EncodedBehind s p.lead e w.at = subst (λ u. EncodedBehind s p.lead (encoding_of p.v u) w.at) (list-ends p.ts)
+    let made = function f.own (qualifiers is_const) any_value absent (list_of p.ts) in
+    let is : e ≡ made = made-with is_const f.own p.make f.makes p.ts p.some (parameters-kept p.ts l f.elements apart) in
+    let behind : EncodedBehind s p.lead e w.at = subst (λ u. EncodedBehind s p.lead (p.make u) w.at) (list-ends p.ts)
     (p.goes.onward nothing_there w.at p.state (expects-empty s Kind.Items p.goes.around p.goes.inner w.at p.state p.goes.awaits refl)) in
-    let written : last.text.list.items ++ q ≡ p.lead ++ (b ++ codes "(" ++ l ++ codes ")" ++ q) =
-    ap (λ x. x ++ q) (one.text ∙ ap (λ x. x ++ codes ")") p.written) ∙ behind-five p.lead b (codes "(") l (codes ")") q in
-    let shows : Shows e (b ++ codes "(" ++ l ++ codes ")" ++ q) =
-    subst (λ x. Shows e (b ++ codes "(" ++ l ++ codes ")" ++ x)) (qualifiers-text p.v is_const f.qualifiers_are f.mark_is)
-    (function-encoded p.v b (subst (λ t. Prints t b false) (sym f.tree_is) f.prints) none p.ts l p.some f.elements kept) in
+    let left_over : new.text.list.items ≡ p.lead ++ b ++ codes "(" ++ l ++ codes ")" =
+    cut-text last new start p.aside (p.lead ++ b ++ codes "(" ++ l ++ codes ")") cuts p.start_is
+    (one.text ∙ ap (λ x. x ++ codes ")") p.written ∙ behind-five p.aside p.lead b (codes "(") l (codes ")")) in
+    let now = cut-candidates last new start p.state cuts (candidates-written w last (codes ")") p.state.candidates one p.candidates) in
+    let shows : Shows made (b ++ codes "(" ++ l ++ codes ")" ++ q) =
+    subst (λ x. Shows made (b ++ codes "(" ++ l ++ codes ")" ++ x)) (plain-text is_const)
+    (function-shows f.own b f.prints p.ts l f.elements (qualifiers is_const) any_value) in
     record {
-      state = p.state;
-      candidates = candidates-written w last (codes ")") p.state.candidates one p.candidates;
+      state = now.0;
+      candidates = now.1;
       e = e;
       lead = p.lead;
       bytes = b ++ codes "(" ++ l ++ codes ")" ++ q;
-      written = written;
-      shows = shows;
-      encloses = function-enclosing p.v p.ts (b ++ codes "(" ++ l ++ codes ")" ++ q) none p.some kept shows;
-      behind = subst (λ n. EncodedBehind s p.lead e n) (sym one.at) behind;
+      written = ap (λ x. x ++ q) left_over ∙ behind-five p.lead b (codes "(") l (codes ")") q;
+      shows = subst (λ t. Shows t (b ++ codes "(" ++ l ++ codes ")" ++ q)) (sym is) shows;
+      encloses = subst (λ t. Encloses t (b ++ codes "(" ++ l ++ codes ")" ++ q)) (sym is)
+          (function-encloses f.own (qualifiers is_const) any_value (list_of p.ts) (b ++ codes "(" ++ l ++ codes ")" ++ q) shows);
+      behind = subst (λ n. EncodedBehind s p.lead e n) (sym (cuts.at ∙ one.at)) behind;
     }
 
 -- what ends in a lone void ends so

@@ -9,7 +9,7 @@ use Rattle.cpp_direct.specs.declared.direct.Direct.{Direct}
 use Rattle.cpp_direct.specs.Holes.{Opened}
 use Rattle.cpp_direct.specs.Prints.{Prints, Shows}
 use Rattle.cpp_direct.specs.Stands.{IsTemplate, IsWriting, Marks, AwaitsEnumerator, Belongs, Listing, of_template, of_pack, Stands, opening_text, extra_of, led_by, in_front_of_next}
-use Rattle.cpp_direct.specs.Ways.{AwaitsMark, AwaitsNumber, AwaitsSignature, IsElementRead, IsParameterEnded, IsReturned, IsSymbolEnded}
+use Rattle.cpp_direct.specs.Ways.{AwaitsMark, AwaitsNumber, AwaitsSignature, IsElementRead, IsFrontRead, IsParameterEnded, IsReturned, IsSymbolEnded}
 use Rattle.cpp_direct.proofs.Listed.{TakesElements, last-found, list-waits, listing-at, some-elements}
 use Rattle.cpp_direct.proofs.PrintedLists.{next-prints, type-element}
 use Rattle.cpp_direct.proofs.PrintedSymbols.{special-shows}
@@ -71,37 +71,37 @@ value-element s w is_reference o p found =
     }
 
 -- a parameter was read
-pub parameter-read : (s : List ℕ) (w : Direct) (is_const : Bool) → IsElementRead s w (opens.Parameters is_const) → IsParameterEnded s w is_const
-parameter-read s w is_const p =
+pub parameter-read : (s : List ℕ) (w : Direct) (is_const : Bool) (start : ℕ) → IsElementRead s w (opens.Parameters is_const start)
+    → IsParameterEnded s w is_const start
+parameter-read s w is_const start p =
     let waits = p.stands in
-    let lead = waits.0 in
-    let v = waits.1 in
-    let ts = waits.2 in
-    let name = waits.3 in
-    let parameters = waits.4 in
-    let is_function = waits.5 in
+    let aside = waits.0 in
+    let lead = waits.1 in
+    let ts = waits.3 in
+    let name = waits.4 in
+    let texts = waits.5 in
+    let is_function = waits.6 in
     record {
       state = p.state;
       candidates = p.candidates;
       rest = p.rest;
       open_is = p.open_is;
-      v = v;
+      make = waits.2;
       ts = ts ++ p.own ∷ [];
       some = some-elements ts p.own;
+      aside = aside;
       lead = lead;
       name = name;
-      parameters = in_front_of_next ts parameters ++ p.bytes;
+      texts = in_front_of_next ts texts ++ p.bytes;
       is_function = record {
         own = is_function.own;
-        tree_is = is_function.tree_is;
-        qualifiers_are = is_function.qualifiers_are;
-        mark_is = is_function.mark_is;
+        makes = is_function.makes;
         prints = is_function.prints;
-        no_return = is_function.no_return;
-        elements = next-prints 0 ts parameters p.own p.bytes is_function.elements (p.element 0);
+        elements = next-prints 0 ts texts p.own p.bytes is_function.elements (p.element 0);
       };
-      written = p.written ∙ ap (λ l. l ++ p.bytes) waits.6 ∙ append_assoc (lead ++ name ++ codes "(") (in_front_of_next ts parameters) p.bytes;
-      goes = waits.7 p.own w.at p.state p.comes;
+      start_is = waits.7;
+      written = p.written ∙ ap (λ l. l ++ p.bytes) waits.8 ∙ append_assoc (aside ++ lead ++ name ++ codes "(") (in_front_of_next ts texts) p.bytes;
+      goes = waits.9 p.own w.at p.state p.comes;
     }
 
 -- it is what a special symbol is of
@@ -180,23 +180,25 @@ value-enumerator s w is_reference p found =
 
 -- what is none of those that wait for something else
 pub takes-elements : (o : Open) → ((x : ℕ) → o ≡ opens.Pointer x → ⊥) → ((x : ℕ) → o ≡ opens.Lvalue x → ⊥)
-    → ((x : ℕ) → o ≡ opens.Rvalue x → ⊥) → ((x : ℕ) → o ≡ opens.Const x → ⊥) → ((x : Bool) → o ≡ opens.Parameters x → ⊥)
+    → ((x : ℕ) → o ≡ opens.Rvalue x → ⊥) → ((x : ℕ) → o ≡ opens.Const x → ⊥) → ((x : Bool) (y : ℕ) → o ≡ opens.Parameters x y → ⊥)
+    → ((x : Bool) (y : ℕ) → o ≡ opens.Front x y → ⊥)
     → ((x : Bool) → o ≡ opens.Returned x → ⊥) → ((x : Bool) → o ≡ opens.Signature x → ⊥)
     → (o ≡ opens.Special → ⊥) → (o ≡ opens.Enumerator → ⊥) → TakesElements o
-takes-elements (opens.Pointer x) p l r c f u g z n = absurd (p x refl)
-takes-elements (opens.Lvalue x) p l r c f u g z n = absurd (l x refl)
-takes-elements (opens.Rvalue x) p l r c f u g z n = absurd (r x refl)
-takes-elements (opens.Const x) p l r c f u g z n = absurd (c x refl)
-takes-elements (opens.Parameters x) p l r c f u g z n = absurd (f x refl)
-takes-elements (opens.Returned x) p l r c f u g z n = absurd (u x refl)
-takes-elements (opens.Signature x) p l r c f u g z n = absurd (g x refl)
-takes-elements opens.Special p l r c f u g z n = absurd (z refl)
-takes-elements opens.Enumerator p l r c f u g z n = absurd (n refl)
-takes-elements opens.Pack p l r c f u g z n = tt
-takes-elements (opens.TypeArguments x) p l r c f u g z n = tt
-takes-elements (opens.NestArguments x) p l r c f u g z n = tt
-takes-elements (opens.FirstArguments x) p l r c f u g z n = tt
-takes-elements opens.NameArguments p l r c f u g z n = tt
+takes-elements (opens.Pointer x) p l r c f k u g z n = absurd (p x refl)
+takes-elements (opens.Lvalue x) p l r c f k u g z n = absurd (l x refl)
+takes-elements (opens.Rvalue x) p l r c f k u g z n = absurd (r x refl)
+takes-elements (opens.Const x) p l r c f k u g z n = absurd (c x refl)
+takes-elements (opens.Parameters x y) p l r c f k u g z n = absurd (f x y refl)
+takes-elements (opens.Front x y) p l r c f k u g z n = absurd (k x y refl)
+takes-elements (opens.Returned x) p l r c f k u g z n = absurd (u x refl)
+takes-elements (opens.Signature x) p l r c f k u g z n = absurd (g x refl)
+takes-elements opens.Special p l r c f k u g z n = absurd (z refl)
+takes-elements opens.Enumerator p l r c f k u g z n = absurd (n refl)
+takes-elements opens.Pack p l r c f k u g z n = tt
+takes-elements (opens.TypeArguments x) p l r c f k u g z n = tt
+takes-elements (opens.NestArguments x) p l r c f k u g z n = tt
+takes-elements (opens.FirstArguments x) p l r c f k u g z n = tt
+takes-elements (opens.NameArguments x) p l r c f k u g z n = tt
 
 -- an element was read
 pub argument-read : (s : List ℕ) (w : Direct) (o : Open) → IsElementRead s w o → TakesElements o → IsWriting s w (steps.List false)
@@ -221,6 +223,33 @@ argument-read s w o p takes =
         λ e. some-elements waits.ts p.own,
         waits.onward p.own w.at p.state p.comes,
       );
+    }
+
+-- ## Return types
+
+-- it is the return type of a function
+pub value-front : (s : List ℕ) (w : Direct) (is_reference is_const : Bool) (start : ℕ) → IsWriting s w (steps.Value is_reference)
+    → slice_get w.waiting.list.items (length w.waiting.list.items - 1) ≡ Some (opens.Front is_const start) → IsFrontRead s w is_const start
+value-front s w is_reference is_const start p found =
+    let os = p.is_before.0 in
+    let t = p.is_before.1 in
+    let front = p.is_before.2 in
+    let last = last-found w.waiting.list.items (opens.Front is_const start) found in
+    let waits : Stands s (opens.Front is_const start ∷ last.0) os front = subst (λ ws. Stands s ws os front) last.1 p.is_before.7 in
+    record {
+      state = p.state;
+      candidates = p.candidates;
+      v = waits.0;
+      name = front;
+      is_instance = waits.1;
+      apart = waits.2;
+      start_is = waits.3;
+      returned = t;
+      bytes = p.is_before.3;
+      is_reference = is_reference;
+      prints = p.is_before.5;
+      written = p.is_before.4;
+      goes = waits.4 t w.at p.state p.is_before.6;
     }
 
 -- ## Function types

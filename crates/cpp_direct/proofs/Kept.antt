@@ -156,9 +156,9 @@ nest-stays front bytes text more nest t p = record {
 -- and a template before its arguments
 pub template-stays : (owner : Open) (front : List ℕ) (t : Term) (name text more : List ℕ) → IsTemplate owner front t name text → IsTemplate owner front t name (text ++ more)
 template-stays (opens.TypeArguments from) front t name text more p = p
-template-stays (opens.NestArguments nest) front t name text more p = (nest-stays front name text more nest t p.0, p.1)
+template-stays (opens.NestArguments nest) front t name text more p = (nest-stays front name text more nest t p.0, p.1, p.2)
 template-stays (opens.FirstArguments nest) front t name text more p = nest-stays front name text more nest t p
-template-stays opens.NameArguments front t name text more p = p
+template-stays (opens.NameArguments from) front t name text more p = p
 template-stays _ front t name text more p = p
 
 -- ## Lists

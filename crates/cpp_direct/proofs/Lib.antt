@@ -3,6 +3,7 @@ pub mod Elements
 pub mod Ending
 pub mod Entities
 pub mod FoundTokens
+pub mod FrontsRead
 pub mod FunctionsRead
 pub mod Handed
 pub mod Kept

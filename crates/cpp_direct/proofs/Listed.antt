@@ -222,6 +222,11 @@ structor-returns : (t a : Term) → is_structor t ≡ true → has_return_type (
 unfolding has_return_type arguments_of before_arguments
 structor-returns t a h = rw h refl
 
+-- the name of a function that is no constructor and no destructor has one in front of its arguments
+instance-returns : (t a : Term) → is_structor t ≡ false → has_return_type (instance t a) ≡ true
+unfolding has_return_type arguments_of before_arguments
+instance-returns t a h = rw h refl
+
 -- the arguments of a piece of a nested name
 pub nest-closed : (s : List ℕ) (w : Direct) (nest : Nest) → IsClosed s w (opens.NestArguments nest)
     → IsWriting s (record w { nest = record nest { is_listed = false; is_instance = nest.has_class } }) steps.Tail
@@ -243,7 +248,8 @@ nest-closed s w nest p =
           goes = p.owns.2;
           serves = p.owns.3;
         },
-        λ h. structor-returns p.template (list_with p.ts p.tail) (p.is_template.1 h),
+        (λ h. structor-returns p.template (list_with p.ts p.tail) (p.is_template.1 h)),
+        λ h. instance-returns p.template (list_with p.ts p.tail) (p.is_template.2 h),
       );
     }
 
@@ -279,9 +285,9 @@ first-closed s w new nest p candidates text waiting at =
     }
 
 -- the arguments of the name of an encoding
-pub name-closed : (s : List ℕ) (w : Direct) → IsClosed s w opens.NameArguments → IsNameEnded s w false true
+pub name-closed : (s : List ℕ) (w : Direct) (from : ℕ) → IsClosed s w (opens.NameArguments from) → IsNameEnded s w false true from
 unfolding tree_of qualifiers_of ref_of
-name-closed s w p =
+name-closed s w from p =
     let t = instance p.template (list_with p.ts p.tail) in
     let bytes = p.name ++ codes "<" ++ p.arguments ++ codes ">" in
     record {
@@ -295,8 +301,10 @@ name-closed s w p =
       lead = p.front;
       name = bytes;
       written = p.written;
-      prints = instance-prints p.template p.name p.is_template p.ts p.tail p.arguments p.is_tail p.elements;
+      from_is = p.is_template.0;
+      prints = instance-prints p.template p.name p.is_template.1 p.ts p.tail p.arguments p.is_tail p.elements;
       no_return = λ h. absurd (false≢true (sym h));
+      returns = λ h. instance-returns p.template (list_with p.ts p.tail) p.is_template.2;
       awaits = p.owns;
     }
 
@@ -563,7 +571,7 @@ abbrev pub TakesArguments : Open → Type 0
 TakesArguments (opens.TypeArguments from) = Unit {0}
 TakesArguments (opens.NestArguments nest) = Unit {0}
 TakesArguments (opens.FirstArguments nest) = Unit {0}
-TakesArguments opens.NameArguments = Unit {0}
+TakesArguments (opens.NameArguments from) = Unit {0}
 TakesArguments _ = ⊥
 
 -- or is a pack of them
@@ -575,7 +583,7 @@ template-takes : (o : Open) (front : List ℕ) (t : Term) (name text : List ℕ)
 template-takes (opens.TypeArguments from) front t name text is = tt
 template-takes (opens.NestArguments nest) front t name text is = tt
 template-takes (opens.FirstArguments nest) front t name text is = tt
-template-takes opens.NameArguments front t name text is = tt
+template-takes (opens.NameArguments from) front t name text is = tt
 template-takes _ front t name text is = absurd is
 
 argument-stands : (s : List ℕ) (owner : Open) (rest : List Open) (os : List Opened) (text : List ℕ) → TakesArguments owner
@@ -583,7 +591,7 @@ argument-stands : (s : List ℕ) (owner : Open) (rest : List Open) (os : List Op
 argument-stands s (opens.TypeArguments from) rest os text takes p = p
 argument-stands s (opens.NestArguments nest) rest os text takes p = p
 argument-stands s (opens.FirstArguments nest) rest os text takes p = p
-argument-stands s opens.NameArguments rest os text takes p = p
+argument-stands s (opens.NameArguments from) rest os text takes p = p
 argument-stands s _ rest os text takes p = absurd takes
 
 -- it stands open so
@@ -669,7 +677,7 @@ list-waits s opens.Pack (owner ∷ rest) os text takes p = record {
 list-waits s (opens.TypeArguments from) rest os text takes p = waits-of s (opens.TypeArguments from) rest os text p
 list-waits s (opens.NestArguments nest) rest os text takes p = waits-of s (opens.NestArguments nest) rest os text p
 list-waits s (opens.FirstArguments nest) rest os text takes p = waits-of s (opens.FirstArguments nest) rest os text p
-list-waits s opens.NameArguments rest os text takes p = waits-of s opens.NameArguments rest os text p
+list-waits s (opens.NameArguments from) rest os text takes p = waits-of s (opens.NameArguments from) rest os text p
 list-waits s _ rest os text takes p = absurd takes
 
 -- an element may be a type
@@ -733,7 +741,7 @@ enumerator-stands s opened text os p ts texts elements written onward = go p.lis
         of-arguments (opens.TypeArguments from) takes e = e
         of-arguments (opens.NestArguments nest) takes e = e
         of-arguments (opens.FirstArguments nest) takes e = e
-        of-arguments opens.NameArguments takes e = e
+        of-arguments (opens.NameArguments from) takes e = e
         of-arguments _ takes e = absurd takes
     go (of_pack before written_) is =
         let belongs = subst (λ l. Belongs l opened p.owner p.rest) is p.belongs in

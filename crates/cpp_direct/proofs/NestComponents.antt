@@ -172,6 +172,7 @@ named-again s old new p g at from to unlisted classless no_instance =
       no_instance = no_instance;
       no_return = p.no_return;
       structor = λ e. p.structor;
+      no_structor = λ e. absurd (false≢true (sym classless ∙ e));
       serves = serves-go s old new p.class p.outer p.front g p.serves;
     }
 
@@ -237,6 +238,7 @@ piece-named s old new st t piece x front bytes around outer candidates before is
       no_instance = no_instance;
       no_return = refl;
       structor = λ e. absurd (false≢true (sym e ∙ has));
+      no_structor = λ e. is_piece.no_structor t;
       serves = serves-go s old new (m ++ x) outer front g serves;
     }
 

@@ -9,7 +9,7 @@ use Rattle.cpp_grammar.specs.Grammar.{among, may_be_empty}
 use Rattle.cpp_grammar.specs.Term.{Term, alone, in_std, source, abbreviation, instance, any_value}
 use Rattle.cpp_grammar.specs.Texts.{Naming, look_up, abbreviation_texts, same_bytes}
 use Rattle.cpp_grammar.specs.Parts.{source_text}
-use Rattle.cpp_grammar.specs.Scope.{has_return_type, arguments_of}
+use Rattle.cpp_grammar.specs.Scope.{has_return_type, arguments_of, is_structor}
 use Rattle.cpp_grammar.specs.Values.{State, Around, tree, named, tree_of, qualifiers_of, ref_of}
 use Rattle.cpp_grammar.specs.Between.{after, inside, no_items}
 use Rattle.cpp_direct.specs.declared.open.Candidate.{Candidate}
@@ -99,6 +99,7 @@ named-goes-on s w n = record {
       serves = n.serves;
     },
     (λ e. n.no_return),
+    (λ e. absurd (false≢true (sym n.no_instance ∙ e))),
   );
 }
 
@@ -112,7 +113,7 @@ named-opens s old mid new n here keeps opening_ =
     list-begins s old mid new (added old old.nest.from false) (with_candidate e n.own n.state) (opens.NestArguments old.nest) n.front n.bytes n.own
     keeps (subst (λ x. OpensArguments mid new (opens.NestArguments x)) keeps.nest opening_)
     (candidates-with old n.state n.front n.bytes old.nest.from n.own e false n.candidates n.written n.is_nest.from_is n.is_nest.prints)
-    (nest-stays n.front n.bytes old.text.list.items (codes "<") old.nest n.own n.is_nest, n.structor) n.written (
+    (nest-stays n.front n.bytes old.text.list.items (codes "<") old.nest n.own n.is_nest, n.structor, n.no_structor) n.written (
       inside n.around,
       begun.inner,
       refl,
@@ -232,10 +233,11 @@ type-ended s old new st t candidates n here is_type keeps =
 -- it is the name of the encoding
 pub name-comes : (s : List ℕ) (old : Direct) (st : State) (t : Term) (is_const : Bool)
     → AreCandidates old.text.list.items old.candidates.list.items st.candidates → IsNesting s Kind.NestTail old t st
-    → (old.nest.is_instance ≡ false → has_return_type t ≡ false) → StandsAt s old.at (69 ∷ [])
-    → old.nest.purpose ≡ purposes.Name is_const → IsNameEnded s (record old { at = old.at + 1 }) is_const old.nest.is_instance
+    → (old.nest.is_instance ≡ false → has_return_type t ≡ false) → (old.nest.is_instance ≡ true → has_return_type t ≡ true)
+    → StandsAt s old.at (69 ∷ [])
+    → old.nest.purpose ≡ purposes.Name is_const → IsNameEnded s (record old { at = old.at + 1 }) is_const old.nest.is_instance old.nest.from
 unfolding tree_of qualifiers_of ref_of
-name-comes s old st t is_const candidates n no_return here is_name =
+name-comes s old st t is_const candidates n no_return returns here is_name =
     let serves = subst (λ p. Serves s p (Stands s (reverse old.waiting.list.items)) n.outer n.front) is_name n.serves in
     record {
       state = st;
@@ -248,8 +250,10 @@ name-comes s old st t is_const candidates n no_return here is_name =
       lead = n.front;
       name = n.bytes;
       written = n.written;
+      from_is = n.is_nest.from_is;
       prints = n.is_nest.prints;
       no_return = no_return;
+      returns = returns;
       awaits = serves t old.nest.is_listed (old.at + 1) st (nest-comes s old st t n here);
     }
 
@@ -423,7 +427,7 @@ pub std-begins : (s : List ℕ) (old mid : Direct) (purpose : Purpose) (before :
     → mid.text.list.items ≡ old.text.list.items ++ codes "std::" ++ source_text name → mid.candidates ≡ old.candidates → mid.waiting ≡ old.waiting
     → (from class_from to : ℕ) → from ≡ length old.text.list.items → class_from ≡ length (old.text.list.items ++ codes "std::") → to ≡ length mid.text.list.items
     → IsNestNamed s (record mid { nest = nest_of from class_from to purpose false true })
-unfolding has_return_type arguments_of
+unfolding has_return_type arguments_of is_structor
 std-begins s old mid purpose before name a here is filled text_is candidates_are waiting_is from class_from to from_is class_from_is to_is =
     let nest = nest_of from class_from to purpose false true in
     let t : Term = in_std (source false name) in
@@ -449,6 +453,7 @@ std-begins s old mid purpose before name a here is filled text_is candidates_are
       no_instance = refl;
       no_return = refl;
       structor = λ e. absurd (false≢true (sym e));
+      no_structor = λ e. refl;
       serves = subst (λ o. Serves s purpose (Stands s (reverse o.list.items)) a.outer old.text.list.items) (sym waiting_is) a.serves;
     }
 

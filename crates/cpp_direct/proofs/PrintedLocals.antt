@@ -14,7 +14,7 @@ use Rattle.cpp_direct.specs.Prints.{in_form, Shows, Encloses, list_of}
 use Rattle.cpp_direct.proofs.PrintedParts.{printed_by, prints_parts, text_by, cost_by}
 use Rattle.cpp_direct.proofs.PrintedNames.{piece-text, piece-cost}
 use Rattle.cpp_direct.proofs.PrintedNests.{joins}
-use Rattle.cpp_direct.proofs.PrintedSymbols.{encoding-function, encoding-void, encoding-object}
+use Rattle.cpp_direct.proofs.PrintedSymbols.{encoding-object}
 
 -- ## Encodings in front of an entity
 
@@ -30,7 +30,8 @@ encloses-as t b same front p = record {
   bare_cost = omega (arith, p.shown_cost, ap cost_of (bare-same t same));
 }
 
-function-encloses : (name : Term) (q : Qualifiers) (ref : RefQualifier) (items : Term) (b : List ℕ)
+-- So do functions that have no return type.
+pub function-encloses : (name : Term) (q : Qualifiers) (ref : RefQualifier) (items : Term) (b : List ℕ)
     → Shows (function name q ref absent items) b → Encloses (function name q ref absent items) b
 unfolding bare_parts full_parts function_full prefix_item
 function-encloses name q ref items b p = encloses-as (function name q ref absent items) b refl (λ c. refl) p
@@ -44,20 +45,6 @@ pub object-enclosing : (v : Value) (b : List ℕ) → Shows (encoding_of v nil) 
 object-enclosing v b p =
     let e = encoding-object v in
     subst (λ t. Encloses t b) (sym e) (object-encloses (tree_of v) (qualifiers_of v) (ref_of v) b (subst (λ t. Shows t b) e p))
-
--- So do functions without parameters that have no return type.
-pub void-enclosing : (v : Value) (b : List ℕ) → has_return_type (tree_of v) ≡ false
-    → Shows (encoding_of v (list_of (builtin (118 ∷ []) ∷ []))) b → Encloses (encoding_of v (list_of (builtin (118 ∷ []) ∷ []))) b
-void-enclosing v b none p =
-    let e = encoding-void v none in
-    subst (λ t. Encloses t b) (sym e) (function-encloses (tree_of v) (qualifiers_of v) (ref_of v) nil b (subst (λ t. Shows t b) e p))
-
--- And those with parameters.
-pub function-enclosing : (v : Value) (ts : List Term) (b : List ℕ) → has_return_type (tree_of v) ≡ false → ts ≢ []
-    → parameters (list_of ts) ≡ list_of ts → Shows (encoding_of v (list_of ts)) b → Encloses (encoding_of v (list_of ts)) b
-function-enclosing v ts b none filled kept p =
-    let e = encoding-function v ts none filled kept in
-    subst (λ t. Encloses t b) (sym e) (function-encloses (tree_of v) (qualifiers_of v) (ref_of v) (list_of ts) b (subst (λ t. Shows t b) e p))
 
 -- ## Entities
 

@@ -3,7 +3,7 @@ use Rattle.std.proofs.Common.{◌≡◌, ◌≢◌, refl, ap, sym, ◌∙◌, �
 use Rattle.sym_print.specs.Unfold.{text}
 use Rattle.sym_print.specs.Unshared.{text_of, cost_of}
 use Rattle.cpp_grammar.specs.Term.{Term, within, instance, source, operator, constructor, destructor}
-use Rattle.cpp_grammar.specs.Scope.{is_open, pack_length, first_of}
+use Rattle.cpp_grammar.specs.Scope.{is_open, pack_length, first_of, is_structor}
 use Rattle.cpp_grammar.specs.References.{is_function_type}
 use Rattle.cpp_grammar.specs.Texts.{look_up, operator_texts, same_bytes}
 use Rattle.cpp_grammar.specs.Items.{left, right, base, piece, first, Context, head_with, head, is_reference, is_funarr, is_empty}
@@ -31,10 +31,11 @@ pub record IsPiece (p : Term) (x : List ℕ) : Type 0 where
   pub is_closed : is_open p ≡ false
   pub packless : (scope : Term) → pack_length scope p ≡ None
   pub opening : opening_text p ≡ codes "<"
+  pub no_structor : (t : Term) → is_structor (within t p) ≡ false
 
 -- a source name is one
 pub source-piece : (internal : Bool) (name : List ℕ) → name ≢ [] → IsPiece (source internal name) (source_text name)
-unfolding within_parts base_within piece_parts is_open pack_length opening_text
+unfolding within_parts base_within piece_parts is_open pack_length opening_text is_structor
 source-piece internal name filled = record {
   piece_text = λ c. piece-text c internal name;
   piece_cost = λ c. piece-cost c internal name;
@@ -44,12 +45,13 @@ source-piece internal name filled = record {
   is_closed = refl;
   packless = λ scope. refl;
   opening = refl;
+  no_structor = λ t. refl;
 }
 
 -- and so is an operator, but for << and <, behind which a blank stands before arguments
 pub operator-piece : (a b : ℕ) → same_bytes (a ∷ b ∷ []) (codes "ls") || same_bytes (a ∷ b ∷ []) (codes "lt") ≡ false
     → IsPiece (operator a b) (codes "operator" ++ look_up (a ∷ b ∷ []) operator_texts)
-unfolding within_parts base_within piece_parts is_open pack_length opening_text
+unfolding within_parts base_within piece_parts is_open pack_length opening_text is_structor
 operator-piece a b plain = record {
   piece_text = λ c. operator-text c a b;
   piece_cost = λ c. operator-cost c a b;
@@ -59,6 +61,7 @@ operator-piece a b plain = record {
   is_closed = refl;
   packless = λ scope. refl;
   opening = rw plain refl;
+  no_structor = λ t. refl;
 }
 
 within-is : (c : Context) (t p : Term) (x : List ℕ) → IsPiece p x → prefix_item c t ≡ as_item left c t

@@ -9,9 +9,10 @@ use Rattle.cpp_grammar.specs.Texts.{look_up, special_texts}
 use Rattle.cpp_grammar.specs.Items.{root, full, left, right, first, closed}
 use Rattle.cpp_grammar.specs.Values.{Value, tree_of, qualifiers_of, ref_of}
 use Rattle.cpp_grammar.specs.Meaning.{is_void, is_nil, parameters, encoding_of}
-use Rattle.cpp_grammar.specs.Parts.{as_item, says, text_part, list_part, types_of, qualifier_text, ref_text, encoding_text, function_bare, function_full, thunk_text, full_parts, root_parts, parts_in, not_empty}
+use Rattle.cpp_grammar.specs.Parts.{as_item, says, text_part, list_part, types_of, qualifier_text, ref_text, encoding_text, function_bare, function_full, thunk_text, full_parts, left_parts, root_parts, parts_in, not_empty}
 use Rattle.cpp_grammar.specs.Answer.{shown, root_item}
 use Rattle.cpp_direct.specs.Prints.{in_form, Prints, Shows, list_of, joined, PrintEach, PrintAll}
+use Rattle.cpp_direct.specs.Stands.{qualifiers, plain_encoding}
 use Rattle.cpp_direct.proofs.PrintedParts.{printed_by, text_by, cost_by, text_first, cost_first, text_append, cost_append, part-text, part-cost, length-filled}
 use Rattle.cpp_direct.proofs.PrintedLists.{list-text, list-cost, none-print}
 
@@ -47,6 +48,53 @@ function-shows name b p ts l all q ref =
         length-append (b ++ codes "(" ++ l) (codes ")"),
         length-append (b ++ codes "(") l,
         length-append b (codes "("),
+      );
+    }
+
+-- what prints something is there
+not-absent : (t : Term) (b : List ℕ) (r : Bool) → Prints t b r → t ≡ absent → ⊥
+unfolding parts_in left_parts not_empty
+not-absent t b r p e =
+    let none : b ≡ [] = sym (p.left_text closed) ∙ ap (λ u. text_of (in_form left closed u)) e ∙ text_by left closed absent [] refl in
+    omega (arith, p.cost closed, ap length none)
+
+returned_parts : (name : Term) (q : Qualifiers) (ref : RefQualifier) (r items : Term) → (r ≡ absent → ⊥)
+    → parts_in Full closed full (function name q ref r items)
+    ≡ (as_item left (types_of name) r ∷ says " " ∷ []) ++ function_bare true name q ref items ++ (as_item right (types_of name) r ∷ [])
+unfolding parts_in full_parts function_full
+returned_parts name q ref absent items there = absurd (there refl)
+returned_parts name q ref _ items there = refl
+
+fronted_text : (x y z b l : List ℕ) → x ≡ b → y ≡ l → z ≡ [] → (x ++ (codes " " ++ [])) ++ y ++ (z ++ []) ≡ b ++ codes " " ++ l
+fronted_text x y z b l e f g = rw (e, f, g) (append-nil (b ++ codes " " ++ l))
+
+-- A function that has a return type prints it in front of what it prints without.
+pub front-shows : (name : Term) (q : Qualifiers) (ref : RefQualifier) (items : Term) (l : List ℕ) → Shows (function name q ref absent items) l
+    → (r : Term) (b : List ℕ) (is_reference : Bool) → Prints r b is_reference → Shows (function name q ref r items) (b ++ codes " " ++ l)
+unfolding parts_in full_parts function_full not_empty
+front-shows name q ref items l shows r b is_reference p =
+    let c = types_of name in
+    let f = function name q ref r items in
+    let plain = function name q ref absent items in
+    let front = as_item left c r ∷ says " " ∷ [] in
+    let middle = function_bare true name q ref items in
+    let behind = as_item right c r ∷ [] in
+    let is = returned_parts name q ref r items (not-absent r b is_reference p) in
+    record {
+      shown_text = text_by full closed f (front ++ middle ++ behind) is ∙ text_append (front ++ middle) behind
+          ∙ ap (λ x. x ++ text_of (printed_by behind)) (text_append front middle)
+          ∙ fronted_text (text_of (in_form left c r)) (text_of (printed_by middle)) (text_of (in_form right c r)) b l (p.left_text c)
+          (sym (text_by full closed plain middle refl) ∙ shows.shown_text) (p.right_text c);
+      shown_cost = omega (
+        arith,
+        p.cost c,
+        shows.shown_cost,
+        cost_by full closed f (front ++ middle ++ behind) is,
+        cost_by full closed plain middle refl,
+        cost_append (front ++ middle) behind,
+        cost_append front middle,
+        length-append (b ++ codes " ") l,
+        length-append b (codes " "),
       );
     }
 
@@ -140,44 +188,52 @@ parameters-kept (t ∷ []) l all apart = parameters-same t nil (λ e f. go all.0
     go (b ∷ []) each is e = apart (sym is ∙ each.0.void e)
     go (b ∷ c ∷ bs) each is e = elim each.1 [ ]
 
--- A name with items is a function.
-pub encoding-function : (v : Value) (ts : List Term) → has_return_type (tree_of v) ≡ false → ts ≢ [] → parameters (list_of ts) ≡ list_of ts
-    → encoding_of v (list_of ts) ≡ function (tree_of v) (qualifiers_of v) (ref_of v) absent (list_of ts)
+plain-items : (v : Value) → has_return_type (tree_of v) ≡ false → (t rest : Term)
+    → encoding_of v (list t rest) ≡ function (tree_of v) (qualifiers_of v) (ref_of v) absent (parameters (list t rest))
 unfolding encoding_of
-encoding-function v [] e filled kept = absurd (filled refl)
-encoding-function v (t ∷ ts) e filled kept = rw (e, encoding_of) (ap (function (tree_of v) (qualifiers_of v) (ref_of v) absent) kept)
+plain-items v e t rest = rw (e, encoding_of) refl
 
--- A name with a lone void is a function without parameters.
-pub encoding-void : (v : Value) → has_return_type (tree_of v) ≡ false
-    → encoding_of v (list_of (builtin (118 ∷ []) ∷ [])) ≡ function (tree_of v) (qualifiers_of v) (ref_of v) absent nil
-unfolding encoding_of parameters is_void is_nil
-encoding-void v e = rw (e, encoding_of) refl
+returned-items : (v : Value) → has_return_type (tree_of v) ≡ true → (r items : Term)
+    → encoding_of v (list r items) ≡ function (tree_of v) (qualifiers_of v) (ref_of v) r (parameters items)
+unfolding encoding_of
+returned-items v e r items = rw (e, encoding_of) refl
+
+-- A name that has no return type makes a function without one of its items.
+pub encoding-plain : (v : Value) (is_const : Bool) (own : Term) → tree_of v ≡ own → qualifiers_of v ≡ qualifiers is_const → ref_of v ≡ any_value
+    → has_return_type own ≡ false → (t rest : Term) → encoding_of v (list t rest) ≡ plain_encoding is_const own (list t rest)
+encoding-plain v is_const own e f g none t rest = plain-items v (ap has_return_type e ∙ none) t rest ∙ rw (e, f, g) refl
+
+-- Of a name that has one the first item is the return type.
+pub encoding-returned : (v : Value) (is_const : Bool) (own : Term) → tree_of v ≡ own → qualifiers_of v ≡ qualifiers is_const → ref_of v ≡ any_value
+    → has_return_type own ≡ true → (r items : Term) → encoding_of v (list r items) ≡ function own (qualifiers is_const) any_value r (parameters items)
+encoding-returned v is_const own e f g returns r items = returned-items v (ap has_return_type e ∙ returns) r items ∙ rw (e, f, g) refl
+
+-- Parameters that aren't a lone void are those of the function that they make.
+pub made-with : (is_const : Bool) (own : Term) (make : Term → Term) → ((t rest : Term) → make (list t rest) ≡ plain_encoding is_const own (list t rest))
+    → (ts : List Term) → ts ≢ [] → parameters (list_of ts) ≡ list_of ts
+    → make (list_of ts) ≡ function own (qualifiers is_const) any_value absent (list_of ts)
+made-with is_const own make makes [] some kept = absurd (some refl)
+made-with is_const own make makes (t ∷ ts) some kept = makes t (list_of ts) ∙ ap (function own (qualifiers is_const) any_value absent) kept
+
+-- A lone void makes a function without parameters.
+pub made-void : (is_const : Bool) (own : Term) (make : Term → Term) → ((t rest : Term) → make (list t rest) ≡ plain_encoding is_const own (list t rest))
+    → make (list_of (builtin (118 ∷ []) ∷ [])) ≡ function own (qualifiers is_const) any_value absent nil
+unfolding parameters is_void is_nil
+made-void is_const own make makes = makes (builtin (118 ∷ [])) nil
 
 -- A name without items is data.
 pub encoding-object : (v : Value) → encoding_of v nil ≡ object (tree_of v) (qualifiers_of v) (ref_of v)
 unfolding encoding_of
 encoding-object v = refl
 
--- The encoding of a name with items shows the name, the items and the qualifiers.
-pub function-encoded : (v : Value) (b : List ℕ) → Prints (tree_of v) b false → has_return_type (tree_of v) ≡ false
-    → (ts : List Term) (l : List ℕ) → ts ≢ [] → PrintAll 0 ts l → parameters (list_of ts) ≡ list_of ts
-    → Shows (encoding_of v (list_of ts)) (b ++ codes "(" ++ l ++ codes ")" ++ encoding_text (qualifiers_of v) (ref_of v))
-function-encoded v b p e ts l filled all kept =
-    subst (λ f. Shows f (b ++ codes "(" ++ l ++ codes ")" ++ encoding_text (qualifiers_of v) (ref_of v))) (sym (encoding-function v ts e filled kept))
-    (function-shows (tree_of v) b p ts l all (qualifiers_of v) (ref_of v))
-
 none_bracketed : (b q : List ℕ) → b ++ codes "(" ++ [] ++ codes ")" ++ q ≡ b ++ codes "()" ++ q
 none_bracketed b q = ap (λ s. s ++ codes ")" ++ q) (append-nil (b ++ codes "(")) ∙ ap (λ s. s ++ q) (append_assoc b (codes "(") (codes ")"))
 
--- With a lone void it shows no items.
-pub void-encoded : (v : Value) (b : List ℕ) → Prints (tree_of v) b false → has_return_type (tree_of v) ≡ false
-    → Shows (encoding_of v (list_of (builtin (118 ∷ []) ∷ []))) (b ++ codes "()" ++ encoding_text (qualifiers_of v) (ref_of v))
-void-encoded v b p e =
-    let q = encoding_text (qualifiers_of v) (ref_of v) in
-    subst (λ f. Shows f (b ++ codes "()" ++ q)) (sym (encoding-void v e))
-    (subst (Shows (function (tree_of v) (qualifiers_of v) (ref_of v) absent nil))
-    (none_bracketed b q)
-    (function-shows (tree_of v) b p [] [] (none-print 0) (qualifiers_of v) (ref_of v)))
+-- A function without parameters shows its name and its qualifiers.
+pub void-shows : (name : Term) (b : List ℕ) → Prints name b false → (q : Qualifiers) (ref : RefQualifier)
+    → Shows (function name q ref absent nil) (b ++ codes "()" ++ encoding_text q ref)
+void-shows name b p q ref =
+    subst (λ l. Shows (function name q ref absent nil) l) (none_bracketed b (encoding_text q ref)) (function-shows name b p [] [] (none-print 0) q ref)
 
 -- Without items it shows the name.
 pub object-encoded : (v : Value) (b : List ℕ) → Prints (tree_of v) b false

@@ -366,14 +366,14 @@ function-handed s old new is_pointer o p text candidates waits at found =
     }
 
 -- what takes a function type, and isn't the parameters of an encoding, takes elements
-pub takes-as-element : (o : Open) (rest ws : List Open) → ws ≡ o ∷ rest → TakesFunction ws → ((x : Bool) → o ≡ opens.Parameters x → ⊥) → TakesElements o
+pub takes-as-element : (o : Open) (rest ws : List Open) → ws ≡ o ∷ rest → TakesFunction ws → ((x : Bool) (y : ℕ) → o ≡ opens.Parameters x y → ⊥) → TakesElements o
 takes-as-element o rest ws is takes apart = go o (subst TakesFunction is takes) apart
   where
-    go : (o : Open) → TakesFunction (o ∷ rest) → ((x : Bool) → o ≡ opens.Parameters x → ⊥) → TakesElements o
+    go : (o : Open) → TakesFunction (o ∷ rest) → ((x : Bool) (y : ℕ) → o ≡ opens.Parameters x y → ⊥) → TakesElements o
     go (opens.TypeArguments from) takes apart = tt
     go (opens.NestArguments nest) takes apart = tt
     go (opens.FirstArguments nest) takes apart = tt
-    go opens.NameArguments takes apart = tt
+    go (opens.NameArguments from) takes apart = tt
     go opens.Pack takes apart = tt
-    go (opens.Parameters x) takes apart = absurd (apart x refl)
+    go (opens.Parameters x y) takes apart = absurd (apart x y refl)
     go _ takes apart = absurd takes

@@ -6,7 +6,7 @@ use Rattle.sym_demangle.specs.Mangled.{StandsFor}
 use Rattle.cpp_grammar.specs.declared.kind.Kind.{Kind}
 use Rattle.cpp_grammar.specs.Mangled.{cpp_mangled}
 use Rattle.cpp_grammar.specs.Answer.{shown, root_item}
-use Rattle.cpp_grammar.specs.Term.{Term, Qualifiers, any_value, symbol, special, pointer, lvalue, rvalue, qualified, instance, integer, pack, nil, list}
+use Rattle.cpp_grammar.specs.Term.{Term, Qualifiers, any_value, symbol, function, special, pointer, lvalue, rvalue, qualified, instance, integer, pack, nil, list, absent}
 use Rattle.cpp_grammar.specs.Parts.{source_text}
 use Rattle.cpp_grammar.specs.Texts.{look_up, special_texts}
 use Rattle.cpp_grammar.specs.Scope.{has_return_type, is_structor}
@@ -14,7 +14,7 @@ use Rattle.cpp_grammar.specs.References.{is_function_type}
 use Rattle.cpp_grammar.specs.Values as values
 use Rattle.cpp_grammar.specs.Values.{State, Around, Value, tree, named, outermost, tree_of, qualifiers_of, ref_of, signed_digits}
 use Rattle.cpp_grammar.specs.Between.{no_items}
-use Rattle.cpp_grammar.specs.Meaning.{encoding_of}
+use Rattle.cpp_grammar.specs.Meaning.{parameters, encoding_of}
 use Rattle.cpp_direct.specs.declared.open.Candidate.{Candidate}
 use Rattle.cpp_direct.specs.declared.open.Nest.{Nest}
 use Rattle.cpp_direct.specs.declared.open.Purpose.{Purpose}
@@ -127,23 +127,33 @@ abbrev pub in_front_of_next : List Term → List ℕ → List ℕ
 in_front_of_next [] l = l
 in_front_of_next (t ∷ ts) l = l ++ codes ", "
 
--- parameters go on behind these, of an encoding behind a text
-pub record ParametersGoOn (s : List ℕ) (lead : List ℕ) (v : Value) (ts : List Term) (at : ℕ) (st : State) : Type 0 where
+-- Parameters go on behind these, of an encoding behind a text. All of them make this encoding.
+pub record ParametersGoOn (s : List ℕ) (lead : List ℕ) (make : Term → Term) (ts : List Term) (at : ℕ) (st : State) : Type 0 where
   pub around : Around
   pub inner : List Opened
   pub outside : around.prefix ≡ outermost
   pub awaits : Expects s Kind.Items around inner at st
-  pub onward : (l : Value) (at : ℕ) (st : State) → Comes s inner l at st → EncodedBehind s lead (encoding_of v (list_with ts (no_items l))) at
+  pub onward : (l : Value) (at : ℕ) (st : State) → Comes s inner l at st → EncodedBehind s lead (make (list_with ts (no_items l))) at
 
--- the name of a function with parameters: its text and that of the parameters so far
-pub record IsFunction (is_const : Bool) (v : Value) (ts : List Term) (name parameters : List ℕ) : Type 0 where
+-- a function of this name and these items, without a return type
+abbrev pub plain_encoding : (is_const : Bool) → (own : Term) → (items : Term) → Term
+plain_encoding is_const own items = function own (qualifiers is_const) any_value absent (parameters items)
+
+-- A function's name and the parameters so far, with their texts. All parameters make a function that has no return type.
+pub record IsFunction (is_const : Bool) (make : Term → Term) (ts : List Term) (name texts : List ℕ) : Type 0 where
+  pub own : Term
+  pub makes : (t rest : Term) → make (list t rest) ≡ plain_encoding is_const own (list t rest)
+  pub prints : Prints own name false
+  pub elements : PrintAll 0 ts texts
+
+-- the name of a function that has a return type, and its text
+pub record IsInstance (is_const : Bool) (v : Value) (name : List ℕ) : Type 0 where
   pub own : Term
   pub tree_is : tree_of v ≡ own
   pub qualifiers_are : qualifiers_of v ≡ qualifiers is_const
   pub mark_is : ref_of v ≡ any_value
   pub prints : Prints own name false
-  pub no_return : has_return_type own ≡ false
-  pub elements : PrintAll 0 ts parameters
+  pub returns : has_return_type own ≡ true
 
 -- ## What is open
 
@@ -174,7 +184,7 @@ Owns s (opens.NestArguments nest) below front u at st =
 Owns s (opens.FirstArguments nest) below front u at st =
     (around : Around) × (outer : List Opened) × AwaitsComponent s outer around u at (with_candidate around.encoding u st)
     × Serves s nest.purpose below outer front
-Owns s opens.NameArguments below front u at st = AwaitsItems s front (tree u false) at st
+Owns s (opens.NameArguments from) below front u at st = AwaitsItems s front (tree u false) at st
 Owns s _ below front u at st = ⊥
 
 -- elements go on behind these, up to an E, and what becomes of the list that they make
@@ -224,8 +234,10 @@ abbrev pub IsTemplate : Open → (front : List ℕ) → Term → (name : List �
 IsTemplate (opens.TypeArguments from) front template name text = (from ≡ length front) × Prints template name false
 IsTemplate (opens.NestArguments nest) front template name text =
     IsNest front name text nest template × (nest.has_class ≡ false → is_structor template ≡ true)
+    × (nest.has_class ≡ true → is_structor template ≡ false)
 IsTemplate (opens.FirstArguments nest) front template name text = IsNest front name text nest template
-IsTemplate opens.NameArguments front template name text = Prints template name false
+IsTemplate (opens.NameArguments from) front template name text =
+    (from ≡ length front) × Prints template name false × (is_structor template ≡ false)
 IsTemplate _ front template name text = ⊥
 
 -- a type comes as an element
@@ -277,9 +289,9 @@ abbrev pub TakesFunction : List Open → Type 0
 TakesFunction (opens.TypeArguments from ∷ rest) = Unit {0}
 TakesFunction (opens.NestArguments nest ∷ rest) = Unit {0}
 TakesFunction (opens.FirstArguments nest ∷ rest) = Unit {0}
-TakesFunction (opens.NameArguments ∷ rest) = Unit {0}
+TakesFunction (opens.NameArguments from ∷ rest) = Unit {0}
 TakesFunction (opens.Pack ∷ rest) = Unit {0}
-TakesFunction (opens.Parameters is_const ∷ rest) = Unit {0}
+TakesFunction (opens.Parameters is_const start ∷ rest) = Unit {0}
 TakesFunction _ = ⊥
 
 -- A type comes for the last of the open ones, behind what is written.
@@ -289,11 +301,14 @@ Stands s (opens.Pointer from ∷ rest) os text = Marks s (Stands s rest) os text
 Stands s (opens.Lvalue from ∷ rest) os text = Marks s (Stands s rest) os text from lvalue
 Stands s (opens.Rvalue from ∷ rest) os text = Marks s (Stands s rest) os text from rvalue
 Stands s (opens.Const from ∷ rest) os text = Marks s (Stands s rest) os text from (qualified (qualifiers true))
-Stands s (opens.Parameters is_const ∷ rest) os text =
-    (lead : List ℕ) × (v : Value) × (ts : List Term) × (name : List ℕ) × (parameters : List ℕ)
-    × IsFunction is_const v ts name parameters
-    × (text ≡ lead ++ name ++ codes "(" ++ in_front_of_next ts parameters)
-    × ((t : Term) (at : ℕ) (st : State) → Comes s os (tree t true) at st → ParametersGoOn s lead v (ts ++ t ∷ []) at st)
+Stands s (opens.Front is_const start ∷ rest) os text =
+    (v : Value) × IsInstance is_const v text × (is_local s ≡ false) × (start ≡ length text)
+    × ((t : Term) (at : ℕ) (st : State) → Comes s os (tree t true) at st → ParametersGoOn s [] (encoding_of v) (t ∷ []) at st)
+Stands s (opens.Parameters is_const start ∷ rest) os text =
+    (aside : List ℕ) × (lead : List ℕ) × (make : Term → Term) × (ts : List Term) × (name : List ℕ) × (texts : List ℕ)
+    × IsFunction is_const make ts name texts × (start ≡ length aside)
+    × (text ≡ aside ++ lead ++ name ++ codes "(" ++ in_front_of_next ts texts)
+    × ((t : Term) (at : ℕ) (st : State) → Comes s os (tree t true) at st → ParametersGoOn s lead make (ts ++ t ∷ []) at st)
 Stands s (opens.Returned is_pointer ∷ rest) os text =
     (outer : List Opened) × (e : ℕ)
     × ((r : Term) (at : ℕ) (st : State) → Comes s os (tree r true) at st → SignatureGoesOn s outer e is_pointer (λ l. plain_function r l) at st)
@@ -351,7 +366,9 @@ IsBefore s w st (steps.List is_first) =
     × (is_first ≡ true → ts ≡ []) × (is_first ≡ false → ts ≢ [])
     × GoesOn s place.listing place.owner (Stands s place.rest) place.front place.template ts w.at st
 IsBefore s w st steps.Rest = (t : Term) × IsNesting s Kind.NestRest w t st
-IsBefore s w st steps.Tail = (t : Term) × IsNesting s Kind.NestTail w t st × (w.nest.is_instance ≡ false → has_return_type t ≡ false)
+IsBefore s w st steps.Tail =
+    (t : Term) × IsNesting s Kind.NestTail w t st × (w.nest.is_instance ≡ false → has_return_type t ≡ false)
+    × (w.nest.is_instance ≡ true → has_return_type t ≡ true)
 IsBefore s w st steps.Component =
     (t : Term) × (front : List ℕ) × (bytes : List ℕ) × (around : Around) × (outer : List Opened)
     × (w.text.list.items ≡ front ++ bytes) × IsNest front bytes w.text.list.items w.nest t × AwaitsComponent s outer around t w.at st × Serves s w.nest.purpose (Stands s (reverse w.waiting.list.items)) outer front

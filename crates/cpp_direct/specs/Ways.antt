@@ -5,6 +5,7 @@ use Rattle.cpp_grammar.specs.Term.{Term, Signed, any_value, instance, builtin}
 use Rattle.cpp_grammar.specs.Texts.{look_up, builtin_texts, literal_endings}
 use Rattle.cpp_grammar.specs.Parts.{is_plain_integer}
 use Rattle.cpp_grammar.specs.Scope.{has_return_type, is_structor}
+use Rattle.cpp_grammar.specs.Meaning.{encoding_of}
 use Rattle.cpp_grammar.specs.Values.{State, Around, Value, tree, outermost, tree_of, qualifiers_of, ref_of}
 use Rattle.cpp_direct.specs.declared.open.Purpose.{Purpose}
 use Rattle.cpp_direct.specs.declared.open.Open.{Open}
@@ -15,7 +16,7 @@ use Rattle.cpp_direct.specs.Holes.{Opened, StandsAt, Comes, Expects, IsReferable
 use Rattle.cpp_direct.specs.HolesOfFunctions.{SignatureGoesOn, plain_function, pointed, with_pointed}
 use Rattle.cpp_direct.specs.HolesOfTypes.{IsNamedKind, NoReference, TreeOpens}
 use Rattle.cpp_direct.specs.Prints.{Prints, IsElement, PrintAll, Shows, Encloses, sign_text}
-use Rattle.cpp_direct.specs.Stands.{AreCandidates, AwaitsItems, Encoded, EncodedBehind, IsFunction, IsListing, IsNest, IsTail, IsTemplate, GoesOn, EnumeratorGoesOn, Owns, ParametersGoOn, Serves, Stands, TakesFunction, opening_text, qualifiers, extra_of, led_by, list_with, in_front_of_next}
+use Rattle.cpp_direct.specs.Stands.{AreCandidates, AwaitsItems, Encoded, EncodedBehind, IsFunction, IsInstance, IsListing, IsNest, IsTail, IsTemplate, GoesOn, EnumeratorGoesOn, Owns, ParametersGoOn, Serves, Stands, TakesFunction, opening_text, qualifiers, extra_of, led_by, list_with, in_front_of_next}
 
 -- what stands behind the parameters of a member function
 abbrev pub const_text : (is_const : Bool) → List ℕ
@@ -130,6 +131,7 @@ pub record IsNestNamed (s : List ℕ) (w : Direct) : Type 0 where
   pub no_instance : w.nest.is_instance ≡ false
   pub no_return : has_return_type own ≡ false
   pub structor : w.nest.has_class ≡ false → is_structor own ≡ true
+  pub no_structor : w.nest.has_class ≡ true → is_structor own ≡ false
   pub serves : Serves s w.nest.purpose (Stands s (reverse w.waiting.list.items)) outer front
 
 -- A constructor or a destructor was read, and was written but for the name of its class.
@@ -202,8 +204,8 @@ pub record AwaitsNumber (s : List ℕ) (w : Direct) : Type 0 where
   pub written : w.text.list.items ≡ led_by place.listing place.front place.name ++ in_front_of_next ts texts ++ codes "(" ++ bytes
   pub goes : EnumeratorGoesOn s place.listing place.owner (Stands s place.rest) place.front place.template ts type w.at state
 
--- The name of an encoding was read and written, but for its qualifier.
-pub record IsNameEnded (s : List ℕ) (w : Direct) (is_const is_instance : Bool) : Type 0 where
+-- The name of an encoding was read and written from a place on, but for its qualifier.
+pub record IsNameEnded (s : List ℕ) (w : Direct) (is_const is_instance : Bool) (from : ℕ) : Type 0 where
   pub state : State
   pub candidates : AreCandidates w.text.list.items w.candidates.list.items state.candidates
   pub own : Term
@@ -214,25 +216,58 @@ pub record IsNameEnded (s : List ℕ) (w : Direct) (is_const is_instance : Bool)
   pub lead : List ℕ
   pub name : List ℕ
   pub written : w.text.list.items ≡ lead ++ name
+  pub from_is : from ≡ length lead
   pub prints : Prints own name false
   pub no_return : is_instance ≡ false → has_return_type own ≡ false
+  pub returns : is_instance ≡ true → has_return_type own ≡ true
   pub awaits : AwaitsItems s lead v w.at state
 
+-- The return type of a function was read, and stands behind the function's name.
+pub record IsFrontRead (s : List ℕ) (w : Direct) (is_const : Bool) (start : ℕ) : Type 0 where
+  pub state : State
+  pub candidates : AreCandidates w.text.list.items w.candidates.list.items state.candidates
+  pub v : Value
+  pub name : List ℕ
+  pub is_instance : IsInstance is_const v name
+  pub apart : is_local s ≡ false
+  pub start_is : start ≡ length name
+  pub returned : Term
+  pub bytes : List ℕ
+  pub is_reference : Bool
+  pub prints : Prints returned bytes is_reference
+  pub written : w.text.list.items ≡ name ++ bytes
+  pub goes : ParametersGoOn s [] (encoding_of v) (returned ∷ []) w.at state
+
+-- A function's name was read and written, and what stands in front of it. Its parameters are expected.
+pub record AwaitsParameters (s : List ℕ) (w : Direct) (is_const : Bool) (start : ℕ) : Type 0 where
+  pub state : State
+  pub candidates : AreCandidates w.text.list.items w.candidates.list.items state.candidates
+  pub make : Term → Term
+  pub aside : List ℕ
+  pub lead : List ℕ
+  pub name : List ℕ
+  pub is_function : IsFunction is_const make [] name []
+  pub start_is : start ≡ length aside
+  pub written : w.text.list.items ≡ aside ++ lead ++ name
+  pub goes : ParametersGoOn s lead make [] w.at state
+
 -- A parameter of a function was read.
-pub record IsParameterEnded (s : List ℕ) (w : Direct) (is_const : Bool) : Type 0 where
+pub record IsParameterEnded (s : List ℕ) (w : Direct) (is_const : Bool) (start : ℕ) : Type 0 where
   pub state : State
   pub candidates : AreCandidates w.text.list.items w.candidates.list.items state.candidates
   pub rest : List Open
-  pub open_is : reverse w.waiting.list.items ≡ opens.Parameters is_const ∷ rest
-  pub v : Value
+  pub open_is : reverse w.waiting.list.items ≡ opens.Parameters is_const start ∷ rest
+  pub make : Term → Term
   pub ts : List Term
   pub some : ts ≢ []
+  pub aside : List ℕ
   pub lead : List ℕ
   pub name : List ℕ
-  pub parameters : List ℕ
-  pub is_function : IsFunction is_const v ts name parameters
-  pub written : w.text.list.items ≡ lead ++ name ++ codes "(" ++ parameters
-  pub goes : ParametersGoOn s lead v ts w.at state
+  pub texts : List ℕ
+  pub is_function : IsFunction is_const make ts name texts
+  pub start_is : start ≡ length aside
+  pub written : w.text.list.items ≡ aside ++ lead ++ name ++ codes "(" ++ texts
+  pub goes : ParametersGoOn s lead make ts w.at state
 
 -- An encoding was read and written behind a text, but for its qualifier.
 pub record IsEncodingEnded (s : List ℕ) (w : Direct) (is_const : Bool) : Type 0 where

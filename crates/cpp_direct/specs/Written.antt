@@ -1,5 +1,5 @@
 -- What the small functions of a writer do to its lists.
-use Rattle.std.specs.Prelude.{◌≡◌, ℕ, List, [], ◌∷◌, ◌++◌, length, Bool, true, false}
+use Rattle.std.specs.Prelude.{◌≡◌, ◌⊎◌, ℕ, List, [], ◌∷◌, ◌++◌, length, drop, Bool, true, false}
 use Rattle.cpp_direct.specs.declared.open.Candidate.{Candidate}
 use Rattle.cpp_direct.specs.declared.direct.Direct.{Direct}
 
@@ -19,6 +19,12 @@ pub record Reads (old new : Direct) (bytes : List ℕ) : Type 0 where
   pub waiting : new.waiting ≡ old.waiting
   pub nest : new.nest ≡ old.nest
   pub rounds : new.rounds ≡ old.rounds
+
+-- What was written up to a place was taken away, and if there was any of it each candidate.
+pub record Cuts (old new : Direct) (start : ℕ) : Type 0 where
+  pub text : new.text.list.items ≡ drop start old.text.list.items
+  pub candidates : ((start ≡ 0) × (new.candidates ≡ old.candidates)) ⊎ (new.candidates.list.items ≡ [])
+  pub at : new.at ≡ old.at
 
 -- the candidates, and what is written from a place on
 abbrev pub added : Direct → (from : ℕ) → (is_reference : Bool) → List Candidate

@@ -29,6 +29,7 @@ impl Direct {
             | Open::Const { .. }
             | Open::Special
             | Open::Enumerator
+            | Open::Front { .. }
             | Open::Returned { .. }
             | Open::Signature { .. } => return None,
             _ => {}
@@ -123,7 +124,7 @@ impl Direct {
         self.add_hidden(is_pointer)?;
         let _open = self.waiting.pop();
         match *self.waiting.as_slice().last()? {
-            Open::Parameters { is_const } => self.parameter_ended(s, is_const),
+            Open::Parameters { is_const, start } => self.parameter_ended(s, is_const, start),
             _ => Some(Step::List { is_first: false }),
         }
     }

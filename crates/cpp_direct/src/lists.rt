@@ -174,7 +174,7 @@ impl Direct {
                 self.nest = nest;
                 Some(Step::Component)
             }
-            Open::NameArguments => self.name_ended(s, false, true),
+            Open::NameArguments { from } => self.name_ended(s, false, true, from),
             _ => None,
         }
     }

@@ -162,7 +162,9 @@ impl Direct {
                     is_reference: false,
                 })
             }
-            Purpose::Name { is_const } => self.name_ended(s, is_const, self.nest.is_instance),
+            Purpose::Name { is_const } => {
+                self.name_ended(s, is_const, self.nest.is_instance, self.nest.from)
+            },
         }
     }
 

@@ -46,9 +46,11 @@ pub enum Open {
     /// the arguments of a nested name's first piece, behind which a component stands
     FirstArguments { nest: Nest },
     /// the arguments of a name of an encoding
-    NameArguments,
-    /// the parameters of a function
-    Parameters { is_const: bool },
+    NameArguments { from: usize },
+    /// the return type of a function, which is written behind its name; what was written up to this place is no part of the text
+    Front { is_const: bool, start: usize },
+    /// the parameters of a function, whose text begins at this place
+    Parameters { is_const: bool, start: usize },
     /// the name of a special symbol
     Special,
     /// the return type of a function type that is an element or a parameter, by itself or behind a pointer

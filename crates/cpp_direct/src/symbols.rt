@@ -7,7 +7,7 @@ ghost use Rattle.sym_print.specs.declared.detail.Detail.TheVariants as details;
 ghost use Rattle.cpp_grammar.specs.Mangled.{IsAnswer};
 ghost use Rattle.cpp_direct.specs.Holes.{StandsAt};
 ghost use Rattle.cpp_direct.specs.Stands.{IsWriting};
-ghost use Rattle.cpp_direct.specs.Ways.{IsFresh, AwaitsEncoding, AwaitsSource, IsNameEnded, IsParameterEnded, IsEncodingEnded, IsSymbolEnded};
+ghost use Rattle.cpp_direct.specs.Ways.{IsFresh, AwaitsEncoding, AwaitsSource, IsNameEnded, IsFrontRead, AwaitsParameters, IsParameterEnded, IsEncodingEnded, IsSymbolEnded};
 
 use crate::direct::Direct;
 use crate::open::{Nest, Open, Purpose, Step};
@@ -62,7 +62,8 @@ impl Direct {
     /// answers whether it did. Where it didn't, nothing is known of the symbol.
     ///
     /// Whatever is answered, at most eight bytes for each of the symbol's and a kilobyte are written, at most eight steps for each
-    /// byte are taken, and no list has more entries than the symbol has bytes. Text and candidates only grow in a call.
+    /// byte are taken, and no list has more entries than the symbol has bytes. Text and candidates only grow, up to the end of an
+    /// instance of a function template, where what was written up to its return type is taken away.
     pub fn write(&mut self, s: &[u8], limit: u32) -> bool
         requires { FitsSymbol s.now }
         ensures answer { result ≡ true → IsAnswer details.Full s.now limit (Ok self.new.text.list.items) }
@@ -77,7 +78,7 @@ impl Direct {
         let mut rounds = 0;
         let is_written = self.run(s, limit, &mut rounds);
         self.rounds = rounds;
-        // always: no step gives a list other room than it began with, which no clause of theirs says
+        // always: no step gives a list more room than it began with, which no clause of theirs says
         if self.keeps_to(bytes, size) {
             return is_written;
         }
@@ -243,40 +244,93 @@ impl Direct {
         self.name(s)?;
         if byte_at(s, self.at) == b'I' {
             self.add_candidate(from, false)?;
-            return self.open_arguments(Open::NameArguments);
+            return self.open_arguments(Open::NameArguments { from });
         }
-        self.name_ended(s, false, false)
+        self.name_ended(s, false, false, from)
     }
 
-    /// The name of an encoding is read: nothing is left, or the function's parameters.
+    /// The name of an encoding is read: nothing is left, or the function's types.
     // <encoding> ::= <function name> <bare-function-type> | <data name>
-    pub(crate) fn name_ended(&mut self, s: &[u8], is_const: bool, is_instance: bool) -> Option<Step>
+    pub(crate) fn name_ended(
+        &mut self,
+        s: &[u8],
+        is_const: bool,
+        is_instance: bool,
+        from: usize,
+    ) -> Option<Step>
         requires fits { FitsSymbol s.now }
-        requires ended { IsNameEnded s.now self.old is_const is_instance }
+        requires ended { IsNameEnded s.now self.old is_const is_instance from }
         ensures { IfSome result (IsWriting s.now self.new) }
     {
-        let byte = byte_at(s, self.at);
-        if may_end(byte) {
+        if may_end(byte_at(s, self.at)) {
             return self.end(s, is_const);
         }
         if is_instance {
+            return self.begin_front(s, is_const, from);
+        }
+        self.begin_parameters(s, is_const, 0)
+    }
+
+    /// The return type of a function is expected, which stands in front of its name in the text. It is written behind the name, and
+    /// behind it the name once more.
+    // <bare-function-type> ::= <return type> <parameter type>+
+    #[inline(never)]
+    fn begin_front(&mut self, s: &[u8], is_const: bool, from: usize) -> Option<Step>
+        requires fits { FitsSymbol s.now }
+        requires ended { IsNameEnded s.now self.old is_const true from }
+        ensures { IfSome result (IsWriting s.now self.new) }
+    {
+        // in front of a local entity stands no return type, and behind a text it would have to be moved
+        if from != 0 || is_local(s) {
             return None;
         }
+        let start = self.text.len();
+        self.waiting.push(Open::Front { is_const, start })?;
+        Some(Step::Type)
+    }
+
+    /// The return type of a function is read: its parameters follow.
+    // <bare-function-type> ::= <return type> <parameter type>+
+    #[inline(never)]
+    pub(crate) fn front_ended(&mut self, s: &[u8], is_const: bool, start: usize) -> Option<Step>
+        requires fits { FitsSymbol s.now }
+        requires ended { IsFrontRead s.now self.old is_const start }
+        ensures { IfSome result (IsWriting s.now self.new) }
+    {
+        if may_end(byte_at(s, self.at)) {
+            return None;
+        }
+        let _open = self.waiting.pop();
+        self.push_byte(b' ')?;
+        self.repeat(0, start)?;
+        self.begin_parameters(s, is_const, start)
+    }
+
+    /// Reads the parameters of a function up to the first type in them. Its text begins at a place.
+    // <bare-function-type> ::= <parameter type>+ | v
+    #[inline(always)]
+    fn begin_parameters(&mut self, s: &[u8], is_const: bool, start: usize) -> Option<Step>
+        requires fits { FitsSymbol s.now }
+        requires awaits { AwaitsParameters s.now self.old is_const start }
+        ensures { IfSome result (IsWriting s.now self.new) }
+    {
+        let byte = byte_at(s, self.at);
         self.push_byte(b'(')?;
         let behind = byte_at(s, self.at.checked_add(1)?);
         if byte == b'v' && may_end(behind) {
             self.at = self.at.checked_add(1)?;
             self.push_byte(b')')?;
+            self.cut(start)?;
             return self.end(s, is_const);
         }
-        self.waiting.push(Open::Parameters { is_const })?;
+        self.waiting.push(Open::Parameters { is_const, start })?;
         Some(Step::Type)
     }
 
     /// A parameter is read: another one follows, or the end of the encoding.
-    pub(crate) fn parameter_ended(&mut self, s: &[u8], is_const: bool) -> Option<Step>
+    pub(crate) fn parameter_ended(&mut self, s: &[u8], is_const: bool, start: usize) -> Option<Step>
         requires fits { FitsSymbol s.now }
-        requires ended { IsParameterEnded s.now self.old is_const }
+        requires ended { IsParameterEnded s.now self.old is_const start }
         ensures { IfSome result (IsWriting s.now self.new) }
     {
         let byte = byte_at(s, self.at);
@@ -289,6 +343,7 @@ impl Direct {
             return None;
         }
         self.push_byte(b')')?;
+        self.cut(start)?;
         self.end(s, is_const)
     }
 

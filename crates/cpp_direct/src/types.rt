@@ -182,7 +182,8 @@ impl Direct {
                 }
                 self.mark(s, b" const", from, false)
             }
-            Open::Parameters { is_const } => self.parameter_ended(s, is_const),
+            Open::Parameters { is_const, start } => self.parameter_ended(s, is_const, start),
+            Open::Front { is_const, start } => self.front_ended(s, is_const, start),
             Open::Returned { is_pointer } => self.returned(s, is_pointer),
             Open::Signature { is_pointer } => self.parameter_at(s, is_pointer, false),
             Open::Special => self.finish(s),

@@ -3,7 +3,7 @@
 ghost use Rattle.std.specs.Prelude.{◌≡◌, ◌+◌, ◌-◌, ◌≤◌, ◌∷◌, ◌++◌, [], length, take, drop, codes, true, if◌then◌else◌};
 ghost use Rattle.std.specs.Option.{OnSome, IfSome};
 ghost use Rattle.cpp_direct.specs.declared.open.Step.TheVariants as steps;
-ghost use Rattle.cpp_direct.specs.Written.{Writes, added, added_unless, with_hidden};
+ghost use Rattle.cpp_direct.specs.Written.{Writes, Cuts, added, added_unless, with_hidden};
 
 use crate::direct::Direct;
 use crate::open::{Candidate, Open, Step};
@@ -96,6 +96,22 @@ impl Direct {
         ensures { OnSome result (Writes self.old self.new (take (to - from) (drop from self.old.text.list.items))) }
     {
         self.text.repeat(from, to)
+    }
+
+    /// Takes away what was written up to a place, and if there was any of it all candidates.
+    #[inline(always)]
+    pub(crate) fn cut(&mut self, start: usize) -> Option<()>
+        ensures { OnSome result (Cuts self.old self.new start) }
+    {
+        if start == 0 {
+            return Some(());
+        }
+        if start > self.text.len() {
+            return None;
+        }
+        self.text.drop_first(start);
+        self.candidates.begin(0);
+        Some(())
     }
 
     /// Opens what waits for a type.

@@ -3,6 +3,7 @@ use Rattle.std.proofs.Common.{◌≡◌, ℕ, ◌+◌, ◌≤◌, List, [], ◌�
 use Rattle.std.specs.Option.{option_to_list}
 use Rattle.std.proofs.lemmas.Bool.{false≢true}
 use Rattle.sym_direct.specs.Holes.{StandsAt}
+use Rattle.sym_direct.proofs.Moves.{stands-join}
 use Rattle.rust_tree.specs.Symbol as tree
 use Rattle.rust_tree.specs.Shown.{basic_text}
 use Rattle.rust_v0.specs.declared.kind.TheConstants.{PATH}
@@ -23,9 +24,9 @@ use Rattle.rust_direct.specs.Stands.{Stands, IsWriting, AreNotesOf, parked_of, s
 use Rattle.rust_direct.specs.Awaits.{Awaits, AwaitsPath, AwaitsArgument, Arrives, IsEnded}
 use Rattle.rust_direct.proofs.Kept.{notes-written, reverse-last}
 use Rattle.rust_direct.proofs.Moves.{expects-moved}
-use Rattle.rust_direct.proofs.MovesOfArguments.{generic_awaits, generic-opens, generic-goes-on, type_awaits, argument-opens, argument-goes-on, arguments-close}
+use Rattle.rust_direct.proofs.MovesOfArguments.{generic_awaits, generic-opens, generic-goes-on, type_awaits, argument-opens, argument-goes-on, lifetime-goes-on, arguments-close}
 use Rattle.rust_direct.proofs.MovesOfTypes.{basic-comes}
-use Rattle.rust_direct.proofs.PrintedPaths.{none-begin, type-begins, arguments-end, generic-prints}
+use Rattle.rust_direct.proofs.PrintedPaths.{none-begin, type-begins, lifetime-begins, arguments-end, generic-prints}
 use Rattle.rust_direct.proofs.PrintedTypes.{path-is-type, basic-prints}
 use Rattle.rust_direct.proofs.PathsRead.{form-held, path-says, stands-written, waits-too}
 
@@ -62,7 +63,7 @@ notes-pushed old new entry st p h = rw (p.text, p.aside, p.is_aside, p.notes, p.
 pub parked-pushed : (old new : Direct) (entry : Open) → Pushes old new entry → parked_of new ≡ parked_of old
 parked-pushed old new entry p = rw (p.aside, p.is_aside) refl
 
-parked-written : (old new : Direct) (bytes : List ℕ) → Writes old new bytes → parked_of new ≡ parked_of old
+pub parked-written : (old new : Direct) (bytes : List ℕ) → Writes old new bytes → parked_of new ≡ parked_of old
 parked-written old new bytes p = rw (p.aside, p.is_aside) refl
 
 pub turned : (old new : Direct) (entry : Open) → Pushes old new entry → reverse new.waiting.list.items ≡ entry ∷ reverse old.waiting.list.items
@@ -192,7 +193,7 @@ argument-awaited s w is_first p =
       };
     }
 
-joined : (front own opened bytes separator more : List ℕ)
+pub joined : (front own opened bytes separator more : List ℕ)
     → front ++ (own ++ opened ++ bytes ++ separator) ++ more ≡ front ++ (own ++ opened ++ (bytes ++ separator ++ more))
 joined front own opened bytes separator more =
     append_assoc front (own ++ opened ++ bytes ++ separator) more
@@ -272,6 +273,40 @@ argument-first s w p = record {
   written = sym (append-nil w.text.list.items);
   listing = p.is_before;
 }
+
+-- an erased lifetime is read among arguments
+pub lifetime-read : (s : List ℕ) (old middle : Direct) (is_first : Bool) (end : ℕ) → AwaitsArgument s old is_first → StandsAt s old.at (76 ∷ [])
+    → StandsAt s (old.at + 1) (95 ∷ []) → end ≡ old.at + 1 + 1 → Writes (record old { at = end }) middle (codes "'_")
+    → IsWriting s middle (steps.Arguments false)
+lifetime-read s old middle is_first end p letter mark end_is writes =
+    let l = p.listing in
+    let separator = separator_of is_first in
+    record {
+      state = p.state;
+      notes = notes-written (record old { at = end }) middle (codes "'_") p.state writes p.notes;
+      is_before = record {
+        place = l.place;
+        from = l.from;
+        is_value = l.is_value;
+        rest = l.rest;
+        open_is = ap (λ w. reverse w.list.items) writes.waiting ∙ l.open_is;
+        outer = l.outer;
+        front = l.front;
+        p = l.p;
+        own = l.own;
+        made = λ r. l.made (tree.lifetime_argument 0 r);
+        bytes = l.bytes ++ separator ++ codes "'_";
+        from_is = l.from_is;
+        prints = l.prints;
+        begin = lifetime-begins l.made separator l.bytes l.begin;
+        written = writes.text ∙ ap (λ b. b ++ codes "'_") (p.written ∙ ap (λ b. b ++ separator) l.written
+            ∙ append_assoc l.front (l.own ++ opening l.is_value ++ l.bytes) separator)
+            ∙ joined l.front l.own (opening l.is_value) l.bytes separator (codes "'_");
+        goes = rw (writes.at, end_is) (lifetime-goes-on s l.outer l.place l.p l.made old.at p.state l.goes
+            (stands-join s old.at (76 ∷ []) (95 ∷ []) letter mark));
+        stands = rw (parked-written (record old { at = end }) middle (codes "'_") writes) l.stands;
+      };
+    }
 
 form-says : (is_value : Bool) (p : tree.Path) (bytes : List ℕ) → PathPrints is_value p bytes → PathHas (form_of is_value) p bytes × (is_path (form_of is_value) ≡ true)
 form-says true p bytes h = (h, refl)

@@ -5,12 +5,17 @@ use Rattle.std.proofs.Math.Seq.{drop-append_seam, take-append_seam}
 use Rattle.std.specs.Option.{IfSome}
 use Rattle.std.specs.Result.{result_ok}
 use Rattle.sym_core.specs.declared.NameClass.TheVariants.{Rust}
-use Rattle.sym_core.specs.declared.NumberKind.TheVariants.{Base62}
+use Rattle.sym_core.specs.declared.NumberKind.TheVariants.{Base62, Hex}
 use Rattle.sym_core.specs.declared.tokens.TokenPlace.{TokenPlace}
 use Rattle.sym_core.specs.Token.{Token, IsName, IsNumberToken, HasToken, FindsToken}
-use Rattle.sym_core.specs.Value.{counted_value}
+use Rattle.sym_core.specs.Number.{AreDigitsOf}
+use Rattle.sym_core.specs.Value.{counted_value, value_of}
+use Rattle.rust_v0.specs.Unfold.{greatest_u64}
 use Rattle.sym_direct.specs.Holes.{StandsAt}
-use Rattle.rust_direct.specs.Holes.{IsNameAt, IsNumberAt}
+use Rattle.sym_direct.proofs.Moves.{stands-join}
+use Rattle.rust_direct.specs.Holes.{IsNumberAt, written, IsErasedAt}
+use Rattle.rust_direct.specs.Constants.{IsHexAt}
+use Rattle.rust_direct.specs.Names.{IsNamePlace}
 
 -- what stands between two places behind a third one
 piece-at : (s before own behind rest : List ℕ) (at from to : ℕ) → at ≤ length s → drop at s ≡ (before ++ own ++ behind) ++ rest
@@ -44,7 +49,7 @@ piece-at s before own behind rest at from to le e from_is to_is = (omega (arith,
     found = ap (λ n. take n (drop from s)) size ∙ ap (λ l. take (length own) l) there ∙ take-append_seam own (behind ++ rest)
 
 -- where a token's own bytes stand
-own-found : (Is : Token → Type 0) (s : List ℕ) (at : ℕ) (place : TokenPlace) (h : HasToken Is (drop at s) at place) → at ≤ length s
+pub own-found : (Is : Token → Type 0) (s : List ℕ) (at : ℕ) (place : TokenPlace) (h : HasToken Is (drop at s) at place) → at ≤ length s
     → (place.from ≤ place.to) × (place.to ≤ length s) × (take (place.to - place.from) (drop place.from s) ≡ h.token.own)
 own-found Is s at place h le = piece-at s h.token.before h.token.own h.token.behind h.rest at place.from place.to le h.split h.from h.to
 
@@ -61,12 +66,8 @@ place-found Is s at (Err bad) o place finds ok some = absurd (apart o place ok s
     apart o place e f = cc (e, f)
 
 -- a name that was found
-abbrev NameFound : (s : List ℕ) → (at : ℕ) → TokenPlace → Type 0
-NameFound s at place =
-    (place.from ≤ place.to) × (place.to ≤ length s) × IsNameAt s at (take (place.to - place.from) (drop place.from s)) place.end
-
 pub name-found : (s : List ℕ) (at : ℕ) (r : Result TokenPlace ℕ) (o : Option TokenPlace) → FindsToken (IsName Rust) s at r → o ≡ result_ok r
-    → at ≤ length s → IfSome o (NameFound s at)
+    → at ≤ length s → IfSome o (IsNamePlace s at)
 name-found s at r None finds ok le = tt
 name-found s at r (Some place) finds ok le =
     let h = place-found (IsName Rust) s at r (Some place) place finds ok refl in
@@ -92,6 +93,24 @@ number-found s at place value h le is = record {
   ends = h.end;
 }
 
+-- where the digits of a number in base 16 stand
+pub hex-inside : (s : List ℕ) (at : ℕ) (place : TokenPlace) → HasToken (IsNumberToken Hex) (drop at s) at place → at ≤ length s
+    → (place.from ≤ place.to) × (place.to ≤ length s) × AreDigitsOf Hex (take (place.to - place.from) (drop place.from s))
+hex-inside s at place h le =
+    let own = own-found (IsNumberToken Hex) s at place h le in (own.0, own.1, subst (λ l. AreDigitsOf Hex l) (sym own.2) h.is.digits)
+
+-- a number in base 16 that was found
+pub hex-found : (s : List ℕ) (at : ℕ) (place : TokenPlace) (value : ℕ) → HasToken (IsNumberToken Hex) (drop at s) at place → at ≤ length s
+    → value ≡ value_of Hex (take (place.to - place.from) (drop place.from s)) → value ≤ greatest_u64 → IsHexAt s at value place.end
+hex-found s at place value h le is small = record {
+  token = h.token;
+  is_number = h.is;
+  counts = ap (λ l. value_of Hex l) (sym (own-found (IsNumberToken Hex) s at place h le).2) ∙ sym is;
+  small = small;
+  stands = (h.rest, h.split);
+  ends = h.end;
+}
+
 -- a byte stands where it was read
 pub there : (s : List ℕ) (at byte letter : ℕ) → byte ≡ letter → 0 < letter → (byte ≢ 0 → StandsAt s at (byte ∷ [])) → StandsAt s at (letter ∷ [])
 there s at byte letter is some stands = subst (λ b. StandsAt s at (b ∷ [])) is (stands (λ none. omega (arith, some, sym is ∙ none)))
@@ -103,3 +122,12 @@ piece-filled s from to some inside = omega (arith, some, inside, length-take (to
 -- a test that held
 pub tested : (result test : Bool) → result ≡ test → result ≡ true → test ≡ true
 tested result test is e = sym is ∙ e
+
+-- an erased lifetime that was found
+pub erased-found : (s : List ℕ) (at digits end : ℕ) → StandsAt s at (76 ∷ []) → StandsAt s digits (95 ∷ []) → digits ≡ at + 1 → end ≡ digits + 1
+    → IsErasedAt s at end
+erased-found s at digits end letter mark next last = (
+  written,
+  stands-join s at (76 ∷ []) (95 ∷ []) letter (subst (λ k. StandsAt s k (95 ∷ [])) next mark),
+  omega (arith, next, last),
+)

@@ -1,5 +1,5 @@
 -- Impls and implemented traits that were read and written, and types of one type.
-use Rattle.std.proofs.Common.{◌≡◌, ℕ, ◌+◌, List, [], ◌∷◌, ◌++◌, length, reverse, Bool, true, false, not, refl, ap, sym, subst, ◌∙◌, append_assoc, codes, cond}
+use Rattle.std.proofs.Common.{◌≡◌, ℕ, ◌+◌, List, [], ◌∷◌, ◌++◌, length, reverse, Bool, true, false, not, refl, ap, sym, subst, ◌∙◌, codes, cond}
 use Rattle.sym_direct.specs.Holes.{StandsAt}
 use Rattle.rust_tree.specs.Symbol as tree
 use Rattle.rust_v0.specs.Value.{a_path}
@@ -20,6 +20,7 @@ use Rattle.rust_direct.proofs.PrintedPaths.{impl-prints}
 use Rattle.rust_direct.proofs.PathsRead.{path-held, path-says, stands-written, waits-too}
 use Rattle.rust_direct.proofs.Again.{path-needs}
 use Rattle.rust_direct.proofs.ArgumentsRead.{type-held, notes-pushed, parked-pushed, turned}
+use Rattle.rust_direct.proofs.Opened.{wrapped}
 
 -- the path of an impl is expected, which isn't shown
 pub impl-begun : (s : List ℕ) (old new : Direct) (count end : ℕ) (plain : Bool) → AwaitsPath s old → StandsAt s old.at (77 ∷ [])
@@ -96,9 +97,6 @@ impl-read s old shown middle new place here from f arrives is hidden text aside 
         );
       };
     }
-
-wrapped : (front mark bytes closing : List ℕ) → front ++ mark ++ bytes ++ closing ≡ front ++ (mark ++ bytes ++ closing)
-wrapped front mark bytes closing = ap (λ l. l ++ closing) (append_assoc front mark bytes) ∙ append_assoc front (mark ++ bytes) closing
 
 -- the type of an impl is read
 pub angle-read : (s : List ℕ) (old middle : Direct) (place from here : ℕ) (f : Forms) → Arrives s old (opens.Wrap place from closings.Angle) here f

@@ -1,7 +1,7 @@
 -- The moves of a writer of Rust symbols, over those of any language: names, numbers and paths.
-use Rattle.std.proofs.Common.{◌≡◌, ℕ, zero, suc, ◌+◌, ◌≤◌, List, [], ◌∷◌, length, inl, inr, true, false, nat_le, Some, None, Ok, refl, ap, sym, subst, arith}
-use Rattle.std.specs.Prelude.{slice_index, ◌||◌, if◌then◌else◌}
-use Rattle.std.proofs.lemmas.Bool.{le-leb, or_right, and_from}
+use Rattle.std.proofs.Common.{◌≡◌, ◌≢◌, ℕ, zero, suc, ◌+◌, ◌<◌, ◌≤◌, List, [], ◌∷◌, length, inl, inr, true, false, nat_le, Some, None, Ok, refl, ap, sym, subst, arith}
+use Rattle.std.specs.Prelude.{slice_index, if◌then◌else◌}
+use Rattle.std.proofs.lemmas.Bool.{le-leb, leb-true, and_parts, or_cases, false≢true}
 use Rattle.sym_core.specs.declared.NumberKind.TheVariants.{Base62}
 use Rattle.sym_core.specs.Token.{bytes_of}
 use Rattle.sym_shape.specs.declared.rule.Rule.{Rule}
@@ -15,10 +15,10 @@ use Rattle.sym_direct.proofs.Moves as moves
 use Rattle.rust_tree.specs.Symbol as tree
 use Rattle.rust_v0.specs.declared.production.Production.{Production}
 use Rattle.rust_v0.specs.declared.kind.TheConstants.{PATH, NAMESPACE, IDENTIFIER, NAME}
-use Rattle.rust_v0.specs.Rules.{v0_table, taking, chaining, letters}
+use Rattle.rust_v0.specs.Rules.{v0_table, taking, chaining}
 use Rattle.rust_v0.specs.Value.{Value, State, number, letter, a_name, an_identifier, a_path}
 use Rattle.rust_v0.specs.Unfold.{token_of, value62, identifier_part, greatest_u64}
-use Rattle.rust_direct.specs.Holes.{rust_language, Opened, Comes, ComesAll, Expects, within, behind, with_ended, Wanted, path, other_path, type, kind_of, IsNumberAt, IsNameAt, IsDisambiguatorAt, identifier, NameGoesOn}
+use Rattle.rust_direct.specs.Holes.{rust_language, Opened, Comes, ComesAll, Expects, within, behind, with_ended, Wanted, path, other_path, type, kind_of, IsNumberAt, IsNameAt, IsDisambiguatorAt, identifier, is_namespace, NameGoesOn}
 
 pub comes-moved : (s : List ℕ) (os : List Opened) (vs : List Value) (at to : ℕ) (st : State) → at ≡ to → ComesAll s os vs at st → ComesAll s os vs to st
 comes-moved s os vs at to st same = subst (λ k. ComesAll s os vs k st) same
@@ -147,17 +147,32 @@ byte-there (c ∷ cs) (suc at) b stands = byte-there cs at b (stands.0, stands.1
 abbrev namespace_rule : Rule
 namespace_rule = taking Production.Namespace []
 
-takes-namespace : (b : ℕ) → 97 ≤ b → b ≤ 122 → TakesRule v0_table NAMESPACE namespace_rule (b ∷ [])
-takes-namespace b low high = record {
+in-range : (low high b : ℕ) → in_range (range low high) b ≡ true → b ≤ high
+in-range low high b is = leb-true b high (and_parts (nat_le low b) (nat_le b high) is).1
+
+namespace-small : (b : ℕ) → is_namespace b ≡ true → b < 256
+unfolding is_namespace
+namespace-small b is = elim (or_cases (in_range (range 65 90) b) (in_ranges (range 97 122 ∷ []) b) is) [
+  | inl upper ↦ omega (arith, in-range 65 90 b upper)
+  | inr other ↦ elim (or_cases (in_range (range 97 122) b) false other) [
+    | inl lower ↦ omega (arith, in-range 97 122 b lower)
+    | inr none ↦ absurd (false≢true none)
+  ]
+]
+
+-- no namespace is named by a byte that is 0
+pub namespace-there : (b : ℕ) → is_namespace b ≡ true → b ≢ 0
+unfolding is_namespace
+namespace-there b is none = false≢true (subst (λ k. is_namespace k ≡ true) none is)
+
+takes-namespace : (b : ℕ) → is_namespace b ≡ true → TakesRule v0_table NAMESPACE namespace_rule (b ∷ [])
+unfolding is_namespace
+takes-namespace b is = record {
   byte = b;
-  is_byte = omega (arith, high);
+  is_byte = namespace-small b is;
   found = ap (λ x. if x then Some namespace_rule else None) is;
   takes = refl;
 }
-  where
-    is : in_ranges letters b ≡ true
-    is = or_right (in_range (range 65 90) b) (in_ranges (range 97 122 ∷ []) b)
-        (ap (λ x. x || false) (and_from (nat_le 97 b) (nat_le b 122) (le-leb 97 b low) (le-leb b 122 high)))
 
 abbrev nest_rule : Rule
 nest_rule = taking Production.Nested (Kind NAMESPACE ∷ Kind PATH ∷ Kind IDENTIFIER ∷ [])
@@ -173,15 +188,15 @@ nest_awaits b place st os = opened (standing nest_rule (78 ∷ []) place 0 st) (
 
 -- its parent is expected
 pub nest-opens : (s : List ℕ) (w : Wanted) (os : List Opened) (at b : ℕ) (st : State) → Expects s (kind_of w) os at st → StandsAt s at (78 ∷ [])
-    → StandsAt s (at + 1) (b ∷ []) → 97 ≤ b → b ≤ 122 → Expects s PATH (nest_awaits b at st os) (at + 1 + 1) (within Production.Nested st)
-nest-opens s w os at b st expects stands there low high =
+    → StandsAt s (at + 1) (b ∷ []) → is_namespace b ≡ true → Expects s PATH (nest_awaits b at st os) (at + 1 + 1) (within Production.Nested st)
+nest-opens s w os at b st expects stands there is =
     let p = Production.Nested in
     let rule = standing nest_rule (78 ∷ []) at 0 st in
     let todo = Kind PATH ∷ Kind IDENTIFIER ∷ [] in
     let awaits = moves.first-of rust_language s (kind_of w) nest_rule (78 ∷ []) 0 os at st st (Kind NAMESPACE) todo
     (record { context = 0; values = []; state = within p st }) (takes-nest w) (λ f. refl) refl refl expects stands in
     let comes = moves.letter-comes rust_language s NAMESPACE namespace_rule (b ∷ []) 0 (opened rule [] todo ∷ os) (at + 1) (within p st) (within p st)
-    (letter b) (behind st) (takes-namespace b low high) (λ f. refl) refl
+    (letter b) (behind st) (takes-namespace b is) (λ f. refl) refl
     (ap (λ c. Ok (record { value = letter c; state = behind st })) (byte-there s (at + 1) b there)) awaits there in
     moves.next-of rust_language s rule [] (letter b ∷ []) (Kind PATH) (Kind IDENTIFIER ∷ []) os (at + 1 + 1) (behind st)
     (record { context = 0; values = letter b ∷ []; state = within p st }) refl comes

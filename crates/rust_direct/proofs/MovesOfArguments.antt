@@ -118,7 +118,7 @@ takes-lifetime = record { byte = 76; is_byte = omega arith; found = refl; takes 
 abbrev pub number_rule : Rule
 number_rule = taking Production.Lifetime (Number Base62 ∷ [])
 
-takes-number : TakesRule v0_table LIFETIME number_rule (76 ∷ [])
+pub takes-number : TakesRule v0_table LIFETIME number_rule (76 ∷ [])
 takes-number = record { byte = 76; is_byte = omega arith; found = refl; takes = refl }
 
 -- an erased lifetime is a number without digits

@@ -13,7 +13,7 @@ use Rattle.rust_direct.specs.declared.open.Open.TheVariants as opens
 use Rattle.rust_direct.specs.declared.open.Step.TheVariants as steps
 use Rattle.rust_direct.specs.declared.direct.Direct.{Direct}
 use Rattle.rust_v0.specs.declared.kind.TheConstants.{PATH}
-use Rattle.rust_direct.specs.Holes.{Opened, Comes, within, behind, with_ended, path, IsNameAt, IsDisambiguatorAt, identifier}
+use Rattle.rust_direct.specs.Holes.{Opened, Comes, within, behind, with_ended, path, IsNameAt, IsDisambiguatorAt, identifier, is_namespace}
 use Rattle.rust_direct.specs.Prints.{PathPrints}
 use Rattle.rust_direct.specs.Says.{PathHas, Says, Holds, has_form, is_path}
 use Rattle.rust_direct.specs.Written.{Writes, Notes}
@@ -143,10 +143,10 @@ crate-ended s old middle from count behind_ name end awaits letter counted named
 -- ## Paths in a namespace
 
 pub nest-begun : (s : List ℕ) (old new : Direct) (b : ℕ) (is_value : Bool) → AwaitsPath s old → StandsAt s old.at (78 ∷ [])
-    → StandsAt s (old.at + 1) (b ∷ []) → 97 ≤ b → b ≤ 122 → new.waiting.list.items ≡ old.waiting.list.items ++ opens.Nest b old.at ∷ []
+    → StandsAt s (old.at + 1) (b ∷ []) → is_namespace b ≡ true → new.waiting.list.items ≡ old.waiting.list.items ++ opens.Nest b old.at ∷ []
     → new.at ≡ old.at + 1 + 1 → new.text ≡ old.text → new.aside ≡ old.aside → new.is_aside ≡ old.is_aside → new.notes ≡ old.notes
     → new.numbers ≡ old.numbers → IsWriting s new (steps.Path is_value)
-nest-begun s old new b is_value awaits letter there low high waiting at text aside is_aside notes numbers =
+nest-begun s old new b is_value awaits letter there is waiting at text aside is_aside notes numbers =
     let a = awaits.1 in
     let r = a.awaited in
     record {
@@ -157,7 +157,7 @@ nest-begun s old new b is_value awaits letter there low high waiting at text asi
         is_for = refl;
         os = nest_awaits b old.at a.state r.os;
         awaits = expects-moved s PATH (nest_awaits b old.at a.state r.os) (old.at + 1 + 1) new.at (within Production.Nested a.state) (sym at)
-            (nest-opens s r.wanted r.os old.at b a.state r.awaits letter there low high);
+            (nest-opens s r.wanted r.os old.at b a.state r.awaits letter there is);
         stands = waits-too s old.waiting.list.items new.waiting.list.items (opens.Nest b old.at) (nest_awaits b old.at a.state r.os) new.text.list.items
             (parked_of new) waiting
             (r.os, (λ p here now comes. nest-goes-on s r.os b old.at a.state p here now comes), rw (text, aside, is_aside) r.stands);

@@ -80,7 +80,7 @@ pub none-begin : ArgumentsBegin (λ a. a) [] []
 none-begin = record { text_is = λ rest. refl; cost = λ rest. omega arith; needs_none = λ rest h. h }
 
 -- one more argument, with these parts
-one-text : (separator before own more : List ℕ) (u : Unshared) (o : Option Unshared) → text_of u ≡ own
+pub one-text : (separator before own more : List ℕ) (u : Unshared) (o : Option Unshared) → text_of u ≡ own
     → before ++ text_of (separator then u also o perhaps done) ≡ (before ++ separator ++ own) ++ text_of_some o
 one-text separator before own more u o e =
     ap (λ l. before ++ l) (then-text separator (u also o perhaps done))
@@ -88,7 +88,7 @@ one-text separator before own more u o e =
     ∙ ap (λ l. before ++ (separator ++ (own ++ l))) (perhaps-text o done ∙ append-nil (text_of_some o))
     ∙ sym (ap (λ l. l) (append_assoc (before ++ separator) own (text_of_some o) ∙ append_assoc before separator (own ++ text_of_some o)))
 
-one-cost : (separator before own : List ℕ) (u : Unshared) (o : Option Unshared) → 1 + cost_of u ≤ 4 * length own
+pub one-cost : (separator before own : List ℕ) (u : Unshared) (o : Option Unshared) → 1 + cost_of u ≤ 4 * length own
     → 4 * length before + cost_of (separator then u also o perhaps done) ≤ 4 * length (before ++ separator ++ own) + cost_of_some o
 one-cost separator before own u o e = omega (
   arith,

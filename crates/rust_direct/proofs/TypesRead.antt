@@ -45,6 +45,9 @@ as-wanted path e = absurd (false≢true e)
 as-wanted other_path e = absurd (false≢true e)
 as-wanted type e = refl
 
+pub type-expected : (s : List ℕ) (w : Direct) (a : Awaits s w true) → Expects s TYPE a.awaited.os w.at a.state
+type-expected s w a = subst (λ k. Expects s k a.awaited.os w.at a.state) (as-wanted a.awaited.wanted a.awaited.is_for) a.awaited.awaits
+
 -- a type is written once more
 pub type-repeated : (s : List ℕ) (old middle : Direct) (from n end k : ℕ) (note : Note) → Awaits s old true → StandsAt s old.at (66 ∷ [])
     → IsNumberAt s (old.at + 1) n end → slice_get old.numbers.items (n + 2) ≡ Some (suc k) → slice_get old.notes.list.items k ≡ Some note
@@ -61,7 +64,7 @@ type-repeated s old middle from n end k note awaits letter number numbered noted
     let same = (piece-found (home old.is_aside note.is_aside old.text.list.items old.aside.list.items) own.front own.bytes own.back note.from note.to
     own.written_is own.from_is own.to_is).2 in
     let write = subst (λ l. Writes old middle l) same writes in
-    let expects = subst (λ x. Expects s x r.os old.at awaits.state) (as-wanted r.wanted r.is_for) r.awaits in
+    let expects = type-expected s old awaits in
     let holds : Holds forms.Typed (a_type t) bytes = (t, refl, said.2) in
     record {
       before = awaits.state;

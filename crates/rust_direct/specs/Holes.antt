@@ -13,7 +13,7 @@ use Rattle.sym_direct.specs.Holes.{Language, StandsAt}
 use Rattle.rust_tree.specs.Symbol as tree
 use Rattle.rust_v0.specs.declared.production.Production.{Production}
 use Rattle.rust_v0.specs.declared.kind.TheConstants.{PATH, OTHER_PATH, TYPE, TYPES, IDENTIFIER, ARGUMENTS}
-use Rattle.rust_v0.specs.Rules.{v0_table, suffix_bytes}
+use Rattle.rust_v0.specs.Rules.{v0_table, letters, suffix_bytes}
 use Rattle.rust_v0.specs.Mangled.{v0_mangled}
 use Rattle.rust_v0.specs.Value.{Value, State, a_path, a_type, some_types}
 use Rattle.rust_v0.specs.Unfold.{v0, at_first, as_type, arguments_part, identifier_part, greatest_u64}
@@ -95,6 +95,10 @@ IsDisambiguatorAt s at count end =
 abbrev pub identifier : (count : ℕ) → (name : List ℕ) → tree.Identifier
 identifier count name = record { disambiguator = count; name = record { punycode = false; bytes = name } }
 
+-- a byte that names a namespace
+unfoldable pub is_namespace : ℕ → Bool
+is_namespace b = in_ranges letters b
+
 -- an erased lifetime may be written or not
 pub data Erased : Type 0 where
   unwritten : Erased
@@ -103,6 +107,10 @@ pub data Erased : Type 0 where
 abbrev pub erased_bytes : Erased → List ℕ
 erased_bytes unwritten = []
 erased_bytes written = 76 ∷ 95 ∷ []
+
+-- an erased lifetime stands at the place, or none, and this is the place behind it
+abbrev pub IsErasedAt : (s : List ℕ) → (at end : ℕ) → Type 0
+IsErasedAt s at end = (e : Erased) × StandsAt s at (erased_bytes e) × (end ≡ at + length (erased_bytes e))
 
 -- ## Symbols
 

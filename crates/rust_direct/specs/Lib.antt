@@ -1,7 +1,11 @@
 pub mod Holes
+pub mod Names
 pub mod Prints
 pub mod Says
 pub mod Notes
 pub mod Written
+pub mod Specials
+pub mod Bounds
+pub mod Constants
 pub mod Stands
 pub mod Awaits

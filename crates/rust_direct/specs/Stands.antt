@@ -18,6 +18,8 @@ use Rattle.rust_direct.specs.declared.open.Step.{Step}
 use Rattle.rust_direct.specs.declared.open.Step.TheVariants as steps
 use Rattle.rust_direct.specs.declared.direct.Direct.{Direct}
 use Rattle.rust_direct.specs.Holes.{Opened, Comes, Expects, Wanted, kind_of, is_for_type, IsType, TypePasses, PathPasses, OtherGoesOn, EndsSymbol, NameGoesOn, TypeGoesOn, PathGoesOn, ArgumentsGoOn, TypesGoOn, ImplementingGoesOn}
+use Rattle.rust_direct.specs.Constants.{SizeGoesOn}
+use Rattle.rust_direct.specs.Bounds.{BoundsBegin, BoundsGoOn}
 use Rattle.rust_direct.specs.Prints.{PathPrints, TypePrints, opening, ArgumentsBegin, TypesBegin}
 use Rattle.rust_direct.specs.Says.{Holds}
 use Rattle.rust_direct.specs.Notes.{AreNotes}
@@ -118,7 +120,16 @@ Stands s (opens.Tuple place from is_first ∷ rest) os text parked =
     × ((v : Value) (t : tree.Ty) (at : ℕ) (st : State) → IsType v t → Comes s os v at st
     → TypesGoOn s outer place (λ r. made (tree.more_types t r)) at st)
     × Stands s rest outer front parked
-Stands s (opens.Array place from ∷ rest) os text parked = ⊥
+Stands s (opens.Dyn place from ∷ rest) os text parked =
+    (outer : List Opened) × (front : List ℕ) × (made : tree.Bounds → tree.Bounds) × (bytes : List ℕ) × (separator : List ℕ)
+    × (from ≡ length front) × BoundsBegin made separator bytes × (text ≡ front ++ (codes "dyn " ++ bytes ++ separator))
+    × ((p : tree.Path) (at : ℕ) (st : State) → Comes s os (a_path p) at st
+    → BoundsGoOn s outer place (λ r. made (tree.more_bounds p tree.no_bindings r)) at st)
+    × Stands s rest outer front parked
+Stands s (opens.Array place from ∷ rest) os text parked =
+    (outer : List Opened) × (front : List ℕ) × (from ≡ length front) × (text ≡ front ++ codes "[")
+    × ((v : Value) (t : tree.Ty) (at : ℕ) (st : State) → IsType v t → Comes s os v at st → SizeGoesOn s outer place t at st)
+    × Stands s rest outer front parked
 
 -- the text that is shown, while what isn't shown is written
 abbrev pub parked_of : Direct → List ℕ

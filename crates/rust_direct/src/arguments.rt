@@ -1,25 +1,19 @@
 // Arguments of paths.
 
-ghost use Rattle.std.specs.Prelude.{◌≡◌, ◌∷◌, []};
-ghost use Rattle.std.specs.Option.{IfSome};
+ghost use Rattle.std.specs.Prelude.{◌≢◌, ◌∷◌, []};
+ghost use Rattle.std.specs.Option.{IfSome, OnSome};
+ghost use Rattle.sym_core.specs.Number.{FitsSymbol};
 ghost use Rattle.sym_direct.specs.Holes.{StandsAt};
 ghost use Rattle.rust_direct.specs.declared.open.Step.TheVariants as steps;
 ghost use Rattle.rust_direct.specs.declared.open.Open.TheVariants as opens;
 ghost use Rattle.rust_direct.specs.Prints.{opening};
+ghost use Rattle.rust_direct.specs.Written.{Writes};
 ghost use Rattle.rust_direct.specs.Stands.{IsWriting};
 ghost use Rattle.rust_direct.specs.Awaits.{AwaitsArgument, Arrives};
 
 use crate::direct::Direct;
 use crate::open::{Forms, Open, Step, form_of, has_form, is_type};
 use sym_direct::byte_at;
-
-/// What stands before arguments.
-#[inline(always)]
-fn opening(is_value: bool) -> &'static [u8]
-    ensures { result.now ≡ opening is_value }
-{
-    if is_value { b"::<" } else { b"<" }
-}
 
 impl Direct {
     /// The path is read that arguments belong to.
@@ -38,7 +32,7 @@ impl Direct {
         if !has_form(is_value, forms) {
             return None;
         }
-        self.push(opening(is_value))?;
+        self.push_opening(is_value)?;
         self.waiting.push(Open::Argument {
             place,
             from,
@@ -47,9 +41,21 @@ impl Direct {
         Some(Step::Arguments { is_first: true })
     }
 
+    /// Writes what stands before arguments.
+    #[inline(always)]
+    fn push_opening(&mut self, is_value: bool) -> Option<()>
+        ensures { OnSome result (Writes self.old self.new (opening is_value)) }
+    {
+        if is_value {
+            return self.push(b"::<");
+        }
+        self.push_byte(b'<')
+    }
+
     /// Reads an argument, or the end of arguments.
     // <path> = "I" <path> {<generic-arg>} "E"
     pub(crate) fn argument_at(&mut self, s: &[u8], is_first: bool) -> Option<Step>
+        requires fits { FitsSymbol s.now }
         requires writing { IsWriting s.now self.old (steps.Arguments is_first) }
         ensures { IfSome result (IsWriting s.now self.new) }
     {
@@ -67,14 +73,35 @@ impl Direct {
     /// Reads an argument, up to the first type that stands in it.
     // <generic-arg> = <lifetime> | <type> | "K" <const>
     #[inline(always)]
-    fn next_argument(&mut self, _s: &[u8], byte: u8, _is_first: bool) -> Option<Step>
-        requires { AwaitsArgument _s.now self.old _is_first }
-        ensures { IfSome result (IsWriting _s.now self.new) }
+    fn next_argument(&mut self, s: &[u8], byte: u8, is_first: bool) -> Option<Step>
+        requires fits { FitsSymbol s.now }
+        requires letter { byte ≢ 0 → StandsAt s.now self.old.at (byte ∷ []) }
+        requires awaits { AwaitsArgument s.now self.old is_first }
+        ensures { IfSome result (IsWriting s.now self.new) }
     {
-        if byte == b'L' || byte == b'K' {
-            return None;
+        if byte == b'L' {
+            return self.lifetime_argument(s, is_first);
+        }
+        if byte == b'K' {
+            return self.constant_argument(s, is_first);
         }
         Some(Step::Type)
+    }
+
+    /// An erased lifetime among arguments: another one is given up.
+    // <generic-arg> = <lifetime>
+    fn lifetime_argument(&mut self, s: &[u8], _is_first: bool) -> Option<Step>
+        requires letter { StandsAt s.now self.old.at (76 ∷ []) }
+        requires awaits { AwaitsArgument s.now self.old _is_first }
+        ensures { IfSome result (IsWriting s.now self.new) }
+    {
+        let digits = self.at.checked_add(1)?;
+        if byte_at(s, digits) != b'_' {
+            return None;
+        }
+        self.at = digits.checked_add(1)?;
+        self.push_pair(b'\'', b'_')?;
+        Some(Step::Arguments { is_first: false })
     }
 
     /// The E of arguments.

@@ -63,7 +63,8 @@ impl Direct {
 
     /// The type of an impl is read.
     // <path> = "M" <impl-path> <type>
-    fn angle_ended(
+    #[inline(always)]
+    pub(crate) fn angle_ended(
         &mut self,
         s: &[u8],
         _here: usize,
@@ -79,24 +80,5 @@ impl Direct {
         }
         self.push_byte(b'>')?;
         self.ended(s, place, from, Forms::Alike, Forms::Alike)
-    }
-
-    /// The type is read that something waited for.
-    pub(crate) fn wrap_ended(
-        &mut self,
-        s: &[u8],
-        _here: usize,
-        forms: Forms,
-        place: usize,
-        from: usize,
-        closing: Closing,
-    ) -> Option<Step>
-        requires { Arrives s.now self.old (opens.Wrap place from closing) _here forms }
-        ensures { IfSome result (IsWriting s.now self.new) }
-    {
-        match closing {
-            Closing::Angle => self.angle_ended(s, _here, forms, place, from),
-            _ => None,
-        }
     }
 }

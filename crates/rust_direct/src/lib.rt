@@ -1,19 +1,28 @@
 //! The text of a Rust symbol, written while its bytes are read.
 //!
-//! Crate roots, paths in a namespace, inherent impls, and paths with arguments that are basic types or paths are read so, with back
-//! references, the crate that asked for a symbol, and a suffix. A symbol with anything else in it is given up, and is to be read by its
-//! grammar: no answer depends on this crate, which one call in `sym_filter` (`languages`) makes and may leave out.
+//! Crate roots, paths in a namespace with closures and shims, impls, traits as a type implements them, and paths with arguments are read
+//! so; of types basic ones, paths, references, raw pointers, slices, arrays, tuples and `dyn`; of constants integers, truth values and
+//! what isn't known; with back references to paths and types, the crate that asked for a symbol, and a suffix. A symbol with anything
+//! else in it is given up, and is to be read by its grammar: no answer depends on this crate, which one call in `sym_filter`
+//! (`languages`) makes and may leave out.
 #![tactic(auto)]
 
 mod arguments;
+mod bounds;
+mod constants;
 mod direct;
 mod impls;
+mod names;
 mod open;
 mod paths;
+mod specials;
 mod symbols;
 mod tokens;
+mod traits;
+mod tuples;
 mod types;
 mod values;
+mod wraps;
 mod writing;
 
 pub use direct::Direct;

@@ -142,6 +142,11 @@ pub enum Open {
         from: usize,
         is_first: bool,
     },
+    /// a `dyn` waits for the path of a bound
+    Dyn {
+        place: usize,
+        from: usize,
+    },
     /// an array waits for the type of its elements
     Array {
         place: usize,

@@ -10,13 +10,15 @@ ghost use Rattle.rust_direct.specs.Stands.{IsWriting};
 ghost use Rattle.rust_direct.specs.Awaits.{Awaits, AwaitsPath, Arrives};
 
 use crate::direct::Direct;
+use crate::names::name_at;
 use crate::open::{Forms, Open, Step, is_path};
-use crate::tokens::{disambiguator_at, name_at, number_at};
+use crate::tokens::{disambiguator_at, is_namespace, number_at};
 use sym_direct::byte_at;
 
 impl Direct {
     /// Reads a path, up to the first that stands in it.
-    // <path> = "C" <identifier> | "N" <namespace> <path> <identifier> | "I" <path> {<generic-arg>} "E" | "M" <impl-path> <type> | <backref> | ..
+    // <path> = "C" <identifier> | "N" <namespace> <path> <identifier> | "I" <path> {<generic-arg>} "E" | "M" <impl-path> <type>
+    //        | "X" <impl-path> <type> <path> | "Y" <type> <path> | <backref>
     pub(crate) fn path_at(&mut self, s: &[u8], is_value: bool) -> Option<Step>
         requires fits { FitsSymbol s.now }
         requires writing { IsWriting s.now self.old (steps.Path is_value) }
@@ -28,6 +30,8 @@ impl Direct {
             b'B' => self.path_again(s),
             b'I' => self.begin_generic(s, is_value),
             b'M' => self.begin_impl(s),
+            b'X' => self.begin_trait_impl(s),
+            b'Y' => self.begin_trait(s),
             _ => None,
         }
     }
@@ -61,10 +65,7 @@ impl Direct {
         let place = self.at;
         let behind = place.checked_add(1)?;
         let letter = byte_at(s, behind);
-        if letter < b'a' {
-            return None;
-        }
-        if letter > b'z' {
+        if !is_namespace(letter) {
             return None;
         }
         self.at = behind.checked_add(1)?;
@@ -90,7 +91,7 @@ impl Direct {
             return None;
         }
         if letter < b'a' {
-            return None;
+            return self.special_ended(s, from, forms, letter, place);
         }
         let (_count, behind) = disambiguator_at(s, self.at)?;
         let name = name_at(s, behind)?;

@@ -4,9 +4,10 @@ ghost use Rattle.std.specs.Prelude.{◌≡◌, ◌≢◌, ◌≤◌, ◌∷◌, 
 ghost use Rattle.std.specs.List.{AllByRecursion};
 ghost use Rattle.std.specs.Option.{IfSome};
 ghost use Rattle.sym_core.specs.Number.{FitsSymbol};
-ghost use Rattle.rust_direct.specs.Holes.{IsNameAt, IsNumberAt, IsDisambiguatorAt, IsSuffix, is_suffix_byte};
+ghost use Rattle.rust_direct.specs.Holes.{IsNumberAt, IsDisambiguatorAt, IsSuffix, is_namespace, is_suffix_byte};
+ghost use Rattle.rust_direct.specs.Constants.{IsHexAt};
 
-use sym_core::{NameClass, NumberKind, TokenPlace, find_name, find_number, value62};
+use sym_core::{NumberKind, find_number, value16, value62};
 use sym_direct::byte_at;
 
 /// Whether a byte may stand in a suffix.
@@ -19,6 +20,19 @@ fn is_suffix_byte(byte: u8) -> bool
         b'0'..=b'9' => true,
         b'A'..=b'Z' => true,
         b'_' => true,
+        b'a'..=b'z' => true,
+        _ => false,
+    }
+}
+
+/// Whether a byte names a namespace.
+// <namespace> = "C" | "S" | <A-Z> | <a-z>
+#[tactic(auto, unfolding(crate::specs::Holes::is_namespace))]
+pub fn is_namespace(byte: u8) -> bool
+    ensures { result ≡ is_namespace byte }
+{
+    match byte {
+        b'A'..=b'Z' => true,
         b'a'..=b'z' => true,
         _ => false,
     }
@@ -41,20 +55,6 @@ pub fn is_suffix(bytes: &[u8]) -> bool
     are_suffix_bytes(&bytes[1..])
 }
 
-/// The name at a place.
-// <undisambiguated-identifier> = <decimal-number> ["_"] <bytes>
-#[inline(always)]
-pub fn name_at(s: &[u8], at: usize) -> Option<TokenPlace>
-    requires { FitsSymbol s.now }
-    ensures { IfSome result (λ place. (place.from ≤ place.to) × (place.to ≤ length s.now)
-        × IsNameAt s.now at (take (place.to - place.from) (drop place.from s.now)) place.end) }
-{
-    if at > s.len() {
-        return None;
-    }
-    find_name(s, at, NameClass::Rust).ok()
-}
-
 /// The number in base 62 at a place, and the place behind it.
 // <base-62-number> = {<0-9a-zA-Z>} "_"
 #[inline(always)]
@@ -67,6 +67,20 @@ pub fn number_at(s: &[u8], at: usize) -> Option<(u64, usize)>
     }
     let place = find_number(s, at, NumberKind::Base62).ok()?;
     let value = value62(&s[place.from..place.to])?;
+    Some((value, place.end))
+}
+
+/// The number in base 16 at a place, of at most 64 bits, and the place behind it.
+// <const-data> = {<hex-digit>} "_"
+pub fn hex_at(s: &[u8], at: usize) -> Option<(u64, usize)>
+    requires { FitsSymbol s.now }
+    ensures { IfSome result (λ found. IsHexAt s.now at found.0 found.1) }
+{
+    if at > s.len() {
+        return None;
+    }
+    let place = find_number(s, at, NumberKind::Hex).ok()?;
+    let value = u64::try_from(value16(&s[place.from..place.to])?).ok()?;
     Some((value, place.end))
 }
 

@@ -47,7 +47,8 @@ fn basic_text(letter: u8) -> &'static [u8]
 
 impl Direct {
     /// Reads a type, up to the first that stands in it.
-    // <type> = <basic-type> | <path> | <backref> | ..
+    // <type> = <basic-type> | <path> | "S" <type> | "T" {<type>} "E" | "R" [<lifetime>] <type> | "Q" [<lifetime>] <type> | "P" <type>
+    //        | "O" <type> | <backref> | ..
     pub(crate) fn type_at(&mut self, s: &[u8]) -> Option<Step>
         requires fits { FitsSymbol s.now }
         requires writing { IsWriting s.now self.old steps.Type }
@@ -58,7 +59,17 @@ impl Direct {
             b'N' => self.begin_nest(s, false),
             b'I' => self.begin_generic(s, false),
             b'M' => self.begin_impl(s),
+            b'X' => self.begin_trait_impl(s),
+            b'Y' => self.begin_trait(s),
+            b'R' => self.begin_shared(s),
+            b'Q' => self.begin_mutable(s),
+            b'P' => self.begin_const(s),
+            b'O' => self.begin_mut(s),
+            b'S' => self.begin_slice(s),
+            b'T' => self.begin_tuple(s),
             b'B' => self.type_again(s),
+            b'A' => self.begin_array(s),
+            b'D' => self.begin_dyn(s),
             letter => self.basic(s, letter),
         }
     }

@@ -33,7 +33,28 @@ impl Direct {
                 from: begins,
                 closing,
             } => self.wrap_ended(s, from, forms, place, begins, closing),
-            _ => None,
+            Open::Dyn {
+                place,
+                from: begins,
+            } => self.bound_ended(s, from, forms, place, begins),
+            Open::Array {
+                place,
+                from: begins,
+            } => self.array_ended(s, from, forms, place, begins),
+            Open::TraitImpl { place } => self.trait_impl_ended(s, from, forms, place),
+            Open::Implementing {
+                place,
+                from: begins,
+            } => self.implementing_ended(s, from, forms, place, begins),
+            Open::Implemented {
+                place,
+                from: begins,
+            } => self.implemented_ended(s, from, forms, place, begins),
+            Open::Tuple {
+                place,
+                from: begins,
+                is_first,
+            } => self.element_ended(s, from, forms, place, begins, is_first),
         }
     }
 }

@@ -2,13 +2,13 @@
 
 ghost use Rattle.std.specs.Prelude.{◌≡◌, ◌+◌, ◌-◌, ◌≤◌, ◌∷◌, ◌++◌, [], ℕ, suc, slice_get, Some, length};
 ghost use Rattle.std.specs.Option.{OnSome, IfSome};
-ghost use Rattle.rust_direct.specs.Written.{Writes, Notes, piece};
+ghost use Rattle.rust_direct.specs.Written.{Writes, Opens, Notes, piece};
 ghost use Rattle.rust_direct.specs.Notes.{home};
 ghost use Rattle.rust_direct.specs.Stands.{IsWriting};
 ghost use Rattle.rust_direct.specs.Awaits.{IsEnded};
 
 use crate::direct::Direct;
-use crate::open::{Forms, Note, Step};
+use crate::open::{Forms, Note, Open, Step};
 
 impl Direct {
     /// Writes a text.
@@ -35,15 +35,29 @@ impl Direct {
         self.text.push_pair(first, second)
     }
 
+    /// Writes a text, and goes on at another place with what something waits for.
+    #[inline(always)]
+    pub(crate) fn push_open(&mut self, text: &[u8], entry: Open, at: usize) -> Option<()>
+        ensures { OnSome result (Opens self.old self.new text.now entry at) }
+    {
+        self.text.push_all(text)?;
+        self.waiting.push(entry)?;
+        self.at = at;
+        Some(())
+    }
+
     /// Notes what is written from a place of the text on, as what was read from a place of the symbol on.
     #[inline(always)]
-    fn note(&mut self, place: usize, from: usize, forms: Forms) -> Option<()>
+    pub(crate) fn note(&mut self, place: usize, from: usize, forms: Forms) -> Option<()>
         ensures { OnSome result (Notes self.old self.new place from forms) }
     {
         if place >= self.numbers.len() {
             return None;
         }
-        let number = u16::try_from(self.notes.len().checked_add(1)?).ok()?;
+        let count = self.notes.len();
+        if count >= u16::MAX as usize {
+            return None;
+        }
         let to = self.text.len();
         let is_aside = self.is_aside;
         self.notes.push(Note {
@@ -52,7 +66,7 @@ impl Direct {
             forms,
             is_aside,
         })?;
-        self.numbers[place] = number;
+        self.numbers[place] = (count + 1) as u16;
         Some(())
     }
 

@@ -6,7 +6,7 @@ use crate::answer::{Answer, MEMORY, OK, SIZE, tell, tell_refusal};
 use crate::text::symbol_kind;
 use std::alloc::Global;
 use sym_core::{Counts, fits};
-use sym_filter::{Demangled, Demangler, Languages};
+use sym_filter::{Abi, Demangled, Demangler, Languages};
 use sym_print::Detail;
 
 /// The work that a symbol made: the rows of its shape, the nodes of the table in which its parts are shared, and the counted
@@ -35,6 +35,7 @@ pub fn counts_of(
     let languages = Languages {
         limit: 0,
         detail: Detail::Full,
+        cpp: Abi,
     };
     let mut lists = match languages.lists(alloc) {
         Ok(lists) => lists,

@@ -6,7 +6,9 @@ use crate::answer::{Answer, DETAIL, MEMORY, SIZE, finish, tell, tell_refusal, wr
 use std::alloc::Global;
 use sym_core::fits;
 use sym_filter::languages::Lists;
-use sym_filter::{Demangler, Kind, Lang, Languages, ListSink, Pressing, ReaderSource, filter_as};
+use sym_filter::{
+    Abi, Demangler, Kind, Lang, Languages, ListSink, Pressing, ReaderSource, filter_as,
+};
 use sym_print::Detail;
 
 /// The detail of a caller's number, if it is that of one.
@@ -37,8 +39,8 @@ pub(crate) fn symbol_kind(symbol: &[u8]) -> Kind
 /// Writes the text of a symbol to the front of the room, with lists that are used again.
 #[tactic(auto, unfolding(crate::specs::Calls::text_told))]
 pub(crate) fn text_with(
-    languages: Languages,
-    lists: &mut Lists,
+    languages: Languages<Abi>,
+    lists: &mut Lists<Abi>,
     text: &mut Vec<u8>,
     symbol: &[u8],
     room: &mut [u8],
@@ -74,7 +76,11 @@ pub fn text_of(
     let Some(detail) = detail_of(detail) else {
         return tell(DETAIL, answer);
     };
-    let languages = Languages { limit, detail };
+    let languages = Languages {
+        limit,
+        detail,
+        cpp: Abi,
+    };
     let mut lists = Lists::new(alloc);
     let mut text = Vec::new(alloc);
     text_with(languages, &mut lists, &mut text, symbol, room, answer)

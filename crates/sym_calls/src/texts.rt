@@ -6,8 +6,8 @@ ghost use Rattle.sym_calls.specs.Texts.{AreTold, IsTold, TextsEndAs, are_ends, p
 use crate::answer::{Answer, DETAIL, ENDS, OK, Told};
 use crate::text::{detail_of, text_with};
 use std::alloc::Global;
-use sym_filter::Languages;
 use sym_filter::languages::Lists;
+use sym_filter::{Abi, Languages};
 
 /// Whether ends go up, from 0 to at most the length of a text.
 fn are_ends(ends: &[usize], len: usize) -> bool
@@ -25,8 +25,8 @@ fn are_ends(ends: &[usize], len: usize) -> bool
 
 /// Writes the text of one of many symbols to the front of the room that is left.
 fn told_of(
-    languages: Languages,
-    lists: &mut Lists,
+    languages: Languages<Abi>,
+    lists: &mut Lists<Abi>,
     text: &mut Vec<u8>,
     symbol: &[u8],
     room: &mut [u8],
@@ -58,7 +58,7 @@ fn tell_each(
     alloc: Global,
     text: &[u8],
     ends: &[usize],
-    languages: Languages,
+    languages: Languages<Abi>,
     room: &mut [u8],
     answers: &mut [Told],
 )
@@ -106,7 +106,11 @@ pub fn texts_of(
     if !are_ends(ends, text.len()) {
         return ENDS;
     }
-    let languages = Languages { limit, detail };
+    let languages = Languages {
+        limit,
+        detail,
+        cpp: Abi,
+    };
     tell_each(alloc, text, ends, languages, room, answers);
     OK
 }

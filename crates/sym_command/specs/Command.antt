@@ -2,10 +2,13 @@
 use Rattle.std.specs.Prelude.{◌≡◌, ◌≢◌, ◌⊎◌, ℕ, List, [], ◌++◌, Bool, true, false, Option}
 use Rattle.std.specs.List.{flat_map}
 use Rattle.std.specs.Io.KnownBytes.{Appends}
-use Rattle.sym_filter.specs.Languages.{answer_of, pressed_of, AreCountsOf}
+use Rattle.sym_print.specs.declared.detail.Detail.{Detail}
+use Rattle.sym_filter.specs.Languages.{answer_of, wide_answer_of, pressed_of, AreCountsOf, AreWideCountsOf}
 use Rattle.sym_filter.specs.Runs.{Answering}
 use Rattle.sym_filter.specs.Streams.{BeginsWith}
 use Rattle.sym_command.specs.Lines.{Counting, AreLines, complaint_of, status_of}
+use Rattle.sym_command.specs.declared.command.Asked.{Asked}
+use Rattle.sym_command.specs.declared.command.Asked.TheVariants.{Text, WideText, Pressed}
 use Rattle.sym_command.specs.declared.command.Options.{Options}
 use Rattle.sym_command.specs.declared.outcome.Run.{Run}
 use Rattle.sym_command.specs.declared.outcome.Run.TheVariants.{Done, Filter}
@@ -38,28 +41,42 @@ pub record AnswersFront (answers : Answering) (counting : Counting) (stats : Boo
   pub lines_begin : BeginsWith whole lines
   pub said_begin : BeginsWith (flat_map (complaint_of answers) first) said
 
--- what the options ask of each symbol: its pressed spelling, or its text at the limit and in the detail
+-- what is asked of each symbol: its text at a limit and in a detail, with C++ by either grammar, or its pressed spelling
+abbrev pub answers_at : Asked → ℕ → Detail → Answering
+answers_at Text limit detail = answer_of limit detail
+answers_at WideText limit detail = wide_answer_of limit detail
+answers_at Pressed limit detail = pressed_of
+
 abbrev pub answers_of : Options → Answering
-answers_of options = elim options.press [ true ↦ pressed_of | false ↦ answer_of options.limit options.detail ]
+answers_of options = answers_at options.asked options.limit options.detail
+
+-- which counts are those of a symbol then
+abbrev pub counting_at : Asked → Counting
+counting_at Text = AreCountsOf
+counting_at WideText = AreWideCountsOf
+counting_at Pressed = AreCountsOf
+
+abbrev pub counting_of : Options → Counting
+counting_of options = counting_at options.asked
 
 -- Words, and how they are answered. Which words and options a command line has is its parser's to say.
 pub record AreAnswered (status : ℕ) (lines said : List ℕ) : Type 0 where
   pub options : Options
   pub words : List (List ℕ)
   pub some : words ≢ []
-  pub answered : AnswersWords (answers_of options) AreCountsOf options.stats words status lines said
+  pub answered : AnswersWords (answers_of options) (counting_of options) options.stats words status lines said
 
 -- a command line with words has answered them, one that was refused or asked for help has written no line for them, and one that
 -- asks for the filter has written nothing
 abbrev pub IsRun : Run → List ℕ → List ℕ → Type 0
 IsRun (Done status) lines said = AreAnswered status lines said ⊎ ((status ≡ 2) × (lines ≡ []))
-IsRun (Filter limit detail) lines said = (lines ≡ []) × (said ≡ [])
+IsRun (Filter limit detail letters wide) lines said = (lines ≡ []) × (said ≡ [])
 
 -- beginnings of the lines of some words
 pub record AreBegun (lines said : List ℕ) : Type 0 where
   pub options : Options
   pub words : List (List ℕ)
-  pub front : AnswersFront (answers_of options) AreCountsOf options.stats words lines said
+  pub front : AnswersFront (answers_of options) (counting_of options) options.stats words lines said
 
 -- A command line that a fault stopped has written beginnings of the lines of some words, or, before it knew them, nothing but
 -- what its parser says.

@@ -1,8 +1,7 @@
 // The command line.
 ghost use Rattle.std.specs.Prelude.{◌≡◌, ◌≢◌, ◌⊎◌, ◌+◌, ◌-◌, ◌^◌, ◌<◌, List, ℕ, ◌++◌, OnErr, IfOk, IfErr, map};
 ghost use Rattle.sym_filter.specs.Streams.{writer_faults};
-ghost use Rattle.sym_filter.specs.Languages.{AreCountsOf};
-ghost use Rattle.sym_command.specs.Command.{Took, answers_of, Says, AnswersWords, AnswersFront, IsRun, IsStopped};
+ghost use Rattle.sym_command.specs.Command.{Took, answers_of, counting_of, Says, AnswersWords, AnswersFront, IsRun, IsStopped};
 ghost use Rattle.sym_command.specs.declared.outcome.Run.{Run as Run-type};
 
 use crate::lines::answer_word;
@@ -12,7 +11,9 @@ use clap::error::ErrorKind;
 use clap::{Arg, ArgAction, ArgMatches, Command, Error};
 use std::alloc::Global;
 use std::mem;
-use sym_filter::{Demangler, FilterFault, Languages, ListSink, Pressing, Sink, write_all};
+use sym_filter::{
+    Abi, Demangler, FilterFault, Languages, Letters, ListSink, Pressing, Sink, Wide, write_all,
+};
 use sym_print::Detail;
 
 /// The status where each word has a text.
@@ -40,13 +41,24 @@ Examples:
   symfilt < FILE           a file; no argument names one
   symfilt --brief _Z1fIiEvT_";
 
+/// What is asked of each symbol.
+#[derive(Clone, Copy, Debug, PartialEq, Eq)]
+pub enum Asked {
+    /// Its text.
+    Text,
+    /// Its text, where C++ is read by the wide grammar.
+    WideText,
+    /// Its pressed spelling.
+    Pressed,
+}
+
 /// How symbols are answered.
 #[derive(Clone, Copy, Debug, PartialEq, Eq)]
 pub struct Options {
     pub limit: u32,
     pub detail: Detail,
     pub stats: bool,
-    pub press: bool,
+    pub asked: Asked,
 }
 
 /// Appends the lines for the words of a command line, the program's name first, and says what the program is to do.
@@ -101,9 +113,15 @@ fn command_line<'a>(alloc: Global, words: &'a [&'a str]) -> Result<ArgMatches<'a
     let press = flag(alloc, "press").help(
         "Spell each symbol again with its repeated parts as references, in place of printing it",
     );
+    let wide = flag(alloc, "wide").help(
+        "Read C++ symbols that compilers write beside those of the ABI's first grammar, too",
+    );
     let brief = flag(alloc, "brief").help("Leave out template and generic arguments");
     let no_params = flag(alloc, "no-params").help(
         "Print each C++ function by its name, without return type and parameters",
+    );
+    let ascii_words = flag(alloc, "ascii-words").help(
+        "Let the words of standard input end at bytes that aren't ASCII, as at the quotes that compilers put around symbols",
     );
     let symbols = Arg::new(alloc, "SYMBOL")
         .num_args(0..)
@@ -116,8 +134,10 @@ fn command_line<'a>(alloc: Global, words: &'a [&'a str]) -> Result<ArgMatches<'a
         .arg(limit)?
         .arg(stats)?
         .arg(press)?
+        .arg(wide)?
         .arg(brief)?
         .arg(no_params)?
+        .arg(ascii_words)?
         .arg(symbols)?
         .try_get_matches_from(words)
 }
@@ -165,14 +185,33 @@ fn detail_of(brief: bool, no_params: bool) -> Detail {
     }
 }
 
-/// The options of a command line.
-fn options_of(matches: &ArgMatches<'_>) -> Options {
-    Options {
+/// The letters of words that a flag asks for.
+fn letters_of(ascii_words: bool) -> Letters {
+    if ascii_words {
+        return Letters::Ascii;
+    }
+    Letters::Any
+}
+
+/// What two flags ask of each symbol, which don't go together.
+fn asked_of(press: bool, wide: bool) -> Option<Asked> {
+    match (press, wide) {
+        (false, false) => Some(Asked::Text),
+        (false, true) => Some(Asked::WideText),
+        (true, false) => Some(Asked::Pressed),
+        (true, true) => None,
+    }
+}
+
+/// The options of a command line, if they go together.
+fn options_of(matches: &ArgMatches<'_>) -> Option<Options> {
+    let asked = asked_of(matches.get_flag("press"), matches.get_flag("wide"))?;
+    Some(Options {
         limit: matches.get_one::<u32>("limit").unwrap_or(DEFAULT_LIMIT),
         detail: detail_of(matches.get_flag("brief"), matches.get_flag("no-params")),
         stats: matches.get_flag("stats"),
-        press: matches.get_flag("press"),
-    }
+        asked,
+    })
 }
 
 /// Writes the lines of each symbol, or says that standard input is to be filtered.
@@ -190,18 +229,22 @@ fn answer_all<W: Sink, E: Sink>(
     ensures failures { W.failure_count out.new + E.failure_count err.new
         ≡ W.failure_count out.old + E.failure_count err.old + writer_faults result }
 {
-    let options = options_of(matches);
+    let Some(options) = options_of(matches) else {
+        return refuse_with(err, b"symfilt: --press doesn't go with --wide\n");
+    };
     let symbols = matches.get_strs("SYMBOL").unwrap_or_default();
     if !symbols.is_empty() {
         let status = answer_symbols(alloc, options, symbols, out, err)?;
         return Ok(Run::Done(status));
     }
-    if options.stats || options.press {
+    if options.stats || options.asked == Asked::Pressed {
         return refuse_with(err, b"symfilt: --press and --stats need a symbol\n");
     }
     Ok(Run::Filter {
         limit: options.limit,
         detail: options.detail,
+        letters: letters_of(matches.get_flag("ascii-words")),
+        wide: options.asked == Asked::WideText,
     })
 }
 
@@ -216,9 +259,9 @@ fn answer_symbols<W: Sink, E: Sink>(
     requires out_failures { W.failure_count out.old < 2 ^ 64 - 1 }
     requires err_failures { E.failure_count err.old < 2 ^ 64 - 1 }
     ensures ok { IfOk result (λ status. Took (W.taken out.old) (W.taken out.new) (E.taken err.old) (E.taken err.new)
-        (AnswersWords (answers_of options) AreCountsOf options.stats (map (λ word. word.now) words.now) status)) }
+        (AnswersWords (answers_of options) (counting_of options) options.stats (map (λ word. word.now) words.now) status)) }
     ensures err { OnErr result (Took (W.taken out.old) (W.taken out.new) (E.taken err.old) (E.taken err.new)
-        (AnswersFront (answers_of options) AreCountsOf options.stats (map (λ word. word.now) words.now))) }
+        (AnswersFront (answers_of options) (counting_of options) options.stats (map (λ word. word.now) words.now))) }
     ensures fault { IfErr result (λ fault. fault ≢ FilterFault.Read) }
     ensures failures { W.failure_count out.new + E.failure_count err.new
         ≡ W.failure_count out.old + E.failure_count err.old + writer_faults result }
@@ -227,13 +270,27 @@ fn answer_symbols<W: Sink, E: Sink>(
         limit,
         detail,
         stats,
-        press,
+        asked,
     } = options;
-    if press {
-        return answer_words(alloc, &Pressing, stats, words, out, err);
+    match asked {
+        Asked::Text => {
+            let languages = Languages {
+                limit,
+                detail,
+                cpp: Abi,
+            };
+            answer_words(alloc, &languages, stats, words, out, err)
+        }
+        Asked::WideText => {
+            let languages = Languages {
+                limit,
+                detail,
+                cpp: Wide,
+            };
+            answer_words(alloc, &languages, stats, words, out, err)
+        }
+        Asked::Pressed => answer_words(alloc, &Pressing, stats, words, out, err),
     }
-    let languages = Languages { limit, detail };
-    answer_words(alloc, &languages, stats, words, out, err)
 }
 
 /// Writes the lines of words, and answers the status: whether each has a text.

@@ -6,5 +6,5 @@ mod lines;
 mod outcome;
 mod page;
 
-pub use command::{FAULT, Options, answer_words, refuse_with, run, run_to};
+pub use command::{Asked, FAULT, Options, answer_words, refuse_with, run, run_to};
 pub use outcome::Run;

@@ -130,6 +130,17 @@ impl Bounded<u8> {
         }
         copy_to_end(&mut self.list, from, to)
     }
+
+    /// Takes its first bytes away.
+    pub fn drop_first(&mut self, count: usize)
+        requires within { count ≤ length self.old.list.items }
+        ensures items { self.new.list.items ≡ drop count self.old.list.items }
+        ensures room { self.new.room ≡ self.old.room }
+    {
+        let left = self.list.len() - count;
+        self.list.rotate_left(count);
+        self.list.truncate(left);
+    }
 }
 
 /// Adds bytes of a list to its end.

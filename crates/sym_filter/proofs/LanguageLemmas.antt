@@ -12,7 +12,7 @@ use Rattle.sym_demangle.specs.Mangled.{Mangled, IsAnswer, IsReading, answer}
 use Rattle.sym_demangle.specs.Standing.{AreStepsInAll, AreNodesOf}
 use Rattle.sym_demangle.proofs.Answering.{is_answer, reading_answered}
 use Rattle.sym_filter.specs.Demangled.{IsAppended, IsDemangled}
-use Rattle.sym_filter.specs.Languages.{behind_front, Readings, AreCounts, AreCountsOf}
+use Rattle.sym_filter.specs.Languages.{behind_front, Readings, AreCounts}
 use Rattle.sym_filter.specs.declared.demangler.Demangled.{Demangled}
 use Rattle.sym_filter.specs.declared.kinds.Lang.{Lang}
 
@@ -78,10 +78,10 @@ read_counts readings symbol read counts rows steps nodes (shape, are_rows, same)
     }
 
 -- what was done with a symbol of a language, where the language is known by an equation
-pub demangled_in : (answers : Lang → Result (List ℕ) Refusal) (lang known : Lang) (symbol old new : List ℕ) (demangled : Demangled) → lang ≡ known
-    → IsDemangled (answers known) (AreCountsOf known symbol) old new demangled → IsDemangled (answers lang) (AreCountsOf lang symbol) old new demangled
-demangled_in answers lang known symbol old new demangled same is =
-    subst (λ l. IsDemangled (answers l) (AreCountsOf l symbol) old new demangled) (sym same) is
+pub demangled_in : (answers : Lang → Result (List ℕ) Refusal) (counting : Lang → List ℕ → Counts → Type 0) (lang known : Lang) (symbol old new : List ℕ) (demangled : Demangled) → lang ≡ known
+    → IsDemangled (answers known) (counting known symbol) old new demangled → IsDemangled (answers lang) (counting lang symbol) old new demangled
+demangled_in answers counting lang known symbol old new demangled same is =
+    subst (λ l. IsDemangled (answers l) (counting l symbol) old new demangled) (sym same) is
 
 -- ## Symbols that are pressed
 

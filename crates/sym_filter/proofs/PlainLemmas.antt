@@ -3,27 +3,28 @@ use Rattle.std.proofs.Common.{◌≡◌, ℕ, ◌+◌, ◌-◌, ◌<◌, ◌≤�
 use Rattle.std.specs.List.{list_all}
 use Rattle.std.proofs.lemmas.Bool.{and_parts, and_from, and_left, cond-false, ne_eqb}
 use Rattle.std.proofs.lemmas.List.{take_more, take-append-drop}
-use Rattle.sym_filter.specs.Runs.{is_run_byte, word_of}
+use Rattle.sym_filter.specs.declared.kinds.Letters.{Letters}
+use Rattle.sym_filter.specs.Runs.{is_byte_of, word_of}
 use Rattle.sym_filter.specs.Plain.{is_plain, is_in_run}
 use Rattle.sym_filter.proofs.RunLemmas.{is_dot, word_of-part, word_of-append_dots}
 
 -- a byte more
-pub is_plain-more : (in_run : Bool) (front : List ℕ) (byte : ℕ) → is_plain in_run front ≡ true → (is_in_run in_run front || not (eqb byte 95)) ≡ true → is_plain in_run (front ++ byte ∷ []) ≡ true
-is_plain-more in_run [] byte h next = and_from _ _ next refl
-is_plain-more in_run (first ∷ front) byte h next =
-    let parts = and_parts (in_run || not (eqb first 95)) (is_plain (is_run_byte first) front) h in
-    and_from _ _ parts.0 (is_plain-more (is_run_byte first) front byte parts.1 next)
+pub is_plain-more : (letters : Letters) (in_run : Bool) (front : List ℕ) (byte : ℕ) → is_plain letters in_run front ≡ true → (is_in_run letters in_run front || not (eqb byte 95)) ≡ true → is_plain letters in_run (front ++ byte ∷ []) ≡ true
+is_plain-more letters in_run [] byte h next = and_from _ _ next refl
+is_plain-more letters in_run (first ∷ front) byte h next =
+    let parts = and_parts (in_run || not (eqb first 95)) (is_plain letters (is_byte_of letters first) front) h in
+    and_from _ _ parts.0 (is_plain-more letters (is_byte_of letters first) front byte parts.1 next)
 
-pub is_in_run-more : (in_run : Bool) (front : List ℕ) (byte : ℕ) → is_in_run in_run (front ++ byte ∷ []) ≡ is_run_byte byte
-is_in_run-more in_run [] byte = refl
-is_in_run-more in_run (first ∷ front) byte = is_in_run-more (is_run_byte first) front byte
+pub is_in_run-more : (letters : Letters) (in_run : Bool) (front : List ℕ) (byte : ℕ) → is_in_run letters in_run (front ++ byte ∷ []) ≡ is_byte_of letters byte
+is_in_run-more letters in_run [] byte = refl
+is_in_run-more letters in_run (first ∷ front) byte = is_in_run-more letters (is_byte_of letters first) front byte
 
 -- the front of a text with its next byte
-pub is_plain-take : (in_run : Bool) (text : List ℕ) (i d : ℕ) → i < length text → is_plain in_run (take i text) ≡ true → (is_in_run in_run (take i text) || not (eqb (get_or text i d) 95)) ≡ true → is_plain in_run (take (i + 1) text) ≡ true
-is_plain-take in_run text i d h plain next = ap (is_plain in_run) (take_more text i d h) ∙ is_plain-more in_run (take i text) (get_or text i d) plain next
+pub is_plain-take : (letters : Letters) (in_run : Bool) (text : List ℕ) (i d : ℕ) → i < length text → is_plain letters in_run (take i text) ≡ true → (is_in_run letters in_run (take i text) || not (eqb (get_or text i d) 95)) ≡ true → is_plain letters in_run (take (i + 1) text) ≡ true
+is_plain-take letters in_run text i d h plain next = ap (is_plain letters in_run) (take_more text i d h) ∙ is_plain-more letters in_run (take i text) (get_or text i d) plain next
 
-pub is_in_run-take : (in_run : Bool) (text : List ℕ) (i d : ℕ) → i < length text → is_in_run in_run (take (i + 1) text) ≡ is_run_byte (get_or text i d)
-is_in_run-take in_run text i d h = ap (is_in_run in_run) (take_more text i d h) ∙ is_in_run-more in_run (take i text) (get_or text i d)
+pub is_in_run-take : (letters : Letters) (in_run : Bool) (text : List ℕ) (i d : ℕ) → i < length text → is_in_run letters in_run (take (i + 1) text) ≡ is_byte_of letters (get_or text i d)
+is_in_run-take letters in_run text i d h = ap (is_in_run letters in_run) (take_more text i d h) ∙ is_in_run-more letters in_run (take i text) (get_or text i d)
 
 pub goes_on : (in_run : Bool) (byte : ℕ) → in_run ≡ true → (in_run || not (eqb byte 95)) ≡ true
 goes_on true byte h = refl

@@ -9,8 +9,10 @@ use Rattle.std.proofs.lemmas.List.Folds.{list_all-append}
 use Rattle.std.proofs.lemmas.List.{append-nil, length-drop}
 use Rattle.std.proofs.Math.Seq.{drop-append_seam}
 use Rattle.std.proofs.Math.Bool.{and-true}
-use Rattle.sym_filter.specs.Runs.{Answering, is_run_byte, first_run, later_runs, with_later_runs, with_runs, replaced, is_named, named_runs, text_for, word_or_text, word_of, dots_behind}
+use Rattle.sym_filter.specs.Runs.{Answering, is_run_byte, is_byte_of, first_run, later_runs, with_later_runs, with_runs, replaced, is_named, named_runs, text_for, word_or_text, word_of, dots_behind}
 use Rattle.sym_filter.specs.declared.kinds.Kind.{Kind}
+use Rattle.sym_filter.specs.declared.kinds.Letters.{Letters}
+use Rattle.sym_filter.specs.declared.kinds.Letters.TheVariants.{Any, Ascii}
 use Rattle.sym_filter.specs.Kinds.{kind_of, kind_by_beginning, symbol_of}
 use Rattle.sym_filter.specs.declared.kinds.TheConstants.{LONGEST_WORD}
 
@@ -18,37 +20,37 @@ abbrev pub is_dot : ℕ → Bool
 is_dot byte = eqb byte 46
 
 -- a front of a run is a front of the first run
-pub first_run-append : (run more : List ℕ) → list_all is_run_byte run ≡ true → first_run (run ++ more) ≡ run ++ first_run more
-first_run-append [] more h = refl
-first_run-append (byte ∷ run) more h =
-    let parts = and_parts (is_run_byte byte) (list_all is_run_byte run) h in
-    cond-true (is_run_byte byte) _ _ parts.0 ∙ ap (λ (t : List ℕ). byte ∷ t) (first_run-append run more parts.1)
+pub first_run-append : (letters : Letters) (run more : List ℕ) → list_all (is_byte_of letters) run ≡ true → first_run letters (run ++ more) ≡ run ++ first_run letters more
+first_run-append letters [] more h = refl
+first_run-append letters (byte ∷ run) more h =
+    let parts = and_parts (is_byte_of letters byte) (list_all (is_byte_of letters) run) h in
+    cond-true (is_byte_of letters byte) _ _ parts.0 ∙ ap (λ (t : List ℕ). byte ∷ t) (first_run-append letters run more parts.1)
 
 -- and it changes nothing behind
-pub with_later_runs-append : (change : List ℕ → List ℕ) (run more : List ℕ) → list_all is_run_byte run ≡ true → with_later_runs change (run ++ more) ≡ with_later_runs change more
-with_later_runs-append change [] more h = refl
-with_later_runs-append change (byte ∷ run) more h =
-    let parts = and_parts (is_run_byte byte) (list_all is_run_byte run) h in
-    cond-true (is_run_byte byte) _ _ parts.0 ∙ with_later_runs-append change run more parts.1
+pub with_later_runs-append : (letters : Letters) (change : List ℕ → List ℕ) (run more : List ℕ) → list_all (is_byte_of letters) run ≡ true → with_later_runs letters change (run ++ more) ≡ with_later_runs letters change more
+with_later_runs-append letters change [] more h = refl
+with_later_runs-append letters change (byte ∷ run) more h =
+    let parts = and_parts (is_byte_of letters byte) (list_all (is_byte_of letters) run) h in
+    cond-true (is_byte_of letters byte) _ _ parts.0 ∙ with_later_runs-append letters change run more parts.1
 
-pub later_runs-append : (run more : List ℕ) → list_all is_run_byte run ≡ true → later_runs (run ++ more) ≡ later_runs more
-later_runs-append [] more h = refl
-later_runs-append (byte ∷ run) more h =
-    let parts = and_parts (is_run_byte byte) (list_all is_run_byte run) h in
-    cond-true (is_run_byte byte) _ _ parts.0 ∙ later_runs-append run more parts.1
+pub later_runs-append : (letters : Letters) (run more : List ℕ) → list_all (is_byte_of letters) run ≡ true → later_runs letters (run ++ more) ≡ later_runs letters more
+later_runs-append letters [] more h = refl
+later_runs-append letters (byte ∷ run) more h =
+    let parts = and_parts (is_byte_of letters byte) (list_all (is_byte_of letters) run) h in
+    cond-true (is_byte_of letters byte) _ _ parts.0 ∙ later_runs-append letters run more parts.1
 
 -- a run that ends at another byte, or at the end of the text
-pub with_runs-ends : (change : List ℕ → List ℕ) (run : List ℕ) (byte : ℕ) (more : List ℕ) → list_all is_run_byte run ≡ true → is_run_byte byte ≡ false → with_runs change (run ++ (byte ∷ more)) ≡ change run ++ (byte ∷ with_runs change more)
-with_runs-ends change run byte more h other =
-    let first : first_run (run ++ (byte ∷ more)) ≡ run = first_run-append run (byte ∷ more) h ∙ ap (λ t. run ++ t) (cond-false (is_run_byte byte) _ _ other) ∙ append-nil run in
-    let later : with_later_runs change (run ++ (byte ∷ more)) ≡ byte ∷ with_runs change more = with_later_runs-append change run (byte ∷ more) h ∙ cond-false (is_run_byte byte) _ _ other in
+pub with_runs-ends : (letters : Letters) (change : List ℕ → List ℕ) (run : List ℕ) (byte : ℕ) (more : List ℕ) → list_all (is_byte_of letters) run ≡ true → is_byte_of letters byte ≡ false → with_runs letters change (run ++ (byte ∷ more)) ≡ change run ++ (byte ∷ with_runs letters change more)
+with_runs-ends letters change run byte more h other =
+    let first : first_run letters (run ++ (byte ∷ more)) ≡ run = first_run-append letters run (byte ∷ more) h ∙ ap (λ t. run ++ t) (cond-false (is_byte_of letters byte) _ _ other) ∙ append-nil run in
+    let later : with_later_runs letters change (run ++ (byte ∷ more)) ≡ byte ∷ with_runs letters change more = with_later_runs-append letters change run (byte ∷ more) h ∙ cond-false (is_byte_of letters byte) _ _ other in
     ap₂ (λ (a b : List ℕ). change a ++ b) first later
 
-pub with_runs-run : (change : List ℕ → List ℕ) (run : List ℕ) → list_all is_run_byte run ≡ true → with_runs change run ≡ change run
-with_runs-run change run h =
+pub with_runs-run : (letters : Letters) (change : List ℕ → List ℕ) (run : List ℕ) → list_all (is_byte_of letters) run ≡ true → with_runs letters change run ≡ change run
+with_runs-run letters change run h =
     let whole : run ++ [] ≡ run = append-nil run in
-    let first : first_run run ≡ run = ap first_run (sym whole) ∙ first_run-append run [] h ∙ whole in
-    let later : with_later_runs change run ≡ [] = ap (with_later_runs change) (sym whole) ∙ with_later_runs-append change run [] h in
+    let first : first_run letters run ≡ run = ap (first_run letters) (sym whole) ∙ first_run-append letters run [] h ∙ whole in
+    let later : with_later_runs letters change run ≡ [] = ap (with_later_runs letters change) (sym whole) ∙ with_later_runs-append letters change run [] h in
     ap₂ (λ (a b : List ℕ). change a ++ b) first later ∙ append-nil (change run)
 
 filter-step : (run : List ℕ) (rest : List (List ℕ)) (b : Bool) → cond b (run ∷ rest) rest ≡ cond b (run ∷ []) [] ++ rest
@@ -58,11 +60,11 @@ filter-step run rest false = refl
 filter-front : (run : List ℕ) (rest : List (List ℕ)) → cond (is_named run) (run ∷ rest) rest ≡ filter is_named (run ∷ []) ++ rest
 filter-front run rest = filter-step run rest (is_named run)
 
-pub named_runs-ends : (run : List ℕ) (byte : ℕ) (more : List ℕ) → list_all is_run_byte run ≡ true → is_run_byte byte ≡ false → named_runs (run ++ (byte ∷ more)) ≡ filter is_named (run ∷ []) ++ named_runs more
-named_runs-ends run byte more h other =
-    let first : first_run (run ++ (byte ∷ more)) ≡ run = first_run-append run (byte ∷ more) h ∙ ap (λ t. run ++ t) (cond-false (is_run_byte byte) _ _ other) ∙ append-nil run in
-    let later : later_runs (run ++ (byte ∷ more)) ≡ first_run more ∷ later_runs more = later_runs-append run (byte ∷ more) h ∙ cond-false (is_run_byte byte) _ _ other in
-    ap₂ (λ (a : List ℕ) (b : List (List ℕ)). filter is_named (a ∷ b)) first later ∙ filter-front run (named_runs more)
+pub named_runs-ends : (letters : Letters) (run : List ℕ) (byte : ℕ) (more : List ℕ) → list_all (is_byte_of letters) run ≡ true → is_byte_of letters byte ≡ false → named_runs letters (run ++ (byte ∷ more)) ≡ filter is_named (run ∷ []) ++ named_runs letters more
+named_runs-ends letters run byte more h other =
+    let first : first_run letters (run ++ (byte ∷ more)) ≡ run = first_run-append letters run (byte ∷ more) h ∙ ap (λ t. run ++ t) (cond-false (is_byte_of letters byte) _ _ other) ∙ append-nil run in
+    let later : later_runs letters (run ++ (byte ∷ more)) ≡ first_run letters more ∷ later_runs letters more = later_runs-append letters run (byte ∷ more) h ∙ cond-false (is_byte_of letters byte) _ _ other in
+    ap₂ (λ (a : List ℕ) (b : List (List ℕ)). filter is_named (a ∷ b)) first later ∙ filter-front run (named_runs letters more)
 
 -- a word is what stands before the trailing dots
 pub word_of-dots : (dots : List ℕ) → list_all is_dot dots ≡ true → word_of dots ≡ []
@@ -97,19 +99,20 @@ pub list_all-dots : (n : ℕ) → list_all is_dot (replicate n 46) ≡ true
 list_all-dots zero = refl
 list_all-dots (suc n) = list_all-dots n
 
-dot_is_run_byte : is_run_byte 46 ≡ true
+dot_is_run_byte : (letters : Letters) → is_byte_of letters 46 ≡ true
 unfolding is_run_byte
-dot_is_run_byte = refl
+dot_is_run_byte Any = refl
+dot_is_run_byte Ascii = refl
 
-pub list_all-run_dots : (n : ℕ) → list_all is_run_byte (replicate n 46) ≡ true
-list_all-run_dots zero = refl
-list_all-run_dots (suc n) = and_from (is_run_byte 46) (list_all is_run_byte (replicate n 46)) dot_is_run_byte (list_all-run_dots n)
+pub list_all-run_dots : (letters : Letters) (n : ℕ) → list_all (is_byte_of letters) (replicate n 46) ≡ true
+list_all-run_dots letters zero = refl
+list_all-run_dots letters (suc n) = and_from (is_byte_of letters 46) (list_all (is_byte_of letters) (replicate n 46)) (dot_is_run_byte letters) (list_all-run_dots letters n)
 
 pub word_of-held : (held : List ℕ) (dots : ℕ) → word_of held ≡ held → word_of (held ++ replicate dots 46) ≡ held
 word_of-held held dots h = word_of-append_dots held (replicate dots 46) (list_all-dots dots) ∙ h
 
-pub list_all-held : (held : List ℕ) (dots : ℕ) → list_all is_run_byte held ≡ true → list_all is_run_byte (held ++ replicate dots 46) ≡ true
-list_all-held held dots h = list_all-append is_run_byte held (replicate dots 46) ∙ and_from _ _ h (list_all-run_dots dots)
+pub list_all-held : (letters : Letters) (held : List ℕ) (dots : ℕ) → list_all (is_byte_of letters) held ≡ true → list_all (is_byte_of letters) (held ++ replicate dots 46) ≡ true
+list_all-held letters held dots h = list_all-append (is_byte_of letters) held (replicate dots 46) ∙ and_from _ _ h (list_all-run_dots letters dots)
 
 pub replaced-held : (answers : Answering) (held : List ℕ) (dots : ℕ) → word_of held ≡ held → replaced answers (held ++ replicate dots 46) ≡ word_or_text answers held ++ replicate dots 46
 unfolding replaced
@@ -203,19 +206,19 @@ pub kind_of-other : (byte : ℕ) (more : List ℕ) → (byte ≡ 95 → ⊥) →
 kind_of-other byte more other = kind_of-step byte (word_of more) (list_all is_dot (byte ∷ more)) other
 
 -- a run that is passed on
-pub with_runs-append : (change : List ℕ → List ℕ) (run more : List ℕ) → list_all is_run_byte run ≡ true → with_runs change (run ++ more) ≡ change (run ++ first_run more) ++ with_later_runs change more
-with_runs-append change run more h = ap₂ (λ (a b : List ℕ). change a ++ b) (first_run-append run more h) (with_later_runs-append change run more h)
+pub with_runs-append : (letters : Letters) (change : List ℕ → List ℕ) (run more : List ℕ) → list_all (is_byte_of letters) run ≡ true → with_runs letters change (run ++ more) ≡ change (run ++ first_run letters more) ++ with_later_runs letters change more
+with_runs-append letters change run more h = ap₂ (λ (a b : List ℕ). change a ++ b) (first_run-append letters run more h) (with_later_runs-append letters change run more h)
 
-pub named_runs-append : (run more : List ℕ) → list_all is_run_byte run ≡ true → named_runs (run ++ more) ≡ filter is_named ((run ++ first_run more) ∷ later_runs more)
-named_runs-append run more h = ap₂ (λ (a : List ℕ) (b : List (List ℕ)). filter is_named (a ∷ b)) (first_run-append run more h) (later_runs-append run more h)
+pub named_runs-append : (letters : Letters) (run more : List ℕ) → list_all (is_byte_of letters) run ≡ true → named_runs letters (run ++ more) ≡ filter is_named ((run ++ first_run letters more) ∷ later_runs letters more)
+named_runs-append letters run more h = ap₂ (λ (a : List ℕ) (b : List (List ℕ)). filter is_named (a ∷ b)) (first_run-append letters run more h) (later_runs-append letters run more h)
 
 -- the text of a word is its symbol's
 pub text_for-named : (answers : Answering) (word : List ℕ) (kind : Kind) (answer : Result (List ℕ) Refusal) → kind_of word ≡ Some kind → answers kind (symbol_of kind word) ≡ answer → text_for answers word ≡ result_ok answer
 unfolding text_for
 text_for-named answers word kind answer h is = rw (h, is) refl
 
-pub named_runs-run : (run : List ℕ) → list_all is_run_byte run ≡ true → named_runs (run ++ []) ≡ filter is_named (run ∷ [])
-named_runs-run run h = named_runs-append run [] h ∙ ap (λ (t : List ℕ). filter is_named (t ∷ [])) (append-nil run)
+pub named_runs-run : (letters : Letters) (run : List ℕ) → list_all (is_byte_of letters) run ≡ true → named_runs letters (run ++ []) ≡ filter is_named (run ∷ [])
+named_runs-run letters run h = named_runs-append letters run [] h ∙ ap (λ (t : List ℕ). filter is_named (t ∷ [])) (append-nil run)
 
 -- the symbol of a word, by its answer
 pub text_of-symbol : (answers : Answering) (word symbol : List ℕ) (kind : Kind) (answer : Result (List ℕ) Refusal) → kind_of word ≡ Some kind → symbol ≡ symbol_of kind word → answers kind symbol ≡ answer → text_for answers word ≡ result_ok answer

@@ -6,7 +6,7 @@ use Rattle.sym_shape.specs.declared.rule.Row.{Row}
 use Rattle.sym_shape.specs.Tree.{Tree, AreRowsOf}
 use Rattle.sym_demangle.specs.Mangled.{Mangled, IsReading, answer}
 use Rattle.sym_demangle.specs.Standing.{AreStepsInAll, AreNodesOf}
-use Rattle.cpp_grammar.specs.Mangled.{cpp_mangled}
+use Rattle.cpp_grammar.specs.Mangled.{cpp_mangled, wide_mangled}
 use Rattle.cpp_grammar.specs.Term.{Term}
 use Rattle.cpp_layout.specs.Layout as cpp
 use Rattle.cpp_link.specs.NodeCount as cpp_count
@@ -23,14 +23,21 @@ use Rattle.sym_filter.specs.declared.kinds.Kind.{Kind}
 use Rattle.sym_filter.specs.declared.kinds.Lang.{Lang}
 use Rattle.sym_filter.specs.declared.kinds.Lang.TheVariants.{Cpp, Rust}
 
--- at a limit and a detail
+-- at a limit and a detail, where C++ is a mangling of these trees
+abbrev pub language_answer_by : {W : Type 0} → Mangled W → ℕ → Detail → Lang → List ℕ → Result (List ℕ) Refusal
+language_answer_by cpp limit detail Cpp symbol = answer cpp detail symbol limit
+language_answer_by cpp limit detail Rust symbol = answer v0_mangled detail symbol limit
+
 abbrev pub language_answer : ℕ → Detail → Lang → List ℕ → Result (List ℕ) Refusal
-language_answer limit detail Cpp symbol = answer cpp_mangled detail symbol limit
-language_answer limit detail Rust symbol = answer v0_mangled detail symbol limit
+language_answer limit detail lang symbol = language_answer_by cpp_mangled limit detail lang symbol
 
 -- the text is the same whether an underscore was dropped or not
 abbrev pub answer_of : ℕ → Detail → Kind → List ℕ → Result (List ℕ) Refusal
 answer_of limit detail kind symbol = language_answer limit detail kind.lang symbol
+
+-- with C++ by the wide grammar
+abbrev pub wide_answer_of : ℕ → Detail → Kind → List ℕ → Result (List ℕ) Refusal
+wide_answer_of limit detail kind symbol = language_answer_by wide_mangled limit detail kind.lang symbol
 
 -- the underscore that a word has before its symbol
 abbrev pub underscore_of : (skip : ℕ) → List ℕ
@@ -72,6 +79,16 @@ cpp_readings = record {
   nodes_a_byte = 2;
 }
 
+abbrev pub wide_readings : Readings Term cpp.ReadSymbol
+wide_readings = record {
+  mangled = wide_mangled;
+  IsRead = λ read. cpp.IsRead read;
+  bytes_of = λ read. read.bytes;
+  whole_of = λ read. cpp.whole_of read;
+  are_nodes = cpp_count.are_nodes;
+  nodes_a_byte = 2;
+}
+
 abbrev pub v0_readings : Readings Symbol ReadSymbol
 v0_readings = record {
   mangled = v0_mangled;
@@ -98,6 +115,13 @@ pub record AreCounts {W R : Type 0} (readings : Readings W R) (symbol : List ℕ
   pub steps_few : counts.steps ≤ 32 * length symbol + 48
   pub steps_enough : counts.rows ≤ counts.steps
 
+-- of each language, where C++ is read so
+abbrev pub AreCountsBy : {W R : Type 0} → Readings W R → Lang → List ℕ → Counts → Type 0
+AreCountsBy cpp Cpp symbol counts = AreCounts cpp symbol counts
+AreCountsBy cpp Rust symbol counts = AreCounts v0_readings symbol counts
+
 abbrev pub AreCountsOf : Lang → List ℕ → Counts → Type 0
-AreCountsOf Cpp symbol counts = AreCounts cpp_readings symbol counts
-AreCountsOf Rust symbol counts = AreCounts v0_readings symbol counts
+AreCountsOf lang symbol counts = AreCountsBy cpp_readings lang symbol counts
+
+abbrev pub AreWideCountsOf : Lang → List ℕ → Counts → Type 0
+AreWideCountsOf lang symbol counts = AreCountsBy wide_readings lang symbol counts

@@ -5,6 +5,8 @@ use Rattle.std.specs.Result.{result_ok}
 use Rattle.sym_core.specs.declared.refusal.Refusal.{Refusal}
 use Rattle.sym_core.specs.declared.refusal.Refusal.TheVariants.{TooLong}
 use Rattle.sym_filter.specs.declared.kinds.Kind.{Kind}
+use Rattle.sym_filter.specs.declared.kinds.Letters.{Letters}
+use Rattle.sym_filter.specs.declared.kinds.Letters.TheVariants.{Any, Ascii}
 use Rattle.sym_filter.specs.declared.words.Tally.{Tally}
 use Rattle.sym_filter.specs.Kinds.{kind_of, symbol_of}
 
@@ -16,30 +18,36 @@ unfoldable pub is_run_byte : ℕ → Bool
 is_run_byte byte =
     is_between 97 122 byte || is_between 65 90 byte || is_between 48 57 byte || byte == 95 || byte == 46 || byte == 36 || nat_le 128 byte
 
+-- the bytes of runs where words have these letters: those of any letters, or those of them that are ASCII
+abbrev pub is_byte_of : Letters → ℕ → Bool
+is_byte_of Any byte = is_run_byte byte
+is_byte_of Ascii byte = is_run_byte byte && not (nat_le 128 byte)
+
 -- the run that a text begins with, of no byte where it begins with another byte
-abbrev pub first_run : List ℕ → List ℕ
-first_run [] = []
-first_run (byte ∷ bytes) = if is_run_byte byte then byte ∷ first_run bytes else []
+abbrev pub first_run : Letters → List ℕ → List ℕ
+first_run letters [] = []
+first_run letters (byte ∷ bytes) = if is_byte_of letters byte then byte ∷ first_run letters bytes else []
 
 -- the runs behind the first: one, maybe of no byte, behind each byte that belongs to none
-abbrev pub later_runs : List ℕ → List (List ℕ)
-later_runs [] = []
-later_runs (byte ∷ bytes) = if is_run_byte byte then later_runs bytes else first_run bytes ∷ later_runs bytes
+abbrev pub later_runs : Letters → List ℕ → List (List ℕ)
+later_runs letters [] = []
+later_runs letters (byte ∷ bytes) =
+    if is_byte_of letters byte then later_runs letters bytes else first_run letters bytes ∷ later_runs letters bytes
 
 -- the runs of a text
-abbrev pub runs_of : List ℕ → List (List ℕ)
-runs_of text = first_run text ∷ later_runs text
+abbrev pub runs_of : Letters → List ℕ → List (List ℕ)
+runs_of letters text = first_run letters text ∷ later_runs letters text
 
 -- what stands behind the first run, with each later run changed by a function
-abbrev pub with_later_runs : (List ℕ → List ℕ) → List ℕ → List ℕ
-with_later_runs change [] = []
-with_later_runs change (byte ∷ bytes) =
-    if is_run_byte byte then with_later_runs change bytes
-    else byte ∷ (change (first_run bytes) ++ with_later_runs change bytes)
+abbrev pub with_later_runs : Letters → (List ℕ → List ℕ) → List ℕ → List ℕ
+with_later_runs letters change [] = []
+with_later_runs letters change (byte ∷ bytes) =
+    if is_byte_of letters byte then with_later_runs letters change bytes
+    else byte ∷ (change (first_run letters bytes) ++ with_later_runs letters change bytes)
 
 -- a text with each run changed by a function; all other bytes stay
-abbrev pub with_runs : (List ℕ → List ℕ) → List ℕ → List ℕ
-with_runs change text = change (first_run text) ++ with_later_runs change text
+abbrev pub with_runs : Letters → (List ℕ → List ℕ) → List ℕ → List ℕ
+with_runs letters change text = change (first_run letters text) ++ with_later_runs letters change text
 
 -- the word of a run: the run without its trailing dots
 abbrev pub word_of : List ℕ → List ℕ
@@ -72,17 +80,21 @@ word_or_text answers word = unwrap_or (text_for answers word) word
 unfoldable pub replaced : Answering → List ℕ → List ℕ
 replaced answers run = word_or_text answers (word_of run) ++ dots_behind run
 
--- a text with each word that has a text replaced by it
+-- a text with each word of these letters that has a text replaced by it
+abbrev pub filtered_at : Letters → Answering → List ℕ → List ℕ
+filtered_at letters answers text = with_runs letters (replaced answers) text
+
+-- where words have any letters
 abbrev pub filtered : Answering → List ℕ → List ℕ
-filtered answers text = with_runs (replaced answers) text
+filtered answers text = filtered_at Any answers text
 
 -- whether a run's word names a symbol
 unfoldable pub is_named : List ℕ → Bool
 is_named run = is_some (kind_of (word_of run))
 
 -- the runs of a text whose words name symbols
-abbrev pub named_runs : List ℕ → List (List ℕ)
-named_runs text = filter is_named (runs_of text)
+abbrev pub named_runs : Letters → List ℕ → List (List ℕ)
+named_runs letters text = filter is_named (runs_of letters text)
 
 -- a count that stays at the greatest u64 once it is there
 abbrev pub capped : ℕ → ℕ
@@ -115,6 +127,10 @@ tally_counted false tally = record { words = capped (tally.words + 1); replaced 
 abbrev pub tally_with_word : Answering → Tally → List ℕ → Tally
 tally_with_word answers tally word = tally_with answers tally (filter is_named (word ∷ []))
 
--- the tally of a text
+-- the tally of a text whose words have these letters
+abbrev pub tally_at : Letters → Answering → List ℕ → Tally
+tally_at letters answers text = tally_with answers (record { words = 0; replaced = 0; refused = 0 }) (named_runs letters text)
+
+-- where they have any letters
 abbrev pub tally_of : Answering → List ℕ → Tally
-tally_of answers text = tally_with answers (record { words = 0; replaced = 0; refused = 0 }) (named_runs text)
+tally_of answers text = tally_at Any answers text

@@ -1,7 +1,9 @@
 -- A text as its runs with one other byte between each two.
 use Rattle.std.specs.Prelude.{◌≡◌, ℕ, List, [], ◌∷◌, ◌++◌, map, true, false, not, ◌&&◌}
 use Rattle.std.specs.List.{list_all}
-use Rattle.sym_filter.specs.Runs.{Answering, is_run_byte, replaced, filtered}
+use Rattle.sym_filter.specs.declared.kinds.Letters.{Letters}
+use Rattle.sym_filter.specs.declared.kinds.Letters.TheVariants.{Any}
+use Rattle.sym_filter.specs.Runs.{Answering, is_byte_of, replaced, filtered_at}
 
 -- a run, maybe of no byte, and behind it other bytes, each with the run behind it
 abbrev pub joined : List ℕ → List (ℕ × List ℕ) → List ℕ
@@ -10,17 +12,27 @@ joined run (next ∷ rest) = run ++ (next.0 ∷ joined next.1 rest)
 
 -- the text is split so: the runs have bytes of runs alone, and the bytes between them are others. So each run is a
 -- longest stretch
-pub record IsSplit (text first : List ℕ) (rest : List (ℕ × List ℕ)) : Type 0 where
+pub record IsSplitAt (letters : Letters) (text first : List ℕ) (rest : List (ℕ × List ℕ)) : Type 0 where
   pub whole : text ≡ joined first rest
-  pub first_run : list_all is_run_byte first ≡ true
-  pub later_runs : list_all (λ next. not (is_run_byte next.0) && list_all is_run_byte next.1) rest ≡ true
+  pub first_run : list_all (is_byte_of letters) first ≡ true
+  pub later_runs : list_all (λ next. not (is_byte_of letters next.0) && list_all (is_byte_of letters) next.1) rest ≡ true
 
 -- however a text is split into longest runs, its filtered text is the replaced runs with the same bytes between them
-abbrev pub FilteredBySplits : Type 0
-FilteredBySplits = (answers : Answering) (text first : List ℕ) (rest : List (ℕ × List ℕ)) → IsSplit text first rest →
-    filtered answers text ≡ joined (replaced answers first) (map (λ next. (next.0, replaced answers next.1)) rest)
+abbrev pub FilteredBySplitsAt : Letters → Type 0
+FilteredBySplitsAt letters = (answers : Answering) (text first : List ℕ) (rest : List (ℕ × List ℕ)) → IsSplitAt letters text first rest →
+    filtered_at letters answers text ≡ joined (replaced answers first) (map (λ next. (next.0, replaced answers next.1)) rest)
 
 -- the filtered text of two texts joined by a byte that belongs to no run is their filtered texts joined by it
+abbrev pub FilteredByJoinsAt : Letters → Type 0
+FilteredByJoinsAt letters = (answers : Answering) (text more : List ℕ) (byte : ℕ) → is_byte_of letters byte ≡ false →
+    filtered_at letters answers (text ++ (byte ∷ more)) ≡ filtered_at letters answers text ++ (byte ∷ filtered_at letters answers more)
+
+-- where words have any letters
+abbrev pub IsSplit : (text first : List ℕ) → (rest : List (ℕ × List ℕ)) → Type 0
+IsSplit text first rest = IsSplitAt Any text first rest
+
+abbrev pub FilteredBySplits : Type 0
+FilteredBySplits = FilteredBySplitsAt Any
+
 abbrev pub FilteredByJoins : Type 0
-FilteredByJoins = (answers : Answering) (text more : List ℕ) (byte : ℕ) → is_run_byte byte ≡ false →
-    filtered answers (text ++ (byte ∷ more)) ≡ filtered answers text ++ (byte ∷ filtered answers more)
+FilteredByJoins = FilteredByJoinsAt Any

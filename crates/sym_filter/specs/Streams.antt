@@ -1,10 +1,12 @@
 -- What is read from a source and written to a sink.
 use Rattle.std.specs.Prelude.{◌≡◌, ℕ, zero, suc, List, [], ◌∷◌, ◌++◌, Option, Some, None, Result, Ok, Err}
 use Rattle.std.specs.Io.KnownBytes.{Appends, Consumes, IsAtEnd}
+use Rattle.sym_filter.specs.declared.kinds.Letters.{Letters}
+use Rattle.sym_filter.specs.declared.kinds.Letters.TheVariants.{Any}
 use Rattle.sym_filter.specs.declared.words.Tally.{Tally}
 use Rattle.sym_filter.specs.declared.streams.FilterFault.{FilterFault}
 use Rattle.sym_filter.specs.declared.streams.FilterFault.TheVariants.{Read, Write, Memory}
-use Rattle.sym_filter.specs.Runs.{Answering, filtered, tally_of}
+use Rattle.sym_filter.specs.Runs.{Answering, filtered_at, tally_at}
 
 -- the failures that a read counts
 abbrev pub read_failures : Option ℕ → ℕ
@@ -47,18 +49,25 @@ pub record PutsFront (taken taken' : Option (List ℕ)) (waiting bytes : List �
   pub writes : Appends taken taken' gone
   pub begins : BeginsWith (waiting ++ bytes) gone
 
--- all that a source gave up to its end was filtered to a sink
-pub record FiltersAll (answers : Answering) (coming coming' taken taken' : Option (List ℕ)) (tally : Tally) : Type 0 where
+-- all that a source gave up to its end was filtered to a sink, with words of these letters
+pub record FiltersAllAt (letters : Letters) (answers : Answering) (coming coming' taken taken' : Option (List ℕ)) (tally : Tally) : Type 0 where
   pub text : List ℕ
   pub reads : Consumes coming coming' text
   pub ends : IsAtEnd coming'
-  pub writes : Appends taken taken' (filtered answers text)
-  pub counts : tally ≡ tally_of answers text
+  pub writes : Appends taken taken' (filtered_at letters answers text)
+  pub counts : tally ≡ tally_at letters answers text
 
 -- what went out is a beginning of the filtered text of the bytes that were read
-pub record FiltersFront (answers : Answering) (coming coming' taken taken' : Option (List ℕ)) : Type 0 where
+pub record FiltersFrontAt (letters : Letters) (answers : Answering) (coming coming' taken taken' : Option (List ℕ)) : Type 0 where
   pub text : List ℕ
   pub gone : List ℕ
   pub reads : Consumes coming coming' text
   pub writes : Appends taken taken' gone
-  pub begins : BeginsWith (filtered answers text) gone
+  pub begins : BeginsWith (filtered_at letters answers text) gone
+
+-- where words have any letters
+abbrev pub FiltersAll : Answering → (coming coming' taken taken' : Option (List ℕ)) → Tally → Type 0
+FiltersAll answers coming coming' taken taken' tally = FiltersAllAt Any answers coming coming' taken taken' tally
+
+abbrev pub FiltersFront : Answering → (coming coming' taken taken' : Option (List ℕ)) → Type 0
+FiltersFront answers coming coming' taken taken' = FiltersFrontAt Any answers coming coming' taken taken'

@@ -1,9 +1,10 @@
 -- What is still to come of a filtered text, where a filter stands after a front of it.
 use Rattle.std.specs.Prelude.{◌≡◌, ◌+◌, ◌≤◌, ℕ, List, [], ◌++◌, length, Bool, true, false, filter, replicate, if◌then◌else◌}
+use Rattle.sym_filter.specs.declared.kinds.Letters.{Letters}
 use Rattle.sym_filter.specs.declared.words.Taken.{Taken}
 use Rattle.sym_filter.specs.declared.words.Tally.{Tally}
 use Rattle.sym_filter.specs.declared.words.Words.{Words}
-use Rattle.sym_filter.specs.Runs.{Answering, first_run, later_runs, with_later_runs, replaced, filtered, is_named, named_runs, tally_with}
+use Rattle.sym_filter.specs.Runs.{Answering, first_run, later_runs, with_later_runs, replaced, filtered_at, is_named, named_runs, tally_with}
 
 -- the front of a run that is held back
 abbrev pub held_of : Words → List ℕ
@@ -11,22 +12,22 @@ held_of words = words.held.items ++ replicate words.dots 46
 
 -- what is to be written for the bytes that follow a held front of a run, or a run that is passed on:
 -- the held front goes before them, and a run that is passed on goes on unchanged
-abbrev pub rest_of : Answering → List ℕ → Bool → List ℕ → List ℕ
-rest_of answers held true more = first_run more ++ with_later_runs (replaced answers) more
-rest_of answers held false more = filtered answers (held ++ more)
+abbrev pub rest_of : Letters → Answering → List ℕ → Bool → List ℕ → List ℕ
+rest_of letters answers held true more = first_run letters more ++ with_later_runs letters (replaced answers) more
+rest_of letters answers held false more = filtered_at letters answers (held ++ more)
 
 -- the runs that are to be counted with the bytes that follow
-abbrev pub named_of : List ℕ → Bool → List ℕ → List (List ℕ)
-named_of held true more = filter is_named (later_runs more)
-named_of held false more = named_runs (held ++ more)
+abbrev pub named_of : Letters → List ℕ → Bool → List ℕ → List (List ℕ)
+named_of letters held true more = filter is_named (later_runs letters more)
+named_of letters held false more = named_runs letters (held ++ more)
 
 -- what is to be written for the bytes that follow
 abbrev pub rest_after : Answering → Words → List ℕ → List ℕ
-rest_after answers words more = rest_of answers (held_of words) words.passes more
+rest_after answers words more = rest_of words.letters answers (held_of words) words.passes more
 
 -- the tally in the end, where these bytes follow
 abbrev pub tally_after : Answering → Words → List ℕ → Tally
-tally_after answers words more = tally_with answers words.tally (named_of (held_of words) words.passes more)
+tally_after answers words more = tally_with answers words.tally (named_of words.letters (held_of words) words.passes more)
 
 -- what follows on the bytes that were appended for the bytes that were taken: dots, and the bytes themselves where they stay
 abbrev pub behind : Taken → List ℕ → List ℕ

@@ -1,7 +1,7 @@
 // What reading a symbol of a mangling took.
 ghost use Rattle.std.specs.Prelude.{◌≡◌, ◌+◌, ◌*◌, ◌≤◌, ℕ, length};
 
-use itanium::Abi;
+use itanium::{Abi, Wide};
 use rust_v0::V0;
 use sym_core::Counts;
 use sym_demangle::Mangling;
@@ -26,6 +26,18 @@ pub trait Counted: Mangling {
 }
 
 impl Counted for Abi {
+    ghost use Rattle.cpp_layout.specs.Layout.{IsRead};
+
+    ghost is_read = { λ symbol. IsRead symbol };
+
+    ghost nodes_a_byte = { 2 };
+
+    fn counts(symbol: &itanium::Symbol) -> Counts {
+        symbol.counts()
+    }
+}
+
+impl Counted for Wide {
     ghost use Rattle.cpp_layout.specs.Layout.{IsRead};
 
     ghost is_read = { λ symbol. IsRead symbol };

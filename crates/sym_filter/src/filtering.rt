@@ -1,14 +1,16 @@
 // The filter: words of a text that are symbols are replaced by their texts.
 ghost use Rattle.std.specs.Prelude.{◌≡◌, ◌≢◌, ◌+◌, ◌-◌, ◌^◌, ◌<◌, ℕ, List, [], length, vec_len, replicate, IfOk, OnOk, OnErr, IfErr};
 ghost use Rattle.sym_filter.specs.Languages.{answer_of};
-ghost use Rattle.sym_filter.specs.Streams.{reader_faults, writer_faults, Puts, PutsFront, FiltersAll, FiltersFront};
+ghost use Rattle.sym_filter.specs.Streams.{reader_faults, writer_faults, Puts, PutsFront, FiltersAll, FiltersAllAt, FiltersFront, FiltersFrontAt};
 ghost use Rattle.sym_filter.specs.Words.{rest_after, tally_after, behind, Takes};
 ghost use Rattle.sym_filter.specs.declared.filtering.TheConstants.{READ_SIZE};
 
 use crate::demangler::Demangler;
+use crate::kinds::Letters;
 use crate::languages::Languages;
 use crate::streams::{FilterFault, Sink, Source, write_out};
 use crate::words::{Taken, Tally, Words};
+use itanium::Abi;
 use std::alloc::{AllocError, Global};
 use sym_print::Detail;
 
@@ -52,11 +54,15 @@ pub fn filter_as<R: Source, W: Sink>(
     ensures read_failed { R.failure_count reader.new ≡ R.failure_count reader.old + reader_faults result }
     ensures write_failed { W.failure_count writer.new ≡ W.failure_count writer.old + writer_faults result }
 {
-    filter_with(alloc, reader, writer, &Languages { limit, detail })
+    let languages = Languages {
+        limit,
+        detail,
+        cpp: Abi,
+    };
+    filter_with(alloc, reader, writer, &languages)
 }
 
-/// The filter over any demangler. What cannot be decided yet is held back: at most the longest word, and a count of
-/// dots behind it. What is decided after a read is written before the next.
+/// The filter over any demangler.
 pub fn filter_with<R: Source, W: Sink, D: Demangler>(
     alloc: Global,
     reader: &mut R,
@@ -72,9 +78,30 @@ pub fn filter_with<R: Source, W: Sink, D: Demangler>(
     ensures read_failed { R.failure_count reader.new ≡ R.failure_count reader.old + reader_faults result }
     ensures write_failed { W.failure_count writer.new ≡ W.failure_count writer.old + writer_faults result }
 {
+    filter_words(alloc, reader, writer, demangler, Letters::Any)
+}
+
+/// The filter over any demangler, with words of these letters. What cannot be decided yet is held back: at most the
+/// longest word, and a count of dots behind it. What is decided after a read is written before the next.
+pub fn filter_words<R: Source, W: Sink, D: Demangler>(
+    alloc: Global,
+    reader: &mut R,
+    writer: &mut W,
+    demangler: &D,
+    letters: Letters,
+) -> Result<Tally, FilterFault>
+    requires reader_failures { R.failure_count reader.old < 2 ^ 64 - 1 }
+    requires writer_failures { W.failure_count writer.old < 2 ^ 64 - 1 }
+    ensures ok { IfOk result (λ tally. FiltersAllAt letters (D.answer demangler.now)
+        (R.coming reader.old) (R.coming reader.new) (W.taken writer.old) (W.taken writer.new) tally) }
+    ensures err { OnErr result (FiltersFrontAt letters (D.answer demangler.now)
+        (R.coming reader.old) (R.coming reader.new) (W.taken writer.old) (W.taken writer.new)) }
+    ensures read_failed { R.failure_count reader.new ≡ R.failure_count reader.old + reader_faults result }
+    ensures write_failed { W.failure_count writer.new ≡ W.failure_count writer.old + writer_faults result }
+{
     // Asked for its range: a u64, so the proof knows that the reads, and the dots that wait, are bounded.
     let _left = reader.left();
-    let mut words = Words::new(alloc);
+    let mut words = Words::new(alloc, letters);
     let mut out = Vec::new(alloc);
     let mut lists = demangler.lists(alloc)?;
     let mut room = room_for_reads(alloc)?;

@@ -6,6 +6,15 @@ ghost use Rattle.sym_filter.specs.declared.kinds.TheConstants.{LONGEST_WORD};
 /// The longest word that is read as a symbol, in bytes.
 pub const LONGEST_WORD: usize = 65_536;
 
+/// Which bytes words are made of, besides ASCII letters, digits, `_`, `.` and `$`.
+#[derive(Clone, Copy, Debug, PartialEq, Eq)]
+pub enum Letters {
+    /// All from 0x80, which names of C++ may have.
+    Any,
+    /// None, so that a word ends at a quote that isn't ASCII.
+    Ascii,
+}
+
 /// A mangling.
 #[derive(Clone, Copy, Debug, PartialEq, Eq)]
 pub enum Lang {

@@ -1,39 +1,59 @@
 // The demangler over both manglings.
+ghost use Rattle.std.specs.Prelude.{ℕ, List, Ok};
 ghost use Rattle.sym_core.specs.Number.{FitsSymbol};
-ghost use Rattle.sym_demangle.specs.Mangled.{answer};
+ghost use Rattle.sym_print.specs.declared.detail.Detail.{Detail as Detail-type};
+ghost use Rattle.sym_demangle.specs.Mangled.{IsAnswer, answer};
 ghost use Rattle.cpp_grammar.specs.Mangled.{cpp_mangled};
 ghost use Rattle.rust_v0.specs.Mangled.{v0_mangled};
 ghost use Rattle.sym_filter.specs.Demangled.{IsAppended, IsDemangled};
-ghost use Rattle.sym_filter.specs.Languages.{answer_of, AreCounts, AreCountsOf};
+ghost use Rattle.sym_filter.specs.Languages.{AreCounts, AreCountsBy, language_answer_by};
 
 use crate::counted::Counted;
 use crate::demangler::{Demangled, Demangler};
 use crate::kinds::{Kind, Lang};
-use itanium::Abi;
+use itanium::{Abi, Wide};
 use rust_v0::V0;
 use std::alloc::{AllocError, Global};
 use sym_core::Refusal;
 use sym_demangle::{Mangling, Workspace};
 use sym_print::Detail;
 
-/// Both manglings, at a limit on the cost of a text and a detail.
+/// A grammar of C++ symbols that reads at least what that of `Abi` does.
+pub trait Cpp: Counted {
+    /// A symbol that has a text by the grammar of `Abi` has the same here, at the same cost.
+    fn keeps_texts()
+        ensures { (detail : Detail-type) (s text : List ℕ) (limit : ℕ) → IsAnswer cpp_mangled detail s limit (Ok text) → IsAnswer Self.mangled detail s limit (Ok text) };
+}
+
+impl Cpp for Abi {
+    fn keeps_texts() {}
+}
+
+impl Cpp for Wide {
+    fn keeps_texts() {
+        cpp_grammar::abi_answers_stay();
+    }
+}
+
+/// Both manglings, at a limit on the cost of a text and a detail, with the grammar by which C++ symbols are read: `Abi` or `Wide`.
 #[derive(Clone, Copy, Drop)]
-pub struct Languages {
+pub struct Languages<C: Cpp> {
     pub limit: u32,
     pub detail: Detail,
+    pub cpp: C,
 }
 
 /// The lists of both languages.
 #[derive(Drop)]
-pub struct Lists {
-    pub cpp: Workspace<Abi>,
+pub struct Lists<C: Cpp> {
+    pub cpp: Workspace<C>,
     pub rust: Workspace<V0>,
     pub cpp_direct: cpp_direct::Direct,
     pub rust_direct: rust_direct::Direct,
 }
 
-impl Lists {
-    pub fn new(alloc: Global) -> Lists {
+impl<C: Cpp> Lists<C> {
+    pub fn new(alloc: Global) -> Lists<C> {
         Lists {
             cpp: Workspace::new(alloc),
             rust: Workspace::new(alloc),
@@ -53,24 +73,24 @@ impl Lists {
     }
 }
 
-impl Demangler for Languages {
-    type Lists = Lists;
+impl<C: Cpp> Demangler for Languages<C> {
+    type Lists = Lists<C>;
 
-    ghost answer = { λ languages kind symbol. answer_of languages.limit languages.detail kind symbol };
+    ghost answer = { λ languages kind symbol. language_answer_by C.mangled languages.limit languages.detail kind.lang symbol };
 
-    ghost are_counts = { λ languages lang symbol counts. AreCountsOf lang symbol counts };
+    ghost are_counts = { λ languages lang symbol counts. AreCountsBy (record { mangled = C.mangled; IsRead = C.is_read; bytes_of = C.bytes_of; whole_of = C.whole_of; are_nodes = C.are_nodes; nodes_a_byte = C.nodes_a_byte }) lang symbol counts };
 
-    fn lists(&self, alloc: Global) -> Result<Lists, AllocError> {
+    fn lists(&self, alloc: Global) -> Result<Lists<C>, AllocError> {
         Ok(Lists::new(alloc))
     }
 
-    fn read_ahead(&self, lists: &mut Lists, lang: Lang, front: &[u8]) {
+    fn read_ahead(&self, lists: &mut Lists<C>, lang: Lang, front: &[u8]) {
         lists.read_ahead(lang, front);
     }
 
     fn demangle(
         &self,
-        lists: &mut Lists,
+        lists: &mut Lists<C>,
         kind: Kind,
         symbol: &[u8],
         out: &mut Vec<u8>,
@@ -83,7 +103,7 @@ impl Demangler for Languages {
 
     fn append(
         &self,
-        lists: &mut Lists,
+        lists: &mut Lists<C>,
         kind: Kind,
         symbol: &[u8],
         out: &mut Vec<u8>,
@@ -96,19 +116,20 @@ impl Demangler for Languages {
 }
 
 /// Appends the text of a C++ symbol, where it has one. In full one of common parts is written while it is read.
-fn append_cpp(
-    lists: &mut Lists,
+fn append_cpp<C: Cpp>(
+    lists: &mut Lists<C>,
     symbol: &[u8],
     limit: u32,
     detail: Detail,
     out: &mut Vec<u8>,
 ) -> Result<(), Refusal>
     requires { FitsSymbol symbol.now }
-    ensures { IsAppended (answer cpp_mangled detail symbol.now limit) out.old.items out.new.items result }
+    ensures { IsAppended (answer C.mangled detail symbol.now limit) out.old.items out.new.items result }
 {
     if let Detail::Full = detail
         && lists.cpp_direct.write(symbol, limit)
     {
+        C::keeps_texts();
         out.extend_from_slice(lists.cpp_direct.text())?;
         return Ok(());
     }
@@ -116,8 +137,8 @@ fn append_cpp(
 }
 
 /// Appends the text of a Rust symbol, where it has one. In full one of common parts is written while it is read.
-fn append_rust(
-    lists: &mut Lists,
+fn append_rust<C: Cpp>(
+    lists: &mut Lists<C>,
     symbol: &[u8],
     limit: u32,
     detail: Detail,

@@ -13,8 +13,9 @@ pub mod streams;
 pub mod words;
 
 pub use demangler::{Demangled, Demangler};
-pub use filtering::{filter, filter_as, filter_with};
-pub use kinds::{Kind, Lang, kind_of};
+pub use filtering::{filter, filter_as, filter_with, filter_words};
+pub use itanium::{Abi, Wide};
+pub use kinds::{Kind, Lang, Letters, kind_of};
 pub use languages::Languages;
 pub use laws::{filtered_by_joins, filtered_by_splits, reading_is_pressed};
 pub use pressing::Pressing;

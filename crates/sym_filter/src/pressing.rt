@@ -85,23 +85,23 @@ impl Pressable for V0 {
 pub struct Pressing;
 
 impl Demangler for Pressing {
-    type Lists = Lists;
+    type Lists = Lists<Abi>;
 
     ghost answer = { λ pressing kind symbol. pressed_of kind symbol };
 
     ghost are_counts = { λ pressing lang symbol counts. AreCountsOf lang symbol counts };
 
-    fn lists(&self, alloc: Global) -> Result<Lists, AllocError> {
+    fn lists(&self, alloc: Global) -> Result<Lists<Abi>, AllocError> {
         Ok(Lists::new(alloc))
     }
 
-    fn read_ahead(&self, lists: &mut Lists, lang: Lang, front: &[u8]) {
+    fn read_ahead(&self, lists: &mut Lists<Abi>, lang: Lang, front: &[u8]) {
         lists.read_ahead(lang, front);
     }
 
     fn demangle(
         &self,
-        lists: &mut Lists,
+        lists: &mut Lists<Abi>,
         kind: Kind,
         symbol: &[u8],
         out: &mut Vec<u8>,
@@ -114,7 +114,7 @@ impl Demangler for Pressing {
 
     fn append(
         &self,
-        lists: &mut Lists,
+        lists: &mut Lists<Abi>,
         kind: Kind,
         symbol: &[u8],
         out: &mut Vec<u8>,

@@ -1,14 +1,14 @@
 // Words found in a text that comes in any pieces.
 ghost use Rattle.std.specs.Prelude.{◌≡◌, ◌+◌, ◌^◌, ◌<◌, ◌≤◌, ℕ, List, [], ◌++◌, length, take, slice_index, true, false, replicate, OnOk, IfOk, Some, is_some, OnErr};
 ghost use Rattle.std.specs.List.{list_all};
-ghost use Rattle.sym_filter.specs.Runs.{is_run_byte, text_for, word_of, word_or_text, IsTally};
+ghost use Rattle.sym_filter.specs.Runs.{is_byte_of, text_for, word_of, word_or_text, IsTally};
 ghost use Rattle.sym_filter.specs.Kinds.{kind_of};
 ghost use Rattle.sym_filter.specs.Held.{IsHeld};
 ghost use Rattle.sym_filter.specs.Plain.{is_plain, is_in_run};
 ghost use Rattle.sym_filter.specs.declared.kinds.TheConstants.{LONGEST_WORD};
 
 use crate::demangler::{Demangled, Demangler};
-use crate::kinds::{Kind, LONGEST_WORD, kind_of};
+use crate::kinds::{Kind, LONGEST_WORD, Letters, kind_of};
 use std::alloc::{AllocError, Global};
 use sym_core::Refusal;
 
@@ -36,23 +36,28 @@ impl Tally {
     }
 }
 
-// For each byte whether it belongs to runs: ASCII letters, digits, `_`, `.`, `$`, and all from 0x80.
+// For each byte the runs to which it belongs: 2, of all letters, for ASCII letters, digits, `_`, `.` and `$`; 1, of any
+// letters alone, for all from 0x80; else 0.
 static RUN_BYTES: [u8; 256] = *b"\
     00000000000000000000000000000000\
-    00001000000000101111111111000000\
-    01111111111111111111111111100001\
-    01111111111111111111111111100000\
+    00002000000000202222222222000000\
+    02222222222222222222222222200002\
+    02222222222222222222222222200000\
     11111111111111111111111111111111\
     11111111111111111111111111111111\
     11111111111111111111111111111111\
     11111111111111111111111111111111";
 
-/// Whether the byte belongs to runs.
+/// Whether the byte belongs to runs, where words have these letters.
 #[inline]
-pub fn is_run_byte(byte: u8) -> bool
-    ensures { result ≡ is_run_byte byte }
+pub fn is_byte_of(letters: Letters, byte: u8) -> bool
+    ensures { result ≡ is_byte_of letters byte }
 {
-    RUN_BYTES[byte as usize] == b'1'
+    let least = match letters {
+        Letters::Any => b'1',
+        Letters::Ascii => b'2',
+    };
+    RUN_BYTES[byte as usize] >= least
 }
 
 /// The front of a text that can be passed on as it is, and whether its last byte belongs to a run.
@@ -63,15 +68,15 @@ struct Front {
 }
 
 /// The front of a text up to the first `_` that begins a run; `in_run` says whether the byte before belongs to a run.
-fn plain_front(text: &[u8], in_run: bool) -> Front
+fn plain_front(letters: Letters, text: &[u8], in_run: bool) -> Front
     ensures within { result.length ≤ length text.now }
-    ensures plain { is_plain in_run (take result.length text.now) ≡ true }
-    ensures in_run { result.in_run ≡ is_in_run in_run (take result.length text.now) }
+    ensures plain { is_plain letters in_run (take result.length text.now) ≡ true }
+    ensures in_run { result.in_run ≡ is_in_run letters in_run (take result.length text.now) }
     ensures stops { result.length < length text.now → result.in_run ≡ false }
 {
     let mut length = 0;
     for byte in text {
-        if *byte == b'_' && !is_in_run(text, length, in_run) {
+        if *byte == b'_' && !is_in_run(letters, text, length, in_run) {
             return Front {
                 length,
                 in_run: false,
@@ -81,25 +86,25 @@ fn plain_front(text: &[u8], in_run: bool) -> Front
     }
     Front {
         length,
-        in_run: is_in_run(text, length, in_run),
+        in_run: is_in_run(letters, text, length, in_run),
     }
 }
 
 /// Whether the byte before a place of a text belongs to a run.
-fn is_in_run(text: &[u8], at: usize, in_run: bool) -> bool
+fn is_in_run(letters: Letters, text: &[u8], at: usize, in_run: bool) -> bool
     requires { at ≤ length text.now }
-    ensures { result ≡ is_in_run in_run (take at text.now) }
+    ensures { result ≡ is_in_run letters in_run (take at text.now) }
 {
     if at == 0 {
         return in_run;
     }
-    is_run_byte(text[at - 1])
+    is_byte_of(letters, text[at - 1])
 }
 
 /// Whether a text begins with eight bytes that belong to runs.
 #[inline(always)]
-fn begins_with_eight(text: &[u8]) -> bool
-    ensures { result ≡ true → (8 ≤ length text.now) × (list_all is_run_byte (take 8 text.now) ≡ true) }
+fn begins_with_eight(letters: Letters, text: &[u8]) -> bool
+    ensures { result ≡ true → (8 ≤ length text.now) × (list_all (is_byte_of letters) (take 8 text.now) ≡ true) }
 {
     match text {
         [
@@ -113,14 +118,14 @@ fn begins_with_eight(text: &[u8]) -> bool
             eighth,
             ..
         ] => {
-            is_run_byte(*first)
-                && is_run_byte(*second)
-                && is_run_byte(*third)
-                && is_run_byte(*fourth)
-                && is_run_byte(*fifth)
-                && is_run_byte(*sixth)
-                && is_run_byte(*seventh)
-                && is_run_byte(*eighth)
+            is_byte_of(letters, *first)
+                && is_byte_of(letters, *second)
+                && is_byte_of(letters, *third)
+                && is_byte_of(letters, *fourth)
+                && is_byte_of(letters, *fifth)
+                && is_byte_of(letters, *sixth)
+                && is_byte_of(letters, *seventh)
+                && is_byte_of(letters, *eighth)
         }
         _ => false,
     }
@@ -128,26 +133,26 @@ fn begins_with_eight(text: &[u8]) -> bool
 
 /// How many bytes at the front of a text belong to runs, in whole eights.
 #[inline(always)]
-fn eights_front(text: &[u8]) -> usize
+fn eights_front(letters: Letters, text: &[u8]) -> usize
     ensures within { result ≤ length text.now }
-    ensures in_run { list_all is_run_byte (take result text.now) ≡ true }
+    ensures in_run { list_all (is_byte_of letters) (take result text.now) ≡ true }
 {
     let mut length = 0;
-    'eights: while begins_with_eight(&text[length..]) {
+    'eights: while begins_with_eight(letters, &text[length..]) {
         length += 8;
     }
     length
 }
 
 /// How many bytes at the front of a text belong to runs.
-fn run_front(text: &[u8]) -> usize
+fn run_front(letters: Letters, text: &[u8]) -> usize
     ensures within { result ≤ length text.now }
-    ensures in_run { list_all is_run_byte (take result text.now) ≡ true }
-    ensures stops { result < length text.now → is_run_byte (slice_index text.now result) ≡ false }
+    ensures in_run { list_all (is_byte_of letters) (take result text.now) ≡ true }
+    ensures stops { result < length text.now → is_byte_of letters (slice_index text.now result) ≡ false }
 {
-    let mut length = eights_front(text);
+    let mut length = eights_front(letters, text);
     'bytes: while length < text.len() {
-        if !is_run_byte(text[length]) {
+        if !is_byte_of(letters, text[length]) {
             return length;
         }
         length += 1;
@@ -167,6 +172,7 @@ pub struct Taken {
 /// Where a text stands that is filtered.
 #[derive(Drop)]
 pub struct Words {
+    letters: Letters,
     // the run so far, up to its last byte that is no dot; nothing where no run has begun or it is passed on
     held: Vec<u8>,
     // the dots behind it
@@ -174,7 +180,7 @@ pub struct Words {
     // the run's word cannot name a symbol, and its bytes are passed on as they come
     passes: bool,
     tally: Tally,
-    ghost is_held: { IsHeld held.items dots passes },
+    ghost is_held: { IsHeld letters held.items dots passes },
     ghost is_counted: { IsTally tally },
 }
 
@@ -182,7 +188,9 @@ impl Words {
     ghost use Rattle.sym_filter.specs.Words.{held_of, behind, Takes};
     ghost use Rattle.sym_filter.specs.Runs.{tally_with_word};
 
-    pub fn new(alloc: Global) -> Words
+    /// A text's beginning, whose words have these letters.
+    pub fn new(alloc: Global, letters: Letters) -> Words
+        ensures letters { result.letters ≡ letters }
         ensures holds_nothing { held_of result ≡ [] }
         ensures no_dots { result.dots ≡ 0 }
         ensures in_no_run { result.passes ≡ false }
@@ -194,6 +202,7 @@ impl Words {
             refused: 0,
         };
         Words {
+            letters,
             held: Vec::new(alloc),
             dots: 0,
             passes: false,
@@ -231,7 +240,7 @@ impl Words {
             (bytes ++ behind taken (take taken.count text.now))) }
     {
         if self.held.is_empty() && self.dots == 0 {
-            let front = plain_front(text, self.passes);
+            let front = plain_front(self.letters, text, self.passes);
             if front.length > 0 {
                 self.passes = front.in_run;
                 return Ok(Taken {
@@ -241,7 +250,7 @@ impl Words {
                 });
             }
         }
-        let count = run_front(text);
+        let count = run_front(self.letters, text);
         if count == 0 {
             let dots = self.end_word(demangler, lists, out)?;
             return Ok(Taken {
@@ -256,9 +265,10 @@ impl Words {
 
     /// Holds a part of a run, or passes the run on where it is too long for a word that names a symbol.
     fn hold(&mut self, part: &[u8], out: &mut Vec<u8>) -> Result<Taken, AllocError>
-        requires in_run { list_all is_run_byte part.now ≡ true }
+        requires in_run { list_all (is_byte_of self.old.letters) part.now ≡ true }
         requires holds { self.old.passes ≡ false }
         requires dots { self.old.dots + length part.now < 2 ^ 128 }
+        ensures letters { OnOk result (self.new.letters ≡ self.old.letters) }
         ensures same { OnOk result (self.new.tally ≡ self.old.tally) }
         ensures dots { OnOk result (self.new.dots ≤ self.old.dots + length part.now) }
         ensures count { IfOk result (λ taken. taken.count ≡ length part.now) }
@@ -307,6 +317,7 @@ impl Words {
         lists: &mut D::Lists,
         out: &mut Vec<u8>,
     ) -> Result<u128, AllocError>
+        ensures letters { OnOk result (self.new.letters ≡ self.old.letters) }
         ensures text { OnOk result (out.new.items ≡ out.old.items
             ++ word_or_text (D.answer demangler.now) self.old.held.items) }
         ensures counts { OnOk result (self.new.tally

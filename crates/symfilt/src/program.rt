@@ -6,8 +6,10 @@ use std::alloc::{AllocError, Global};
 use std::rt::Env;
 use std::{env, io, str};
 use sym_command::{FAULT, Run, refuse_with, run_to};
-use sym_filter::{FilterFault, ReaderSource, Sink, WriterSink, filter_as};
-use sym_print::Detail;
+use sym_filter::{
+    Abi, Demangler, FilterFault, Languages, Letters, ReaderSource, Sink, Wide, WriterSink,
+    filter_words,
+};
 
 /// No argument is longer, in bytes (Linux's bound on one argument).
 const LONGEST_ARGUMENT: usize = 131_072;
@@ -16,7 +18,29 @@ const LONGEST_ARGUMENT: usize = 131_072;
 pub fn program<R: Env + Input + Print + AllocGlobal, E: Print>(rt: &R, errors: &E) -> u8 {
     match answer(rt, errors) {
         Ok(Run::Done(status)) => status,
-        Ok(Run::Filter { limit, detail }) => filter_input(rt, errors, limit, detail),
+        Ok(
+            Run::Filter {
+                limit,
+                detail,
+                letters,
+                wide,
+            },
+        ) => {
+            if wide {
+                let languages = Languages {
+                    limit,
+                    detail,
+                    cpp: Wide,
+                };
+                return filter_input(rt, errors, &languages, letters);
+            }
+            let languages = Languages {
+                limit,
+                detail,
+                cpp: Abi,
+            };
+            filter_input(rt, errors, &languages, letters)
+        }
         Err(error) => fault(errors, error),
     }
 }
@@ -71,17 +95,17 @@ fn room_for_argument(alloc: Global) -> Result<Vec<u8>, AllocError>
 }
 
 /// Filters standard input to standard output.
-fn filter_input<R: Input + Print + AllocGlobal, E: Print>(
+fn filter_input<R: Input + Print + AllocGlobal, E: Print, D: Demangler>(
     rt: &R,
     errors: &E,
-    limit: u32,
-    detail: Detail,
+    demangler: &D,
+    letters: Letters,
 ) -> u8
     ensures { (result ≡ 0) ⊎ (result ≡ 3) }
 {
     let mut reader = ReaderSource::new(rt.reader());
     let mut writer = WriterSink::new(io::writer(rt));
-    match filter_as(rt.alloc(), &mut reader, &mut writer, limit, detail) {
+    match filter_words(rt.alloc(), &mut reader, &mut writer, demangler, letters) {
         Ok(_) => 0,
         Err(error) => fault(errors, error),
     }

@@ -5,7 +5,7 @@ use sym_command::{Run, run};
 
 /// Options and symbols, with the line that is answered and what is complained of. What symbols are answered stands in the
 /// rows of crates/check_rows; these show that options come to the calls.
-static ROWS: [(&str, &str, &str, &str); 19] = [
+static ROWS: [(&str, &str, &str, &str); 21] = [
     ("--limit=6", "_Z1fv", "f()", ""),
     ("--limit=5", "_Z1fv", "_Z1fv", "symfilt: _Z1fv: too long\n"),
     (
@@ -63,6 +63,13 @@ static ROWS: [(&str, &str, &str, &str); 19] = [
         "_RINbNbCskIICzLVDPPb_5alloc5alloc8box_freeDINbNiB4_5boxed5FnBoxuEp6OutputuEL_ECs1iopQbuBiw2_3std",
         "alloc::alloc::box_free",
         "",
+    ),
+    ("--wide", "_ZN1AC4Ev", "A::A()", ""),
+    (
+        "--brief",
+        "_ZN1AC4Ev",
+        "_ZN1AC4Ev",
+        "symfilt: _ZN1AC4Ev: malformed at 6\n",
     ),
     (
         "--press",

@@ -5,7 +5,7 @@ use std::process::Abort;
 use std::str;
 use std::test::Fail;
 use sym_command::{Run, answer_words, run, run_to};
-use sym_filter::{FilterFault, Languages, filter};
+use sym_filter::{Abi, FilterFault, Languages, Letters, filter};
 use sym_print::Detail;
 
 const LIMIT: u32 = 1_000_000;
@@ -131,6 +131,7 @@ fn answers_words(rt: HostRuntime) -> Result<(), Fail> {
     let languages = Languages {
         limit: LIMIT,
         detail: Detail::Full,
+        cpp: Abi,
     };
     let mut out = ScriptedSink::new(alloc, &[]);
     let mut err = ScriptedSink::new(alloc, &[]);
@@ -213,32 +214,33 @@ fn runs(alloc: Global, words: &[&str]) -> (Run, bool) {
     (outcome, out.is_empty() && !err.is_empty())
 }
 
+/// What the program is to do where it is asked to filter, with C++ by the wide grammar or the other.
+fn filtering(limit: u32, detail: Detail, letters: Letters, wide: bool) -> Run {
+    Run::Filter {
+        limit,
+        detail,
+        letters,
+        wide,
+    }
+}
+
 #[test]
 fn reads_command_lines(rt: HostRuntime) {
     let alloc = rt.alloc();
-    let limit = 4_294_967_295;
-    let full = Detail::Full;
-    let brief = Detail::Brief;
-    let usual = Run::Filter {
-        limit: 1_000_000,
-        detail: full,
-    };
+    let any = Letters::Any;
+    let usual = filtering(1_000_000, Detail::Full, any, false);
     assert!(rt; runs(alloc, &["symfilt"]) == (usual, false));
-    let most = Run::Filter {
-        limit,
-        detail: brief,
-    };
+    let most = filtering(4_294_967_295, Detail::Brief, any, false);
     assert!(rt; runs(alloc, &["symfilt", "--limit=4294967295", "--brief"]) == (most, false));
-    let named = Run::Filter {
-        limit: 1_000_000,
-        detail: Detail::NoParameters,
-    };
+    let named = filtering(1_000_000, Detail::NoParameters, any, false);
     assert!(rt; runs(alloc, &["symfilt", "--no-params"]) == (named, false));
-    let shortest = Run::Filter {
-        limit: 1_000_000,
-        detail: Detail::BriefNoParameters,
-    };
+    let shortest = filtering(1_000_000, Detail::BriefNoParameters, any, false);
     assert!(rt; runs(alloc, &["symfilt", "--no-params", "--brief"]) == (shortest, false));
+    let ascii = filtering(1_000_000, Detail::Full, Letters::Ascii, false);
+    assert!(rt; runs(alloc, &["symfilt", "--ascii-words"]) == (ascii, false));
+    let wide = filtering(1_000_000, Detail::Full, any, true);
+    assert!(rt; runs(alloc, &["symfilt", "--wide"]) == (wide, false));
+    assert!(rt; runs(alloc, &["symfilt", "--wide", "--press"]) == (Run::Done(2), true));
     assert!(rt; runs(alloc, &["symfilt", "--limit", "4294967296"]) == (Run::Done(2), true));
     assert!(rt; runs(alloc, &["symfilt", "--press"]) == (Run::Done(2), true));
     assert!(rt; runs(alloc, &["symfilt", "--help"]) == (Run::Done(2), true));

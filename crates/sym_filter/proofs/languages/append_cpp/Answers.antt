@@ -3,16 +3,18 @@ use Rattle.sym_print.specs.declared.detail.Detail.TheVariants.{Full}
 use Rattle.sym_shape.specs.Decided.{AreBytes}
 use Rattle.sym_demangle.specs.Mangled.{answer}
 use Rattle.sym_demangle.proofs.Answering.{is_answer}
-use Rattle.cpp_grammar.specs.Mangled.{cpp_mangled}
 use Rattle.sym_filter.proofs.languages.append_cpp.Goals as goal
 
 pub returns : goal.returns
-returns c =
+returns g c =
     let symbol = c.args.symbol.now in
-    let bytes : AreBytes symbol = λ i. search (rules, c.type_inv.symbol i) in (
+    let m = g.C.Mangling.mangled in
+    let bytes : AreBytes symbol = λ i. search (rules, c.type_inv.symbol i) in
+    let text = c.write.new.self.text.list.items in
+    let is = c.keeps_texts.ensures Full symbol text c.args.limit (c.write.ensures.answer c.if-write.true) in (
       c.text.result.now,
-      ap (λ d. answer cpp_mangled d symbol c.args.limit) c.in-Full.is
-          ∙ sym (is_answer cpp_mangled Full symbol c.args.limit (Ok c.write.new.self.text.list.items) bytes (c.write.ensures.answer c.if-write.true))
+      ap (λ d. answer m d symbol c.args.limit) c.in-Full.is
+          ∙ sym (is_answer m Full symbol c.args.limit (Ok text) bytes is)
           ∙ ap (λ t. Ok t) (sym c.text.ensures),
       c.in_ok-extend_from_slice.ensures.items,
     )

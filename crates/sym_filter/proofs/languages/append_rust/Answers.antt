@@ -7,7 +7,7 @@ use Rattle.rust_v0.specs.Mangled.{v0_mangled}
 use Rattle.sym_filter.proofs.languages.append_rust.Goals as goal
 
 pub returns : goal.returns
-returns c =
+returns g c =
     let symbol = c.args.symbol.now in
     let bytes : AreBytes symbol = λ i. search (rules, c.type_inv.symbol i) in (
       c.text.result.now,

@@ -9,11 +9,12 @@ loop-byte-preserved c =
     let so_far = c.loop-byte.invariant in
     let i = c.loop-byte.byte-index in
     let text = c.args.text.now in
-    let before = is_in_run c.args.in_run (take i text) in
+    let letters = c.args.letters in
+    let before = is_in_run letters c.args.in_run (take i text) in
     let next : (before || not (eqb (get_or text i 0) 95)) ≡ true = elim c.else-byte-eq95.branch [
-      | else-byte-eq95-via-then-byte-eq95+else-not-is_in_run w ↦ goes_on before (get_or text i 0) (ap (λ n. is_in_run c.args.in_run (take n text)) (sym so_far.length) ∙ sym w.is_in_run.ensures ∙ w.if-not-is_in_run.false)
+      | else-byte-eq95-via-then-byte-eq95+else-not-is_in_run w ↦ goes_on before (get_or text i 0) (ap (λ n. is_in_run letters c.args.in_run (take n text)) (sym so_far.length) ∙ sym w.is_in_run.ensures ∙ w.if-not-is_in_run.false)
       | else-byte-eq95-via-else-byte-eq95 w ↦ is_other before (get_or text i 0) w.if-byte-eq95.false
     ] in record {
       length = ap (λ n. n + 1) so_far.length;
-      plain = is_plain-take c.args.in_run text i 0 c.loop-byte-test.true so_far.plain next;
+      plain = is_plain-take letters c.args.in_run text i 0 c.loop-byte-test.true so_far.plain next;
     }

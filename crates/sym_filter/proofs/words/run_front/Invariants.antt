@@ -1,12 +1,12 @@
 use Rattle.std.proofs.Common.{◌≡◌, ◌-◌, ◌≤◌, length, take, true}
 use Rattle.std.specs.List.{list_all}
-use Rattle.sym_filter.specs.Runs.{is_run_byte}
+use Rattle.sym_filter.specs.Runs.{is_byte_of}
 use Rattle.sym_filter.proofs.words.run_front.Given as goal
 
 abbrev pub invariant-bytes : goal.invariant-bytes
 invariant-bytes l = record {
   within : l.length ≤ length l.text;
-  in_run : list_all is_run_byte (take l.length l.text) ≡ true;
+  in_run : list_all (is_byte_of l.letters) (take l.length l.text) ≡ true;
 }
 
 abbrev pub decreases-bytes : goal.decreases-bytes

@@ -17,4 +17,4 @@ returns-then-byte_at-eq73 c =
 pub name_ended-requires-clause-ended : goal.name_ended-requires-clause-ended
 name_ended-requires-clause-ended c =
     name-bare c.args.s.now c.args.is_internal c.args.self.now c.name.new.self c.in_ok-name.ensures.0
-    c.requires.awaits c.in_ok-name.ensures.1 c.in_ok-name.ensures.2 c.in_ok-name.ensures.3
+    c.requires.awaits c.in_ok-name.ensures.1 c.in_ok-name.ensures.2 c.in_ok-name.ensures.3 c.len-from.result c.len-from.ensures

@@ -14,8 +14,8 @@ name_ended-requires-clause-ended c =
       at = c.push_byte.new.self.at;
       rounds = c.push_byte.new.self.rounds;
     } in
-    name-closed c.args.s.now w
-    (closed-by c.args.s.now c.args.self.now c.push_byte.new.self w c.in_ok-from.field-0 opens.NameArguments
+    name-closed c.args.s.now w c.in-NameArguments.from
+    (closed-by c.args.s.now c.args.self.now c.push_byte.new.self w c.in_ok-from.field-0 (opens.NameArguments c.in-NameArguments.from)
     c.requires.ended c.in_ok-push_byte.ensures refl refl refl c.in_ok-from.ensures.items c.in-NameArguments.is)
 
 pub returns-in_ok-add_candidate-in-TypeArguments : goal.returns-in_ok-add_candidate-in-TypeArguments

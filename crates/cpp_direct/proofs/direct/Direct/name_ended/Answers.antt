@@ -1,26 +1,15 @@
-use Rattle.std.proofs.Common.{subst, refl, arith, [], ◌∷◌}
-use Rattle.cpp_direct.specs.Holes.{StandsAt}
+use Rattle.std.proofs.Common.{subst}
 use Rattle.cpp_direct.specs.Ways.{IsNameEnded}
-use Rattle.cpp_direct.proofs.Ending.{object-ended, void-ended, first-expected}
+use Rattle.cpp_direct.proofs.Ending.{object-ended, parameters-begin}
 use Rattle.cpp_direct.proofs.direct.Direct.name_ended.Goals as goal
 
 pub end-requires-clause-ended : goal.end-requires-clause-ended
-end-requires-clause-ended c = object-ended c.args.s.now c.args.self.now c.args.is_const c.args.is_instance c.requires.ended
+end-requires-clause-ended c = object-ended c.args.s.now c.args.self.now c.args.is_const c.args.is_instance c.args.from c.requires.ended
 
-pub end-requires-then-may_end-2-clause-ended : goal.end-requires-then-may_end-2-clause-ended
-end-requires-then-may_end-2-clause-ended c =
-    let s = c.args.s.now in
-    let w = c.args.self.now in
-    void-ended s w c.push_byte.new.self _ c.push_byte-then-may_end-2.new.self c.args.is_const
-    (subst (λ b. IsNameEnded s w c.args.is_const b) c.if-is_instance.false c.requires.ended)
-    (subst (λ b. StandsAt s w.at (b ∷ [])) c.if-byte-eq118.true (c.byte_at-byte.ensures (λ e. omega (arith, e, c.if-byte-eq118.true))))
-    c.in_ok-push_byte.ensures refl refl (omega (arith, c.in_ok-self.ensures)) c.in_ok-push_byte-2.ensures
+pub begin_front-requires-clause-ended : goal.begin_front-requires-clause-ended
+begin_front-requires-clause-ended c =
+    subst (λ b. IsNameEnded c.args.s.now c.args.self.now c.args.is_const b c.args.from) c.if-is_instance.true c.requires.ended
 
-pub returns : goal.returns
-returns c =
-    let s = c.args.s.now in
-    let w = c.args.self.now in
-    first-expected s w c.push_byte.new.self _ c.args.is_const
-    (subst (λ b. IsNameEnded s w c.args.is_const b) c.if-is_instance.false c.requires.ended)
-    c.in_ok-push_byte.ensures refl refl refl
-    c.in_ok-push.ensures.items
+pub begin_parameters-requires-clause-awaits : goal.begin_parameters-requires-clause-awaits
+begin_parameters-requires-clause-awaits c =
+    parameters-begin c.args.s.now c.args.self.now c.args.is_const c.args.is_instance c.args.from c.requires.ended c.if-is_instance.false

@@ -15,3 +15,9 @@ begin_generic-requires-clause-awaits c = path-awaited c.args.s.now c.args.self.n
 
 pub begin_impl-requires-clause-awaits : goal.begin_impl-requires-clause-awaits
 begin_impl-requires-clause-awaits c = path-awaited c.args.s.now c.args.self.now c.args.is_value c.requires.writing
+
+pub begin_trait_impl-requires-clause-awaits : goal.begin_trait_impl-requires-clause-awaits
+begin_trait_impl-requires-clause-awaits c = path-awaited c.args.s.now c.args.self.now c.args.is_value c.requires.writing
+
+pub begin_trait-requires-clause-awaits : goal.begin_trait-requires-clause-awaits
+begin_trait-requires-clause-awaits c = path-awaited c.args.s.now c.args.self.now c.args.is_value c.requires.writing

@@ -18,3 +18,33 @@ begin_impl-requires-clause-awaits c = type-path-awaited c.args.s.now c.args.self
 
 pub type_again-requires-clause-awaits : goal.type_again-requires-clause-awaits
 type_again-requires-clause-awaits c = type-awaited c.args.s.now c.args.self.now c.requires.writing
+
+pub begin_array-requires-clause-awaits : goal.begin_array-requires-clause-awaits
+begin_array-requires-clause-awaits c = type-awaited c.args.s.now c.args.self.now c.requires.writing
+
+pub begin_trait_impl-requires-clause-awaits : goal.begin_trait_impl-requires-clause-awaits
+begin_trait_impl-requires-clause-awaits c = type-path-awaited c.args.s.now c.args.self.now c.requires.writing
+
+pub begin_trait-requires-clause-awaits : goal.begin_trait-requires-clause-awaits
+begin_trait-requires-clause-awaits c = type-path-awaited c.args.s.now c.args.self.now c.requires.writing
+
+pub begin_shared-requires-clause-awaits : goal.begin_shared-requires-clause-awaits
+begin_shared-requires-clause-awaits c = type-awaited c.args.s.now c.args.self.now c.requires.writing
+
+pub begin_mutable-requires-clause-awaits : goal.begin_mutable-requires-clause-awaits
+begin_mutable-requires-clause-awaits c = type-awaited c.args.s.now c.args.self.now c.requires.writing
+
+pub begin_const-requires-clause-awaits : goal.begin_const-requires-clause-awaits
+begin_const-requires-clause-awaits c = type-awaited c.args.s.now c.args.self.now c.requires.writing
+
+pub begin_mut-requires-clause-awaits : goal.begin_mut-requires-clause-awaits
+begin_mut-requires-clause-awaits c = type-awaited c.args.s.now c.args.self.now c.requires.writing
+
+pub begin_slice-requires-clause-awaits : goal.begin_slice-requires-clause-awaits
+begin_slice-requires-clause-awaits c = type-awaited c.args.s.now c.args.self.now c.requires.writing
+
+pub begin_tuple-requires-clause-awaits : goal.begin_tuple-requires-clause-awaits
+begin_tuple-requires-clause-awaits c = type-awaited c.args.s.now c.args.self.now c.requires.writing
+
+pub begin_dyn-requires-clause-awaits : goal.begin_dyn-requires-clause-awaits
+begin_dyn-requires-clause-awaits c = type-awaited c.args.s.now c.args.self.now c.requires.writing

@@ -27,8 +27,8 @@ returns-clause-counts g c =
       | in-Some+in_ok-has_text-in-Some w ↦
           let some : kind_of self.held.items ≡ Some w.in-Some.kind = sym (ap kind_of c.deref.ensures.value) ∙ sym c.kind_of.ensures ∙ w.in-Some.is in
           let has = w.in_ok-has_text-in-Some.ensures.has_text ∙ ap (λ (t : List ℕ). is_some (text_for answers t)) w.deref-in-Some.ensures.value in
-          ap (λ s. s.1.1.1.1.0) w.self-is ∙ counts-named answers self.tally w.count.new.self self.held.items w.in-Some.kind w.in_ok-has_text-in-Some.has_text self.is_counted self.is_held.is_word some has w.count.ensures
+          ap (λ s. s.1.1.1.1.1.0) w.self-is ∙ counts-named answers self.tally w.count.new.self self.held.items w.in-Some.kind w.in_ok-has_text-in-Some.has_text self.is_counted self.is_held.is_word some has w.count.ensures
       | in-None+in_ok-extend_from_slice-in-None w ↦
           let none : kind_of self.held.items ≡ None = sym (ap kind_of c.deref.ensures.value) ∙ sym c.kind_of.ensures ∙ w.in-None.is in
-          ap (λ s. s.1.1.1.1.0) w.self-is ∙ counts-unnamed answers self.tally self.held.items self.is_counted self.is_held.is_word none
+          ap (λ s. s.1.1.1.1.1.0) w.self-is ∙ counts-unnamed answers self.tally self.held.items self.is_counted self.is_held.is_word none
     ]

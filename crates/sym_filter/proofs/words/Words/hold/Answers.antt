@@ -19,8 +19,8 @@ pub invariant_of-self-2 : goal.invariant_of-self-2
 invariant_of-self-2 c =
     let self = c.args.self.now in
     let end = c.word_end-end.result in
-    let held = IsHeld-part self.held.items self.dots (length c.args.part.now - end) c.args.part.now end self.passes self.is_held c.requires.in_run c.word_end-end.ensures.word c.if-end-eq0.false c.word_end-end.ensures.within (omega (arith, self.held.ok.0, c.if-dots-end.false)) c.requires.holds in record {
-      is_held = subst (λ (t : List ℕ). IsHeld t (length c.args.part.now - end) self.passes) (sym c.in_ok-push_word.ensures.ok) held;
+    let held = IsHeld-part self.letters self.held.items self.dots (length c.args.part.now - end) c.args.part.now end self.passes self.is_held c.requires.in_run c.word_end-end.ensures.word c.if-end-eq0.false c.word_end-end.ensures.within (omega (arith, self.held.ok.0, c.if-dots-end.false)) c.requires.holds in record {
+      is_held = subst (λ (t : List ℕ). IsHeld self.letters t (length c.args.part.now - end) self.passes) (sym c.in_ok-push_word.ensures.ok) held;
       is_counted = self.is_counted;
     }
 

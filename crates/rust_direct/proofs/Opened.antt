@@ -1,0 +1,27 @@
+-- A text is written, and something waits for what comes behind it.
+use Rattle.std.proofs.Common.{◌≡◌, ℕ, List, ◌∷◌, ◌++◌, reverse, ap, ◌∙◌, append_assoc}
+use Rattle.rust_v0.specs.Value.{State}
+use Rattle.rust_direct.specs.declared.open.Open.{Open}
+use Rattle.rust_direct.specs.declared.direct.Direct.{Direct}
+use Rattle.rust_direct.specs.Holes.{Opened}
+use Rattle.rust_direct.specs.Written.{Opens}
+use Rattle.rust_direct.specs.Stands.{Stands, AreNotesOf, parked_of}
+use Rattle.rust_direct.proofs.Kept.{notes-stay}
+use Rattle.rust_direct.proofs.PathsRead.{waits-too}
+
+pub notes-opened : (old new : Direct) (bytes : List ℕ) (entry : Open) (at : ℕ) (st : State) → Opens old new bytes entry at → AreNotesOf old st
+    → AreNotesOf new st
+notes-opened old new bytes entry at st o p =
+    rw (o.text, o.aside, o.is_aside, o.notes, o.numbers)
+    (notes-stay old.is_aside old.text.list.items old.aside.list.items bytes old.notes.list.items old.numbers.items st.ended p)
+
+pub stands-opened : (s : List ℕ) (old new : Direct) (bytes : List ℕ) (entry : Open) (at : ℕ) (os : List Opened) → Opens old new bytes entry at
+    → Stands s (entry ∷ reverse old.waiting.list.items) os (old.text.list.items ++ bytes) (parked_of old)
+    → Stands s (reverse new.waiting.list.items) os new.text.list.items (parked_of new)
+stands-opened s old new bytes entry at os o h =
+    waits-too s old.waiting.list.items new.waiting.list.items entry os new.text.list.items (parked_of new) o.waiting
+    (rw (o.text, o.aside, o.is_aside) h)
+
+-- what stands between a mark and what closes it
+pub wrapped : (front mark bytes closing : List ℕ) → front ++ mark ++ bytes ++ closing ≡ front ++ (mark ++ bytes ++ closing)
+wrapped front mark bytes closing = ap (λ l. l ++ closing) (append_assoc front mark bytes) ∙ append_assoc front (mark ++ bytes) closing

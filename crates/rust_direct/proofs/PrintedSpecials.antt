@@ -1,0 +1,136 @@
+-- Closures, shims and constants of which the text is known.
+use Rattle.std.proofs.Common.{◌≡◌, refl, ap, sym, ◌∙◌, ℕ, ◌+◌, ◌*◌, ◌≤◌, List, [], ◌∷◌, ◌++◌, length, Bool, true, false, arith, codes, length-append, append-nil, append_assoc, nat_le}
+use Rattle.std.specs.Prelude.{decimal, ◌&&◌, nat_lt}
+use Rattle.std.proofs.lemmas.Fmt.{decimal_nonempty}
+use Rattle.sym_core.specs.Printed.{signed_text}
+use Rattle.sym_print.specs.declared.detail.Detail.TheVariants.{Full}
+use Rattle.sym_print.specs.Unshared.{Unshared, done, text_of, cost_of, cost_of_parts}
+use Rattle.sym_print.specs.Building.{◌then◌, ◌also◌}
+use Rattle.rust_tree.specs.Symbol.{Identifier, Path, nested, integer, boolean, placeholder, type_argument, constant_argument, Arguments, Constant}
+use Rattle.rust_tree.specs.Need.{need}
+use Rattle.rust_tree.specs.Shown.{path_parts, constant_parts, arguments_from, namespace_text, name_behind, special_name, nested_name}
+use Rattle.rust_v0.specs.Unfold.{greatest_u64}
+use Rattle.rust_direct.specs.Prints.{Shows, PathPrints, ArgumentsBegin, text_of_some}
+use Rattle.rust_direct.specs.Specials.{behind_colon, special_text}
+use Rattle.rust_direct.specs.Constants.{sign_text}
+use Rattle.rust_direct.proofs.PrintedPaths.{then-text, then-cost, one-text, one-cost}
+
+-- ## Closures and shims
+
+-- an identifier that is no Punycode
+abbrev named : (count : ℕ) → (name : List ℕ) → Identifier
+named count name = record { disambiguator = count; name = record { punycode = false; bytes = name } }
+
+name-text : (name : List ℕ) (rest : Unshared) → text_of (name_behind (codes ":") name rest) ≡ behind_colon name ++ text_of rest
+name-text [] rest = refl
+name-text (b ∷ bs) rest = refl
+
+name-cost : (name : List ℕ) (rest : Unshared) → cost_of_parts (name_behind (codes ":") name rest) ≡ length (behind_colon name) + cost_of_parts rest
+name-cost [] rest = omega arith
+name-cost (b ∷ bs) rest = omega arith
+
+-- which of several it is
+abbrev numbered : (count : ℕ) → Unshared
+numbered count = codes "#" then decimal count then codes "}" then done
+
+six : (a b c d e f : List ℕ) → a ++ (b ++ (c ++ (d ++ (e ++ f)))) ≡ a ++ b ++ c ++ d ++ e ++ f
+six a b c d e f =
+    sym (append_assoc (a ++ b ++ c ++ d) e f ∙ append_assoc (a ++ b ++ c) d (e ++ f) ∙ append_assoc (a ++ b) c (d ++ (e ++ f))
+    ∙ append_assoc a b (c ++ (d ++ (e ++ f))))
+
+special-shown : (namespace name : List ℕ) (count : ℕ)
+    → text_of (codes "::{" then namespace then name_behind (codes ":") name (numbered count)) ≡ special_text namespace name count
+special-shown namespace name count =
+    ap (λ l. codes "::{" ++ l) (then-text namespace (name_behind (codes ":") name (numbered count)))
+    ∙ ap (λ l. codes "::{" ++ (namespace ++ l)) (name-text name (numbered count))
+    ∙ ap (λ l. codes "::{" ++ (namespace ++ (behind_colon name ++ (codes "#" ++ l)))) (then-text (decimal count) (codes "}" then done))
+    ∙ six (codes "::{") namespace (behind_colon name) (codes "#") (decimal count) (codes "}")
+
+special-length : (namespace name : List ℕ) (count : ℕ)
+    → length (special_text namespace name count) ≡ 3 + length namespace + length (behind_colon name) + 1 + length (decimal count) + 1
+special-length namespace name count = omega (
+  arith,
+  length-append (codes "::{" ++ namespace ++ behind_colon name ++ codes "#" ++ decimal count) (codes "}"),
+  length-append (codes "::{" ++ namespace ++ behind_colon name ++ codes "#") (decimal count),
+  length-append (codes "::{" ++ namespace ++ behind_colon name) (codes "#"),
+  length-append (codes "::{" ++ namespace) (behind_colon name),
+  length-append (codes "::{") namespace,
+)
+
+special-cost : (namespace name : List ℕ) (count : ℕ)
+    → cost_of_parts (codes "::{" then namespace then name_behind (codes ":") name (numbered count)) ≡ length (special_text namespace name count)
+special-cost namespace name count = omega (
+  arith,
+  special-length namespace name count,
+  then-cost namespace (name_behind (codes ":") name (numbered count)),
+  name-cost name (numbered count),
+  then-cost (decimal count) (codes "}" then done),
+)
+
+-- A closure or a shim prints its parent, its namespace, its name and its number.
+pub special-prints : (value : Bool) (letter : ℕ) (p : Path) (bytes : List ℕ) (count : ℕ) (name : List ℕ) → nat_le 97 letter ≡ false
+    → PathPrints value p bytes
+    → PathPrints value (nested letter p (named count name)) (bytes ++ special_text (namespace_text letter) name count)
+unfolding path_parts need
+special-prints value letter p bytes count name upper prints =
+    let parent = path_parts Full 0 value p in
+    let namespace = namespace_text letter in
+    record {
+      shows = record {
+        text_is = ap (λ l. text_of (parent also nested_name l letter (named count name) done)) upper
+            ∙ ap (λ l. l ++ text_of (codes "::{" then namespace then name_behind (codes ":") name (numbered count))) prints.shows.text_is
+            ∙ ap (λ l. bytes ++ l) (special-shown namespace name count);
+        cost = omega (
+          arith,
+          prints.shows.cost,
+          ap (λ l. cost_of (parent also nested_name l letter (named count name) done)) upper,
+          special-cost namespace name count,
+          special-length namespace name count,
+          length-append bytes (special_text namespace name count),
+        );
+      };
+      needs_none = prints.needs_none;
+    }
+
+-- ## Constants
+
+-- An integer prints its sign and its digits.
+pub integer-prints : (letter : ℕ) (minus : Bool) (n : ℕ) → n ≤ greatest_u64
+    → Shows (constant_parts (integer letter minus n)) (sign_text minus ++ decimal n)
+unfolding constant_parts
+integer-prints letter minus n small = record {
+  text_is = then-text (signed_text minus n) done ∙ append-nil (signed_text minus n);
+  cost = omega (
+    arith,
+    then-cost (signed_text minus n) done,
+    length-append (sign_text minus) (decimal n),
+    decimal_nonempty n (omega (arith, small)),
+  );
+}
+
+pub false-prints : Shows (constant_parts (boolean false)) (codes "false")
+unfolding constant_parts
+false-prints = record { text_is = refl; cost = omega arith }
+
+pub true-prints : Shows (constant_parts (boolean true)) (codes "true")
+unfolding constant_parts
+true-prints = record { text_is = refl; cost = omega arith }
+
+pub placeholder-prints : Shows (constant_parts placeholder) (codes "_")
+unfolding constant_parts
+placeholder-prints = record { text_is = refl; cost = omega arith }
+
+-- a constant behind other arguments
+pub constant-begins : (made : Arguments → Arguments) (separator bytes : List ℕ) (c : Constant) (own : List ℕ) → ArgumentsBegin made separator bytes
+    → Shows (constant_parts c) own → ArgumentsBegin (λ r. made (constant_argument c r)) (codes ", ") (bytes ++ separator ++ own)
+unfolding path_parts need
+constant-begins made separator bytes c own begin shows = record {
+  text_is = λ rest. begin.text_is (constant_argument c rest)
+      ∙ one-text separator bytes own [] (constant_parts c) (arguments_from Full 0 (codes ", ") rest) shows.text_is;
+  cost = λ rest. omega (
+    arith,
+    begin.cost (constant_argument c rest),
+    one-cost separator bytes own (constant_parts c) (arguments_from Full 0 (codes ", ") rest) shows.cost,
+  );
+  needs_none = λ rest h. begin.needs_none (constant_argument c rest) h;
+}

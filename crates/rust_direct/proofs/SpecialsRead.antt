@@ -1,0 +1,109 @@
+-- Closures and shims that were read and written.
+use Rattle.std.proofs.Common.{◌≡◌, ℕ, ◌+◌, ◌<◌, List, [], ◌∷◌, ◌++◌, length, Bool, true, false, refl, ap, sym, subst, ◌∙◌, append_assoc, append-nil, codes, nat_le}
+use Rattle.std.specs.Prelude.{decimal}
+use Rattle.std.proofs.lemmas.Bool.{false≢true}
+use Rattle.rust_tree.specs.Symbol as tree
+use Rattle.rust_tree.specs.Shown.{namespace_text}
+use Rattle.rust_v0.specs.declared.production.Production.{Production}
+use Rattle.rust_v0.specs.Value.{a_path}
+use Rattle.rust_direct.specs.declared.open.Forms.{Forms}
+use Rattle.rust_direct.specs.declared.open.Forms.TheVariants as forms
+use Rattle.rust_direct.specs.declared.open.Open.TheVariants as opens
+use Rattle.rust_direct.specs.declared.direct.Direct.{Direct}
+use Rattle.rust_direct.specs.Holes.{Comes, within, behind, IsNameAt, IsDisambiguatorAt, identifier}
+use Rattle.rust_direct.specs.Says.{PathHas, is_path}
+use Rattle.rust_direct.specs.Written.{Writes}
+use Rattle.rust_direct.specs.Specials.{behind_colon, special_text}
+use Rattle.rust_direct.specs.Awaits.{Arrives, IsEnded}
+use Rattle.rust_direct.proofs.Kept.{notes-written}
+use Rattle.rust_direct.proofs.Moves.{identifier-comes}
+use Rattle.rust_direct.proofs.PathsRead.{path-held, path-says, stands-written}
+use Rattle.rust_direct.proofs.PrintedSpecials.{special-prints}
+
+-- ## Texts one behind another
+
+pub writes-none : (w : Direct) → Writes w w []
+writes-none w = record {
+  text = sym (append-nil w.text.list.items);
+  aside = refl;
+  is_aside = refl;
+  notes = refl;
+  numbers = refl;
+  waiting = refl;
+  at = refl;
+  rounds = refl;
+}
+
+pub writes-both : (old middle new : Direct) (a b : List ℕ) → Writes old middle a → Writes middle new b → Writes old new (a ++ b)
+writes-both old middle new a b first second = record {
+  text = second.text ∙ ap (λ l. l ++ b) first.text ∙ append_assoc old.text.list.items a b;
+  aside = second.aside ∙ first.aside;
+  is_aside = second.is_aside ∙ first.is_aside;
+  notes = second.notes ∙ first.notes;
+  numbers = second.numbers ∙ first.numbers;
+  waiting = second.waiting ∙ first.waiting;
+  at = second.at ∙ first.at;
+  rounds = second.rounds ∙ first.rounds;
+}
+
+-- no name, and no colon
+pub none-behind : (w : Direct) (name : List ℕ) → length name ≡ 0 → Writes w w (behind_colon name)
+none-behind w [] none = writes-none w
+none-behind w (b ∷ bs) none = cc none
+
+-- a name behind a colon
+pub name-behind : (old middle new : Direct) (name : List ℕ) → (length name ≡ 0 → ⊥) → Writes old middle (58 ∷ []) → Writes middle new name
+    → Writes old new (behind_colon name)
+name-behind old middle new [] some first second = absurd (some refl)
+name-behind old middle new (b ∷ bs) some first second = writes-both old middle new (58 ∷ []) (b ∷ bs) first second
+
+-- all that stands behind the parent
+pub special-written : (a b c d e f g : Direct) (namespace name : List ℕ) (count : ℕ) → Writes a b (codes "::{") → Writes b c namespace
+    → Writes c d (behind_colon name) → Writes d e (codes "#") → Writes e f (decimal count) → Writes f g (codes "}") → Writes a g (special_text namespace name count)
+special-written a b c d e f g namespace name count one two three four five six =
+    writes-both a f g (codes "::{" ++ namespace ++ behind_colon name ++ codes "#" ++ decimal count) (codes "}")
+    (writes-both a e f (codes "::{" ++ namespace ++ behind_colon name ++ codes "#") (decimal count)
+    (writes-both a d e (codes "::{" ++ namespace ++ behind_colon name) (codes "#")
+    (writes-both a c d (codes "::{" ++ namespace) (behind_colon name) (writes-both a b c (codes "::{") namespace one two) three) four) five) six
+
+-- ## Closures and shims
+
+special-has : (f : Forms) (letter : ℕ) (p : tree.Path) (bytes : List ℕ) (count : ℕ) (name : List ℕ) → is_path f ≡ true → nat_le 97 letter ≡ false
+    → PathHas f p bytes → PathHas f (tree.nested letter p (identifier count name)) (bytes ++ special_text (namespace_text letter) name count)
+special-has forms.Alike letter p bytes count name is upper h =
+    (special-prints true letter p bytes count name upper h.0, special-prints false letter p bytes count name upper h.1)
+special-has forms.Valued letter p bytes count name is upper h = special-prints true letter p bytes count name upper h
+special-has forms.Plain letter p bytes count name is upper h = special-prints false letter p bytes count name upper h
+special-has forms.Typed letter p bytes count name is upper h = absurd (false≢true is)
+special-has forms.Unnamed letter p bytes count name is upper h = absurd (false≢true is)
+
+-- its name and its number are read
+pub special-read : (s : List ℕ) (old middle : Direct) (letter place from : ℕ) (f : Forms) (count behind_ : ℕ) (name namespace : List ℕ) (end : ℕ)
+    → Arrives s old (opens.Nest letter place) from f → is_path f ≡ true → nat_le 97 letter ≡ false → IsDisambiguatorAt s old.at count behind_
+    → IsNameAt s behind_ name end → namespace ≡ namespace_text letter → Writes old middle (special_text namespace name count)
+    → IsEnded s (record middle { at = end }) place from f f
+special-read s old middle letter place from f count behind_ name namespace end arrives is upper counted named named_so wrote =
+    let r = arrives.read in
+    let held = path-held f r.v r.bytes is r.holds in
+    let p = held.0 in
+    let made = tree.nested letter p (identifier count name) in
+    let waits = r.stands in
+    let own = special_text (namespace_text letter) name count in
+    let writes : Writes old middle own = subst (λ l. Writes old middle (special_text l name count)) named_so wrote in
+    let goes = waits.1 p old.at arrives.state (subst (λ v. Comes s r.os v old.at arrives.state) held.1 r.comes) in
+    let one = identifier-comes s goes.inner old.at (within Production.Nested arrives.state) count behind_ name end counted named goes.awaits in
+    let told = path-says f made (r.bytes ++ own) is (special-has f letter p r.bytes count name is upper held.2) in
+    record {
+      before = arrives.state;
+      notes = notes-written old middle own arrives.state writes arrives.notes;
+      os = waits.0;
+      v = a_path made;
+      front = r.front;
+      bytes = r.bytes ++ own;
+      written = writes.text ∙ ap (λ l. l ++ own) r.written ∙ append_assoc r.front r.bytes own;
+      from_is = r.from_is;
+      says = told.0;
+      holds = told.1;
+      comes = goes.onward one.0 (identifier count name) end (behind (within Production.Nested arrives.state)) one.1 one.2;
+      stands = stands-written s old middle own waits.0 r.front writes waits.2;
+    }

@@ -1,0 +1,191 @@
+-- Impls of traits, and traits as a type implements them, that were read and written.
+use Rattle.std.proofs.Common.{◌≡◌, ℕ, ◌+◌, List, [], ◌∷◌, ◌++◌, length, reverse, Bool, true, false, not, refl, ap, sym, subst, ◌∙◌, codes, cond}
+use Rattle.sym_direct.specs.Holes.{StandsAt}
+use Rattle.rust_tree.specs.Symbol as tree
+use Rattle.rust_v0.specs.Value.{a_path}
+use Rattle.rust_direct.specs.declared.open.Forms.{Forms}
+use Rattle.rust_direct.specs.declared.open.Forms.TheVariants as forms
+use Rattle.rust_direct.specs.declared.open.Open.TheVariants as opens
+use Rattle.rust_direct.specs.declared.open.Step.TheVariants as steps
+use Rattle.rust_direct.specs.declared.direct.Direct.{Direct}
+use Rattle.rust_direct.specs.Holes.{Comes, within, path, type, IsDisambiguatorAt}
+use Rattle.rust_direct.specs.Says.{PathHas, is_type, is_path, has_form}
+use Rattle.rust_direct.specs.Written.{Writes, Pushes, Opens}
+use Rattle.rust_direct.specs.Stands.{Stands, IsWriting, parked_of}
+use Rattle.rust_direct.specs.Awaits.{AwaitsPath, Arrives, IsEnded}
+use Rattle.rust_direct.proofs.Kept.{notes-written, notes-turned}
+use Rattle.rust_direct.proofs.MovesOfTypes.{trait-opens, definition-opens}
+use Rattle.rust_direct.proofs.PrintedPaths.{trait-prints, definition-prints}
+use Rattle.rust_direct.proofs.PathsRead.{path-held, form-held, path-says, stands-written, waits-too}
+use Rattle.rust_direct.proofs.Again.{path-needs}
+use Rattle.rust_direct.proofs.ArgumentsRead.{type-held, notes-pushed, parked-pushed, turned}
+use Rattle.rust_direct.proofs.Opened.{notes-opened, stands-opened, wrapped}
+
+-- ## Impls
+
+-- the path of an impl of a trait is expected, which isn't shown
+pub trait-begun : (s : List ℕ) (old new : Direct) (count end : ℕ) (plain : Bool) → AwaitsPath s old → StandsAt s old.at (88 ∷ [])
+    → IsDisambiguatorAt s (old.at + 1) count end → old.is_aside ≡ false
+    → new.waiting.list.items ≡ old.waiting.list.items ++ opens.TraitImpl old.at ∷ []
+    → new.text ≡ old.aside → new.aside ≡ old.text → new.is_aside ≡ not old.is_aside → new.notes ≡ old.notes → new.numbers ≡ old.numbers → new.at ≡ end
+    → IsWriting s new (steps.Path plain)
+trait-begun s old new count end plain awaits letter counted shown waiting text aside is_aside notes numbers at =
+    let a = awaits.1 in
+    let r = a.awaited in
+    let goes = trait-opens s r.wanted r.os old.at a.state count end r.awaits letter counted in
+    let parked : parked_of new ≡ old.text.list.items =
+    ap (λ b. cond b new.aside.list.items []) (is_aside ∙ ap not shown) ∙ ap (λ t. t.list.items) aside in
+    let none : parked_of old ≡ [] = ap (λ b. cond b old.aside.list.items []) shown in
+    record {
+      state = within goes.production a.state;
+      notes = rw (text, aside, is_aside, notes, numbers)
+          (notes-turned old.is_aside old.text.list.items old.aside.list.items old.notes.list.items old.numbers.items a.state.ended a.notes);
+      is_before = record {
+        wanted = path;
+        is_for = refl;
+        os = goes.inner;
+        awaits = rw at goes.awaits;
+        stands = waits-too s old.waiting.list.items new.waiting.list.items (opens.TraitImpl old.at) goes.inner new.text.list.items (parked_of new) waiting (
+          r.os,
+          (λ q t implements. tree.trait_impl count q t implements),
+          (λ q without value t implements bytes own prints of_trait. trait-prints value count q t implements bytes own without prints of_trait),
+          goes.onward,
+          rw parked (subst (λ l. Stands s (reverse old.waiting.list.items) r.os old.text.list.items l) none r.stands),
+        );
+      };
+    }
+
+-- the path of an impl of a trait is read, and its type is expected
+pub trait-path-read : (s : List ℕ) (old shown middle new : Direct) (place here from : ℕ) (f : Forms) → Arrives s old (opens.TraitImpl place) here f
+    → is_path f ≡ true → old.is_aside ≡ true → shown.text ≡ old.aside → shown.aside ≡ old.text → shown.is_aside ≡ not old.is_aside
+    → shown.notes ≡ old.notes → shown.numbers ≡ old.numbers → shown.waiting ≡ old.waiting → shown.at ≡ old.at → from ≡ length shown.text.list.items
+    → Writes shown middle (codes "<") → Pushes middle new (opens.Implementing place from) → IsWriting s new steps.Type
+trait-path-read s old shown middle new place here from f arrives is hidden text aside is_aside notes numbers waiting at from_is writes pushes =
+    let r = arrives.read in
+    let held = path-held f r.v r.bytes is r.holds in
+    let q = held.0 in
+    let waits = r.stands in
+    let goes = waits.3 q old.at arrives.state (subst (λ v. Comes s r.os v old.at arrives.state) held.1 r.comes) in
+    let none = path-needs f q r.bytes held.2 in
+    let entry = opens.Implementing place from in
+    let parked : parked_of old ≡ shown.text.list.items =
+    ap (λ b. cond b old.aside.list.items []) hidden ∙ ap (λ t. t.list.items) (sym text) in
+    let without : parked_of shown ≡ [] = ap (λ b. cond b shown.aside.list.items []) (is_aside ∙ ap not hidden) in
+    let below : Stands s (reverse shown.waiting.list.items) waits.0 shown.text.list.items (parked_of shown) =
+    rw (waiting, without) (subst (λ l. Stands s (reverse old.waiting.list.items) waits.0 l []) parked waits.4) in
+    record {
+      state = within goes.production arrives.state;
+      notes = notes-pushed middle new entry arrives.state pushes (notes-written shown middle (codes "<") arrives.state writes
+          (rw (text, aside, is_aside, notes, numbers)
+          (notes-turned old.is_aside old.text.list.items old.aside.list.items old.notes.list.items old.numbers.items arrives.state.ended arrives.notes)));
+      is_before = record {
+        wanted = type;
+        is_for = refl;
+        os = goes.inner;
+        awaits = rw (pushes.at, writes.at, at) goes.awaits;
+        stands = subst (λ ws. Stands s ws goes.inner new.text.list.items (parked_of new)) (sym (turned middle new entry pushes)) (
+          waits.0,
+          shown.text.list.items,
+          waits.1 q,
+          from_is,
+          ap (λ t. t.list.items) pushes.text ∙ writes.text,
+          waits.2 q none,
+          goes.onward,
+          rw (parked-pushed middle new entry pushes)
+              (stands-written s shown middle (codes "<") waits.0 shown.text.list.items writes below),
+        );
+      };
+    }
+
+-- ## Traits as a type implements them
+
+-- the type is expected that implements a trait
+pub definition-begun : (s : List ℕ) (old new : Direct) (from behind : ℕ) → AwaitsPath s old → StandsAt s old.at (89 ∷ []) → behind ≡ old.at + 1
+    → from ≡ length old.text.list.items → Opens old new (codes "<") (opens.Implementing old.at from) behind → IsWriting s new steps.Type
+definition-begun s old new from behind awaits letter next from_is opened =
+    let a = awaits.1 in
+    let r = a.awaited in
+    let entry = opens.Implementing old.at from in
+    let goes = definition-opens s r.wanted r.os old.at a.state r.awaits letter in
+    record {
+      state = within goes.production a.state;
+      notes = notes-opened old new (codes "<") entry behind a.state opened a.notes;
+      is_before = record {
+        wanted = type;
+        is_for = refl;
+        os = goes.inner;
+        awaits = rw (opened.at_is, next) goes.awaits;
+        stands = stands-opened s old new (codes "<") entry behind goes.inner opened (
+          r.os,
+          old.text.list.items,
+          (λ t implements. tree.trait_definition t implements),
+          from_is,
+          refl,
+          (λ value t implements bytes own prints of_trait. definition-prints value t implements bytes own prints of_trait),
+          goes.onward,
+          r.stands,
+        );
+      };
+    }
+
+-- the type is read that implements a trait, and the trait is expected
+pub implementing-read : (s : List ℕ) (old middle new : Direct) (place from here : ℕ) (f : Forms) (plain : Bool)
+    → Arrives s old (opens.Implementing place from) here f → is_type f ≡ true → Writes old middle (codes " as ")
+    → Pushes middle new (opens.Implemented place from) → IsWriting s new (steps.Path plain)
+implementing-read s old middle new place from here f plain arrives is writes pushes =
+    let r = arrives.read in
+    let held = type-held f r.v r.bytes is r.holds in
+    let t = held.0 in
+    let waits = r.stands in
+    let goes = waits.6 r.v t old.at arrives.state held.1 r.comes in
+    let entry = opens.Implemented place from in
+    let mark = codes "<" ++ r.bytes ++ codes " as " in
+    record {
+      state = within goes.production arrives.state;
+      notes = notes-pushed middle new entry arrives.state pushes (notes-written old middle (codes " as ") arrives.state writes arrives.notes);
+      is_before = record {
+        wanted = path;
+        is_for = refl;
+        os = goes.inner;
+        awaits = rw (pushes.at, writes.at) goes.awaits;
+        stands = subst (λ ws. Stands s ws goes.inner new.text.list.items (parked_of new)) (sym (turned middle new entry pushes)) (
+          waits.0,
+          waits.1,
+          mark,
+          waits.2 t,
+          waits.3,
+          ap (λ l. l.list.items) pushes.text ∙ writes.text ∙ ap (λ l. l ++ codes " as ") (r.written ∙ ap (λ l. l ++ r.bytes) waits.4)
+              ∙ wrapped waits.1 (codes "<") r.bytes (codes " as "),
+          (λ value q own of_trait. waits.5 value t q r.bytes own held.2 of_trait),
+          goes.passes,
+          rw (parked-pushed middle new entry pushes) (stands-written s old middle (codes " as ") waits.0 waits.1 writes waits.7),
+        );
+      };
+    }
+
+-- the trait is read that a type implements
+pub implemented-read : (s : List ℕ) (old middle : Direct) (place from here : ℕ) (f : Forms) → Arrives s old (opens.Implemented place from) here f
+    → has_form false f ≡ true → Writes old middle (codes ">") → IsEnded s middle place from forms.Alike forms.Alike
+implemented-read s old middle place from here f arrives is writes =
+    let r = arrives.read in
+    let held = form-held false f r.v r.bytes is r.holds in
+    let q = held.0 in
+    let waits = r.stands in
+    let made = waits.3 q in
+    let bytes = waits.2 ++ r.bytes ++ codes ">" in
+    let has : PathHas forms.Alike made bytes = (waits.6 true q r.bytes held.2, waits.6 false q r.bytes held.2) in
+    let told = path-says forms.Alike made bytes refl has in
+    record {
+      before = arrives.state;
+      notes = notes-written old middle (codes ">") arrives.state writes arrives.notes;
+      os = waits.0;
+      v = a_path made;
+      front = waits.1;
+      bytes = bytes;
+      written = writes.text ∙ ap (λ l. l ++ codes ">") (r.written ∙ ap (λ l. l ++ r.bytes) waits.5) ∙ wrapped waits.1 waits.2 r.bytes (codes ">");
+      from_is = waits.4;
+      says = told.0;
+      holds = told.1;
+      comes = rw writes.at (waits.7 q old.at arrives.state (subst (λ v. Comes s r.os v old.at arrives.state) held.1 r.comes));
+      stands = stands-written s old middle (codes ">") waits.0 waits.1 writes waits.8;
+    }

@@ -1,0 +1,11 @@
+use Rattle.std.proofs.Common.{ap, subst, ◌∙◌}
+use Rattle.rust_direct.specs.Holes.{IsDisambiguatorAt}
+use Rattle.rust_direct.proofs.TraitsRead.{trait-begun}
+use Rattle.rust_direct.proofs.direct.Direct.begin_trait_impl.Goals as goal
+
+pub returns : goal.returns
+returns c =
+    trait-begun c.args.s.now c.args.self.now c.turn.new.self c.in_ok-_count._count c.in_ok-_count.behind _ c.requires.awaits c.requires.letter
+    (subst (λ k. IsDisambiguatorAt c.args.s.now k c.in_ok-_count._count c.in_ok-_count.behind) c.in_ok-checked_add.ensures.1 c.in_ok-_count.ensures)
+    c.if-self.false (ap (λ v. v.list.items) c.turn.ensures.waiting ∙ c.in_ok-push.ensures.items) c.turn.ensures.text c.turn.ensures.aside
+    c.turn.ensures.is_aside c.turn.ensures.notes c.turn.ensures.numbers c.turn.ensures.at

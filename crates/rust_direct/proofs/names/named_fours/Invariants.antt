@@ -1,0 +1,15 @@
+-- the bytes so far may stand in a name
+use Rattle.std.proofs.Common.{◌≤◌, ◌-◌, length}
+use Rattle.sym_core.specs.Scan.{ReachesNameBytes}
+use Rattle.sym_core.specs.declared.NameClass.TheVariants.{Rust}
+use Rattle.rust_direct.proofs.names.named_fours.Given as goal
+
+abbrev pub invariant-fours : goal.invariant-fours
+invariant-fours l =
+    record {
+      high : l.end ≤ length l.bytes;
+      each : ReachesNameBytes Rust l.bytes l.end;
+    }
+
+abbrev pub decreases-fours : goal.decreases-fours
+decreases-fours l = length l.bytes - l.end

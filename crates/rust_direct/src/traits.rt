@@ -1,0 +1,112 @@
+// Impls of traits, and traits as a type implements them.
+
+ghost use Rattle.std.specs.Prelude.{◌∷◌, []};
+ghost use Rattle.std.specs.Option.{IfSome};
+ghost use Rattle.sym_core.specs.Number.{FitsSymbol};
+ghost use Rattle.sym_direct.specs.Holes.{StandsAt};
+ghost use Rattle.rust_direct.specs.declared.open.Open.TheVariants as opens;
+ghost use Rattle.rust_direct.specs.Stands.{IsWriting};
+ghost use Rattle.rust_direct.specs.Awaits.{AwaitsPath, Arrives};
+
+use crate::direct::Direct;
+use crate::open::{Forms, Open, Step, has_form, is_path, is_type};
+use crate::tokens::disambiguator_at;
+
+impl Direct {
+    // <path> = "X" <impl-path> <type> <path>
+    pub(crate) fn begin_trait_impl(&mut self, s: &[u8]) -> Option<Step>
+        requires fits { FitsSymbol s.now }
+        requires letter { StandsAt s.now self.old.at (88 ∷ []) }
+        requires awaits { AwaitsPath s.now self.old }
+        ensures { IfSome result (IsWriting s.now self.new) }
+    {
+        let place = self.at;
+        let (_count, behind) = disambiguator_at(s, place.checked_add(1)?)?;
+        if self.is_aside {
+            return None;
+        }
+        self.at = behind;
+        self.waiting.push(Open::TraitImpl { place })?;
+        self.turn();
+        Some(Step::Path { is_value: false })
+    }
+
+    /// The path of an impl of a trait is read, and its type follows.
+    // <path> = "X" <impl-path> <type> <path>
+    pub(crate) fn trait_impl_ended(
+        &mut self,
+        _s: &[u8],
+        _here: usize,
+        forms: Forms,
+        place: usize,
+    ) -> Option<Step>
+        requires { Arrives _s.now self.old (opens.TraitImpl place) _here forms }
+        ensures { IfSome result (IsWriting _s.now self.new) }
+    {
+        if !is_path(forms) {
+            return None;
+        }
+        if !self.is_aside {
+            return None;
+        }
+        self.turn();
+        let from = self.text.len();
+        self.push_byte(b'<')?;
+        self.waiting.push(Open::Implementing { place, from })?;
+        Some(Step::Type)
+    }
+
+    // <path> = "Y" <type> <path>
+    pub(crate) fn begin_trait(&mut self, s: &[u8]) -> Option<Step>
+        requires letter { StandsAt s.now self.old.at (89 ∷ []) }
+        requires awaits { AwaitsPath s.now self.old }
+        ensures { IfSome result (IsWriting s.now self.new) }
+    {
+        let place = self.at;
+        let from = self.text.len();
+        let behind = place.checked_add(1)?;
+        self.push_open(b"<", Open::Implementing { place, from }, behind)?;
+        Some(Step::Type)
+    }
+
+    /// The type is read that implements a trait, and the trait follows.
+    // <path> = "X" <impl-path> <type> <path> | "Y" <type> <path>
+    pub(crate) fn implementing_ended(
+        &mut self,
+        _s: &[u8],
+        _here: usize,
+        forms: Forms,
+        place: usize,
+        from: usize,
+    ) -> Option<Step>
+        requires { Arrives _s.now self.old (opens.Implementing place from) _here forms }
+        ensures { IfSome result (IsWriting _s.now self.new) }
+    {
+        if !is_type(forms) {
+            return None;
+        }
+        self.push(b" as ")?;
+        self.waiting.push(Open::Implemented { place, from })?;
+        Some(Step::Path { is_value: false })
+    }
+
+    /// The trait is read that a type implements.
+    // <path> = "X" <impl-path> <type> <path> | "Y" <type> <path>
+    pub(crate) fn implemented_ended(
+        &mut self,
+        s: &[u8],
+        _here: usize,
+        forms: Forms,
+        place: usize,
+        from: usize,
+    ) -> Option<Step>
+        requires { Arrives s.now self.old (opens.Implemented place from) _here forms }
+        ensures { IfSome result (IsWriting s.now self.new) }
+    {
+        if !has_form(false, forms) {
+            return None;
+        }
+        self.push_byte(b'>')?;
+        self.ended(s, place, from, Forms::Alike, Forms::Alike)
+    }
+}

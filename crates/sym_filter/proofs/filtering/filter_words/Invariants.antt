@@ -1,0 +1,25 @@
+use Rattle.std.proofs.Common.{◌≡◌, ◌<◌, ◌+◌, ◌*◌, ◌^◌, ◌++◌, List, [], ℕ, length}
+use Rattle.std.specs.Io.KnownBytes.{Consumes}
+use Rattle.sym_filter.specs.Runs.{filtered_at, tally_at}
+use Rattle.sym_filter.specs.Streams.{Puts}
+use Rattle.sym_filter.specs.Words.{rest_after, tally_after}
+use Rattle.sym_filter.specs.declared.filtering.TheConstants.{READ_SIZE}
+use Rattle.sym_filter.proofs.filtering.filter_words.Given as goal
+
+abbrev pub invariant-loop-count : goal.invariant-loop-count
+invariant-loop-count g l = let answers = g.D.Demangler.answer l.demangler in record {
+  text : List ℕ;
+  bytes : List ℕ;
+  reads : Consumes (g.R.Source.coming l.fn.reader) (g.R.Source.coming l.reader) text;
+  puts : Puts (g.W.Sink.taken l.fn.writer) (g.W.Sink.taken l.writer) [] [] bytes;
+  read_failures : g.R.Source.failure_count l.reader ≡ g.R.Source.failure_count l.fn.reader;
+  write_failures : g.W.Sink.failure_count l.writer ≡ g.W.Sink.failure_count l.fn.writer;
+  room : length l.room.items ≡ READ_SIZE;
+  nothing_waits : l.out.items ≡ [];
+  rest : (more : List ℕ) → filtered_at l.fn.letters answers (text ++ more) ≡ bytes ++ rest_after answers l.words more;
+  counts : (more : List ℕ) → tally_at l.fn.letters answers (text ++ more) ≡ tally_after answers l.words more;
+  dots : l.words.dots + READ_SIZE * g.R.Source.reads_left l.reader < 2 ^ 64 * READ_SIZE;
+}
+
+abbrev pub decreases-loop-count : goal.decreases-loop-count
+decreases-loop-count g l = g.R.Source.reads_left l.reader
