@@ -1,11 +1,10 @@
 -- Constants and arrays that were read and written.
-use Rattle.std.proofs.Common.{◌≡◌, ℕ, ◌+◌, ◌≤◌, List, [], ◌∷◌, ◌++◌, length, reverse, Bool, true, false, refl, ap, sym, subst, ◌∙◌, append_assoc, codes}
+use Rattle.std.proofs.Common.{◌≡◌, ℕ, ◌+◌, List, [], ◌∷◌, ◌++◌, length, reverse, Bool, true, false, refl, ap, sym, subst, ◌∙◌, append_assoc, codes}
 use Rattle.std.specs.Prelude.{◌&&◌, decimal, nat_lt}
-use Rattle.std.proofs.lemmas.Bool.{false≢true}
 use Rattle.sym_direct.specs.Holes.{StandsAt}
 use Rattle.rust_tree.specs.Symbol as tree
 use Rattle.rust_v0.specs.declared.kind.TheConstants.{TYPE}
-use Rattle.rust_v0.specs.Value.{Value, a_type, a_constant}
+use Rattle.rust_v0.specs.Value.{a_type, a_constant}
 use Rattle.rust_direct.specs.declared.open.Forms.{Forms}
 use Rattle.rust_direct.specs.declared.open.Forms.TheVariants as forms
 use Rattle.rust_direct.specs.declared.open.Open.TheVariants as opens

@@ -5,16 +5,11 @@ use Rattle.std.proofs.Math.Seq.{drop-append_seam, take-append_seam}
 use Rattle.std.specs.Option.{IfSome}
 use Rattle.std.specs.Result.{result_ok}
 use Rattle.sym_core.specs.declared.NameClass.TheVariants.{Rust}
-use Rattle.sym_core.specs.declared.NumberKind.TheVariants.{Base62, Hex}
 use Rattle.sym_core.specs.declared.tokens.TokenPlace.{TokenPlace}
-use Rattle.sym_core.specs.Token.{Token, IsName, IsNumberToken, HasToken, FindsToken}
-use Rattle.sym_core.specs.Number.{AreDigitsOf}
-use Rattle.sym_core.specs.Value.{counted_value, value_of}
-use Rattle.rust_v0.specs.Unfold.{greatest_u64}
+use Rattle.sym_core.specs.Token.{Token, IsName, HasToken, FindsToken}
 use Rattle.sym_direct.specs.Holes.{StandsAt}
 use Rattle.sym_direct.proofs.Moves.{stands-join}
-use Rattle.rust_direct.specs.Holes.{IsNumberAt, written, IsErasedAt}
-use Rattle.rust_direct.specs.Constants.{IsHexAt}
+use Rattle.rust_direct.specs.Holes.{written, IsErasedAt}
 use Rattle.rust_direct.specs.Names.{IsNamePlace}
 
 -- what stands between two places behind a third one
@@ -76,40 +71,6 @@ name-found s at r (Some place) finds ok le =
       own.1,
       record { token = h.token; is_name = h.is; own = sym own.2; stands = (h.rest, h.split); ends = h.end },
     )
-
--- where the digits of a number stand
-pub digits-inside : (s : List ℕ) (at : ℕ) (place : TokenPlace) → HasToken (IsNumberToken Base62) (drop at s) at place → at ≤ length s
-    → (place.from ≤ place.to) × (place.to ≤ length s)
-digits-inside s at place h le = let own = own-found (IsNumberToken Base62) s at place h le in (own.0, own.1)
-
--- a number that was found
-pub number-found : (s : List ℕ) (at : ℕ) (place : TokenPlace) (value : ℕ) → HasToken (IsNumberToken Base62) (drop at s) at place → at ≤ length s
-    → value ≡ counted_value Base62 (take (place.to - place.from) (drop place.from s)) → IsNumberAt s at value place.end
-number-found s at place value h le is = record {
-  token = h.token;
-  is_number = h.is;
-  counts = ap (λ l. counted_value Base62 l) (sym (own-found (IsNumberToken Base62) s at place h le).2) ∙ sym is;
-  stands = (h.rest, h.split);
-  ends = h.end;
-}
-
--- where the digits of a number in base 16 stand
-pub hex-inside : (s : List ℕ) (at : ℕ) (place : TokenPlace) → HasToken (IsNumberToken Hex) (drop at s) at place → at ≤ length s
-    → (place.from ≤ place.to) × (place.to ≤ length s) × AreDigitsOf Hex (take (place.to - place.from) (drop place.from s))
-hex-inside s at place h le =
-    let own = own-found (IsNumberToken Hex) s at place h le in (own.0, own.1, subst (λ l. AreDigitsOf Hex l) (sym own.2) h.is.digits)
-
--- a number in base 16 that was found
-pub hex-found : (s : List ℕ) (at : ℕ) (place : TokenPlace) (value : ℕ) → HasToken (IsNumberToken Hex) (drop at s) at place → at ≤ length s
-    → value ≡ value_of Hex (take (place.to - place.from) (drop place.from s)) → value ≤ greatest_u64 → IsHexAt s at value place.end
-hex-found s at place value h le is small = record {
-  token = h.token;
-  is_number = h.is;
-  counts = ap (λ l. value_of Hex l) (sym (own-found (IsNumberToken Hex) s at place h le).2) ∙ sym is;
-  small = small;
-  stands = (h.rest, h.split);
-  ends = h.end;
-}
 
 -- a byte stands where it was read
 pub there : (s : List ℕ) (at byte letter : ℕ) → byte ≡ letter → 0 < letter → (byte ≢ 0 → StandsAt s at (byte ∷ [])) → StandsAt s at (letter ∷ [])

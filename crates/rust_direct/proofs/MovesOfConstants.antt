@@ -1,14 +1,11 @@
 -- The moves of constants, among arguments and as the sizes of arrays.
-use Rattle.std.proofs.Common.{◌≡◌, ◌≢◌, ℕ, ◌+◌, ◌<◌, ◌≤◌, List, [], ◌∷◌, length, inl, inr, Bool, true, false, Some, None, Ok, refl, ap, sym, subst, ◌∙◌, arith}
+use Rattle.std.proofs.Common.{◌≡◌, ◌≢◌, ℕ, ◌+◌, ◌<◌, ◌≤◌, List, [], ◌∷◌, inl, inr, Bool, true, false, Some, Ok, refl, ap, sym, subst, arith}
 use Rattle.std.specs.Prelude.{◌&&◌, nat_lt, if◌then◌else◌}
 use Rattle.std.proofs.lemmas.Bool.{le-leb, cases_eq, ne_eqb, false≢true}
 use Rattle.sym_core.specs.declared.NumberKind.TheVariants.{Hex}
-use Rattle.sym_core.specs.Token.{bytes_of}
-use Rattle.sym_core.specs.Value.{value_of}
 use Rattle.sym_shape.specs.declared.rule.Rule.{Rule}
 use Rattle.sym_shape.specs.declared.rule.Sym.TheVariants.{Kind, Byte, Number}
 use Rattle.sym_shape.specs.Tree.{TakesRule}
-use Rattle.sym_link.specs.Reading.{Open}
 use Rattle.sym_link.specs.Unfold.{standing}
 use Rattle.sym_direct.specs.Holes as direct
 use Rattle.sym_direct.specs.Holes.{opened, StandsAt}
@@ -17,12 +14,12 @@ use Rattle.rust_tree.specs.Symbol as tree
 use Rattle.rust_v0.specs.declared.production.Production.{Production}
 use Rattle.rust_v0.specs.declared.kind.TheConstants.{TYPE, ARGUMENTS, CONSTANT, MINUS, TRUTH}
 use Rattle.rust_v0.specs.BasicLetters.{signed_letters, unsigned_letters}
-use Rattle.rust_v0.specs.Rules.{v0_table, taking, chaining}
-use Rattle.rust_v0.specs.Value.{Value, State, an_integer, a_truth, minus_mark, a_type, a_constant, some_arguments}
+use Rattle.rust_v0.specs.Rules.{v0_table, taking}
+use Rattle.rust_v0.specs.Value.{Value, State, a_truth, minus_mark, a_type, a_constant, some_arguments}
 use Rattle.rust_v0.specs.Unfold.{token_of, value16, an_integer_of, greatest_u64, greatest_u128}
-use Rattle.rust_direct.specs.Holes.{rust_language, Opened, Comes, ComesAll, Expects, within, behind, with_ended, IsType, Ends, ArgumentsGoOn}
-use Rattle.rust_direct.specs.Constants.{one_of, is_signed, is_unsigned, IsHexAt, IsConstantAt, BeginsInteger, SizeGoesOn, ArrayGoesOn}
-use Rattle.rust_direct.proofs.Moves.{comes-moved, expects-moved, byte-there}
+use Rattle.rust_direct.specs.Holes.{rust_language, Opened, Comes, Expects, within, behind, with_ended, ArgumentsGoOn}
+use Rattle.rust_direct.specs.Constants.{one_of, is_signed, is_unsigned, IsHexAt, IsConstantAt, BeginsInteger, ArrayGoesOn}
+use Rattle.rust_direct.proofs.Moves.{byte-there}
 use Rattle.rust_direct.proofs.MovesOfArguments.{type-part, no-minus}
 
 -- ## Letters of integers

@@ -1,7 +1,7 @@
 -- The bounds of a `dyn` of which the text is known.
-use Rattle.std.proofs.Common.{◌≡◌, refl, ap, sym, ◌∙◌, ℕ, ◌+◌, ◌*◌, ◌≤◌, List, [], ◌++◌, length, false, arith, codes, length-append, append-nil, Option, Some}
+use Rattle.std.proofs.Common.{◌≡◌, refl, ap, ◌∙◌, ℕ, ◌+◌, List, [], ◌++◌, false, arith, codes, length-append, append-nil, Some}
 use Rattle.sym_print.specs.declared.detail.Detail.TheVariants.{Full}
-use Rattle.sym_print.specs.Unshared.{Unshared, done, text_of, cost_of}
+use Rattle.sym_print.specs.Unshared.{done, text_of}
 use Rattle.sym_print.specs.Building.{◌then◌, ◌also◌, ◌perhaps◌}
 use Rattle.rust_tree.specs.Symbol.{Path, Bounds, crate_root, nested, generic, inherent_impl, trait_impl, trait_definition, more_bounds, no_bindings, no_bounds, dyn}
 use Rattle.rust_tree.specs.Need.{need}

@@ -1,16 +1,16 @@
 -- Closures, shims and constants of which the text is known.
-use Rattle.std.proofs.Common.{◌≡◌, refl, ap, sym, ◌∙◌, ℕ, ◌+◌, ◌*◌, ◌≤◌, List, [], ◌∷◌, ◌++◌, length, Bool, true, false, arith, codes, length-append, append-nil, append_assoc, nat_le}
-use Rattle.std.specs.Prelude.{decimal, ◌&&◌, nat_lt}
+use Rattle.std.proofs.Common.{◌≡◌, refl, ap, sym, ◌∙◌, ℕ, ◌+◌, ◌≤◌, List, [], ◌∷◌, ◌++◌, length, Bool, true, false, arith, codes, length-append, append-nil, append_assoc, nat_le}
+use Rattle.std.specs.Prelude.{decimal}
 use Rattle.std.proofs.lemmas.Fmt.{decimal_nonempty}
 use Rattle.sym_core.specs.Printed.{signed_text}
 use Rattle.sym_print.specs.declared.detail.Detail.TheVariants.{Full}
 use Rattle.sym_print.specs.Unshared.{Unshared, done, text_of, cost_of, cost_of_parts}
 use Rattle.sym_print.specs.Building.{◌then◌, ◌also◌}
-use Rattle.rust_tree.specs.Symbol.{Identifier, Path, nested, integer, boolean, placeholder, type_argument, constant_argument, Arguments, Constant}
+use Rattle.rust_tree.specs.Symbol.{Identifier, Path, nested, integer, boolean, placeholder, constant_argument, Arguments, Constant}
 use Rattle.rust_tree.specs.Need.{need}
-use Rattle.rust_tree.specs.Shown.{path_parts, constant_parts, arguments_from, namespace_text, name_behind, special_name, nested_name}
+use Rattle.rust_tree.specs.Shown.{path_parts, constant_parts, arguments_from, namespace_text, name_behind, nested_name}
 use Rattle.rust_v0.specs.Unfold.{greatest_u64}
-use Rattle.rust_direct.specs.Prints.{Shows, PathPrints, ArgumentsBegin, text_of_some}
+use Rattle.rust_direct.specs.Prints.{Shows, PathPrints, ArgumentsBegin}
 use Rattle.rust_direct.specs.Specials.{behind_colon, special_text}
 use Rattle.rust_direct.specs.Constants.{sign_text}
 use Rattle.rust_direct.proofs.PrintedPaths.{then-text, then-cost, one-text, one-cost}
