@@ -155,7 +155,7 @@ impl Symbol {
         self.push_item(parts, name, form::LEFT, 0, closed);
     }
 
-    /// The parts of a guard variable's name and the like.
+    /// The parts of a special name of a name.
     // <special-name> ::= GV <object name>
     fn fill_special_name<S: PartList<Context>>(
         &self,

@@ -382,7 +382,7 @@ ways-grow whole (function_type c_linkage noexcept ref returned parameters) in_wh
 ways-grow whole (qualified q type) in_whole n =
     typed whole n (qualified q type) (front (qualifier_letters q) (ways-grow whole type in_whole n).under_qualifiers)
 ways-grow whole (vector digits type) in_whole n =
-    typed whole n (vector digits type) (front (codes "Dv" ++ digits ++ codes "_") (ways-grow whole type in_whole n).as_type)
+    typed whole n _ (front (codes "Dv" ++ digits ++ codes "_") (ways-grow whole type in_whole n).as_type)
 ways-grow whole (complex type) in_whole n = typed whole n (complex type) (front (codes "C") (ways-grow whole type in_whole n).as_type)
 ways-grow whole (expansion pattern) in_whole n = typed whole n (expansion pattern) (front (codes "Dp") (ways-grow whole pattern in_whole n).as_type)
 ways-grow whole (integer type value) in_whole n =

@@ -448,7 +448,7 @@ keeps (qualified q type) open_ n R =
     typed-keep open_ n R (qualified q type) _ (λ x w. w) (λ x w. w)
     (λ h. behind-text-keeps open_ n R (qualifier_letters q) (ways_of n type).under_qualifiers ((keeps type open_ n R).under_qualifiers h))
 keeps (vector digits type) open_ n R =
-    typed-keep open_ n R (vector digits type) _ (λ x w. w) (λ x w. w)
+    typed-keep open_ n R _ _ (λ x w. w) (λ x w. w)
     (λ h. behind-text-keeps open_ n R (codes "Dv" ++ digits ++ codes "_") (ways_of n type).as_type ((keeps type open_ n R).as_type h))
 keeps (complex type) open_ n R =
     typed-keep open_ n R (complex type) _ (λ x w. w) (λ x w. w)

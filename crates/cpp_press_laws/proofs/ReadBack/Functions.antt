@@ -1,4 +1,4 @@
--- Parameters, qualified types, vectors and function types are read as what was pressed, from their parts.
+-- Parameters, qualified types, function types and what stands behind Dv are read as what was pressed, from their parts.
 use Rattle.std.proofs.Common.{◌≡◌, ℕ, ◌+◌, ◌<◌, ◌≤◌, length, List, [], ◌∷◌, ◌++◌, Option, Some, None, Bool, true, false, Ok, refl, ap, arith, ◌∙◌, append-nil}
 use Rattle.std.specs.Prelude.{nat_lt, Result, Err, slice_get}
 use Rattle.sym_core.specs.declared.refusal.Refusal.{Refusal}
@@ -198,7 +198,7 @@ restrict-reads around allowed k volatile const t place cs w takes one =
     means false true began s = refl
     means false false began s = refl
 
--- ## Vectors
+-- ## Behind Dv
 
 pub vector-behind-d : (around : Around) (allowed : Option ℕ) (digits : List ℕ) (t : Term) (place : ℕ) (cs : List Candidate) (w : Written)
     → AreSpellableDigits Digits digits
