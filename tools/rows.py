@@ -46,8 +46,8 @@ READING = ["cpp_grammar.specs." + m for m in ("Grammar", "Table", "Values", "Sco
 PRINTING = READING + ["cpp_grammar.specs." + m for m in ("Items", "Parts", "Ranks")] + ["cpp_grammar.proofs.Reader", "cpp_grammar.proofs.Row"]
 PRESSING = READING + ["cpp_grammar.proofs.Reader"] + ["cpp_press_laws.specs." + m for m in ("Same", "Texts", "Components", "Pressing")] + ["cpp_press_laws.proofs.Rows.Row"]
 # names of those modules that no row needs
-UNPRESSED = ("look_up builtin_texts operator_texts abbreviation_texts special_texts literal_endings see seen_tree").split()
-UNUSED = ("sheet sheet_before blank abi abi_before sheet_with choice_of class_of ranges_of rule_taken choose_before").split()
+UNPRESSED = ("look_up builtin_texts operator_texts abbreviation_texts special_texts named_special_texts literal_endings see seen_tree").split()
+UNUSED = ("sheet sheet_before blank abi abi_before sheet_with choice_of class_of ranges_of rule_taken").split()
 
 def names_in(crates, modules, unused):
     names = {}
@@ -116,7 +116,7 @@ def main():
     printing = ["use Rattle.std.specs.Fmt.{digits}", "use Rattle.sym_print.specs.Unfold.{printed_to, printed}"], WORDS, ["digits", "printed_to", "printed"]
     for name, title, rows in (("ListedRows", "Symbols of each kind, and at the edges of the rules.", listed),
                               ("GeneratedRows", "Symbols that a generator wrote.", generated(reference, generator, modes))):
-        write(crates, "cpp_grammar", name, title, printing, PRINTING, split(rows, 40), "are_right")
+        write(crates, "cpp_grammar", name, title, printing, PRINTING, split(rows, 40), "are_right", UNUSED + ["special_front"])
     pressing = [], ("presses",), []
     modes = [(21, 8000, 8, 60, 20), (22, 8000, 14, 50, 10)]
     for name, title, rows in (("Rows/Listed", "Pressed spellings by each rule.", listed_presses(reference)),

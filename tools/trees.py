@@ -17,7 +17,7 @@ def arguments(tree, *sorts): return [(name, sort) for name, sort in tree[1:] if 
 def applied(name, parts): return " ".join([name, *parts])
 
 # names of arguments as other crates have them, by constructor or for each
-PRESSED = {"t": "type", ("special", "letter"): "l", ("abbreviation", "letter"): "l", ("local", "encoding"): "e", ("source", "bytes"): "name",
+PRESSED = {"t": "type", ("special", "letter"): "l", ("of_name", "letter"): "l", ("abbreviation", "letter"): "l", ("local", "encoding"): "e", ("source", "bytes"): "name",
            ("literal_operator", "bytes"): "name", ("lambda", "number"): "k", ("unnamed", "number"): "k", ("vendor", "bytes"): "name", ("integer", "n"): "value",
            ("boolean", "b"): "truth", ("member_pointer", "t"): "member", ("list", "e"): "first"}
 SCOPES = {"t": "type", ("alone", "p"): "piece", ("in_std", "p"): "piece", ("within", "p"): "piece", ("parameter", "k"): "number", ("qualified", "q"): "qualifiers",
@@ -121,6 +121,12 @@ def weight_of_scopes():
                "expansion": "2 + weight a scope pattern + pack_count scope pattern"}
     return fold("weight", ["a", "scope"], summed("1"), "1", special, closed=["0", "None"])
 
+def weight_grows():
+    def right(tree):
+        parts = [f"weight_grows a b scope {name} h" for name, sort in arguments(tree, *SCOPED)]
+        return f"omega ({', '.join(['arith', *parts])})" if parts else None
+    return cases("weight_grows", ["a", "b", "scope"], ["h"], right, "omega arith")
+
 def closed_noted():
     def right(tree):
         if tree[0] == "parameter": return "absurd (true≢false e)"
@@ -167,6 +173,38 @@ def by_each(function, lemma, before, others, names):
 
 INSIDE_OF_FUNCTION = """
     Shut (Inside name x ⊎ (ItselfOr returned (Inside returned x) x ⊎ Inside parameters x)) x"""
+def is_itself(tree, name, sort):
+    """whether a subtree may be a component itself: lists and pieces are none"""
+    return sort != PIECE and name not in ("entity", "arguments", "parameters", "elements", "rest")
+
+def inside_shut():
+    """of a closed tree, what stands inside is closed"""
+    def right(tree, name, closed, fact):
+        below = f"inside-shut {name} x {closed}"
+        if not is_itself(tree, name, dict(tree[1:])[name]): return f"{below} {fact}"
+        lemma = "prefix-shut" if name == "prefix" else "unqualified-shut" if tree[0] == "qualified" else "itself-shut"
+        return f"{lemma} {name} x (Inside {name} x) {closed} ({below}) {fact}"
+    lines = []
+    for tree in named(PRESSED):
+        subtrees, left = arguments(tree, *SUBTREES), f"inside-shut {pattern(tree)} x closed"
+        if tree[0] == "symbol": lines.append(f"{left} i = i.0")
+        elif tree[0] == "local": lines += [f"{left} (inl s) = s.0", f"{left} (inr i) = inside-shut entity x closed i"]
+        elif not subtrees or any(sort in (OWN, OUTSIDE) for name, sort in subtrees): continue
+        elif len(subtrees) == 1: lines.append(f"{left} i = {right(tree, subtrees[0][0], 'closed', 'i')}")
+        else:
+            tests = " ".join(f"(is_open {name})" for name, sort in subtrees)
+            for (name, sort), side, shut in zip(subtrees, ("inl", "inr"), ("left-shut", "right-shut")):
+                lines.append(f"{left} ({side} i) =\n    {right(tree, name, f'({shut} {tests} closed)', 'i')}")
+    return lines + ["inside-shut _ x closed i = first_of (assumption i, search i)"]
+
+BEHIND_LETTERS = "IsTemplateBehindLetters own name (name_letters q ref)"
+def never_referred():
+    def joined(parts): return parts[0] if len(parts) == 1 else f"{parts[0]} ⊎ {parts[1]}"
+    def below(first, *rest): return f"IsNeverReferred own {first}" + (f" ⊎ ({below(*rest)})" if len(rest) > 1 else f" ⊎ {below(*rest)}" if rest else "")
+    special = {"function": f"\n    {BEHIND_LETTERS}\n    ⊎ ({below('name', 'returned', 'parameters')})", "object": f"{BEHIND_LETTERS} ⊎ {below('name')}",
+               "of_name": f"{BEHIND_LETTERS} ⊎ {below('name')}", "local": f"IsTemplateOf own entity ⊎ ({below('e', 'entity')})"}
+    return fold("IsNeverReferred", ["own"], joined, "⊥", special, trees=named(PRESSED))
+
 def inside():
     # lists and pieces are no components themselves
     def right(tree):
@@ -178,8 +216,7 @@ def inside():
             elif sort in (OWN, OUTSIDE): parts.append(f"Shut (Inside {name} x) x")
             elif tree[0] == "within" and name == "prefix": parts.append("PrefixOr prefix (Inside prefix x) x")
             elif tree[0] == "qualified": parts.append(f"UnqualifiedOr {name} (Inside {name} x) x")
-            elif sort == PIECE or name in ("entity", "arguments", "parameters", "elements", "rest"): parts.append(f"Inside {name} x")
-            else: parts.append(itself)
+            else: parts.append(itself if is_itself(tree, name, sort) else f"Inside {name} x")
         return " ⊎ ".join(parts) if parts else None
     return cases("Inside", [], ["x"], right, "⊥", named(PRESSED))
 
@@ -192,7 +229,7 @@ PIECES = "source operator literal_operator constructor destructor lambda unnamed
 OTHERS = {
     "function": [("name", TREE), ("q", QUALIFIERS), ("m", MARK), ("returned", TREE), ("parameters", TREE)],
     "object": [("name", TREE), ("q", QUALIFIERS), ("m", MARK)],
-    "guard": [("name", TREE), ("q", QUALIFIERS), ("m", MARK)],
+    "of_name": [("letter", NUMBER), ("name", TREE), ("q", QUALIFIERS), ("m", MARK)],
     "thunk": [("u", THUNK), ("e", TREE)],
     "local": [("e", TREE), ("entity", TREE), ("d", DISCRIMINATOR)],
     "parameter": [("k", NUMBER), ("a", TREE)],
@@ -236,14 +273,14 @@ BELOW = {TREE: "{0} < n", OWN: "{0} < n", PIECE: "IsPieceBelow s n {0}", BYTES: 
          DISCRIMINATOR: "IsSpan s {0}", THUNK: "{0} < held"}
 def bounds(args): return [(name, sort) for name, sort in args if sort in BELOW]
 
-# views have the pieces of names at the end, and a thunk behind a guard
-VIEWS = lambda: [t for t in named(VIEWED, ["absent", "nil", "list", "symbol", "function", "object", "special", "guard", "thunk"], ["alone", "in_std", "within"]) if t[0] not in PIECES]
+# views have the pieces of names at the end, and a thunk behind the other special names
+VIEWS = lambda: [t for t in named(VIEWED, ["absent", "nil", "list", "symbol", "function", "object", "special", "of_name", "thunk"], ["alone", "in_std", "within"]) if t[0] not in PIECES]
 
 def fields_of():
     """what is seen of a tree: production, two numbers, a text, parts"""
     numbers = {QUALIFIERS: "(qualifiers_number {0})", MARK: "(mark_number {0})", NUMBER: "{0}", TRUTH: "(bit {0})", SIGNED: "(bit {0}.negative)"}
     special = {
-        "thunk": "thunk_fields kind encoding", "local": "local_fields around entity discriminator",
+        "of_name": "named_fields letter name q mark", "thunk": "thunk_fields kind encoding", "local": "local_fields around entity discriminator",
         "function_type": "\n    fields FUNCTION_TYPE (linkage_number c_linkage noexcept) (mark_number mark) [] (returned ∷ parameters ∷ [])",
         "alone": "name_fields ALONE [] (alone piece) piece", "in_std": "name_fields IN_STD [] (in_std piece) piece",
         "within": "name_fields NESTED (prefix ∷ []) (within prefix piece) piece",
@@ -268,6 +305,8 @@ def tree_from():
     back = {QUALIFIERS: "(qualifiers_in (number_in given {0}))", MARK: "(mark_in (number_in given {0}))", NUMBER: "(number_in given {0})", TRUTH: "(is_so given 0)",
             SIGNED: "(signed_in given 0)", BYTES: "(text_in given 0)"}
     special = {
+        "of_name": [("GUARD", "of_name GUARD_LETTER (part_in given 0) (qualifiers_in (number_in given 0)) (mark_in (number_in given 1))"),
+                    ("OF_NAME", "of_name (number_in given 0) (part_in given 0) (qualifiers_of_both (number_in given 1)) (mark_of_both (number_in given 1))")],
         "thunk": [("THUNK", "thunk (adjusting (non_virtual (signed_in given 0))) (part_in given 0)"),
                   ("TABLE_THUNK", "thunk (adjusting (by_table (signed_in given 0) (signed_in given 1))) (part_in given 0)"),
                   ("COVARIANT_THUNK", "thunk (covariant (non_virtual (signed_in given 0)) (non_virtual (signed_in given 1))) (part_in given 0)")],
@@ -421,6 +460,10 @@ def declarations():
     yield "cpp_press_laws/proofs/Components/Sameness.antt", "tree-itself", tree_itself()
     yield "cpp_press_laws/proofs/Components/Parts.antt", "IsComponent", cases("IsComponent", [], [], lambda t: "Unit {0}" if t[0] in words.COMPONENTS else None, "⊥", named(PRESSED))
     yield "cpp_press_laws/proofs/Components/Parts.antt", "Inside", inside()
+    yield "cpp_press_laws/proofs/Components/Complete.antt", "inside-shut", inside_shut()
+    yield "cpp_press_laws/proofs/Components/Growing.antt", "size", fold("size", [], lambda parts: f"suc ({' + '.join(parts)})", "1", trees=named(PRESSED))
+    yield "cpp_press_laws/specs/Apart.antt", "IsNeverReferred", never_referred()
+    yield "cpp_press/specs/Weight.antt", "weight", fold("weight", [], summed("12"), "12", trees=named(PRESSED))
     nowhere = {"symbol": None, "absent": None, ("order", "function"): ["name", "returned", "parameters", "q", "ref"]}
     yield "cpp_press_laws/proofs/Components/FewComponents.antt", "counts", by_each("counts", "few", [], nowhere, {"local": "local-name", "address_of": "address"})
     yield "cpp_press_laws/proofs/EveryWay/Law.antt", "reads", by_each("reads", "reads", ["c"], {**nowhere, ("before", "function"): ["c"]}, {"address_of": "address"})
@@ -430,6 +473,7 @@ def declarations():
     yield "cpp_term/specs/Annotated.antt", "annotate", rebuilt("annotate", ["s"], ["None"], False, {"function": ANNOTATED_FUNCTION, "parameter": "term_.parameter k (argument_in s k)"})
     yield "cpp_term/proofs/Erasing.antt", "erased", erased()
     yield "cpp_grammar/specs/Ranks.antt", "weight", weight_of_scopes()
+    yield "cpp_grammar/proofs/RanksFall.antt", "weight_grows", weight_grows()
     yield "cpp_term/specs/Ranks.antt", "weight", weight_of_terms()
     yield "cpp_grammar/specs/Closed.antt", "ScopesAreClosed", first(fold("ScopesAreClosed", [], " × ".join, "Unit {0}", {"function": CLOSED_FUNCTION}))
     yield "cpp_link/specs/Owed.antt", "made_before", by_production("made_before", {p: numbers(ns) for p, ns in words.MADE_BEFORE.items()}, "[]")

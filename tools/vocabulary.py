@@ -107,6 +107,11 @@ SPECIALS = [
     ("S", "typeinfo name for "),
 ]
 
+# <special-name> of a name: code, text. The last letters differ
+NAMED_SPECIALS = [
+    ("GV", "guard variable for "),
+]
+
 # what stands behind the digits of an integer literal, by its type
 ENDINGS = [
     ("j", "u"),
@@ -140,7 +145,6 @@ PLAIN_TEXTS = [
     ("TRUE", "true"),
     ("FALSE", "false"),
     ("NULLPTR", "nullptr"),
-    ("GUARD", "guard variable for "),
     ("BLANK_LEFT", " ("),
     ("NON_VIRTUAL", "non-virtual thunk to "),
     ("VIRTUAL", "virtual thunk to "),
@@ -218,7 +222,7 @@ TREES = [
     ("object", ("name", OWN), ("q", QUALIFIERS), ("ref", MARK)),
     ("special", ("letter", NUMBER), ("t", OWN)),
     ("thunk", ("kind", THUNK), ("e", OWN)),
-    ("guard", ("name", OWN), ("q", QUALIFIERS), ("ref", MARK)),
+    ("of_name", ("letter", NUMBER), ("name", OWN), ("q", QUALIFIERS), ("ref", MARK)),
     ("alone", ("p", PIECE)),
     ("in_std", ("p", PIECE)),
     ("within", ("prefix", TREE), ("p", PIECE)),

@@ -15,7 +15,7 @@ def codes(text): return 'codes "' + text.replace("\\", "\\\\").replace('"', '\\"
 # ## Definitions
 
 GRAMMAR_TEXTS_HEAD = f'''-- {WRITTEN} The fixed texts that names and types print as.
-use Rattle.std.specs.Prelude.{{ℕ, List, [], ◌∷◌, Bool, true, false, ◌&&◌, nat_eq, codes}}
+use Rattle.std.specs.Prelude.{{ℕ, List, [], ◌∷◌, Bool, true, false, cond, ◌&&◌, nat_eq, codes}}
 use Prim.Native.String.{{String}}
 
 pub record Naming : Type 0 where
@@ -42,11 +42,22 @@ def namings(name, rows, comment=None):
     lines += [f'    named_by "{code}" "{text}" ∷' for code, text in rows]
     return "\n".join(lines) + " []\n"
 
+# the special names of names whose codes don't begin with a T
+def other_fronts(): return [c for c, _ in words.NAMED_SPECIALS if c[0] != "T"]
+
+def special_front():
+    lines = ["-- the letter in front of the last one of such a code", "unfoldable pub special_front : ℕ → ℕ", "special_front letter ="]
+    chain = str(ord("T"))
+    for c in reversed(other_fronts()): chain = f"cond (nat_eq letter {ord(c[1])}) {ord(c[0])} ({chain})" if " " in chain else f"cond (nat_eq letter {ord(c[1])}) {ord(c[0])} {chain}"
+    return "\n".join([*lines, f"    {chain}"]) + "\n"
+
 def grammar_texts():
     return "\n".join([GRAMMAR_TEXTS_HEAD,
         namings("builtin_texts", [(c, t) for c, t, _ in words.BUILTINS]),
         namings("operator_texts", words.OPERATORS, "behind the word operator"),
         namings("abbreviation_texts", words.ABBREVIATIONS), namings("special_texts", words.SPECIALS),
+        namings("named_special_texts", [(c[-1], t) for c, t in words.NAMED_SPECIALS], "special names of names, by the last letters of their codes"),
+        special_front(),
         namings("literal_endings", words.ENDINGS, "the endings of integer literals, by their types")])
 
 def listed(name, texts, comment):
@@ -61,7 +72,7 @@ def text_lists():
 
 # ## cpp_layout's texts
 
-ALL_TABLES = "builtin_texts operator_texts abbreviation_texts special_texts literal_endings".split()
+ALL_TABLES = "builtin_texts operator_texts abbreviation_texts special_texts named_special_texts literal_endings".split()
 def unfolding(*names): return f"#[tactic(auto, unfolding({', '.join(names)}))]"
 def of_texts(*names): return unfolding("crate::specs::Texts::fixed_text", *[f"cpp_grammar::specs::Texts::{n}" for n in names])
 
@@ -69,7 +80,7 @@ def groups():
     """where each group of texts begins, by the name of its constant"""
     at, out = 0, {}
     for name, count in (("PLAIN", len(words.PLAIN_TEXTS)), ("SUFFIX", len(SUFFIXES)), ("BUILTIN", len(words.BUILTINS)), ("OPERATOR", len(words.OPERATORS)),
-                        ("ABBREVIATION", len(words.ABBREVIATIONS)), ("LAST_OF_ABBREVIATION", len(words.ABBREVIATIONS)), ("SPECIAL", len(words.SPECIALS)),
+                        ("ABBREVIATION", len(words.ABBREVIATIONS)), ("LAST_OF_ABBREVIATION", len(words.ABBREVIATIONS)), ("SPECIAL", len(words.SPECIALS)), ("NAMED_SPECIAL", len(words.NAMED_SPECIALS)),
                         ("ENDING", len(words.ENDINGS)), ("BLANKED", len(BLANKED)), ("OPERATOR_ALONE", 1), ("COUNT", 0)):
         out[name] = at
         at += count
@@ -97,6 +108,7 @@ def layout_texts():
     out += constant("ABBREVIATION", at["ABBREVIATION"], "Where the abbreviations begin, and their names without `std::`.")
     out += constant("LAST_OF_ABBREVIATION", at["LAST_OF_ABBREVIATION"])
     out += constant("SPECIAL", at["SPECIAL"], "Where the special names begin.")
+    out += constant("NAMED_SPECIAL", at["NAMED_SPECIAL"], "Where the special names of names begin.")
     out += constant("ENDING", at["ENDING"], "Where the endings of integer literals begin.")
     out += constant("BLANKED", at["BLANKED"], "Where the qualifiers begin whose blank stands behind them, but for those of no qualifier.")
     out += constant("OPERATOR_ALONE", at["OPERATOR_ALONE"], "The name of an operator that has no code.")
@@ -105,6 +117,7 @@ def layout_texts():
     remaining = [(at["ABBREVIATION"] + i, t) for i, (c, t) in enumerate(words.ABBREVIATIONS)]
     remaining += [(at["LAST_OF_ABBREVIATION"] + i, t[len("std::"):]) for i, (c, t) in enumerate(words.ABBREVIATIONS)]
     remaining += [(at["SPECIAL"] + i, t) for i, (c, t) in enumerate(words.SPECIALS)]
+    remaining += [(at["NAMED_SPECIAL"] + i, t) for i, (c, t) in enumerate(words.NAMED_SPECIALS)]
     remaining += [(at["ENDING"] + i, t) for i, (c, t) in enumerate(words.ENDINGS)]
     remaining += [(at["BLANKED"] + 1 + i, t) for i, t in enumerate(BLANKED)]
     out += function("remaining_text", "A text behind the operators: an abbreviation, a special name, an ending, a qualifier.", at["ABBREVIATION"], ALL_TABLES,
@@ -137,6 +150,8 @@ def coded():
          [(c, i, t[len("std::"):]) for c, i, t in rows(words.ABBREVIATIONS)], "no_abbreviation", "abbreviation_letters"),
         ("special", "The text before the type of a special name, behind T.", "look_up (letter ∷ []) special_texts", "SPECIAL",
          rows(words.SPECIALS), "no_special", "special_letters"),
+        ("named_special", "The text before the name of a special name, by the last letter of its code.", "look_up (letter ∷ []) named_special_texts", "NAMED_SPECIAL",
+         [(c[-1], i, t) for i, (c, t) in enumerate(words.NAMED_SPECIALS)], "no_named_special", "named_special_letters"),
         ("ending", "The ending of an integer literal of a type.", "look_up (letter ∷ []) literal_endings", "ENDING", rows(words.ENDINGS), "no_ending", "ending_letters"),
     ]
 
@@ -145,13 +160,16 @@ OF_CODES = unfolding("cpp_grammar::specs::Texts::look_up", "cpp_grammar::specs::
 def layout_codes():
     out = [f"// {WRITTEN} The numbers of the texts that codes have. A code that isn't in the tables has no text.", "#![tactic(auto)]", "",
            "ghost use Rattle.std.specs.Prelude.{◌≡◌, ◌<◌, ◌∷◌, [], drop};",
-           "ghost use Rattle.cpp_grammar.specs.Texts.{look_up, builtin_texts, abbreviation_texts, special_texts, literal_endings};",
+           "ghost use Rattle.cpp_grammar.specs.Texts.{look_up, builtin_texts, abbreviation_texts, special_texts, named_special_texts, literal_endings, special_front};",
            "ghost use Rattle.cpp_layout.specs.Texts.{fixed_text, operator_code};", "ghost use Rattle.cpp_layout.specs.declared.texts.TheConstants.{COUNT, OPERATORS};",
            "", "use crate::texts;"]
     for name, comment, looked, group, rows, lemma, letters in coded():
         out += ["", f"/// {comment}", OF_CODES, f"pub(crate) fn {name}(letter: u8) -> u16", f"    ensures text {{ fixed_text result ≡ {looked} }}",
                 "    ensures few { result < COUNT }", "{", "    match letter {"]
         out += [f"        b'{c}' => texts::{group}{f' + {i}' if i else ''}, // {t.strip()}" for c, i, t in rows] + ["        _ => texts::NONE,", "    }", "}"]
+    out += ["", "/// The letter in front of the last one in the code of a special name of a name.", unfolding("cpp_grammar::specs::Texts::special_front"),
+            "pub fn special_front(letter: u8) -> u8", "    ensures { result ≡ special_front letter }", "{", "    match letter {"]
+    out += [f"        b'{c[1]}' => b'{c[0]}'," for c in other_fronts()] + ["        _ => b'T',", "    }", "}"]
     out += ["", "// A code of two letters as one number.", "macro_rules! code {", "    ($first:literal, $second:literal) => {", "        $first as u16 * 256 + $second as u16", "    };", "}",
             "", "/// The two letters of an operator's code as one number.", unfolding("crate::specs::Texts::operator_code", "cpp_grammar::specs::Texts::operator_texts"),
             "pub(crate) fn operator_code(number: u16) -> u16", "    requires { number < OPERATORS }", "    ensures { result ≡ operator_code number }", "{", "    match number {"]
@@ -182,7 +200,7 @@ def code_answers():
         if name == "builtin":
             for c, i, t in rows:
                 out += ["", f"pub returns-in-{ord(c)}-clause-text : goal.returns-in-{ord(c)}-clause-text",
-                        "unfolding builtin_texts operator_texts abbreviation_texts special_texts literal_endings look_up same_bytes",
+                        "unfolding builtin_texts operator_texts abbreviation_texts special_texts named_special_texts literal_endings look_up same_bytes",
                         f"returns-in-{ord(c)}-clause-text c = rw c.in-{ord(c)}.is refl"]
         yield name, "\n".join(out) + "\n"
 

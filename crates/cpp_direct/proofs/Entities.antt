@@ -3,7 +3,7 @@ use Rattle.std.proofs.Common.{◌≡◌, ◌≢◌, ◌≤◌, refl, ap, sym, �
 use Rattle.std.proofs.lemmas.Bool.{false≢true}
 use Rattle.cpp_grammar.specs.declared.kind.Kind.{Kind}
 use Rattle.cpp_grammar.specs.Grammar.{may_be_empty}
-use Rattle.cpp_grammar.specs.Term.{any_value, object, guard}
+use Rattle.cpp_grammar.specs.Term.{any_value, object, of_name}
 use Rattle.cpp_grammar.specs.Parts.{source_text}
 use Rattle.cpp_grammar.specs.Values.{State, Value, nothing_there, tree, named, unqualified, tree_of, qualifiers_of, ref_of}
 use Rattle.cpp_grammar.specs.Between.{in_name, in_types, no_items}
@@ -86,7 +86,7 @@ guard-begins s old new fresh starts marks letter stands writes =
         whole = λ apart. absurd (false≢true (sym apart ∙ third-tells s 71 letter));
         entity = λ there internal name digit end is.
             let t = entity_in e internal name digit in
-            let made = guard t unqualified any_value in
+            let made = of_name 86 t unqualified any_value in
             record {
               made = made;
               encoded = encoded-whole s opened_ made end st

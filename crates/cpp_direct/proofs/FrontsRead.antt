@@ -3,18 +3,17 @@ use Rattle.std.proofs.Common.{◌≡◌, refl, ap, sym, ◌∙◌, subst, ℕ, �
 use Rattle.std.proofs.lemmas.Bool.{false≢true}
 use Rattle.std.proofs.Math.Seq.{take-append_seam}
 use Rattle.cpp_grammar.specs.declared.kind.Kind.{Kind}
-use Rattle.cpp_grammar.specs.Term.{Term, any_value, function, list, absent}
+use Rattle.cpp_grammar.specs.Term.{Term, any_value, list}
 use Rattle.cpp_grammar.specs.Between.{no_items}
 use Rattle.cpp_grammar.specs.Meaning.{parameters, encoding_of}
-use Rattle.cpp_grammar.specs.Values.{State, Value, tree}
-use Rattle.cpp_direct.specs.declared.open.Open.{Open}
+use Rattle.cpp_grammar.specs.Values.{Value}
 use Rattle.cpp_direct.specs.declared.open.Open.TheVariants as opens
 use Rattle.cpp_direct.specs.declared.open.Step.TheVariants as steps
 use Rattle.cpp_direct.specs.declared.direct.Direct.{Direct}
 use Rattle.cpp_direct.specs.Bytes.{is_local}
 use Rattle.cpp_direct.specs.Holes.{Expects}
 use Rattle.cpp_direct.specs.Prints.{Prints, Shows}
-use Rattle.cpp_direct.specs.Stands.{AreCandidates, EncodedBehind, IsWriting, IsInstance, ParametersGoOn, Stands, qualifiers, plain_encoding, list_with}
+use Rattle.cpp_direct.specs.Stands.{AreCandidates, EncodedBehind, IsWriting, IsInstance, ParametersGoOn, Stands, qualifiers, plain_encoding}
 use Rattle.cpp_direct.specs.Ways.{IsNameEnded, IsFrontRead, AwaitsParameters}
 use Rattle.cpp_direct.specs.Written.{Writes}
 use Rattle.cpp_direct.proofs.Ending.{none-go_on, parameter-goes_on}

@@ -1,15 +1,15 @@
 -- Entities in encodings, and their guard variables.
-use Rattle.std.proofs.Common.{◌≡◌, ◌≢◌, refl, ap, sym, ◌∙◌, ℕ, ◌+◌, ◌*◌, ◌≤◌, List, [], ◌∷◌, ◌++◌, length, Bool, false, Option, arith, codes, length-append, append-nil, subst}
+use Rattle.std.proofs.Common.{◌≡◌, refl, ap, sym, ◌∙◌, ℕ, ◌+◌, ◌*◌, ◌≤◌, List, [], ◌∷◌, ◌++◌, length, Bool, Option, arith, codes, length-append, append-nil, subst}
 use Rattle.sym_print.specs.declared.detail.Detail.TheVariants.{Full}
 use Rattle.sym_print.specs.Unfold.{text}
 use Rattle.sym_print.specs.Unshared.{text_of, cost_of}
-use Rattle.cpp_grammar.specs.Term.{Qualifiers, RefQualifier, any_value, Term, function, object, guard, local, within, source, builtin, nil, absent}
-use Rattle.cpp_grammar.specs.Scope.{has_return_type}
+use Rattle.cpp_grammar.specs.Term.{Qualifiers, RefQualifier, any_value, Term, function, object, of_name, local, within, source, nil, absent}
+use Rattle.cpp_grammar.specs.Texts.{look_up, same_bytes, named_special_texts}
 use Rattle.cpp_grammar.specs.Items.{full, bare, left, piece, Context, closed}
 use Rattle.cpp_grammar.specs.Values.{Value, unqualified, tree_of, qualifiers_of, ref_of}
-use Rattle.cpp_grammar.specs.Meaning.{parameters, encoding_of}
+use Rattle.cpp_grammar.specs.Meaning.{encoding_of}
 use Rattle.cpp_grammar.specs.Parts.{as_item, says, text_part, source_text, prefix_item, within_parts, qualifier_text, ref_text, encoding_text, function_full, full_parts, bare_parts, left_parts, parts_in, not_empty}
-use Rattle.cpp_direct.specs.Prints.{in_form, Shows, Encloses, list_of}
+use Rattle.cpp_direct.specs.Prints.{in_form, Shows, Encloses}
 use Rattle.cpp_direct.proofs.PrintedParts.{printed_by, prints_parts, text_by, cost_by}
 use Rattle.cpp_direct.proofs.PrintedNames.{piece-text, piece-cost}
 use Rattle.cpp_direct.proofs.PrintedNests.{joins}
@@ -104,11 +104,11 @@ entity-shows e b p internal name d =
 
 -- Its guard variable shows that it is one, and the same.
 pub guard-shows : (e : Term) (b : List ℕ) → Encloses e b → (internal : Bool) (name : List ℕ) (d : Option (List ℕ))
-    → Shows (guard (local e (within e (source internal name)) d) unqualified any_value) (codes "guard variable for " ++ (b ++ codes "::" ++ source_text name))
-unfolding parts_in full_parts encoding_text qualifier_text ref_text text_part not_empty
+    → Shows (of_name 86 (local e (within e (source internal name)) d) unqualified any_value) (codes "guard variable for " ++ (b ++ codes "::" ++ source_text name))
+unfolding look_up same_bytes named_special_texts parts_in full_parts encoding_text qualifier_text ref_text text_part not_empty
 guard-shows e b p internal name d =
     let t = local e (within e (source internal name)) d in
-    let g = guard t unqualified any_value in
+    let g = of_name 86 t unqualified any_value in
     let k : List ℕ = codes "guard variable for " in
     record {
       shown_text = text_by full closed g (text k ∷ as_item left closed t ∷ []) refl

@@ -15,7 +15,7 @@ is_builtin_with_d byte = among builtin_letters_with_d byte
 unfoldable pub is_abbreviated : ℕ → Bool
 is_abbreviated byte = among abbreviation_letters byte
 
--- a symbol that names a local entity, or its guard variable, has a Z or a G behind its _Z
+-- a symbol that names a local entity, or something special of one, has a Z or a G behind its _Z
 unfoldable pub is_local : List ℕ → Bool
 is_local (a ∷ b ∷ c ∷ rest) = nat_eq c 90 || nat_eq c 71
 is_local _ = false

@@ -1,7 +1,7 @@
 -- What is expected in the name of a local entity, and what comes of it.
 use Rattle.std.specs.Prelude.{◌≡◌, ◌≢◌, ℕ, ◌+◌, ◌≤◌, List, [], ◌∷◌, length, Bool, true, cond, Option, Some, None}
 use Rattle.cpp_grammar.specs.declared.kind.Kind.{Kind}
-use Rattle.cpp_grammar.specs.Term.{Term, any_value, guard, local, within, source}
+use Rattle.cpp_grammar.specs.Term.{Term, any_value, of_name, local, within, source}
 use Rattle.cpp_grammar.specs.Values.{State, Around, Value, nothing_there, text, tree, named, unqualified, tree_of, qualifiers_of, ref_of}
 use Rattle.cpp_grammar.specs.Between.{in_name}
 use Rattle.cpp_grammar.specs.Meaning.{discriminator_of}
@@ -52,4 +52,4 @@ pub record GuardOpened (s : List ℕ) (outer : List Opened) (encoding : ℕ) (at
   pub inner : List Opened
   pub awaits : Expects s Kind.CompleteName (in_name encoding) inner at st
   pub onward : (v : Value) (at : ℕ) (st : State) → Comes s inner v at st
-      → Comes s outer (tree (guard (tree_of v) (qualifiers_of v) (ref_of v)) true) at st
+      → Comes s outer (tree (of_name 86 (tree_of v) (qualifiers_of v) (ref_of v)) true) at st

@@ -26,7 +26,7 @@ pub fn byte_at(s: &[u8], at: usize) -> u8
     if at < s.len() { s[at] } else { 0 }
 }
 
-/// Whether a symbol names a local entity, or its guard variable: a Z or a G stands behind its _Z.
+/// Whether a symbol has a Z or a G behind its _Z: it may name a local entity, or something special of one.
 #[inline(always)]
 #[tactic(auto, unfolding(crate::specs::Bytes::is_local))]
 pub fn is_local(s: &[u8]) -> bool

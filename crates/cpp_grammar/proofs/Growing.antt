@@ -137,7 +137,3 @@ earlier_tree x t is = tree_keeps alternatives_before alternatives before_kept x 
 pub wide_tree : (x : Sym) (t : Tree) → IsTree abi x t → IsTree wide x t
 unfolding abi wide sheet wide_sheet
 wide_tree x t is = tree_keeps alternatives wide_alternatives abi_kept x t is
-
-pub wide_trees : (xs : List Sym) (f : Forest) → AreTrees abi xs f → AreTrees wide xs f
-unfolding abi wide sheet wide_sheet
-wide_trees xs f is = trees_keep alternatives wide_alternatives abi_kept xs f is

@@ -8,7 +8,7 @@ use crate::table;
 use sym_core::NameClass;
 use sym_shape::{Grammar, Rule, Sym};
 
-/// The grammar of C++ symbols (Itanium C++ ABI 5.1), with vector types, noexcept function types and complex types.
+/// The grammar of C++ symbols (Itanium C++ ABI 5.1).
 pub struct Abi;
 
 /// Whether a kind may be empty.

@@ -13,5 +13,8 @@ abbreviation_letters = codes "absiod"
 abbrev pub special_letters : List ℕ
 special_letters = codes "VTIS"
 
+abbrev pub named_special_letters : List ℕ
+named_special_letters = codes "V"
+
 abbrev pub ending_letters : List ℕ
 ending_letters = codes "jlmxy"

@@ -2,8 +2,8 @@
 use Rattle.std.proofs.Common.{◌≡◌, refl, sym, ◌∙◌, ap, arith, ℕ, zero, suc, ◌+◌, ◌<◌, List, [], ◌∷◌, ◌++◌, length, slice_get, ◌*◌, Bool, true, false, nat_eq, nat_lt, ◌&&◌, ◌||◌, codes, Some, None, inl, inr}
 use Rattle.std.proofs.lemmas.Bool.{eqb-true, ltb-true}
 use Rattle.std.proofs.lemmas.Bool.Decides.{eqb_tells}
-use Rattle.cpp_grammar.specs.Texts.{Naming, same_bytes, look_up, builtin_texts, operator_texts, abbreviation_texts, special_texts, literal_endings}
-use Rattle.cpp_layout.proofs.CodeLetters.{builtin_letters, d_letters, abbreviation_letters, special_letters, ending_letters}
+use Rattle.cpp_grammar.specs.Texts.{Naming, same_bytes, look_up, builtin_texts, operator_texts, abbreviation_texts, special_texts, named_special_texts, literal_endings}
+use Rattle.cpp_layout.proofs.CodeLetters.{builtin_letters, d_letters, abbreviation_letters, special_letters, named_special_letters, ending_letters}
 use Rattle.cpp_layout.specs.Texts.{fixed_text, operator_letter, operator_code}
 use Rattle.cpp_layout.specs.declared.texts.TheConstants.{COUNT, NONE, OPERATOR, OPERATORS, OPERATOR_ALONE}
 
@@ -46,7 +46,7 @@ same_bytes_sound (x ∷ xs) [] e = cc e
 
 -- no text but one is empty
 pub some_text : (n : ℕ) → n < COUNT → nat_eq n NONE ≡ false → 0 < length (fixed_text n)
-unfolding builtin_texts operator_texts abbreviation_texts special_texts literal_endings
+unfolding builtin_texts operator_texts abbreviation_texts special_texts named_special_texts literal_endings
 some_text n less other = ltb-true 0 (length (fixed_text n)) (or-second _ _ (holds_below (λ m. nat_eq m NONE || nat_lt 0 (length (fixed_text m))) COUNT n refl less) other)
 
 abbrev pub any_of : List ℕ → ℕ → Bool
@@ -54,29 +54,33 @@ any_of [] l = false
 any_of (x ∷ xs) l = nat_eq l x || any_of xs l
 
 pub no_builtin : (l : ℕ) → l < 256 → any_of builtin_letters l ≡ false → [] ≡ look_up (l ∷ []) builtin_texts
-unfolding builtin_texts operator_texts abbreviation_texts special_texts literal_endings look_up same_bytes
+unfolding builtin_texts operator_texts abbreviation_texts special_texts named_special_texts literal_endings look_up same_bytes
 no_builtin l less none = same_bytes_sound _ _ (or-second _ _ (holds_below (λ n. any_of builtin_letters n || same_bytes [] (look_up (n ∷ []) builtin_texts)) 256 l refl less) none)
 
 pub no_d : (l : ℕ) → l < 256 → any_of d_letters l ≡ false → [] ≡ look_up (68 ∷ l ∷ []) builtin_texts
-unfolding builtin_texts operator_texts abbreviation_texts special_texts literal_endings look_up same_bytes
+unfolding builtin_texts operator_texts abbreviation_texts special_texts named_special_texts literal_endings look_up same_bytes
 no_d l less none = same_bytes_sound _ _ (or-second _ _ (holds_below (λ n. any_of d_letters n || same_bytes [] (look_up (68 ∷ n ∷ []) builtin_texts)) 256 l refl less) none)
 
 pub no_abbreviation : (l : ℕ) → l < 256 → any_of abbreviation_letters l ≡ false → [] ≡ look_up (l ∷ []) abbreviation_texts
-unfolding builtin_texts operator_texts abbreviation_texts special_texts literal_endings look_up same_bytes
+unfolding builtin_texts operator_texts abbreviation_texts special_texts named_special_texts literal_endings look_up same_bytes
 no_abbreviation l less none = same_bytes_sound _ _ (or-second _ _ (holds_below (λ n. any_of abbreviation_letters n || same_bytes [] (look_up (n ∷ []) abbreviation_texts)) 256 l refl less) none)
 
 pub no_special : (l : ℕ) → l < 256 → any_of special_letters l ≡ false → [] ≡ look_up (l ∷ []) special_texts
-unfolding builtin_texts operator_texts abbreviation_texts special_texts literal_endings look_up same_bytes
+unfolding builtin_texts operator_texts abbreviation_texts special_texts named_special_texts literal_endings look_up same_bytes
 no_special l less none = same_bytes_sound _ _ (or-second _ _ (holds_below (λ n. any_of special_letters n || same_bytes [] (look_up (n ∷ []) special_texts)) 256 l refl less) none)
 
+pub no_named_special : (l : ℕ) → l < 256 → any_of named_special_letters l ≡ false → [] ≡ look_up (l ∷ []) named_special_texts
+unfolding builtin_texts operator_texts abbreviation_texts special_texts named_special_texts literal_endings look_up same_bytes
+no_named_special l less none = same_bytes_sound _ _ (or-second _ _ (holds_below (λ n. any_of named_special_letters n || same_bytes [] (look_up (n ∷ []) named_special_texts)) 256 l refl less) none)
+
 pub no_ending : (l : ℕ) → l < 256 → any_of ending_letters l ≡ false → [] ≡ look_up (l ∷ []) literal_endings
-unfolding builtin_texts operator_texts abbreviation_texts special_texts literal_endings look_up same_bytes
+unfolding builtin_texts operator_texts abbreviation_texts special_texts named_special_texts literal_endings look_up same_bytes
 no_ending l less none = same_bytes_sound _ _ (or-second _ _ (holds_below (λ n. any_of ending_letters n || same_bytes [] (look_up (n ∷ []) literal_endings)) 256 l refl less) none)
 
 -- ## Operators
 
 pub operator_text : (k : ℕ) → k < OPERATORS → fixed_text (OPERATOR + k) ≡ codes "operator" ++ look_up (operator_letter 0 k ∷ operator_letter 1 k ∷ []) operator_texts
-unfolding builtin_texts operator_texts abbreviation_texts special_texts literal_endings look_up same_bytes
+unfolding builtin_texts operator_texts abbreviation_texts special_texts named_special_texts literal_endings look_up same_bytes
 operator_text k less = same_bytes_sound _ _ (holds_below (λ n. same_bytes (fixed_text (OPERATOR + n)) (codes "operator" ++ look_up (operator_letter 0 n ∷ operator_letter 1 n ∷ []) operator_texts)) OPERATORS k refl less)
 
 few-letters : (k : ℕ) → k < OPERATORS → operator_letter 0 k < 256
@@ -112,7 +116,7 @@ no-look code [] all = refl
 no-look code (n ∷ ns) all = rw (look_up, all 0 (omega arith)) (no-look code ns (λ k less. all (suc k) (omega (arith, less))))
 
 pub no_operator : (a b : ℕ) → a < 256 → b < 256 → ((k : ℕ) → k < OPERATORS → operator_code k ≡ a * 256 + b → ⊥) → fixed_text OPERATOR_ALONE ≡ codes "operator" ++ look_up (a ∷ b ∷ []) operator_texts
-unfolding operator_code builtin_texts operator_texts abbreviation_texts special_texts literal_endings
+unfolding operator_code builtin_texts operator_texts abbreviation_texts special_texts named_special_texts literal_endings
 no_operator a b p q other = ap (λ l. codes "operator" ++ l) (sym (no-look (a ∷ b ∷ []) operator_texts (λ k less.
     let small : k < OPERATORS = few-operators k less in
     ap (same_bytes (a ∷ b ∷ [])) (two-letters k small) ∙ differ a b (operator_letter 0 k) (operator_letter 1 k) (same_bytes (a ∷ b ∷ []) (operator_letter 0 k ∷ operator_letter 1 k ∷ [])) refl (few-letters k small) (few-seconds k small) p q (other k small))))

@@ -16,7 +16,7 @@ use Rattle.cpp_tree.specs.declared.node.Qualifiers.{Qualifiers}
 use Rattle.sym_core.specs.declared.Span.{Span}
 use Rattle.cpp_tree.specs.declared.node.Thunk.{Thunk}
 use Rattle.cpp_layout.specs.Texts.{fixed_text, suffix_of}
-use Rattle.cpp_layout.specs.declared.texts.TheConstants.{BLANK, BLANK_LEFT, COMMA, DOTS, GUARD, LEFT, RIGHT}
+use Rattle.cpp_layout.specs.declared.texts.TheConstants.{BLANK, BLANK_LEFT, COMMA, DOTS, LEFT, RIGHT}
 use Rattle.cpp_layout.specs.Layout.{text_if, clone_suffix}
 
 pub part-none : (b : List ℕ) (rest : List (PartOf items.Item)) → b ≡ [] → rest ≡ text_part b ++ rest
@@ -109,8 +109,13 @@ more-other s us ts c n t is other = more-other-of s us ts c n other ∙ ap (λ u
 
 -- ## Encodings
 
-pub object-whole : (guard : Bool) (i : PartOf items.Item) (q : values.Qualifiers) (m : values.RefQualifier) → text_if guard (fixed_text GUARD) (i ∷ (text_part (suffix_of q m false) ++ [])) ≡ text_if guard (fixed_text GUARD) (i ∷ text_part (encoding_text q m))
-object-whole guard i q m = ap (λ l. text_if guard (fixed_text GUARD) (i ∷ l)) (append-nil (text_part (suffix_of q m false)) ∙ ap text_part (suffix-plain q m))
+pub object-whole : (i : PartOf items.Item) (q : values.Qualifiers) (m : values.RefQualifier) → i ∷ (text_part (suffix_of q m false) ++ []) ≡ i ∷ text_part (encoding_text q m)
+object-whole i q m = ap (λ l. i ∷ l) (append-nil (text_part (suffix_of q m false)) ∙ ap text_part (suffix-plain q m))
+
+-- behind the text before it
+pub special_name-whole : (t u : List ℕ) (i : PartOf items.Item) (q : values.Qualifiers) (m : values.RefQualifier) → t ≡ u
+    → text t ∷ i ∷ (text_part (suffix_of q m false) ++ []) ≡ text u ∷ i ∷ text_part (encoding_text q m)
+special_name-whole t u i q m same = rw same (ap (λ l. text u ∷ i ∷ l) (append-nil (text_part (suffix_of q m false)) ∙ ap text_part (suffix-plain q m)))
 
 pub function-absent : (name : Term) (q : values.Qualifiers) (m : values.RefQualifier) (t parameters : Term) → t ≡ term.absent → function_bare true name q m parameters ++ [] ≡ function_full true name q m t parameters
 unfolding function_full
@@ -125,17 +130,17 @@ pub not-absent : (s : List ℕ) (us : List Thunk) (ts : List Term) (n : Node) (t
 not-absent s us ts n t is other e = not-absent-node s us ts n other (sym is ∙ e)
 
 pub full-none : (d : Detail) (s : List ℕ) (us : List Thunk) (ts : List Term) (n : Node) (t : Term) → t ≡ tree_of s us ts n → ((a : ℕ) (q : Qualifiers) (m : Mark) (r p : ℕ) → n ≡ Node.Function a q m r p → ⊥) → ((a : ℕ) (q : Qualifiers) (m : Mark) → n ≡ Node.Object a q m → ⊥) → ((k a : ℕ) → n ≡ Node.Special k a → ⊥)
-    → ((k a : ℕ) → n ≡ Node.Thunk k a → ⊥) → ((a : ℕ) (q : Qualifiers) (m : Mark) → n ≡ Node.Guard a q m → ⊥) → [] ≡ full_parts d t
+    → ((k a : ℕ) → n ≡ Node.Thunk k a → ⊥) → ((k a : ℕ) (q : Qualifiers) (m : Mark) → n ≡ Node.OfName k a q m → ⊥) → [] ≡ full_parts d t
 unfolding tree_of full_parts
 full-none d s us ts n t is h1 h2 h3 h4 h5 = by n h1 h2 h3 h4 h5 ∙ ap (full_parts d) (sym is)
   where
     by : (n : Node) → ((a : ℕ) (q : Qualifiers) (m : Mark) (r p : ℕ) → n ≡ Node.Function a q m r p → ⊥) → ((a : ℕ) (q : Qualifiers) (m : Mark) → n ≡ Node.Object a q m → ⊥) → ((k a : ℕ) → n ≡ Node.Special k a → ⊥)
-        → ((k a : ℕ) → n ≡ Node.Thunk k a → ⊥) → ((a : ℕ) (q : Qualifiers) (m : Mark) → n ≡ Node.Guard a q m → ⊥) → [] ≡ full_parts d (tree_of s us ts n)
+        → ((k a : ℕ) → n ≡ Node.Thunk k a → ⊥) → ((k a : ℕ) (q : Qualifiers) (m : Mark) → n ≡ Node.OfName k a q m → ⊥) → [] ≡ full_parts d (tree_of s us ts n)
     by (Node.Function a q m r p) h1 h2 h3 h4 h5 = absurd (h1 a q m r p refl)
     by (Node.Object a q m) h1 h2 h3 h4 h5 = absurd (h2 a q m refl)
     by (Node.Special k a) h1 h2 h3 h4 h5 = absurd (h3 k a refl)
     by (Node.Thunk k a) h1 h2 h3 h4 h5 = absurd (h4 k a refl)
-    by (Node.Guard a q m) h1 h2 h3 h4 h5 = absurd (h5 a q m refl)
+    by (Node.OfName k a q m) h1 h2 h3 h4 h5 = absurd (h5 k a q m refl)
     by _ h1 h2 h3 h4 h5 = refl
 
 pub bare-other : (d : Detail) (s : List ℕ) (us : List Thunk) (ts : List Term) (n : Node) (t : Term) → t ≡ tree_of s us ts n → ((a : ℕ) (q : Qualifiers) (m : Mark) (r p : ℕ) → n ≡ Node.Function a q m r p → ⊥) → full_parts d t ≡ bare_parts d t

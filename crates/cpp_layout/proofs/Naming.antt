@@ -17,7 +17,8 @@ use Rattle.cpp_tree.specs.declared.node.Thunk.{Thunk}
 use Rattle.cpp_tree.specs.Nodes.{tree_of, piece_of}
 use Rattle.cpp_layout.specs.Texts.{fixed_text}
 use Rattle.cpp_layout.specs.declared.texts.TheConstants.{ANONYMOUS, BLANK_LESS, BRACE, COLONS, GREATER, LAMBDA, LESS, LITERAL, RIGHT_NUMBER, UNNAMED}
-use Rattle.cpp_layout.specs.Layout.{is_encoding, IsNoSource}
+use Rattle.cpp_tree.specs.Nodes.{is_encoding}
+use Rattle.cpp_layout.specs.Layout.{IsNoSource}
 
 pub begins : (xs ys : List ℕ) → begins_with xs ys ≡ starts_with nat_eq ys xs
 unfolding begins_with
@@ -127,7 +128,7 @@ prefix-encoding s us ts c n t is e = subst (λ u. as_item heads.bare items.close
     by (Node.Object a q m) e = refl
     by (Node.Special k a) e = refl
     by (Node.Thunk k a) e = refl
-    by (Node.Guard a q m) e = refl
+    by (Node.OfName k a q m) e = refl
     by _ e = cc e
 
 pub prefix-other : (s : List ℕ) (us : List Thunk) (ts : List Term) (c : items.Context) (n : Node) (t : Term) → t ≡ tree_of s us ts n → is_encoding n ≡ false → as_item heads.left c t ≡ prefix_item c t
@@ -139,7 +140,7 @@ prefix-other s us ts c n t is e = subst (λ u. as_item heads.left c u ≡ prefix
     by (Node.Object a q m) e = cc e
     by (Node.Special k a) e = cc e
     by (Node.Thunk k a) e = cc e
-    by (Node.Guard a q m) e = cc e
+    by (Node.OfName k a q m) e = cc e
     by _ e = refl
 
 pub within-other : (s : List ℕ) (ts : List Term) (c : items.Context) (prefix t : Term) (p : Piece) → t ≡ piece_of s ts p → ((d : ℕ) → p ≡ Piece.Constructor d → ⊥) → ((d : ℕ) → p ≡ Piece.Destructor d → ⊥)

@@ -7,7 +7,7 @@ use Rattle.sym_print.specs.declared.detail.Detail.{Detail}
 use Rattle.cpp_grammar.specs.Parts.{qualifier_text, ref_text, encoding_text, blank_last}
 use Rattle.cpp_grammar.specs.Items as heads
 use Rattle.cpp_grammar.specs.Term as values
-use Rattle.cpp_grammar.specs.Texts.{look_up, literal_endings, builtin_texts, operator_texts, abbreviation_texts, special_texts}
+use Rattle.cpp_grammar.specs.Texts.{look_up, literal_endings, builtin_texts, operator_texts, abbreviation_texts, special_texts, named_special_texts}
 use Rattle.cpp_term.specs.Term as term
 use Rattle.cpp_term.specs.Term.{Term}
 use Rattle.cpp_term.specs.Items as items
@@ -19,14 +19,15 @@ use Rattle.cpp_tree.specs.declared.node.Mark.{Mark}
 use Rattle.cpp_tree.specs.declared.node.Signed.{Signed}
 use Rattle.cpp_tree.specs.declared.node.Qualifiers.{Qualifiers}
 use Rattle.cpp_tree.specs.Nodes.{tree_of, signed_of, qualifiers_of}
-use Rattle.cpp_layout.specs.Texts.{fixed_text, bit, suffix_of}
+use Rattle.cpp_tree.specs.Fields.{bit, qualifiers_number}
+use Rattle.cpp_layout.specs.Texts.{fixed_text, suffix_of}
 use Rattle.cpp_layout.specs.declared.texts.TheConstants.{BLANKED, FALSE, LEFT, MINUS, RIGHT, TRUE}
 use Rattle.cpp_layout.specs.Layout.{own_piece, marked, referred, text_if, qualifiers_behind, IsNoName, IsNoType}
 
 -- ## Qualifiers
 
-blanked : (r v k : Bool) → BLANKED < BLANKED + bit r + 2 * bit v + 4 * bit k → (fixed_text (BLANKED + bit r + 2 * bit v + 4 * bit k) ≡ blank_last (qualifier_text (record { restrict = r; volatile = v; const = k }))) × (0 < length (fixed_text (BLANKED + bit r + 2 * bit v + 4 * bit k)))
-unfolding bit blank_last qualifier_text builtin_texts operator_texts abbreviation_texts special_texts literal_endings
+blanked : (r v k : Bool) → BLANKED < BLANKED + (bit r + 2 * bit v + 4 * bit k) → (fixed_text (BLANKED + (bit r + 2 * bit v + 4 * bit k)) ≡ blank_last (qualifier_text (record { restrict = r; volatile = v; const = k }))) × (0 < length (fixed_text (BLANKED + (bit r + 2 * bit v + 4 * bit k))))
+unfolding bit blank_last qualifier_text builtin_texts operator_texts abbreviation_texts special_texts named_special_texts literal_endings
 blanked false false false more = absurd (omega (arith, more))
 blanked true false false more = (refl, omega arith)
 blanked false true false more = (refl, omega arith)
@@ -36,19 +37,19 @@ blanked true false true more = (refl, omega arith)
 blanked false true true more = (refl, omega arith)
 blanked true true true more = (refl, omega arith)
 
-not-blanked : (r v k : Bool) → BLANKED + bit r + 2 * bit v + 4 * bit k ≤ BLANKED → blank_last (qualifier_text (record { restrict = r; volatile = v; const = k })) ≡ []
+not-blanked : (r v k : Bool) → BLANKED + (bit r + 2 * bit v + 4 * bit k) ≤ BLANKED → blank_last (qualifier_text (record { restrict = r; volatile = v; const = k })) ≡ []
 unfolding bit blank_last qualifier_text
 not-blanked false false false few = refl
 not-blanked true _ _ few = absurd (omega (arith, few))
 not-blanked false true _ few = absurd (omega (arith, few))
 not-blanked false false true few = absurd (omega (arith, few))
 
-module _ (q : Qualifiers) (a b d : ℕ) (p : a ≡ bit q.restrict) (o : b ≡ bit q.volatile) (l : d ≡ bit q.const_) where
-  pub blanked-some : BLANKED < BLANKED + a + 2 * b + 4 * d → (fixed_text (BLANKED + a + 2 * b + 4 * d) ≡ blank_last (qualifier_text (qualifiers_of q))) × (0 < length (fixed_text (BLANKED + a + 2 * b + 4 * d)))
-  blanked-some = rw (p, o, l) (blanked q.restrict q.volatile q.const_)
+module _ (q : Qualifiers) (a : ℕ) (p : a ≡ qualifiers_number (qualifiers_of q)) where
+  pub blanked-some : BLANKED < BLANKED + a → (fixed_text (BLANKED + a) ≡ blank_last (qualifier_text (qualifiers_of q))) × (0 < length (fixed_text (BLANKED + a)))
+  blanked-some = rw p (blanked q.restrict q.volatile q.const_)
 
-  pub blanked-none : BLANKED + a + 2 * b + 4 * d ≤ BLANKED → blank_last (qualifier_text (qualifiers_of q)) ≡ []
-  blanked-none = rw (p, o, l) (not-blanked q.restrict q.volatile q.const_)
+  pub blanked-none : BLANKED + a ≤ BLANKED → blank_last (qualifier_text (qualifiers_of q)) ≡ []
+  blanked-none = rw p (not-blanked q.restrict q.volatile q.const_)
 
 module _ (reference function : Bool) (q : values.Qualifiers) (others : List (PartOf items.Item)) where
   pub qualifiers-none : reference ≡ true → others ≡ qualifiers_behind reference function q ++ others

@@ -165,14 +165,6 @@ IsNoType (Node.Vector digits t) = ⊥
 IsNoType (Node.Complex t) = ⊥
 IsNoType _ = Unit {0}
 
-unfoldable pub is_encoding : Node → Bool
-is_encoding (Node.Function name q m returned parameters) = true
-is_encoding (Node.Object name q m) = true
-is_encoding (Node.Special code t) = true
-is_encoding (Node.Thunk u e) = true
-is_encoding (Node.Guard name q m) = true
-is_encoding _ = false
-
 -- ## A symbol as a layout
 
 -- what an item prints, with nothing shared

@@ -26,7 +26,6 @@ plain_texts =
     codes "true" ∷
     codes "false" ∷
     codes "nullptr" ∷
-    codes "guard variable for " ∷
     codes " (" ∷
     codes "non-virtual thunk to " ∷
     codes "virtual thunk to " ∷

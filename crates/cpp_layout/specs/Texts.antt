@@ -1,11 +1,10 @@
 -- The fixed texts by their numbers.
 use Rattle.std.specs.Prelude.{ℕ, List, [], ◌∷◌, ◌++◌, codes, drop, get_or, slice_get, Some, None}
-use Rattle.std.specs.Prelude.{Bool, true, false, ◌+◌, ◌*◌, cond}
+use Rattle.std.specs.Prelude.{Bool, ◌+◌, ◌*◌, cond}
 use Rattle.cpp_grammar.specs.Term.{Qualifiers, RefQualifier}
-use Rattle.cpp_grammar.specs.Texts.{Naming, builtin_texts, operator_texts, abbreviation_texts, special_texts, literal_endings}
+use Rattle.cpp_grammar.specs.Texts.{Naming, builtin_texts, operator_texts, abbreviation_texts, special_texts, named_special_texts, literal_endings}
 use Rattle.cpp_grammar.specs.Parts.{encoding_text}
 use Rattle.cpp_layout.specs.TextLists.{plain_texts, suffix_texts, blanked_texts}
-use Rattle.cpp_tree.specs.declared.node.Mark.{Mark}
 
 -- texts as a table has them, behind others
 abbrev pub named_texts : (List ℕ → List ℕ) → List Naming → List (List ℕ) → List (List ℕ)
@@ -19,21 +18,12 @@ word_texts = codes "operator" ∷ []
 abbrev pub texts : List (List ℕ)
 texts = plain_texts ++ (suffix_texts ++ named_texts (λ t. t) builtin_texts (named_texts (λ t. codes "operator" ++ t) operator_texts
     (named_texts (λ t. t) abbreviation_texts (named_texts (λ t. drop 5 t) abbreviation_texts
-    (named_texts (λ t. t) special_texts (named_texts (λ t. t) literal_endings (blanked_texts ++ word_texts)))))))
+    (named_texts (λ t. t) special_texts (named_texts (λ t. t) named_special_texts (named_texts (λ t. t) literal_endings (blanked_texts ++ word_texts))))))))
 
 abbrev pub fixed_text : ℕ → List ℕ
 fixed_text number = elim (slice_get texts number) [ Some text ↦ text | None ↦ [] ]
 
 -- ## What stands behind a function's parameters
-
-unfoldable pub bit : Bool → ℕ
-bit true = 1
-bit false = 0
-
-unfoldable pub mark_number : Mark → ℕ
-mark_number Mark.Any = 0
-mark_number Mark.Lvalue = 1
-mark_number Mark.Rvalue = 2
 
 unfoldable pub suffix_of : Qualifiers → RefQualifier → (noexcept : Bool) → List ℕ
 suffix_of q m noexcept = encoding_text q m ++ cond noexcept (codes " noexcept") []

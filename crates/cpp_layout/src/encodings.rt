@@ -10,42 +10,20 @@ ghost use Rattle.cpp_term.specs.Items as items;
 ghost use Rattle.cpp_term.specs.Term as term;
 ghost use Rattle.cpp_grammar.specs.Items as heads;
 ghost use Rattle.cpp_grammar.specs.Parts.{encoding_text, thunk_text};
-ghost use Rattle.cpp_grammar.specs.Texts.{look_up, special_texts};
+ghost use Rattle.cpp_grammar.specs.Texts.{look_up, special_texts, named_special_texts};
 ghost use Rattle.cpp_term.specs.Parts.{as_item, function_bare, function_full, full_parts, bare_parts, root_parts, text_part};
 ghost use Rattle.cpp_tree.specs.Nodes.{tree_at, trees, IsTable, IsWithin, bytes_at, thunk_of, qualifiers_of, mark_of};
-ghost use Rattle.cpp_layout.specs.Texts.{fixed_text, bit, mark_number, suffix_of};
-ghost use Rattle.cpp_layout.specs.declared.texts.TheConstants.{GUARD, SUFFIX};
-ghost use Rattle.cpp_layout.specs.Layout.{table_of, text_if, clone_suffix, Shows};
+ghost use Rattle.cpp_layout.specs.Texts.{fixed_text, suffix_of};
+ghost use Rattle.cpp_layout.specs.declared.texts.TheConstants.{SUFFIX};
+ghost use Rattle.cpp_layout.specs.Layout.{table_of, clone_suffix, Shows};
 
 use crate::context::Context;
-use crate::numbered::special;
+use crate::numbered::{named_special, special};
 use crate::symbol::Symbol;
 use crate::{form, texts};
-use cpp_tree::node::{Adjustment, Mark, Node, Qualifiers, Thunk};
+use cpp_tree::node::{Adjustment, Mark, Node, Qualifiers, Thunk, bit};
 use sym_core::Span;
 use sym_print::{Detail, PartList};
-
-/// 1 for what is so.
-#[tactic(auto, unfolding(crate::specs::Texts::bit))]
-pub(crate) fn bit(test: bool) -> u16
-    ensures number { result ≡ bit test }
-    ensures few { result ≤ 1 }
-{
-    if test { 1 } else { 0 }
-}
-
-/// The number of a mark.
-#[tactic(auto, unfolding(crate::specs::Texts::mark_number))]
-fn mark_number(mark: Mark) -> u16
-    ensures number { result ≡ mark_number mark }
-    ensures few { result ≤ 2 }
-{
-    match mark {
-        Mark::Any => 0,
-        Mark::Lvalue => 1,
-        Mark::Rvalue => 2,
-    }
-}
 
 /// The number of the text before what a thunk leads to.
 #[tactic(auto, unfolding(cpp_tree::specs::Nodes::thunk_of, cpp_tree::specs::Nodes::adjustment_of, cpp_grammar::specs::Parts::thunk_text))]
@@ -70,11 +48,9 @@ fn suffix_number(qualifiers: Qualifiers, mark: Mark, noexcept: bool) -> u16
     ensures from { SUFFIX ≤ result }
 {
     texts::SUFFIX
-        + bit(qualifiers.restrict)
-        + 2 * bit(qualifiers.volatile)
-        + 4 * bit(qualifiers.const_)
-        + 8 * mark_number(mark)
-        + 24 * bit(noexcept)
+        + qualifiers.number() as u16
+        + 8 * mark.number() as u16
+        + 24 * bit(noexcept) as u16
 }
 
 impl Symbol {
@@ -156,20 +132,19 @@ impl Symbol {
         self.push_item(parts, returned, form::LEFT, 0, ctx);
     }
 
-    /// The parts of an object's name, or of a guard variable's.
-    // <encoding> ::= <data name>; <special-name> ::= GV <object name>
+    /// The parts of an object's name.
+    // <encoding> ::= <data name>
     fn fill_object<S: PartList<Context>>(
         &self,
         parts: &mut S,
         name: u32,
         qualifiers: Qualifiers,
         mark: Mark,
-        guard: bool,
         detail: Detail,
     )
         requires name { name < length self.now.table.nodes }
         requires room { 8 ≤ S.room parts.old }
-        ensures shows { Shows self.now detail (S.held parts.old) (S.held parts.new) (text_if guard (fixed_text GUARD) (as_item heads.left items.closed (tree_at (trees (table_of self.now)) name) ∷ text_part (encoding_text (qualifiers_of qualifiers) (mark_of mark)))) }
+        ensures shows { Shows self.now detail (S.held parts.old) (S.held parts.new) (as_item heads.left items.closed (tree_at (trees (table_of self.now)) name) ∷ text_part (encoding_text (qualifiers_of qualifiers) (mark_of mark))) }
         ensures few { S.room parts.old ≤ S.room parts.new + 8 }
     {
         let closed = Context {
@@ -178,7 +153,32 @@ impl Symbol {
         };
         self.push_suffix(parts, qualifiers, mark, false);
         self.push_item(parts, name, form::LEFT, 0, closed);
-        self.push_text_if(parts, guard, texts::GUARD);
+    }
+
+    /// The parts of a special name of a name.
+    // <special-name> ::= GV <object name>
+    fn fill_special_name<S: PartList<Context>>(
+        &self,
+        parts: &mut S,
+        letter: u8,
+        name: u32,
+        qualifiers: Qualifiers,
+        mark: Mark,
+        detail: Detail,
+    )
+        requires name { name < length self.now.table.nodes }
+        requires room { 8 ≤ S.room parts.old }
+        ensures shows { Shows self.now detail (S.held parts.old) (S.held parts.new) (text (look_up (letter ∷ []) named_special_texts)
+            ∷ as_item heads.left items.closed (tree_at (trees (table_of self.now)) name) ∷ text_part (encoding_text (qualifiers_of qualifiers) (mark_of mark))) }
+        ensures few { S.room parts.old ≤ S.room parts.new + 8 }
+    {
+        let closed = Context {
+            index: None,
+            detail,
+        };
+        self.push_suffix(parts, qualifiers, mark, false);
+        self.push_item(parts, name, form::LEFT, 0, closed);
+        self.push_some(parts, named_special(letter));
     }
 
     /// The parts of a virtual table's name and the like.
@@ -325,14 +325,15 @@ impl Symbol {
                 name,
                 qualifiers,
                 mark,
-            } => self.fill_object(parts, name, qualifiers, mark, false, detail),
+            } => self.fill_object(parts, name, qualifiers, mark, detail),
             Node::Special { letter, ty } => self.fill_special(parts, letter, ty, detail),
             Node::Thunk { thunk, encoding } => self.fill_thunk(parts, thunk, encoding, detail),
-            Node::Guard {
+            Node::OfName {
+                letter,
                 name,
                 qualifiers,
                 mark,
-            } => self.fill_object(parts, name, qualifiers, mark, true, detail),
+            } => self.fill_special_name(parts, letter, name, qualifiers, mark, detail),
             _ => {}
         }
     }

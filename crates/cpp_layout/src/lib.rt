@@ -26,5 +26,6 @@ pub use context::Context;
 pub use cpp_tree::node::{Adjustment, Signed, Thunk};
 pub use cpp_tree::{Node, equal_trees_have_equal_views, fields_make_the_tree, tree_production};
 pub use names::name_text;
+pub use numbered::special_front;
 pub use sym_print::Detail;
 pub use symbol::Symbol;

@@ -14,7 +14,7 @@ ghost use Rattle.cpp_term.specs.Parts.{as_item, piece_parts, prefix_item, within
 ghost use Rattle.cpp_tree.specs.Nodes.{tree_at, trees, piece_of, bytes_at, IsTable, IsWithin, IsPieceBelow};
 ghost use Rattle.cpp_layout.specs.Texts.{fixed_text};
 ghost use Rattle.cpp_layout.specs.declared.texts.TheConstants.{BLANK_LESS, COLONS, COUNT, LESS};
-ghost use Rattle.cpp_layout.specs.Layout.{table_of, own_piece, context_of, Shows, IsOwn, IsNoSource, is_encoding};
+ghost use Rattle.cpp_layout.specs.Layout.{table_of, own_piece, context_of, Shows, IsOwn, IsNoSource};
 
 use crate::codes::{is_angle_code, operator};
 use crate::context::Context;
@@ -65,21 +65,6 @@ fn is_angle(piece: Piece) -> bool
 {
     match piece {
         Piece::Operator(first, second) => is_angle_code(first, second),
-        _ => false,
-    }
-}
-
-/// Whether a node is an encoding.
-#[tactic(auto, unfolding(crate::specs::Layout::is_encoding))]
-fn is_encoding(node: Node) -> bool
-    ensures { result ≡ is_encoding node }
-{
-    match node {
-        Node::Function { .. } => true,
-        Node::Object { .. } => true,
-        Node::Special { .. } => true,
-        Node::Thunk { .. } => true,
-        Node::Guard { .. } => true,
         _ => false,
     }
 }
@@ -219,7 +204,7 @@ impl Symbol {
             → Shows self.now ctx.detail below (S.held parts.new) (prefix_item (context_of ctx) (tree_at (trees (table_of self.now)) prefix) ∷ others) }
         ensures room { S.room parts.new + 1 ≡ S.room parts.old }
     {
-        if is_encoding(self.stored(prefix)) {
+        if self.stored(prefix).is_encoding() {
             let closed = Context {
                 index: None,
                 detail: ctx.detail,

@@ -2,14 +2,14 @@
 #![tactic(auto)]
 
 ghost use Rattle.std.specs.Prelude.{◌≡◌, ◌<◌, ◌∷◌, [], drop};
-ghost use Rattle.cpp_grammar.specs.Texts.{look_up, builtin_texts, abbreviation_texts, special_texts, literal_endings};
+ghost use Rattle.cpp_grammar.specs.Texts.{look_up, builtin_texts, abbreviation_texts, special_texts, named_special_texts, literal_endings, special_front};
 ghost use Rattle.cpp_layout.specs.Texts.{fixed_text, operator_code};
 ghost use Rattle.cpp_layout.specs.declared.texts.TheConstants.{COUNT, OPERATORS};
 
 use crate::texts;
 
 /// The text of a builtin type with a code of one letter.
-#[tactic(auto, unfolding(cpp_grammar::specs::Texts::look_up, cpp_grammar::specs::Texts::same_bytes, cpp_grammar::specs::Texts::builtin_texts, cpp_grammar::specs::Texts::operator_texts, cpp_grammar::specs::Texts::abbreviation_texts, cpp_grammar::specs::Texts::special_texts, cpp_grammar::specs::Texts::literal_endings))]
+#[tactic(auto, unfolding(cpp_grammar::specs::Texts::look_up, cpp_grammar::specs::Texts::same_bytes, cpp_grammar::specs::Texts::builtin_texts, cpp_grammar::specs::Texts::operator_texts, cpp_grammar::specs::Texts::abbreviation_texts, cpp_grammar::specs::Texts::special_texts, cpp_grammar::specs::Texts::named_special_texts, cpp_grammar::specs::Texts::literal_endings))]
 pub(crate) fn builtin(letter: u8) -> u16
     ensures text { fixed_text result ≡ look_up (letter ∷ []) builtin_texts }
     ensures few { result < COUNT }
@@ -41,7 +41,7 @@ pub(crate) fn builtin(letter: u8) -> u16
 }
 
 /// The text of a builtin type with a code of D and a letter.
-#[tactic(auto, unfolding(cpp_grammar::specs::Texts::look_up, cpp_grammar::specs::Texts::same_bytes, cpp_grammar::specs::Texts::builtin_texts, cpp_grammar::specs::Texts::operator_texts, cpp_grammar::specs::Texts::abbreviation_texts, cpp_grammar::specs::Texts::special_texts, cpp_grammar::specs::Texts::literal_endings))]
+#[tactic(auto, unfolding(cpp_grammar::specs::Texts::look_up, cpp_grammar::specs::Texts::same_bytes, cpp_grammar::specs::Texts::builtin_texts, cpp_grammar::specs::Texts::operator_texts, cpp_grammar::specs::Texts::abbreviation_texts, cpp_grammar::specs::Texts::special_texts, cpp_grammar::specs::Texts::named_special_texts, cpp_grammar::specs::Texts::literal_endings))]
 pub(crate) fn builtin_with_d(letter: u8) -> u16
     ensures text { fixed_text result ≡ look_up (68 ∷ letter ∷ []) builtin_texts }
     ensures few { result < COUNT }
@@ -58,7 +58,7 @@ pub(crate) fn builtin_with_d(letter: u8) -> u16
 }
 
 /// The text of an abbreviation, behind S.
-#[tactic(auto, unfolding(cpp_grammar::specs::Texts::look_up, cpp_grammar::specs::Texts::same_bytes, cpp_grammar::specs::Texts::builtin_texts, cpp_grammar::specs::Texts::operator_texts, cpp_grammar::specs::Texts::abbreviation_texts, cpp_grammar::specs::Texts::special_texts, cpp_grammar::specs::Texts::literal_endings))]
+#[tactic(auto, unfolding(cpp_grammar::specs::Texts::look_up, cpp_grammar::specs::Texts::same_bytes, cpp_grammar::specs::Texts::builtin_texts, cpp_grammar::specs::Texts::operator_texts, cpp_grammar::specs::Texts::abbreviation_texts, cpp_grammar::specs::Texts::special_texts, cpp_grammar::specs::Texts::named_special_texts, cpp_grammar::specs::Texts::literal_endings))]
 pub(crate) fn abbreviation(letter: u8) -> u16
     ensures text { fixed_text result ≡ look_up (letter ∷ []) abbreviation_texts }
     ensures few { result < COUNT }
@@ -75,7 +75,7 @@ pub(crate) fn abbreviation(letter: u8) -> u16
 }
 
 /// The last name of an abbreviation.
-#[tactic(auto, unfolding(cpp_grammar::specs::Texts::look_up, cpp_grammar::specs::Texts::same_bytes, cpp_grammar::specs::Texts::builtin_texts, cpp_grammar::specs::Texts::operator_texts, cpp_grammar::specs::Texts::abbreviation_texts, cpp_grammar::specs::Texts::special_texts, cpp_grammar::specs::Texts::literal_endings))]
+#[tactic(auto, unfolding(cpp_grammar::specs::Texts::look_up, cpp_grammar::specs::Texts::same_bytes, cpp_grammar::specs::Texts::builtin_texts, cpp_grammar::specs::Texts::operator_texts, cpp_grammar::specs::Texts::abbreviation_texts, cpp_grammar::specs::Texts::special_texts, cpp_grammar::specs::Texts::named_special_texts, cpp_grammar::specs::Texts::literal_endings))]
 pub(crate) fn last_of_abbreviation(letter: u8) -> u16
     ensures text { fixed_text result ≡ drop 5 (look_up (letter ∷ []) abbreviation_texts) }
     ensures few { result < COUNT }
@@ -92,7 +92,7 @@ pub(crate) fn last_of_abbreviation(letter: u8) -> u16
 }
 
 /// The text before the type of a special name, behind T.
-#[tactic(auto, unfolding(cpp_grammar::specs::Texts::look_up, cpp_grammar::specs::Texts::same_bytes, cpp_grammar::specs::Texts::builtin_texts, cpp_grammar::specs::Texts::operator_texts, cpp_grammar::specs::Texts::abbreviation_texts, cpp_grammar::specs::Texts::special_texts, cpp_grammar::specs::Texts::literal_endings))]
+#[tactic(auto, unfolding(cpp_grammar::specs::Texts::look_up, cpp_grammar::specs::Texts::same_bytes, cpp_grammar::specs::Texts::builtin_texts, cpp_grammar::specs::Texts::operator_texts, cpp_grammar::specs::Texts::abbreviation_texts, cpp_grammar::specs::Texts::special_texts, cpp_grammar::specs::Texts::named_special_texts, cpp_grammar::specs::Texts::literal_endings))]
 pub(crate) fn special(letter: u8) -> u16
     ensures text { fixed_text result ≡ look_up (letter ∷ []) special_texts }
     ensures few { result < COUNT }
@@ -106,8 +106,20 @@ pub(crate) fn special(letter: u8) -> u16
     }
 }
 
+/// The text before the name of a special name, by the last letter of its code.
+#[tactic(auto, unfolding(cpp_grammar::specs::Texts::look_up, cpp_grammar::specs::Texts::same_bytes, cpp_grammar::specs::Texts::builtin_texts, cpp_grammar::specs::Texts::operator_texts, cpp_grammar::specs::Texts::abbreviation_texts, cpp_grammar::specs::Texts::special_texts, cpp_grammar::specs::Texts::named_special_texts, cpp_grammar::specs::Texts::literal_endings))]
+pub(crate) fn named_special(letter: u8) -> u16
+    ensures text { fixed_text result ≡ look_up (letter ∷ []) named_special_texts }
+    ensures few { result < COUNT }
+{
+    match letter {
+        b'V' => texts::NAMED_SPECIAL, // guard variable for
+        _ => texts::NONE,
+    }
+}
+
 /// The ending of an integer literal of a type.
-#[tactic(auto, unfolding(cpp_grammar::specs::Texts::look_up, cpp_grammar::specs::Texts::same_bytes, cpp_grammar::specs::Texts::builtin_texts, cpp_grammar::specs::Texts::operator_texts, cpp_grammar::specs::Texts::abbreviation_texts, cpp_grammar::specs::Texts::special_texts, cpp_grammar::specs::Texts::literal_endings))]
+#[tactic(auto, unfolding(cpp_grammar::specs::Texts::look_up, cpp_grammar::specs::Texts::same_bytes, cpp_grammar::specs::Texts::builtin_texts, cpp_grammar::specs::Texts::operator_texts, cpp_grammar::specs::Texts::abbreviation_texts, cpp_grammar::specs::Texts::special_texts, cpp_grammar::specs::Texts::named_special_texts, cpp_grammar::specs::Texts::literal_endings))]
 pub(crate) fn ending(letter: u8) -> u16
     ensures text { fixed_text result ≡ look_up (letter ∷ []) literal_endings }
     ensures few { result < COUNT }
@@ -119,6 +131,17 @@ pub(crate) fn ending(letter: u8) -> u16
         b'x' => texts::ENDING + 3, // ll
         b'y' => texts::ENDING + 4, // ull
         _ => texts::NONE,
+    }
+}
+
+/// The letter in front of the last one in the code of a special name of a name.
+#[tactic(auto, unfolding(cpp_grammar::specs::Texts::special_front))]
+pub fn special_front(letter: u8) -> u8
+    ensures { result ≡ special_front letter }
+{
+    match letter {
+        b'V' => b'G',
+        _ => b'T',
     }
 }
 

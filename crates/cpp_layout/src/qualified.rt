@@ -15,7 +15,6 @@ ghost use Rattle.cpp_layout.specs.declared.texts.TheConstants.{BLANKED};
 ghost use Rattle.cpp_layout.specs.Layout.{table_of, context_of, Shows, qualifiers_behind};
 
 use crate::context::Context;
-use crate::encodings::bit;
 use crate::symbol::Symbol;
 use crate::{form, texts};
 use cpp_tree::node::{Mark, Node, Qualifiers};
@@ -26,10 +25,7 @@ fn blanked_number(qualifiers: Qualifiers) -> u16
     ensures some { BLANKED < result → (fixed_text result ≡ blank_last (qualifier_text (qualifiers_of qualifiers))) × (0 < length (fixed_text result)) }
     ensures none { result ≤ BLANKED → blank_last (qualifier_text (qualifiers_of qualifiers)) ≡ [] }
 {
-    texts::BLANKED
-        + bit(qualifiers.restrict)
-        + 2 * bit(qualifiers.volatile)
-        + 4 * bit(qualifiers.const_)
+    texts::BLANKED + qualifiers.number() as u16
 }
 
 impl Symbol {

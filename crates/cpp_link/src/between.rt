@@ -47,7 +47,8 @@ fn candidate_if(is_candidate: bool, node: u32) -> Option<u32>
     if is_candidate { Some(node) } else { None }
 }
 
-/// Before how many parts of a production nothing is done.
+/// Before how many parts of a production nothing is done. These are most, so that is asked by the rule's number before anything
+/// else is looked at.
 #[inline(always)]
 fn quiet_parts(number: u16) -> usize
     ensures { result ≡ quiet_parts (production_at number) }
@@ -230,7 +231,8 @@ impl Linked {
         Ok(then)
     }
 
-    /// The same for productions that are rare, with the code of all of them.
+    /// The same for productions that are rare: its code is that of all of them, and clears the room for the nodes of each at
+    /// each call.
     ///
     /// # Errors
     ///

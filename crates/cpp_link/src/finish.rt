@@ -287,7 +287,8 @@ impl Linked {
         Ok(())
     }
 
-    /// The same for productions that are rare: its code is that of all of them, and takes room for the parts of each.
+    /// The same for productions that are rare: its code is that of all of them, and clears the room for the nodes of each at
+    /// each call.
     ///
     /// # Errors
     ///

@@ -141,7 +141,8 @@ impl Linked {
             }),
             // <special-name> ::= GV <object name>
             Production::Guard => made(
-                Node::Guard {
+                Node::OfName {
+                    letter: b'V',
                     name: self.tree(symbol, parts, 1),
                     qualifiers: self.qualifiers(symbol, parts, 1),
                     mark: self.reference(symbol, parts, 1),

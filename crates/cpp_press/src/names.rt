@@ -33,18 +33,10 @@ pub fn is_operator(piece: Piece) -> bool
 }
 
 /// Whether a node is an encoding.
-#[tactic(auto, unfolding(cpp_press_laws::specs::Pressing::is_encoding, cpp_term::specs::Erased::erase, cpp_tree::specs::Nodes::tree_of))]
 fn is_encoding(node: Node) -> bool
     ensures { (y : ReadSymbol) → result ≡ is_encoding (node_tree y node) }
 {
-    match node {
-        Node::Function { .. } => true,
-        Node::Object { .. } => true,
-        Node::Special { .. } => true,
-        Node::Thunk { .. } => true,
-        Node::Guard { .. } => true,
-        _ => false,
-    }
+    node.is_encoding()
 }
 
 /// Whether a name is one piece behind an encoding.

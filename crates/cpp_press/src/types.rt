@@ -17,7 +17,7 @@ use crate::names::{
 };
 use crate::task::{Task, Way, then_fixed, then_template, then_text, then_tree};
 use crate::texts::Text;
-use cpp_layout::Symbol;
+use cpp_layout::{Symbol, special_front};
 use cpp_tree::node::{Mark, Node};
 use sym_core::Refusal;
 
@@ -411,13 +411,14 @@ fn then_encoding(
             then_tree(symbol, encoding, Way::Encoding, here, tasks)?;
             then_text(symbol, Text::Thunk(thunk), tasks)?;
         }
-        Node::Guard {
+        Node::OfName {
+            letter,
             name,
             qualifiers,
             mark,
         } => {
             then_tree(symbol, name, Way::Name(qualifiers, mark), here, tasks)?;
-            then_fixed(symbol, b"GV", tasks)?;
+            then_text(symbol, Text::Pair(special_front(letter), letter), tasks)?;
         }
         Node::Whole { encoding, suffix } => {
             then_text(symbol, Text::Suffix(suffix), tasks)?;

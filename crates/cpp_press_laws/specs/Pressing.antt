@@ -3,8 +3,8 @@
 use Rattle.std.specs.Prelude.{ℕ, ◌-◌, List, [], ◌∷◌, ◌++◌, Bool, true, false, cond, ◌&&◌, codes, Option}
 use Prim.Native.String.{String}
 use Rattle.sym_spell.specs.Pressing.{◌and◌, text, nothing}
-use Rattle.cpp_grammar.specs.Term.{RefQualifier, Term, symbol, function, object, special, thunk, guard, alone, in_std, within, instance, local, abbreviation, parameter, source, operator, literal_operator, constructor, destructor, lambda, unnamed, string_literal, builtin, vendor, pointer, lvalue, rvalue, array, member_pointer, function_type, qualified, vector, complex, expansion, integer, boolean, null_pointer, encoding_literal, address_of, pack, nil, list, absent}
-use Rattle.cpp_press_laws.specs.Texts.{counted, ordinal, signed_text, qualifier_letters, mark_letter, name_letters, thunk_text, discriminator_text}
+use Rattle.cpp_grammar.specs.Term.{RefQualifier, Term, symbol, function, object, special, thunk, of_name, alone, in_std, within, instance, local, abbreviation, parameter, source, operator, literal_operator, constructor, destructor, lambda, unnamed, string_literal, builtin, vendor, pointer, lvalue, rvalue, array, member_pointer, function_type, qualified, vector, complex, expansion, integer, boolean, null_pointer, encoding_literal, address_of, pack, nil, list, absent}
+use Rattle.cpp_press_laws.specs.Texts.{counted, ordinal, signed_text, qualifier_letters, mark_letter, name_letters, special_code, thunk_text, discriminator_text}
 use Rattle.cpp_press_laws.specs.Components.{Spelling, ended, referred, component}
 
 -- How a tree is spelled depends on where it stands. So each tree has these ways, of which those count that it can stand in.
@@ -103,7 +103,7 @@ is_encoding (function name q ref returned parameters) = true
 is_encoding (object name q ref) = true
 is_encoding (special l t) = true
 is_encoding (thunk kind e) = true
-is_encoding (guard name q ref) = true
+is_encoding (of_name l name q ref) = true
 is_encoding _ = false
 
 -- The entity of a local name is one piece behind its encoding, with or without arguments, or stands between N and E. No reference
@@ -144,7 +144,7 @@ ways_of n (function name q ref returned parameters) =
 ways_of n (object name q ref) = encoding_ways (λ here. (ways_of here name).as_name (name_letters q ref))
 ways_of n (special l type) = encoding_ways (λ here. text (codes "T" ++ l ∷ []) and (ways_of here type).as_type)
 ways_of n (thunk kind e) = encoding_ways (λ here. text (thunk_text kind) and (ways_of here e).as_encoding)
-ways_of n (guard name q ref) = encoding_ways (λ here. says "GV" and (ways_of here name).as_name (name_letters q ref))
+ways_of n (of_name l name q ref) = encoding_ways (λ here. text (special_code l) and (ways_of here name).as_name (name_letters q ref))
 ways_of n (alone p) =
     let spelling = (ways_of n p).as_piece in
     name_ways n (alone p) spelling spelling spelling spelling (λ in_type arguments. template_before n (alone p) false spelling arguments)

@@ -1,6 +1,7 @@
 -- The bytes of what has no parts: numbers, names, qualifiers, offsets.
 use Rattle.std.specs.Prelude.{ℕ, zero, suc, List, [], ◌∷◌, ◌++◌, length, cond, codes, Option, Some, None}
 use Rattle.sym_spell.specs.Digits.{digits_in, decimal_digit}
+use Rattle.cpp_grammar.specs.Texts.{special_front}
 use Rattle.cpp_grammar.specs.Term.{Qualifiers, RefQualifier, any_value, lvalue_only, rvalue_only, Signed, Adjustment, non_virtual, by_table, Thunk, adjusting, covariant}
 
 unfoldable pub decimal : ℕ → List ℕ
@@ -30,6 +31,10 @@ mark_letter rvalue_only = codes "O"
 -- what is said of a function behind the N of its name (ABI 5.1, `<nested-name>`)
 unfoldable pub name_letters : Qualifiers → RefQualifier → List ℕ
 name_letters q ref = qualifier_letters q ++ mark_letter ref
+
+-- the code of a special name of a name, by its last letter (ABI 5.1, `<special-name>`)
+abbrev pub special_code : ℕ → List ℕ
+special_code letter = special_front letter ∷ letter ∷ []
 
 -- offsets of thunks (ABI 5.1, `<call-offset>`)
 unfoldable pub offset_text : Adjustment → List ℕ

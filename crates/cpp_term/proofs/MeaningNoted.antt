@@ -308,7 +308,7 @@ pub meaning_noted : (production : Production) (byte : ℕ) (around : Around) (vs
 unfolding noted_.meaning meaning noted_value noted_around annotate
 meaning_noted Production.Encoding byte around vs h = absurd h
 meaning_noted Production.Special byte around vs h = part_noted (noted_scope around.scope) vs 0
-meaning_noted Production.Guard byte around vs h = three (λ x y z. value_.tree (term_.guard x y z) true) (closed_part (noted_scope around.scope) vs 1 h) (qualifiers_part (noted_scope around.scope) vs 1) (ref_part (noted_scope around.scope) vs 1)
+meaning_noted Production.Guard byte around vs h = three (λ x y z. value_.tree (term_.of_name 86 x y z) true) (closed_part (noted_scope around.scope) vs 1 h) (qualifiers_part (noted_scope around.scope) vs 1) (ref_part (noted_scope around.scope) vs 1)
 meaning_noted Production.NestedName byte around vs h = five (λ x a b c m. value_.named x (record { restrict = a; volatile = b; const = c }) m) (tree_part (noted_scope around.scope) vs 4) (there_part (noted_scope around.scope) vs 0) (there_part (noted_scope around.scope) vs 1) (there_part (noted_scope around.scope) vs 2) (mark_part (noted_scope around.scope) vs 3)
 meaning_noted Production.LocalName byte around vs h = five (λ x y d q r. value_.named (term_.local x y d) q r) (closed_part (noted_scope around.scope) vs 0 h) (tree_part (noted_scope around.scope) vs 2) (discriminator_part (noted_scope around.scope) vs 3) (qualifiers_part (noted_scope around.scope) vs 2) (ref_part (noted_scope around.scope) vs 2)
 meaning_noted Production.Lambda byte around vs h = both (λ x d. value_.piece (term_.lambda x (local_number d))) (both (λ x y. noted_.parameters (term_.list x y)) (tree_part (noted_scope around.scope) vs 0) (items_part (noted_scope around.scope) vs 1) ∙ parameters_noted (noted_scope around.scope) (list (tree_of (part vs 0)) (going_.no_items (part vs 1)))) (text_part_ (noted_scope around.scope) vs 3)

@@ -4,12 +4,12 @@ use Prim.Native.String.{String}
 use Rattle.sym_print.specs.declared.detail.Detail.{Detail}
 use Rattle.sym_print.specs.Details.{has_arguments, has_parameters}
 use Rattle.sym_print.specs.Unfold.{PartOf, text, sub}
-use Rattle.cpp_grammar.specs.Term.{Qualifiers, RefQualifier, Signed, Term, symbol, function, object, guard, alone, in_std, within, instance, local, abbreviation, parameter, source, operator, constructor, destructor, lambda, builtin, pointer, lvalue, rvalue, array, member_pointer, function_type, qualified, expansion, integer, pack, nil, list, absent}
+use Rattle.cpp_grammar.specs.Term.{Qualifiers, RefQualifier, Signed, Term, symbol, function, object, of_name, alone, in_std, within, instance, local, abbreviation, parameter, source, operator, constructor, destructor, lambda, builtin, pointer, lvalue, rvalue, array, member_pointer, function_type, qualified, expansion, integer, pack, nil, list, absent}
 use Rattle.cpp_grammar.specs.Scope.{arguments_of}
 use Rattle.cpp_grammar.specs.Items.{Form, root, full, bare, left, right, low, base, piece, first, more, expand, Context, Item, closed, argument, head, is_reference, is_funarr, packs_of, is_empty}
 use Rattle.cpp_grammar.specs.Parts as leaf_
 use Rattle.cpp_grammar.specs.Parts.{qualifier_text, ref_text, blank_last, encoding_text, is_below}
-use Rattle.cpp_grammar.specs.Texts.{look_up, literal_endings}
+use Rattle.cpp_grammar.specs.Texts.{look_up, named_special_texts, literal_endings}
 use Rattle.cpp_term.specs.Term as term_
 use Rattle.cpp_term.specs.Items as item_
 use Rattle.cpp_term.specs.Parts as part_
@@ -258,7 +258,7 @@ unfolding part_.full_parts leaf_.full_parts annotate noted_parts noted_part note
 full_noted d s (function name q ref returned parameters) =
     ap (λ r. part_.function_full (has_parameters d) (annotate None name) q ref (annotate r returned) (annotate r parameters)) (scope_noted name) ∙ whole_noted (has_parameters d) name q ref returned parameters
 full_noted d s (object name q ref) = ap (λ ps. part_.as_item left item_.closed (annotate None name) ∷ ps) (text_noted (encoding_text q ref))
-full_noted d s (guard name q ref) = ap (λ ps. part_.says "guard variable for " ∷ part_.as_item left item_.closed (annotate None name) ∷ ps) (text_noted (encoding_text q ref))
+full_noted d s (of_name letter name q ref) = ap (λ ps. text (look_up (letter ∷ []) named_special_texts) ∷ part_.as_item left item_.closed (annotate None name) ∷ ps) (text_noted (encoding_text q ref))
 full_noted d s _ = refl
 
 bare_all_noted : (d : Detail) (s : Option term_.Term) (t : Term) → part_.bare_parts d (annotate s t) ≡ noted_parts (leaf_.bare_parts d t)

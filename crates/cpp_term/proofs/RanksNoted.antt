@@ -7,7 +7,7 @@ use Rattle.sym_print.specs.declared.detail.Detail.{Detail}
 use Rattle.sym_print.specs.Details.{has_arguments, has_parameters}
 use Rattle.sym_print.specs.Unfold.{PartOf, text, sub, RanksBelow}
 use Rattle.cpp_grammar.specs.Term.{Qualifiers, RefQualifier, Signed}
-use Rattle.cpp_term.specs.Term.{Term, symbol, function, object, special, thunk, guard, alone, in_std, within, instance, local, abbreviation, parameter, source, constructor, destructor, lambda, pointer, lvalue, rvalue, array, member_pointer, function_type, qualified, vector, complex, expansion, integer, encoding_literal, address_of, pack, nil, list, absent}
+use Rattle.cpp_term.specs.Term.{Term, symbol, function, object, special, thunk, of_name, alone, in_std, within, instance, local, abbreviation, parameter, source, constructor, destructor, lambda, pointer, lvalue, rvalue, array, member_pointer, function_type, qualified, expansion, integer, pack, nil, list, absent}
 use Rattle.cpp_term.specs.Scope.{element, pack_length}
 use Rattle.cpp_grammar.specs.Items.{Form, root, full, bare, left, right, low, base, piece, first, more, expand, is_reference, is_funarr}
 use Rattle.cpp_term.specs.Items.{Context, Item, indexed, argument, head, packs_of, is_empty}
@@ -145,26 +145,19 @@ array_falls r c t h = falls_choice r (is_funarr (head c t)) _ _ (h, tt) (h, tt)
 left_falls : (d : Detail) (c : Context) (t : Term) → RanksBelow rank (weight_in c t) (left_parts d c t)
 unfolding left_parts rank rank_in weight_in weight
 left_falls d c (alone p) = piece_falls _ c p (omega arith)
-left_falls d c (in_std p) = (omega arith, tt)
 left_falls d c (within prefix p) = within_falls _ c prefix p (omega arith) (omega arith)
 left_falls d c (instance t arguments) = instance_falls _ (has_arguments d) c t arguments (omega arith) (omega arith)
-left_falls d c (local encoding entity discriminator) = (omega arith, tt)
 left_falls d c (parameter k a) = (argument_weight c a, tt)
 left_falls d c (pointer t) = marked_falls _ c t "*" (omega arith)
 left_falls d c (lvalue t) = low_reference_falls _ c t "&" (omega arith)
 left_falls d c (rvalue t) = left_reference_falls _ c t "&&" (omega arith)
 left_falls d c (array digits t) = array_falls _ c t (omega arith)
-left_falls d c (function_type c_linkage noexcept ref returned parameters) = (omega arith, tt)
 left_falls d c (member_pointer class t) = member_falls _ c class t (omega arith) (omega arith)
 left_falls d c (qualified q t) = qualified_falls _ c q t (omega arith)
-left_falls d c (vector digits t) = (omega arith, tt)
-left_falls d c (complex t) = (omega arith, tt)
 left_falls d c (expansion t) = expansion_falls c t (packs_of c t)
 left_falls d c (pack elements) = falls_first _ c elements (omega arith)
 left_falls d c (integer t n) = integer_falls _ c t n (omega arith)
-left_falls d c (encoding_literal e) = (omega arith, tt)
-left_falls d c (address_of e) = (omega arith, tt)
-left_falls d c _ = tt
+left_falls d c _ = first_of (assumption tt, grind arith)
 
 low_falls : (d : Detail) (c : Context) (t : Term) → RanksBelow rank (weight_in c t) (low_parts d c t)
 unfolding low_parts rank rank_in weight_in weight
@@ -201,10 +194,8 @@ right_falls c (member_pointer class t) = closing_falls _ c t (omega arith)
 right_falls c (array digits t) = falls_append _ (says "[" ∷ text_part digits) _ (falls_text _ digits) (omega arith, tt)
 right_falls c (function_type c_linkage noexcept ref returned parameters) = function_right_falls _ c [] ref noexcept returned parameters (omega arith) (omega arith)
 right_falls c (qualified q t) = qualified_right_falls c q t
-right_falls c (vector digits t) = (omega arith, tt)
-right_falls c (complex t) = (omega arith, tt)
 right_falls c (parameter k a) = (argument_weight c a, tt)
-right_falls c _ = tt
+right_falls c _ = first_of (assumption tt, grind arith)
 
 base_within_falls : (r : ℕ) (c : Context) (prefix p : Term) → Below r c prefix → Below r c p → RanksBelow rank r (base_within c prefix p)
 unfolding base_within rank rank_in
@@ -247,7 +238,7 @@ full_falls d c (function name q ref returned parameters) =
 full_falls d c (object name q ref) = (omega arith, falls_text _ (encoding_text q ref))
 full_falls d c (special letter t) = (omega arith, (omega arith, tt))
 full_falls d c (thunk kind e) = (omega arith, tt)
-full_falls d c (guard name q ref) = (omega arith, falls_text _ (encoding_text q ref))
+full_falls d c (of_name letter name q ref) = (omega arith, falls_text _ (encoding_text q ref))
 full_falls d c _ = tt
 
 bare_falls : (d : Detail) (c : Context) (t : Term) → RanksBelow rank (weight_in c t) (bare_parts d t)

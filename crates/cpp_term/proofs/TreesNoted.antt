@@ -209,7 +209,7 @@ special_noted (grown t nothing) all rule first from x y is trees lt le old same 
 guard_made : (around : Around) (byte : ℕ) (v w : Value) →
     noted_.meaning Production.Guard byte (noted_around around) (noted_value None v ∷ noted_value None w ∷ []) ≡ noted_value (noted_scope around.scope) (meaning Production.Guard byte around (v ∷ w ∷ []))
 unfolding meaning noted_.meaning part value_.part noted_value annotate
-guard_made around byte v w = three_ (λ x q r. value_.tree (term_.guard x q r) true) (tree_noted None w) (qualifiers_noted None w) (ref_noted None w)
+guard_made around byte v w = three_ (λ x q r. value_.tree (term_.of_name 86 x q r) true) (tree_noted None w) (qualifiers_noted None w) (ref_noted None w)
 
 encoding_made : (around : Around) (byte : ℕ) (v w : Value) →
     noted_.meaning Production.Encoding byte (noted_around around) (noted_value None v ∷ noted_value (noted_scope (arguments_of (tree_of v))) w ∷ []) ≡ noted_value (noted_scope around.scope) (meaning Production.Encoding byte around (v ∷ w ∷ []))

@@ -9,7 +9,8 @@ pub data Term : Type 0 where
   object : (name : Term) → Qualifiers → RefQualifier → Term
   special : (letter : ℕ) → (type : Term) → Term
   thunk : Thunk → (encoding : Term) → Term
-  guard : (name : Term) → Qualifiers → RefQualifier → Term
+  -- special names have the last letter of their codes
+  of_name : (letter : ℕ) → (name : Term) → Qualifiers → RefQualifier → Term
   -- names, which are types too; a prefix is a name, a parameter or the encoding around a local entity
   alone : (piece : Term) → Term
   in_std : (piece : Term) → Term

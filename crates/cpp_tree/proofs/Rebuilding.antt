@@ -1,12 +1,12 @@
 -- The tree of a tree's fields.
-use Rattle.std.proofs.Common.{◌≡◌, ℕ, suc, ◌<◌, List, [], ◌∷◌, length, slice_get, arith, Bool, true, false, Option, Some, None, refl, sym, ap, ◌∙◌}
+use Rattle.std.proofs.Common.{◌≡◌, ℕ, suc, ◌+◌, ◌*◌, ◌<◌, List, [], ◌∷◌, length, slice_get, arith, Bool, true, false, Option, Some, None, refl, sym, ap, ◌∙◌}
 use Rattle.std.specs.Prelude.{◌==◌, if◌then◌else◌}
 use Rattle.std.proofs.lemmas.Bool.{eqb-true}
-use Rattle.cpp_grammar.specs.Term.{Qualifiers, RefQualifier, any_value, lvalue_only, rvalue_only, non_virtual, by_table, Thunk, adjusting, covariant, Term, function, object, thunk, guard, alone, in_std, within, local, source, builtin, function_type, qualified, integer, boolean}
+use Rattle.cpp_grammar.specs.Term.{Qualifiers, RefQualifier, any_value, lvalue_only, rvalue_only, non_virtual, by_table, Thunk, adjusting, covariant, Term, function, object, thunk, of_name, alone, in_std, within, local, source, builtin, function_type, qualified, integer, boolean}
 use Rattle.cpp_tree.specs.declared.view.Node.{Node}
 use Rattle.cpp_tree.specs.declared.view.TheConstants.{ALONE, IN_STD, NESTED}
-use Rattle.cpp_tree.specs.declared.tree_production.TheConstants.{WIDE_THUNK, BUILTIN_WITH_D}
-use Rattle.cpp_tree.specs.Fields.{Fields, fields, bit, mark_number, mark_in, qualifiers_number, qualifiers_in, linkage_number, c_linkage_in, noexcept_in, no_node, name_fields, local_fields, thunk_fields, fields_of, offsets_of, tree_from}
+use Rattle.cpp_tree.specs.declared.tree_production.TheConstants.{GUARD, OF_NAME, WIDE_THUNK, BUILTIN_WITH_D}
+use Rattle.cpp_tree.specs.Fields.{Fields, fields, bit, mark_number, mark_in, qualifiers_number, qualifiers_in, qualifiers_of_both, mark_of_both, linkage_number, c_linkage_in, noexcept_in, no_node, GUARD_LETTER, name_fields, named_fields, local_fields, thunk_fields, fields_of, offsets_of, tree_from}
 use Rattle.cpp_tree.specs.Views.{IsView, AreAlike}
 
 -- ## What numbers say
@@ -49,6 +49,37 @@ noexcept-back true true = refl
 noexcept-back true false = refl
 noexcept-back false true = refl
 noexcept-back false false = refl
+
+both-back : (q : Qualifiers) (mark : RefQualifier) → let n : ℕ = qualifiers_number q + 8 * mark_number mark in (qualifiers_of_both n ≡ q) × (mark_of_both n ≡ mark)
+unfolding bit mark_number
+both-back q mark = by-each q.restrict q.volatile q.const mark
+  where
+    by-each : (r v c : Bool) (mark : RefQualifier) → let q : Qualifiers = record { restrict = r; volatile = v; const = c } in
+        let n : ℕ = qualifiers_number q + 8 * mark_number mark in (qualifiers_of_both n ≡ q) × (mark_of_both n ≡ mark)
+    by-each true true true any_value = (refl, refl)
+    by-each true true false any_value = (refl, refl)
+    by-each true false true any_value = (refl, refl)
+    by-each true false false any_value = (refl, refl)
+    by-each false true true any_value = (refl, refl)
+    by-each false true false any_value = (refl, refl)
+    by-each false false true any_value = (refl, refl)
+    by-each false false false any_value = (refl, refl)
+    by-each true true true lvalue_only = (refl, refl)
+    by-each true true false lvalue_only = (refl, refl)
+    by-each true false true lvalue_only = (refl, refl)
+    by-each true false false lvalue_only = (refl, refl)
+    by-each false true true lvalue_only = (refl, refl)
+    by-each false true false lvalue_only = (refl, refl)
+    by-each false false true lvalue_only = (refl, refl)
+    by-each false false false lvalue_only = (refl, refl)
+    by-each true true true rvalue_only = (refl, refl)
+    by-each true true false rvalue_only = (refl, refl)
+    by-each true false true rvalue_only = (refl, refl)
+    by-each true false false rvalue_only = (refl, refl)
+    by-each false true true rvalue_only = (refl, refl)
+    by-each false true false rvalue_only = (refl, refl)
+    by-each false false true rvalue_only = (refl, refl)
+    by-each false false false rvalue_only = (refl, refl)
 
 -- ## What fields make
 
@@ -101,9 +132,14 @@ object-made : (name : Term) (q : Qualifiers) (mark : RefQualifier) → tree_from
 unfolding fields_of
 object-made name q mark = rw (qualifiers-back q, mark-back mark) refl
 
-guard-made : (name : Term) (q : Qualifiers) (mark : RefQualifier) → tree_from (fields_of (guard name q mark)) None ≡ guard name q mark
-unfolding fields_of
-guard-made name q mark = rw (qualifiers-back q, mark-back mark) refl
+named-made : (letter : ℕ) (name : Term) (q : Qualifiers) (mark : RefQualifier) → tree_from (named_fields letter name q mark) None ≡ of_name letter name q mark
+unfolding named_fields
+named-made letter name q mark = by-letter (letter == GUARD_LETTER) refl
+  where
+    by-letter : (same : Bool) → (letter == GUARD_LETTER) ≡ same → tree_from (if same then fields GUARD (qualifiers_number q) (mark_number mark) [] (name ∷ [])
+        else fields OF_NAME letter (qualifiers_number q + 8 * mark_number mark) [] (name ∷ [])) None ≡ of_name letter name q mark
+    by-letter true e = rw (qualifiers-back q, mark-back mark) (ap (λ l. of_name l name q mark) (sym (eqb-true letter GUARD_LETTER e)))
+    by-letter false e = let b = both-back q mark in rw (b.0, b.1) refl
 
 type-made : (c n : Bool) (mark : RefQualifier) (returned parameters : Term)
     → tree_from (fields_of (function_type c n mark returned parameters)) None ≡ function_type c n mark returned parameters
@@ -121,7 +157,7 @@ tree-made (thunk kind encoding) = thunk-made kind encoding
 tree-made (builtin code) = builtin-made code
 tree-made (function name q mark returned parameters) = function-made name returned parameters q mark
 tree-made (object name q mark) = object-made name q mark
-tree-made (guard name q mark) = guard-made name q mark
+tree-made (of_name letter name q mark) = named-made letter name q mark
 tree-made (function_type c n mark returned parameters) = type-made c n mark returned parameters
 tree-made (qualified q type) = ap (λ p. qualified p type) (qualifiers-back q)
 tree-made (integer type value) = ap (λ b. integer type (record { negative = b; digits = value.digits })) (bit-back value.negative)

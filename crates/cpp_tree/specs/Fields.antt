@@ -1,9 +1,9 @@
 -- What a tree has beside its production: numbers, texts and the trees of its parts. The productions are constants of the code.
-use Rattle.std.specs.Prelude.{ℕ, ◌+◌, ◌*◌, List, [], ◌∷◌, ◌++◌, Bool, true, false, ◌==◌, ◌||◌, if◌then◌else◌, cond, get_or, Option, Some, None}
-use Rattle.cpp_grammar.specs.Term.{Qualifiers, RefQualifier, any_value, lvalue_only, rvalue_only, Signed, non_virtual, by_table, Thunk, adjusting, covariant, Term, symbol, function, object, special, thunk, guard, alone, in_std, within, instance, local, abbreviation, parameter, source, operator, literal_operator, constructor, destructor, lambda, unnamed, string_literal, builtin, vendor, pointer, lvalue, rvalue, array, member_pointer, function_type, qualified, vector, complex, expansion, integer, boolean, null_pointer, encoding_literal, address_of, pack, nil, list, absent}
+use Rattle.std.specs.Prelude.{ℕ, ◌+◌, ◌*◌, List, [], ◌∷◌, ◌-◌, ◌++◌, Bool, true, false, ◌==◌, ◌||◌, nat_lt, if◌then◌else◌, cond, get_or, Option, Some, None}
+use Rattle.cpp_grammar.specs.Term.{Qualifiers, RefQualifier, any_value, lvalue_only, rvalue_only, Signed, non_virtual, by_table, Thunk, adjusting, covariant, Term, symbol, function, object, special, thunk, of_name, alone, in_std, within, instance, local, abbreviation, parameter, source, operator, literal_operator, constructor, destructor, lambda, unnamed, string_literal, builtin, vendor, pointer, lvalue, rvalue, array, member_pointer, function_type, qualified, vector, complex, expansion, integer, boolean, null_pointer, encoding_literal, address_of, pack, nil, list, absent}
 use Rattle.cpp_tree.specs.declared.view.Names.{Names}
 use Rattle.cpp_tree.specs.declared.view.TheConstants.{ALONE, IN_STD, NESTED}
-use Rattle.cpp_tree.specs.declared.tree_production.TheConstants.{ABSENT, NIL, LIST, SYMBOL, FUNCTION, OBJECT, SPECIAL, GUARD, THUNK, TABLE_THUNK, COVARIANT_THUNK, WIDE_THUNK, INSTANCE, LOCAL, NUMBERED_LOCAL, ABBREVIATION, PARAMETER, BUILTIN, BUILTIN_WITH_D, VENDOR, POINTER, LVALUE, RVALUE, ARRAY, MEMBER_POINTER, FUNCTION_TYPE, QUALIFIED, VECTOR, COMPLEX, EXPANSION, INTEGER, BOOLEAN, NULL_POINTER, ENCODING_LITERAL, ADDRESS_OF, PACK, NO_NODE}
+use Rattle.cpp_tree.specs.declared.tree_production.TheConstants.{ABSENT, NIL, LIST, SYMBOL, FUNCTION, OBJECT, SPECIAL, GUARD, OF_NAME, THUNK, TABLE_THUNK, COVARIANT_THUNK, WIDE_THUNK, INSTANCE, LOCAL, NUMBERED_LOCAL, ABBREVIATION, PARAMETER, BUILTIN, BUILTIN_WITH_D, VENDOR, POINTER, LVALUE, RVALUE, ARRAY, MEMBER_POINTER, FUNCTION_TYPE, QUALIFIED, VECTOR, COMPLEX, EXPANSION, INTEGER, BOOLEAN, NULL_POINTER, ENCODING_LITERAL, ADDRESS_OF, PACK, NO_NODE}
 
 -- a production, its two numbers, the bytes of its two texts, and the trees of its parts
 pub record Fields : Type 0 where
@@ -48,6 +48,16 @@ name_fields names prefix whole string_literal = fields names.string_literal 0 0 
 name_fields names prefix whole absent = fields names.no_piece 0 0 [] prefix
 name_fields names prefix whole _ = no_node whole
 
+-- the last letter of the code of a guard variable, which has a production of its own
+abbrev pub GUARD_LETTER : ℕ
+GUARD_LETTER = 86
+
+-- of a special name of a name: qualifiers and mark are one number beside another letter
+unfoldable pub named_fields : (letter : ℕ) → (name : Term) → Qualifiers → RefQualifier → Fields
+named_fields letter name q mark =
+    if letter == GUARD_LETTER then fields GUARD (qualifiers_number q) (mark_number mark) [] (name ∷ [])
+    else fields OF_NAME letter (qualifiers_number q + 8 * mark_number mark) [] (name ∷ [])
+
 -- of a name in a function, with a discriminator or without
 unfoldable pub local_fields : (around entity : Term) → Option (List ℕ) → Fields
 local_fields around entity None = fields LOCAL 0 0 [] (around ∷ entity ∷ [])
@@ -77,7 +87,7 @@ fields_of (symbol encoding suffix) = fields SYMBOL 0 0 suffix (encoding ∷ [])
 fields_of (function name q mark returned parameters) = fields FUNCTION (qualifiers_number q) (mark_number mark) [] (name ∷ returned ∷ parameters ∷ [])
 fields_of (object name q mark) = fields OBJECT (qualifiers_number q) (mark_number mark) [] (name ∷ [])
 fields_of (special letter type) = fields SPECIAL letter 0 [] (type ∷ [])
-fields_of (guard name q mark) = fields GUARD (qualifiers_number q) (mark_number mark) [] (name ∷ [])
+fields_of (of_name letter name q mark) = named_fields letter name q mark
 fields_of (thunk kind encoding) = thunk_fields kind encoding
 fields_of (instance template arguments) = fields INSTANCE 0 0 [] (template ∷ arguments ∷ [])
 fields_of (local around entity discriminator) = local_fields around entity discriminator
@@ -145,6 +155,13 @@ qualifiers_in n = get_or (
     ∷ these true true true
     ∷ []) n (these false false false)
 
+-- qualifiers and mark of one number
+abbrev pub qualifiers_of_both : ℕ → Qualifiers
+qualifiers_of_both n = qualifiers_in (if nat_lt n 8 then n else if nat_lt n 16 then n - 8 else n - 16)
+
+abbrev pub mark_of_both : ℕ → RefQualifier
+mark_of_both n = if nat_lt n 8 then any_value else if nat_lt n 16 then lvalue_only else rvalue_only
+
 abbrev pub c_linkage_in : ℕ → Bool
 c_linkage_in n = (n == 1) || (n == 3)
 
@@ -187,7 +204,8 @@ narrow_tree_from given = tree_at given.production (
     ∷ (FUNCTION, function (part_in given 0) (qualifiers_in (number_in given 0)) (mark_in (number_in given 1)) (part_in given 1) (part_in given 2))
     ∷ (OBJECT, object (part_in given 0) (qualifiers_in (number_in given 0)) (mark_in (number_in given 1)))
     ∷ (SPECIAL, special (number_in given 0) (part_in given 0))
-    ∷ (GUARD, guard (part_in given 0) (qualifiers_in (number_in given 0)) (mark_in (number_in given 1)))
+    ∷ (GUARD, of_name GUARD_LETTER (part_in given 0) (qualifiers_in (number_in given 0)) (mark_in (number_in given 1)))
+    ∷ (OF_NAME, of_name (number_in given 0) (part_in given 0) (qualifiers_of_both (number_in given 1)) (mark_of_both (number_in given 1)))
     ∷ (THUNK, thunk (adjusting (non_virtual (signed_in given 0))) (part_in given 0))
     ∷ (TABLE_THUNK, thunk (adjusting (by_table (signed_in given 0) (signed_in given 1))) (part_in given 0))
     ∷ (COVARIANT_THUNK, thunk (covariant (non_virtual (signed_in given 0)) (non_virtual (signed_in given 1))) (part_in given 0))

@@ -1,5 +1,5 @@
 -- The trees that nodes stand for.
-use Rattle.std.specs.Prelude.{◌≡◌, ℕ, suc, ◌<◌, ◌≤◌, ◌-◌, ◌+◌, List, [], ◌∷◌, ◌++◌, length, get_or, slice_get, slice_range, false, Option, None, Some}
+use Rattle.std.specs.Prelude.{◌≡◌, ℕ, suc, ◌<◌, ◌≤◌, ◌-◌, ◌+◌, List, [], ◌∷◌, ◌++◌, length, get_or, slice_get, slice_range, Bool, true, false, Option, None, Some}
 use Rattle.std.specs.List.{All}
 use Rattle.sym_core.specs.declared.Span.{Span}
 use Rattle.cpp_grammar.specs.Term as values
@@ -91,7 +91,7 @@ tree_of s us ts (Node.Function name q m returned parameters) = term.function (tr
 tree_of s us ts (Node.Object name q m) = term.object (tree_at ts name) (qualifiers_of q) (mark_of m)
 tree_of s us ts (Node.Special letter t) = term.special letter (tree_at ts t)
 tree_of s us ts (Node.Thunk u e) = term.thunk (thunk_of s (slice_get us u)) (tree_at ts e)
-tree_of s us ts (Node.Guard name q m) = term.guard (tree_at ts name) (qualifiers_of q) (mark_of m)
+tree_of s us ts (Node.OfName letter name q m) = term.of_name letter (tree_at ts name) (qualifiers_of q) (mark_of m)
 tree_of s us ts (Node.Alone p) = term.alone (piece_of s ts p)
 tree_of s us ts (Node.InStd p) = term.in_std (piece_of s ts p)
 tree_of s us ts (Node.Within prefix p) = term.within (tree_at ts prefix) (piece_of s ts p)
@@ -128,6 +128,16 @@ trees_onto s us ts (e ∷ es) = trees_onto s us (ts ++ tree_of s us ts e.node �
 abbrev pub trees : Table → List Term
 trees y = trees_onto y.bytes y.thunks [] y.nodes
 
+-- ## What nodes are
+
+unfoldable pub is_encoding : Node → Bool
+is_encoding (Node.Function name q m returned parameters) = true
+is_encoding (Node.Object name q m) = true
+is_encoding (Node.Special code t) = true
+is_encoding (Node.Thunk u e) = true
+is_encoding (Node.OfName letter name q m) = true
+is_encoding _ = false
+
 -- ## What nodes are made of
 
 abbrev pub IsPieceBelow : List ℕ → ℕ → Piece → Type 0
@@ -146,7 +156,7 @@ IsBelow s held n (Node.Function name q m returned parameters) = (name < n) × (r
 IsBelow s held n (Node.Object name q m) = name < n
 IsBelow s held n (Node.Special letter t) = t < n
 IsBelow s held n (Node.Thunk u e) = (u < held) × (e < n)
-IsBelow s held n (Node.Guard name q m) = name < n
+IsBelow s held n (Node.OfName letter name q m) = name < n
 IsBelow s held n (Node.Alone p) = IsPieceBelow s n p
 IsBelow s held n (Node.InStd p) = IsPieceBelow s n p
 IsBelow s held n (Node.Within prefix p) = (prefix < n) × IsPieceBelow s n p

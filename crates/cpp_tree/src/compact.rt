@@ -21,7 +21,8 @@ pub enum Words {
     Elements,
 }
 
-/// An entry in few bytes: what no node has at once shares the two words.
+/// An entry in 40 bytes: what no node has at once (the arguments of a name, the elements of a list, the head of a type) shares
+/// the two words.
 #[derive(Clone, Copy)]
 pub struct Compact {
     pub node: Node,

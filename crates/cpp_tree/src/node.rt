@@ -1,6 +1,19 @@
 // The nodes of a symbol. A node names its parts by their numbers, which are smaller than its own.
 
+ghost use Rattle.std.specs.Prelude.{◌≡◌, ◌≤◌};
+ghost use Rattle.cpp_tree.specs.Fields.{bit, mark_number, qualifiers_number};
+ghost use Rattle.cpp_tree.specs.Nodes.{qualifiers_of, mark_of, is_encoding};
+
 use sym_core::Span;
+
+/// 1 for what is so.
+#[tactic(auto, unfolding(crate::specs::Fields::bit))]
+pub fn bit(test: bool) -> u8
+    ensures is { result ≡ bit test }
+    ensures few { result ≤ 1 }
+{
+    if test { 1 } else { 0 }
+}
 
 /// What is said of a type or a function by const, volatile and restrict.
 #[derive(Clone, Copy)]
@@ -10,12 +23,37 @@ pub struct Qualifiers {
     pub const_: bool,
 }
 
+impl Qualifiers {
+    /// Their number: the sum of 1 for restrict, 2 for volatile and 4 for const.
+    pub fn number(self) -> u8
+        ensures is { result ≡ qualifiers_number (qualifiers_of self) }
+        ensures few { result ≤ 7 }
+    {
+        bit(self.restrict) + 2 * bit(self.volatile) + 4 * bit(self.const_)
+    }
+}
+
 /// The mark on a function for & or &&.
 #[derive(Clone, Copy)]
 pub enum Mark {
     Any,
     Lvalue,
     Rvalue,
+}
+
+impl Mark {
+    /// Its number: 0 for none, 1 for & and 2 for &&.
+    #[tactic(auto, unfolding(crate::specs::Fields::mark_number))]
+    pub fn number(self) -> u8
+        ensures is { result ≡ mark_number (mark_of self) }
+        ensures few { result ≤ 2 }
+    {
+        match self {
+            Mark::Any => 0,
+            Mark::Lvalue => 1,
+            Mark::Rvalue => 2,
+        }
+    }
 }
 
 /// A number with a sign. The digits have no zeros in front.
@@ -79,7 +117,8 @@ pub enum Node {
         thunk: u32,
         encoding: u32,
     },
-    Guard {
+    OfName {
+        letter: u8,
         name: u32,
         qualifiers: Qualifiers,
         mark: Mark,
@@ -152,6 +191,23 @@ pub enum Node {
         encoding: u32,
         suffix: Span,
     },
+}
+
+impl Node {
+    /// Whether it is an encoding.
+    #[tactic(auto, unfolding(crate::specs::Nodes::is_encoding))]
+    pub fn is_encoding(self) -> bool
+        ensures { result ≡ is_encoding self }
+    {
+        match self {
+            Node::Function { .. } => true,
+            Node::Object { .. } => true,
+            Node::Special { .. } => true,
+            Node::Thunk { .. } => true,
+            Node::OfName { .. } => true,
+            _ => false,
+        }
+    }
 }
 
 /// The head of a type.

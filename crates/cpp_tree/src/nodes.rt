@@ -35,7 +35,7 @@ pub const ABSENT: u32 = 0;
 /// The list of no elements.
 pub const NIL: u32 = 1;
 
-/// The pack of no elements.
+/// The pack of no elements. A table begins with it, so that no step of the linker adds more than two nodes.
 pub const NO_ELEMENTS: u32 = 2;
 
 impl Nodes {

@@ -200,3 +200,7 @@ pub const NESTED_NO_PIECE: u16 = 62;
 /// A tree for which no node stands: a piece of a name by itself, a name of what is no piece, a builtin type of another code.
 /// Parts: the tree itself. No node has this production.
 pub const NO_NODE: u16 = 63;
+
+/// A special name of a name that isn't a guard variable's. Numbers: the last letter of its code, and the sum of the qualifiers of
+/// the name and eight times its mark. Parts: the name. No symbol of the ABI's that is read by default has it.
+pub const OF_NAME: u16 = 64;

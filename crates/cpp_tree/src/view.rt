@@ -5,18 +5,18 @@ ghost use Rattle.std.specs.Prelude.{◌≡◌, ℕ, ◌≤◌, [], ◌∷◌, le
 ghost use Rattle.cpp_term.specs.Erased.{erase};
 ghost use Rattle.cpp_grammar.specs.Term.{Term};
 ghost use Rattle.cpp_tree.specs.Nodes.{over, trees, tree_of, piece_of, qualifiers_of, mark_of, thunk_of, discriminator_of, IsSpan, IsBelow, IsPieceBelow, IsTable};
-ghost use Rattle.cpp_tree.specs.Fields.{bit, mark_number, qualifiers_number, linkage_number, name_fields, local_fields, thunk_fields, fields_of, offsets_of};
+ghost use Rattle.cpp_tree.specs.Fields.{bit, mark_number, qualifiers_number, linkage_number, name_fields, named_fields, local_fields, thunk_fields, fields_of, offsets_of};
 ghost use Rattle.cpp_tree.specs.Views.{plain_tree, prefix_trees, seen_of, seen_behind, seen_fields, no_text, offsets_in, AreBelow, IsSlotBelow, AreWithin, IsKnownThunk};
 
-use crate::node::{Adjustment, Mark, Piece, Qualifiers, Signed, Thunk};
+use crate::node::{Adjustment, Mark, Piece, Qualifiers, Signed, Thunk, bit};
 use crate::tree_production::{
     ABBREVIATION, ABSENT, ADDRESS_OF, ARRAY, BOOLEAN, BUILTIN, BUILTIN_WITH_D, COMPLEX,
     CONSTRUCTOR, COVARIANT_THUNK, DESTRUCTOR, ENCODING_LITERAL, EXPANSION, FUNCTION, FUNCTION_TYPE,
     GUARD, INSTANCE, INTEGER, LAMBDA, LIST, LITERAL_OPERATOR, LOCAL, LVALUE, MEMBER_POINTER,
     NESTED_CONSTRUCTOR, NESTED_DESTRUCTOR, NESTED_LAMBDA, NESTED_LITERAL_OPERATOR, NESTED_NO_PIECE,
     NESTED_OPERATOR, NESTED_SOURCE, NESTED_STRING_LITERAL, NESTED_UNNAMED, NIL, NO_PIECE,
-    NULL_POINTER, NUMBERED_LOCAL, OBJECT, OPERATOR, PACK, PARAMETER, POINTER, QUALIFIED, RVALUE,
-    SOURCE, SPECIAL, STD_CONSTRUCTOR, STD_DESTRUCTOR, STD_LAMBDA, STD_LITERAL_OPERATOR,
+    NULL_POINTER, NUMBERED_LOCAL, OBJECT, OF_NAME, OPERATOR, PACK, PARAMETER, POINTER, QUALIFIED,
+    RVALUE, SOURCE, SPECIAL, STD_CONSTRUCTOR, STD_DESTRUCTOR, STD_LAMBDA, STD_LITERAL_OPERATOR,
     STD_NO_PIECE, STD_OPERATOR, STD_SOURCE, STD_STRING_LITERAL, STD_UNNAMED, STRING_LITERAL,
     SYMBOL, TABLE_THUNK, THUNK, UNNAMED, VECTOR, VENDOR, WIDE_THUNK,
 };
@@ -146,39 +146,11 @@ fn named(production: u16, numbers: [u64; 2], text: Span, prefix: Option<u32>) ->
     }
 }
 
-/// 1 for what is so.
-#[tactic(auto, unfolding(crate::specs::Fields::bit))]
-fn bit(test: bool) -> u64
-    ensures is { result ≡ bit test }
-    ensures small { result ≤ 1 }
-{
-    if test { 1 } else { 0 }
-}
-
-/// The number of a mark.
-#[tactic(auto, unfolding(crate::specs::Fields::mark_number))]
-fn mark_number(mark: Mark) -> u64
-    ensures { result ≡ mark_number (mark_of mark) }
-{
-    match mark {
-        Mark::Any => 0,
-        Mark::Lvalue => 1,
-        Mark::Rvalue => 2,
-    }
-}
-
-/// The number of qualifiers.
-fn qualifiers_number(qualifiers: Qualifiers) -> u64
-    ensures { result ≡ qualifiers_number (qualifiers_of qualifiers) }
-{
-    bit(qualifiers.restrict) + 2 * bit(qualifiers.volatile) + 4 * bit(qualifiers.const_)
-}
-
 /// The number of what a function's type says beside its mark.
 fn linkage_number(c_linkage: bool, noexcept: bool) -> u64
     ensures { result ≡ linkage_number c_linkage noexcept }
 {
-    bit(c_linkage) + 2 * bit(noexcept)
+    (bit(c_linkage) + 2 * bit(noexcept)) as u64
 }
 
 /// The view of a name of a piece, behind a prefix if there is one.
@@ -197,7 +169,12 @@ fn view_of_name(
     ensures few { result.node.parts ≤ 3 }
 {
     match piece {
-        Piece::Source { internal, bytes } => named(names.source, [bit(internal), 0], bytes, prefix),
+        Piece::Source { internal, bytes } => named(
+            names.source,
+            [bit(internal) as u64, 0],
+            bytes,
+            prefix,
+        ),
         Piece::Operator(first, second) => {
             let letters = [first as u64, second as u64];
             named(names.operator, letters, NO_TEXT, prefix)
@@ -212,6 +189,35 @@ fn view_of_name(
         Piece::Unnamed(number) => named(names.unnamed, [number, 0], NO_TEXT, prefix),
         Piece::StringLiteral => named(names.string_literal, [0; 2], NO_TEXT, prefix),
         Piece::Absent => named(names.no_piece, [0; 2], NO_TEXT, prefix),
+    }
+}
+
+/// The view of a special name of a name, by the last letter of its code.
+#[tactic(auto, unfolding(crate::specs::Fields::named_fields))]
+fn view_of_special_name(
+    symbol: &[u8],
+    nodes: &Nodes,
+    letter: u8,
+    name: u32,
+    qualifiers: Qualifiers,
+    mark: Mark,
+) -> NodeView
+    ensures fields { seen_fields (over symbol.now nodes.now) result ≡ named_fields letter (plain_tree (over symbol.now nodes.now) name) (qualifiers_of qualifiers) (mark_of mark) }
+    ensures texts { AreWithin symbol.now result.node.texts }
+    ensures parts { result.parts ≡ name ∷ 0 ∷ 0 ∷ [] }
+    ensures count { result.node.parts ≡ 1 }
+{
+    let qualifiers = qualifiers.number() as u64;
+    let mark = mark.number() as u64;
+    if letter == b'V' {
+        one(GUARD, [qualifiers, mark], NO_TEXT, name)
+    } else {
+        one(
+            OF_NAME,
+            [letter as u64, qualifiers + 8 * mark],
+            NO_TEXT,
+            name,
+        )
     }
 }
 
@@ -242,7 +248,7 @@ fn offsets(production: u16, first: Signed, second: Signed, encoding: u32) -> Nod
 {
     seen(
         production,
-        [bit(first.negative), bit(second.negative)],
+        [bit(first.negative) as u64, bit(second.negative) as u64],
         [first.digits, second.digits],
         1,
         [encoding, 0, 0],
@@ -262,7 +268,12 @@ fn view_of_thunk(symbol: &[u8], nodes: &Nodes, thunk: Option<Thunk>, encoding: u
         None => one(THUNK, [0; 2], NO_TEXT, encoding),
         Some(Thunk::Adjusting(this)) => match this {
             Adjustment::NonVirtual(offset) => {
-                one(THUNK, [bit(offset.negative), 0], offset.digits, encoding)
+                one(
+                    THUNK,
+                    [bit(offset.negative) as u64, 0],
+                    offset.digits,
+                    encoding,
+                )
             }
             Adjustment::ByTable(offset, place) => offsets(TABLE_THUNK, offset, place, encoding),
         },
@@ -300,7 +311,7 @@ pub fn view_of(symbol: &[u8], nodes: &Nodes, node: node::Node) -> NodeView
             parameters,
         } => seen(
             FUNCTION,
-            [qualifiers_number(qualifiers), mark_number(mark)],
+            [qualifiers.number() as u64, mark.number() as u64],
             [NO_TEXT; 2],
             3,
             [name, returned, parameters],
@@ -310,21 +321,19 @@ pub fn view_of(symbol: &[u8], nodes: &Nodes, node: node::Node) -> NodeView
             qualifiers,
             mark,
         } => {
-            let numbers = [qualifiers_number(qualifiers), mark_number(mark)];
+            let numbers = [qualifiers.number() as u64, mark.number() as u64];
             one(OBJECT, numbers, NO_TEXT, name)
         }
         node::Node::Special { letter, ty } => one(SPECIAL, [letter as u64, 0], NO_TEXT, ty),
         node::Node::Thunk { thunk, encoding } => {
             view_of_thunk(symbol, nodes, nodes.thunk(thunk), encoding)
         }
-        node::Node::Guard {
+        node::Node::OfName {
+            letter,
             name,
             qualifiers,
             mark,
-        } => {
-            let numbers = [qualifiers_number(qualifiers), mark_number(mark)];
-            one(GUARD, numbers, NO_TEXT, name)
-        }
+        } => view_of_special_name(symbol, nodes, letter, name, qualifiers, mark),
         node::Node::Alone(piece) => view_of_name(symbol, nodes, ALONE, None, piece),
         node::Node::InStd(piece) => view_of_name(symbol, nodes, IN_STD, None, piece),
         node::Node::Within { prefix, piece } => {
@@ -358,19 +367,19 @@ pub fn view_of(symbol: &[u8], nodes: &Nodes, node: node::Node) -> NodeView
             returned,
             parameters,
         } => {
-            let numbers = [linkage_number(c_linkage, noexcept), mark_number(mark)];
+            let numbers = [linkage_number(c_linkage, noexcept), mark.number() as u64];
             two(FUNCTION_TYPE, numbers, NO_TEXT, returned, parameters)
         }
         node::Node::Qualified { qualifiers, ty } => {
-            one(QUALIFIED, [qualifiers_number(qualifiers), 0], NO_TEXT, ty)
+            one(QUALIFIED, [qualifiers.number() as u64, 0], NO_TEXT, ty)
         }
         node::Node::Vector { digits, element } => one(VECTOR, none, digits, element),
         node::Node::Complex(ty) => one(COMPLEX, none, NO_TEXT, ty),
         node::Node::Expansion(pattern) => one(EXPANSION, none, NO_TEXT, pattern),
         node::Node::Integer { ty, value } => {
-            one(INTEGER, [bit(value.negative), 0], value.digits, ty)
+            one(INTEGER, [bit(value.negative) as u64, 0], value.digits, ty)
         }
-        node::Node::Boolean(truth) => leaf(BOOLEAN, bit(truth)),
+        node::Node::Boolean(truth) => leaf(BOOLEAN, bit(truth) as u64),
         node::Node::NullPointer => leaf(NULL_POINTER, 0),
         node::Node::EncodingLiteral(encoding) => one(ENCODING_LITERAL, none, NO_TEXT, encoding),
         node::Node::AddressOf(encoding) => one(ADDRESS_OF, none, NO_TEXT, encoding),

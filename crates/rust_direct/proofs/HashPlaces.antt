@@ -1,5 +1,5 @@
 -- Where numbers of eleven digits stand.
-use Rattle.std.proofs.Common.{◌≡◌, ◌≢◌, ℕ, ◌+◌, ◌-◌, ◌*◌, ◌^◌, ◌≤◌, ◌<◌, suc, List, [], ◌∷◌, ◌++◌, length, take, drop, get_or, true, refl, ap, sym, subst, ◌∙◌, arith, inr}
+use Rattle.std.proofs.Common.{◌≡◌, ℕ, ◌+◌, ◌-◌, ◌*◌, ◌^◌, ◌≤◌, ◌<◌, suc, List, [], ◌∷◌, ◌++◌, length, take, drop, get_or, true, refl, ap, sym, subst, ◌∙◌, arith, inr}
 use Rattle.std.proofs.lemmas.List.{length-append, length-drop, length-take-le, take-append-drop}
 use Rattle.std.proofs.lemmas.Bool.Decides.{nat_tests}
 use Rattle.std.proofs.Math.Nat.{pow-zero, pow-suc, mul_assoc, mul_comm, mul-le-mul_right}
@@ -65,38 +65,6 @@ hash-found s at own within long own_is low each mark = (
 
     there : drop at s ≡ own ++ drop 11 (drop at s)
     there = sym (take-append-drop 11 (drop at s)) ∙ ap (λ l. l ++ drop 11 (drop at s)) (sym eleven)
-
--- a lone mark is a number
-pub bare-found : (s : List ℕ) (at end : ℕ) → StandsAt s at (95 ∷ []) → end ≡ at + 1 → IsSmallNumberAt s at end
-bare-found s at end mark end_is = (
-  0,
-  record {
-    token = record { before = []; own = []; behind = 95 ∷ [] };
-    is_number = record { bare = refl; digits = (tt, omega arith); ends = refl };
-    counts = refl;
-    stands = mark;
-    ends = end_is;
-  },
-  omega arith,
-)
-
--- a digit and the mark behind it are a number
-pub digit-found : (s : List ℕ) (at mark d end : ℕ) → is_digit_of Base62 d ≡ true → (d ≢ 0 → StandsAt s at (d ∷ [])) → mark ≡ at + 1
-    → StandsAt s mark (95 ∷ []) → end ≡ mark + 1 → IsSmallNumberAt s at end
-digit-found s at mark d end digit first mark_is second end_is = (
-  counted_value Base62 (d ∷ []),
-  record {
-    token = record { before = []; own = d ∷ []; behind = 95 ∷ [] };
-    is_number = record { bare = refl; digits = ((digit, tt), omega arith); ends = refl };
-    counts = refl;
-    stands = stands-join s at (d ∷ []) (95 ∷ []) (first filled) (subst (λ n. StandsAt s n (95 ∷ [])) mark_is second);
-    ends = omega (arith, mark_is, end_is);
-  },
-  omega (arith, digit-small d digit),
-)
-  where
-    filled : d ≢ 0
-    filled none = cc (digit, ap (λ n. is_digit_of Base62 n) none)
 
 -- a disambiguator whose number is small
 pub hash-disambiguator : (s : List ℕ) (at behind end : ℕ) → StandsAt s at (115 ∷ []) → behind ≡ at + 1 → IsSmallNumberAt s behind end → HasDisambiguator s at end

@@ -84,27 +84,6 @@ fn hash_end(s: &[u8], at: usize) -> Option<usize>
     Some(mark + 1)
 }
 
-/// The place behind a number that has one digit, or none.
-// <base-62-number> = {<0-9a-zA-Z>} "_"
-#[inline(always)]
-fn short_end(s: &[u8], at: usize) -> Option<usize>
-    ensures { IfSome result (IsSmallNumberAt s.now at) }
-{
-    let byte = byte_at(s, at);
-    let mark = at.checked_add(1)?;
-    if byte == b'_' {
-        return Some(mark);
-    }
-    if no_digit(byte) != 0 {
-        return None;
-    }
-    if byte_at(s, mark) != b'_' {
-        return None;
-    }
-    let end = mark.checked_add(1)?;
-    Some(end)
-}
-
 /// The place behind the disambiguator at a place, whatever it is.
 #[inline(never)]
 fn any_disambiguator_end(s: &[u8], at: usize) -> Option<usize>
@@ -127,9 +106,6 @@ pub fn disambiguator_end(s: &[u8], at: usize) -> Option<usize>
     }
     let number = at.checked_add(1)?;
     if let Some(end) = hash_end(s, number) {
-        return Some(end);
-    }
-    if let Some(end) = short_end(s, number) {
         return Some(end);
     }
     any_disambiguator_end(s, at)

@@ -165,6 +165,8 @@ impl RustNodes {
     }
 
     /// Adds a node that began at a place.
+    // It is stored as it is made, in 56 bytes with its need. In 32, with large numbers and decoded names in a list beside the
+    // nodes, it is taken apart here, and real symbols take a tenth to a quarter more instructions.
     #[inline(always)]
     fn add(&mut self, place: u32, node: Node) -> Result<Added, Refusal>
         requires room { length self.old.nodes.nodes + 1 < 2 ^ 32 }

@@ -12,7 +12,7 @@ use Rattle.sym_filter.specs.declared.demangler.Demangled.{Demangled}
 use Rattle.sym_filter.specs.declared.demangler.Demangled.TheVariants as demangler
 use Rattle.sym_filter.specs.declared.kinds.Kind.{Kind}
 use Rattle.sym_filter.specs.declared.words.Tally.{Tally}
-use Rattle.sym_filter.specs.Languages.{answer_of}
+use Rattle.sym_filter.specs.Languages.{answer_of, AreCountsOf}
 use Rattle.sym_filter.specs.Runs.{filtered}
 use Rattle.sym_filter.specs.Streams.{FiltersAll}
 use Rattle.sym_calls.specs.declared.counting.SymbolCounts.{SymbolCounts}
@@ -84,6 +84,13 @@ count-ends symbol counts status length place kind (BadReference at) in_lang give
 count-ends symbol counts status length place kind (BadValue at) in_lang given found s p told =
     inr (refl, inr (inr (BadValue at, (λ e. cc), subst (λ l. answer_of 0 Detail.Full l symbol ≡ Err (BadValue at)) in_lang (given (λ e. cc)).0, rw (sym s, sym p) (sym (ap (λ t. bare t) told)))))
 count-ends symbol counts status length place kind TooLong in_lang given found s p told = absurd ((given (λ e. cc)).1 refl)
+
+-- a symbol that is read, with its counts
+pub counted-ends : (symbol : List ℕ) (old new : SymbolCounts) (status place : ℕ) (kind : Kind) (read : Counts) → kind ≡ symbol_kind symbol → AreCountsOf kind.lang symbol read
+    → status ≡ 0 → place ≡ 0 → record { rows = new.rows; nodes = new.nodes; steps = new.steps } ≡ read → Counted symbol old new status place
+counted-ends symbol old new status place kind read in_lang counts answered_ok no_place same =
+    let of_new : AreCountsOf kind.lang symbol (record { rows = new.rows; nodes = new.nodes; steps = new.steps }) = subst (λ r. AreCountsOf kind.lang symbol r) (sym same) counts in
+    inl (answered_ok, no_place, subst (λ k. AreCountsOf k.lang symbol (record { rows = new.rows; nodes = new.nodes; steps = new.steps })) in_lang of_new)
 
 -- a text that was appended to an empty list, and put into the room
 pub appended-ends : {A : Type 0} → (limit : ℕ) (detail : Detail) (kind : Kind) (symbol room old new : List ℕ) (result : Result A Refusal) (done : A) (found : Ending) → kind ≡ symbol_kind symbol → old ≡ []

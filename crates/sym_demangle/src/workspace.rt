@@ -190,6 +190,7 @@ impl<M: Mangling> Workspace<M> {
     ///
     /// `Malformed` at the first bad byte of a symbol that isn't well shaped, `BadReference` and `BadValue` at the first bad token of
     /// one that is, `Memory` where a list couldn't grow.
+    // As a call of its own in printing and pressing it took 0.3 % more instructions over real Rust symbols.
     #[inline(always)]
     pub fn read(&mut self, s: &[u8]) -> Result<M::Symbol, Refusal>
         requires { FitsSymbol s.now }

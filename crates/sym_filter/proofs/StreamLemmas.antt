@@ -81,7 +81,7 @@ take-none zero [] h = refl
 take-none zero (x ∷ xs) h = refl
 take-none (suc n) xs h = absurd (omega arith)
 
--- a vector whose items were written through a slice of it
+-- a list whose items were written through a slice of it
 pub room-back : (new items : List ℕ) (len : ℕ) → length new ≡ len → take len (new ++ drop (length new) items) ≡ new
 room-back new items len h = ap (λ n. take n (new ++ drop (length new) items)) (sym h) ∙ take-append_seam new (drop (length new) items)
 

@@ -130,7 +130,3 @@ tally_with_word answers tally word = tally_with answers tally (filter is_named (
 -- the tally of a text whose words have these letters
 abbrev pub tally_at : Letters → Answering → List ℕ → Tally
 tally_at letters answers text = tally_with answers (record { words = 0; replaced = 0; refused = 0 }) (named_runs letters text)
-
--- where they have any letters
-abbrev pub tally_of : Answering → List ℕ → Tally
-tally_of answers text = tally_at Any answers text

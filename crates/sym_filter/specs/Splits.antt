@@ -28,9 +28,6 @@ FilteredByJoinsAt letters = (answers : Answering) (text more : List ℕ) (byte :
     filtered_at letters answers (text ++ (byte ∷ more)) ≡ filtered_at letters answers text ++ (byte ∷ filtered_at letters answers more)
 
 -- where words have any letters
-abbrev pub IsSplit : (text first : List ℕ) → (rest : List (ℕ × List ℕ)) → Type 0
-IsSplit text first rest = IsSplitAt Any text first rest
-
 abbrev pub FilteredBySplits : Type 0
 FilteredBySplits = FilteredBySplitsAt Any
 

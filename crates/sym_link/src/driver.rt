@@ -92,6 +92,8 @@ fn take_alone<L: Linking>(
 
 /// Puts the frame of a rule that has begun on the others. A rule that has no row of its own closes at once, and one that has
 /// a token alone takes it and closes. It answers the number of the next row.
+// Closes in one place: `#[inline(always)]` holds only up to a size that counts what is inlined in turn. With two places this
+// stayed a call with four productions more in Rust's loop, and the filter took 19 % more instructions.
 #[inline(always)]
 fn settle<L: Linking>(
     language: &mut L,

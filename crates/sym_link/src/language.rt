@@ -35,7 +35,9 @@ use sym_shape::rule::Row;
 
 /// A rule that is open: where its parts begin, its place, the row behind it, what the language keeps for it, and its number.
 ///
-/// Its fields leave no gap in memory where what is kept leaves none.
+/// The moments of a language have it by reference. By value it was taken apart and put together again at each call, which took
+/// 8 % of the instructions over real C++ symbols. Its fields leave no gap in memory where what is kept leaves none: 40 bytes
+/// for C++.
 #[derive(Clone, Copy, Debug, PartialEq, Eq)]
 pub struct Frame<K> {
     pub base: usize,

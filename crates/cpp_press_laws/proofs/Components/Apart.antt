@@ -2,8 +2,8 @@
 use Rattle.std.proofs.Common.{◌≡◌, ℕ, suc, ◌+◌, ◌-◌, ◌<◌, inl, inr, List, [], ◌∷◌, ◌++◌, Option, Bool, true, false, refl, arith}
 use Rattle.std.specs.Prelude.{cond, ◌&&◌, codes}
 use Rattle.sym_spell.specs.Pressing.{◌and◌, text}
-use Rattle.cpp_grammar.specs.Term.{RefQualifier, Term, symbol, function, object, special, thunk, guard, alone, in_std, within, instance, local, abbreviation, parameter, source, operator, literal_operator, constructor, destructor, lambda, unnamed, string_literal, builtin, vendor, pointer, lvalue, rvalue, array, member_pointer, function_type, qualified, vector, complex, expansion, integer, boolean, null_pointer, encoding_literal, address_of, pack, nil, list, absent}
-use Rattle.cpp_press_laws.specs.Texts.{counted, ordinal, signed_text, qualifier_letters, mark_letter, name_letters, thunk_text, discriminator_text}
+use Rattle.cpp_grammar.specs.Term.{RefQualifier, Term, symbol, function, object, special, thunk, of_name, alone, in_std, within, instance, local, abbreviation, parameter, source, operator, literal_operator, constructor, destructor, lambda, unnamed, string_literal, builtin, vendor, pointer, lvalue, rvalue, array, member_pointer, function_type, qualified, vector, complex, expansion, integer, boolean, null_pointer, encoding_literal, address_of, pack, nil, list, absent}
+use Rattle.cpp_press_laws.specs.Texts.{counted, ordinal, signed_text, qualifier_letters, mark_letter, name_letters, special_code, thunk_text, discriminator_text}
 use Rattle.cpp_press_laws.specs.Components.{Spelling, component}
 use Rattle.cpp_press_laws.specs.Pressing.{Ways, no_ways, type_ways, function_text, in_N_and_E, with_letters, name_ways, template_before, is_operator, is_one_piece, entity_text, local_text, begun, encoding_ways, piece_ways, argument_ways, ways_of, pressed}
 use Rattle.cpp_press_laws.specs.MarkedComponents as marks
@@ -310,8 +310,8 @@ ways-grow whole (special l type) in_whole n =
 ways-grow whole (thunk kind e) in_whole n =
     encoding-ways-grow whole (thunk kind e) (λ here.
     front (thunk_text kind) (more-grows (ways-grow whole e in_whole here).as_encoding (omega arith)))
-ways-grow whole (guard name q ref) in_whole n =
-    encoding-ways-grow whole (guard name q ref) (λ here. front (codes "GV")
+ways-grow whole (of_name l name q ref) in_whole n =
+    encoding-ways-grow whole (of_name l name q ref) (λ here. front (special_code l)
     (more-grows ((ways-grow whole name (λ x is. in_whole x (inr is)) here).as_name (name_letters q ref) (λ x is. in_whole x (inl is))) (omega arith)))
 ways-grow whole (alone p) in_whole n =
     let a = (ways-grow whole p in_whole n).as_piece in
@@ -382,7 +382,7 @@ ways-grow whole (function_type c_linkage noexcept ref returned parameters) in_wh
 ways-grow whole (qualified q type) in_whole n =
     typed whole n (qualified q type) (front (qualifier_letters q) (ways-grow whole type in_whole n).under_qualifiers)
 ways-grow whole (vector digits type) in_whole n =
-    typed whole n (vector digits type) (front (codes "Dv" ++ digits ++ codes "_") (ways-grow whole type in_whole n).as_type)
+    typed whole n _ (front (codes "Dv" ++ digits ++ codes "_") (ways-grow whole type in_whole n).as_type)
 ways-grow whole (complex type) in_whole n = typed whole n (complex type) (front (codes "C") (ways-grow whole type in_whole n).as_type)
 ways-grow whole (expansion pattern) in_whole n = typed whole n (expansion pattern) (front (codes "Dp") (ways-grow whole pattern in_whole n).as_type)
 ways-grow whole (integer type value) in_whole n =

@@ -2,12 +2,12 @@
 use Rattle.std.proofs.Common.{◌≡◌, ℕ, ◌+◌, ◌≤◌, ◌⊎◌, inl, inr, length, List, [], ◌∷◌, ◌++◌, Option, None, Bool, true, false, refl, arith, sym, subst, ◌∙◌, length-append}
 use Rattle.std.specs.Prelude.{cond, codes, ◌&&◌}
 use Rattle.sym_spell.specs.Pressing.{◌and◌, text, nothing}
-use Rattle.cpp_grammar.specs.Term.{Thunk, Qualifiers, RefQualifier, Term, symbol, function, object, special, thunk, guard, alone, in_std, within, instance, local, abbreviation, parameter, source, operator, literal_operator, constructor, destructor, lambda, unnamed, string_literal, builtin, vendor, pointer, lvalue, rvalue, array, member_pointer, function_type, qualified, vector, complex, expansion, integer, boolean, null_pointer, encoding_literal, address_of, pack, nil, list, absent}
+use Rattle.cpp_grammar.specs.Term.{Thunk, Qualifiers, RefQualifier, Term, symbol, function, object, special, thunk, of_name, alone, in_std, within, instance, local, abbreviation, parameter, source, operator, literal_operator, constructor, destructor, lambda, unnamed, string_literal, builtin, vendor, pointer, lvalue, rvalue, array, member_pointer, function_type, qualified, vector, complex, expansion, integer, boolean, null_pointer, encoding_literal, address_of, pack, nil, list, absent}
 use Rattle.cpp_grammar.specs.Scope.{has_return_type}
 use Rattle.cpp_grammar.specs.Values.{Candidate, outermost, Around}
 use Rattle.cpp_grammar.specs.Between.{in_name, in_types, after, inside}
 use Rattle.cpp_press_laws.proofs.Components.Encodings.{scope-first, no-encoding}
-use Rattle.cpp_press_laws.specs.Texts.{ordinal, mark_letter, name_letters, thunk_text, discriminator_text}
+use Rattle.cpp_press_laws.specs.Texts.{ordinal, mark_letter, name_letters, special_code, thunk_text, discriminator_text}
 use Rattle.cpp_press_laws.specs.Components.{Spelling, ended, component}
 use Rattle.cpp_press_laws.specs.Pressing.{no_ways, type_ways, pressed, encoding_ways, begun, function_text, name_ways, with_letters, in_N_and_E, template_before, is_operator, is_encoding, is_one_piece, entity_text, local_text, ways_of}
 use Rattle.cpp_grammar.specs.Unfolding.{first_around}
@@ -651,11 +651,11 @@ unfolding ways_of fits_of encoding_ways begun no_ways in_name
 few-object name q ref rn =
     few-encoding (object name q ref) _ _ (λ around allowed here cs h. rn.as_name q ref (in_name here) allowed here cs h)
 
-few-guard : (name : Term) (q : Qualifiers) (ref : RefQualifier) → Counts name → Counts (guard name q ref)
+few-of-name : (l : ℕ) (name : Term) (q : Qualifiers) (ref : RefQualifier) → Counts name → Counts (of_name l name q ref)
 unfolding ways_of fits_of encoding_ways begun no_ways in_name
-few-guard name q ref rn = few-encoding (guard name q ref) _ _ (λ around allowed here cs h.
-    few-behind 0 0 (codes "GV") ((ways_of here name).as_name (name_letters q ref)) here cs (omega arith)
-    (rn.as_name q ref (in_name here) allowed (here + 2) cs h))
+few-of-name l name q ref rn = few-encoding (of_name l name q ref) _ _ (λ around allowed here cs h.
+    few-behind 0 0 (special_code l) ((ways_of here name).as_name (name_letters q ref)) here cs (omega arith)
+    (rn.as_name q ref (in_name here) allowed (here + 2) cs h.1))
 
 few-special : (l : ℕ) (t : Term) → Counts t → Counts (special l t)
 unfolding ways_of fits_of encoding_ways begun no_ways in_name
@@ -677,7 +677,7 @@ counts (function name q ref returned parameters) = few-function name returned pa
 counts (object name q ref) = few-object name q ref (counts name)
 counts (special l type) = few-special l type (counts type)
 counts (thunk kind e) = few-thunk kind e (counts e)
-counts (guard name q ref) = few-guard name q ref (counts name)
+counts (of_name l name q ref) = few-of-name l name q ref (counts name)
 counts (alone p) = few-alone p (counts p)
 counts (in_std p) = few-in-std p (counts p)
 counts (within prefix p) = few-within prefix p (counts prefix) (counts p)

@@ -332,7 +332,7 @@ few-array digits t r_t =
 pub few-vector : (digits : List ℕ) (t : Term) → Counts t → Counts (vector digits t)
 unfolding ways_of fits_of
 few-vector digits t r_t =
-    few-type (vector digits t) (λ n. text (codes "Dv" ++ digits ++ codes "_") and (ways_of n t).as_type) _ (λ slot around allowed place cs h.
+    few-type _ (λ n. text (codes "Dv" ++ digits ++ codes "_") and (ways_of n t).as_type) _ (λ slot around allowed place cs h.
     few-behind 0 1 (codes "Dv" ++ digits ++ codes "_") (ways_of around.encoding t).as_type place cs (omega arith)
     (r_t.as_type any_type around allowed (place + length (codes "Dv" ++ digits ++ codes "_")) cs h.2))
 

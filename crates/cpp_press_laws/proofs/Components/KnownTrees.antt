@@ -3,9 +3,9 @@
 use Rattle.std.proofs.Common.{◌≡◌, ℕ, ◌-◌, ◌<◌, ◌⊎◌, inl, inr, length, List, [], ◌∷◌, ◌++◌, Option, Bool, true, false, refl, arith}
 use Rattle.std.specs.Prelude.{◌&&◌, codes, cond}
 use Rattle.sym_spell.specs.Pressing.{◌and◌, text, nothing}
-use Rattle.cpp_grammar.specs.Term.{Term, symbol, function, object, special, thunk, guard, alone, in_std, within, instance, local, abbreviation, parameter, source, operator, literal_operator, constructor, destructor, lambda, unnamed, string_literal, builtin, vendor, pointer, lvalue, rvalue, array, member_pointer, function_type, qualified, vector, complex, expansion, integer, boolean, null_pointer, encoding_literal, address_of, pack, nil, list, absent, adjusting, covariant, Thunk}
+use Rattle.cpp_grammar.specs.Term.{Term, symbol, function, object, special, thunk, of_name, alone, in_std, within, instance, local, abbreviation, parameter, source, operator, literal_operator, constructor, destructor, lambda, unnamed, string_literal, builtin, vendor, pointer, lvalue, rvalue, array, member_pointer, function_type, qualified, vector, complex, expansion, integer, boolean, null_pointer, encoding_literal, address_of, pack, nil, list, absent, adjusting, covariant, Thunk}
 use Rattle.cpp_grammar.specs.Scope.{is_open}
-use Rattle.cpp_press_laws.specs.Texts.{ordinal, signed_text, qualifier_letters, mark_letter, name_letters, thunk_text, discriminator_text}
+use Rattle.cpp_press_laws.specs.Texts.{ordinal, signed_text, qualifier_letters, mark_letter, name_letters, special_code, thunk_text, discriminator_text}
 use Rattle.cpp_press_laws.specs.Components.{Spelling, ended, component}
 use Rattle.cpp_press_laws.specs.Pressing.{Ways, no_ways, type_ways, function_text, in_N_and_E, with_letters, name_ways, template_before, is_operator, is_one_piece, entity_text, local_text, encoding_ways, piece_ways, argument_ways, ways_of}
 use Rattle.cpp_press_laws.proofs.Components.Parts.{IsComponent, Shut, Inside, Whole, Prefixing, Unqualified, prefix-whole}
@@ -343,9 +343,9 @@ keeps (thunk kind e) open_ n R =
     encoding-ways-keep open_ n R (thunk kind e) _ (λ x. Shut (Inside e x) x) (λ x s. s.1) (λ here h.
     behind-bytes-keeps ⊥ here (OrOpen R) (thunk_text kind) (ways_of here e).as_encoding (thunk-some kind)
     ((keeps e ⊥ here (OrOpen R)).as_encoding h))
-keeps (guard name q ref) open_ n R =
-    encoding-ways-keep open_ n R (guard name q ref) _ (Inside name) (λ x s. s) (λ here h.
-    behind-text-keeps ⊥ here (OrOpen R) (codes "GV") ((ways_of here name).as_name (name_letters q ref))
+keeps (of_name l name q ref) open_ n R =
+    encoding-ways-keep open_ n R (of_name l name q ref) _ (Inside name) (λ x s. s) (λ here h.
+    behind-text-keeps ⊥ here (OrOpen R) (special_code l) ((ways_of here name).as_name (name_letters q ref))
     ((keeps name ⊥ here (OrOpen R)).as_name h (name_letters q ref)))
 keeps (alone p) open_ n R =
     let spelling : Spelling = (ways_of n p).as_piece in
@@ -448,7 +448,7 @@ keeps (qualified q type) open_ n R =
     typed-keep open_ n R (qualified q type) _ (λ x w. w) (λ x w. w)
     (λ h. behind-text-keeps open_ n R (qualifier_letters q) (ways_of n type).under_qualifiers ((keeps type open_ n R).under_qualifiers h))
 keeps (vector digits type) open_ n R =
-    typed-keep open_ n R (vector digits type) _ (λ x w. w) (λ x w. w)
+    typed-keep open_ n R _ _ (λ x w. w) (λ x w. w)
     (λ h. behind-text-keeps open_ n R (codes "Dv" ++ digits ++ codes "_") (ways_of n type).as_type ((keeps type open_ n R).as_type h))
 keeps (complex type) open_ n R =
     typed-keep open_ n R (complex type) _ (λ x w. w) (λ x w. w)

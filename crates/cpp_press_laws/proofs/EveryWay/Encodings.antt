@@ -6,13 +6,14 @@ use Rattle.sym_spell.specs.Pressing.{◌and◌, text, nothing}
 use Rattle.cpp_grammar.specs.declared.kind.Kind.{Kind}
 use Rattle.cpp_grammar.specs.KindNumbers.{ENCODING, CALL_OFFSET, COMPLETE_NAME, MAYBE_DISCRIMINATOR, TYPE, ITEM, ITEMS}
 use Rattle.cpp_grammar.specs.Grammar.{kinds, may_be_empty}
-use Rattle.cpp_grammar.specs.Term.{Adjustment, non_virtual, by_table, Thunk, adjusting, covariant, function, object, special, thunk, guard, absent, Qualifiers, RefQualifier, local, Term, nil, list, instance}
+use Rattle.cpp_grammar.specs.Term.{Adjustment, non_virtual, by_table, Thunk, adjusting, covariant, function, object, special, thunk, of_name, absent, Qualifiers, RefQualifier, local, Term, nil, list, instance}
 use Rattle.cpp_grammar.specs.Scope.{count, arguments_of, has_return_type}
 use Rattle.cpp_grammar.specs.Values.{Candidate, Around, Value, nothing_there, tree, tree_of}
 use Rattle.cpp_grammar.specs.References.{is_function_type}
 use Rattle.cpp_grammar.specs.Between.{in_name, in_types, after, no_items}
 use Rattle.cpp_grammar.specs.Meaning.{encoding_of, parameters}
-use Rattle.cpp_press_laws.specs.Texts.{offset_text, thunk_text, name_letters, discriminator_text, signed_text}
+use Rattle.cpp_grammar.specs.Texts.{special_front}
+use Rattle.cpp_press_laws.specs.Texts.{offset_text, thunk_text, name_letters, special_code, discriminator_text, signed_text}
 use Rattle.cpp_press_laws.specs.Components.{Spelling, component}
 use Rattle.cpp_press_laws.specs.Pressing.{begun, encoding_ways, in_N_and_E, is_one_piece, entity_text, local_text, ways_of, no_ways, type_ways}
 use Rattle.cpp_press_laws.specs.Subtrees.{Written, written, ReadsAt, Is, HasRoom, IsSmall}
@@ -382,21 +383,23 @@ reads-object name q ref rn =
     (subst (λ p. ReadsAt (in_name here) allowed (OfKind COMPLETE_NAME) (Is v.value) p cs first) (omega arith) v.reads)
     (empty-reads (in_types here (tree_of v.value)) allowed ITEMS Kind.Items (here + 0 + length first.bytes) first.components refl refl))))
 
-guard-is : (v : Value) (name : Term) (q : Qualifiers) (ref : RefQualifier) → tree_of v ≡ name → qualifiers_of v ≡ q → ref_of v ≡ ref
-    → guard (tree_of v) (qualifiers_of v) (ref_of v) ≡ guard name q ref
-guard-is v name q ref a b c = rw (a, b, c) refl
+of-name-is : (v : Value) (l : ℕ) (name : Term) (q : Qualifiers) (ref : RefQualifier) → tree_of v ≡ name → qualifiers_of v ≡ q → ref_of v ≡ ref
+    → of_name l (tree_of v) (qualifiers_of v) (ref_of v) ≡ of_name l name q ref
+of-name-is v l name q ref a b c = rw (a, b, c) refl
 
-pub reads-guard : (name : Term) (q : Qualifiers) (ref : RefQualifier) → Reading name → Reading (guard name q ref)
-unfolding ways_of fits_of encoding_ways begun no_ways in_name
-reads-guard name q ref rn =
-    reads-encoding (guard name q ref) _ _ (λ around allowed here cs small room h.
+pub reads-of-name : (l : ℕ) (name : Term) (q : Qualifiers) (ref : RefQualifier) → Reading name → Reading (of_name l name q ref)
+unfolding ways_of fits_of encoding_ways begun no_ways in_name special_front
+reads-of-name l name q ref rn =
+    reads-encoding (of_name l name q ref) _ _ (λ around allowed here cs small room h.
     let a : Spelling = (ways_of here name).as_name (name_letters q ref) in
     let w : Written = a (here + 2) cs in
-    let v = rn.as_name q ref (in_name here) allowed (here + 2) cs (name-small here) (room-rest (text (codes "GV")) a here cs room) h in
-    subst (λ x. ReadsAt around allowed (OfKind ENCODING) (Is (tree x true)) here cs (written (71 ∷ 86 ∷ w.bytes) w.components))
-    (guard-is v.value name q ref v.tree_is v.qualifiers_are v.ref_is)
+    let v = rn.as_name q ref (in_name here) allowed (here + 2) cs (name-small here) (room-rest (text (special_code l)) a here cs room) h.1 in
+    subst (λ k. ReadsAt around allowed (OfKind ENCODING) (Is (tree (of_name k name q ref) true)) here cs
+    (written (special_code k ++ w.bytes) w.components)) (sym h.0)
+    (subst (λ x. ReadsAt around allowed (OfKind ENCODING) (Is (tree x true)) here cs (written (71 ∷ 86 ∷ w.bytes) w.components))
+    (of-name-is v.value 86 name q ref v.tree_is v.qualifiers_are v.ref_is)
     (guard-reads around allowed v.value here cs w
-    (subst (λ p. ReadsAt (in_name here) allowed (OfKind COMPLETE_NAME) (Is v.value) p cs w) (omega arith) v.reads)))
+    (subst (λ p. ReadsAt (in_name here) allowed (OfKind COMPLETE_NAME) (Is v.value) p cs w) (omega arith) v.reads))))
 
 pub reads-special : (l : ℕ) (t : Term) → Reading t → Reading (special l t)
 unfolding ways_of fits_of encoding_ways begun no_ways in_name

@@ -5,7 +5,7 @@ use Rattle.sym_link.specs.Reading.{◌>>=◌}
 use Rattle.sym_spell.specs.Pressing.{◌and◌, text}
 use Rattle.cpp_grammar.specs.KindNumbers.{SYMBOL}
 use Rattle.std.specs.Prelude.{codes}
-use Rattle.cpp_grammar.specs.Term.{Term, symbol, function, object, special, thunk, guard, alone, in_std, within, instance, local, abbreviation, parameter, source, operator, literal_operator, constructor, destructor, lambda, unnamed, string_literal, builtin, vendor, pointer, lvalue, rvalue, array, member_pointer, function_type, qualified, vector, complex, expansion, integer, boolean, null_pointer, encoding_literal, address_of, pack, nil, list, absent}
+use Rattle.cpp_grammar.specs.Term.{Term, symbol, function, object, special, thunk, of_name, alone, in_std, within, instance, local, abbreviation, parameter, source, operator, literal_operator, constructor, destructor, lambda, unnamed, string_literal, builtin, vendor, pointer, lvalue, rvalue, array, member_pointer, function_type, qualified, vector, complex, expansion, integer, boolean, null_pointer, encoding_literal, address_of, pack, nil, list, absent}
 use Rattle.cpp_grammar.specs.Values as value
 use Rattle.cpp_grammar.specs.Values.{Candidate, Around, nothing_there, tree, tree_of, text_of}
 use Rattle.cpp_grammar.specs.Unfolding.{first_around, first_state, first_tree, unfold_cpp}
@@ -22,7 +22,7 @@ use Rattle.cpp_press_laws.proofs.EveryWay.Within.{reads-within}
 use Rattle.cpp_press_laws.proofs.EveryWay.Instances.{reads-instance}
 use Rattle.cpp_press_laws.proofs.EveryWay.Parts.{reads-source, reads-operator, reads-literal-operator, reads-constructor, reads-destructor, reads-unnamed, reads-lambda, reads-builtin, reads-abbreviation, reads-parameter, reads-integer, reads-boolean, reads-null-pointer, reads-encoding-literal, reads-address, reads-pack}
 use Rattle.cpp_press_laws.proofs.EveryWay.Lists.{reads-nil, reads-list, reads-function-type}
-use Rattle.cpp_press_laws.proofs.EveryWay.Encodings.{CountsArguments, reads-local, reads-function, reads-object, reads-guard, reads-special, reads-thunk}
+use Rattle.cpp_press_laws.proofs.EveryWay.Encodings.{CountsArguments, reads-local, reads-function, reads-object, reads-of-name, reads-special, reads-thunk}
 use Rattle.cpp_press_laws.proofs.PressLaw.{read-by-one}
 use Rattle.cpp_press_laws.specs.Fits.{begins_name, SymbolFits, fits_of}
 
@@ -47,7 +47,7 @@ reads c (function name q ref returned parameters) = reads-function c name return
 reads c (object name q ref) = reads-object name q ref (reads c name)
 reads c (special l type) = reads-special l type (reads c type)
 reads c (thunk kind e) = reads-thunk kind e (reads c e)
-reads c (guard name q ref) = reads-guard name q ref (reads c name)
+reads c (of_name l name q ref) = reads-of-name l name q ref (reads c name)
 reads c (alone p) = reads-alone p (reads c p)
 reads c (in_std p) = reads-in-std p (reads c p)
 reads c (within prefix p) = reads-within prefix p (reads c prefix) (reads c p)

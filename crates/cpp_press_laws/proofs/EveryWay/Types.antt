@@ -293,13 +293,13 @@ pub reads-vector : (digits : List ℕ) (t : Term) → Reading t → Reading (vec
 unfolding ways_of fits_of is_function_type
 reads-vector digits t r =
     let front : List ℕ = codes "Dv" ++ digits ++ codes "_" in
-    reads-type (vector digits t) (λ n. text front and (ways_of n t).as_type) _ refl
+    reads-type _ (λ n. text front and (ways_of n t).as_type) _ refl
     (λ n. keeps-front front (ways_of n t).as_type (keeps t n).as_type)
     (λ slot around allowed place cs small room h.
     let x : Written = (ways_of around.encoding t).as_type (place + length front) cs in
     subst (λ l. ReadsAs slot around allowed (vector digits t) place cs (written l (more around x.components (vector digits t))))
     (ap (λ l. 68 ∷ 118 ∷ l) (ap (λ l. l ++ (95 ∷ x.bytes)) (append-nil digits) ∙ sym (append_assoc digits (95 ∷ []) x.bytes)))
-    (with-d-in-all slot around allowed (vector digits t) place cs (written (118 ∷ ((digits ++ []) ++ (95 ∷ x.bytes))) x.components) h.0 refl
+    (with-d-in-all slot around allowed _ place cs (written (118 ∷ ((digits ++ []) ++ (95 ∷ x.bytes))) x.components) h.0 refl
     (vector-behind-d around allowed digits t (place + 1) cs x h.1
     (subst (λ q. ReadsAt around allowed (OfKind TYPE) (Is (tree t true)) q cs x)
     (omega (arith, length-append digits (95 ∷ []), length-append digits []))

@@ -6,11 +6,12 @@ use Rattle.sym_spell.specs.Pressing.{◌and◌, text, nothing}
 use Rattle.cpp_grammar.specs.declared.kind.Kind.{Kind}
 use Rattle.cpp_grammar.specs.declared.production.Production.{Production}
 use Rattle.cpp_grammar.specs.Grammar.{choose}
-use Rattle.cpp_grammar.specs.Term.{Qualifiers, RefQualifier, Thunk, Term, symbol, function, object, special, thunk, guard, nil, list, absent}
+use Rattle.cpp_grammar.specs.Term.{Qualifiers, RefQualifier, Thunk, Term, symbol, function, object, special, thunk, of_name, nil, list, absent}
 use Rattle.cpp_grammar.specs.Scope.{is_open, has_return_type}
 use Rattle.cpp_grammar.specs.Values.{Candidate, State, Around}
 use Rattle.cpp_grammar.specs.Between.{in_name, in_types}
 use Rattle.cpp_grammar.specs.Meaning.{is_void, is_nil, parameters}
+use Rattle.cpp_grammar.specs.Texts.{special_front}
 use Rattle.cpp_press_laws.specs.Texts.{name_letters, thunk_text}
 use Rattle.cpp_press_laws.specs.Components.{Spelling}
 use Rattle.cpp_press_laws.specs.Pressing.{no_ways, type_ways, name_ways, encoding_ways, piece_ways, argument_ways, begun, ways_of}
@@ -38,13 +39,13 @@ WholeFits around e old new =
 -- ## Guards and special encodings
 
 pub guard-fits : (around : Around) (at : ℕ) (name : Term) (q : Qualifiers) (ref : RefQualifier) (old new : State) → StaysBehind around at old new
-    → OwnNameFits (in_name at) name q ref old new → WholeFits around (guard name q ref) old new
-unfolding fits_of encoding_fits fits_nowhere ways_of encoding_ways no_ways begun is_open in_name
+    → OwnNameFits (in_name at) name q ref old new → WholeFits around (of_name 86 name q ref) old new
+unfolding special_front fits_of encoding_fits fits_nowhere ways_of encoding_ways no_ways begun is_open in_name
 guard-fits around at name q ref old new stays one =
-    let e : Term = guard name q ref in
+    let e : Term = of_name 86 name q ref in
     let F : Fitting = λ inner allowed place cs. (fits_of name).as_name q ref inner allowed (place + 2) cs in
     encoding-fitted around at e F (λ n. text (codes "GV") and (ways_of n name).as_name (name_letters q ref)) old new
-    stays.more refl stays.grows stays.before stays.later (λ allowed place cs fits. fits) (λ n place cs. refl)
+    stays.more refl stays.grows stays.before stays.later (λ allowed place cs fits. (refl, fits)) (λ n place cs. refl)
     (refitted (in_name at) F F (λ n. text (codes "GV") and (ways_of n name).as_name (name_letters q ref)) name e old new
     (λ n allowed place cs fits. fits) (λ n allowed may. may-closed (pressed_at n (in_name at)) allowed e refl)
     (bytes-fitted (in_name at) ((fits_of name).as_name q ref) (codes "GV") (λ n. (ways_of n name).as_name (name_letters q ref)) name old new one))

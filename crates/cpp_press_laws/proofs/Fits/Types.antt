@@ -228,11 +228,11 @@ pub vector-fits : (around : Around) (digits : List ℕ) (a : Term) (old new : St
     → SolidFits takes_all around (tree (vector digits a) false) old new
 unfolding fits_of type_fits fits_nowhere ways_of type_ways no_ways is_open pack_length with_type with_unqualified is_function_type tree_of is_listed
 vector-fits around digits a old new digit one =
-    one-part takes_all around (vector digits a) a (codes "Dv" ++ digits ++ codes "_")
+    one-part takes_all around _ a (codes "Dv" ++ digits ++ codes "_")
     (λ slot inner allowed place cs. (takes_all slot ≡ true) × AreSpellableDigits Digits digits × (fits_of a).as_type any_type inner allowed (place + length (codes "Dv" ++ digits ++ codes "_")) cs) old new
     (record {
       is = tt;
-      keeps = λ n. bytes-keep n (vector digits a) a (codes "Dv" ++ digits ++ codes "_") (λ x w. inr w);
+      keeps = λ n. bytes-keep n _ a (codes "Dv" ++ digits ++ codes "_") (λ x w. inr w);
       function = tt;
       whole = λ slot n allowed place cs. typed-complete (vector digits a) (λ m. refl) slot (pressed_at n around) allowed place cs;
     }) refl (λ arguments. refl) (λ slot take n allowed place cs fits. (take, digit, fits)) one

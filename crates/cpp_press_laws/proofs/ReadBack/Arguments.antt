@@ -2,7 +2,6 @@
 use Rattle.std.proofs.Common.{◌≡◌, ℕ, ◌+◌, inl, length, List, [], ◌∷◌, ◌++◌, Option, None, Bool, true, false, Ok, refl, ap, arith, sym, subst, append-nil}
 use Rattle.std.specs.Prelude.{cond, codes}
 use Rattle.sym_core.specs.declared.NumberKind.TheVariants.{Digits}
-use Rattle.sym_core.specs.Token.{Token}
 use Rattle.sym_shape.specs.declared.rule.Sym.TheVariants.{Kind as OfKind, Number, Byte}
 use Rattle.sym_shape.specs.Tree.{Forest, TakesRule}
 use Rattle.sym_link.specs.Unfold.{found}
@@ -21,6 +20,7 @@ use Rattle.cpp_grammar.specs.Unfolding.{opening, close, byte_of}
 use Rattle.cpp_press_laws.specs.Texts.{signed_text}
 use Rattle.cpp_press_laws.specs.Spellable.{AreSpellableDigits, IsSpellableNumber}
 use Rattle.cpp_press_laws.specs.Subtrees.{Written, written, ReadsAt, Is}
+use Rattle.cpp_press_laws.proofs.ReadBack.Tokens.{digits_token}
 use Rattle.cpp_press_laws.proofs.ReadBack.Reading.{RowAt, PassesAt, row-part, row-last, takes-byte, takes-none, production-reads, fixed-reads, number-reads}
 use Rattle.cpp_press_laws.proofs.ReadBack.Types.{AreOnly, same-written, one-part, then-last, whole-same}
 use Rattle.cpp_press_laws.proofs.ReadBack.Solids.{two-parts}
@@ -130,9 +130,6 @@ expansion-reads around allowed inner t place cs w one =
     })
 
 -- ## Numbers
-
-abbrev digits_token : List ℕ → Token
-digits_token digits = record { before = []; own = digits; behind = [] }
 
 signed-kept : (negative : Bool) (digits : List ℕ) → normal digits ≡ digits → (negative ≡ true → is_zero digits ≡ false)
     → signed_digits negative digits ≡ record { negative = negative; digits = digits }

@@ -1,10 +1,9 @@
--- Parameters, qualified types, vectors and function types are read as what was pressed, from their parts.
+-- Parameters, qualified types, function types and what stands behind Dv are read as what was pressed, from their parts.
 use Rattle.std.proofs.Common.{◌≡◌, ℕ, ◌+◌, ◌<◌, ◌≤◌, length, List, [], ◌∷◌, ◌++◌, Option, Some, None, Bool, true, false, Ok, refl, ap, arith, ◌∙◌, append-nil}
 use Rattle.std.specs.Prelude.{nat_lt, Result, Err, slice_get}
 use Rattle.sym_core.specs.declared.refusal.Refusal.{Refusal}
 use Rattle.sym_core.specs.declared.refusal.Refusal.TheVariants.{BadReference}
 use Rattle.sym_core.specs.declared.NumberKind.TheVariants.{Decimal, Digits}
-use Rattle.sym_core.specs.Token.{Token}
 use Rattle.sym_shape.specs.declared.rule.Sym.TheVariants.{Kind as OfKind, Number, Byte}
 use Rattle.sym_shape.specs.Tree.{TakesRule}
 use Rattle.sym_link.specs.Reading.{◌>>=◌}
@@ -27,7 +26,7 @@ use Rattle.cpp_press_laws.specs.Texts.{ordinal}
 use Rattle.cpp_press_laws.specs.Fits.{PacksFit}
 use Rattle.cpp_press_laws.specs.Spellable.{AreSpellableDigits}
 use Rattle.cpp_press_laws.specs.Subtrees.{greatest, Written, written, ReadsAt, Is}
-use Rattle.cpp_press_laws.proofs.ReadBack.Tokens.{ordinal_digits, ordinal_token, ordinal-spelled, ordinal-is-token, ordinal-value}
+use Rattle.cpp_press_laws.proofs.ReadBack.Tokens.{digits_token, ordinal_digits, ordinal_token, ordinal-spelled, ordinal-is-token, ordinal-value}
 use Rattle.cpp_press_laws.proofs.ReadBack.Reading.{PassesAt, row-last, takes-byte, takes-none, fixed-reads, empty-reads, number-reads}
 use Rattle.cpp_press_laws.proofs.ReadBack.References.{packs-fit}
 use Rattle.cpp_press_laws.proofs.ReadBack.Types.{AreOnly, same-written, one-part, no-part, more, then-part, then-last, whole-same, whole-more}
@@ -199,25 +198,22 @@ restrict-reads around allowed k volatile const t place cs w takes one =
     means false true began s = refl
     means false false began s = refl
 
--- ## Vectors
-
-abbrev vector_token : List ℕ → Token
-vector_token digits = record { before = []; own = digits; behind = [] }
+-- ## Behind Dv
 
 pub vector-behind-d : (around : Around) (allowed : Option ℕ) (digits : List ℕ) (t : Term) (place : ℕ) (cs : List Candidate) (w : Written)
     → AreSpellableDigits Digits digits
-    → ReadsAt around allowed (OfKind TYPE) (Is (tree t true)) (place + 1 + length ((vector_token digits).before ++ digits ++ []) + 1) cs w
+    → ReadsAt around allowed (OfKind TYPE) (Is (tree t true)) (place + 1 + length ((digits_token digits).before ++ digits ++ []) + 1) cs w
     → ReadsAt around allowed (OfKind AFTER_D) (Is (tree (vector digits t) false)) place cs
-    (written (118 ∷ (((vector_token digits).before ++ digits ++ []) ++ (95 ∷ w.bytes))) w.components)
+    (written (118 ∷ (((digits_token digits).before ++ digits ++ []) ++ (95 ∷ w.bytes))) w.components)
 unfolding choose alternatives pick is_in in_ranges among kinds is_chain parts_of number_of_kind between opening close unfolding_.behind meaning tree_of text_of part
 vector-behind-d around allowed digits t place cs w good one =
-    let number : Written = written ((vector_token digits).before ++ digits ++ []) cs in
+    let number : Written = written ((digits_token digits).before ++ digits ++ []) cs in
     whole-same Production.Vector 33 (118 ∷ []) around allowed place (value.text digits ∷ nothing_there ∷ tree t true ∷ [])
     (tree (vector digits t) false) cs (Number Digits ∷ Byte 95 ∷ OfKind TYPE ∷ []) (written (number.bytes ++ (95 ∷ w.bytes)) w.components)
     (takes-byte AFTER_D Kind.AfterD Production.Vector 118 refl refl (omega arith) refl) refl (λ f s. refl) (λ began s. rw good.normal_are refl)
     (then-part Production.Vector (118 ∷ []) around allowed place (Number Digits) (Byte 95 ∷ OfKind TYPE ∷ []) [] (value.text digits)
     (AreOnly (value.text digits ∷ nothing_there ∷ tree t true ∷ [])) (place + 1) cs number (written (95 ∷ w.bytes) w.components)
-    (λ s. refl) (number-reads around allowed Digits (vector_token digits) (place + 1) cs (record { bare = refl; digits = good.are; ends = refl }))
+    (λ s. refl) (number-reads around allowed Digits (digits_token digits) (place + 1) cs (record { bare = refl; digits = good.are; ends = refl }))
     (then-part Production.Vector (118 ∷ []) around allowed place (Byte 95) (OfKind TYPE ∷ []) (value.text digits ∷ []) nothing_there
     (AreOnly (value.text digits ∷ nothing_there ∷ tree t true ∷ [])) (place + 1 + length number.bytes) cs (written (95 ∷ []) cs) w
     (λ s. refl) (fixed-reads around allowed 95 (place + 1 + length number.bytes) cs)

@@ -1,7 +1,6 @@
 -- Local names, encodings and symbols are read as what was pressed, from their parts.
 use Rattle.std.proofs.Common.{◌≡◌, ℕ, ◌+◌, ◌<◌, length, List, [], ◌∷◌, ◌++◌, Option, Some, None, Bool, true, false, Ok, refl, ap, arith}
 use Rattle.sym_core.specs.declared.NumberKind.TheVariants.{Digits}
-use Rattle.sym_core.specs.Token.{Token}
 use Rattle.sym_shape.specs.declared.rule.Sym.TheVariants.{Kind as OfKind, Number, Byte}
 use Rattle.sym_shape.specs.Tree.{TakesRule}
 use Rattle.sym_link.specs.Unfold.{found}
@@ -10,7 +9,7 @@ use Rattle.cpp_grammar.specs.declared.production.Production.{Production}
 use Rattle.cpp_grammar.specs.KindNumbers.{SYMBOL, MAYBE_SUFFIX, SUFFIX_FIRST, SUFFIX_MORE, ENCODING, SPECIAL, CALL_OFFSET, INTEGER, COMPLETE_NAME, ENTITY, TYPE_ENTITY, MAYBE_DISCRIMINATOR, DISCRIMINATOR_REST, TYPE, ITEMS}
 use Rattle.cpp_grammar.specs.Grammar.{in_ranges, among, is_in, pick, number_of_kind, alternatives, choose, kinds, parts_of, is_chain, may_be_empty}
 use Rattle.cpp_grammar.specs.Table.{abi, rule_of}
-use Rattle.cpp_grammar.specs.Term.{Signed, Adjustment, non_virtual, by_table, adjusting, covariant, Term, symbol, special, thunk, guard, local, string_literal}
+use Rattle.cpp_grammar.specs.Term.{Signed, Adjustment, non_virtual, by_table, adjusting, covariant, Term, symbol, special, thunk, of_name, local, string_literal}
 use Rattle.cpp_grammar.specs.Values as value
 use Rattle.cpp_grammar.specs.Values.{Candidate, State, Around, Value, nothing_there, signed, adjusted, tree, named, tree_of, text_of, signed_of, adjustment_of, qualifiers_of, ref_of, normal, part}
 use Rattle.cpp_grammar.specs.Between.{between, in_name, in_types, after, extended, no_items}
@@ -19,6 +18,7 @@ use Rattle.cpp_grammar.specs.Unfolding as unfolding_
 use Rattle.cpp_grammar.specs.Unfolding.{opening, close, byte_of}
 use Rattle.cpp_press_laws.specs.Spellable.{AreSpellableDigits, AreSuffixBytes}
 use Rattle.cpp_press_laws.specs.Subtrees.{Written, written, ReadsAt, Is}
+use Rattle.cpp_press_laws.proofs.ReadBack.Tokens.{digits_token}
 use Rattle.cpp_press_laws.proofs.ReadBack.Reading.{takes-byte, takes-none, fixed-reads, empty-reads, number-reads}
 use Rattle.cpp_press_laws.proofs.ReadBack.Types.{AreOnly, one-part, no-part, then-in, last-in, then-part, then-last, whole-same}
 
@@ -56,9 +56,6 @@ one-digit around allowed byte place cs small chosen =
     (takes-byte MAYBE_DISCRIMINATOR Kind.MaybeDiscriminator Production.Discriminator 95 refl refl (omega arith) refl) refl (λ s. refl) (λ f s. refl) (λ began s. refl)
     (no-part Production.OneDigit DISCRIMINATOR_REST (byte ∷ []) around allowed (place + 1) (value.text (byte ∷ [])) cs
     (takes-byte DISCRIMINATOR_REST Kind.DiscriminatorRest Production.OneDigit byte refl chosen small refl) refl (λ f s. refl) (λ began s. refl))
-
-abbrev digits_token : List ℕ → Token
-digits_token digits = record { before = []; own = digits; behind = [] }
 
 pub many-digits : (around : Around) (allowed : Option ℕ) (digits : List ℕ) (place : ℕ) (cs : List Candidate) → AreSpellableDigits Digits digits
     → ReadsAt around allowed (OfKind MAYBE_DISCRIMINATOR) (Is (value.text digits)) place cs
@@ -158,12 +155,12 @@ encoding-reads around allowed name last place cs first rest one two =
 
 pub guard-reads : (around : Around) (allowed : Option ℕ) (name : Value) (place : ℕ) (cs : List Candidate) (w : Written)
     → ReadsAt (in_name place) allowed (OfKind COMPLETE_NAME) (Is name) (place + 1 + 1) cs w
-    → ReadsAt around allowed (OfKind ENCODING) (Is (tree (guard (tree_of name) (qualifiers_of name) (ref_of name)) true)) place cs
+    → ReadsAt around allowed (OfKind ENCODING) (Is (tree (of_name 86 (tree_of name) (qualifiers_of name) (ref_of name)) true)) place cs
     (written (71 ∷ 86 ∷ w.bytes) w.components)
 unfolding choose alternatives pick is_in in_ranges among kinds is_chain parts_of number_of_kind between opening close unfolding_.behind meaning part
 guard-reads around allowed name place cs w one =
     whole-same Production.Guard 4 (71 ∷ []) around allowed place (nothing_there ∷ name ∷ [])
-    (tree (guard (tree_of name) (qualifiers_of name) (ref_of name)) true) cs (Byte 86 ∷ OfKind COMPLETE_NAME ∷ []) (written (86 ∷ w.bytes) w.components)
+    (tree (of_name 86 (tree_of name) (qualifiers_of name) (ref_of name)) true) cs (Byte 86 ∷ OfKind COMPLETE_NAME ∷ []) (written (86 ∷ w.bytes) w.components)
     (takes-byte ENCODING Kind.Encoding Production.Guard 71 refl refl (omega arith) refl) refl (λ f s. refl) (λ began s. refl)
     (then-in Production.Guard (71 ∷ []) around (in_name place) allowed place (Byte 86) (OfKind COMPLETE_NAME ∷ []) [] nothing_there
     (AreOnly (nothing_there ∷ name ∷ [])) (place + 1) cs (written (86 ∷ []) cs) w (λ s. refl)

@@ -84,6 +84,10 @@ back36 d less = grind (arith, nat_tests)
 good36 : (d : ℕ) → d < 36 → is_digit_of Seq36 (digit36 d) ≡ true
 good36 d less = grind (arith, nat_tests)
 
+-- digits with nothing in front of them and nothing behind
+abbrev pub digits_token : List ℕ → Token
+digits_token digits = record { before = []; own = digits; behind = [] }
+
 abbrev pub seq_token : ℕ → Token
 seq_token k = record { before = []; own = seq_id k; behind = 95 ∷ [] }
 

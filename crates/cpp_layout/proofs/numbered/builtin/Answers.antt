@@ -3,92 +3,92 @@ use Rattle.std.proofs.Common.{◌≡◌, refl, arith, false}
 use Rattle.std.proofs.lemmas.Bool.{ne_eqb}
 use Rattle.cpp_layout.proofs.CodeLetters.{builtin_letters}
 use Rattle.cpp_layout.proofs.Coding.{any_of, no_builtin}
-use Rattle.cpp_grammar.specs.Texts.{look_up, same_bytes, builtin_texts, operator_texts, abbreviation_texts, special_texts, literal_endings}
+use Rattle.cpp_grammar.specs.Texts.{look_up, same_bytes, builtin_texts, operator_texts, abbreviation_texts, special_texts, named_special_texts, literal_endings}
 use Rattle.cpp_layout.proofs.numbered.builtin.Goals as goal
 
 pub returns-in_default-clause-text : goal.returns-in_default-clause-text
 returns-in_default-clause-text c = no_builtin c.args.letter (omega (arith, c.ranges.letter.fits)) (let n : any_of builtin_letters c.args.letter ≡ false = rw (ne_eqb c.args.letter 118 (omega (arith, c.in_default)), ne_eqb c.args.letter 119 (omega (arith, c.in_default)), ne_eqb c.args.letter 98 (omega (arith, c.in_default)), ne_eqb c.args.letter 99 (omega (arith, c.in_default)), ne_eqb c.args.letter 97 (omega (arith, c.in_default)), ne_eqb c.args.letter 104 (omega (arith, c.in_default)), ne_eqb c.args.letter 115 (omega (arith, c.in_default)), ne_eqb c.args.letter 116 (omega (arith, c.in_default)), ne_eqb c.args.letter 105 (omega (arith, c.in_default)), ne_eqb c.args.letter 106 (omega (arith, c.in_default)), ne_eqb c.args.letter 108 (omega (arith, c.in_default)), ne_eqb c.args.letter 109 (omega (arith, c.in_default)), ne_eqb c.args.letter 120 (omega (arith, c.in_default)), ne_eqb c.args.letter 121 (omega (arith, c.in_default)), ne_eqb c.args.letter 110 (omega (arith, c.in_default)), ne_eqb c.args.letter 111 (omega (arith, c.in_default)), ne_eqb c.args.letter 102 (omega (arith, c.in_default)), ne_eqb c.args.letter 100 (omega (arith, c.in_default)), ne_eqb c.args.letter 101 (omega (arith, c.in_default)), ne_eqb c.args.letter 103 (omega (arith, c.in_default)), ne_eqb c.args.letter 122 (omega (arith, c.in_default))) refl in n)
 
 pub returns-in-118-clause-text : goal.returns-in-118-clause-text
-unfolding builtin_texts operator_texts abbreviation_texts special_texts literal_endings look_up same_bytes
+unfolding builtin_texts operator_texts abbreviation_texts special_texts named_special_texts literal_endings look_up same_bytes
 returns-in-118-clause-text c = rw c.in-118.is refl
 
 pub returns-in-119-clause-text : goal.returns-in-119-clause-text
-unfolding builtin_texts operator_texts abbreviation_texts special_texts literal_endings look_up same_bytes
+unfolding builtin_texts operator_texts abbreviation_texts special_texts named_special_texts literal_endings look_up same_bytes
 returns-in-119-clause-text c = rw c.in-119.is refl
 
 pub returns-in-98-clause-text : goal.returns-in-98-clause-text
-unfolding builtin_texts operator_texts abbreviation_texts special_texts literal_endings look_up same_bytes
+unfolding builtin_texts operator_texts abbreviation_texts special_texts named_special_texts literal_endings look_up same_bytes
 returns-in-98-clause-text c = rw c.in-98.is refl
 
 pub returns-in-99-clause-text : goal.returns-in-99-clause-text
-unfolding builtin_texts operator_texts abbreviation_texts special_texts literal_endings look_up same_bytes
+unfolding builtin_texts operator_texts abbreviation_texts special_texts named_special_texts literal_endings look_up same_bytes
 returns-in-99-clause-text c = rw c.in-99.is refl
 
 pub returns-in-97-clause-text : goal.returns-in-97-clause-text
-unfolding builtin_texts operator_texts abbreviation_texts special_texts literal_endings look_up same_bytes
+unfolding builtin_texts operator_texts abbreviation_texts special_texts named_special_texts literal_endings look_up same_bytes
 returns-in-97-clause-text c = rw c.in-97.is refl
 
 pub returns-in-104-clause-text : goal.returns-in-104-clause-text
-unfolding builtin_texts operator_texts abbreviation_texts special_texts literal_endings look_up same_bytes
+unfolding builtin_texts operator_texts abbreviation_texts special_texts named_special_texts literal_endings look_up same_bytes
 returns-in-104-clause-text c = rw c.in-104.is refl
 
 pub returns-in-115-clause-text : goal.returns-in-115-clause-text
-unfolding builtin_texts operator_texts abbreviation_texts special_texts literal_endings look_up same_bytes
+unfolding builtin_texts operator_texts abbreviation_texts special_texts named_special_texts literal_endings look_up same_bytes
 returns-in-115-clause-text c = rw c.in-115.is refl
 
 pub returns-in-116-clause-text : goal.returns-in-116-clause-text
-unfolding builtin_texts operator_texts abbreviation_texts special_texts literal_endings look_up same_bytes
+unfolding builtin_texts operator_texts abbreviation_texts special_texts named_special_texts literal_endings look_up same_bytes
 returns-in-116-clause-text c = rw c.in-116.is refl
 
 pub returns-in-105-clause-text : goal.returns-in-105-clause-text
-unfolding builtin_texts operator_texts abbreviation_texts special_texts literal_endings look_up same_bytes
+unfolding builtin_texts operator_texts abbreviation_texts special_texts named_special_texts literal_endings look_up same_bytes
 returns-in-105-clause-text c = rw c.in-105.is refl
 
 pub returns-in-106-clause-text : goal.returns-in-106-clause-text
-unfolding builtin_texts operator_texts abbreviation_texts special_texts literal_endings look_up same_bytes
+unfolding builtin_texts operator_texts abbreviation_texts special_texts named_special_texts literal_endings look_up same_bytes
 returns-in-106-clause-text c = rw c.in-106.is refl
 
 pub returns-in-108-clause-text : goal.returns-in-108-clause-text
-unfolding builtin_texts operator_texts abbreviation_texts special_texts literal_endings look_up same_bytes
+unfolding builtin_texts operator_texts abbreviation_texts special_texts named_special_texts literal_endings look_up same_bytes
 returns-in-108-clause-text c = rw c.in-108.is refl
 
 pub returns-in-109-clause-text : goal.returns-in-109-clause-text
-unfolding builtin_texts operator_texts abbreviation_texts special_texts literal_endings look_up same_bytes
+unfolding builtin_texts operator_texts abbreviation_texts special_texts named_special_texts literal_endings look_up same_bytes
 returns-in-109-clause-text c = rw c.in-109.is refl
 
 pub returns-in-120-clause-text : goal.returns-in-120-clause-text
-unfolding builtin_texts operator_texts abbreviation_texts special_texts literal_endings look_up same_bytes
+unfolding builtin_texts operator_texts abbreviation_texts special_texts named_special_texts literal_endings look_up same_bytes
 returns-in-120-clause-text c = rw c.in-120.is refl
 
 pub returns-in-121-clause-text : goal.returns-in-121-clause-text
-unfolding builtin_texts operator_texts abbreviation_texts special_texts literal_endings look_up same_bytes
+unfolding builtin_texts operator_texts abbreviation_texts special_texts named_special_texts literal_endings look_up same_bytes
 returns-in-121-clause-text c = rw c.in-121.is refl
 
 pub returns-in-110-clause-text : goal.returns-in-110-clause-text
-unfolding builtin_texts operator_texts abbreviation_texts special_texts literal_endings look_up same_bytes
+unfolding builtin_texts operator_texts abbreviation_texts special_texts named_special_texts literal_endings look_up same_bytes
 returns-in-110-clause-text c = rw c.in-110.is refl
 
 pub returns-in-111-clause-text : goal.returns-in-111-clause-text
-unfolding builtin_texts operator_texts abbreviation_texts special_texts literal_endings look_up same_bytes
+unfolding builtin_texts operator_texts abbreviation_texts special_texts named_special_texts literal_endings look_up same_bytes
 returns-in-111-clause-text c = rw c.in-111.is refl
 
 pub returns-in-102-clause-text : goal.returns-in-102-clause-text
-unfolding builtin_texts operator_texts abbreviation_texts special_texts literal_endings look_up same_bytes
+unfolding builtin_texts operator_texts abbreviation_texts special_texts named_special_texts literal_endings look_up same_bytes
 returns-in-102-clause-text c = rw c.in-102.is refl
 
 pub returns-in-100-clause-text : goal.returns-in-100-clause-text
-unfolding builtin_texts operator_texts abbreviation_texts special_texts literal_endings look_up same_bytes
+unfolding builtin_texts operator_texts abbreviation_texts special_texts named_special_texts literal_endings look_up same_bytes
 returns-in-100-clause-text c = rw c.in-100.is refl
 
 pub returns-in-101-clause-text : goal.returns-in-101-clause-text
-unfolding builtin_texts operator_texts abbreviation_texts special_texts literal_endings look_up same_bytes
+unfolding builtin_texts operator_texts abbreviation_texts special_texts named_special_texts literal_endings look_up same_bytes
 returns-in-101-clause-text c = rw c.in-101.is refl
 
 pub returns-in-103-clause-text : goal.returns-in-103-clause-text
-unfolding builtin_texts operator_texts abbreviation_texts special_texts literal_endings look_up same_bytes
+unfolding builtin_texts operator_texts abbreviation_texts special_texts named_special_texts literal_endings look_up same_bytes
 returns-in-103-clause-text c = rw c.in-103.is refl
 
 pub returns-in-122-clause-text : goal.returns-in-122-clause-text
-unfolding builtin_texts operator_texts abbreviation_texts special_texts literal_endings look_up same_bytes
+unfolding builtin_texts operator_texts abbreviation_texts special_texts named_special_texts literal_endings look_up same_bytes
 returns-in-122-clause-text c = rw c.in-122.is refl

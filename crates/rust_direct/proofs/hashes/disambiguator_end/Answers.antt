@@ -7,8 +7,3 @@ pub returns-in-Some : goal.returns-in-Some
 returns-in-Some c =
     hash-disambiguator c.args.s.now c.args.at c.in_ok-number.number c.in-Some.end
     (there c.args.s.now c.args.at c.byte_at.result 115 c.if-byte_at-ne115.false (omega arith) c.byte_at.ensures) c.in_ok-number.ensures.1 c.in-Some.ensures
-
-pub returns-in-Some-short_end : goal.returns-in-Some-short_end
-returns-in-Some-short_end c =
-    hash-disambiguator c.args.s.now c.args.at c.in_ok-number.number c.in-Some-short_end.end
-    (there c.args.s.now c.args.at c.byte_at.result 115 c.if-byte_at-ne115.false (omega arith) c.byte_at.ensures) c.in_ok-number.ensures.1 c.in-Some-short_end.ensures

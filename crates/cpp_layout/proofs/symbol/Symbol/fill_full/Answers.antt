@@ -21,9 +21,9 @@ pub returns-in-Thunk-clause-shows : goal.returns-in-Thunk-clause-shows
 unfolding tree_of full_parts
 returns-in-Thunk-clause-shows g c = fills c.args.self.now c.args.detail _ _ _ c.fill_thunk.ensures.shows (ap (λ t. full_parts c.args.detail t) (sym c.in-Thunk.ensures.tree))
 
-pub returns-in-Guard-clause-shows : goal.returns-in-Guard-clause-shows
+pub returns-in-OfName-clause-shows : goal.returns-in-OfName-clause-shows
 unfolding tree_of full_parts
-returns-in-Guard-clause-shows g c = fills c.args.self.now c.args.detail _ _ _ c.fill_object-in-Guard.ensures.shows (ap (λ t. full_parts c.args.detail t) (sym c.in-Guard.ensures.tree))
+returns-in-OfName-clause-shows g c = fills c.args.self.now c.args.detail _ _ _ c.fill_special_name.ensures.shows (ap (λ t. full_parts c.args.detail t) (sym c.in-OfName.ensures.tree))
 
 pub returns-in_default-clause-shows : goal.returns-in_default-clause-shows
-returns-in_default-clause-shows g c = fills c.args.self.now c.args.detail _ _ _ (starts c.args.self.now c.args.detail _) (full-none c.args.detail _ _ _ c.stored.result _ c.stored.ensures.tree c.in_default.not-Function c.in_default.not-Object c.in_default.not-Special c.in_default.not-Thunk c.in_default.not-Guard)
+returns-in_default-clause-shows g c = fills c.args.self.now c.args.detail _ _ _ (starts c.args.self.now c.args.detail _) (full-none c.args.detail _ _ _ c.stored.result _ c.stored.ensures.tree c.in_default.not-Function c.in_default.not-Object c.in_default.not-Special c.in_default.not-Thunk c.in_default.not-OfName)
