@@ -19,10 +19,10 @@
    How much symdemangle_text took at a limit of 1,000,000, for 20,000 real symbols of each language (tests/callers/arena.c):
 
        bytes of the block     median     90 %     99 %   99.9 %     most
-       C++                       688    3,616   21,584   33,040   62,128   (a symbol of 631 bytes)
-       Rust                    9,216   17,152   37,936   52,560   76,528   (868 bytes)
+       C++                       688    3,360   22,560   34,592   64,112   (a symbol of 555 bytes)
+       Rust                    1,872    4,560   14,640   48,608   95,728   (946 bytes)
 
-   So 16 KiB served 97 % and 88 % of them, 32 KiB all but 22 and 286, 64 KiB all but two, 128 KiB all. A hostile symbol may
+   So 16 KiB served 97 % and 99 % of them, 32 KiB all but 32 and 30, 64 KiB all but six, 128 KiB all. A hostile symbol may
    take more, and is refused then. symdemangle_filter and symdemangle_texts keep all their texts in the block too. On
    its stack a handler needs the kernel's frame (the system tells how much by getauxval(AT_MINSIGSTKSZ): 12 KB where the
    processor has AMX) and what a call uses, of which symdemangle.h tells: give 32 KiB. The old SIGSTKSZ of 8 KiB is too little.
