@@ -75,6 +75,16 @@ static size_t many_texts()
     return bytes;
 }
 
+static size_t pressed()
+{
+    size_t bytes = 0;
+    symdemangle_answer answer;
+    for (const std::string &s : symbols)
+        if (symdemangle_press((const uint8_t *)s.data(), s.size(), room, sizeof room, &answer) == SYMDEMANGLE_OK)
+            bytes += answer.length;
+    return bytes;
+}
+
 static size_t filtered()
 {
     static std::vector<unsigned char> large(all.size() * 8 + 1);
@@ -99,6 +109,7 @@ static const std::vector<Call> calls = {
     {"symdemangle_text", text_by_text},
     {"symdemangle_texts", many_texts},
     {"symdemangle_filter", filtered},
+    {"symdemangle_press", pressed},
 #ifdef WITH_LIBIBERTY
     {"cplus_demangle", [] { return freed([](const char *s) { return cplus_demangle(s, DMGL_PARAMS | DMGL_ANSI | DMGL_AUTO); }); }},
 #endif
