@@ -7,7 +7,7 @@ ghost use Rattle.sym_direct.specs.Holes.{StandsAt};
 ghost use Rattle.rust_direct.specs.declared.open.Step.TheVariants as steps;
 ghost use Rattle.rust_direct.specs.declared.open.Open.TheVariants as opens;
 ghost use Rattle.rust_direct.specs.Stands.{IsWriting};
-ghost use Rattle.rust_direct.specs.Awaits.{Awaits, AwaitsPath, Arrives};
+ghost use Rattle.rust_direct.specs.Awaits.{Awaits, AwaitsPath, Arrives, IsEndedWithRoom};
 
 use crate::direct::Direct;
 use crate::hashes::disambiguator_end;
@@ -103,7 +103,46 @@ impl Direct {
         self.push_pair(b':', b':')?;
         self.push(&s[name.from..name.to])?;
         self.at = name.end;
+        self.named_ended(s, place, from, forms)
+    }
+
+    /// A name is written, and an empty one may follow.
+    // <path> = "N" <namespace> <path> <identifier>
+    #[inline(always)]
+    fn named_ended(&mut self, s: &[u8], place: usize, from: usize, forms: Forms) -> Option<Step>
+        requires fits { FitsSymbol s.now }
+        requires ended { IsEndedWithRoom s.now self.old place from forms }
+        ensures { IfSome result (IsWriting s.now self.new) }
+    {
+        if byte_at(s, self.at) == b'0' {
+            return self.unnamed_ended(s, place, from, forms);
+        }
         self.ended(s, place, from, forms, forms)
+    }
+
+    /// The empty name of what a path is the parent of, as that of a constructor or of a type's constant: it prints nothing.
+    // <path> = "N" <namespace> <path> <identifier>
+    #[inline(never)]
+    fn unnamed_ended(&mut self, s: &[u8], parent: usize, from: usize, forms: Forms) -> Option<Step>
+        requires fits { FitsSymbol s.now }
+        requires ended { IsEndedWithRoom s.now self.old parent from forms }
+        ensures { IfSome result (IsWriting s.now self.new) }
+    {
+        self.note(parent, from, forms)?;
+        match self.waiting.pop()? {
+            Open::Nest { letter, place } => {
+                if letter < b'a' {
+                    return None;
+                }
+                let name = name_at(s, self.at)?;
+                if name.from < name.to {
+                    return None;
+                }
+                self.at = name.end;
+                self.ended(s, place, from, forms, forms)
+            }
+            _ => None,
+        }
     }
 
     // <path> = <backref>

@@ -3,8 +3,8 @@ use Rattle.rust_direct.proofs.FoundTokens.{piece-filled, tested}
 use Rattle.rust_direct.proofs.PathsRead.{nest-named}
 use Rattle.rust_direct.proofs.direct.Direct.nest_ended.Goals as goal
 
-pub ended-requires : goal.ended-requires
-ended-requires c =
+pub named_ended-requires-clause-ended : goal.named_ended-requires-clause-ended
+named_ended-requires-clause-ended c =
     let s = c.args.s.now in
     let name = c.in_ok-name.name in
     let is = c.in_ok-name.ensures in
