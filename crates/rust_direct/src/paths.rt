@@ -115,7 +115,11 @@ impl Direct {
         ensures { IfSome result (IsWriting s.now self.new) }
     {
         if byte_at(s, self.at) == b'0' {
-            return self.unnamed_ended(s, place, from, forms);
+            if let Some(Open::Nest { letter, .. }) = self.waiting.as_slice().last() {
+                if *letter >= b'a' {
+                    return self.unnamed_ended(s, place, from, forms);
+                }
+            }
         }
         self.ended(s, place, from, forms, forms)
     }
