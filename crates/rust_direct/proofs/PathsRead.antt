@@ -1,7 +1,8 @@
 -- Paths that were read and written.
-use Rattle.std.proofs.Common.{◌≡◌, ℕ, ◌+◌, ◌≤◌, List, [], ◌∷◌, ◌++◌, length, reverse, take, drop, ◌-◌, arith, inl, Bool, true, false, Option, Some, refl, ap, sym, subst, ◌∙◌, append_assoc, codes, cond}
+use Rattle.std.proofs.Common.{◌≡◌, ℕ, ◌+◌, ◌≤◌, ◌<◌, List, [], ◌∷◌, ◌++◌, length, reverse, take, drop, ◌-◌, arith, inl, Bool, true, false, Option, Some, refl, ap, sym, subst, ◌∙◌, append_assoc, codes, cond}
 use Rattle.std.specs.Option.{option_to_list}
 use Rattle.std.proofs.lemmas.Bool.{le-leb, false≢true}
+use Rattle.std.proofs.lemmas.List.{length-drop}
 use Rattle.sym_direct.specs.Holes.{StandsAt}
 use Rattle.rust_tree.specs.Symbol as tree
 use Rattle.rust_v0.specs.declared.production.Production.{Production}
@@ -90,6 +91,10 @@ taken-out s old new entry from f o p items is text aside is_aside notes numbers 
       };
     }
 
+-- what waited is this
+pub waited-for : (s : List ℕ) (w : Direct) (entry known : Open) (from : ℕ) (f : Forms) → entry ≡ known → Arrives s w entry from f → Arrives s w known from f
+waited-for s w entry known from f is = subst (λ e. Arrives s w e from f) is
+
 -- something waits from here on
 pub waits-too : (s : List ℕ) (old new : List Open) (entry : Open) (os : List Opened) (text parked : List ℕ) → new ≡ old ++ entry ∷ []
     → Stands s (entry ∷ reverse old) os text parked → Stands s (reverse new) os text parked
@@ -142,17 +147,17 @@ crate-ended s old middle from count behind_ name end awaits letter counted named
 
 -- ## Paths in a namespace
 
-pub nest-begun : (s : List ℕ) (old new : Direct) (b : ℕ) (is_value : Bool) → AwaitsPath s old → StandsAt s old.at (78 ∷ [])
+pub nest-begun : (s : List ℕ) (old new : Direct) (b : ℕ) → AwaitsPath s old → StandsAt s old.at (78 ∷ [])
     → StandsAt s (old.at + 1) (b ∷ []) → is_namespace b ≡ true → new.waiting.list.items ≡ old.waiting.list.items ++ opens.Nest b old.at ∷ []
     → new.at ≡ old.at + 1 + 1 → new.text ≡ old.text → new.aside ≡ old.aside → new.is_aside ≡ old.is_aside → new.notes ≡ old.notes
-    → new.numbers ≡ old.numbers → IsWriting s new (steps.Path is_value)
-nest-begun s old new b is_value awaits letter there is waiting at text aside is_aside notes numbers =
+    → new.numbers ≡ old.numbers → Awaits s new false
+nest-begun s old new b awaits letter there is waiting at text aside is_aside notes numbers =
     let a = awaits.1 in
     let r = a.awaited in
     record {
       state = within Production.Nested a.state;
       notes = rw (text, aside, is_aside, notes, numbers) a.notes;
-      is_before = record {
+      awaited = record {
         wanted = path;
         is_for = refl;
         os = nest_awaits b old.at a.state r.os;
@@ -286,6 +291,13 @@ path-awaited s w is_value p = (false, record { state = p.state; notes = p.notes;
 
 pub plain-awaited : (s : List ℕ) (w : Direct) (is_value : Bool) → IsWriting s w (steps.Path is_value) → Awaits s w false
 plain-awaited s w is_value p = record { state = p.state; notes = p.notes; awaited = p.is_before }
+
+pub awaited-too : (s : List ℕ) (w : Direct) (is_value : Bool) → Awaits s w false → IsWriting s w (steps.Path is_value)
+awaited-too s w is_value a = record { state = a.state; notes = a.notes; is_before = a.awaited }
+
+-- a byte that stands at a place is one of the symbol's
+pub stands-inside : (s : List ℕ) (at b : ℕ) → StandsAt s at (b ∷ []) → at < length s
+stands-inside s at b stands = omega (arith, length-drop at s, ap length stands.1)
 
 pub type-awaited : (s : List ℕ) (w : Direct) → IsWriting s w steps.Type → Awaits s w true
 type-awaited s w p = record { state = p.state; notes = p.notes; awaited = p.is_before }

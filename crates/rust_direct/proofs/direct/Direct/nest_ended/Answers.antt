@@ -11,5 +11,5 @@ named_ended-requires-clause-ended c =
     nest-named s c.args.self.now c.push_pair.new.self c.push.new.self c.args.letter c.args.place c.args.from c.args.forms c.in_ok-behind.ensures.0
     c.in_ok-behind.behind (take (name.to - name.from) (drop name.from s)) name.end c.requires.arrives
     (tested c.is_path.result _ c.is_path.ensures c.if-not-is_path.false)
-    (omega (arith, c.if-letter-lt97.false)) c.in_ok-behind.ensures.1 is.2
+    c.requires.lower c.in_ok-behind.ensures.1 is.2
     (piece-filled s name.from name.to (omega (arith, c.if-name.false)) is.1) c.in_ok-push_pair.ensures c.in_ok-push.ensures
