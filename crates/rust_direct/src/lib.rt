@@ -13,6 +13,7 @@ mod constants;
 mod direct;
 mod hashes;
 mod impls;
+mod inner;
 mod names;
 mod open;
 mod paths;

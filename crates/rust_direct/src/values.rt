@@ -63,6 +63,8 @@ impl Direct {
                 from: begins,
             } => self.array_ended(s, from, forms, place, begins),
             Open::TraitImpl { place } => self.trait_impl_ended(s, from, forms, place),
+            Open::InnerImpl { place } => self.inner_impl_ended(s, from, forms, place),
+            Open::InnerTraitImpl { place } => self.inner_trait_impl_ended(s, from, forms, place),
             Open::Implementing {
                 place,
                 from: begins,

@@ -39,3 +39,9 @@ element_ended-requires c = waited-for c.args.s.now c.take_waiting.new.self _ _ c
 
 pub bound_ended-requires : goal.bound_ended-requires
 bound_ended-requires c = waited-for c.args.s.now c.take_waiting.new.self _ _ c.args.from c.args.forms c.in-Dyn.is c.in_ok-take_waiting.ensures
+
+pub inner_impl_ended-requires : goal.inner_impl_ended-requires
+inner_impl_ended-requires c = waited-for c.args.s.now c.take_waiting.new.self _ _ c.args.from c.args.forms c.in-InnerImpl.is c.in_ok-take_waiting.ensures
+
+pub inner_trait_impl_ended-requires : goal.inner_trait_impl_ended-requires
+inner_trait_impl_ended-requires c = waited-for c.args.s.now c.take_waiting.new.self _ _ c.args.from c.args.forms c.in-InnerTraitImpl.is c.in_ok-take_waiting.ensures
