@@ -153,11 +153,25 @@ impl Direct {
         requires writing { IsWriting s.now self.old step }
         ensures { IfSome result (IsWriting s.now self.new) }
     {
+        let read = self.read_at(s, step)?;
+        match read {
+            Step::Value { from, forms } => self.pass(s, from, forms),
+            other => Some(other),
+        }
+    }
+
+    /// Reads what comes next, if it isn't read yet.
+    #[inline(always)]
+    fn read_at(&mut self, s: &[u8], step: Step) -> Option<Step>
+        requires fits { FitsSymbol s.now }
+        requires writing { IsWriting s.now self.old step }
+        ensures { IfSome result (IsWriting s.now self.new) }
+    {
         match step {
             Step::Path { is_value } => self.path_at(s, is_value),
             Step::Type => self.type_at(s),
-            Step::Value { from, forms } => self.pass(s, from, forms),
             Step::Arguments { is_first } => self.argument_at(s, is_first),
+            Step::Value { .. } => Some(step),
             Step::Ended => None,
         }
     }
