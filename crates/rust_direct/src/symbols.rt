@@ -68,8 +68,7 @@ impl Direct {
         let size = s.len();
         let bytes = BYTES_A_BYTE * size + BYTES_ANYWAY;
         self.begin_lists(bytes.min(limit as usize / 4), bytes, size);
-        let mut rounds = 0;
-        let is_written = self.run(s, limit, &mut rounds);
+        let (is_written, rounds) = self.run(s, limit);
         self.rounds = rounds;
         // always: no step gives a list other room than it began with, which no clause of theirs says
         if self.keeps_to(bytes, size) {
@@ -121,29 +120,30 @@ impl Direct {
     }
 
     /// Takes steps up to the end of a symbol, and counts them.
-    fn run(&mut self, s: &[u8], limit: u32, rounds: &mut usize) -> bool
+    fn run(&mut self, s: &[u8], limit: u32) -> (bool, usize)
         requires fits { FitsSymbol s.now }
         requires fresh { IsFresh self.old }
-        requires none { rounds.old ≡ 0 }
-        ensures answer { result ≡ true → IsAnswer details.Full s.now limit (Ok self.new.text.list.items) }
-        ensures rounds { rounds.new ≤ 8 * length s.now }
+        ensures answer { result.0 ≡ true → IsAnswer details.Full s.now limit (Ok self.new.text.list.items) }
+        ensures rounds { result.1 ≤ 8 * length s.now }
     {
         let Some(first) = self.begin(s) else {
-            return false;
+            return (false, 0);
         };
         let mut step = first;
         let most = ROUNDS_A_BYTE * s.len();
-        'steps: while *rounds < most {
-            *rounds += 1;
+        let mut rounds = 0;
+        'steps: while rounds < most {
+            rounds += 1;
             if let Step::Ended = step {
-                return self.text.len() <= limit as usize / 4;
+                let is_within = self.text.len() <= limit as usize / 4;
+                return (is_within, rounds);
             }
             match self.take(s, step) {
                 Some(next) => step = next,
-                None => return false,
+                None => return (false, rounds),
             }
         }
-        false
+        (false, rounds)
     }
 
     /// Takes a step.
