@@ -146,33 +146,68 @@ impl Direct {
         (false, rounds)
     }
 
-    /// Takes a step.
+    /// Takes a step: an argument, its type, the path that this is, and the end of what waited for it, as far as they come.
     #[inline(always)]
     fn take(&mut self, s: &[u8], step: Step) -> Option<Step>
         requires fits { FitsSymbol s.now }
         requires writing { IsWriting s.now self.old step }
         ensures { IfSome result (IsWriting s.now self.new) }
     {
-        let read = self.read_at(s, step)?;
-        match read {
-            Step::Value { from, forms } => self.pass(s, from, forms),
+        let behind_argument = self.take_argument(s, step)?;
+        let behind_type = self.take_type(s, behind_argument)?;
+        let behind_path = self.take_path(s, behind_type)?;
+        self.take_value(s, behind_path)
+    }
+
+    /// Begins an argument, if one is next.
+    #[inline(always)]
+    fn take_argument(&mut self, s: &[u8], step: Step) -> Option<Step>
+        requires fits { FitsSymbol s.now }
+        requires writing { IsWriting s.now self.old step }
+        ensures { IfSome result (IsWriting s.now self.new) }
+    {
+        match step {
+            Step::Arguments { is_first } => self.argument_at(s, is_first),
             other => Some(other),
         }
     }
 
-    /// Reads what comes next, if it isn't read yet.
+    /// Begins a type, if one is next.
     #[inline(always)]
-    fn read_at(&mut self, s: &[u8], step: Step) -> Option<Step>
+    fn take_type(&mut self, s: &[u8], step: Step) -> Option<Step>
+        requires fits { FitsSymbol s.now }
+        requires writing { IsWriting s.now self.old step }
+        ensures { IfSome result (IsWriting s.now self.new) }
+    {
+        match step {
+            Step::Type => self.type_at(s),
+            other => Some(other),
+        }
+    }
+
+    /// Begins a path, if one is next.
+    #[inline(always)]
+    fn take_path(&mut self, s: &[u8], step: Step) -> Option<Step>
         requires fits { FitsSymbol s.now }
         requires writing { IsWriting s.now self.old step }
         ensures { IfSome result (IsWriting s.now self.new) }
     {
         match step {
             Step::Path { is_value } => self.path_at(s, is_value),
-            Step::Type => self.type_at(s),
-            Step::Arguments { is_first } => self.argument_at(s, is_first),
-            Step::Value { .. } => Some(step),
-            Step::Ended => None,
+            other => Some(other),
+        }
+    }
+
+    /// Hands on what is read, if that is next.
+    #[inline(always)]
+    fn take_value(&mut self, s: &[u8], step: Step) -> Option<Step>
+        requires fits { FitsSymbol s.now }
+        requires writing { IsWriting s.now self.old step }
+        ensures { IfSome result (IsWriting s.now self.new) }
+    {
+        match step {
+            Step::Value { from, forms } => self.pass(s, from, forms),
+            other => Some(other),
         }
     }
 
