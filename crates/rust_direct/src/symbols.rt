@@ -24,7 +24,8 @@ const BYTES_A_BYTE: usize = 8;
 
 const BYTES_ANYWAY: usize = 1_024;
 
-/// The most steps that are taken for each byte of a symbol: each reads a byte, or ends what was read.
+/// The most steps that are taken for each byte of a symbol: each reads a byte, or ends what was read. Where a step reads on in a loop,
+/// as over the letters or the names of paths around others, each turn of that reads a byte of its own.
 const ROUNDS_A_BYTE: usize = 8;
 
 impl Direct {
