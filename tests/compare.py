@@ -3,7 +3,8 @@
 
     tests/compare.py [--wide] SYMFILT REFERENCE < SYMBOLS
 
-SYMFILT is the built program. REFERENCE is a program with the same command line, which filters where it has no symbols;
+SYMFILT is the built program. REFERENCE is a program with the same command line, which filters where it has no symbols
+(`c++filt` doesn't do: its texts differ in blanks, and it names no places);
 one whose name ends in `.py` is run by this Python. SYMBOLS has one symbol a line.
 With --wide both read C++ by the wide grammar. It prints each difference, and its status is 1 where there is one.
 """
@@ -46,6 +47,9 @@ def main():
     ways = WIDE_OPTIONS if wide else OPTIONS
     symfilt = [programs[0]]
     reference = command_of(programs[1])
+    for command in (symfilt, reference):
+        if run(command + ways[0] + ["_Z1fv"]) != (0, b"f()\n", b""):
+            sys.exit(f"{command[-1]} doesn't print symbols as symfilt's command line does: {' '.join(ways[0])} _Z1fv isn't f()")
     text = sys.stdin.buffer.read()
     lines = [line for line in text.split(b"\n") if line]
     # a command line is text, and an option begins with a dash

@@ -23,9 +23,9 @@
        Rust                    9,216   17,152   37,936   52,560   76,528   (868 bytes)
 
    So 16 KiB served 97 % and 88 % of them, 32 KiB all but 22 and 286, 64 KiB all but two, 128 KiB all. A hostile symbol may
-   take more, and is refused then. symdemangle_filter and symdemangle_texts keep all their texts in the block too. Of
-   the stack a handler with such a call used less than 10 KiB, the kernel's frame in it: give 16 KiB at least, which the old
-   SIGSTKSZ of 8 KiB isn't.
+   take more, and is refused then. symdemangle_filter and symdemangle_texts keep all their texts in the block too. On
+   its stack a handler needs the kernel's frame (the system tells how much by getauxval(AT_MINSIGSTKSZ): 12 KB where the
+   processor has AMX) and what a call uses, of which symdemangle.h tells: give 32 KiB. The old SIGSTKSZ of 8 KiB is too little.
 
    The library itself is proved. That the block is given out rightly is tested, not proved; so it is of malloc. */
 #ifndef SYMDEMANGLE_ARENA_H

@@ -15,10 +15,13 @@
 #include <string.h>
 #include <unistd.h>
 
-enum { SYMBOLS = 300000, EDGE = 64, STACK = 16 << 10, SMALL = 100000 };
+enum { SYMBOLS = 300000, EDGE = 64, STACK = 64 << 10, SAID = 32 << 10, SMALL = 100000 };
 
 static int armed, size_given;
-static uint8_t block[(4 << 20) + 2 * EDGE], room[1 << 20], stack[STACK];
+static uint8_t room[1 << 20];
+#ifndef USUAL
+static uint8_t block[(4 << 20) + 2 * EDGE], stack[STACK];
+#endif
 static const uint8_t *symbols[SYMBOLS];
 static size_t lengths[SYMBOLS], most[SYMBOLS], count, deepest, size;
 static unsigned statuses[12];
@@ -171,12 +174,14 @@ static void on_fault(int signal)
 {
     (void)signal;
     each_text();
-    while (deepest < sizeof stack && stack[deepest] == 0xA5)
-        deepest++;
-    deepest = sizeof stack - deepest;
 #ifndef USUAL
     if (!size_given)
         small_blocks();
+    while (deepest < sizeof stack && stack[deepest] == 0xA5)
+        deepest++;
+    deepest = sizeof stack - deepest;
+    if (deepest > SAID)
+        fail("the handler uses more of its stack than the header says");
 #endif
     armed = 0;
     finish();
@@ -198,11 +203,13 @@ int main(int words, char **word)
     size_given = words > 2;
     size = size_given ? strtoul(word[2], NULL, 10) : 128 << 10;
     out = malloc((size_t)256 << 20);
-    if (!out || size > sizeof block - 2 * EDGE)
+    if (!out)
         fail("no room");
 #ifdef USUAL
     on_fault(0);
 #else
+    if (size > sizeof block - 2 * EDGE)
+        fail("no room");
     memset(stack, 0xA5, sizeof stack);
     stack_t alternate = {.ss_sp = stack, .ss_size = sizeof stack};
     sigaltstack(&alternate, NULL);

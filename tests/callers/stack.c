@@ -8,7 +8,7 @@
 #include <stdlib.h>
 #include <string.h>
 
-enum { STACK = 256 << 10, ROOM = 1 << 20, FILL = 0xA5, SAID = 12 << 10 };
+enum { STACK = 256 << 10, ROOM = 1 << 20, FILL = 0xA5, FILTER = 4 };
 
 static unsigned char stack[STACK] __attribute__((aligned(4096)));
 static uint8_t room[ROOM];
@@ -27,7 +27,7 @@ static void *run(void *unused)
     case 1: symdemangle_text(job.symbol, job.length, 1000000, SYMDEMANGLE_FULL, room, ROOM, &answer); break;
     case 2: symdemangle_word(job.symbol, job.length, 1000000, SYMDEMANGLE_BRIEF, room, ROOM, &answer); break;
     case 3: symdemangle_texts(job.symbol, job.length, &job.length, 1, 1000000, SYMDEMANGLE_FULL, room, ROOM, &told, 1); break;
-    case 4: symdemangle_filter(job.symbol, job.length, 1000000, SYMDEMANGLE_FULL, room, ROOM, &answer); break;
+    case FILTER: symdemangle_filter(job.symbol, job.length, 1000000, SYMDEMANGLE_FULL, room, ROOM, &answer); break;
     case 5: symdemangle_count(job.symbol, job.length, &counts, &answer); break;
     case 6: symdemangle_press(job.symbol, job.length, room, ROOM, &answer); break;
     }
@@ -101,7 +101,7 @@ int main(int words, char **files)
     measure_repeated("_RINvC1a1b", "T", 30000, "u");
     for (call = 1; call < 7; call++) {
         printf("%s %zu%s", names[call], most[call] - none, call < 6 ? ", " : " bytes of stack at most\n");
-        failed |= most[call] - none > SAID;
+        failed |= most[call] - none > (call == FILTER ? 16 << 10 : 8 << 10);
     }
     return failed;
 }

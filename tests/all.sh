@@ -1,0 +1,130 @@
+#!/bin/bash
+# Runs the scripts that are run by hand, over the program and the library that stand in crates/*/out, and prints a line for each:
+#
+#   tests/all.sh [-b] [-s SYMBOLS].. [-r REFERENCE] [-m MODULE] [NAME..]
+#
+#   -b            takes program and library as they stand; without it rt is asked whether they are of these sources
+#   -s SYMBOLS    a file of symbols, one a line; without one some of the installed libraries (bench/inputs.sh)
+#   -r REFERENCE  another implementation with the same command line, for compare.py and fuzz.py
+#   -m MODULE     another implementation as a module of Python, for costs.py
+#   NAME          the lines that are run, as `callers packages`; without names all
+#
+# A line is `ok`, `FAILED` with the end of what the script printed, or `left out` with what is missing. Behind it stands what the
+# script itself left out. The status is 1 where one failed, 2 where the program or the library isn't built.
+set -u
+usage() {
+    echo "usage: $0 [-b] [-s SYMBOLS].. [-r REFERENCE] [-m MODULE] [NAME..]" >&2
+    exit 2
+}
+as_built=no
+reference=
+module=
+symbols=()
+while getopts bs:r:m: option; do
+    case $option in
+        b) as_built=yes ;;
+        s) symbols+=("$(realpath "$OPTARG")") ;;
+        r) reference=$(realpath "$OPTARG") ;;
+        m) module=$(realpath "$OPTARG") ;;
+        *) usage ;;
+    esac
+done
+shift $((OPTIND - 1))
+wanted=" $* "
+for file in ${symbols[@]+"${symbols[@]}"} $reference $module; do
+    [ -s "$file" ] || { echo "$0: there is nothing in $file" >&2; exit 2; }
+done
+cd "$(dirname "$0")/.." || exit 2
+symfilt=$PWD/crates/symfilt/out/symfilt
+library=crates/symdemangle/out/libsymdemangle.a
+check_rows=crates/check_rows/out/check_rows
+[ -x "$symfilt" ] || { echo "$0: no $symfilt: \`rt run -- _RNvC3foo3bar\` in crates/symfilt proves and builds it" >&2; exit 2; }
+[ -f "$library" ] || { echo "$0: no $library: \`rt lib\` in crates/symdemangle proves and builds it" >&2; exit 2; }
+work=$(mktemp -d)
+trap 'rm -rf "$work"' EXIT
+
+if [ $as_built = yes ]; then
+    # an rt that builds nothing, and answers all else
+    mkdir "$work/path"
+    printf '#!/bin/sh\ncase $1 in run | lib) ;; *) exec "%s" "$@" ;; esac\n' "$(command -v rt)" >"$work/path/rt"
+    chmod +x "$work/path/rt"
+    PATH=$work/path:$PATH
+fi
+if [ ${#symbols[@]} -eq 0 ] && bench/inputs.sh "$work/inputs" >"$work/log" 2>&1; then
+    for language in cpp rust; do
+        # 2,000 of them, evenly
+        awk -v all="$(wc -l <"$work/inputs/$language.txt")" 'NR * 2000 % all < 2000' "$work/inputs/$language.txt" >"$work/$language"
+        [ ! -s "$work/$language" ] || symbols+=("$work/$language")
+    done
+fi
+grep -haE $'^(text|refused|press)\t' crates/check_rows/stdin | tr '\t' '\n' | grep -aE '^_(Z|R)[A-Za-z0-9_.$]+$' | sort -u >"$work/rows"
+cat "$work/rows" ${symbols[@]+"${symbols[@]}"} >"$work/symbols"
+
+ok=0 failed=0 out=0
+told() { # told STATE NAME WORDS
+    printf '%-8s  %-14s  %s\n' "$1" "$2" "$3"
+}
+chosen() { # chosen NAME : whether a line is run
+    [ "$wanted" = '  ' ] || [[ $wanted == *" $1 "* ]]
+}
+try() { # try NAME COMMAND..
+    local name=$1 start=$SECONDS
+    chosen "$name" || return 0
+    shift
+    if "$@" >"$work/log" 2>&1; then
+        ok=$((ok + 1))
+        told ok "$name" "$((SECONDS - start)) s: $(tail -n 1 "$work/log")"
+    else
+        failed=$((failed + 1))
+        told FAILED "$name" "$((SECONDS - start)) s"
+        tail -n 20 "$work/log" | sed 's/^/          /'
+    fi
+    grep -a "n't installed\|isn't tested" "$work/log" | sed 's/^/          left out in it: /'
+}
+leave() { # leave NAME WHY
+    chosen "$1" || return 0
+    out=$((out + 1))
+    told 'left out' "$1" "$2"
+}
+compared() { tests/compare.py "$@" <"$work/symbols"; }
+costs() { tools/pack.sh "$work/packed" && tests/costs.py "$work/packed/libsymdemangle.so" "$module" <"$work/symbols"; }
+
+try generated tools/check_generated.py
+try rows tests/vectors.py "$symfilt"
+try calls tests/fail_calls.sh "$symfilt"
+if [ -x $check_rows ]; then
+    try allocations tests/refuse_allocations.sh "$symfilt" $check_rows
+else
+    try allocations tests/refuse_allocations.sh "$symfilt"
+    leave allocations "of the library's calls: \`rt run\` in crates/check_rows builds the program that makes them"
+fi
+try colliding tests/colliding.py "$symfilt"
+try callers tests/callers.sh ${symbols[@]+"${symbols[@]}"}
+if ! command -v dpkg >/dev/null; then
+    leave packages "dpkg isn't installed"
+elif [ -n "$(git status --porcelain)" ]; then
+    leave packages "what isn't committed isn't released"
+else
+    try packages tests/packages.sh
+fi
+if command -v parallel >/dev/null || /usr/bin/python3 -c 'import distributed' 2>/dev/null; then
+    try scale tests/scale.sh "$symfilt"
+else
+    leave scale "neither GNU parallel nor Dask is installed"
+fi
+if [ -n "$reference" ]; then
+    try compare compared "$symfilt" "$reference"
+    try fuzz tests/fuzz.py "$symfilt" "$reference" --seconds 60
+    try compare-wide compared --wide "$symfilt" "$reference"
+    try fuzz-wide tests/fuzz.py "$symfilt" "$reference" --wide --lang cpp --seconds 60
+else
+    leave compare "no other implementation (-r)"
+fi
+if [ -n "$module" ]; then
+    try costs costs
+else
+    leave costs "no other implementation as a module (-m)"
+fi
+echo "$ok ok, $failed failed, $out left out"
+[ $((ok + failed)) -gt 0 ] || { echo "$0: nothing has such a name" >&2; exit 2; }
+[ $failed -eq 0 ]
