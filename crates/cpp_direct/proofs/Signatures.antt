@@ -365,15 +365,17 @@ function-handed s old new is_pointer o p text candidates waits at found =
       stands = subst (λ ws. Stands s ws p.outer p.front) (sym waits ∙ last.1) p.stands;
     }
 
--- what takes a function type, and isn't the parameters of an encoding, takes elements
-pub takes-as-element : (o : Open) (rest ws : List Open) → ws ≡ o ∷ rest → TakesFunction ws → ((x : Bool) (y : ℕ) → o ≡ opens.Parameters x y → ⊥) → TakesElements o
-takes-as-element o rest ws is takes apart = go o (subst TakesFunction is takes) apart
+-- what takes a function type, and isn't the parameters of an encoding or a special object, takes elements
+pub takes-as-element : (o : Open) (rest ws : List Open) → ws ≡ o ∷ rest → TakesFunction ws → ((x : Bool) (y : ℕ) → o ≡ opens.Parameters x y → ⊥)
+    → (o ≡ opens.Special → ⊥) → TakesElements o
+takes-as-element o rest ws is takes apart no_special = go o (subst TakesFunction is takes) apart no_special
   where
-    go : (o : Open) → TakesFunction (o ∷ rest) → ((x : Bool) (y : ℕ) → o ≡ opens.Parameters x y → ⊥) → TakesElements o
-    go (opens.TypeArguments from) takes apart = tt
-    go (opens.NestArguments nest) takes apart = tt
-    go (opens.FirstArguments nest) takes apart = tt
-    go (opens.NameArguments from) takes apart = tt
-    go opens.Pack takes apart = tt
-    go (opens.Parameters x y) takes apart = absurd (apart x y refl)
-    go _ takes apart = absurd takes
+    go : (o : Open) → TakesFunction (o ∷ rest) → ((x : Bool) (y : ℕ) → o ≡ opens.Parameters x y → ⊥) → (o ≡ opens.Special → ⊥) → TakesElements o
+    go (opens.TypeArguments from) takes apart z = tt
+    go (opens.NestArguments nest) takes apart z = tt
+    go (opens.FirstArguments nest) takes apart z = tt
+    go (opens.NameArguments from) takes apart z = tt
+    go opens.Pack takes apart z = tt
+    go (opens.Parameters x y) takes apart z = absurd (apart x y refl)
+    go opens.Special takes apart z = absurd (z refl)
+    go _ takes apart z = absurd takes

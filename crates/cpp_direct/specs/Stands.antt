@@ -284,7 +284,7 @@ abbrev pub opening_text : (is_pointer : Bool) → List ℕ
 opening_text true = codes " (*)("
 opening_text false = codes " ("
 
--- what takes an element or a parameter may take a function type
+-- what takes an element or a parameter may take a function type, and so may a special object
 abbrev pub TakesFunction : List Open → Type 0
 TakesFunction (opens.TypeArguments from ∷ rest) = Unit {0}
 TakesFunction (opens.NestArguments nest ∷ rest) = Unit {0}
@@ -292,6 +292,7 @@ TakesFunction (opens.FirstArguments nest ∷ rest) = Unit {0}
 TakesFunction (opens.NameArguments from ∷ rest) = Unit {0}
 TakesFunction (opens.Pack ∷ rest) = Unit {0}
 TakesFunction (opens.Parameters is_const start ∷ rest) = Unit {0}
+TakesFunction (opens.Special ∷ rest) = Unit {0}
 TakesFunction _ = ⊥
 
 -- A type comes for the last of the open ones, behind what is written.

@@ -5,7 +5,7 @@ use Rattle.cpp_direct.specs.Prints.{Prints}
 use Rattle.cpp_direct.specs.Stands.{qualifiers}
 use Rattle.cpp_direct.proofs.PrintedTypes.{pointer-prints, lvalue-prints, rvalue-prints, const-prints}
 use Rattle.cpp_direct.proofs.Listed.{waits-last}
-use Rattle.cpp_direct.proofs.Handed.{value-element, value-marked, value-front, value-returned, value-signature, value-special, value-enumerator, argument-read, parameter-read, takes-elements}
+use Rattle.cpp_direct.proofs.Handed.{value-element, value-marked, value-front, value-returned, value-signature, value-enumerator, argument-read, parameter-read, special-read, takes-elements}
 use Rattle.cpp_direct.proofs.direct.Direct.pass.Goals as goal
 
 pub mark-requires : goal.mark-requires
@@ -56,8 +56,9 @@ parameter_at-requires-clause-awaits c =
 
 pub finish-requires : goal.finish-requires
 finish-requires c =
-    value-special c.args.s.now c.args.self.now c.args.is_reference
-    c.requires.writing (waits-last _ _ _ _ c.as_slice.ensures c.in_ok-from.ensures.value c.in-Special.is)
+    special-read c.args.s.now c.args.self.now
+    (value-element c.args.s.now c.args.self.now c.args.is_reference opens.Special c.requires.writing
+    (waits-last _ _ _ _ c.as_slice.ensures c.in_ok-from.ensures.value c.in-Special.is))
 
 pub enumerator-requires-clause-awaits : goal.enumerator-requires-clause-awaits
 enumerator-requires-clause-awaits c =
