@@ -26,6 +26,7 @@ takes-function (opens.Lvalue x) rest p l r c n f g k = absurd (l x refl)
 takes-function (opens.Rvalue x) rest p l r c n f g k = absurd (r x refl)
 takes-function (opens.Const x) rest p l r c n f g k = absurd (c x refl)
 takes-function opens.Special rest p l r c n f g k = tt
+takes-function (opens.Enclosing x y) rest p l r c n f g k = tt
 takes-function opens.Enumerator rest p l r c n f g k = absurd (n refl)
 takes-function (opens.Returned x) rest p l r c n f g k = absurd (f x refl)
 takes-function (opens.Signature x) rest p l r c n f g k = absurd (g x refl)

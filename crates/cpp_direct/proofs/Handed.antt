@@ -172,22 +172,23 @@ pub takes-elements : (o : Open) → ((x : ℕ) → o ≡ opens.Pointer x → ⊥
     → ((x : ℕ) → o ≡ opens.Rvalue x → ⊥) → ((x : ℕ) → o ≡ opens.Const x → ⊥) → ((x : Bool) (y : ℕ) → o ≡ opens.Parameters x y → ⊥)
     → ((x : Bool) (y : ℕ) → o ≡ opens.Front x y → ⊥)
     → ((x : Bool) → o ≡ opens.Returned x → ⊥) → ((x : Bool) → o ≡ opens.Signature x → ⊥)
-    → (o ≡ opens.Special → ⊥) → (o ≡ opens.Enumerator → ⊥) → TakesElements o
-takes-elements (opens.Pointer x) p l r c f k u g z n = absurd (p x refl)
-takes-elements (opens.Lvalue x) p l r c f k u g z n = absurd (l x refl)
-takes-elements (opens.Rvalue x) p l r c f k u g z n = absurd (r x refl)
-takes-elements (opens.Const x) p l r c f k u g z n = absurd (c x refl)
-takes-elements (opens.Parameters x y) p l r c f k u g z n = absurd (f x y refl)
-takes-elements (opens.Front x y) p l r c f k u g z n = absurd (k x y refl)
-takes-elements (opens.Returned x) p l r c f k u g z n = absurd (u x refl)
-takes-elements (opens.Signature x) p l r c f k u g z n = absurd (g x refl)
-takes-elements opens.Special p l r c f k u g z n = absurd (z refl)
-takes-elements opens.Enumerator p l r c f k u g z n = absurd (n refl)
-takes-elements opens.Pack p l r c f k u g z n = tt
-takes-elements (opens.TypeArguments x) p l r c f k u g z n = tt
-takes-elements (opens.NestArguments x) p l r c f k u g z n = tt
-takes-elements (opens.FirstArguments x) p l r c f k u g z n = tt
-takes-elements (opens.NameArguments x) p l r c f k u g z n = tt
+    → (o ≡ opens.Special → ⊥) → (o ≡ opens.Enumerator → ⊥) → ((x : Bool) (y : ℕ) → o ≡ opens.Enclosing x y → ⊥) → TakesElements o
+takes-elements (opens.Pointer x) p l r c f k u g z n m = absurd (p x refl)
+takes-elements (opens.Lvalue x) p l r c f k u g z n m = absurd (l x refl)
+takes-elements (opens.Rvalue x) p l r c f k u g z n m = absurd (r x refl)
+takes-elements (opens.Const x) p l r c f k u g z n m = absurd (c x refl)
+takes-elements (opens.Parameters x y) p l r c f k u g z n m = absurd (f x y refl)
+takes-elements (opens.Front x y) p l r c f k u g z n m = absurd (k x y refl)
+takes-elements (opens.Returned x) p l r c f k u g z n m = absurd (u x refl)
+takes-elements (opens.Signature x) p l r c f k u g z n m = absurd (g x refl)
+takes-elements (opens.Enclosing x y) p l r c f k u g z n m = absurd (m x y refl)
+takes-elements opens.Special p l r c f k u g z n m = absurd (z refl)
+takes-elements opens.Enumerator p l r c f k u g z n m = absurd (n refl)
+takes-elements opens.Pack p l r c f k u g z n m = tt
+takes-elements (opens.TypeArguments x) p l r c f k u g z n m = tt
+takes-elements (opens.NestArguments x) p l r c f k u g z n m = tt
+takes-elements (opens.FirstArguments x) p l r c f k u g z n m = tt
+takes-elements (opens.NameArguments x) p l r c f k u g z n m = tt
 
 -- an element was read
 pub argument-read : (s : List ℕ) (w : Direct) (o : Open) → IsElementRead s w o → TakesElements o → IsWriting s w (steps.List false)

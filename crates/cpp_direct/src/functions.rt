@@ -124,6 +124,7 @@ impl Direct {
         let _open = self.waiting.pop();
         match *self.waiting.as_slice().last()? {
             Open::Parameters { is_const, start } => self.parameter_ended(s, is_const, start),
+            Open::Enclosing { is_const, from } => self.enclosing_parameter(s, is_const, from),
             Open::Special => self.finish(s),
             _ => Some(Step::List { is_first: false }),
         }

@@ -8,6 +8,7 @@
 #![tactic(auto)]
 
 mod direct;
+mod enclosing;
 mod functions;
 mod letters;
 mod lists;
