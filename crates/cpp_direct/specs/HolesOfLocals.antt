@@ -1,9 +1,9 @@
 -- What is expected in the name of a local entity, and what comes of it.
-use Rattle.std.specs.Prelude.{◌≡◌, ◌≢◌, ℕ, ◌+◌, ◌≤◌, List, [], ◌∷◌, length, Bool, true, cond, Option, Some, None}
+use Rattle.std.specs.Prelude.{◌≡◌, ◌≢◌, ℕ, ◌+◌, ◌≤◌, List, [], ◌∷◌, length, Bool, true, false, cond, Option, Some, None}
 use Rattle.cpp_grammar.specs.declared.kind.Kind.{Kind}
 use Rattle.cpp_grammar.specs.Term.{Term, any_value, of_name, local, within, source}
 use Rattle.cpp_grammar.specs.Values.{State, Around, Value, nothing_there, text, tree, named, unqualified, tree_of, qualifiers_of, ref_of}
-use Rattle.cpp_grammar.specs.Between.{in_name}
+use Rattle.cpp_grammar.specs.Between.{after, in_name}
 use Rattle.cpp_grammar.specs.Meaning.{discriminator_of}
 use Rattle.cpp_direct.specs.Holes.{Opened, StandsAt, Comes, Expects, IsNameAt}
 
@@ -36,9 +36,13 @@ pub record IsEntityAt (s : List ℕ) (at : ℕ) (internal : Bool) (name : List �
   pub filled : name ≢ []
   pub discriminator : IsDiscriminatorAt s middle digit end
 
--- the entity with this name in an encoding
+-- the entity with this piece as its name in an encoding
+abbrev pub local_in : (e : Term) → (piece : Term) → (digit : Option ℕ) → Term
+local_in e p digit = local e (within e p) (discriminator_of (discriminator_value digit))
+
+-- the one with this source name
 abbrev pub entity_in : (e : Term) → (internal : Bool) → (name : List ℕ) → (digit : Option ℕ) → Term
-entity_in e internal name digit = local e (within e (source internal name)) (discriminator_of (discriminator_value digit))
+entity_in e internal name digit = local_in e (source internal name) digit
 
 -- The encoding is expected in which an entity stands.
 pub record LocalOpened (s : List ℕ) (outer : List Opened) (around : Around) (at : ℕ) (st : State) : Type 0 where
@@ -46,6 +50,34 @@ pub record LocalOpened (s : List ℕ) (outer : List Opened) (around : Around) (a
   pub awaits : Expects s Kind.Encoding around inner at st
   pub onward : (e : Term) (at : ℕ) (st : State) → Comes s inner (tree e true) at st → (internal : Bool) (name : List ℕ) (digit : Option ℕ) (end : ℕ)
       → IsEntityAt s at internal name digit end → Comes s outer (named (entity_in e internal name digit) unqualified any_value) end st
+
+-- a piece stands at the place as the name of a type in an encoding, and this is the place behind it
+abbrev pub IsPieceAt : (s : List ℕ) → (at : ℕ) → (piece : Term) → (end : ℕ) → Type 0
+IsPieceAt s at p end =
+    (os : List Opened) (around : Around) (e : Term) (st : State) → Expects s Kind.TypeEntity (after e true around) os at st
+    → Comes s os (tree (within e p) false) end st
+
+-- The encoding is expected in which a type stands.
+pub record LocalTypeOpened (s : List ℕ) (outer : List Opened) (around : Around) (at : ℕ) (st : State) : Type 0 where
+  pub inner : List Opened
+  pub awaits : Expects s Kind.Encoding around inner at st
+  pub onward : (e : Term) (at : ℕ) (st : State) → Comes s inner (tree e true) at st → StandsAt s at (69 ∷ []) → (p : Term) (middle : ℕ) (digit : Option ℕ) (end : ℕ)
+      → IsPieceAt s (at + 1) p middle → IsDiscriminatorAt s middle digit end → Comes s outer (tree (local_in e p digit) false) end st
+
+-- the digit behind a lambda's E, if it isn't the first one
+abbrev pub lambda_digits : Option ℕ → List ℕ
+lambda_digits None = []
+lambda_digits (Some digit) = digit ∷ []
+
+-- its number as it is written
+abbrev pub lambda_number : Option ℕ → List ℕ
+lambda_number None = 49 ∷ []
+lambda_number (Some digit) = (digit + 2) ∷ []
+
+-- what is one digit as well
+abbrev pub IsLambdaDigit : Option ℕ → Type 0
+IsLambdaDigit None = Unit {0}
+IsLambdaDigit (Some digit) = (48 ≤ digit) × (digit ≤ 55)
 
 -- The name is expected of which a variable is the guard, in an encoding that begins at a place.
 pub record GuardOpened (s : List ℕ) (outer : List Opened) (encoding : ℕ) (at : ℕ) (st : State) : Type 0 where

@@ -42,7 +42,7 @@ impl Direct {
                 }
                 self.open_type(Open::Const { from }, Step::Plain)
             }
-            b'N' | b'S' | b'1'..=b'9' => self.named_type(s),
+            b'N' | b'S' | b'Z' | b'1'..=b'9' => self.named_type(s),
             b'D' => self.builtin_with_d(s),
             letter => self.builtin(s, letter),
         }
@@ -62,6 +62,7 @@ impl Direct {
                 self.nest_at(s, Purpose::Type)
             }
             b'S' => self.type_with_s(s),
+            b'Z' => self.begin_enclosing(s),
             _ => {
                 self.name(s)?;
                 self.type_named(s, from, false, false)
@@ -186,6 +187,7 @@ impl Direct {
             Open::Front { is_const, start } => self.front_ended(s, is_const, start),
             Open::Returned { is_pointer } => self.returned(s, is_pointer),
             Open::Signature { is_pointer } => self.parameter_at(s, is_pointer, false),
+            Open::Enclosing { is_const, from } => self.enclosing_parameter(s, is_const, from),
             Open::Special => self.finish(s),
             Open::Enumerator => self.enumerator(s),
             _ => Some(Step::List { is_first: false }),

@@ -37,18 +37,19 @@ comes-moved l s os vs at to st same = subst (λ k. Comes l s os vs k st) same
 
 -- ## Rules
 
-reads-rule : {V S C : Type 0} (l : Language V S C) (s : List ℕ) (kind : ℕ) (rule : Rule) (taken : List ℕ) (context : C) (at : ℕ)
+-- a rule is read whose parts are
+unfoldable pub reads-rule : {V S C : Type 0} (l : Language V S C) (s : List ℕ) (kind : ℕ) (rule : Rule) (taken : List ℕ) (context : C) (at : ℕ)
     (st begun inner after : S) (bytes : List ℕ) (vs : List V) (w : V)
     → TakesRule l.table kind rule taken
-    → ((f : Forest) → (l.reading s).begin (standing rule taken at context st) f ≡ Ok begun)
-    → ReadsRest l s (standing rule taken at context st) [] (symbols_of rule) (at + length taken) bytes begun vs inner
+    → (rest : ReadsRest l s (standing rule taken at context st) [] (symbols_of rule) (at + length taken) bytes begun vs inner)
+    → (l.reading s).begin (standing rule taken at context st) rest.forest ≡ Ok begun
     → (l.reading s).close (standing rule taken at context st) vs inner ≡ Ok (found w after)
     → Reads l s (Kind kind) context at (taken ++ bytes) st (w ∷ []) after
-reads-rule l s kind rule taken context at st begun inner after bytes vs w takes begins rest closes = record {
+reads-rule l s kind rule taken context at st begun inner after bytes vs w takes rest begins closes = record {
   shape = branch rule taken rest.forest;
   shaped = (takes, rest.shaped);
   spelled = ap (λ b. taken ++ b) rest.spelled;
-  unfolds = rw (begins rest.forest, rest.unfolds, closes) refl;
+  unfolds = rw (begins, rest.unfolds, closes) refl;
 }
 
 -- a kind takes a rule: it stands open
@@ -62,10 +63,11 @@ opens l s kind rule taken context os at st begun takes begins expects stands byt
     comes-moved l s os (w ∷ []) (at + length (taken ++ bytes)) (at + length taken + length bytes) after
     (omega (arith, length-append taken bytes))
     (expects (taken ++ bytes) (w ∷ []) after
-    (reads-rule l s kind rule taken context at st begun inner after bytes vs w takes begins rest closes)
+    (reads-rule l s kind rule taken context at st begun inner after bytes vs w takes rest (begins rest.forest) closes)
     (stands-join s at taken bytes stands there))
 
-joins : {V S C : Type 0} (l : Language V S C) (s : List ℕ) (rule : Open S C) (known : List V) (x : Sym) (todo : List Sym) (at : ℕ) (st : S)
+-- a part is read, and those behind it
+unfoldable pub joins : {V S C : Type 0} (l : Language V S C) (s : List ℕ) (rule : Open S C) (known : List V) (x : Sym) (todo : List Sym) (at : ℕ) (st : S)
     (next : Next V S C) (after inner : S) (v : List V) (first more : List ℕ) (vs : List V)
     → (l.reading s).between rule known st ≡ Ok next
     → Reads l s x next.context at first next.state v after
@@ -91,7 +93,8 @@ needs-next l s rule known x todo os at st next goes needs first v middle one her
     (joins l s rule known x todo at st next middle inner v first more vs goes one rest)
     (stands-join s at first more here there) closes)
 
-none-left : {V S C : Type 0} (l : Language V S C) (s : List ℕ) (rule : Open S C) (known : List V) (at : ℕ) (st : S)
+-- no part is left
+unfoldable pub none-left : {V S C : Type 0} (l : Language V S C) (s : List ℕ) (rule : Open S C) (known : List V) (at : ℕ) (st : S)
     → ReadsRest l s rule known [] at [] st known st
 none-left l s rule known at st = record { forest = nothing; shaped = tt; spelled = refl; unfolds = refl }
 
