@@ -212,7 +212,7 @@ def inside():
         parts = []
         for name, sort in arguments(tree, *SUBTREES):
             itself = f"ItselfOr {name} (Inside {name} x) x"
-            if tree[0] == "special": parts.append(f"Shut ({itself}) x")
+            if tree[0] in ("special", "construction"): parts.append(f"Shut ({itself}) x")
             elif sort in (OWN, OUTSIDE): parts.append(f"Shut (Inside {name} x) x")
             elif tree[0] == "within" and name == "prefix": parts.append("PrefixOr prefix (Inside prefix x) x")
             elif tree[0] == "qualified": parts.append(f"UnqualifiedOr {name} (Inside {name} x) x")
