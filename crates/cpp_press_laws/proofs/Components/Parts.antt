@@ -48,6 +48,7 @@ PrefixOr (object name q ref) inside x = ⊥
 PrefixOr (special l type) inside x = ⊥
 PrefixOr (thunk kind e) inside x = ⊥
 PrefixOr (of_name l name q ref) inside x = ⊥
+PrefixOr (construction derived digits parent) inside x = ⊥
 PrefixOr t inside x = ItselfOr t inside x
 
 -- of what is in an encoding, what has no free parameters
@@ -63,7 +64,7 @@ Inside (object name q ref) x = Shut (Inside name x) x
 Inside (special l type) x = Shut (ItselfOr type (Inside type x) x) x
 Inside (thunk kind e) x = Shut (Inside e x) x
 Inside (of_name l name q ref) x = Shut (Inside name x) x
-Inside (construction derived digits parent) x = Shut (ItselfOr derived (Inside derived x) x) x ⊎ Shut (ItselfOr parent (Inside parent x) x) x
+Inside (construction derived digits parent) x = Shut (ItselfOr derived (Inside derived x) x ⊎ ItselfOr parent (Inside parent x) x) x
 Inside (alone p) x = Inside p x
 Inside (in_std p) x = Inside p x
 Inside (within prefix p) x = PrefixOr prefix (Inside prefix x) x ⊎ Inside p x
