@@ -247,14 +247,20 @@ def direct_letters():
     for name, comment, letters in direct_lists(): out += ["", f"-- {comment}", f"abbrev pub {name} : List ℕ", f"{name} = {codes(''.join(letters))}"]
     return "\n".join(out) + "\n"
 
+# what the letters of such a list are asked for: a test's name, what it says, and where it is defined
+DIRECT_TESTS = [
+    ("is_integer_letter", "integer_letters", "the letter of a type that an integer in an argument may have", "ItemBytes", []),
+    ("is_builtin_with_d", "builtin_letters_with_d", "the letter behind a D of a builtin type", "Bytes", ["cpp_grammar::specs::Grammar::among"]),
+]
+
 def direct_tests():
-    integers = next(letters for name, _, letters in direct_lists() if name == "integer_letters")
-    out = [f"// {WRITTEN} Letters that are codes, by what they are codes of.", "#![tactic(auto)]", "",
-           "ghost use Rattle.std.specs.Prelude.{◌≡◌};", "ghost use Rattle.cpp_direct.specs.ItemBytes.{is_integer_letter};", "",
-           "/// Whether it is the letter of a type that an integer in an argument may have.",
-           "#[tactic(auto, unfolding(crate::specs::ItemBytes::is_integer_letter))]", "#[inline(always)]",
-           "pub fn is_integer_letter(letter: u8) -> bool", "    ensures { result ≡ is_integer_letter letter }", "{", "    match letter {"]
-    out += [f"        b'{letter}' => true," for letter in integers] + ["        _ => false,", "    }", "}"]
+    lists = {name: letters for name, _, letters in direct_lists()}
+    out = [f"// {WRITTEN} Letters that are codes, by what they are codes of.", "#![tactic(auto)]", "", "ghost use Rattle.std.specs.Prelude.{◌≡◌};",
+           *[f"ghost use Rattle.cpp_direct.specs.{module}.{{{name}}};" for name, _, _, module, _ in DIRECT_TESTS]]
+    for name, letters, comment, module, through in DIRECT_TESTS:
+        out += ["", f"/// Whether it is {comment}.", unfolding(f"crate::specs::{module}::{name}", *through), "#[inline(always)]",
+                f"pub fn {name}(letter: u8) -> bool", f"    ensures {{ result ≡ {name} letter }}", "{", "    match letter {"]
+        out += [f"        b'{letter}' => true," for letter in lists[letters]] + ["        _ => false,", "    }", "}"]
     return "\n".join(out) + "\n"
 
 def files(productions):
