@@ -15,7 +15,7 @@ P = {}
 # kinds: name -> (may be empty, [(class, production)], chain production or list of chains)
 K = {}
 # The wide grammar is the same list of kinds and productions, with more alternatives: those that `wide` marks here.
-MARKED = set()      # (kind, class, production)
+MARKED = {}         # (kind, class, production): its mark
 WIDENED = [False]   # whether they are among those of K
 def prod(name, *symbols, chain=False):
     v = (not chain, list(symbols))
@@ -23,7 +23,7 @@ def prod(name, *symbols, chain=False):
     P[name] = v
     return name
 def kind(name, *rules, empty=False):
-    MARKED.update((name, *rule[:2]) for rule in rules if len(rule) == 3)
+    MARKED.update({(name, *rule[:2]): rule[2] for rule in rules if len(rule) == 3})
     K[name] = (empty, [rule[:2] for rule in rules if len(rule) == 2 or WIDENED[0]])
 def wide(rule): return (*rule, "wide")
 def eats(cls, name, *symbols): return (cls, prod(name, *symbols))
@@ -35,6 +35,8 @@ OPS = [(first, "".join(code[1] for code, text in words.OPERATORS if code[0] == f
 def builtins(d, *sorts): return "".join(code[-1] for code, text, literal in words.BUILTINS if (len(code) == 2) == d and (not sorts or literal in sorts))
 ABBREVIATED = "".join(letter for letter, text in words.ABBREVIATIONS)
 SPECIAL = "".join(letter for letter, text in words.SPECIALS)
+# of those of a name the ones behind T
+NAMED_SPECIAL = "".join(code[1] for code, text in words.NAMED_SPECIALS if code[0] == "T")
 MARK = lambda cls: eats(cls, "Mark")
 L_NAME = eats("L", "InternalName", NAME, "MaybeArguments")
 U_NAME = eats("U", "LocalTypeName", "Anonymous", "MaybeArguments")
@@ -57,7 +59,8 @@ def build(extended=True, widened=False):
     kind("SuffixMore", eats(WORD, "SuffixByte", "SuffixMore"), empty=True)
     kind("Encoding", eats("T", "Special", "Special"), eats("G", "Guard", "'V'", "CompleteName"), chain("Encoding", "CompleteName", "Items"))
     kind("Special", eats(SPECIAL, "SpecialType", "Type"), eats("h", "NonVirtualThunk", "Integer", "'_'", "Encoding"),
-         eats("v", "VirtualThunk", "Integer", "'_'", "Integer", "'_'", "Encoding"), eats("c", "CovariantThunk", "CallOffset", "CallOffset", "Encoding"))
+         eats("v", "VirtualThunk", "Integer", "'_'", "Integer", "'_'", "Encoding"), eats("c", "CovariantThunk", "CallOffset", "CallOffset", "Encoding"),
+         wide(eats(NAMED_SPECIAL, "SpecialName", "CompleteName")), wide(eats("C", "ConstructionVtable", "Type", DIGITS, "'_'", "Type")))
     kind("CallOffset", eats("h", "NonVirtualOffset", "Integer", "'_'"), eats("v", "VirtualOffset", "Integer", "'_'", "Integer", "'_'"))
     kind("Integer", eats("n", "Negative", DIGITS), chain("Positive", DIGITS))
     kind("CompleteName", NESTED, eats("S", "NameWithS", "NameAfterS"), eats("Z", "LocalName", "Encoding", "'E'", "Entity", "MaybeDiscriminator"),
@@ -94,7 +97,7 @@ def build(extended=True, widened=False):
     after_d = [eats(builtins(True), "BuiltinWithD")]
     if extended:
         after_d += [eats("v", "Vector", DIGITS, "'_'", "Type"), eats("o", "NoexceptFunction", "'F'", "MaybeCLinkage", "Type", "FunctionRest")]
-    kind("AfterD", *after_d)
+    kind("AfterD", *after_d, wide(eats("".join(code[1] for code, text in words.WIDE_BUILTINS), "BuiltinWithD")))
     if extended:
         P["ItemIsType"] = (False, ["AfterD"])
     NAMED = [eats("P", "Pointer", "Type"), eats("M", "MemberPointer", "Type", "Type"), eats("T", "Parameter", DECIMAL, "MaybeArguments"),
@@ -127,6 +130,9 @@ def build(extended=True, widened=False):
         rules = [MARK(second)]
         if a == "l": rules.append(eats("i", "LiteralOperator", NAME))
         kind("OperatorAfter" + a.upper(), *rules)
+    # the wide grammar's own productions stand last, so that the numbers of the others are those of the ABI's grammar
+    shared = {p for k, (e, rules) in K.items() for cls, p in rules if (k, cls, p) not in MARKED}
+    for p in [p for (k, cls, p), mark in MARKED.items() if mark == "wide" and p not in shared]: P[p] = P.pop(p)
 
 def is_kind(s): return s in KS
 def begins_symbol(s):
@@ -473,7 +479,8 @@ def antt_grammar():
     return "\n".join(out) + "\n"
 
 def antt_kind_numbers():
-    out = [f"-- {WRITTEN} The numbers of the kinds, by their names.", "use Rattle.std.specs.Prelude.{ℕ}"]
+    out = [f"-- {WRITTEN} The numbers of the kinds, by their names.", "use Rattle.std.specs.Prelude.{ℕ}", "", "-- how many kinds there are, and how many productions",
+           "abbrev pub KIND_COUNT : ℕ", f"KIND_COUNT = {len(K)}", "", "abbrev pub PRODUCTION_COUNT : ℕ", f"PRODUCTION_COUNT = {len(P)}"]
     for i, k in enumerate(K): out += ["", f"abbrev pub {snake(k).upper()} : ℕ", f"{snake(k).upper()} = {i}"]
     return "\n".join(out) + "\n"
 
@@ -539,8 +546,11 @@ def antt_before():
 def files():
     """what is written: each file's path in the folder of the crates, and its text"""
     yield "cpp_grammar/specs/Before.antt", antt_before()
-    # what may come after each kind, and how its trees are bounded, is said once, of the wide grammar; the other is within it
-    build(True, widened=True); bad, after, depth, height = laws()
+    # what may come after each kind, and how many chains begin it, is said once, of the wide grammar, within which the other is; how low
+    # its lowest tree is, of the other, whose trees the wide grammar has
+    build(True); bad, _, _, height = laws()
+    assert not bad, bad
+    build(True, widened=True); bad, after, depth, _ = laws()
     assert not bad, bad
     yield "cpp_grammar/src/wide_table.rt", rust_wide_table()
     yield "cpp_grammar/specs/Wide.antt", antt_wide()

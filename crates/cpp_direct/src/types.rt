@@ -9,6 +9,7 @@ ghost use Rattle.cpp_direct.specs.Stands.{IsWriting};
 ghost use Rattle.cpp_direct.specs.Ways.{AwaitsType, AwaitsNamedType, IsTypeNamed, AwaitsMark};
 
 use crate::direct::Direct;
+use crate::letters::is_builtin_with_d;
 use crate::open::{Open, Purpose, Step};
 use crate::tokens::byte_at;
 
@@ -96,12 +97,12 @@ impl Direct {
         ensures { IfSome result (IsWriting s.now self.new) }
     {
         self.at = self.at.checked_add(1)?;
-        let text = cpp_layout::builtin_with_d_text(byte_at(s, self.at));
-        if text.is_empty() {
+        let letter = byte_at(s, self.at);
+        if !is_builtin_with_d(letter) {
             return None;
         }
         self.at = self.at.checked_add(1)?;
-        self.push(text)?;
+        self.push(cpp_layout::builtin_with_d_text(letter))?;
         Some(Step::Value {
             is_reference: false,
         })

@@ -15,7 +15,7 @@ use Rattle.sym_link.specs.Reading.{Found, Open, Next, ◌>>=◌}
 use Rattle.sym_link.specs.Unfold.{found, alone, standing, unfold_tree, unfold_forest}
 use Rattle.cpp_grammar.specs.declared.kind.Kind.{Kind}
 use Rattle.cpp_grammar.specs.declared.production.Production.{Production}
-use Rattle.cpp_grammar.specs.KindNumbers.{SYMBOL, SPECIAL, COMPLETE_NAME, ITEMS}
+use Rattle.cpp_grammar.specs.KindNumbers.{KIND_COUNT, SYMBOL, SPECIAL, COMPLETE_NAME, ITEMS}
 use Rattle.cpp_grammar.specs.Grammar.{Alternative, is_in, pick, kinds, productions, number_of, number_of_kind, parts_of, is_chain}
 use Rattle.cpp_grammar.specs.Wide.{wide_alternatives, wide_choose}
 use Rattle.cpp_grammar.specs.Table.{wide, wide_sheet, rule_of, rule_taken, padded}
@@ -307,11 +307,11 @@ pub record InnerComes (production : Production) (around : Around) (end : ℕ) (o
   pub means : (byte : ℕ) → Good (Bare around) (held (meaning production byte around r.value))
   pub grows : Grows around end old r.state
 
-kind_count : wide.kinds ≡ 66
+kind_count : wide.kinds ≡ KIND_COUNT
 unfolding wide wide_sheet kinds
 kind_count = refl
 
-pub known : (k : ℕ) → suc k ≤ 66 → k < wide.kinds
+pub known : (k : ℕ) → suc k ≤ KIND_COUNT → k < wide.kinds
 known k lt = omega (arith, lt, kind_count)
 
 -- one part of an encoding, in which nothing is named

@@ -197,6 +197,9 @@ meaning_good s Production.Guard byte around vs pre all name = let g = good_part 
 meaning_good s Production.Encoding byte around vs pre all name =
     good_encoding s (part vs 0) (no_items (part vs 1)) name (good_part s vs 0 all).scopes (good_no_items s (part vs 1) (good_part s vs 1 all)).scopes
 meaning_good s Production.SpecialType byte around vs pre all name = let g = good_part s vs 0 all in record { closed = λ h. refl; scopes = g.scopes }
+meaning_good s Production.SpecialName byte around vs pre all name = let g = good_part s vs 0 all in record { closed = λ h. refl; scopes = g.scopes }
+meaning_good s Production.ConstructionVtable byte around vs pre all name =
+    let g = good_part s vs 0 all in let b = good_part s vs 3 all in record { closed = λ h. refl; scopes = (g.scopes, b.scopes) }
 meaning_good s Production.NonVirtualThunk byte around vs pre all name = let g = good_part s vs 2 all in record { closed = λ h. refl; scopes = g.scopes }
 meaning_good s Production.VirtualThunk byte around vs pre all name = let g = good_part s vs 4 all in record { closed = λ h. refl; scopes = g.scopes }
 meaning_good s Production.CovariantThunk byte around vs pre all name = let g = good_part s vs 2 all in record { closed = λ h. refl; scopes = g.scopes }

@@ -250,7 +250,7 @@ macro_rules! chains {
 }
 
 // The rules of the productions, in the order of their numbers.
-pub static HEADS: [Head; 112] = [
+pub static HEADS: [Head; 114] = [
     takes!(0), // ! Mark
     takes!(2), // \" InternalName
     takes!(2), // # LocalTypeName
@@ -363,10 +363,12 @@ pub static HEADS: [Head; 112] = [
     takes!(1), // \x8e OperatorI
     takes!(1), // \x8f OperatorG
     takes!(1), // \x90 LiteralOperator
+    takes!(1), // \x91 SpecialName
+    takes!(4), // \x92 ConstructionVtable
 ];
 
 // The symbols of the rules, in the same order.
-pub static SYMBOLS: [Sym; 678] = symbols_listed! {
+pub static SYMBOLS: [Sym; 690] = symbols_listed! {
     [NONE, NONE, NONE, NONE, NONE], // ! Mark
     [NAME, MAYBE_ARGUMENTS, NONE, NONE, NONE], // \" InternalName
     [ANONYMOUS, MAYBE_ARGUMENTS, NONE, NONE, NONE], // # LocalTypeName
@@ -479,13 +481,15 @@ pub static SYMBOLS: [Sym; 678] = symbols_listed! {
     [OPERATOR_AFTER_I, NONE, NONE, NONE, NONE], // \x8e OperatorI
     [OPERATOR_AFTER_G, NONE, NONE, NONE, NONE], // \x8f OperatorG
     [NAME, NONE, NONE, NONE, NONE], // \x90 LiteralOperator
+    [COMPLETE_NAME, NONE, NONE, NONE, NONE], // \x91 SpecialName
+    [TYPE, DIGITS, Sym::Byte(b'_'), TYPE, NONE], // \x92 ConstructionVtable
 };
 
 /// The number of the rule that a kind takes at a byte, if it takes one.
 #[inline]
 fn number(kind: u16, byte: u8) -> Option<usize>
     requires { kind < abi.kinds }
-    ensures few { IfSome result (λ number. number < 112) }
+    ensures few { IfSome result (λ number. number < 114) }
     ensures rule { (head : Head) → MatchOption result (abi.rule kind byte ≡ None) (λ number. abi.rule kind byte ≡ Some (listed_rule head number)) }
 {
     match letter_in(&LETTERS[kind as usize], byte) {

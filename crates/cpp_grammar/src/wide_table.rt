@@ -15,7 +15,7 @@ static WIDE_LETTERS: [[u8; 87]; 66] = [
     *b",         , ,,,,,,,,,,       ,,,,,,,,,,,,,,,,,,,,,,,,,,    , ,,,,,,,,,,,,,,,,,,,,,,,,,,", // SuffixFirst
     *b",         , ,,,,,,,,,,       ,,,,,,,,,,,,,,,,,,,,,,,,,,    , ,,,,,,,,,,,,,,,,,,,,,,,,,,", // SuffixMore
     *b"            //////////             .    / /    /-/    /      / /// / /  ///// //       ", // Encoding
-    *b"                                     0         00 0            3    1             2    ", // Special
+    *b"                               \x92    \x910         00 0\x91           3    1             2    ", // Special
     *b"                                                                    4             5    ", // CallOffset
     *b"            7777777777                                                    6            ", // Integer
     *b"            $$$$$$$$$$                  \" )    8 #    9      % %%% % %  %%%%% %%       ", // CompleteName
@@ -42,8 +42,8 @@ static WIDE_LETTERS: [[u8; 87]; 66] = [
     *b"            YYYYYYYYYY       Y YX Y      YYUY UYYY    Y      YYYYYYYYYY YYYY   YYYYYYYY", // Plain
     *b"            VVVVVVVVVV       V VZ V    T VVUV UVVVS   V      VVVVVVVVVV VVVV  RVVVVVVVV", // Item
     *b"            VVVVVVVVVV       V VZ V    T VV V  VVVS   V      VVVVVVVVVV VVVV  RVVVVVVVV", // ItemButRef
-    *b"                                                             \\ \\     \\    \\\\[  \\ \\\\    ", // ItemAfterD
-    *b"                                                             ] ]     ]    ]_   ] ]^    ", // AfterD
+    *b"                                                             \\ \\\\\\\\ \\\\    \\\\[  \\ \\\\    ", // ItemAfterD
+    *b"                                                             ] ]]]] ]]    ]_   ] ]^    ", // AfterD
     *b"            $$$$$$$$$$       g i  h      aL `  cb#    d      eeeeeeeeee eeee   eefeeeee", // Solid
     *b"                                                     !                                 ", // MaybeCLinkage
     *b"            kkkkkkkkkk       kkkkkkkkkkkkkkkkkkkkkkkkkk    k kk k    k     k   kj      ", // TypeAfterS
@@ -82,7 +82,7 @@ static WIDE_LETTERS: [[u8; 87]; 66] = [
 #[inline]
 fn number(kind: u16, byte: u8) -> Option<usize>
     requires { kind < wide.kinds }
-    ensures few { IfSome result (λ number. number < 112) }
+    ensures few { IfSome result (λ number. number < 114) }
     ensures rule { (head : Head) → MatchOption result (wide.rule kind byte ≡ None) (λ number. wide.rule kind byte ≡ Some (listed_rule head number)) }
 {
     match letter_in(&WIDE_LETTERS[kind as usize], byte) {

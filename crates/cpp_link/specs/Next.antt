@@ -53,6 +53,7 @@ behind_bytes Production.LocalType held = over 1 held
 behind_bytes Production.Vector held = over 1 held
 behind_bytes Production.LiteralArgument held = over 1 held
 behind_bytes Production.LiteralElement held = over 1 held
+behind_bytes Production.ConstructionVtable held = over 2 held
 behind_bytes _ held = held
 
 -- where the next row is that of this rule, and begins with this byte

@@ -80,6 +80,8 @@ made_at_end Production.EncodingLiteral = 1
 made_at_end Production.BoolLiteral = 1
 made_at_end Production.IntegerLiteral = 1
 made_at_end Production.NullLiteral = 1
+made_at_end Production.SpecialName = 1
+made_at_end Production.ConstructionVtable = 1
 made_at_end Production.CharLiteral = 2
 made_at_end _ = 0
 

@@ -60,4 +60,5 @@ skips_parts Production.NestArguments = true
 skips_parts Production.NoexceptFunction = true
 skips_parts Production.Function = true
 skips_parts Production.PackArgument = true
+skips_parts Production.ConstructionVtable = true
 skips_parts _ = false

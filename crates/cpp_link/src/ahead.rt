@@ -105,6 +105,7 @@ fn behind_bytes(production: Production, held: usize) -> usize
         Production::Vector => over(1, held),
         Production::LiteralArgument => over(1, held),
         Production::LiteralElement => over(1, held),
+        Production::ConstructionVtable => over(2, held),
         _ => held,
     }
 }

@@ -157,6 +157,25 @@ impl Linked {
                 },
                 true,
             ),
+            // <special-name> ::= TH <object name> | TW <object name>
+            Production::SpecialName => made(
+                Node::OfName {
+                    letter: byte,
+                    name: self.tree(symbol, parts, 0),
+                    qualifiers: self.qualifiers(symbol, parts, 0),
+                    mark: self.reference(symbol, parts, 0),
+                },
+                true,
+            ),
+            // <special-name> ::= TC <derived type> <offset number> _ <base type>
+            Production::ConstructionVtable => made(
+                Node::Construction {
+                    derived: self.tree(symbol, parts, 0),
+                    digits: normal(symbol, self.text(symbol, parts, 1)),
+                    parent: self.tree(symbol, parts, 3),
+                },
+                true,
+            ),
             // <special-name> ::= T <call-offset> <base encoding>, with <call-offset> ::= h <nv-offset> _
             Production::NonVirtualThunk => Meant::Thunk {
                 thunk: Thunk::Adjusting(Adjustment::NonVirtual(self.signed(symbol, parts, 0))),
@@ -208,7 +227,7 @@ impl Linked {
             Production::ItemWithD => tree(self.tree(symbol, parts, 0), true),
             // <type> ::= Dp <type>
             Production::Expansion => made(Node::Expansion(self.tree(symbol, parts, 0)), false),
-            // <builtin-type> ::= Di | Ds | Du | Da | Dc | Dn
+            // <builtin-type> ::= Di | Ds | Du | Da | Dc | Dn | Dd | De | Df | Dh
             Production::BuiltinWithD => made(Node::BuiltinWithD(byte), true),
             // <builtin-type> ::= u <source-name>
             Production::Vendor => made(Node::Vendor(self.text(symbol, parts, 0)), false),

@@ -1,4 +1,4 @@
--- In a run without arguments, the parts of a production that are encodings have no free parameters, and neither has the type of a special name.
+-- In a run without arguments, the parts of a production that are encodings have no free parameters, and neither has what a special name is of.
 use Rattle.std.proofs.Common.{◌≡◌, refl, ap, sym, ◌∙◌, subst, ℕ, ◌+◌, ◌<◌, ◌≤◌, List, [], ◌∷◌, ◌++◌, length, Bool, true, false, not, ◌||◌, cond, nat_eq, slice_get, Option, Some, None, Result, Ok, lit≤, arith}
 use Rattle.std.proofs.lemmas.Bool.{false≢true, eqb-true, and_parts}
 use Rattle.std.proofs.lemmas.List.{append-nil, append_assoc}
@@ -25,11 +25,11 @@ use Rattle.cpp_grammar.specs.Between.{in_name, no_items, between}
 use Rattle.cpp_grammar.specs.Meaning.{meaning, encoding_of, parameters}
 use Rattle.cpp_grammar.specs.Unfolding.{opening, close, production_at, byte_of, cpp}
 use Rattle.cpp_grammar.proofs.Choosing.{wide_rule_at, is_wide_kind}
-use Rattle.cpp_grammar.proofs.ClosedValues.{AllGood, GoodPrefix, held, good_tree}
+use Rattle.cpp_grammar.proofs.ClosedValues.{AllGood, GoodPrefix, held, good_tree, good_part}
 use Rattle.cpp_grammar.proofs.ClosedStates.{Bare, AllOld, old_later, old_grows, ok_same, behind_bind}
 use Rattle.cpp_grammar.proofs.ClosedParts.{StaysInside, between_goes}
 use Rattle.cpp_grammar.proofs.ClosedTrees.{is_encoding, has_encoding, opens, or_true, at_number, its_symbols, stays, takes_byte, Whole, same_rule, kinds_numbered, number_at, opening_keeps, all_append, good_fits, old_fits, grows_fits, old_inner, one_good, known, name_comes, same_found, stepped, inner_closes, forest_good, tree_good, trees_good}
-use Rattle.cpp_term.proofs.KindsNoted.{all_open, may_be_special, encodings_open, special_types}
+use Rattle.cpp_term.proofs.KindsNoted.{all_open, in_special, may_be_special, encodings_open, special_types}
 use Rattle.cpp_term.proofs.MeaningNoted.{Inside}
 
 -- ## What is chosen in a kind
@@ -65,17 +65,14 @@ picked_opens (a ∷ rest) byte p h e =
     go true i o later = let same : a.production ≡ p = cc in sym (ap opens same) ∙ o
     go false i o later = later i
 
-unfoldable is_special_type : Production → Bool
-is_special_type p = nat_eq (number_of p) (number_of Production.SpecialType)
-
-picked_special : (all : List Alternative) (byte : ℕ) (p : Production) → pick all byte ≡ Some p → is_special_type p ≡ true → may_be_special all ≡ true
-unfolding pick may_be_special is_special_type
+picked_special : (all : List Alternative) (byte : ℕ) (p : Production) → pick all byte ≡ Some p → in_special p ≡ true → may_be_special all ≡ true
+unfolding pick may_be_special
 picked_special [] byte p e h = absurd cc
 picked_special (a ∷ rest) byte p e h = go (is_in a byte) e (λ i. picked_special rest byte p i h)
   where
-    go : (b : Bool) → cond b (Some a.production) (pick rest byte) ≡ Some p → (pick rest byte ≡ Some p → may_be_special rest ≡ true) → is_special_type a.production || may_be_special rest ≡ true
-    go true i later = let same : a.production ≡ p = cc in ap (λ q. is_special_type q || may_be_special rest) same ∙ ap (λ b. b || may_be_special rest) h
-    go false i later = or_true (is_special_type a.production) (may_be_special rest) (later i)
+    go : (b : Bool) → cond b (Some a.production) (pick rest byte) ≡ Some p → (pick rest byte ≡ Some p → may_be_special rest ≡ true) → in_special a.production || may_be_special rest ≡ true
+    go true i later = let same : a.production ≡ p = cc in ap (λ q. in_special q || may_be_special rest) same ∙ ap (λ b. b || may_be_special rest) h
+    go false i later = or_true (in_special a.production) (may_be_special rest) (later i)
 
 opens_in_encodings : (kind : Kind) (byte : ℕ) (p : Production) → nat_eq (number_of_kind kind) 4 ≡ true → wide_choose kind byte ≡ Some p → opens p ≡ true
 unfolding wide_choose
@@ -85,7 +82,7 @@ opens_in_encodings kind byte p four e = picked_opens (wide_alternatives kind) by
     go true b h k = k
     go false b h k = absurd (false≢true h)
 
-special_in : (kind : Kind) (byte : ℕ) (p : Production) → wide_choose kind byte ≡ Some p → is_special_type p ≡ true → nat_eq (number_of_kind kind) 5 ≡ true
+special_in : (kind : Kind) (byte : ℕ) (p : Production) → wide_choose kind byte ≡ Some p → in_special p ≡ true → nat_eq (number_of_kind kind) 5 ≡ true
 unfolding wide_choose
 special_in kind byte p e h = go (nat_eq (number_of_kind kind) 5) (may_be_special (wide_alternatives kind)) (picked_special (wide_alternatives kind) byte p e h) (special_types kind)
   where
@@ -97,10 +94,10 @@ special_in kind byte p e h = go (nat_eq (number_of_kind kind) 5) (may_be_special
 one_production : (p q : Production) (rule : Rule) → rule ≡ rule_of p → rule ≡ rule_of q → q ≡ p
 one_production p q rule is so = sym (at_number q) ∙ ap (λ x. production_at x.number) (sym so ∙ is) ∙ at_number p
 
-special_kind : (p : Production) (k : ℕ) (rule : Rule) (taken : List ℕ) → rule ≡ rule_of p → k < wide.kinds → TakesRule wide k rule taken → is_special_type p ≡ true → nat_eq k 5 ≡ true
+special_kind : (p : Production) (k : ℕ) (rule : Rule) (taken : List ℕ) → rule ≡ rule_of p → k < wide.kinds → TakesRule wide k rule taken → in_special p ≡ true → nat_eq k 5 ≡ true
 special_kind p k rule taken is lt takes h =
     let c = chosen_rule k rule taken lt takes in
-    ap (λ n. nat_eq n 5) c.number ∙ special_in c.kind c.byte c.production c.chosen (ap is_special_type (one_production p c.production rule is c.is) ∙ h)
+    ap (λ n. nat_eq n 5) c.number ∙ special_in c.kind c.byte c.production c.chosen (ap in_special (one_production p c.production rule is c.is) ∙ h)
 
 -- ## Encodings
 
@@ -249,8 +246,8 @@ forest_closed (grown t f) rule (x ∷ xs) vs at state r stays keep known trees l
     or_first : (a b : Bool) → a ≡ true → a || b ≡ true
     or_first a b h = ap (λ c. c || b) h
 
-inside_values : (p : Production) (vs : List Value) → opens p ≡ false → (has_encoding (parts_of p) ≡ true → Encodings (parts_of p) vs) → (is_special_type p ≡ true → is_open (tree_of (part vs 0)) ≡ false) → Inside p vs
-unfolding opens has_encoding is_encoding parts_of number_of_kind part tree_of is_open is_special_type number_of
+inside_values : (p : Production) (vs : List Value) → opens p ≡ false → (has_encoding (parts_of p) ≡ true → Encodings (parts_of p) vs) → (in_special p ≡ true → (k : ℕ) → is_open (tree_of (part vs k)) ≡ false) → Inside p vs
+unfolding opens has_encoding is_encoding parts_of number_of_kind part tree_of is_open in_special
 inside_values Production.Symbol (u ∷ v ∷ vs) plain all special = (all refl).1.0 refl
 inside_values Production.Symbol (v ∷ []) plain all special = refl
 inside_values Production.Symbol [] plain all special = refl
@@ -279,13 +276,10 @@ inside_values Production.Address (u ∷ v ∷ w ∷ vs) plain all special = (all
 inside_values Production.Address (u ∷ v ∷ []) plain all special = refl
 inside_values Production.Address (v ∷ []) plain all special = refl
 inside_values Production.Address [] plain all special = refl
-inside_values Production.SpecialType vs plain all special = special refl
+inside_values Production.SpecialType vs plain all special = special refl 0
+inside_values Production.SpecialName vs plain all special = special refl 0
+inside_values Production.ConstructionVtable vs plain all special = (special refl 0, special refl 3)
 inside_values _ vs plain all special = first_of (cc, search tt)
-
-first_closed : (s : Type 0) (vs : List Value) → s → AllGood s vs → is_open (tree_of (part vs 0)) ≡ false
-unfolding part tree_of is_open
-first_closed s [] bare all = refl
-first_closed s (v ∷ vs) bare all = (good_tree s v all.0).closed bare
 
 -- Encodings among the parts of a production have no free parameters.
 pub insides : (p : Production) (rule : Rule) (taken : List ℕ) (parts : Forest) (k : ℕ) (around : Around) (at : ℕ) (state : State) (inner : Found (List Value) State) → rule ≡ rule_of p → opens p ≡ false → k < wide.kinds →
@@ -304,7 +298,7 @@ insides p rule taken parts k around at state inner is plain lt tree le special p
     let reads = forest_closed parts whole (symbols_of rule) [] from state inner inside_ (subst (λ q. Keeps q) (sym number) (keeps p has)) symbols tree.1 (omega (arith, le))
     (λ any. omega (arith, le, takes_byte p rule k taken is tree.0 any)) pre tt old0 e in
     subst (λ us. Encodings (parts_of p) us) (sym reads.is) (subst (λ xs. Encodings xs reads.more) same reads.closed))
-    (λ is_type.
+    (λ is_special part_number.
     let all = forest_good parts (trees_good parts) whole (symbols_of rule) [] from state inner inside_ symbols tree.1 (omega (arith, le))
     (λ any. omega (arith, le, takes_byte p rule k taken is tree.0 any)) pre tt old0 e in
-    first_closed (Bare around) inner.value (special (special_kind p k rule taken is lt tree.0 is_type)) all.good)
+    (good_part (Bare around) inner.value part_number all.good).closed (special (special_kind p k rule taken is lt tree.0 is_special)))

@@ -293,6 +293,8 @@ abbrev pub Inside : Production → List Value → Type 0
 Inside Production.Symbol vs = is_open (tree_of (part vs 1)) ≡ false
 Inside Production.Guard vs = is_open (tree_of (part vs 1)) ≡ false
 Inside Production.SpecialType vs = is_open (tree_of (part vs 0)) ≡ false
+Inside Production.SpecialName vs = is_open (tree_of (part vs 0)) ≡ false
+Inside Production.ConstructionVtable vs = (is_open (tree_of (part vs 0)) ≡ false) × (is_open (tree_of (part vs 3)) ≡ false)
 Inside Production.NonVirtualThunk vs = is_open (tree_of (part vs 2)) ≡ false
 Inside Production.VirtualThunk vs = is_open (tree_of (part vs 4)) ≡ false
 Inside Production.CovariantThunk vs = is_open (tree_of (part vs 2)) ≡ false
@@ -328,6 +330,8 @@ meaning_noted Production.Symbol byte around vs h = both (λ x y. value_.tree (te
 meaning_noted Production.Suffix byte around vs h = ap (λ x. value_.text (byte ∷ x)) (text_part_ (noted_scope around.scope) vs 0)
 meaning_noted Production.SuffixByte byte around vs h = ap (λ x. value_.text (byte ∷ x)) (text_part_ (noted_scope around.scope) vs 0)
 meaning_noted Production.SpecialType byte around vs h = ap (λ x. value_.tree (term_.special byte x) true) (closed_part (noted_scope around.scope) vs 0 h)
+meaning_noted Production.SpecialName byte around vs h = three (λ x y z. value_.tree (term_.of_name byte x y z) true) (closed_part (noted_scope around.scope) vs 0 h) (qualifiers_part (noted_scope around.scope) vs 0) (ref_part (noted_scope around.scope) vs 0)
+meaning_noted Production.ConstructionVtable byte around vs h = three (λ x d y. value_.tree (term_.construction x (normal d) y) true) (closed_part (noted_scope around.scope) vs 0 h.0) (text_part_ (noted_scope around.scope) vs 1) (closed_part (noted_scope around.scope) vs 3 h.1)
 meaning_noted Production.NonVirtualThunk byte around vs h = both (λ x y. value_.tree (term_.thunk (adjusting (non_virtual x)) y) true) (signed_part (noted_scope around.scope) vs 0) (closed_part (noted_scope around.scope) vs 2 h)
 meaning_noted Production.VirtualThunk byte around vs h = three (λ x y z. value_.tree (term_.thunk (adjusting (by_table x y)) z) true) (signed_part (noted_scope around.scope) vs 0) (signed_part (noted_scope around.scope) vs 2) (closed_part (noted_scope around.scope) vs 4 h)
 meaning_noted Production.CovariantThunk byte around vs h = three (λ x y z. value_.tree (term_.thunk (covariant x y) z) true) (adjustment_part (noted_scope around.scope) vs 0) (adjustment_part (noted_scope around.scope) vs 1) (closed_part (noted_scope around.scope) vs 2 h)

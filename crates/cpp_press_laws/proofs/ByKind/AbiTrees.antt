@@ -6,6 +6,7 @@ use Rattle.sym_shape.specs.declared.rule.Sym.TheVariants.{Kind as OfKind, Name, 
 use Rattle.sym_shape.specs.Tree.{Tree, IsTree, spell}
 use Rattle.sym_link.specs.Reading.{Found}
 use Rattle.sym_link.specs.Unfold.{unfold_tree}
+use Rattle.cpp_grammar.specs.KindNumbers.{KIND_COUNT}
 use Rattle.cpp_grammar.specs.Grammar.{kinds}
 use Rattle.cpp_grammar.specs.Table.{abi, sheet, wide}
 use Rattle.cpp_grammar.specs.Unfolding.{cpp}
@@ -16,11 +17,11 @@ use Rattle.cpp_grammar.proofs.ClosedTrees.{is_encoding, TreeComes}
 use Rattle.cpp_grammar.proofs.ClosedValues.{GoodPrefix}
 use Rattle.cpp_grammar.proofs.Growing.{wide_tree}
 
-kind_count : abi.kinds ≡ 66
+kind_count : abi.kinds ≡ KIND_COUNT
 unfolding abi sheet kinds
 kind_count = refl
 
-pub known : (k : ℕ) → suc k ≤ 66 → k < abi.kinds
+pub known : (k : ℕ) → suc k ≤ KIND_COUNT → k < abi.kinds
 known k lt = omega (arith, lt, kind_count)
 
 wide_symbol : (x : Sym) → IsSymbol abi x → IsSymbol wide x
