@@ -115,4 +115,6 @@ pub enum Production {
     OperatorI,
     OperatorG,
     LiteralOperator,
+    NestInstance,
+    NestTemplate,
 }
