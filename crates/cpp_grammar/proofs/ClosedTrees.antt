@@ -1,6 +1,6 @@
 -- In the tree of a symbol the arguments that are a scope have no free parameters.
-use Rattle.std.proofs.Common.{◌≡◌, refl, ap, sym, ◌∙◌, subst, ℕ, zero, suc, ◌+◌, ◌-◌, ◌<◌, ◌≤◌, List, [], ◌∷◌, ◌++◌, length, Bool, true, false, not, ◌&&◌, ◌||◌, cond, ◌^◌, nat_eq, nat_lt, slice_get, Option, Some, None, Result, Ok, Err, inl, inr, lit≤, arith}
-use Rattle.std.proofs.lemmas.Bool.{true≢false, false≢true, eqb-true, cases_Bool, and_parts}
+use Rattle.std.proofs.Common.{◌≡◌, refl, ap, sym, ◌∙◌, subst, ℕ, suc, ◌+◌, ◌-◌, ◌<◌, ◌≤◌, List, [], ◌∷◌, ◌++◌, length, Bool, true, false, not, ◌&&◌, ◌||◌, cond, ◌^◌, nat_eq, nat_lt, slice_get, Option, Some, None, Result, Ok, Err, inl, inr, lit≤, arith}
+use Rattle.std.proofs.lemmas.Bool.{true≢false, false≢true, cases_Bool}
 use Rattle.std.proofs.lemmas.List.{length-append}
 use Rattle.sym_core.specs.declared.refusal.Refusal.{Refusal}
 use Rattle.sym_core.specs.declared.refusal.Refusal.TheVariants.{BadValue}
@@ -20,7 +20,7 @@ use Rattle.cpp_grammar.specs.Grammar.{Alternative, is_in, pick, kinds, productio
 use Rattle.cpp_grammar.specs.Wide.{wide_alternatives}
 use Rattle.cpp_grammar.specs.Either.{either_alternatives, either_choose}
 use Rattle.cpp_grammar.specs.Table.{either, either_sheet, rule_of, rule_taken, padded}
-use Rattle.cpp_grammar.specs.EitherLaws.{either_sound}
+use Rattle.cpp_grammar.proofs.Widening.{either_sound}
 use Rattle.cpp_grammar.specs.Term.{Term}
 use Rattle.cpp_grammar.specs.Scope.{is_open}
 use Rattle.cpp_grammar.specs.Closed.{ScopesAreClosed}
@@ -29,7 +29,7 @@ use Rattle.cpp_grammar.specs.Between.{in_name, in_types, no_items, between}
 use Rattle.cpp_grammar.specs.Meaning.{meaning}
 use Rattle.cpp_grammar.specs.Unfolding as unfolding_
 use Rattle.cpp_grammar.specs.Unfolding.{last_token, number_tested, opening, close, production_at, byte_of, cpp, first_around, first_state, first_tree, unfold_cpp}
-use Rattle.cpp_grammar.proofs.Choosing.{either_rule_at, is_either_kind}
+use Rattle.cpp_grammar.proofs.Choosing.{kinds_numbered, number_at, either_rule_at, is_either_kind}
 use Rattle.cpp_grammar.proofs.ClosedValues.{Good, AllGood, GoodPrefix, HasClosedName, held, good_tree, good_encoding, good_no_items}
 use Rattle.cpp_grammar.proofs.ClosedStates.{Bare, AllOld, AllNew, Grows, old_later, grows_same, grows_then, old_grows, ok_same, behind_bind, close_good}
 use Rattle.cpp_grammar.proofs.ClosedParts.{Fits, StaysInside, between_goes}
@@ -99,26 +99,6 @@ picked_opens (a ∷ rest) byte p e h = go (is_in a byte) e (λ i. picked_opens r
     go : (b : Bool) → cond b (Some a.production) (pick rest byte) ≡ Some p → (pick rest byte ≡ Some p → may_open rest ≡ true) → opens a.production || may_open rest ≡ true
     go true i later = let same : a.production ≡ p = cc in ap (λ q. opens q || may_open rest) same ∙ ap (λ b. b || may_open rest) h
     go false i later = or_true (opens a.production) (may_open rest) (later i)
-
--- the kinds stand in the order of their numbers
-unfoldable pub numbered_from : ℕ → List Kind → Bool
-numbered_from n [] = true
-numbered_from n (kind ∷ rest) = nat_eq (number_of_kind kind) n && numbered_from (suc n) rest
-
-pub kinds_numbered : numbered_from 0 kinds ≡ true
-unfolding numbered_from kinds number_of_kind
-kinds_numbered = refl
-
-pub number_at : (n : ℕ) (all : List Kind) (k : ℕ) (kind : Kind) → numbered_from n all ≡ true → slice_get all k ≡ Some kind → number_of_kind kind ≡ n + k
-unfolding numbered_from
-number_at n [] k kind all at = absurd cc
-number_at n (first ∷ rest) zero kind all at =
-    let same : first ≡ kind = cc in
-    let both = and_parts (nat_eq (number_of_kind first) n) (numbered_from (suc n) rest) all in
-    omega (arith, ap number_of_kind same, eqb-true (number_of_kind first) n both.0)
-number_at n (first ∷ rest) (suc k) kind all at =
-    let both = and_parts (nat_eq (number_of_kind first) n) (numbered_from (suc n) rest) all in
-    omega (arith, number_at (suc n) rest k kind both.1 at)
 
 opens_in : (kind : Kind) (byte : ℕ) (p : Production) → either_choose kind byte ≡ Some p → opens p ≡ true → nat_eq (number_of_kind kind) 4 ≡ true
 unfolding either_choose

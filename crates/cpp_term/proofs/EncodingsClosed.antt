@@ -17,18 +17,18 @@ use Rattle.cpp_grammar.specs.KindNumbers.{ENCODING, SPECIAL}
 use Rattle.cpp_grammar.specs.Grammar.{Alternative, is_in, pick, kinds, number_of, number_of_kind, parts_of}
 use Rattle.cpp_grammar.specs.Either.{either_alternatives, either_choose}
 use Rattle.cpp_grammar.specs.Table.{either, rule_of, rule_taken}
-use Rattle.cpp_grammar.specs.EitherLaws.{either_sound}
+use Rattle.cpp_grammar.proofs.Widening.{either_sound}
 use Rattle.cpp_grammar.specs.Term.{Term, function, list, absent}
 use Rattle.cpp_grammar.specs.Scope.{is_open, has_return_type}
 use Rattle.cpp_grammar.specs.Values.{State, Around, Value, nothing_there, tree_of, part, qualifiers_of, ref_of}
 use Rattle.cpp_grammar.specs.Between.{in_name, no_items, between}
 use Rattle.cpp_grammar.specs.Meaning.{meaning, encoding_of, parameters}
 use Rattle.cpp_grammar.specs.Unfolding.{opening, close, production_at, byte_of, cpp}
-use Rattle.cpp_grammar.proofs.Choosing.{either_rule_at, is_either_kind}
+use Rattle.cpp_grammar.proofs.Choosing.{kinds_numbered, number_at, either_rule_at, is_either_kind}
 use Rattle.cpp_grammar.proofs.ClosedValues.{AllGood, GoodPrefix, held, good_tree}
 use Rattle.cpp_grammar.proofs.ClosedStates.{Bare, AllOld, old_later, old_grows, ok_same, behind_bind}
 use Rattle.cpp_grammar.proofs.ClosedParts.{StaysInside, between_goes}
-use Rattle.cpp_grammar.proofs.ClosedTrees.{is_encoding, has_encoding, opens, or_true, at_number, its_symbols, stays, takes_byte, Whole, same_rule, kinds_numbered, number_at, opening_keeps, all_append, good_fits, old_fits, grows_fits, old_inner, one_good, known, name_comes, same_found, stepped, inner_closes, forest_good, tree_good, trees_good}
+use Rattle.cpp_grammar.proofs.ClosedTrees.{is_encoding, has_encoding, opens, or_true, at_number, its_symbols, stays, takes_byte, Whole, same_rule, opening_keeps, all_append, good_fits, old_fits, grows_fits, old_inner, one_good, known, name_comes, same_found, stepped, inner_closes, forest_good, tree_good, trees_good}
 use Rattle.cpp_term.proofs.KindsNoted.{all_open, may_be_special, encodings_open, special_types}
 use Rattle.cpp_term.proofs.MeaningNoted.{Inside}
 

@@ -15,7 +15,7 @@ use Rattle.cpp_grammar.specs.declared.production.Production.{Production}
 use Rattle.cpp_grammar.specs.KindNumbers.{SYMBOL, SPECIAL, COMPLETE_NAME, ITEMS}
 use Rattle.cpp_grammar.specs.Grammar.{parts_of, number_of_kind}
 use Rattle.cpp_grammar.specs.Table.{either, rule_of}
-use Rattle.cpp_grammar.specs.EitherLaws.{either_sound}
+use Rattle.cpp_grammar.proofs.Widening.{either_sound}
 use Rattle.cpp_grammar.specs.Term.{Term}
 use Rattle.cpp_grammar.specs.Scope.{is_open, arguments_of}
 use Rattle.cpp_grammar.specs.Values.{Candidate, State, Around, Value, tree_of, local_number, part}
