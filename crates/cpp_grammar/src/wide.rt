@@ -8,8 +8,8 @@ use crate::{table, wide_table};
 use sym_core::NameClass;
 use sym_shape::{Grammar, Rule, Sym};
 
-/// The grammar of [`Abi`](crate::Abi), with what compilers write beside the symbols of the ABI's chapter: constructors and
-/// destructors with the digits 4 and 5.
+/// The grammar of [`Abi`](crate::Abi), with what compilers write beside the symbols of the ABI's chapter, constructors and
+/// destructors with the digits 4 and 5, and with nested names that are a substitution and its arguments.
 pub struct Wide;
 
 /// Whether a kind may be empty.
