@@ -17,6 +17,7 @@ use Rattle.cpp_grammar.specs.declared.kind.Kind.{Kind}
 use Rattle.cpp_grammar.specs.declared.production.Production.{Production}
 use Rattle.cpp_grammar.specs.KindNumbers.{SYMBOL}
 use Rattle.cpp_grammar.specs.Grammar.{Alternative, is_in, pick, kinds, may_be_empty, number_of_kind, parts_of}
+use Rattle.cpp_grammar.specs.Wide.{wide_alternatives}
 use Rattle.cpp_grammar.specs.Either.{either_alternatives, either_choose}
 use Rattle.cpp_grammar.specs.Table.{either, rule_of, rule_taken}
 use Rattle.cpp_grammar.proofs.Widening.{either_sound}
@@ -50,7 +51,7 @@ all_fit k [] = true
 all_fit k (a ∷ rest) = fits k a.production && all_fit k rest
 
 kinds-fit : (kind : Kind) → all_fit (number_of_kind kind) (either_alternatives kind) ≡ true
-unfolding all_fit fits either_alternatives number_of_kind is_component becomes_candidate goes_on is_arguments makes_name may_leave takes_name begins_arguments
+unfolding all_fit fits wide_alternatives either_alternatives number_of_kind is_component becomes_candidate goes_on is_arguments makes_name may_leave takes_name begins_arguments
 kinds-fit Kind.Symbol = refl
 kinds-fit _ = refl
 

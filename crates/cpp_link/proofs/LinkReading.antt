@@ -18,6 +18,7 @@ use Rattle.cpp_grammar.specs.declared.production.Production.{Production}
 use Rattle.cpp_grammar.specs.declared.kind.Kind.{Kind}
 use Rattle.cpp_grammar.specs.KindNumbers.{SYMBOL, SUFFIX_FIRST, SUFFIX_MORE}
 use Rattle.cpp_grammar.specs.Grammar.{parts_of, number_of_kind, kinds, productions, number_of, is_chain, pick, is_in, in_ranges, among, may_be_empty}
+use Rattle.cpp_grammar.specs.Wide.{wide_alternatives}
 use Rattle.cpp_grammar.specs.Either.{either_choose, either_alternatives}
 use Rattle.cpp_grammar.specs.Table.{either, rule_of, rule_taken, either_sheet, sheet_with, blank}
 use Rattle.cpp_grammar.proofs.Choosing.{either_rule_at, is_either_kind}
@@ -93,7 +94,7 @@ data OfSuffix : ℕ → Type 0 where
   behind_it : OfSuffix 3
 
 suffix_rule : (kind : ℕ) → OfSuffix kind → (rule : Rule) (taken : List ℕ) → TakesRule either kind rule taken → rule ≡ rule_of Production.SuffixByte
-unfolding either_choose either_alternatives pick kinds
+unfolding either_choose wide_alternatives either_alternatives pick kinds
 suffix_rule kind in_front rule taken takes = chosen_byte _ rule (sym (either_rule_at SUFFIX_FIRST Kind.SuffixFirst takes.byte refl) ∙ takes.found)
 suffix_rule kind behind_it rule taken takes = chosen_byte _ rule (sym (either_rule_at SUFFIX_MORE Kind.SuffixMore takes.byte refl) ∙ takes.found)
 
@@ -324,7 +325,7 @@ numbered_at kind byte = elim (either_choose kind byte) [ None ↦ false | Some p
 
 -- none does at the byte with which a symbol begins
 none_numbered : (kind : Kind) → numbered_at kind 95 ≡ false
-unfolding numbered_at either_choose either_alternatives pick is_in in_ranges among is_numbered
+unfolding numbered_at either_choose wide_alternatives either_alternatives pick is_in in_ranges among is_numbered
 none_numbered Kind.Symbol = refl
 none_numbered _ = refl
 
@@ -394,7 +395,7 @@ or_none false is = is
 
 -- a symbol begins with this byte
 pub symbol_begins : (shape : Tree) → IsTree either (OfKind SYMBOL) shape → (more : List ℕ) × (spell shape ≡ 95 ∷ more)
-unfolding either_choose either_alternatives pick kinds is_in in_ranges among rule_taken either either_sheet sheet_with blank may_be_empty
+unfolding either_choose wide_alternatives either_alternatives pick kinds is_in in_ranges among rule_taken either either_sheet sheet_with blank may_be_empty
 symbol_begins empty is = absurd (false≢true is)
 symbol_begins (token t) is = absurd is
 symbol_begins (fixed b) is = absurd is

@@ -15,6 +15,7 @@ use Rattle.sym_link.specs.declared.language.Frame.{Frame}
 use Rattle.sym_link.proofs.Standing.{joined_spell, stands_skip, stands_left, stands_inner}
 use Rattle.cpp_grammar.specs.declared.production.Production.{Production}
 use Rattle.cpp_grammar.specs.Grammar.{in_ranges, among, is_in, pick, number_of_kind, parts_of, is_chain, may_be_empty, kinds, productions, number_of}
+use Rattle.cpp_grammar.specs.Wide.{wide_alternatives}
 use Rattle.cpp_grammar.specs.Either.{either_alternatives, either_choose}
 use Rattle.cpp_grammar.specs.Follow.{after_ranges, rank, height}
 use Rattle.cpp_grammar.specs.Table.{padded, rule_of, ranges_of, class_of, choice_of, sheet_with, blank, either_sheet, either}
@@ -70,7 +71,7 @@ abbrev lands_behind : Production → (held : ℕ) → Bool
 lands_behind p held = lands either no_byte (λ number byte. next_part p held number byte) held (drop held (parts_of p))
 
 each_lands : (p : Production) → all_below (lands_behind p) 5 ≡ true
-unfolding in_ranges among is_in pick either_alternatives either_choose number_of_kind parts_of is_chain may_be_empty kinds productions number_of after_ranges rank height padded rule_of ranges_of class_of choice_of sheet_with blank either_sheet either at_least over is_mark is_list is_argument is_element nested_mark type_mark behind_bytes behind_list next_part
+unfolding in_ranges among is_in pick wide_alternatives either_alternatives either_choose number_of_kind parts_of is_chain may_be_empty kinds productions number_of after_ranges rank height padded rule_of ranges_of class_of choice_of sheet_with blank either_sheet either at_least over is_mark is_list is_argument is_element nested_mark type_mark behind_bytes behind_list next_part
 each_lands Production.Mark = refl
 each_lands _ = refl
 

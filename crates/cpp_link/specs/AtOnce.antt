@@ -16,6 +16,7 @@ use Rattle.sym_link.specs.Parts.{skipped, passed_by, joined, values_in, Stands}
 use Rattle.sym_link.specs.Reading.{Open}
 use Rattle.cpp_grammar.specs.declared.production.Production.{Production}
 use Rattle.cpp_grammar.specs.Grammar.{in_ranges as in_class, among, is_in, pick, number_of_kind, parts_of, is_chain, may_be_empty, kinds, productions, number_of}
+use Rattle.cpp_grammar.specs.Wide.{wide_alternatives}
 use Rattle.cpp_grammar.specs.Either.{either_alternatives, either_choose}
 use Rattle.cpp_grammar.specs.Follow.{after_ranges, rank, height}
 use Rattle.cpp_grammar.specs.Table.{padded, rule_of, ranges_of, class_of, choice_of, sheet_with, blank, either_sheet, either}
@@ -81,7 +82,7 @@ all_below is zero = true
 all_below is (suc n) = is n && all_below is n
 
 each_begins : (p : Production) → all_below (begins_behind p) 5 ≡ true
-unfolding in_class among is_in pick either_alternatives either_choose number_of_kind parts_of is_chain may_be_empty kinds productions number_of after_ranges rank height padded rule_of ranges_of class_of choice_of sheet_with blank either_sheet either production_at made_before made_at_end sum_all owes_of pack_most_at closes_most
+unfolding in_class among is_in pick wide_alternatives either_alternatives either_choose number_of_kind parts_of is_chain may_be_empty kinds productions number_of after_ranges rank height padded rule_of ranges_of class_of choice_of sheet_with blank either_sheet either production_at made_before made_at_end sum_all owes_of pack_most_at closes_most
 each_begins Production.Mark = refl
 each_begins _ = refl
 

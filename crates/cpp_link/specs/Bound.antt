@@ -7,6 +7,7 @@ use Rattle.sym_link.specs.Owing.{cost}
 use Rattle.sym_link.specs.Paying.{are_paid_kinds}
 use Rattle.sym_link.specs.PayingLaws.{tree_pays}
 use Rattle.cpp_grammar.specs.Grammar.{number_of_kind, parts_of, is_chain, may_be_empty, kinds, productions, number_of}
+use Rattle.cpp_grammar.specs.Wide.{wide_alternatives}
 use Rattle.cpp_grammar.specs.Either.{either_alternatives}
 use Rattle.cpp_grammar.specs.Follow.{after_ranges, rank, height}
 use Rattle.cpp_grammar.specs.Table.{padded, rule_of, ranges_of, class_of, choice_of, sheet_with, blank, either_sheet, either}
@@ -14,7 +15,7 @@ use Rattle.cpp_grammar.specs.Unfolding.{production_at}
 use Rattle.cpp_link.specs.Owed.{made_before, made_at_end, sum_all, owes_of, owes, slack}
 
 is_paid : are_paid_kinds owes Cpp 10 slack 0 either_sheet ≡ true
-unfolding either_alternatives number_of_kind parts_of is_chain may_be_empty kinds productions number_of after_ranges rank height padded rule_of ranges_of class_of choice_of sheet_with blank either_sheet production_at made_before made_at_end sum_all owes_of owes slack
+unfolding wide_alternatives either_alternatives number_of_kind parts_of is_chain may_be_empty kinds productions number_of after_ranges rank height padded rule_of ranges_of class_of choice_of sheet_with blank either_sheet production_at made_before made_at_end sum_all owes_of owes slack
 is_paid = refl
 
 pub few_nodes : (tree : Tree) → IsTree either (Kind 0) tree → cost owes tree ≤ 2 * length (spell tree)
