@@ -3,10 +3,10 @@ use Rattle.std.specs.Prelude.{ℕ}
 
 -- how many kinds there are, and how many productions
 abbrev pub KIND_COUNT : ℕ
-KIND_COUNT = 66
+KIND_COUNT = 67
 
 abbrev pub PRODUCTION_COUNT : ℕ
-PRODUCTION_COUNT = 114
+PRODUCTION_COUNT = 116
 
 abbrev pub SYMBOL : ℕ
 SYMBOL = 0
@@ -205,3 +205,6 @@ OPERATOR_AFTER_I = 64
 
 abbrev pub OPERATOR_AFTER_G : ℕ
 OPERATOR_AFTER_G = 65
+
+abbrev pub NEST_REST_OR_END : ℕ
+NEST_REST_OR_END = 66

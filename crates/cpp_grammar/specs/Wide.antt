@@ -29,7 +29,7 @@ wide_alternatives Kind.MaybeRef = on "OR" Production.Mark ∷ []
 wide_alternatives Kind.NameAfterS = on "t" Production.StdName ∷ on_ranges "0-9A-Z" "_abdios" Production.AbbreviatedName ∷ []
 wide_alternatives Kind.Unqualified = on "L" Production.InternalPiece ∷ on "U" Production.LocalTypePiece ∷ on_ranges "0-9" "" Production.SourcePiece ∷ on_ranges "c-el-p" "agirs" Production.OperatorPiece ∷ []
 wide_alternatives Kind.Nest = on "S" Production.NestWithS ∷ on "T" Production.NestParameter ∷ on "L" Production.NestInternal ∷ on "U" Production.NestLocalType ∷ on_ranges "0-9" "" Production.NestSource ∷ []
-wide_alternatives Kind.NestAfterS = on "t" Production.NestStd ∷ on_ranges "0-9A-Z" "_abdios" Production.NestAbbreviated ∷ []
+wide_alternatives Kind.NestAfterS = on "t" Production.NestStd ∷ on_ranges "0-9A-Z" "_abdios" Production.NestTemplate ∷ []
 wide_alternatives Kind.NestRest = on "I" Production.NestArguments ∷ on_ranges "0-9c-el-p" "CDLUagirs" Production.NestNext ∷ []
 wide_alternatives Kind.NestTail = on "E" Production.NestEnd ∷ on_ranges "0-9c-el-p" "CDLUagirs" Production.NestNext ∷ []
 wide_alternatives Kind.Component = on "C" Production.Constructor ∷ on "D" Production.Destructor ∷ on "L" Production.InternalName ∷ on "U" Production.LocalTypeName ∷ on_ranges "c-el-p" "agirs" Production.OperatorName ∷ on_ranges "0-9" "" Production.SourceName ∷ []
@@ -79,6 +79,7 @@ wide_alternatives Kind.OperatorAfterL = on "Sest" Production.Mark ∷ on "i" Pro
 wide_alternatives Kind.OperatorAfterS = on "s" Production.Mark ∷ []
 wide_alternatives Kind.OperatorAfterI = on "x" Production.Mark ∷ []
 wide_alternatives Kind.OperatorAfterG = on "et" Production.Mark ∷ []
+wide_alternatives Kind.NestRestOrEnd = on "I" Production.NestInstance ∷ on_ranges "0-9c-el-p" "CDLUagirs" Production.NestNext ∷ []
 
 -- the production that a kind takes at a byte
 unfoldable pub wide_choose : Kind → ℕ → Option Production

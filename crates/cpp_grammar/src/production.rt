@@ -115,6 +115,8 @@ pub enum Production {
     OperatorI,
     OperatorG,
     LiteralOperator,
+    NestInstance,
     SpecialName,
     ConstructionVtable,
+    NestTemplate,
 }

@@ -117,6 +117,10 @@ impl Linked {
             Production::NestStd => Meant::Given(self.given(symbol, parts, 2)),
             // <prefix> ::= <template-prefix> <template-args>
             Production::NestArguments => Meant::Given(self.given(symbol, parts, 3)),
+            // <prefix> ::= <substitution>, and what is within it, or <template-prefix> ::= <substitution>, and its arguments
+            Production::NestTemplate => Meant::Given(self.given(symbol, parts, 1)),
+            // <nested-name> ::= N [<CV-qualifiers>] [<ref-qualifier>] <template-prefix> <template-args> E, or <prefix> likewise
+            Production::NestInstance => Meant::Given(self.given(symbol, parts, 2)),
             // <discriminator> ::= _ <digit> | __ <number> _
             Production::Discriminator => Meant::Given(self.given(symbol, parts, 0)),
             // <template-arg> ::= <type>
