@@ -114,7 +114,11 @@ fn behind_bytes(production: Production, held: usize) -> usize
 fn behind_list(held: usize, rule: u16) -> usize
     ensures { result ≡ behind_list held rule }
 {
-    if is_argument(rule) { 0 } else { at_least(2, held) }
+    if is_argument(rule) {
+        0
+    } else {
+        at_least(2, held)
+    }
 }
 
 /// The number of the next part, which has a row of this rule that begins with this byte.
