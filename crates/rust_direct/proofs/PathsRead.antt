@@ -1,8 +1,7 @@
 -- Paths that were read and written.
-use Rattle.std.proofs.Common.{◌≡◌, ℕ, ◌+◌, ◌≤◌, ◌<◌, List, [], ◌∷◌, ◌++◌, length, reverse, take, drop, ◌-◌, arith, inl, Bool, true, false, Option, Some, refl, ap, sym, subst, ◌∙◌, append_assoc, codes, cond}
+use Rattle.std.proofs.Common.{◌≡◌, ℕ, ◌+◌, ◌≤◌, List, [], ◌∷◌, ◌++◌, length, reverse, take, drop, ◌-◌, arith, inl, Bool, true, false, Option, Some, refl, ap, sym, subst, ◌∙◌, append_assoc, codes, cond}
 use Rattle.std.specs.Option.{option_to_list}
 use Rattle.std.proofs.lemmas.Bool.{le-leb, false≢true}
-use Rattle.std.proofs.lemmas.List.{length-drop}
 use Rattle.sym_direct.specs.Holes.{StandsAt}
 use Rattle.rust_tree.specs.Symbol as tree
 use Rattle.rust_v0.specs.declared.production.Production.{Production}
@@ -65,31 +64,6 @@ stands-written s old new bytes os text writes h =
     subst (λ w. Stands s (reverse w.list.items) os text (parked_of new)) (sym writes.waiting)
     (subst (λ b. Stands s (reverse old.waiting.list.items) os text (cond b new.aside.list.items [])) (sym writes.is_aside)
     (subst (λ a. Stands s (reverse old.waiting.list.items) os text (cond old.is_aside a.list.items [])) (sym writes.aside) h))
-
--- what waits last is taken out
-pub taken-out : (s : List ℕ) (old new : Direct) (entry : Open) (from : ℕ) (f : Forms) (o : Option Open) → IsWriting s old (steps.Value from f)
-    → old.waiting.list.items ≡ new.waiting.list.items ++ option_to_list o → o ≡ Some entry
-    → new.text ≡ old.text → new.aside ≡ old.aside → new.is_aside ≡ old.is_aside → new.notes ≡ old.notes → new.numbers ≡ old.numbers → new.at ≡ old.at
-    → Arrives s new entry from f
-taken-out s old new entry from f o p items is text aside is_aside notes numbers at =
-    let r = p.is_before in
-    let turned : reverse old.waiting.list.items ≡ entry ∷ reverse new.waiting.list.items =
-    ap reverse (items ∙ ap (λ x. new.waiting.list.items ++ option_to_list x) is) ∙ reverse-last new.waiting.list.items entry in
-    record {
-      state = p.state;
-      notes = rw (text, aside, is_aside, notes, numbers) p.notes;
-      read = record {
-        os = r.os;
-        v = r.v;
-        front = r.front;
-        bytes = r.bytes;
-        written = ap (λ t. t.list.items) text ∙ r.written;
-        from_is = r.from_is;
-        holds = r.holds;
-        comes = subst (λ k. Comes s r.os r.v k p.state) (sym at) r.comes;
-        stands = rw (aside, is_aside) (subst (λ ws. Stands s ws r.os r.front (parked_of old)) turned r.stands);
-      };
-    }
 
 -- what waited is this
 pub waited-for : (s : List ℕ) (w : Direct) (entry known : Open) (from : ℕ) (f : Forms) → entry ≡ known → Arrives s w entry from f → Arrives s w known from f
@@ -286,18 +260,8 @@ unnamed-read s old noted taken place from f o letter outer end h n items is text
 
 -- ## What is expected
 
-pub path-awaited : (s : List ℕ) (w : Direct) (is_value : Bool) → IsWriting s w (steps.Path is_value) → AwaitsPath s w
-path-awaited s w is_value p = (false, record { state = p.state; notes = p.notes; awaited = p.is_before })
-
 pub plain-awaited : (s : List ℕ) (w : Direct) (is_value : Bool) → IsWriting s w (steps.Path is_value) → Awaits s w false
 plain-awaited s w is_value p = record { state = p.state; notes = p.notes; awaited = p.is_before }
-
-pub awaited-too : (s : List ℕ) (w : Direct) (is_value : Bool) → Awaits s w false → IsWriting s w (steps.Path is_value)
-awaited-too s w is_value a = record { state = a.state; notes = a.notes; is_before = a.awaited }
-
--- a byte that stands at a place is one of the symbol's
-pub stands-inside : (s : List ℕ) (at b : ℕ) → StandsAt s at (b ∷ []) → at < length s
-stands-inside s at b stands = omega (arith, length-drop at s, ap length stands.1)
 
 pub type-awaited : (s : List ℕ) (w : Direct) → IsWriting s w steps.Type → Awaits s w true
 type-awaited s w p = record { state = p.state; notes = p.notes; awaited = p.is_before }

@@ -279,16 +279,27 @@ impl Direct {
         self.finish(s)
     }
 
-    /// The end of a symbol, behind the text of its path.
-    // <vendor-specific-suffix> = ("." | "$") <suffix>
+    /// The end of a symbol, behind the text of its path: most have no suffix.
+    // <symbol-name> = "_R" <path> [<instantiating-crate>] [<vendor-specific-suffix>]
+    #[inline(always)]
     fn finish(&mut self, s: &[u8]) -> Option<Step>
         requires { IsSymbolEnded s.now self.old }
         ensures { IfSome result (IsWriting s.now self.new) }
     {
-        let suffix = s.get(self.at..)?;
-        if suffix.is_empty() {
+        if self.at == s.len() {
             return Some(Step::Ended);
         }
+        self.push_suffix(s)
+    }
+
+    /// The suffix of a symbol.
+    // <vendor-specific-suffix> = ("." | "$") <suffix>
+    #[inline(never)]
+    fn push_suffix(&mut self, s: &[u8]) -> Option<Step>
+        requires { IsSymbolEnded s.now self.old }
+        ensures { IfSome result (IsWriting s.now self.new) }
+    {
+        let suffix = s.get(self.at..)?;
         if !is_suffix(suffix) {
             return None;
         }
